@@ -1,0 +1,55 @@
+use Rattle.std.specs.Prelude.{ℕ, length, map, slice_get, IsSomeAnd}
+use Rattle.std.specs.Option.{option_map}
+use Rattle.sdf_model.specs.Places.{Outline}
+use Rattle.sdf_model.specs.declared.plan.Plan.{Plan}
+use Rattle.sdf_model.specs.declared.plan.Region.{Region}
+use Rattle.sdf_model.specs.declared.plan.Domain.{Domain}
+use Rattle.sdf_model.specs.declared.plan.Map.{Map}
+use Rattle.sdf_model.specs.declared.plan.Irq.{Irq}
+use Rattle.sdf_model.specs.declared.plan.Channel.{Channel}
+use Rattle.sdf_model.specs.declared.plan.End.{End}
+use Rattle.sdf_model.specs.declared.plan.Net.{Net}
+use Rattle.sdf_model.specs.declared.plan.NetClient.{NetClient}
+use Rattle.sdf_model.specs.declared.plan.Serial.{Serial}
+use Rattle.sdf_model.specs.declared.plan.SerialClient.{SerialClient}
+use Rattle.sdf_model.specs.declared.plan.Blk.{Blk}
+use Rattle.sdf_model.specs.declared.plan.BlkClient.{BlkClient}
+
+-- how many elements of each sort a plan has
+abbrev pub outline_of : Plan → Outline
+outline_of plan = record {
+  regions = length plan.memory_region;
+  domains = map (λ (d : Domain). (length d.map, length d.irq)) plan.protection_domain;
+  channels = map (λ (c : Channel). length c.end) plan.channel;
+  net = option_map (λ (n : Net). length n.client) plan.net;
+  serial = option_map (λ (s : Serial). length s.client) plan.serial;
+  blk = option_map (λ (b : Blk). length b.client) plan.blk;
+}
+
+-- an element stands at this place, and this holds of it
+abbrev pub OfRegion : Plan → ℕ → (Region → Type 0) → Type 0
+OfRegion plan r P = IsSomeAnd (slice_get plan.memory_region r) P
+
+abbrev pub OfDomain : Plan → ℕ → (Domain → Type 0) → Type 0
+OfDomain plan d P = IsSomeAnd (slice_get plan.protection_domain d) P
+
+abbrev pub OfMap : Plan → ℕ → ℕ → (Map → Type 0) → Type 0
+OfMap plan d m P = OfDomain plan d (λ domain. IsSomeAnd (slice_get domain.map m) P)
+
+abbrev pub OfIrq : Plan → ℕ → ℕ → (Irq → Type 0) → Type 0
+OfIrq plan d i P = OfDomain plan d (λ domain. IsSomeAnd (slice_get domain.irq i) P)
+
+abbrev pub OfChannel : Plan → ℕ → (Channel → Type 0) → Type 0
+OfChannel plan c P = IsSomeAnd (slice_get plan.channel c) P
+
+abbrev pub OfEnd : Plan → ℕ → ℕ → (End → Type 0) → Type 0
+OfEnd plan c e P = OfChannel plan c (λ channel. IsSomeAnd (slice_get channel.end e) P)
+
+abbrev pub OfNetClient : Plan → ℕ → (NetClient → Type 0) → Type 0
+OfNetClient plan c P = IsSomeAnd plan.net (λ net. IsSomeAnd (slice_get net.client c) P)
+
+abbrev pub OfSerialClient : Plan → ℕ → (SerialClient → Type 0) → Type 0
+OfSerialClient plan c P = IsSomeAnd plan.serial (λ serial. IsSomeAnd (slice_get serial.client c) P)
+
+abbrev pub OfBlkClient : Plan → ℕ → (BlkClient → Type 0) → Type 0
+OfBlkClient plan c P = IsSomeAnd plan.blk (λ blk. IsSomeAnd (slice_get blk.client c) P)

@@ -1,0 +1,71 @@
+use Rattle.std.specs.Prelude.{◌≡◌, ℕ, ◌<◌, List, [], ◌∷◌, map, Option, Some, slice_get, bytes_eq, position}
+use Rattle.sdf_model.specs.declared.plan.Plan.{Plan}
+use Rattle.sdf_model.specs.declared.plan.Region.{Region}
+use Rattle.sdf_model.specs.declared.plan.Domain.{Domain}
+use Rattle.sdf_model.specs.declared.plan.Net.{Net}
+use Rattle.sdf_model.specs.declared.plan.NetClient.{NetClient}
+use Rattle.sdf_model.specs.declared.plan.Serial.{Serial}
+use Rattle.sdf_model.specs.declared.plan.SerialClient.{SerialClient}
+use Rattle.sdf_model.specs.declared.plan.Blk.{Blk}
+use Rattle.sdf_model.specs.declared.plan.BlkClient.{BlkClient}
+
+-- the names of the regions, and of the domains, in file order
+abbrev pub region_names : Plan → List (List ℕ)
+region_names plan = map (λ (r : Region). r.name) plan.memory_region
+
+abbrev pub domain_names : Plan → List (List ℕ)
+domain_names plan = map (λ (d : Domain). d.name) plan.protection_domain
+
+-- the place of the first of these names that is this one
+abbrev pub place_of : List ℕ → List (List ℕ) → Option ℕ
+place_of name names = position (λ other. bytes_eq other name) names
+
+-- the place of the region, or of the domain, that has this name
+abbrev pub region_named : Plan → List ℕ → Option ℕ
+region_named plan name = place_of name (region_names plan)
+
+abbrev pub domain_named : Plan → List ℕ → Option ℕ
+domain_named plan name = place_of name (domain_names plan)
+
+-- the value at this place of a list stands at an earlier place too
+abbrev pub RepeatsEarlier : {T : Type 0} → List T → ℕ → Type 0
+RepeatsEarlier {T} values at =
+    (earlier : ℕ) × (value : T) × (earlier < at) × (slice_get values earlier ≡ Some value) × (slice_get values at ≡ Some value)
+
+-- the regions that a class element names, by its keys in the order of the key table
+abbrev pub net_regions : Net → List (List ℕ)
+net_regions net = net.rx_region ∷ net.rx_queues ∷ net.tx_queues ∷ []
+
+abbrev pub net_client_regions : NetClient → List (List ℕ)
+net_client_regions client = client.lease_queues ∷ client.rx_region ∷ client.rx_queues ∷ client.tx_region ∷ client.tx_queues ∷ []
+
+abbrev pub serial_regions : Serial → List (List ℕ)
+serial_regions serial = serial.rx_queues ∷ serial.tx_queues ∷ []
+
+abbrev pub serial_client_regions : SerialClient → List (List ℕ)
+serial_client_regions client = client.rx_queues ∷ client.tx_queues ∷ []
+
+abbrev pub blk_regions : Blk → List (List ℕ)
+blk_regions blk = blk.queues ∷ blk.region ∷ []
+
+abbrev pub blk_client_regions : BlkClient → List (List ℕ)
+blk_client_regions client = client.region ∷ client.queues ∷ []
+
+-- the domains that a class element names
+abbrev pub net_domains : Net → List (List ℕ)
+net_domains net = net.driver ∷ net.rx_virt ∷ net.tx_virt ∷ []
+
+abbrev pub net_client_domains : NetClient → List (List ℕ)
+net_client_domains client = client.pd ∷ client.copier ∷ []
+
+abbrev pub serial_domains : Serial → List (List ℕ)
+serial_domains serial = serial.driver ∷ serial.rx_virt ∷ serial.tx_virt ∷ []
+
+abbrev pub serial_client_domains : SerialClient → List (List ℕ)
+serial_client_domains client = client.pd ∷ []
+
+abbrev pub blk_domains : Blk → List (List ℕ)
+blk_domains blk = blk.driver ∷ blk.virt ∷ []
+
+abbrev pub blk_client_domains : BlkClient → List (List ℕ)
+blk_client_domains client = client.pd ∷ []

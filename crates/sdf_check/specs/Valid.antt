@@ -1,0 +1,34 @@
+use Rattle.std.specs.Prelude.{ℕ, ◌==◌, MatchBool}
+use Rattle.sdf_model.specs.Places.{walk, KeepsRules, IsRefusal}
+use Rattle.sdf_model.specs.declared.place.Place.{Place}
+use Rattle.sdf_model.specs.declared.place.Refusal.{Refusal}
+use Rattle.sdf_model.specs.declared.plan.Plan.{Plan}
+use Rattle.sdf_check.specs.Elements.{outline_of}
+use Rattle.sdf_check.specs.Rules.{TakesName, IsPastLastDomain, HasPriorityTooHigh, HasPeriodTooShort, HasBadSize, HasBadPageSize, HasBadPhysAddr, MeetsGivenRange, NamesNoRegion, HasBadVaddr, MeetsMap, HasBadPerms, NamesNoDomain, HasIdTooHigh, TakesId, JoinsOneDomain}
+
+-- the first and the last rule that a plan is judged by
+abbrev pub first_rule : ℕ
+first_rule = 5
+
+abbrev pub last_rule : ℕ
+last_rule = 20
+
+-- the element at the place breaks the rule of this number
+abbrev pub broken : Plan → ℕ → Place → Type 0
+broken plan rule place =
+    MatchBool (rule == 5) (TakesName plan place) (MatchBool (rule == 6) (IsPastLastDomain plan place)
+    (MatchBool (rule == 7) (HasPriorityTooHigh plan place) (MatchBool (rule == 8) (HasPeriodTooShort plan place)
+    (MatchBool (rule == 9) (HasBadSize plan place) (MatchBool (rule == 10) (HasBadPageSize plan place)
+    (MatchBool (rule == 11) (HasBadPhysAddr plan place) (MatchBool (rule == 12) (MeetsGivenRange plan place)
+    (MatchBool (rule == 13) (NamesNoRegion plan place) (MatchBool (rule == 14) (HasBadVaddr plan place)
+    (MatchBool (rule == 15) (MeetsMap plan place) (MatchBool (rule == 16) (HasBadPerms plan place)
+    (MatchBool (rule == 17) (NamesNoDomain plan place) (MatchBool (rule == 18) (HasIdTooHigh plan place)
+    (MatchBool (rule == 19) (TakesId plan place) (MatchBool (rule == 20) (JoinsOneDomain plan place) ⊥)))))))))))))))
+
+-- a plan is valid where no element breaks a rule
+abbrev pub Valid : Plan → Type 0
+Valid plan = KeepsRules (broken plan) (walk (outline_of plan)) first_rule last_rule
+
+-- the least rule that a plan breaks, at the first element that breaks it
+abbrev pub IsRefused : Plan → Refusal → Type 0
+IsRefused plan refusal = IsRefusal (broken plan) (walk (outline_of plan)) first_rule last_rule refusal
