@@ -1,0 +1,7 @@
+pub mod Deeds
+pub mod Ends
+pub mod Queues
+pub mod Bells
+pub mod Lists
+pub mod Journal
+pub mod Picks

@@ -1,0 +1,55 @@
+use Rattle.std.specs.Prelude.{◌==◌, ℕ, Bool, true, false, Option, List, [], ◌++◌}
+use Rattle.cargo_core.specs.declared.item.Body.{Body}
+use Rattle.wire_core.specs.declared.names.Event.{Event}
+use Rattle.wire_core.specs.declared.names.Op.{Op}
+use Rattle.wire_core.specs.declared.names.Op.TheVariants as Do
+use Rattle.wire_core.specs.Deeds.{Deed, Cargo, cargo_of}
+
+-- for each queue, the entries that were put there, or taken from there
+abbrev pub Lists : Type 0
+Lists = ℕ → List Cargo
+
+abbrev pub if_there : Bool → List Cargo → List Cargo
+if_there true c = c
+if_there false c = []
+
+abbrev pub if_taken : Op → List Cargo → List Cargo
+if_taken Do.Take c = c
+if_taken Do.Put c = []
+if_taken Do.See c = []
+if_taken Do.Room c = []
+if_taken (Do.Ask s) c = []
+if_taken (Do.Waive s) c = []
+if_taken (Do.Wake s) c = []
+if_taken (Do.Wanted s) c = []
+if_taken (Do.Settle s) c = []
+if_taken (Do.Ring s) c = []
+
+abbrev pub if_put : Op → List Cargo → List Cargo
+if_put Do.Put c = c
+if_put Do.Take c = []
+if_put Do.See c = []
+if_put Do.Room c = []
+if_put (Do.Ask s) c = []
+if_put (Do.Waive s) c = []
+if_put (Do.Wake s) c = []
+if_put (Do.Wanted s) c = []
+if_put (Do.Settle s) c = []
+if_put (Do.Ring s) c = []
+
+-- what a deed takes from queue n, and puts there
+abbrev pub taken_by : Deed → Lists
+taken_by d n = if_there (d.event.queue.0 == n) (if_taken d.event.op (cargo_of d))
+
+abbrev pub put_by : Deed → Lists
+put_by d n = if_there (d.event.queue.0 == n) (if_put d.event.op (cargo_of d))
+
+abbrev pub with : Lists → Lists → Lists
+with old more n = old n ++ more n
+
+-- one step of an actor that stands for the lists of its ends, what it took and what it put:
+-- one call happened, and whatever lists it stood for, it now stands for those lists with this event's entry added
+pub record Stepped {A W : Type 0} (StandsFor : A → Lists → Lists → Type 0) (did : W → Deed → W → Type 0) (wires wires' : W) (old new : A) (event : Event) : Type 0 where
+  pub body : Option Body
+  pub happened : did wires (record { event = event; body = body }) wires'
+  pub kept : (taken sent : Lists) → StandsFor old taken sent → StandsFor new (with taken (taken_by (record { event = event; body = body }))) (with sent (put_by (record { event = event; body = body })))
