@@ -1,0 +1,68 @@
+ghost use Rattle.std.specs.Prelude.{◌≡◌, ◌≤◌, length, take};
+ghost use Rattle.frame_core.specs.Frames.{is_frame_of, is_frame_for, turned_round};
+
+use crate::Mac;
+
+/// The shortest and the longest frame, in bytes: a header of 14 bytes with 0 to 1,500 bytes after it.
+const SHORTEST: usize = 14;
+
+const LONGEST: usize = 1514;
+
+/// Whether these bytes can be a frame, which their number alone decides.
+pub fn is_frame(bytes: &[u8]) -> bool
+    ensures { result ≡ is_frame_of bytes.now }
+{
+    SHORTEST <= bytes.len() && bytes.len() <= LONGEST
+}
+
+/// The station to which a frame goes: its first six bytes.
+pub fn destination(frame: &[u8]) -> Mac
+    requires { 14 ≤ length frame.now }
+    ensures { result.0 ≡ take 6 frame.now }
+{
+    Mac([frame[0], frame[1], frame[2], frame[3], frame[4], frame[5]])
+}
+
+/// Whether a frame is for the station of an address: its destination is that address, or that of all stations.
+pub fn is_for(frame: &[u8], own: Mac) -> bool
+    requires { 14 ≤ length frame.now }
+    ensures { result ≡ is_frame_for frame.now own }
+{
+    frame.starts_with(&own.0) || frame.starts_with(&[0xff; 6])
+}
+
+/// Makes a frame the answer to itself: it goes to the station from which it came, and comes from `own`.
+pub fn turn_round(frame: &mut [u8], own: Mac)
+    requires { 14 ≤ length frame.old }
+    ensures { frame.new ≡ turned_round frame.old own }
+{
+    let source = [frame[6], frame[7], frame[8], frame[9], frame[10], frame[11]];
+    frame[..6].copy_from_slice(&source);
+    frame[6..12].copy_from_slice(&own.0);
+}
+
+#[cfg(test)]
+mod tests {
+    use super::*;
+
+    const OWN: Mac = Mac([2, 0, 0, 0, 0, 1]);
+
+    #[test]
+    fn frames_have_14_to_1514_bytes(rt: HostRuntime) {
+        assert!(rt; !is_frame(&[0; 13]));
+        assert!(rt; is_frame(&[0; 14]));
+        assert!(rt; is_frame(&[0; 1514]));
+        assert!(rt; !is_frame(&[0; 1515]));
+    }
+
+    #[test]
+    fn an_answer_goes_back_to_the_source(rt: HostRuntime) {
+        let mut frame = [2, 0, 0, 0, 0, 1, 2, 0, 0, 0, 0, 0x99, 8, 0, 7];
+        assert!(rt; is_for(&frame, OWN));
+        assert_eq!(rt; destination(&frame), OWN);
+        turn_round(&mut frame, OWN);
+        assert_eq!(rt; &frame, &[2, 0, 0, 0, 0, 0x99, 2, 0, 0, 0, 0, 1, 8, 0, 7]);
+        assert!(rt; !is_for(&frame, OWN));
+        assert!(rt; is_for(&[0xff; 14], OWN));
+    }
+}
