@@ -57,14 +57,14 @@ impl BlkStatus {
 }
 
 /// A block request: `block` and `count` are in blocks of 4,096 bytes, `addr` names the buffer. From sDDF's block
-/// queue header.
+/// queue header. The widest fields come first, since fields lie in memory in this order.
 #[derive(Clone, Copy, Debug, PartialEq, Eq)]
 pub struct BlkReq {
-    pub code: Code,
     pub addr: u64,
     pub block: u32,
-    pub count: u16,
     pub id: u32,
+    pub count: u16,
+    pub code: Code,
 }
 
 /// A block response. `count` is in blocks of 4,096 bytes, and `id` is that of the request.
