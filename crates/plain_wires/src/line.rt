@@ -1,0 +1,229 @@
+// One queue: what stands in it, its two bells, and the looks that answered yes and aren't used.
+ghost use Rattle.std.specs.Prelude.{◌≡◌, ◌<◌, not, true, false, length, IfOk, Some, None, [], ◌∷◌};
+ghost use Rattle.cargo_core.specs.Items.{kind_of};
+ghost use Rattle.wire_core.specs.Deeds.{answer_of};
+ghost use Rattle.wire_core.specs.Ends.{Condition, Consumer, Producer};
+ghost use Rattle.wire_core.specs.Queues.{Queue, queue_after, start_queue, end_of, bell_of, with_bell, is_filled, has_room, is_called};
+
+use cargo_core::{Body, Item, Memory, QueueKind};
+use std::alloc::Global;
+use std::collections::VecDeque;
+use std::marker::Model;
+use wire_core::{ActorId, Answer, BellState, Op, QueueRow, Ringer, Side, Waiter};
+
+/// One queue. `saw` and `free` are the last looks of its two ends, as long as they aren't used.
+#[derive(Drop)]
+pub struct Line {
+    kind: QueueKind,
+    capacity: u32,
+    producer: ActorId,
+    consumer: ActorId,
+    cargo: VecDeque<(Item, Body)>,
+    front: BellState,
+    back: BellState,
+    saw: bool,
+    free: bool,
+}
+
+impl Model for Line {
+    ghost use Rattle.wire_core.specs.Queues.{Queue};
+
+    ghost Value = { Queue };
+
+    ghost use Rattle.plain_wires.specs.Lines.{queue_of, IsLine};
+
+    ghost view = { queue_of };
+
+    ghost invariant = { IsLine };
+}
+
+impl Line {
+    /// The queue of a row in its start state, with its room taken.
+    pub fn new(alloc: Global, row: &QueueRow) -> Result<Line, Memory>
+        ensures { IfOk result (λ l. l ≡ start_queue row.now) }
+    {
+        Ok(Line {
+            kind: row.kind,
+            capacity: row.capacity,
+            producer: row.producer,
+            consumer: row.consumer,
+            cargo: VecDeque::with_capacity(alloc, row.capacity as usize)?,
+            front: BellState {
+                flag: false,
+                pending: false,
+                waiter: Waiter::Busy,
+                ringer: Ringer::Free,
+            },
+            back: BellState {
+                flag: true,
+                pending: false,
+                waiter: Waiter::Off,
+                ringer: Ringer::Free,
+            },
+            saw: false,
+            free: false,
+        })
+    }
+
+    /// How many entries stand in it.
+    pub fn len(&self) -> u32
+        ensures { result ≡ length self.now.entries }
+    {
+        self.cargo.len() as u32
+    }
+
+    /// Whether a pending word of one of this actor's waiters is 1.
+    pub fn calls(&self, actor: ActorId) -> bool
+        ensures { result ≡ is_called actor.0 self.now }
+    {
+        (self.consumer.0 == actor.0 && self.front.pending)
+            || (self.producer.0 == actor.0 && self.back.pending)
+    }
+
+    pub fn bell(&self, side: Side) -> BellState
+        ensures { result ≡ bell_of self.now.bells side }
+    {
+        match side {
+            Side::Forward => self.front,
+            Side::Backward => self.back,
+        }
+    }
+
+    fn set_bell(&mut self, side: Side, bell: BellState)
+        ensures { self.new ≡ record self.old { bells = with_bell self.old.bells side bell } }
+    {
+        match side {
+            Side::Forward => self.front = bell,
+            Side::Backward => self.back = bell,
+        }
+    }
+
+    pub fn see(&mut self) -> bool
+        ensures now { result ≡ is_filled self.old }
+        ensures after { self.new ≡ queue_after self.old Op.See (answer_of result) [] }
+    {
+        self.saw = !self.cargo.is_empty();
+        if !self.saw && self.front.waiter == Waiter::Asked {
+            self.front.waiter = Waiter::Clear;
+        }
+        self.saw
+    }
+
+    pub fn room(&mut self) -> bool
+        ensures now { result ≡ has_room self.old }
+        ensures after { self.new ≡ queue_after self.old Op.Room (answer_of result) [] }
+    {
+        self.free = self.cargo.len() < self.capacity as usize;
+        if !self.free && self.back.waiter == Waiter::Asked {
+            self.back.waiter = Waiter::Clear;
+        }
+        self.free
+    }
+
+    pub fn take(&mut self) -> (Item, Body)
+        requires { Condition (end_of true self.old.kind self.old.bells Consumer) Op.Take }
+        ensures filled { is_filled self.old ≡ true }
+        ensures kind { kind_of result.0 ≡ self.old.kind }
+        ensures first { self.old.entries ≡ result ∷ self.new.entries }
+        ensures after { self.new ≡ queue_after self.old Op.Take Answer.Done (result ∷ []) }
+    {
+        self.saw = false;
+        self.back.ringer = Ringer::Put;
+        self.cargo.pop_front().unwrap()
+    }
+
+    pub fn put(&mut self, item: Item, body: Body)
+        requires may { Condition (end_of true self.old.kind self.old.bells Producer) Op.Put }
+        requires kind { kind_of item ≡ self.old.kind }
+        ensures room { has_room self.old ≡ true }
+        ensures after { self.new ≡ queue_after self.old Op.Put Answer.Done ((item, body) ∷ []) }
+    {
+        self.free = false;
+        self.front.ringer = Ringer::Put;
+        self.cargo.push_back_reserved((item, body));
+    }
+
+    pub fn ask(&mut self, side: Side)
+        ensures { self.new ≡ queue_after self.old (Op.Ask side) Answer.Done [] }
+    {
+        let bell = self.bell(side);
+        self.set_bell(
+            side,
+            BellState {
+                flag: false,
+                waiter: Waiter::Asked,
+                ..bell
+            },
+        );
+    }
+
+    pub fn waive(&mut self, side: Side)
+        ensures { self.new ≡ queue_after self.old (Op.Waive side) Answer.Done [] }
+    {
+        let bell = self.bell(side);
+        self.set_bell(
+            side,
+            BellState {
+                flag: true,
+                waiter: Waiter::Off,
+                ..bell
+            },
+        );
+    }
+
+    pub fn wake(&mut self, side: Side) -> bool
+        ensures now { result ≡ (bell_of self.old.bells side).pending }
+        ensures after { self.new ≡ queue_after self.old (Op.Wake side) (answer_of result) [] }
+    {
+        let bell = self.bell(side);
+        if bell.pending {
+            self.set_bell(
+                side,
+                BellState {
+                    pending: false,
+                    waiter: Waiter::Busy,
+                    ..bell
+                },
+            );
+        }
+        bell.pending
+    }
+
+    pub fn wanted(&mut self, side: Side) -> bool
+        ensures now { result ≡ not (bell_of self.old.bells side).flag }
+        ensures after { self.new ≡ queue_after self.old (Op.Wanted side) (answer_of result) [] }
+    {
+        let bell = self.bell(side);
+        let ringer = if bell.flag { Ringer::Free } else { Ringer::Hot };
+        self.set_bell(side, BellState { ringer, ..bell });
+        !bell.flag
+    }
+
+    pub fn settle(&mut self, side: Side)
+        ensures { self.new ≡ queue_after self.old (Op.Settle side) Answer.Done [] }
+    {
+        let bell = self.bell(side);
+        self.set_bell(
+            side,
+            BellState {
+                flag: true,
+                ringer: Ringer::Ringing,
+                ..bell
+            },
+        );
+    }
+
+    pub fn ring(&mut self, side: Side)
+        ensures { self.new ≡ queue_after self.old (Op.Ring side) Answer.Done [] }
+    {
+        let bell = self.bell(side);
+        self.set_bell(
+            side,
+            BellState {
+                pending: true,
+                ringer: Ringer::Free,
+                ..bell
+            },
+        );
+    }
+}

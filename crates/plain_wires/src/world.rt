@@ -1,0 +1,120 @@
+ghost use Rattle.std.specs.Prelude.{◌≡◌, ◌<◌, ◌≤◌, ◌^◌, length, map, IfOk, IfSome, OnOk, slice_get, Some};
+ghost use Rattle.wire_core.specs.Queues.{Happens, bell_of, queue_at, end_at, starts, is_pending};
+
+use crate::line::Line;
+use cargo_core::{Body, Item, Memory};
+use std::alloc::Global;
+use std::marker::Model;
+use wire_core::{ActorId, BellState, Op, QueueId, QueueRow, Side, Wires};
+
+/// All queues, each with what stands in it and its two bells: contracts see the list of them in full. Each of the ten
+/// calls takes constant time and no memory, is the next event of the queue law, the bell law and the discipline on its
+/// queue, and changes no other.
+#[derive(Drop)]
+pub struct World {
+    lines: Vec<Line>,
+}
+
+impl Model for World {
+    ghost use Rattle.std.specs.Prelude.{List};
+    ghost use Rattle.wire_core.specs.Queues.{Queue};
+
+    ghost Value = { List Queue };
+
+    ghost view = { λ w. w.lines.items };
+}
+
+impl World {
+    /// Every queue in its start state, with its room taken. Memory is the answer for want of memory alone.
+    pub fn new(alloc: Global, rows: &[QueueRow]) -> Result<World, Memory>
+        ensures { IfOk result (λ w. w ≡ starts rows.now) }
+    {
+        let mut lines = Vec::with_capacity(alloc, rows.len())?;
+        for row in rows {
+            lines.push(Line::new(alloc, row)?)?;
+        }
+        Ok(World { lines })
+    }
+
+    /// How many entries stand in a queue.
+    pub fn len(&self, q: QueueId) -> u32
+        requires { q.0 < length self.now }
+        ensures { result ≡ length (queue_at self.now q.0).entries }
+    {
+        let line = &self.lines[q.0 as usize];
+        line.len()
+    }
+
+    /// Whether a pending word of one of the actor's waiters is 1: forward where it is the queue's consumer, backward
+    /// where it is its producer.
+    pub fn is_pending(&self, actor: ActorId) -> bool
+        ensures { result ≡ is_pending actor.0 self.now }
+    {
+        self.lines.iter().any(|line| line.calls(actor))
+    }
+
+    /// A bell of a queue.
+    pub fn bell(&self, q: QueueId, side: Side) -> BellState
+        requires { q.0 < length self.now }
+        ensures { result ≡ bell_of (queue_at self.now q.0).bells side }
+    {
+        let line = &self.lines[q.0 as usize];
+        line.bell(side)
+    }
+}
+
+impl Wires for World {
+    ghost ends = { end_at };
+
+    ghost did = { λ old d new. Happens old d new };
+
+    fn see(&mut self, q: QueueId) -> bool {
+        let line = &mut self.lines[q.0 as usize];
+        line.see()
+    }
+
+    fn room(&mut self, q: QueueId) -> bool {
+        let line = &mut self.lines[q.0 as usize];
+        line.room()
+    }
+
+    fn take(&mut self, q: QueueId) -> (Item, Body) {
+        let line = &mut self.lines[q.0 as usize];
+        line.take()
+    }
+
+    fn put(&mut self, q: QueueId, item: Item, body: Body) {
+        let line = &mut self.lines[q.0 as usize];
+        line.put(item, body);
+    }
+
+    fn ask(&mut self, q: QueueId, side: Side) {
+        let line = &mut self.lines[q.0 as usize];
+        line.ask(side);
+    }
+
+    fn waive(&mut self, q: QueueId, side: Side) {
+        let line = &mut self.lines[q.0 as usize];
+        line.waive(side);
+    }
+
+    fn wake(&mut self, q: QueueId, side: Side) -> bool {
+        let line = &mut self.lines[q.0 as usize];
+        line.wake(side)
+    }
+
+    fn wanted(&mut self, q: QueueId, side: Side) -> bool {
+        let line = &mut self.lines[q.0 as usize];
+        line.wanted(side)
+    }
+
+    fn settle(&mut self, q: QueueId, side: Side) {
+        let line = &mut self.lines[q.0 as usize];
+        line.settle(side);
+    }
+
+    fn ring(&mut self, q: QueueId, side: Side) {
+        let line = &mut self.lines[q.0 as usize];
+        line.ring(side);
+    }
+}
