@@ -1,0 +1,4 @@
+pub mod ManyEnds
+pub mod ManyOutlets
+pub mod Calls
+pub mod Offers

@@ -1,0 +1,118 @@
+use Rattle.std.proofs.Common.{◌≡◌, ◌+◌, ◌<◌, ◌&&◌, ℕ, zero, suc, Bool, true, false, Option, Some, None, List, [], ◌∷◌, drop, map, length, slice_get, slice_set, refl, sym, ap, ◌∙◌, subst, arith, add-one, add-zero, zero-add, add_assoc, slice_index_or}
+use Rattle.turn_kit.specs.Posts.{intake_post, outlet_post}
+use Rattle.turn_kit.specs.declared.ends.Intake.{Intake}
+use Rattle.turn_kit.specs.declared.ends.Outlet.{Outlet}
+use Rattle.std.proofs.lemmas.Option.{slice_get-get_or}
+use Rattle.std.proofs.Math.Dec.{eqb}
+use Rattle.std.specs.Option.{option_eq}
+use Rattle.wire_core.specs.declared.names.QueueId.{QueueId}
+use Rattle.wire_core.specs.declared.names.Event.{Event}
+use Rattle.turn_kit.specs.Table.{is_settled}
+use Rattle.turn_kit.specs.Turns.{Post, Posted, PostedAt, Choosing, offered, offered_from, settled_all}
+use Rattle.turn_kit.specs.ManyEnds.{all_need, loads_from, is_here}
+
+-- so many ends were offered, and the others are left
+pub record OffersOn (c now : Choosing) (base k : ℕ) (posts : List Post) (needs : List Bool) : Type 0 where
+  pub count : now.count ≡ c.count
+  pub rest : offered_from c base posts needs ≡ offered_from now (base + k) (drop k posts) (drop k needs)
+
+some_eq : {X : Type 0} {a b : X} → Some a ≡ Some b → a ≡ b
+some_eq h = cc
+
+pub drop_here : {X : Type 0} → (xs : List X) (k : ℕ) (x : X) → slice_get xs k ≡ Some x → drop k xs ≡ x ∷ drop (suc k) xs
+drop_here [] k x h = cc
+drop_here (y ∷ xs) zero x h = ap (λ z. z ∷ xs) (some_eq h)
+drop_here (y ∷ xs) (suc k) x h = drop_here xs k x h
+
+module _ (c : Choosing) (base k k' : ℕ) (posts : List Post) (needs : List Bool) where
+  one_on : base + k + 1 ≡ base + (k + 1) → suc k ≡ k' → offered_from c (base + k + 1) (drop (suc k) posts) (drop (suc k) needs) ≡ offered_from c (base + k') (drop k' posts) (drop k' needs)
+  one_on e f = ap (λ n. offered_from c n (drop (suc k) posts) (drop (suc k) needs)) (e ∙ ap (λ m. base + m) (add-one k)) ∙ ap (λ m. offered_from c (base + m) (drop m posts) (drop m needs)) f
+
+pub offers_next : (c now : Choosing) (base k : ℕ) (posts : List Post) (needs : List Bool) (p : Post) (need : Bool) → slice_get posts k ≡ Some p → slice_get needs k ≡ Some need → OffersOn c now base k posts needs → OffersOn c (offered now (record { queue = p.queue; place = base + k }) (is_settled p.kept need)) base (k + 1) posts needs
+offers_next c now base k posts needs p need at n h = record {
+  count = h.count;
+  rest = h.rest ∙ (ap (λ ps. offered_from now (base + k) ps (drop k needs)) (drop_here posts k p at) ∙ (ap (λ ns. offered_from now (base + k) (p ∷ drop (suc k) posts) ns) (drop_here needs k need n) ∙ one_on (offered now (record { queue = p.queue; place = base + k }) (is_settled p.kept need)) base k (k + 1) posts needs (add_assoc base k 1) (sym (add-one k))));
+}
+
+-- what a map has at a place
+pub get_map : {X Y : Type 0} → (f : X → Y) (xs : List X) (k : ℕ) (x : X) → slice_get xs k ≡ Some x → slice_get (map f xs) k ≡ Some (f x)
+get_map f [] k x h = cc
+get_map f (y ∷ xs) zero x h = ap (λ z. Some (f z)) (some_eq h)
+get_map f (y ∷ xs) (suc k) x h = get_map f xs k x h
+
+pub map_set : {X Y : Type 0} → (f : X → Y) (xs : List X) (k : ℕ) (x : X) → map f (slice_set xs k x) ≡ slice_set (map f xs) k (f x)
+map_set f [] k x = refl
+map_set f (y ∷ xs) zero x = refl
+map_set f (y ∷ xs) (suc k) x = ap (λ zs. f y ∷ zs) (map_set f xs k x)
+
+-- one end of a list moved
+pub posted_at : {X : Type 0} → (f : X → Post) (xs : List X) (k : ℕ) (x moved : X) (need : Bool) (e : Event) → slice_get xs k ≡ Some x → Posted (f x) need e (f moved) → PostedAt (map f xs) k need e (map f (slice_set xs k moved))
+posted_at f xs k x moved need e at p = record { post = f x; moved = f moved; there = get_map f xs k x at; posted = p; after = map_set f xs k moved }
+
+pub get_need : (need : Bool) (qs : List QueueId) (k : ℕ) (q : QueueId) → slice_get qs k ≡ Some q → slice_get (all_need need qs) k ≡ Some need
+get_need need qs k q h = get_map (λ _. need) qs k q h
+
+plus_suc : (m k : ℕ) → m + 1 + k ≡ m + suc k
+plus_suc m k = rw (← add-one k) omega arith
+
+pub get_load : (l : Option ℕ) (from : ℕ) (qs : List QueueId) (k : ℕ) (q : QueueId) → slice_get qs k ≡ Some q → slice_get (loads_from l from qs) k ≡ Some (is_here l (from + k))
+get_load l from [] k q h = cc
+get_load l from (y ∷ qs) zero q h = ap (λ n. Some (is_here l n)) (sym (add-zero from))
+get_load l from (y ∷ qs) (suc k) q h = get_load l (from + 1) qs k q h ∙ ap (λ n. Some (is_here l n)) (plus_suc from k)
+
+-- the first of the ends moved, or a later one
+pub first : (p moved : Post) (ps : List Post) (need : Bool) (e : Event) → Posted p need e moved → PostedAt (p ∷ ps) 0 need e (moved ∷ ps)
+first p moved ps need e h = record { post = p; moved = moved; there = refl; posted = h; after = refl }
+
+pub later : (p : Post) (ps ps' : List Post) (k : ℕ) (need : Bool) (e : Event) → PostedAt ps k need e ps' → PostedAt (p ∷ ps) (suc k) need e (p ∷ ps')
+later p ps ps' k need e h = record { post = h.post; moved = h.moved; there = h.there; posted = h.posted; after = ap (λ xs. p ∷ xs) h.after }
+
+at_index : {X : Type 0} → (xs : List X) (k : ℕ) (d : X) → k < length xs → slice_get xs k ≡ Some (slice_index_or xs k d)
+at_index xs k d h = slice_get-get_or xs k d h
+
+pub is_here_told : (loaded : Option ℕ) (k : ℕ) → option_eq eqb loaded (Some k) ≡ is_here loaded k
+is_here_told None k = refl
+is_here_told (Some j) k = refl
+
+-- one end of a list more was offered
+pub intake_next : (c now v : Choosing) (base k : ℕ) (items ends : List Intake) (d : Intake) (need s : Bool) → items ≡ ends → k < length items → v ≡ offered now (record { queue = (slice_index_or items k d).queue.0; place = base + k }) s → s ≡ is_settled (slice_index_or items k d).kept need → OffersOn c now base k (map intake_post ends) (all_need need (map (λ i. i.queue) ends)) → OffersOn c v base (k + 1) (map intake_post ends) (all_need need (map (λ i. i.queue) ends))
+intake_next c now v base k items ends d need s same h e t on = rw (e, t) (offers_next c now base k (map intake_post ends) (all_need need (map (λ i. i.queue) ends)) (intake_post (slice_index_or items k d)) need (get_map intake_post ends k (slice_index_or items k d) here) (get_need need (map (λ i. i.queue) ends) k (slice_index_or items k d).queue (get_map (λ i. i.queue) ends k (slice_index_or items k d) here)) on)
+  where
+    here : slice_get ends k ≡ Some (slice_index_or items k d)
+    here = subst (λ xs. slice_get xs k ≡ Some (slice_index_or items k d)) same (at_index items k d h)
+
+pub outlet_next : (c now v : Choosing) (base k : ℕ) (items ends : List Outlet) (d : Outlet) (loaded : Option ℕ) (s b : Bool) → items ≡ ends → k < length items → v ≡ offered now (record { queue = (slice_index_or items k d).queue.0; place = base + k }) s → s ≡ is_settled (slice_index_or items k d).kept b → b ≡ option_eq eqb loaded (Some k) → OffersOn c now base k (map outlet_post ends) (loads_from loaded 0 (map (λ i. i.queue) ends)) → OffersOn c v base (k + 1) (map outlet_post ends) (loads_from loaded 0 (map (λ i. i.queue) ends))
+outlet_next c now v base k items ends d loaded s b same h e t u on = rw (e, t, u, is_here_told loaded k) (offers_next c now base k (map outlet_post ends) (loads_from loaded 0 (map (λ i. i.queue) ends)) (outlet_post (slice_index_or items k d)) (is_here loaded k) (get_map outlet_post ends k (slice_index_or items k d) here) (get_load loaded 0 (map (λ i. i.queue) ends) k (slice_index_or items k d).queue (get_map (λ i. i.queue) ends k (slice_index_or items k d) here) ∙ ap (λ n. Some (is_here loaded n)) (zero-add k)) on)
+  where
+    here : slice_get ends k ≡ Some (slice_index_or items k d)
+    here = subst (λ xs. slice_get xs k ≡ Some (slice_index_or items k d)) same (at_index items k d h)
+
+here_settled : (posts : List Post) (needs : List Bool) (k : ℕ) (p : Post) (need : Bool) → slice_get posts k ≡ Some p → slice_get needs k ≡ Some need → settled_all (drop k posts) (drop k needs) ≡ (is_settled p.kept need && settled_all (drop (k + 1) posts) (drop (k + 1) needs))
+here_settled posts needs k p need at n = rw (drop_here posts k p at, drop_here needs k need n, add-one k) refl
+
+-- the ends from a place on are settled where this one is and the others are
+pub intake_settled : (k : ℕ) (items ends : List Intake) (d : Intake) (need s : Bool) → items ≡ ends → k < length items → s ≡ is_settled (slice_index_or items k d).kept need → settled_all (drop k (map intake_post ends)) (drop k (all_need need (map (λ i. i.queue) ends))) ≡ (s && settled_all (drop (k + 1) (map intake_post ends)) (drop (k + 1) (all_need need (map (λ i. i.queue) ends))))
+intake_settled k items ends d need s same h t = rw t (here_settled (map intake_post ends) (all_need need (map (λ i. i.queue) ends)) k (intake_post (slice_index_or items k d)) need (get_map intake_post ends k (slice_index_or items k d) here) (get_need need (map (λ i. i.queue) ends) k (slice_index_or items k d).queue (get_map (λ i. i.queue) ends k (slice_index_or items k d) here)))
+  where
+    here : slice_get ends k ≡ Some (slice_index_or items k d)
+    here = subst (λ xs. slice_get xs k ≡ Some (slice_index_or items k d)) same (at_index items k d h)
+
+module _ (k : ℕ) (items ends : List Outlet) (d : Outlet) (loaded : Option ℕ) (s b : Bool) (same : items ≡ ends) (h : k < length items) (t : s ≡ is_settled (slice_index_or items k d).kept b) (u : b ≡ option_eq eqb loaded (Some k)) where
+  outlet_here : slice_get ends k ≡ Some (slice_index_or items k d)
+  outlet_here = subst (λ xs. slice_get xs k ≡ Some (slice_index_or items k d)) same (at_index items k d h)
+
+  outlet_now : settled_all (drop k (map outlet_post ends)) (drop k (loads_from loaded 0 (map (λ i. i.queue) ends))) ≡ (s && settled_all (drop (k + 1) (map outlet_post ends)) (drop (k + 1) (loads_from loaded 0 (map (λ i. i.queue) ends))))
+  outlet_now = rw (t, u, is_here_told loaded k) (here_settled (map outlet_post ends) (loads_from loaded 0 (map (λ i. i.queue) ends)) k (outlet_post (slice_index_or items k d)) (is_here loaded k) (get_map outlet_post ends k (slice_index_or items k d) outlet_here) (get_load loaded 0 (map (λ i. i.queue) ends) k (slice_index_or items k d).queue (get_map (λ i. i.queue) ends k (slice_index_or items k d) outlet_here) ∙ ap (λ n. Some (is_here loaded n)) (zero-add k)))
+
+  pub outlet_stop : (all : Bool) → s ≡ false → all ≡ settled_all (drop k (map outlet_post ends)) (drop k (loads_from loaded 0 (map (λ i. i.queue) ends))) → false ≡ all
+  outlet_stop all e g = sym (g ∙ (outlet_now ∙ ap (λ x. x && settled_all (drop (k + 1) (map outlet_post ends)) (drop (k + 1) (loads_from loaded 0 (map (λ i. i.queue) ends)))) e))
+
+  pub outlet_go : (all : Bool) → s ≡ true → all ≡ settled_all (drop k (map outlet_post ends)) (drop k (loads_from loaded 0 (map (λ i. i.queue) ends))) → all ≡ settled_all (drop (k + 1) (map outlet_post ends)) (drop (k + 1) (loads_from loaded 0 (map (λ i. i.queue) ends)))
+  outlet_go all e g = g ∙ (outlet_now ∙ ap (λ x. x && settled_all (drop (k + 1) (map outlet_post ends)) (drop (k + 1) (loads_from loaded 0 (map (λ i. i.queue) ends)))) e)
+
+module _ (k : ℕ) (items ends : List Intake) (d : Intake) (need s : Bool) (same : items ≡ ends) (h : k < length items) (t : s ≡ is_settled (slice_index_or items k d).kept need) where
+  pub intake_stop : (all : Bool) → s ≡ false → all ≡ settled_all (drop k (map intake_post ends)) (drop k (all_need need (map (λ i. i.queue) ends))) → false ≡ all
+  intake_stop all e g = sym (g ∙ (intake_settled k items ends d need s same h t ∙ ap (λ x. x && settled_all (drop (k + 1) (map intake_post ends)) (drop (k + 1) (all_need need (map (λ i. i.queue) ends)))) e))
+
+  pub intake_go : (all : Bool) → s ≡ true → all ≡ settled_all (drop k (map intake_post ends)) (drop k (all_need need (map (λ i. i.queue) ends))) → all ≡ settled_all (drop (k + 1) (map intake_post ends)) (drop (k + 1) (all_need need (map (λ i. i.queue) ends)))
+  intake_go all e g = g ∙ (intake_settled k items ends d need s same h t ∙ ap (λ x. x && settled_all (drop (k + 1) (map intake_post ends)) (drop (k + 1) (all_need need (map (λ i. i.queue) ends)))) e)

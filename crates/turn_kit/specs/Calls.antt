@@ -1,0 +1,88 @@
+use Rattle.std.specs.Prelude.{◌+◌, ◌&&◌, not, ℕ, Bool, true, false, Option, Some, None}
+use Rattle.wire_core.specs.declared.names.Op.{Op}
+use Rattle.wire_core.specs.declared.names.Op.TheVariants as Do
+use Rattle.wire_core.specs.declared.names.Answer.{Answer}
+use Rattle.wire_core.specs.declared.names.Answer.TheVariants.{Done, Yes, No}
+use Rattle.wire_core.specs.declared.names.Waiter.{Waiter}
+use Rattle.wire_core.specs.declared.names.Waiter.TheVariants as Wait
+use Rattle.wire_core.specs.declared.names.Ringer.{Ringer}
+use Rattle.wire_core.specs.declared.names.Ringer.TheVariants as Rung
+use Rattle.wire_core.specs.Ends.{is_clear}
+use Rattle.turn_kit.specs.declared.kept.Kept.{Kept}
+
+-- a call that is a mark: a take, a put, or a wake that answers yes
+abbrev pub is_mark : Op → Answer → Bool
+is_mark Do.Take a = true
+is_mark Do.Put a = true
+is_mark (Do.Wake s) Yes = true
+is_mark (Do.Wake s) No = false
+is_mark (Do.Wake s) Done = false
+is_mark Do.See a = false
+is_mark Do.Room a = false
+is_mark (Do.Ask s) a = false
+is_mark (Do.Waive s) a = false
+is_mark (Do.Wanted s) a = false
+is_mark (Do.Settle s) a = false
+is_mark (Do.Ring s) a = false
+
+abbrev pub is_told : Answer → Bool
+is_told Yes = true
+is_told No = true
+is_told Done = false
+
+-- looks, wake and wanted answer yes or no, the others nothing
+abbrev pub may_answer : Op → Answer → Bool
+may_answer Do.See a = is_told a
+may_answer Do.Room a = is_told a
+may_answer (Do.Wake s) a = is_told a
+may_answer (Do.Wanted s) a = is_told a
+may_answer Do.Take a = not (is_told a)
+may_answer Do.Put a = not (is_told a)
+may_answer (Do.Ask s) a = not (is_told a)
+may_answer (Do.Waive s) a = not (is_told a)
+may_answer (Do.Settle s) a = not (is_told a)
+may_answer (Do.Ring s) a = not (is_told a)
+
+-- the calls until the ringer is free
+abbrev pub ring_left : Ringer → ℕ
+ring_left Rung.Put = 3
+ring_left Rung.Hot = 2
+ring_left Rung.Ringing = 1
+ring_left Rung.Free = 0
+
+-- the calls, at most, until the waiter is clear or an entry is moved
+abbrev pub wait_left : Waiter → Bool → Option Bool → ℕ
+wait_left Wait.Clear need look = 0
+wait_left w false look = 0
+wait_left Wait.Asked true (Some true) = 1
+wait_left Wait.Asked true (Some false) = 2
+wait_left Wait.Asked true None = 2
+wait_left w true (Some true) = 0
+wait_left w true (Some false) = 3
+wait_left w true None = 4
+
+-- how many calls an end may still make before it is settled or a mark comes
+abbrev pub calls_left : Kept → Bool → ℕ
+calls_left k need = ring_left k.ringer + wait_left k.waiter need k.look
+
+-- the calls, at most, until the waiter is clear, where no look answers yes
+abbrev pub clear_left : Waiter → Bool → Option Bool → ℕ
+clear_left Wait.Clear need look = 0
+clear_left w false look = 0
+clear_left w true (Some true) = 0
+clear_left Wait.Asked true (Some false) = 1
+clear_left Wait.Asked true None = 1
+clear_left w true (Some false) = 2
+clear_left w true None = 3
+
+-- how many calls an end may still make until it is settled, where no mark comes
+abbrev pub settling_left : Kept → Bool → ℕ
+settling_left k need = ring_left k.ringer + clear_left k.waiter need k.look
+
+abbrev pub is_kept_yes : Option Bool → Bool
+is_kept_yes (Some b) = b
+is_kept_yes None = false
+
+-- the end is needed and saw that it can move an entry: it will, so it isn't settled before a mark
+abbrev pub is_moving : Kept → Bool → Bool
+is_moving k need = need && (is_kept_yes k.look && not (is_clear k.waiter))

@@ -1,0 +1,49 @@
+use Rattle.std.specs.Prelude.{◌≡◌, ◌+◌, ℕ, Bool, false, nat_eq, Option, Some, None, List, [], ◌∷◌, map, slice_get}
+use Rattle.wire_core.specs.declared.names.QueueId.{QueueId}
+use Rattle.wire_core.specs.Ends.{Role, Consumer, Producer, End}
+use Rattle.turn_kit.specs.Table.{Agrees}
+use Rattle.turn_kit.specs.Turns.{Post}
+use Rattle.turn_kit.specs.Posts.{intake_post, outlet_post}
+use Rattle.turn_kit.specs.declared.ends.Intake.{Intake}
+use Rattle.turn_kit.specs.declared.ends.Outlet.{Outlet}
+use Rattle.turn_kit.specs.declared.intakes.Intakes.{Intakes}
+use Rattle.turn_kit.specs.declared.outlets.Outlets.{Outlets}
+
+-- no two of these queues are one
+abbrev pub AreApart : List QueueId → Type 0
+AreApart qs = (k j : ℕ) (q q' : QueueId) → slice_get qs k ≡ Some q → slice_get qs j ≡ Some q' → q.0 ≡ q'.0 → k ≡ j
+
+-- the queues of the ends, in their order
+abbrev pub intake_queues : Intakes → List QueueId
+intake_queues xs = map (λ i. i.queue) xs.ends.items
+
+abbrev pub outlet_queues : Outlets → List QueueId
+outlet_queues xs = map (λ i. i.queue) xs.ends.items
+
+abbrev pub intake_posts : Intakes → List Post
+intake_posts xs = map intake_post xs.ends.items
+
+abbrev pub outlet_posts : Outlets → List Post
+outlet_posts xs = map outlet_post xs.ends.items
+
+-- each end is the caller's own, and as it is kept; no two are of one queue
+pub record FitsIntakes (ends : Role → ℕ → End) (xs : Intakes) : Type 0 where
+  pub agrees : (k : ℕ) (i : Intake) → slice_get xs.ends.items k ≡ Some i → Agrees (ends Consumer i.queue.0) i.kept
+  pub apart : AreApart (intake_queues xs)
+
+pub record FitsOutlets (ends : Role → ℕ → End) (xs : Outlets) : Type 0 where
+  pub agrees : (k : ℕ) (i : Outlet) → slice_get xs.ends.items k ≡ Some i → Agrees (ends Producer i.queue.0) i.kept
+  pub apart : AreApart (outlet_queues xs)
+
+-- each end is needed, or none is
+abbrev pub all_need : Bool → List QueueId → List Bool
+all_need need qs = map (λ q. need) qs
+
+abbrev pub is_here : Option ℕ → ℕ → Bool
+is_here (Some k) place = nat_eq k place
+is_here None place = false
+
+-- the one end at a place is loaded, or none is
+abbrev pub loads_from : Option ℕ → ℕ → List QueueId → List Bool
+loads_from k place [] = []
+loads_from k place (q ∷ qs) = is_here k place ∷ loads_from k (place + 1) qs

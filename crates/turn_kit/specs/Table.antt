@@ -1,0 +1,102 @@
+use Rattle.std.specs.Prelude.{◌≡◌, Bool, true, false, not, ◌||◌, ◌&&◌, Option, Some, None}
+use Rattle.wire_core.specs.declared.names.Side.{Side}
+use Rattle.wire_core.specs.declared.names.Side.TheVariants.{Forward, Backward}
+use Rattle.wire_core.specs.declared.names.Op.{Op}
+use Rattle.wire_core.specs.declared.names.Op.TheVariants as Do
+use Rattle.wire_core.specs.declared.names.Answer.{Answer}
+use Rattle.wire_core.specs.declared.names.Answer.TheVariants.{Done, Yes, No}
+use Rattle.wire_core.specs.declared.names.Waiter.{Waiter}
+use Rattle.wire_core.specs.declared.names.Waiter.TheVariants as Wait
+use Rattle.wire_core.specs.declared.names.Ringer.{Ringer}
+use Rattle.wire_core.specs.declared.names.Ringer.TheVariants as Rung
+use Rattle.wire_core.specs.Bells.{is_free}
+use Rattle.wire_core.specs.Ends.{End, is_clear, is_yes, looked_waiter, woken_waiter, wanted_ringer}
+use Rattle.turn_kit.specs.declared.kept.Kept.{Kept}
+
+abbrev pub other_side : Side → Side
+other_side Forward = Backward
+other_side Backward = Forward
+
+abbrev pub look_op : Side → Op
+look_op Forward = Do.See
+look_op Backward = Do.Room
+
+abbrev pub act_op : Side → Op
+act_op Forward = Do.Take
+act_op Backward = Do.Put
+
+-- the next call where the ringer is free
+abbrev pub waiting_op : Waiter → Bool → Option Bool → Side → Op
+waiting_op Wait.Clear need look s = Do.Wake s
+waiting_op Wait.Off false look s = Do.Wake s
+waiting_op Wait.Busy false look s = Do.Waive s
+waiting_op Wait.Asked false look s = Do.Waive s
+waiting_op Wait.Asked true (Some true) s = Do.Waive s
+waiting_op Wait.Asked true (Some false) s = look_op s
+waiting_op Wait.Asked true None s = look_op s
+waiting_op Wait.Busy true (Some true) s = act_op s
+waiting_op Wait.Busy true (Some false) s = Do.Ask s
+waiting_op Wait.Busy true None s = look_op s
+waiting_op Wait.Off true (Some true) s = act_op s
+waiting_op Wait.Off true (Some false) s = Do.Ask s
+waiting_op Wait.Off true None s = look_op s
+
+-- the next call of an end
+abbrev pub next_of : Ringer → Waiter → Bool → Option Bool → Side → Op
+next_of Rung.Put w need look s = Do.Wanted (other_side s)
+next_of Rung.Hot w need look s = Do.Settle (other_side s)
+next_of Rung.Ringing w need look s = Do.Ring (other_side s)
+next_of Rung.Free w need look s = waiting_op w need look s
+
+abbrev pub next_op : Kept → Side → Bool → Op
+next_op k s need = next_of k.ringer k.waiter need k.look s
+
+abbrev pub kept_yes : Option Bool → Option Bool
+kept_yes (Some true) = Some true
+kept_yes (Some false) = None
+kept_yes None = None
+
+abbrev pub woken_look : Answer → Option Bool → Option Bool
+woken_look Yes l = None
+woken_look No l = l
+woken_look Done l = l
+
+-- what the owner keeps after a call
+abbrev pub kept_after : Kept → Op → Answer → Kept
+kept_after k Do.See a = record k { waiter = looked_waiter k.waiter a; look = Some (is_yes a) }
+kept_after k Do.Room a = record k { waiter = looked_waiter k.waiter a; look = Some (is_yes a) }
+kept_after k Do.Take a = record k { ringer = Rung.Put; look = None }
+kept_after k Do.Put a = record k { ringer = Rung.Put; look = None }
+kept_after k (Do.Ask s) a = record k { waiter = Wait.Asked; look = None }
+kept_after k (Do.Waive s) a = record k { waiter = Wait.Off; look = kept_yes k.look }
+kept_after k (Do.Wake s) a = record k { waiter = woken_waiter k.waiter a; look = woken_look a k.look }
+kept_after k (Do.Wanted s) a = record k { ringer = wanted_ringer a }
+kept_after k (Do.Settle s) a = record k { ringer = Rung.Ringing }
+kept_after k (Do.Ring s) a = record k { ringer = Rung.Free }
+
+abbrev pub is_settled : Kept → Bool → Bool
+is_settled k need = is_free k.ringer && (not need || is_clear k.waiter)
+
+-- what is kept is so on the wires; a look that is kept as yes is unused there
+pub record Agrees (e : End) (k : Kept) : Type 0 where
+  pub owned : e.owned ≡ true
+  pub waiter : e.waiter ≡ k.waiter
+  pub ringer : e.ringer ≡ k.ringer
+  pub looked : k.look ≡ Some true → e.looked ≡ true
+
+-- what an end that waits on this side keeps at the start
+abbrev pub start_kept : Side → Kept
+start_kept Forward = record { waiter = Wait.Busy; ringer = Rung.Free; look = None }
+start_kept Backward = record { waiter = Wait.Off; ringer = Rung.Free; look = None }
+
+abbrev pub moves_entry : Op → Bool
+moves_entry Do.Take = true
+moves_entry Do.Put = true
+moves_entry Do.See = false
+moves_entry Do.Room = false
+moves_entry (Do.Ask s) = false
+moves_entry (Do.Waive s) = false
+moves_entry (Do.Wake s) = false
+moves_entry (Do.Wanted s) = false
+moves_entry (Do.Settle s) = false
+moves_entry (Do.Ring s) = false

@@ -1,0 +1,142 @@
+use Rattle.std.specs.Prelude.{◌≡◌, ◌+◌, ◌<◌, ◌==◌, ◌&&◌, ℕ, Bool, true, false, not, cond, nat_lt, Option, Some, None, is_none, List, [], ◌∷◌, length, slice_get, slice_set, count_by}
+use Rattle.wire_core.specs.declared.names.Event.{Event}
+use Rattle.wire_core.specs.declared.names.Side.{Side}
+use Rattle.wire_core.specs.declared.names.Op.TheVariants as Do
+use Rattle.wire_core.specs.declared.names.Answer.TheVariants.{No}
+use Rattle.turn_kit.specs.declared.kept.Kept.{Kept}
+use Rattle.turn_kit.specs.declared.turns.Stand.{Stand}
+use Rattle.turn_kit.specs.Table.{next_op, kept_after, is_settled}
+use Rattle.turn_kit.specs.Calls.{is_mark, may_answer}
+
+-- an end of an actor: its queue, the side on which it waits, and what is kept of it
+pub record Post : Type 0 where
+  pub queue : ℕ
+  pub side : Side
+  pub kept : Kept
+
+-- one call of the table at an end that is needed, or loaded, or not
+pub record Posted (old : Post) (need : Bool) (e : Event) (new : Post) : Type 0 where
+  pub queue : e.queue.0 ≡ old.queue
+  pub op : e.op ≡ next_op old.kept old.side need
+  pub answer : may_answer e.op e.answer ≡ true
+  pub after : new ≡ record { queue = old.queue; side = old.side; kept = kept_after old.kept e.op e.answer }
+
+-- all ends of an actor, which of them are needed or loaded, and the queue of the end that it stepped last where all
+-- were settled
+pub record Round : Type 0 where
+  pub posts : List Post
+  pub needs : List Bool
+  pub last : ℕ
+
+-- what was found of the ends that were offered so far: the one with the lowest queue number of those that aren't
+-- settled, of those with a higher queue number than the last, and of all
+pub record Choosing : Type 0 where
+  pub count : ℕ
+  pub last : ℕ
+  pub unsettled : Option Stand
+  pub after : Option Stand
+  pub first : Option Stand
+
+abbrev pub choosing : ℕ → ℕ → Choosing
+choosing n last = record { count = n; last = last; unsettled = None; after = None; first = None }
+
+-- the one of lower queue number
+abbrev pub lower : Option Stand → Stand → Option Stand
+lower None y = Some y
+lower (Some x) y = Some (cond (nat_lt y.queue x.queue) y x)
+
+abbrev pub lower_if : Bool → Option Stand → Stand → Option Stand
+lower_if true x y = lower x y
+lower_if false x y = x
+
+-- one end more was offered
+abbrev pub offered : Choosing → Stand → Bool → Choosing
+offered c y settled = record c {
+  unsettled = lower_if (not settled) c.unsettled y;
+  after = lower_if (nat_lt c.last y.queue) c.after y;
+  first = lower c.first y;
+}
+
+-- the ends were offered in their order, from a place on
+abbrev pub offered_from : Choosing → ℕ → List Post → List Bool → Choosing
+offered_from c place [] needs = c
+offered_from c place (p ∷ ps) [] = c
+offered_from c place (p ∷ ps) (need ∷ needs) = offered_from (offered c (record { queue = p.queue; place = place }) (is_settled p.kept need)) (place + 1) ps needs
+
+abbrev pub choice_of : Round → Choosing
+choice_of r = offered_from (choosing (length r.posts) r.last) 0 r.posts r.needs
+
+abbrev pub place_or : Option Stand → ℕ → ℕ
+place_or (Some x) n = x.place
+place_or None n = n
+
+abbrev pub queue_or : Option Stand → ℕ → ℕ
+queue_or (Some x) n = x.queue
+queue_or None n = n
+
+-- the unsettled end with the lowest queue number; where all are settled, the next in rising queue number after the last
+abbrev pub chosen : Choosing → ℕ
+chosen c = place_or c.unsettled (place_or c.after (place_or c.first 0))
+
+-- the last is then the one that is chosen, where all are settled
+abbrev pub last_after : Choosing → ℕ
+last_after c = cond (is_none c.unsettled) (queue_or c.after (queue_or c.first c.last)) c.last
+
+-- one call of the table at the end at a place, and none at the others
+pub record PostedAt (old : List Post) (place : ℕ) (need : Bool) (e : Event) (new : List Post) : Type 0 where
+  pub post : Post
+  pub moved : Post
+  pub there : slice_get old place ≡ Some post
+  pub posted : Posted post need e moved
+  pub after : new ≡ slice_set old place moved
+
+-- one step of an actor: the chosen end makes its next call, the others stay, and what is needed or loaded changes only
+-- at a mark
+pub record Turned (old : Round) (e : Event) (new : Round) : Type 0 where
+  pub place : ℕ
+  pub need : Bool
+  pub is_chosen : place ≡ chosen (choice_of old)
+  pub needed : slice_get old.needs place ≡ Some need
+  pub posted : PostedAt old.posts place need e new.posts
+  pub needs : is_mark e.op e.answer ≡ false → new.needs ≡ old.needs
+  pub last : new.last ≡ last_after (choice_of old)
+
+-- each end has its need, and no two ends are of one queue
+pub record IsRound (r : Round) : Type 0 where
+  pub some : 0 < length r.posts
+  pub needs : length r.needs ≡ length r.posts
+  pub apart : (k j : ℕ) (p q : Post) → slice_get r.posts k ≡ Some p → slice_get r.posts j ≡ Some q → p.queue ≡ q.queue → k ≡ j
+
+abbrev pub settled_all : List Post → List Bool → Bool
+settled_all [] needs = true
+settled_all (p ∷ ps) [] = true
+settled_all (p ∷ ps) (need ∷ needs) = is_settled p.kept need && settled_all ps needs
+
+-- all ends are settled
+abbrev pub is_at_rest : Round → Bool
+is_at_rest r = settled_all r.posts r.needs
+
+-- steps with no mark among them
+abbrev pub Unmarked : Round → List Event → Round → Type 0
+Unmarked r [] new = r ≡ new
+Unmarked r (e ∷ es) new = (next : Round) × (is_mark e.op e.answer ≡ false) × Turned r e next × Unmarked next es new
+
+-- steps with no mark among them, before each of which some end isn't settled
+abbrev pub Unsettled : Round → List Event → Round → Type 0
+Unsettled r [] new = r ≡ new
+Unsettled r (e ∷ es) new = (next : Round) × (is_at_rest r ≡ false) × (is_mark e.op e.answer ≡ false) × Turned r e next × Unsettled next es new
+
+-- how many of the calls are on queue n
+abbrev pub calls_on : ℕ → List Event → ℕ
+calls_on n es = count_by (λ e. e.queue.0 == n) es
+
+-- a wake on queue n that answered no
+pub record IsVainWake (n : ℕ) (side : Side) (e : Event) : Type 0 where
+  pub queue : e.queue.0 ≡ n
+  pub op : e.op ≡ Do.Wake side
+  pub answer : e.answer ≡ No
+
+-- no end that was offered has a place of count or more
+abbrev pub IsWithin : ℕ → Option Stand → Type 0
+IsWithin count (Some x) = x.place < count
+IsWithin count None = Unit {0}

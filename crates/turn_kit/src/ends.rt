@@ -1,0 +1,217 @@
+ghost use Rattle.std.specs.Prelude.{◌≡◌, ◌==◌, ◌↔◌, ℕ, true, false, Some, None, IsSome, IfSome, option_to_list, is_some, [], ◌++◌};
+ghost use Rattle.std.specs.Option.{ForSome, option_map};
+ghost use Rattle.cargo_core.specs.Items.{kind_of};
+ghost use Rattle.wire_core.specs.Deeds.{Deed, answer_of, cargo_of, deed_of, put_of};
+ghost use Rattle.wire_core.specs.Lists.{taken_by, put_by, if_there};
+ghost use Rattle.wire_core.specs.Ends.{Role, Consumer, Producer, Allows, Moves, role_of};
+ghost use Rattle.turn_kit.specs.Calls.{is_mark, may_answer};
+ghost use Rattle.turn_kit.specs.Turns.{Posted};
+ghost use Rattle.turn_kit.specs.Posts.{intake_post, outlet_post};
+ghost use Rattle.turn_kit.specs.Table.{next_op, kept_after, start_kept, is_settled, Agrees, moves_entry};
+
+use crate::Kept;
+use cargo_core::{Body, Item};
+use wire_core::{Answer, Event, Op, QueueId, Ringer, Side, Waiter, Wires};
+
+fn yes_or_no(yes: bool) -> Answer
+    ensures { result ≡ answer_of yes }
+{
+    if yes { Answer::Yes } else { Answer::No }
+}
+
+// A call that moves no entry.
+fn call<W: Wires>(wires: &mut W, queue: QueueId, op: Op) -> Event
+    requires may { Allows (W.ends wires.old (role_of op) queue.0) op }
+    requires plain { moves_entry op ≡ false }
+    ensures queue { result.queue ≡ queue }
+    ensures op { result.op ≡ op }
+    ensures item { result.item ≡ None }
+    ensures answer { may_answer result.op result.answer ≡ true }
+    ensures did { W.did wires.old (deed_of result None) wires.new }
+    ensures moves { Moves (W.ends wires.old) result (W.ends wires.new) }
+{
+    let answer = match op {
+        Op::See => yes_or_no(wires.see(queue)),
+        Op::Room => yes_or_no(wires.room(queue)),
+        Op::Wake(side) => yes_or_no(wires.wake(queue, side)),
+        Op::Wanted(side) => yes_or_no(wires.wanted(queue, side)),
+        Op::Ask(side) => {
+            wires.ask(queue, side);
+            Answer::Done
+        }
+        Op::Waive(side) => {
+            wires.waive(queue, side);
+            Answer::Done
+        }
+        Op::Settle(side) => {
+            wires.settle(queue, side);
+            Answer::Done
+        }
+        Op::Ring(side) => {
+            wires.ring(queue, side);
+            Answer::Done
+        }
+        Op::Take | Op::Put => unreachable!(),
+    };
+    Event {
+        queue,
+        op,
+        answer,
+        item: None,
+    }
+}
+
+/// The discipline of a consuming end. `queue` is the end's queue, `kept` what is kept of it.
+#[derive(Debug, Drop)]
+pub struct Intake {
+    pub queue: QueueId,
+    pub kept: Kept,
+}
+
+impl Intake {
+    /// An end in its start state.
+    pub fn new(queue: QueueId) -> Intake
+        ensures queue { result.queue ≡ queue }
+        ensures kept { result.kept ≡ start_kept Side.Forward }
+    {
+        Intake {
+            queue,
+            kept: Kept {
+                waiter: Waiter::Busy,
+                ringer: Ringer::Free,
+                look: None,
+            },
+        }
+    }
+
+    /// Makes the next call of the table, where `need` says whether an entry is needed. An entry is answered exactly for
+    /// a take, and a take comes only where one is needed.
+    pub fn step<W: Wires>(&mut self, wires: &mut W, need: bool) -> (Event, Option<(Item, Body)>)
+        requires { Agrees (W.ends wires.old Consumer self.old.queue.0) self.old.kept }
+        ensures queue { self.new.queue ≡ self.old.queue }
+        ensures on { result.0.queue ≡ self.old.queue }
+        ensures op { result.0.op ≡ next_op self.old.kept Side.Forward need }
+        ensures role { role_of result.0.op ≡ Consumer }
+        ensures did { W.did wires.old (deed_of result.0 result.1) wires.new }
+        ensures moves { Moves (W.ends wires.old) result.0 (W.ends wires.new) }
+        ensures kept { self.new.kept ≡ kept_after self.old.kept result.0.op result.0.answer }
+        ensures agrees { Agrees (W.ends wires.new Consumer self.old.queue.0) self.new.kept }
+        // An entry comes exactly at a take, and only where it is needed.
+        ensures taken { IsSome result.1 ↔ (result.0.op ≡ Op.Take) }
+        ensures needed { IsSome result.1 → need ≡ true }
+        ensures item { result.0.item ≡ option_map (λ c. c.0) result.1 }
+        ensures cargo { cargo_of (deed_of result.0 result.1) ≡ option_to_list result.1 }
+        ensures takes { (n : ℕ) → taken_by (deed_of result.0 result.1) n ≡ if_there (self.old.queue.0 == n) (option_to_list result.1) }
+        ensures puts { (n : ℕ) → put_by (deed_of result.0 result.1) n ≡ [] }
+        ensures kind { IfSome result.1 (λ c. kind_of c.0 ≡ (W.ends wires.old Consumer self.old.queue.0).kind) }
+        ensures posted { Posted (intake_post self.old) need result.0 (intake_post self.new) }
+        ensures still { is_mark result.0.op result.0.answer ≡ false → result.1 ≡ None }
+    {
+        let op = self.kept.next(Side::Forward, need);
+        if op == Op::Take {
+            let (item, body) = wires.take(self.queue);
+            self.kept.note(op, Answer::Done);
+            let event = Event {
+                queue: self.queue,
+                op,
+                answer: Answer::Done,
+                item: Some(item),
+            };
+            return (event, Some((item, body)));
+        }
+        let event = call(wires, self.queue, op);
+        self.kept.note(op, event.answer);
+        (event, None)
+    }
+
+    /// Whether the ringer is free and, where an entry is needed, the waiter is clear.
+    pub fn settled(&self, need: bool) -> bool
+        ensures { result ≡ is_settled self.now.kept need }
+    {
+        self.kept.is_settled(need)
+    }
+
+    /// Discards the last look, and nothing else.
+    pub fn forget(&mut self)
+        ensures { self.new ≡ record self.old { kept = record self.old.kept { look = None } } }
+    {
+        self.kept.look = None;
+    }
+}
+
+/// The discipline of a producing end. `queue` is the end's queue, `kept` what is kept of it.
+#[derive(Debug, Drop)]
+pub struct Outlet {
+    pub queue: QueueId,
+    pub kept: Kept,
+}
+
+impl Outlet {
+    /// An end in its start state.
+    pub fn new(queue: QueueId) -> Outlet
+        ensures queue { result.queue ≡ queue }
+        ensures kept { result.kept ≡ start_kept Side.Backward }
+    {
+        Outlet {
+            queue,
+            kept: Kept {
+                waiter: Waiter::Off,
+                ringer: Ringer::Free,
+                look: None,
+            },
+        }
+    }
+
+    /// Makes the next call of the table. The load goes exactly at a put.
+    pub fn step<W: Wires>(&mut self, wires: &mut W, load: &mut Option<(Item, Body)>) -> Event
+        requires agrees { Agrees (W.ends wires.old Producer self.old.queue.0) self.old.kept }
+        requires kind { ForSome load.old (λ c. kind_of c.0 ≡ (W.ends wires.old Producer self.old.queue.0).kind) }
+        ensures queue { self.new.queue ≡ self.old.queue }
+        ensures on { result.queue ≡ self.old.queue }
+        ensures op { result.op ≡ next_op self.old.kept Side.Backward (is_some load.old) }
+        ensures role { role_of result.op ≡ Producer }
+        ensures did { W.did wires.old (deed_of result (put_of result load.old)) wires.new }
+        ensures moves { Moves (W.ends wires.old) result (W.ends wires.new) }
+        ensures kept { self.new.kept ≡ kept_after self.old.kept result.op result.answer }
+        ensures agrees { Agrees (W.ends wires.new Producer self.old.queue.0) self.new.kept }
+        // The load is what was put and what is left.
+        ensures load { option_to_list load.old ≡ option_to_list (put_of result load.old) ++ option_to_list load.new }
+        ensures takes { (n : ℕ) → taken_by (deed_of result (put_of result load.old)) n ≡ [] }
+        ensures puts { (n : ℕ) → put_by (deed_of result (put_of result load.old)) n ≡ if_there (self.old.queue.0 == n) (option_to_list (put_of result load.old)) }
+        ensures item { result.item ≡ option_map (λ c. c.0) (put_of result load.old) }
+        ensures put { IsSome result.item ↔ (result.op ≡ Op.Put) }
+        ensures posted { Posted (outlet_post self.old) (is_some load.old) result (outlet_post self.new) }
+        ensures still { is_mark result.op result.answer ≡ false → load.new ≡ load.old }
+    {
+        let op = self.kept.next(Side::Backward, load.is_some());
+        if op == Op::Put {
+            if let Some((item, body)) = load.take() {
+                wires.put(self.queue, item, body);
+                self.kept.note(op, Answer::Done);
+                return Event {
+                    queue: self.queue,
+                    op,
+                    answer: Answer::Done,
+                    item: Some(item),
+                };
+            }
+        }
+        let event = call(wires, self.queue, op);
+        self.kept.note(op, event.answer);
+        event
+    }
+
+    /// Whether the ringer is free and, where an entry is loaded, the waiter is clear.
+    pub fn settled(&self, loaded: bool) -> bool
+        ensures { result ≡ is_settled self.now.kept loaded }
+    {
+        self.kept.is_settled(loaded)
+    }
+
+    /// Discards the last look, and nothing else.
+    pub fn forget(&mut self)
+        ensures { self.new ≡ record self.old { kept = record self.old.kept { look = None } } }
+    {
+        self.kept.look = None;
+    }
+}

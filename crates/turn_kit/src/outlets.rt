@@ -1,0 +1,81 @@
+ghost use Rattle.std.specs.Prelude.{◌≡◌, ◌==◌, ◌↔◌, ◌<◌, ◌≤◌, ◌+◌, ◌++◌, ◌^◌, ℕ, [], Some, None, true, false, IsSome, length, is_some, slice_get};
+ghost use Rattle.std.specs.Option.{ForSome, option_map, option_to_list};
+ghost use Rattle.cargo_core.specs.Items.{kind_of};
+ghost use Rattle.wire_core.specs.Deeds.{deed_of, put_of};
+ghost use Rattle.wire_core.specs.Lists.{taken_by, put_by, if_there};
+ghost use Rattle.wire_core.specs.Ends.{Moves, Producer, role_of};
+ghost use Rattle.turn_kit.specs.ManyEnds.{FitsOutlets, outlet_queues, outlet_posts, loads_from};
+ghost use Rattle.turn_kit.specs.Calls.{is_mark};
+ghost use Rattle.turn_kit.specs.Turns.{PostedAt, offered_from, settled_all};
+
+use crate::{Choice, Outlet};
+use cargo_core::{Body, Item};
+use wire_core::{Event, Op, QueueId, Wires};
+
+/// Producing ends of different queues, of which one at most is loaded.
+#[derive(Drop)]
+pub struct Outlets {
+    pub ends: Vec<Outlet>,
+}
+
+impl Outlets {
+    /// How many ends there are.
+    pub fn len(&self) -> usize
+        ensures len { result ≡ length (outlet_queues self.now) }
+        ensures small { result < 2 ^ 63 }
+    {
+        self.ends.len()
+    }
+
+    /// Makes the next call of the end at place `k`, which puts the load.
+    pub fn step<W: Wires>(
+        &mut self,
+        wires: &mut W,
+        k: usize,
+        load: &mut Option<(Item, Body)>,
+    ) -> Event
+        requires fits { FitsOutlets (W.ends wires.old) self.old }
+        requires there { k < length (outlet_queues self.old) }
+        requires kind { ForSome load.old (λ c. (q : QueueId) → slice_get (outlet_queues self.old) k ≡ Some q → kind_of c.0 ≡ (W.ends wires.old Producer q.0).kind) }
+        ensures queues { outlet_queues self.new ≡ outlet_queues self.old }
+        ensures on { slice_get (outlet_queues self.old) k ≡ Some result.queue }
+        ensures role { role_of result.op ≡ Producer }
+        ensures did { W.did wires.old (deed_of result (put_of result load.old)) wires.new }
+        ensures moves { Moves (W.ends wires.old) result (W.ends wires.new) }
+        ensures fits { FitsOutlets (W.ends wires.new) self.new }
+        ensures load { option_to_list load.old ≡ option_to_list (put_of result load.old) ++ option_to_list load.new }
+        ensures takes { (n : ℕ) → taken_by (deed_of result (put_of result load.old)) n ≡ [] }
+        ensures puts { (n : ℕ) → put_by (deed_of result (put_of result load.old)) n ≡ if_there (result.queue.0 == n) (option_to_list (put_of result load.old)) }
+        ensures item { result.item ≡ option_map (λ c. c.0) (put_of result load.old) }
+        ensures put { IsSome result.item ↔ (result.op ≡ Op.Put) }
+        ensures posted { PostedAt (outlet_posts self.old) k (is_some load.old) result (outlet_posts self.new) }
+        ensures still { is_mark result.op result.answer ≡ false → load.new ≡ load.old }
+    {
+        let end = &mut self.ends[k];
+        end.step(wires, load)
+    }
+
+    /// Offers each end, the first of them at the place `base`; `loaded` is the place among these ends of the one that
+    /// is loaded.
+    pub fn offer(&self, mut choice: Choice, base: usize, loaded: Option<usize>) -> Choice
+        requires { base + length (outlet_queues self.now) ≤ choice.count }
+        ensures { result ≡ offered_from choice base (outlet_posts self.now) (loads_from loaded 0 (outlet_queues self.now)) }
+    {
+        for (k, end) in self.ends.iter().enumerate() {
+            choice = choice.offer(base + k, end.queue, end.settled(loaded == Some(k)));
+        }
+        choice
+    }
+
+    /// Whether all ends are settled.
+    pub fn settled(&self, loaded: Option<usize>) -> bool
+        ensures { result ≡ settled_all (outlet_posts self.now) (loads_from loaded 0 (outlet_queues self.now)) }
+    {
+        for (k, end) in self.ends.iter().enumerate() {
+            if !end.settled(loaded == Some(k)) {
+                return false;
+            }
+        }
+        true
+    }
+}

@@ -1,0 +1,103 @@
+ghost use Rattle.std.specs.Prelude.{◌≡◌, ℕ, [], None, IsSome, is_some, is_none, false};
+ghost use Rattle.wire_core.specs.Deeds.{deed_of, put_of};
+ghost use Rattle.wire_core.specs.Lists.{Lists, taken_by, put_by, with};
+ghost use Rattle.wire_core.specs.Ends.{Moves, Consumer, Producer, role_of};
+ghost use Rattle.turn_kit.specs.Calls.{is_mark};
+ghost use Rattle.turn_kit.specs.Turns.{Posted};
+ghost use Rattle.turn_kit.specs.Posts.{intake_post, outlet_post};
+ghost use Rattle.turn_kit.specs.Table.{is_settled, start_kept};
+ghost use Rattle.turn_kit.specs.Pipes.{FitsPipe, PipeStandsFor, came};
+
+use crate::{Intake, Outlet};
+use cargo_core::{Body, Item};
+use wire_core::{Event, QueueId, Side, Wires};
+
+/// Moves entries unchanged from one queue to another, one at a time.
+#[derive(Drop)]
+pub struct Pipe {
+    pub input: Intake,
+    pub output: Outlet,
+    pub load: Option<(Item, Body)>,
+}
+
+impl Pipe {
+    /// A pipe between two queues, with its ends in their start state and nothing loaded.
+    pub fn new(from: QueueId, to: QueueId) -> Pipe
+        ensures from { result.input.queue ≡ from }
+        ensures to { result.output.queue ≡ to }
+        ensures input { result.input.kept ≡ start_kept Side.Forward }
+        ensures output { result.output.kept ≡ start_kept Side.Backward }
+        ensures load { result.load ≡ None }
+    {
+        Pipe {
+            input: Intake::new(from),
+            output: Outlet::new(to),
+            load: None,
+        }
+    }
+
+    /// The next call of the input. What it takes is loaded.
+    pub fn step_input<W: Wires>(&mut self, wires: &mut W) -> Event
+        requires { FitsPipe (W.ends wires.old) self.old }
+        ensures input { self.new.input.queue ≡ self.old.input.queue }
+        ensures output { self.new.output ≡ self.old.output }
+        ensures on { result.queue ≡ self.old.input.queue }
+        ensures role { role_of result.op ≡ Consumer }
+        ensures did { W.did wires.old (deed_of result (came self.old.load self.new.load)) wires.new }
+        ensures moves { Moves (W.ends wires.old) result (W.ends wires.new) }
+        ensures fits { FitsPipe (W.ends wires.new) self.new }
+        ensures kept { (taken sent : Lists) → PipeStandsFor self.old taken sent → PipeStandsFor self.new (with taken (taken_by (deed_of result (came self.old.load self.new.load)))) (with sent (put_by (deed_of result (came self.old.load self.new.load)))) }
+        ensures takes { (n : ℕ) → (n ≡ self.old.input.queue.0 → ⊥) → taken_by (deed_of result (came self.old.load self.new.load)) n ≡ [] }
+        ensures puts { (n : ℕ) → put_by (deed_of result (came self.old.load self.new.load)) n ≡ [] }
+        ensures posted { Posted (intake_post self.old.input) (is_none self.old.load) result (intake_post self.new.input) }
+        ensures still { is_mark result.op result.answer ≡ false → self.new.load ≡ self.old.load }
+    {
+        let need = self.load.is_none();
+        let (event, got) = self.input.step(wires, need);
+        if got.is_some() {
+            self.load = got;
+        }
+        event
+    }
+
+    /// The next call of the output, which puts the load.
+    pub fn step_output<W: Wires>(&mut self, wires: &mut W) -> Event
+        requires { FitsPipe (W.ends wires.old) self.old }
+        ensures input { self.new.input ≡ self.old.input }
+        ensures output { self.new.output.queue ≡ self.old.output.queue }
+        ensures on { result.queue ≡ self.old.output.queue }
+        ensures role { role_of result.op ≡ Producer }
+        ensures did { W.did wires.old (deed_of result (put_of result self.old.load)) wires.new }
+        ensures moves { Moves (W.ends wires.old) result (W.ends wires.new) }
+        ensures fits { FitsPipe (W.ends wires.new) self.new }
+        ensures kept { (taken sent : Lists) → PipeStandsFor self.old taken sent → PipeStandsFor self.new (with taken (taken_by (deed_of result (put_of result self.old.load)))) (with sent (put_by (deed_of result (put_of result self.old.load)))) }
+        ensures takes { (n : ℕ) → taken_by (deed_of result (put_of result self.old.load)) n ≡ [] }
+        ensures puts { (n : ℕ) → (n ≡ self.old.output.queue.0 → ⊥) → put_by (deed_of result (put_of result self.old.load)) n ≡ [] }
+        ensures posted { Posted (outlet_post self.old.output) (is_some self.old.load) result (outlet_post self.new.output) }
+        ensures still { is_mark result.op result.answer ≡ false → self.new.load ≡ self.old.load }
+    {
+        self.output.step(wires, &mut self.load)
+    }
+
+    /// Whether the input is settled; it is needed where nothing is loaded.
+    pub fn input_settled(&self) -> bool
+        ensures { result ≡ is_settled self.now.input.kept (is_none self.now.load) }
+    {
+        self.input.settled(self.load.is_none())
+    }
+
+    /// Whether the output is settled.
+    pub fn output_settled(&self) -> bool
+        ensures { result ≡ is_settled self.now.output.kept (is_some self.now.load) }
+    {
+        self.output.settled(self.load.is_some())
+    }
+
+    /// Discards the last look of both ends, and nothing else.
+    pub fn forget(&mut self)
+        ensures { self.new ≡ record self.old { input = record self.old.input { kept = record self.old.input.kept { look = None } }; output = record self.old.output { kept = record self.old.output.kept { look = None } } } }
+    {
+        self.input.forget();
+        self.output.forget();
+    }
+}
