@@ -2,8 +2,10 @@
 #![tactic(auto)]
 
 mod place;
+mod report;
 
 pub use place::write_place;
+pub use report::write_report;
 
 #[cfg(test)]
 mod tests;

@@ -1,0 +1,6 @@
+//! What a play shows when it ends.
+#![tactic(auto)]
+
+mod report;
+
+pub use report::{Census, Report};

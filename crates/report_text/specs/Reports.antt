@@ -1,0 +1,82 @@
+use Rattle.std.specs.Prelude.{ℕ, ◌+◌, Bool, true, false, Option, Some, None, List, [], ◌∷◌, ◌++◌, length, map, codes}
+use Rattle.std.specs.Fmt.{decimal}
+use Rattle.hex.specs.Hex.{encode_lower}
+use Rattle.cargo_core.specs.declared.item.BlkStatus.{BlkStatus}
+use Rattle.cargo_core.specs.declared.item.BlkStatus.TheVariants as Answered
+use Rattle.cargo_core.specs.declared.item.Reply.{Reply}
+use Rattle.expect_core.specs.declared.report.Report.{Report}
+use Rattle.expect_core.specs.declared.report.Census.{Census}
+use Rattle.report_text.specs.Lines.{text_of}
+use Rattle.report_text.specs.Runs.{runs_of, runs_text}
+
+abbrev pub ending_line : Bool → List ℕ
+ending_line true = codes "quiet"
+ending_line false = codes "spent"
+
+abbrev pub steps_line : ℕ → List ℕ
+steps_line n = codes "steps " ++ decimal n
+
+-- the frames of the wire: their number, and each on a line
+abbrev pub wire_lines : Option (List (List ℕ)) → List (List ℕ)
+wire_lines None = []
+wire_lines (Some frames) = (codes "wire " ++ decimal (length frames)) ∷ map encode_lower frames
+
+-- the frames of a network client
+abbrev pub net_lines : ℕ → List (List ℕ) → List (List ℕ)
+net_lines c frames = (codes "net " ++ (decimal c ++ (codes " frames " ++ decimal (length frames)))) ∷ map encode_lower frames
+
+-- bytes on one line, where there are any
+abbrev pub byte_lines : List ℕ → List (List ℕ)
+byte_lines [] = []
+byte_lines (b ∷ bytes) = encode_lower (b ∷ bytes) ∷ []
+
+-- the bytes of the serial line
+abbrev pub uart_lines : Option (List ℕ) → List (List ℕ)
+uart_lines None = []
+uart_lines (Some bytes) = (codes "uart " ++ decimal (length bytes)) ∷ byte_lines bytes
+
+-- the bytes of a serial client
+abbrev pub serial_lines : ℕ → List ℕ → List (List ℕ)
+serial_lines c bytes = (codes "serial " ++ (decimal c ++ (codes " bytes " ++ decimal (length bytes)))) ∷ byte_lines bytes
+
+abbrev pub status_text : BlkStatus → List ℕ
+status_text Answered.Ok = codes "ok"
+status_text Answered.Invalid = codes "invalid"
+status_text Answered.NoDevice = codes "no_device"
+
+-- the bytes that a read gave, as runs, behind a space
+abbrev pub given_text : List ℕ → List ℕ
+given_text [] = []
+given_text (b ∷ bytes) = 32 ∷ runs_text (runs_of (b ∷ bytes))
+
+-- a response: its id, its status and its count, and what a read gave
+abbrev pub reply_line : Reply → List ℕ
+reply_line r = decimal r.resp.id ++ (codes " " ++ (status_text r.resp.status ++ (codes " " ++ (decimal r.resp.count ++ given_text r.bytes))))
+
+-- the responses of a block client
+abbrev pub blk_lines : ℕ → List Reply → List (List ℕ)
+blk_lines c replies = (codes "blk " ++ (decimal c ++ (codes " replies " ++ decimal (length replies)))) ∷ map reply_line replies
+
+-- where the buffers of a pool are
+abbrev pub pool_line : Census → List ℕ
+pool_line p =
+    codes "pool " ++ (p.name ++ (codes " buffers " ++ (decimal p.buffers ++ (codes " queues " ++ (decimal p.queues
+    ++ (codes " hands " ++ (decimal p.hands ++ (codes " lent " ++ decimal p.lent))))))))
+
+abbrev pub bad_line : ℕ → List ℕ
+bad_line n = codes "bad " ++ decimal n
+
+-- the lines of each client of a class in turn, counted from a number on
+abbrev pub each_client : {T : Type 0} → (ℕ → T → List (List ℕ)) → ℕ → List T → List (List ℕ)
+each_client lines c [] = []
+each_client lines c (x ∷ xs) = lines c x ++ each_client lines (c + 1) xs
+
+-- the lines of a report; those of a class that the description lacks are not there
+abbrev pub report_lines : Report → List (List ℕ)
+report_lines r =
+    ending_line r.quiet ∷ steps_line r.steps ∷ wire_lines r.wire ++ each_client net_lines 0 r.net ++ uart_lines r.line
+    ++ each_client serial_lines 0 r.serial ++ each_client blk_lines 0 r.blk ++ map pool_line r.pools ++ bad_line r.bad ∷ []
+
+-- the text of a report
+abbrev pub report_text : Report → List ℕ
+report_text r = text_of (report_lines r)
