@@ -1,3 +1,4 @@
 pub mod Switching
 pub mod Standing
 pub mod Finding
+pub mod Carried

@@ -1,28 +1,21 @@
-use Rattle.std.specs.Prelude.{◌≡◌, ◌⊎◌, ℕ, is_some, is_none, [], ◌∷◌}
+use Rattle.std.specs.Prelude.{◌≡◌, ◌⊎◌, ℕ, is_some, is_none, None, [], ◌∷◌}
 use Rattle.cargo_core.specs.Lists.{IsPrefix}
 use Rattle.wire_core.specs.Lists.{Lists}
 use Rattle.wire_core.specs.Ends.{Role, Consumer, Producer, End}
 use Rattle.turn_kit.specs.Turns.{Round}
 use Rattle.turn_kit.specs.Posts.{intake_post, outlet_post}
+use Rattle.turn_kit.specs.declared.pipe.Pipe.{Pipe}
 use Rattle.turn_kit.specs.Pipes.{FitsPipe, PipeStandsFor}
 use Rattle.uart_driver.specs.declared.UartDriver.{UartDriver}
 
--- the driver's ends are its own, and as it keeps them
+-- the driver's ends are its own, and as it keeps them; no two are of one queue
 pub record FitsDriver (ends : Role → ℕ → End) (d : UartDriver) : Type 0 where
   pub rx : FitsPipe ends d.rx
   pub tx : FitsPipe ends d.tx
   pub inputs : d.rx.input.queue.0 ≡ d.tx.input.queue.0 → ⊥
   pub outputs : d.rx.output.queue.0 ≡ d.tx.output.queue.0 → ⊥
 
--- its four ends in their order; an input is needed while nothing that came in there is still to be put
-abbrev pub driver_round : UartDriver → Round
-driver_round d = record {
-  posts = intake_post d.rx.input ∷ outlet_post d.rx.output ∷ intake_post d.tx.input ∷ outlet_post d.tx.output ∷ [];
-  needs = is_none d.rx.load ∷ is_some d.rx.load ∷ is_none d.tx.load ∷ is_some d.tx.load ∷ [];
-  last = d.turn.last;
-}
-
--- what came in on each side is what was put there and what is loaded
+-- what came in at each side is what went out there, and what is loaded
 abbrev pub DriverStandsFor : UartDriver → Lists → Lists → Type 0
 DriverStandsFor d taken sent = PipeStandsFor d.rx taken sent × PipeStandsFor d.tx taken sent
 
@@ -40,3 +33,21 @@ pub record SameEnds (old new : UartDriver) : Type 0 where
   pub rx_output : new.rx.output.queue ≡ old.rx.output.queue
   pub tx_input : new.tx.input.queue ≡ old.tx.input.queue
   pub tx_output : new.tx.output.queue ≡ old.tx.output.queue
+
+-- its ends: an input is needed where nothing of it is loaded
+abbrev pub driver_round : UartDriver → Round
+driver_round d = record {
+  posts = intake_post d.rx.input ∷ outlet_post d.rx.output ∷ intake_post d.tx.input ∷ outlet_post d.tx.output ∷ [];
+  needs = is_none d.rx.load ∷ is_some d.rx.load ∷ is_none d.tx.load ∷ is_some d.tx.load ∷ [];
+  last = d.turn.last;
+}
+
+-- the same without the last looks
+abbrev pub pipe_forgotten : Pipe → Pipe
+pipe_forgotten p = record p {
+  input = record p.input { kept = record p.input.kept { look = None } };
+  output = record p.output { kept = record p.output.kept { look = None } };
+}
+
+abbrev pub driver_forgotten : UartDriver → UartDriver
+driver_forgotten d = record d { rx = pipe_forgotten d.rx; tx = pipe_forgotten d.tx }

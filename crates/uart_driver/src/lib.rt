@@ -1,19 +1,19 @@
-//! Moves bytes between the serial device and the virtualisers.
+//! The driver of a serial device: it moves bytes between the device and the virtualisers, unchanged and one at a time
+//! each way. That a driver does no more is sDDF's; the order in which it steps its ends is this project's own.
 #![tactic(auto)]
 
-ghost use Rattle.std.specs.Prelude.{◌≡◌, ◌<◌};
-ghost use Rattle.wire_core.specs.Ends.{role_of};
+ghost use Rattle.std.specs.Prelude.{◌≡◌, ◌≢◌, ◌<◌, ℕ, []};
+ghost use Rattle.wire_core.specs.Ends.{role_of, Role, End};
 ghost use Rattle.wire_core.specs.Lists.{Lists, Stepped};
+ghost use Rattle.turn_kit.specs.Turns.{Turned, choice_of, chosen, last_after, is_at_rest};
 ghost use Rattle.turn_kit.specs.Pipes.{IsNewPipe};
-ghost use Rattle.turn_kit.specs.Turns.{Turned, chosen, choice_of, last_after, is_at_rest};
-ghost use Rattle.uart_driver.specs.Driver.{FitsDriver, DriverStandsFor, DriverRow, DriverEnd, SameEnds, driver_round};
+ghost use Rattle.uart_driver.specs.Driver.{FitsDriver, DriverStandsFor, DriverRow, DriverEnd, SameEnds, driver_round, driver_forgotten};
 
 use turn_kit::{Pipe, Turn};
 use wire_core::{Event, QueueId, Wires};
 
-/// The driver of the serial device: what comes in from the device goes to the virtualiser of received bytes, and what
-/// the virtualiser of sent bytes gives goes to the device, each byte unchanged and in order. From the drivers of sDDF's
-/// serial class.
+/// The driver of a serial device: `rx` moves what the device received, `tx` what it is to send. From sDDF's design
+/// document.
 #[derive(Drop)]
 pub struct UartDriver {
     pub rx: Pipe,
@@ -22,11 +22,12 @@ pub struct UartDriver {
 }
 
 impl UartDriver {
-    /// The driver at its start. The four queues differ.
+    /// A driver in its start state, which moves `device_rx` to `rx` and `tx` to `device_tx`.
     pub fn new(device_rx: QueueId, device_tx: QueueId, rx: QueueId, tx: QueueId) -> UartDriver
         ensures rx { IsNewPipe device_rx rx result.rx }
         ensures tx { IsNewPipe tx device_tx result.tx }
         ensures turn { result.turn.last ≡ 65535 }
+        ensures stands { DriverStandsFor result (λ n. []) (λ n. []) }
     {
         UartDriver {
             rx: Pipe::new(device_rx, rx),
@@ -35,7 +36,7 @@ impl UartDriver {
         }
     }
 
-    /// Whether all ends are settled, so that nothing is to be done before a notification comes.
+    /// Whether nothing is to be done before a notification comes.
     pub fn at_rest(&self) -> bool
         ensures { result ≡ is_at_rest (driver_round self.now) }
     {
@@ -45,22 +46,11 @@ impl UartDriver {
             && self.tx.output_settled()
     }
 
-    /// Forgets the last look of each end, makes no call and changes nothing else.
-    pub fn forget(&mut self)
-        ensures stands { (taken sent : Lists) → DriverStandsFor self.old taken sent → DriverStandsFor self.new taken sent }
-        ensures ends { SameEnds self.old self.new }
-    {
-        self.rx.forget();
-        self.tx.forget();
-    }
-
-    // The place of the end that is stepped now.
+    // The end that is stepped now: the two of `rx` come first, then those of `tx`, each input before its output.
     fn choose(&mut self) -> usize
         ensures place { result ≡ chosen (choice_of (driver_round self.old)) }
         ensures within { result < 4 }
-        ensures rx { self.new.rx ≡ self.old.rx }
-        ensures tx { self.new.tx ≡ self.old.tx }
-        ensures last { self.new.turn.last ≡ last_after (choice_of (driver_round self.old)) }
+        ensures after { self.new ≡ record self.old { turn = record { last = last_after (choice_of (driver_round self.old)) } } }
     {
         let choice = self
             .turn
@@ -72,13 +62,14 @@ impl UartDriver {
         self.turn.pass(choice)
     }
 
-    /// Makes exactly one call, that of the end whose turn it is.
+    /// Makes one call on one of its ends.
     pub fn step<W: Wires>(&mut self, wires: &mut W) -> Event
         requires { FitsDriver (W.ends wires.old) self.old }
         ensures fits { FitsDriver (W.ends wires.new) self.new }
         ensures own { DriverEnd self.old (role_of result.op) result.queue.0 }
         ensures ends { SameEnds self.old self.new }
         ensures stepped { Stepped DriverStandsFor W.did wires.old wires.new self.old self.new result }
+        ensures row { (taken sent : Lists) → DriverStandsFor self.new taken sent → DriverRow self.new taken sent }
         ensures turned { Turned (driver_round self.old) result (driver_round self.new) }
     {
         match self.choose() {
@@ -89,9 +80,15 @@ impl UartDriver {
             _ => unreachable!(),
         }
     }
-}
 
-/// What the driver puts copies what it takes, at each moment: it is so of all lists that it stands for.
-pub fn copies()
-    ensures { (d : UartDriver) (taken sent : Lists) → DriverStandsFor d taken sent → DriverRow d taken sent }
-{}
+    /// Discards the last look of each end, and nothing else.
+    pub fn forget(&mut self)
+        ensures after { self.new ≡ driver_forgotten self.old }
+        ensures ends { SameEnds self.old self.new }
+        ensures fits { (ends : Role → ℕ → End) → FitsDriver ends self.old → FitsDriver ends self.new }
+        ensures lists { (taken sent : Lists) → DriverStandsFor self.old taken sent → DriverStandsFor self.new taken sent }
+    {
+        self.rx.forget();
+        self.tx.forget();
+    }
+}

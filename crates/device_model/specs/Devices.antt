@@ -1,0 +1,21 @@
+use Rattle.std.specs.Prelude.{◌≡◌, ℕ, map}
+use Rattle.cargo_core.specs.Lists.{IsPrefix}
+use Rattle.wire_core.specs.Lists.{Lists}
+use Rattle.wire_core.specs.Ends.{Role, End}
+use Rattle.serial_switch.specs.Carried.{byte_cargo, bytes_carried}
+use Rattle.serial_terminal.specs.Terminals.{FitsTerminal, TerminalStandsFor, TerminalEnd}
+use Rattle.device_model.specs.declared.UartDevice.{UartDevice}
+
+abbrev pub FitsUart : (Role → ℕ → End) → UartDevice → Type 0
+FitsUart ends d = FitsTerminal ends d.terminal
+
+abbrev pub UartStandsFor : UartDevice → Lists → Lists → Type 0
+UartStandsFor d taken sent = TerminalStandsFor d.terminal taken sent
+
+-- what it put is a prefix of its input, and its line is what it took
+pub record UartRow (d : UartDevice) (taken sent : Lists) : Type 0 where
+  pub output : IsPrefix (sent d.terminal.output.queue.0) (map byte_cargo d.terminal.script)
+  pub line : d.terminal.heard.shown ≡ bytes_carried (taken d.terminal.input.queue.0)
+
+abbrev pub UartEnd : UartDevice → Role → ℕ → Type 0
+UartEnd d r n = TerminalEnd d.terminal r n

@@ -1,0 +1,66 @@
+use Rattle.std.specs.Prelude.{◌≡◌, ◌≤◌, ℕ, true, None, nat_lt, List, [], ◌∷◌, length, map, take}
+use Rattle.cargo_core.specs.declared.item.QueueKind.TheVariants as Kind
+use Rattle.cargo_core.specs.Lists.{IsPrefix}
+use Rattle.wire_core.specs.declared.names.QueueId.{QueueId}
+use Rattle.wire_core.specs.declared.names.Side.TheVariants.{Forward, Backward}
+use Rattle.wire_core.specs.Lists.{Lists}
+use Rattle.wire_core.specs.Ends.{Role, Consumer, Producer, End}
+use Rattle.turn_kit.specs.Table.{Agrees, start_kept}
+use Rattle.turn_kit.specs.Turns.{Round}
+use Rattle.turn_kit.specs.Posts.{intake_post, outlet_post}
+use Rattle.serial_switch.specs.Carried.{byte_cargo, bytes_carried}
+use Rattle.serial_terminal.specs.declared.Terminal.{Terminal}
+
+-- both ends are the terminal's own, and as it keeps them; both are queues of bytes
+pub record FitsTerminal (ends : Role → ℕ → End) (t : Terminal) : Type 0 where
+  pub input : Agrees (ends Consumer t.input.queue.0) t.input.kept
+  pub output : Agrees (ends Producer t.output.queue.0) t.output.kept
+  pub hears : (ends Consumer t.input.queue.0).kind ≡ Kind.Byte
+  pub says : (ends Producer t.output.queue.0).kind ≡ Kind.Byte
+  pub next : t.next ≤ length t.script
+
+-- it put its script as far as it has come, and recorded the bytes that it took
+pub record TerminalStandsFor (t : Terminal) (taken sent : Lists) : Type 0 where
+  pub sent_is : sent t.output.queue.0 ≡ map byte_cargo (take t.next t.script)
+  pub heard_is : t.heard.shown ≡ bytes_carried (taken t.input.queue.0)
+
+-- what it put is a prefix of its script, and its record is what it took
+pub record TerminalRow (t : Terminal) (taken sent : Lists) : Type 0 where
+  pub says : IsPrefix (sent t.output.queue.0) (map byte_cargo t.script)
+  pub hears : t.heard.shown ≡ bytes_carried (taken t.input.queue.0)
+
+-- one of its ends
+abbrev pub TerminalEnd : Terminal → Role → ℕ → Type 0
+TerminalEnd t Consumer n = n ≡ t.input.queue.0
+TerminalEnd t Producer n = n ≡ t.output.queue.0
+
+-- the queues and the script stay
+pub record SameTerminal (old new : Terminal) : Type 0 where
+  pub input : new.input.queue ≡ old.input.queue
+  pub output : new.output.queue ≡ old.output.queue
+  pub script : new.script ≡ old.script
+
+pub record IsNewTerminal (from to : QueueId) (text : List ℕ) (t : Terminal) : Type 0 where
+  pub input : t.input.queue ≡ from
+  pub output : t.output.queue ≡ to
+  pub input_kept : t.input.kept ≡ start_kept Forward
+  pub output_kept : t.output.kept ≡ start_kept Backward
+  pub script : t.script ≡ text
+  pub next : t.next ≡ 0
+  pub heard : t.heard.shown ≡ []
+  pub last : t.turn.last ≡ 65535
+
+-- its ends: its input is always needed, its output owed while a byte of the script is left
+abbrev pub terminal_round : Terminal → Round
+terminal_round t = record {
+  posts = intake_post t.input ∷ outlet_post t.output ∷ [];
+  needs = true ∷ nat_lt t.next (length t.script) ∷ [];
+  last = t.turn.last;
+}
+
+-- the same without the last looks
+abbrev pub terminal_forgotten : Terminal → Terminal
+terminal_forgotten t = record t {
+  input = record t.input { kept = record t.input.kept { look = None } };
+  output = record t.output { kept = record t.output.kept { look = None } };
+}
