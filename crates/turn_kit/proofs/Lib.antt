@@ -1,4 +1,11 @@
 pub mod ManyEnds
 pub mod ManyOutlets
 pub mod Calls
+pub mod Settles
+pub mod Moves
+pub mod Rests
+pub mod Bounds
 pub mod Offers
+pub mod Choosing
+pub mod Turning
+pub mod Waking

@@ -1,4 +1,4 @@
-use Rattle.std.specs.Prelude.{◌+◌, ◌&&◌, not, ℕ, Bool, true, false, Option, Some, None}
+use Rattle.std.specs.Prelude.{◌+◌, ◌&&◌, ◌||◌, not, ℕ, Bool, true, false, Option, Some, None}
 use Rattle.wire_core.specs.declared.names.Op.{Op}
 use Rattle.wire_core.specs.declared.names.Op.TheVariants as Do
 use Rattle.wire_core.specs.declared.names.Answer.{Answer}
@@ -9,6 +9,7 @@ use Rattle.wire_core.specs.declared.names.Ringer.{Ringer}
 use Rattle.wire_core.specs.declared.names.Ringer.TheVariants as Rung
 use Rattle.wire_core.specs.Ends.{is_clear}
 use Rattle.turn_kit.specs.declared.kept.Kept.{Kept}
+use Rattle.turn_kit.specs.Table.{is_settled}
 
 -- a call that is a mark: a take, a put, or a wake that answers yes
 abbrev pub is_mark : Op → Answer → Bool
@@ -86,3 +87,13 @@ is_kept_yes None = false
 -- the end is needed and saw that it can move an entry: it will, so it isn't settled before a mark
 abbrev pub is_moving : Kept → Bool → Bool
 is_moving k need = need && (is_kept_yes k.look && not (is_clear k.waiter))
+
+abbrev pub is_off_or_clear : Waiter → Bool
+is_off_or_clear Wait.Off = true
+is_off_or_clear Wait.Clear = true
+is_off_or_clear Wait.Busy = false
+is_off_or_clear Wait.Asked = false
+
+-- the end is settled, and its next call is a wake
+abbrev pub is_waking : Kept → Bool → Bool
+is_waking k need = is_settled k need && (need || is_off_or_clear k.waiter)

@@ -1,8 +1,9 @@
-use Rattle.std.specs.Prelude.{◌≡◌, ◌+◌, ◌<◌, ◌==◌, ◌&&◌, ℕ, Bool, true, false, not, cond, nat_lt, Option, Some, None, is_none, List, [], ◌∷◌, length, slice_get, slice_set, count_by}
+use Rattle.std.specs.Prelude.{◌≡◌, ◌⊎◌, ◌+◌, ◌<◌, ◌≤◌, ◌==◌, ◌&&◌, ℕ, Bool, true, false, not, cond, nat_lt, Option, Some, None, is_none, List, [], ◌∷◌, length, slice_get, slice_set}
 use Rattle.wire_core.specs.declared.names.Event.{Event}
 use Rattle.wire_core.specs.declared.names.Side.{Side}
 use Rattle.wire_core.specs.declared.names.Op.TheVariants as Do
 use Rattle.wire_core.specs.declared.names.Answer.TheVariants.{No}
+use Rattle.wire_core.specs.Bells.{bit}
 use Rattle.turn_kit.specs.declared.kept.Kept.{Kept}
 use Rattle.turn_kit.specs.declared.turns.Stand.{Stand}
 use Rattle.turn_kit.specs.Table.{next_op, kept_after, is_settled}
@@ -128,7 +129,8 @@ Unsettled r (e ∷ es) new = (next : Round) × (is_at_rest r ≡ false) × (is_m
 
 -- how many of the calls are on queue n
 abbrev pub calls_on : ℕ → List Event → ℕ
-calls_on n es = count_by (λ e. e.queue.0 == n) es
+calls_on n [] = 0
+calls_on n (e ∷ es) = bit (e.queue.0 == n) + calls_on n es
 
 -- a wake on queue n that answered no
 pub record IsVainWake (n : ℕ) (side : Side) (e : Event) : Type 0 where
@@ -140,3 +142,16 @@ pub record IsVainWake (n : ℕ) (side : Side) (e : Event) : Type 0 where
 abbrev pub IsWithin : ℕ → Option Stand → Type 0
 IsWithin count (Some x) = x.place < count
 IsWithin count None = Unit {0}
+
+-- queue number x is the next after the last: the lowest of the higher ones, or the lowest of all where none is higher
+abbrev pub IsNext : ℕ → List Post → ℕ → Type 0
+IsNext last posts x =
+    ((last < x) × ((k : ℕ) (p : Post) → slice_get posts k ≡ Some p → last < p.queue → x ≤ p.queue))
+    ⊎ (((k : ℕ) (p : Post) → slice_get posts k ≡ Some p → p.queue ≤ last) × ((k : ℕ) (p : Post) → slice_get posts k ≡ Some p → x ≤ p.queue))
+
+-- one of the calls was a wake on queue n that answered no
+pub record WokenInVain (n : ℕ) (side : Side) (es : List Event) : Type 0 where
+  pub place : ℕ
+  pub event : Event
+  pub there : slice_get es place ≡ Some event
+  pub vain : IsVainWake n side event

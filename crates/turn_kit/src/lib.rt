@@ -1,9 +1,10 @@
-//! The discipline of one end of a queue.
+//! The discipline of one end of a queue, and of all ends of an actor.
 #![tactic(auto)]
 
 mod ends;
 mod intakes;
 mod kept;
+mod laws;
 mod outlets;
 mod pipe;
 mod turns;
@@ -11,6 +12,7 @@ mod turns;
 pub use ends::{Intake, Outlet};
 pub use intakes::Intakes;
 pub use kept::Kept;
+pub use laws::{end_law, mark_law, turn_law};
 pub use outlets::Outlets;
 pub use pipe::Pipe;
 pub use turns::{Choice, Stand, Turn};
