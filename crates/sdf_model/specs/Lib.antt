@@ -1,1 +1,6 @@
+pub mod Elements
+pub mod Fields
+pub mod Keys
 pub mod Places
+pub mod Spelled
+pub mod Tree

@@ -1,3 +1,6 @@
+ghost use Rattle.std.specs.Prelude.{◌≡◌};
+ghost use Rattle.sdf_model.specs.declared.place.SdfFault.TheVariants as Fault;
+
 use cargo_core::Memory;
 
 /// An element of a description, by its places in file order, counted from 0.
@@ -33,6 +36,8 @@ pub enum SdfFault {
 }
 
 impl From<Memory> for SdfFault {
+    ghost from_gives = { λ _ fault. fault ≡ Fault.Memory };
+
     fn from(_: Memory) -> Self {
         SdfFault::Memory
     }

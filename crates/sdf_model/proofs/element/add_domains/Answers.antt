@@ -1,0 +1,21 @@
+use Rattle.std.proofs.Common.{refl, [], ◌∷◌, ◌++◌, map, codes, ap, ◌∙◌}
+use Rattle.toml.specs.View.{table_view}
+use Rattle.sdf_model.specs.declared.place.Place.TheVariants as At
+use Rattle.sdf_model.specs.Tree.{tables_at}
+use Rattle.sdf_model.specs.Elements.{domain_parts, parts, seen}
+use Rattle.sdf_model.proofs.Walks.{adds-step, seen-push, join}
+use Rattle.sdf_model.proofs.element.add_domains.Goals as goal
+
+pub loop-at-preserved : goal.loop-at-preserved
+loop-at-preserved c =
+    let t = table_view c.index-domains-at.result.now in
+    let at = c.loop-at.at in
+    let maps = parts (At.Map at 0) 0 (tables_at (codes "map") t) in
+    let irqs = parts (At.Irq at 0) 0 (tables_at (codes "irq") t) in
+    adds-step domain_parts ((At.Domain at, t) ∷ maps ++ irqs) _ c.loop-at.elements.items _ c.args.domains.now at c.index-domains-at.result
+    c.loop-at-test.true c.index-domains-at.is refl
+    (join (map seen c.loop-at.elements.items) (map seen c.add_list.new.elements.items) _ ((At.Domain at, t) ∷ maps) irqs
+    (join (map seen c.loop-at.elements.items) (map seen c.push.new.self.items) _ ((At.Domain at, t) ∷ []) maps (ap (map seen) c.in_ok-push.ensures.items ∙ seen-push _ _ _ (ap (λ n. (At.Domain n, t)) c.in_ok-d.ensures))
+    (c.in_ok-add_list.ensures ∙ ap (λ n. map seen c.push.new.self.items ++ parts (At.Map n 0) 0 (tables_at (codes "map") t)) c.in_ok-d.ensures))
+    (c.in_ok-add_list-2.ensures ∙ ap (λ n. map seen c.add_list.new.elements.items ++ parts (At.Irq n 0) 0 (tables_at (codes "irq") t)) c.in_ok-d.ensures))
+    c.loop-at.invariant

@@ -1,0 +1,15 @@
+use Rattle.std.proofs.lemmas.Bool.{false≢true}
+use Rattle.sdf_model.proofs.Judging.{kept-text, judged-text, no-document, ok-along, refused-along}
+use Rattle.sdf_model.proofs.read.read_description.Goals as goal
+
+pub returns-in-Ok-clause-accepted : goal.returns-in-Ok-clause-accepted
+returns-in-Ok-clause-accepted c =
+    ok-along _ _ (λ plan h. (_, c.in-Ok.ensures.ok, kept-text c.args.bytes.now _ c.in-Ok.ensures.ok h.0, h.1)) c.read_root.result c.read_root.ensures.accepted
+
+pub returns-in-Ok-clause-refused : goal.returns-in-Ok-clause-refused
+returns-in-Ok-clause-refused c =
+    refused-along _ _ (judged-text c.args.bytes.now _ c.in-Ok.ensures.ok) c.read_root.result c.read_root.ensures.refused
+
+pub returns-else-is_memory-clause-refused : goal.returns-else-is_memory-clause-refused
+returns-else-is_memory-clause-refused c =
+    no-document c.args.bytes.now (λ root doc. cc (c.in-Err.ensures.refused (λ memory. false≢true (c.if-is_memory.ensures.1 memory)) doc.0, doc.1))

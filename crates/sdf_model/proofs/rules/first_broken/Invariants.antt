@@ -1,0 +1,6 @@
+use Rattle.std.proofs.Common.{◌≡◌, drop, map}
+use Rattle.sdf_model.specs.Elements.{seen, first_broken}
+use Rattle.sdf_model.proofs.rules.first_broken.Given as goal
+
+abbrev pub invariant-loop-element : goal.invariant-loop-element
+invariant-loop-element l = first_broken l.rule (map seen (drop l.element-index l.elements)) ≡ first_broken l.rule (map seen l.elements)

@@ -1,0 +1,30 @@
+use Rattle.std.specs.Prelude.{ℕ, Bool, true, false, List, [], codes, Option, unwrap_or}
+use Rattle.toml.specs.Data.{Members}
+use Rattle.sdf_model.specs.declared.key.Absent.{Absent}
+use Rattle.sdf_model.specs.declared.key.Absent.TheVariants as If
+use Rattle.sdf_model.specs.Keys.{Row}
+use Rattle.sdf_model.specs.Spelled.{number_if, number_or, text_if, truth_if}
+
+-- what an absent number is, and an absent text and truth value
+abbrev pub absent_number : Absent → Members → ℕ
+absent_number (If.Number n) t = n
+absent_number If.Budget t = number_or 1000 (codes "budget") t
+absent_number _ t = 0
+
+abbrev pub absent_text : Absent → List ℕ
+absent_text If.Level = codes "level"
+absent_text _ = []
+
+abbrev pub absent_truth : Absent → Bool
+absent_truth If.True = true
+absent_truth _ = false
+
+-- what a field of a plan holds that is read by a key
+abbrev pub number_in : Row → Members → ℕ
+number_in key t = unwrap_or (number_if key.name t) (absent_number key.absent t)
+
+abbrev pub text_in : Row → Members → List ℕ
+text_in key t = unwrap_or (text_if key.name t) (absent_text key.absent)
+
+abbrev pub truth_in : Row → Members → Bool
+truth_in key t = unwrap_or (truth_if key.name t) (absent_truth key.absent)

@@ -1,0 +1,126 @@
+ghost use Rattle.sdf_model.specs.Spelled.{plan_of, region_of, domain_of, map_of, irq_of, channel_of, end_of, net_of, net_client_of, serial_of, serial_client_of, blk_of, blk_client_of};
+
+use crate::field::{Field, Part};
+use crate::key;
+use crate::plan::{
+    Blk, BlkClient, Channel, Domain, End, Irq, Map, Net, NetClient, Plan, Region, Serial,
+    SerialClient,
+};
+use cargo_core::Memory;
+use std::alloc::Global;
+use toml::Table;
+
+/// Reads a part of a plan from the table of its element: each field, in the order of the element's array of keys, by
+/// the key that stands there.
+macro_rules! reading {
+    ($part:ident by $keys:expr, $alloc:ident, $table:ident; $($field:ident),*) => {{
+        let [$($field),*] = &$keys;
+        Ok($part {
+            $($field: Field::field($alloc, $table, $field)?),*
+        })
+    }};
+}
+
+impl Part for Plan {
+    ghost spelled = { plan_of };
+
+    fn read(alloc: Global, table: &Table) -> Result<Plan, Memory> {
+        reading!(Plan by key::SYSTEM, alloc, table; version, memory_region, protection_domain, channel, net, serial, blk)
+    }
+}
+
+impl Part for Region {
+    ghost spelled = { region_of };
+
+    fn read(alloc: Global, table: &Table) -> Result<Region, Memory> {
+        reading!(Region by key::REGION, alloc, table; name, size, page_size, phys_addr)
+    }
+}
+
+impl Part for Domain {
+    ghost spelled = { domain_of };
+
+    fn read(alloc: Global, table: &Table) -> Result<Domain, Memory> {
+        reading!(Domain by key::DOMAIN, alloc, table; name, priority, budget, period, program, map, irq)
+    }
+}
+
+impl Part for Map {
+    ghost spelled = { map_of };
+
+    fn read(alloc: Global, table: &Table) -> Result<Map, Memory> {
+        reading!(Map by key::MAP, alloc, table; mr, vaddr, perms, cached, setvar_vaddr)
+    }
+}
+
+impl Part for Irq {
+    ghost spelled = { irq_of };
+
+    fn read(alloc: Global, table: &Table) -> Result<Irq, Memory> {
+        reading!(Irq by key::IRQ, alloc, table; irq, id, trigger)
+    }
+}
+
+impl Part for Channel {
+    ghost spelled = { channel_of };
+
+    fn read(alloc: Global, table: &Table) -> Result<Channel, Memory> {
+        reading!(Channel by key::CHANNEL, alloc, table; end)
+    }
+}
+
+impl Part for End {
+    ghost spelled = { end_of };
+
+    fn read(alloc: Global, table: &Table) -> Result<End, Memory> {
+        reading!(End by key::END, alloc, table; pd, id)
+    }
+}
+
+impl Part for Net {
+    ghost spelled = { net_of };
+
+    fn read(alloc: Global, table: &Table) -> Result<Net, Memory> {
+        reading!(Net by key::NET, alloc, table; driver, rx_virt, tx_virt, rx_region, rx_queues, tx_queues, rx_buffers, rx_capacity, tx_capacity, client)
+    }
+}
+
+impl Part for NetClient {
+    ghost spelled = { net_client_of };
+
+    fn read(alloc: Global, table: &Table) -> Result<NetClient, Memory> {
+        reading!(NetClient by key::NET_CLIENT, alloc, table; pd, copier, mac, lease_queues, rx_region, rx_queues, tx_region, tx_queues, rx_buffers, rx_capacity, tx_buffers, tx_capacity)
+    }
+}
+
+impl Part for Serial {
+    ghost spelled = { serial_of };
+
+    fn read(alloc: Global, table: &Table) -> Result<Serial, Memory> {
+        reading!(Serial by key::SERIAL, alloc, table; driver, rx_virt, tx_virt, rx_queues, tx_queues, rx_capacity, tx_capacity, client)
+    }
+}
+
+impl Part for SerialClient {
+    ghost spelled = { serial_client_of };
+
+    fn read(alloc: Global, table: &Table) -> Result<SerialClient, Memory> {
+        reading!(SerialClient by key::SERIAL_CLIENT, alloc, table; pd, rx_queues, tx_queues, rx_capacity, tx_capacity)
+    }
+}
+
+impl Part for Blk {
+    ghost spelled = { blk_of };
+
+    fn read(alloc: Global, table: &Table) -> Result<Blk, Memory> {
+        reading!(Blk by key::BLK, alloc, table; driver, virt, queues, region, capacity, client)
+    }
+}
+
+impl Part for BlkClient {
+    ghost spelled = { blk_client_of };
+
+    fn read(alloc: Global, table: &Table) -> Result<BlkClient, Memory> {
+        reading!(BlkClient by key::BLK_CLIENT, alloc, table; pd, region, queues, partition, buffers, capacity)
+    }
+}
