@@ -1,0 +1,204 @@
+use Rattle.std.proofs.Common.{◌≡◌, ℕ, zero, suc, ◌+◌, inl, inr, true, false, cond, eqb, List, [], ◌∷◌, ◌++◌, length, sum_by, Option, Some, None, refl, ap, sym, ◌∙◌, arith, add-zero, zero-add, append-nil}
+use Rattle.std.specs.List.{flat_map}
+use Rattle.std.specs.Option.{option_to_list}
+use Rattle.std.proofs.lemmas.Bool.{cases_Bool, eqb-true, eqb-false}
+use Rattle.std.proofs.lemmas.List.Concat.{flat_map-append}
+use Rattle.std.proofs.lemmas.List.Sums.{fold-append, sum_by-append}
+use Rattle.cargo_core.specs.declared.item.Ask.{Ask}
+use Rattle.sdf_model.specs.declared.plan.Plan.{Plan}
+use Rattle.trace_text.specs.declared.reader.Reader.{Reader}
+use Rattle.trace_text.specs.Events.{Event, net_clients, serial_clients, blk_clients}
+use Rattle.trace_text.specs.Traces.{per_client, frames_in, input_in, sends_in, says_in, asks_in, image_after, image_of, trace_from, is_frame_line, is_request_line, is_disk_line, stream_bytes_in, is_out_of_place, is_bad_after}
+use Rattle.trace_text.specs.Reading.{grown_at, reader_after, is_refused, grown, judged, HasLists}
+
+-- one more event, and what it gives
+pub flat_more : {T : Type 0} (f : Event → List T) (events : List Event) (e : Event) → flat_map f (events ++ e ∷ []) ≡ flat_map f events ++ f e
+flat_more f events e = flat_map-append f events (e ∷ []) ∙ ap (λ more. flat_map f events ++ more) (append-nil (f e))
+
+pub flat_same : {T : Type 0} (f : Event → List T) (events : List Event) (e : Event) → f e ≡ [] → flat_map f (events ++ e ∷ []) ≡ flat_map f events
+flat_same f events e none = flat_more f events e ∙ ap (λ more. flat_map f events ++ more) none ∙ append-nil (flat_map f events)
+
+pub sum_more : (f : Event → ℕ) (events : List Event) (e : Event) → sum_by f (events ++ e ∷ []) ≡ sum_by f events + f e
+sum_more f events e = sum_by-append f events (e ∷ []) ∙ ap (λ k. sum_by f events + k) (zero-add (f e))
+
+pub image_more : (events : List Event) (e : Event) → image_of (events ++ e ∷ []) ≡ image_after (image_of events) e
+image_more events e = fold-append image_after [] events (e ∷ [])
+
+-- the lists of clients that differ in none
+pub per_client_same : {T : Type 0} (n : ℕ) (f g : ℕ → T) → ((k : ℕ) → f k ≡ g k) → per_client n f ≡ per_client n g
+per_client_same zero f g h = refl
+per_client_same (suc n) f g h = rw (h 0, per_client_same n (λ k. f (suc k)) (λ k. g (suc k)) (λ k. h (suc k))) refl
+
+-- the lists of clients of which one has more
+pub per_client_grown : {T : Type 0} (n c : ℕ) (more : List T) (f g : ℕ → List T) → ((k : ℕ) → c ≡ k → g k ≡ f k ++ more) → ((k : ℕ) → (c ≡ k → ⊥) → g k ≡ f k)
+    → grown_at (per_client n f) c more ≡ per_client n g
+per_client_grown zero c more f g here other = refl
+per_client_grown (suc n) zero more f g here other =
+    rw (sym (here 0 refl), per_client_same n (λ k. f (suc k)) (λ k. g (suc k)) (λ k. sym (other (suc k) (λ is. absurd (omega arith))))) refl
+per_client_grown (suc n) (suc c) more f g here other =
+    rw (sym (other 0 (λ is. absurd (omega arith))), per_client_grown n c more (λ k. f (suc k)) (λ k. g (suc k)) (λ k is. here (suc k) (ap suc is)) (λ k not. other (suc k) (λ is. not (omega arith)))) refl
+
+pub length_per_client : {T : Type 0} (n : ℕ) (f : ℕ → T) → length (per_client n f) ≡ n
+length_per_client zero f = refl
+length_per_client (suc n) f = ap suc (length_per_client n (λ k. f (suc k)))
+
+pub has_lists : (plan : Plan) (events : List Event) → HasLists plan (reader_after plan events)
+unfolding trace_from
+has_lists plan events = record {
+  sends = length_per_client (length (net_clients plan)) _;
+  says = length_per_client (length (serial_clients plan)) _;
+  asks = length_per_client (length (blk_clients plan)) _;
+}
+
+choice_here : {T : Type 0} (c k : ℕ) (more : List T) → c ≡ k → cond (eqb c k) more [] ≡ more
+choice_here c k more is = elim (cases_Bool (eqb c k)) [
+  | inl same ↦ rw same refl
+  | inr other ↦ absurd (eqb-false c k other is)
+]
+
+choice_other : {T : Type 0} (c k : ℕ) (more : List T) → (c ≡ k → ⊥) → cond (eqb c k) more [] ≡ []
+choice_other c k more isnt = elim (cases_Bool (eqb c k)) [
+  | inl same ↦ absurd (isnt (eqb-true c k same))
+  | inr other ↦ rw other refl
+]
+
+-- the lists of a class after an event that gives one client more
+pub class_grown : {T : Type 0} (n : ℕ) (f : ℕ → Event → List T) (events : List Event) (e : Event) (c : ℕ) (more : List T) → ((k : ℕ) → f k e ≡ cond (eqb c k) more [])
+    → grown_at (per_client n (λ k. flat_map (f k) events)) c more ≡ per_client n (λ k. flat_map (f k) (events ++ e ∷ []))
+class_grown n f events e c more h =
+    per_client_grown n c more (λ k. flat_map (f k) events) (λ k. flat_map (f k) (events ++ e ∷ []))
+    (λ k is. flat_more (f k) events e ∙ ap (λ x. flat_map (f k) events ++ x) (h k ∙ choice_here c k more is))
+    (λ k isnt. flat_same (f k) events e (h k ∙ choice_other c k more isnt))
+
+-- the lists of a class after an event that gives it nothing
+pub class_same : {T : Type 0} (n : ℕ) (f : ℕ → Event → List T) (events : List Event) (e : Event) → ((k : ℕ) → f k e ≡ [])
+    → per_client n (λ k. flat_map (f k) events) ≡ per_client n (λ k. flat_map (f k) (events ++ e ∷ []))
+class_same n f events e h = per_client_same n _ _ (λ k. sym (flat_same (f k) events e (h k)))
+
+assemble : (frames frames' : List (List ℕ)) (input input' : List ℕ) (sends sends' : List (List (List ℕ))) (says says' : List (List ℕ)) (asks asks' : List (List Ask)) (image image' : List ℕ)
+    (a a' b b' d d' x x' : ℕ)
+    → frames ≡ frames' → input ≡ input' → sends ≡ sends' → says ≡ says' → asks ≡ asks' → image ≡ image' → a ≡ a' → b ≡ b' → d ≡ d' → x ≡ x'
+    → ◌≡◌ {A = Reader}
+    (record { trace = record { frames = frames; input = input; sends = sends; says = says; asks = asks; image = image }; frame_lines = a; stream_bytes = b; request_lines = d; disk_lines = x })
+    (record { trace = record { frames = frames'; input = input'; sends = sends'; says = says'; asks = asks'; image = image' }; frame_lines = a'; stream_bytes = b'; request_lines = d'; disk_lines = x' })
+assemble f f' i i' s s' y y' k k' m m' a a' b b' d d' x x' e1 e2 e3 e4 e5 e6 e7 e8 e9 e10 = rw (e1, e2, e3, e4, e5, e6, e7, e8, e9, e10) refl
+
+-- the reader after one more event
+pub grown_after : (plan : Plan) (events : List Event) (e : Event) → grown (reader_after plan events) e ≡ reader_after plan (events ++ e ∷ [])
+unfolding trace_from
+grown_after plan events Event.Skipped = assemble _ _ _ _ _ _ _ _ _ _ _ _ _ _ _ _ _ _ _ _
+    (sym (flat_same frames_in events Event.Skipped refl))
+    (sym (flat_same input_in events Event.Skipped refl))
+    (class_same (length (net_clients plan)) sends_in events Event.Skipped (λ k. refl))
+    (class_same (length (serial_clients plan)) says_in events Event.Skipped (λ k. refl))
+    (class_same (length (blk_clients plan)) asks_in events Event.Skipped (λ k. refl))
+    (sym (image_more events Event.Skipped))
+    (sym (sum_more (λ x. cond (is_frame_line x) 1 0) events Event.Skipped ∙ add-zero (sum_by (λ x. cond (is_frame_line x) 1 0) events)))
+    (sym (sum_more stream_bytes_in events Event.Skipped ∙ add-zero (sum_by stream_bytes_in events)))
+    (sym (sum_more (λ x. cond (is_request_line x) 1 0) events Event.Skipped ∙ add-zero (sum_by (λ x. cond (is_request_line x) 1 0) events)))
+    (sym (sum_more (λ x. cond (is_disk_line x) 1 0) events Event.Skipped ∙ add-zero (sum_by (λ x. cond (is_disk_line x) 1 0) events)))
+grown_after plan events (Event.Rx frame) = assemble _ _ _ _ _ _ _ _ _ _ _ _ _ _ _ _ _ _ _ _
+    (sym (flat_more frames_in events (Event.Rx frame)))
+    (sym (flat_same input_in events (Event.Rx frame) refl))
+    (class_same (length (net_clients plan)) sends_in events (Event.Rx frame) (λ k. refl))
+    (class_same (length (serial_clients plan)) says_in events (Event.Rx frame) (λ k. refl))
+    (class_same (length (blk_clients plan)) asks_in events (Event.Rx frame) (λ k. refl))
+    (sym (image_more events (Event.Rx frame)))
+    (sym (sum_more (λ x. cond (is_frame_line x) 1 0) events (Event.Rx frame)))
+    (sym (sum_more stream_bytes_in events (Event.Rx frame) ∙ add-zero (sum_by stream_bytes_in events)))
+    (sym (sum_more (λ x. cond (is_request_line x) 1 0) events (Event.Rx frame) ∙ add-zero (sum_by (λ x. cond (is_request_line x) 1 0) events)))
+    (sym (sum_more (λ x. cond (is_disk_line x) 1 0) events (Event.Rx frame) ∙ add-zero (sum_by (λ x. cond (is_disk_line x) 1 0) events)))
+grown_after plan events (Event.In bytes) = assemble _ _ _ _ _ _ _ _ _ _ _ _ _ _ _ _ _ _ _ _
+    (sym (flat_same frames_in events (Event.In bytes) refl))
+    (sym (flat_more input_in events (Event.In bytes)))
+    (class_same (length (net_clients plan)) sends_in events (Event.In bytes) (λ k. refl))
+    (class_same (length (serial_clients plan)) says_in events (Event.In bytes) (λ k. refl))
+    (class_same (length (blk_clients plan)) asks_in events (Event.In bytes) (λ k. refl))
+    (sym (image_more events (Event.In bytes)))
+    (sym (sum_more (λ x. cond (is_frame_line x) 1 0) events (Event.In bytes) ∙ add-zero (sum_by (λ x. cond (is_frame_line x) 1 0) events)))
+    (sym (sum_more stream_bytes_in events (Event.In bytes)))
+    (sym (sum_more (λ x. cond (is_request_line x) 1 0) events (Event.In bytes) ∙ add-zero (sum_by (λ x. cond (is_request_line x) 1 0) events)))
+    (sym (sum_more (λ x. cond (is_disk_line x) 1 0) events (Event.In bytes) ∙ add-zero (sum_by (λ x. cond (is_disk_line x) 1 0) events)))
+grown_after plan events (Event.Send c frame) = assemble _ _ _ _ _ _ _ _ _ _ _ _ _ _ _ _ _ _ _ _
+    (sym (flat_same frames_in events (Event.Send c frame) refl))
+    (sym (flat_same input_in events (Event.Send c frame) refl))
+    (class_grown (length (net_clients plan)) sends_in events (Event.Send c frame) c (frame ∷ []) (λ k. refl))
+    (class_same (length (serial_clients plan)) says_in events (Event.Send c frame) (λ k. refl))
+    (class_same (length (blk_clients plan)) asks_in events (Event.Send c frame) (λ k. refl))
+    (sym (image_more events (Event.Send c frame)))
+    (sym (sum_more (λ x. cond (is_frame_line x) 1 0) events (Event.Send c frame)))
+    (sym (sum_more stream_bytes_in events (Event.Send c frame) ∙ add-zero (sum_by stream_bytes_in events)))
+    (sym (sum_more (λ x. cond (is_request_line x) 1 0) events (Event.Send c frame) ∙ add-zero (sum_by (λ x. cond (is_request_line x) 1 0) events)))
+    (sym (sum_more (λ x. cond (is_disk_line x) 1 0) events (Event.Send c frame) ∙ add-zero (sum_by (λ x. cond (is_disk_line x) 1 0) events)))
+grown_after plan events (Event.Say c bytes) = assemble _ _ _ _ _ _ _ _ _ _ _ _ _ _ _ _ _ _ _ _
+    (sym (flat_same frames_in events (Event.Say c bytes) refl))
+    (sym (flat_same input_in events (Event.Say c bytes) refl))
+    (class_same (length (net_clients plan)) sends_in events (Event.Say c bytes) (λ k. refl))
+    (class_grown (length (serial_clients plan)) says_in events (Event.Say c bytes) c bytes (λ k. refl))
+    (class_same (length (blk_clients plan)) asks_in events (Event.Say c bytes) (λ k. refl))
+    (sym (image_more events (Event.Say c bytes)))
+    (sym (sum_more (λ x. cond (is_frame_line x) 1 0) events (Event.Say c bytes) ∙ add-zero (sum_by (λ x. cond (is_frame_line x) 1 0) events)))
+    (sym (sum_more stream_bytes_in events (Event.Say c bytes)))
+    (sym (sum_more (λ x. cond (is_request_line x) 1 0) events (Event.Say c bytes) ∙ add-zero (sum_by (λ x. cond (is_request_line x) 1 0) events)))
+    (sym (sum_more (λ x. cond (is_disk_line x) 1 0) events (Event.Say c bytes) ∙ add-zero (sum_by (λ x. cond (is_disk_line x) 1 0) events)))
+grown_after plan events (Event.Disk n) = assemble _ _ _ _ _ _ _ _ _ _ _ _ _ _ _ _ _ _ _ _
+    (sym (flat_same frames_in events (Event.Disk n) refl))
+    (sym (flat_same input_in events (Event.Disk n) refl))
+    (class_same (length (net_clients plan)) sends_in events (Event.Disk n) (λ k. refl))
+    (class_same (length (serial_clients plan)) says_in events (Event.Disk n) (λ k. refl))
+    (class_same (length (blk_clients plan)) asks_in events (Event.Disk n) (λ k. refl))
+    (sym (image_more events (Event.Disk n)))
+    (sym (sum_more (λ x. cond (is_frame_line x) 1 0) events (Event.Disk n) ∙ add-zero (sum_by (λ x. cond (is_frame_line x) 1 0) events)))
+    (sym (sum_more stream_bytes_in events (Event.Disk n) ∙ add-zero (sum_by stream_bytes_in events)))
+    (sym (sum_more (λ x. cond (is_request_line x) 1 0) events (Event.Disk n) ∙ add-zero (sum_by (λ x. cond (is_request_line x) 1 0) events)))
+    (sym (sum_more (λ x. cond (is_disk_line x) 1 0) events (Event.Disk n)))
+grown_after plan events (Event.Patch at bytes) = assemble _ _ _ _ _ _ _ _ _ _ _ _ _ _ _ _ _ _ _ _
+    (sym (flat_same frames_in events (Event.Patch at bytes) refl))
+    (sym (flat_same input_in events (Event.Patch at bytes) refl))
+    (class_same (length (net_clients plan)) sends_in events (Event.Patch at bytes) (λ k. refl))
+    (class_same (length (serial_clients plan)) says_in events (Event.Patch at bytes) (λ k. refl))
+    (class_same (length (blk_clients plan)) asks_in events (Event.Patch at bytes) (λ k. refl))
+    (sym (image_more events (Event.Patch at bytes)))
+    (sym (sum_more (λ x. cond (is_frame_line x) 1 0) events (Event.Patch at bytes) ∙ add-zero (sum_by (λ x. cond (is_frame_line x) 1 0) events)))
+    (sym (sum_more stream_bytes_in events (Event.Patch at bytes) ∙ add-zero (sum_by stream_bytes_in events)))
+    (sym (sum_more (λ x. cond (is_request_line x) 1 0) events (Event.Patch at bytes) ∙ add-zero (sum_by (λ x. cond (is_request_line x) 1 0) events)))
+    (sym (sum_more (λ x. cond (is_disk_line x) 1 0) events (Event.Patch at bytes) ∙ add-zero (sum_by (λ x. cond (is_disk_line x) 1 0) events)))
+grown_after plan events (Event.Request c ask) = assemble _ _ _ _ _ _ _ _ _ _ _ _ _ _ _ _ _ _ _ _
+    (sym (flat_same frames_in events (Event.Request c ask) refl))
+    (sym (flat_same input_in events (Event.Request c ask) refl))
+    (class_same (length (net_clients plan)) sends_in events (Event.Request c ask) (λ k. refl))
+    (class_same (length (serial_clients plan)) says_in events (Event.Request c ask) (λ k. refl))
+    (class_grown (length (blk_clients plan)) asks_in events (Event.Request c ask) c (ask ∷ []) (λ k. refl))
+    (sym (image_more events (Event.Request c ask)))
+    (sym (sum_more (λ x. cond (is_frame_line x) 1 0) events (Event.Request c ask) ∙ add-zero (sum_by (λ x. cond (is_frame_line x) 1 0) events)))
+    (sym (sum_more stream_bytes_in events (Event.Request c ask) ∙ add-zero (sum_by stream_bytes_in events)))
+    (sym (sum_more (λ x. cond (is_request_line x) 1 0) events (Event.Request c ask)))
+    (sym (sum_more (λ x. cond (is_disk_line x) 1 0) events (Event.Request c ask) ∙ add-zero (sum_by (λ x. cond (is_disk_line x) 1 0) events)))
+
+refused_same : (plan : Plan) (events : List Event) (e : Event) → is_refused (reader_after plan events) e ≡ is_out_of_place events e
+unfolding trace_from
+refused_same plan events Event.Skipped = refl
+refused_same plan events (Event.Rx frame) = refl
+refused_same plan events (Event.In bytes) = refl
+refused_same plan events (Event.Send c frame) = refl
+refused_same plan events (Event.Say c bytes) = refl
+refused_same plan events (Event.Disk n) = refl
+refused_same plan events (Event.Patch at bytes) = refl
+refused_same plan events (Event.Request c ask) = refl
+
+-- a line that was taken
+pub taken_after : (plan : Plan) (events : List Event) (e : Option Event) (r : Reader) → judged (reader_after plan events) e ≡ Some r
+    → (is_bad_after events e ≡ false) × (r ≡ reader_after plan (events ++ option_to_list e))
+taken_after plan events None r h = cc
+taken_after plan events (Some e) r h = elim (cases_Bool (is_refused (reader_after plan events) e)) [
+  | inl is ↦ absurd (let none = rw is at h in cc)
+  | inr isnt ↦ (sym (refused_same plan events e) ∙ isnt, (let some = rw isnt at h in let same : grown (reader_after plan events) e ≡ r = cc in sym same ∙ grown_after plan events e))
+]
+
+-- a line that was found bad
+pub bad_after : (plan : Plan) (events : List Event) (e : Option Event) → judged (reader_after plan events) e ≡ None → is_bad_after events e ≡ true
+bad_after plan events None h = refl
+bad_after plan events (Some e) h = elim (cases_Bool (is_refused (reader_after plan events) e)) [
+  | inl is ↦ sym (refused_same plan events e) ∙ is
+  | inr isnt ↦ absurd (let some = rw isnt at h in cc)
+]

@@ -1,0 +1,9 @@
+pub mod Rows
+pub mod Numbers
+pub mod Pieces
+pub mod NewReader
+pub mod Judged
+pub mod Forms
+pub mod Words
+pub mod Grown
+pub mod SoFar

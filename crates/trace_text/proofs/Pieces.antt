@@ -1,0 +1,208 @@
+use Rattle.std.proofs.Common.{◌≡◌, ℕ, suc, ◌+◌, ◌-◌, ◌*◌, ◌/◌, ◌<◌, ◌≤◌, Bool, true, false, cond, not, leb, ltb, eqb, ◌&&◌, take, drop, List, [], ◌∷◌, ◌++◌, length, get_or, replicate, Option, Some, None, Result, Ok, Err, refl, inl, inr, ◌⊎◌, ap, sym, ◌∙◌, arith, length-append, append_assoc}
+use Rattle.std.specs.Option.{option_map, option_and_then}
+use Rattle.std.specs.Result.{result_ok}
+use Rattle.std.specs.List.{slice_split, onto_first, position_or_len, position}
+use Rattle.std.proofs.lemmas.Bool.{ltb-true, ltb-false, leb-true, le-leb, eqb-true, cases_Bool}
+use Rattle.std.proofs.lemmas.List.{length-replicate}
+use Rattle.std.proofs.lemmas.List.Splits.{slice_split_first}
+use Rattle.hex.specs.Hex.{decode_of, decode_sized}
+use Rattle.hex.proofs.HexLemmas.{decode_of-ok, decode_sized-twice, decode_sized-ok}
+use Rattle.trace_text.specs.Texts.{parts_of, number_of, digits_meaning, repeated, piece_of, piece_meaning}
+use Rattle.trace_text.specs.Reading.{IsTaken}
+
+-- where no element passes, the list is the one part
+split_step : {X : Type 0} (x : X) (xs : List X) (parts : List (List X)) (n : ℕ) (b : Bool) → suc (length xs) ≤ cond (not b) (1 + n) 0 → (length xs ≤ n → parts ≡ xs ∷ [])
+    → cond b ([] ∷ parts) (onto_first x parts) ≡ (x ∷ xs) ∷ []
+split_step x xs parts n true h rest = absurd (omega arith)
+split_step x xs parts n false h rest = ap (λ q. onto_first x q) (rest (omega arith))
+
+pub split_none : {X : Type 0} (p : X → Bool) (xs : List X) → length xs ≤ position_or_len p xs → slice_split p xs ≡ xs ∷ []
+split_none p [] h = refl
+split_none p (x ∷ xs) h = split_step x xs (slice_split p xs) (position_or_len p xs) (p x) h (λ shorter. split_none p xs shorter)
+
+position_none : (m n : ℕ) → cond (ltb m n) (Some m) None ≡ None → n ≤ m
+position_none m n h = elim (cases_Bool (ltb m n)) [
+  | inl is ↦ absurd (let e = rw is at h in cc)
+  | inr isnt ↦ omega (arith, ltb-false m n isnt)
+]
+
+position_some : (m n k : ℕ) → cond (ltb m n) (Some m) None ≡ Some k → (m < n) × (m ≡ k)
+position_some m n k h = elim (cases_Bool (ltb m n)) [
+  | inl is ↦ (ltb-true m n is, (let e = rw is at h in cc))
+  | inr isnt ↦ absurd (let e = rw isnt at h in cc)
+]
+
+pub parts_none : (c : ℕ) (text : List ℕ) → position (λ b. eqb b c) text ≡ None → parts_of c text ≡ text ∷ []
+parts_none c text h = split_none (λ b. eqb b c) text (position_none (position_or_len (λ b. eqb b c) text) (length text) h)
+
+pub parts_some : (c : ℕ) (text : List ℕ) (k : ℕ) → position (λ b. eqb b c) text ≡ Some k → parts_of c text ≡ take k text ∷ parts_of c (drop (k + 1) text)
+parts_some c text k h =
+    let found = position_some (position_or_len (λ b. eqb b c) text) (length text) k h in
+    rw (sym found.1) (slice_split_first (λ b. eqb b c) text 0 found.0)
+
+-- a list always has a first part
+pub parts_cons : {X : Type 0} (p : X → Bool) (xs : List X) → (first : List X) × (rest : List (List X)) × (slice_split p xs ≡ first ∷ rest)
+parts_cons p [] = ([], [], refl)
+parts_cons {X} p (x ∷ xs) = step (p x) (slice_split p xs) (parts_cons p xs)
+  where
+    step : (b : Bool) (parts : List (List X)) → (first : List X) × (rest : List (List X)) × (parts ≡ first ∷ rest)
+        → (first : List X) × (rest : List (List X)) × (cond b ([] ∷ parts) (onto_first x parts) ≡ first ∷ rest)
+    step true parts h = ([], parts, refl)
+    step false parts h = (x ∷ h.0, h.1, ap (λ q. onto_first x q) h.2)
+
+and_both : (a b : Bool) → (a && b) ≡ true → (a ≡ true) × (b ≡ true)
+and_both true b h = (refl, h)
+and_both false b h = cc
+
+pub result_ok-some : {T E : Type 0} (r : Result T E) (x : T) → result_ok r ≡ Some x → r ≡ Ok x
+result_ok-some (Ok y) x h = cc
+result_ok-some (Err e) x h = cc
+
+pub if_some : {T : Type 0} (b : Bool) (m : Option T) (x : T) → cond b m None ≡ Some x → (b ≡ true) × (m ≡ Some x)
+if_some true m x h = (refl, h)
+if_some false m x h = cc
+
+pub if_not_some : {T : Type 0} (b : Bool) (m : Option T) (x : T) → cond b None m ≡ Some x → (b ≡ false) × (m ≡ Some x)
+if_not_some true m x h = cc
+if_not_some false m x h = (refl, h)
+
+-- digits are twice as many as their bytes
+pub digits_length : (digits bytes : List ℕ) → digits_meaning digits ≡ Some bytes → length digits ≡ 2 * length bytes
+digits_length digits bytes h = (decode_of-ok digits bytes (result_ok-some (decode_of digits) bytes h)).2
+
+-- what a repetition is made of
+abbrev repetition : Option ℕ → ℕ → Option (List ℕ) → Option (List ℕ)
+repetition count long digits =
+    option_and_then (λ n. cond (leb 1 n && eqb long 2) (option_map (λ bytes. replicate n (get_or bytes 0 0)) digits) None) count
+
+pub record IsRepetition (count : Option ℕ) (long : ℕ) (digits : Option (List ℕ)) (bytes : List ℕ) : Type 0 where
+  pub n : ℕ
+  pub byte : List ℕ
+  pub counted : count ≡ Some n
+  pub some : 1 ≤ n
+  pub two : long ≡ 2
+  pub decoded : digits ≡ Some byte
+  pub long_is : length bytes ≡ n
+
+repetition_is : (count : Option ℕ) (long : ℕ) (digits : Option (List ℕ)) (bytes : List ℕ) → repetition count long digits ≡ Some bytes → IsRepetition count long digits bytes
+repetition_is None long digits bytes h = cc
+repetition_is (Some n) long None bytes h = let parts = if_some _ None bytes h in cc parts.1
+repetition_is (Some n) long (Some byte) bytes h =
+    let parts = if_some (leb 1 n && eqb long 2) (Some (replicate n (get_or byte 0 0))) bytes h in
+    let tests = and_both (leb 1 n) (eqb long 2) parts.0 in
+    let same : replicate n (get_or byte 0 0) ≡ bytes = cc in
+    record {
+      n = n;
+      byte = byte;
+      counted = refl;
+      some = leb-true 1 n tests.0;
+      two = eqb-true long 2 tests.1;
+      decoded = refl;
+      long_is = sym (ap length same) ∙ length-replicate {A = ℕ} n (get_or byte 0 0);
+    }
+
+pub repeated_is : (count digits bytes : List ℕ) → repeated count digits ≡ Some bytes → IsRepetition (number_of count) (length digits) (digits_meaning digits) bytes
+repeated_is count digits bytes h = repetition_is (number_of count) (length digits) (digits_meaning digits) bytes h
+
+repetition_gives : (n : ℕ) (long : ℕ) (byte : List ℕ) → 1 ≤ n → long ≡ 2 → repetition (Some n) long (Some byte) ≡ Some (replicate n (get_or byte 0 0))
+repetition_gives n long byte some two = rw (le-leb 1 n some, two) refl
+
+pub repeated_gives : (count digits : List ℕ) (n : ℕ) (byte : List ℕ) → number_of count ≡ Some n → 1 ≤ n → decode_sized digits 1 ≡ Ok byte
+    → repeated count digits ≡ Some (replicate n (get_or byte 0 0))
+repeated_gives count digits n byte counted some decoded =
+    let two : length digits ≡ 2 = decode_sized-ok digits 1 byte decoded in
+    let plain : decode_of digits ≡ Ok byte = sym (decode_sized-twice digits 1 two) ∙ decoded in
+    let spelled : digits_meaning digits ≡ Some byte = ap result_ok plain in
+    ap (λ count. repetition count (length digits) (digits_meaning digits)) counted ∙ ap (λ digits'. repetition (Some n) (length digits) digits') spelled
+    ∙ repetition_gives n (length digits) byte some two
+
+-- a digit pair that isn't read is none
+pub repeated_refused : (count digits : List ℕ) (e : Rattle.hex.specs.declared.error.FromHexError.FromHexError) → decode_sized digits 1 ≡ Err e → (bytes : List ℕ) → repeated count digits ≡ Some bytes → ⊥
+repeated_refused count digits e h bytes is =
+    let parts = repeated_is count digits bytes is in
+    let plain = decode_sized-twice digits 1 parts.two in
+    let decoded = result_ok-some (decode_of digits) parts.byte parts.decoded in
+    cc
+
+pub piece_of_digits : (piece : List ℕ) → parts_of 42 piece ≡ piece ∷ [] → piece_of piece ≡ cond (eqb (length piece) 0) None (digits_meaning piece)
+unfolding piece_of
+piece_of_digits piece h = rw h refl
+
+pub piece_of_repeated : (piece count digits : List ℕ) → parts_of 42 piece ≡ count ∷ parts_of 42 digits → piece_of piece ≡ piece_meaning (count ∷ parts_of 42 digits)
+unfolding piece_of
+piece_of_repeated piece count digits h = rw h refl
+
+pub three_parts : (count digits a b : List ℕ) → parts_of 42 digits ≡ a ∷ parts_of 42 b → piece_meaning (count ∷ parts_of 42 digits) ≡ None
+three_parts count digits a b h =
+    let c = parts_cons (λ x. eqb x 42) b in
+    rw (h, c.2) refl
+
+-- what was read so far, with what the other pieces stand for
+abbrev pub with_rest : List ℕ → Option (List ℕ) → Option (List ℕ)
+with_rest «data» rest = option_map (λ more. «data» ++ more) rest
+
+abbrev pub piece_first : Option (List ℕ) → Option (List ℕ) → Option (List ℕ)
+piece_first piece rest = option_and_then (λ bytes. option_map (λ more. bytes ++ more) rest) piece
+
+pub with_rest_none : (rest : Option (List ℕ)) → with_rest [] rest ≡ rest
+with_rest_none None = refl
+with_rest_none (Some more) = refl
+
+pub with_rest_more : («data» bytes : List ℕ) (piece rest : Option (List ℕ)) → piece ≡ Some bytes → with_rest («data» ++ bytes) rest ≡ with_rest «data» (piece_first piece rest)
+with_rest_more «data» bytes piece None h = rw h refl
+with_rest_more «data» bytes piece (Some more) h = rw h (ap (λ (all : List ℕ). Some all) (append_assoc «data» bytes more))
+
+pub with_rest_long : («data» : List ℕ) (most : ℕ) (piece rest : Option (List ℕ)) → ((bytes : List ℕ) → piece ≡ Some bytes → most < length «data» + length bytes)
+    → (all : List ℕ) → with_rest «data» (piece_first piece rest) ≡ Some all → most < length all
+with_rest_long «data» most None rest long all h = cc
+with_rest_long «data» most (Some bytes) None long all h = cc
+with_rest_long «data» most (Some bytes) (Some more) long all h =
+    let same : «data» ++ (bytes ++ more) ≡ all = cc in
+    let lengths = ap length same in
+    omega (arith, long bytes refl, length-append «data» (bytes ++ more), length-append bytes more)
+
+-- digits that are more than there is room for
+pub digits_too_long : (digits : List ℕ) (most sofar : ℕ) → most - sofar < length digits / 2 → sofar ≤ most
+    → (bytes : List ℕ) → cond (eqb (length digits) 0) None (digits_meaning digits) ≡ Some bytes → most < sofar + length bytes
+digits_too_long digits most sofar long room bytes h =
+    let parts = if_not_some (eqb (length digits) 0) (digits_meaning digits) bytes h in
+    let twice = digits_length digits bytes parts.1 in
+    omega arith
+
+-- digits that were read, and fit
+pub digits_taken : (digits «data» bytes : List ℕ) (most : ℕ) → eqb (length digits) 0 ≡ false → decode_of digits ≡ Ok bytes → length digits / 2 ≤ most - length «data» → length «data» ≤ most
+    → IsTaken (cond (eqb (length digits) 0) None (digits_meaning digits)) «data» («data» ++ bytes) most true
+digits_taken digits «data» bytes most some decoded fits room =
+    let twice = digits_length digits bytes (ap result_ok decoded) in
+    (bytes, rw some (ap result_ok decoded), refl, omega (arith, length-append «data» bytes))
+
+-- a repetition that is more than there is room for
+pub repetition_too_long : (count digits sofar : List ℕ) (most : ℕ) → ((n : ℕ) → number_of count ≡ Some n → 1 ≤ n → most < length sofar + n)
+    → (bytes : List ℕ) → repeated count digits ≡ Some bytes → most < length sofar + length bytes
+repetition_too_long count digits sofar most long bytes h =
+    let parts = repeated_is count digits bytes h in
+    let more = long parts.n parts.counted parts.some in
+    omega (arith, parts.long_is)
+
+-- the count is known, and too large or 0
+pub counted_too_long : (count digits sofar : List ℕ) (most times : ℕ) → number_of count ≡ Some times → (times ≡ 0) ⊎ (most - length sofar < times) → length sofar ≤ most
+    → (bytes : List ℕ) → repeated count digits ≡ Some bytes → most < length sofar + length bytes
+counted_too_long count digits sofar most times counted bad room =
+    repetition_too_long count digits sofar most (λ n is some. let same : times ≡ n = cc in elim bad [
+      | inl none ↦ absurd (omega arith)
+      | inr large ↦ omega arith
+    ])
+
+-- a repetition that was read, and fits
+pub repetition_taken : (count digits sofar byte : List ℕ) (most n : ℕ) → number_of count ≡ Some n → 1 ≤ n → n ≤ most - length sofar → length sofar ≤ most
+    → decode_sized digits 1 ≡ Ok byte → IsTaken (repeated count digits) sofar (sofar ++ replicate n (get_or byte 0 0)) most true
+repetition_taken count digits sofar byte most n counted some fits room decoded = (
+  replicate n (get_or byte 0 0),
+  repeated_gives count digits n byte counted some decoded,
+  refl,
+  omega (arith, length-append sofar (replicate n (get_or byte 0 0)), length-replicate {A = ℕ} n (get_or byte 0 0)),
+)
+
+-- what stands after a `*` has another one
+pub no_third_part : (count digits a b : List ℕ) → parts_of 42 digits ≡ a ∷ parts_of 42 b → (bytes : List ℕ) → piece_meaning (count ∷ parts_of 42 digits) ≡ Some bytes → ⊥
+no_third_part count digits a b h bytes is = let none = three_parts count digits a b h in cc

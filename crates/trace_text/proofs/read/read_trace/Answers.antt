@@ -1,0 +1,54 @@
+use Rattle.std.proofs.Common.{◌≡◌, ◌+◌, length, sym, ◌∙◌}
+use Rattle.std.proofs.lemmas.Result.{err_from_is_err_and}
+use Rattle.std.proofs.lemmas.Bool.{eqb-true}
+use Rattle.std.proofs.lemmas.List.{nil_from_length}
+use Rattle.trace_text.proofs.SoFar.{so_far_none, so_far_lists, so_far_more, so_far_bad, so_far_missing, so_far_good, so_far_trace}
+use Rattle.trace_text.proofs.read.read_trace.Goals as goal
+
+pub returns-in_err-reader-clause-bad : goal.returns-in_err-reader-clause-bad
+returns-in_err-reader-clause-bad c =
+    let p = err_from_is_err_and c.from_residual.result c.from_residual.ensures.1 in
+    λ number is. absurd (let told = p.2 in cc)
+
+pub loop-rest-init : goal.loop-rest-init
+loop-rest-init c = so_far_none c.args.plan.now c.args.bytes.now c.in_ok-reader.reader c.in_ok-reader.ensures
+
+pub read_line-requires : goal.read_line-requires
+read_line-requires c = so_far_lists c.args.plan.now c.args.bytes.now c.loop-rest.rest.now c.loop-rest.number c.loop-rest.reader c.loop-rest.invariant
+
+pub returns-in_err-read_line-clause-bad : goal.returns-in_err-read_line-clause-bad
+returns-in_err-read_line-clause-bad c =
+    let p = err_from_is_err_and c.from_residual-in_err-read_line.result c.from_residual-in_err-read_line.ensures.1 in
+    λ number is. absurd (let told = p.2 in cc)
+
+pub returns-then-not-branch-clause-bad : goal.returns-then-not-branch-clause-bad
+returns-then-not-branch-clause-bad c =
+    let bad = rw c.if-not-branch.true at c.in_ok-read_line.ensures in
+    λ number is.
+    let same : c.loop-rest.number + 1 ≡ number = cc in
+    rw (← same) (so_far_bad c.args.plan.now c.args.bytes.now c.loop-rest.rest.now c.next_line.result.0.now c.next_line.result.1.now c.loop-rest.number c.loop-rest.reader c.loop-rest.invariant c.next_line.ensures.lines bad)
+
+pub loop-rest-preserved : goal.loop-rest-preserved
+loop-rest-preserved c =
+    let taken = rw c.if-not-branch.false at c.in_ok-read_line.ensures in
+    so_far_more c.args.plan.now c.args.bytes.now c.loop-rest.rest.now c.next_line.result.0.now c.next_line.result.1.now c.loop-rest.number c.loop-rest.reader c.read_line.new.self c.loop-rest.invariant c.next_line.ensures.lines c.next_line.ensures.shorter taken
+
+pub returns-then-lacks_disk-clause-bad : goal.returns-then-lacks_disk-clause-bad
+returns-then-lacks_disk-clause-bad c =
+    let empty = nil_from_length c.loop-rest.rest.now (eqb-true (length c.loop-rest.rest.now) 0 (sym c.is_empty.ensures ∙ c.loop-rest-test.false)) in
+    let all = rw empty at c.loop-rest.invariant in
+    λ number is.
+    let same : c.loop-rest.number + 1 ≡ number = cc in
+    rw (← same) (so_far_missing c.args.plan.now c.args.bytes.now c.loop-rest.number c.loop-rest.reader all (sym c.lacks_disk.ensures ∙ c.if-lacks_disk.true))
+
+pub returns-clause-good : goal.returns-clause-good
+returns-clause-good c =
+    let empty = nil_from_length c.loop-rest.rest.now (eqb-true (length c.loop-rest.rest.now) 0 (sym c.is_empty.ensures ∙ c.loop-rest-test.false)) in
+    let all = rw empty at c.loop-rest.invariant in
+    so_far_good c.args.plan.now c.args.bytes.now c.loop-rest.number c.loop-rest.reader all (sym c.lacks_disk.ensures ∙ c.if-lacks_disk.false)
+
+pub returns-clause-trace : goal.returns-clause-trace
+returns-clause-trace c =
+    let empty = nil_from_length c.loop-rest.rest.now (eqb-true (length c.loop-rest.rest.now) 0 (sym c.is_empty.ensures ∙ c.loop-rest-test.false)) in
+    let all = rw empty at c.loop-rest.invariant in
+    so_far_trace c.args.plan.now c.args.bytes.now c.loop-rest.number c.loop-rest.reader all

@@ -1,0 +1,159 @@
+use Rattle.std.specs.Prelude.{ℕ, ◌*◌, ◌%◌, ◌==◌, ◌&&◌, nat_eq, nat_le, Bool, true, false, if◌then◌else◌, List, [], ◌∷◌, length, slice_index, slice_get, codes, Option, Some, None, is_some}
+use Rattle.std.specs.Option.{option_and_then, option_map_or}
+use Rattle.std.specs.List.{find}
+use Rattle.std.specs.Cmp.Lexicographic.{pointwise}
+use Rattle.cargo_core.specs.declared.item.Ask.{Ask}
+use Rattle.cargo_core.specs.declared.item.Code.{Code}
+use Rattle.cargo_core.specs.declared.item.Code.TheVariants as Asked
+use Rattle.sdf_model.specs.declared.plan.Plan.{Plan}
+use Rattle.sdf_model.specs.declared.plan.Domain.{Domain}
+use Rattle.sdf_model.specs.declared.plan.NetClient.{NetClient}
+use Rattle.sdf_model.specs.declared.plan.SerialClient.{SerialClient}
+use Rattle.sdf_model.specs.declared.plan.BlkClient.{BlkClient}
+use Rattle.frame_core.specs.Frames.{is_frame_of}
+use Rattle.trace_text.specs.declared.TheConstants.{INPUT_IS_PLAYED}
+use Rattle.trace_text.specs.Texts.{words_of, number_of, data_of}
+
+-- what a line says
+pub data Event : Type 0 where
+  -- nothing: the line is skipped
+  Skipped : Event
+  -- the next frame at the Ethernet device
+  Rx : List ℕ → Event
+  -- the next bytes at the UART
+  In : List ℕ → Event
+  -- the next frame of a network client
+  Send : ℕ → List ℕ → Event
+  -- the next bytes of a serial client
+  Say : ℕ → List ℕ → Event
+  -- the disk has so many sectors
+  Disk : ℕ → Event
+  -- the image's bytes from a place on are these
+  Patch : ℕ → List ℕ → Event
+  -- the next request of a block client
+  Request : ℕ → Ask → Event
+
+-- whether two texts are the same
+abbrev pub same_text : List ℕ → List ℕ → Bool
+same_text a b = pointwise nat_eq a b
+
+-- whether the first domain of a name runs a program
+abbrev pub runs : List Domain → List ℕ → List ℕ → Bool
+runs domains name program = option_map_or (λ d. same_text d.program program) (find (λ d. same_text d.name name) domains) false
+
+-- the clients of each class: none where the plan doesn't have the class
+abbrev pub net_clients : Plan → List NetClient
+net_clients plan = option_map_or (λ net. net.client) plan.net []
+
+abbrev pub serial_clients : Plan → List SerialClient
+serial_clients plan = option_map_or (λ serial. serial.client) plan.serial []
+
+abbrev pub blk_clients : Plan → List BlkClient
+blk_clients plan = option_map_or (λ blk. blk.client) plan.blk []
+
+-- whether the network client of a number sends frames of its own
+unfoldable pub is_source : Plan → ℕ → Bool
+is_source plan c = option_map_or (λ client. runs plan.protection_domain client.pd (codes "net_source")) (slice_get (net_clients plan) c) false
+
+-- whether the serial client of a number says bytes of its own
+unfoldable pub is_speaker : Plan → ℕ → Bool
+is_speaker plan c = option_map_or (λ client. runs plan.protection_domain client.pd (codes "serial_speaker")) (slice_get (serial_clients plan) c) false
+
+-- whether there is a block client of a number
+unfoldable pub is_blk_client : Plan → ℕ → Bool
+is_blk_client plan c = is_some (slice_get (blk_clients plan) c)
+
+-- an event that is there only where a condition holds
+abbrev pub kept_if : Bool → Option Event → Option Event
+kept_if holds event = if holds then event else None
+
+-- the event of a number, and that of bytes
+abbrev pub with_number : List ℕ → (ℕ → Option Event) → Option Event
+with_number word event = option_and_then event (number_of word)
+
+abbrev pub with_data : List ℕ → (List ℕ → Option Event) → Option Event
+with_data word event = option_and_then event (data_of word)
+
+-- `rx DATA`
+unfoldable pub rx_line : Plan → List ℕ → Option Event
+rx_line plan word = with_data word (λ frame. kept_if (is_some plan.net && is_frame_of frame) (Some (Event.Rx frame)))
+
+-- `in DATA`: bad until input is played
+unfoldable pub in_line : Plan → List ℕ → Option Event
+in_line plan word = with_data word (λ bytes. kept_if (INPUT_IS_PLAYED && is_some plan.serial) (Some (Event.In bytes)))
+
+-- `send C DATA`
+unfoldable pub send_line : Plan → List ℕ → List ℕ → Option Event
+send_line plan client word =
+    with_number client (λ c. with_data word (λ frame. kept_if (is_source plan c && is_frame_of frame) (Some (Event.Send c frame))))
+
+-- `say C DATA`
+unfoldable pub say_line : Plan → List ℕ → List ℕ → Option Event
+say_line plan client word = with_number client (λ c. with_data word (λ bytes. kept_if (is_speaker plan c) (Some (Event.Say c bytes))))
+
+-- `disk N`: a number of sectors that makes blocks of 4,096 bytes
+unfoldable pub disk_line : Plan → List ℕ → Option Event
+disk_line plan word =
+    with_number word (λ n. kept_if (is_some plan.blk && n % 8 == 0 && nat_le 8 n && nat_le n 65536) (Some (Event.Disk n)))
+
+-- `bytes AT DATA`
+unfoldable pub bytes_line : Plan → List ℕ → List ℕ → Option Event
+bytes_line plan place word = with_number place (λ at. with_data word (λ bytes. kept_if (is_some plan.blk) (Some (Event.Patch at bytes))))
+
+-- a request without bytes of its own
+abbrev pub bare_ask : Code → ℕ → ℕ → Ask
+bare_ask code block count = record { code = code; block = block; count = count; fill = [] }
+
+-- the code of a request that names no blocks
+abbrev pub order_code : List ℕ → Option Code
+order_code order =
+    if same_text order (codes "flush") then Some Asked.Flush
+    else if same_text order (codes "barrier") then Some Asked.Barrier
+    else None
+
+-- `blk C flush`, `blk C barrier`
+unfoldable pub order_line : Plan → List ℕ → List ℕ → Option Event
+order_line plan client order =
+    with_number client (λ c. option_and_then (λ code. kept_if (is_blk_client plan c) (Some (Event.Request c (bare_ask code 0 0)))) (order_code order))
+
+-- whether these blocks can be asked for
+abbrev pub is_reach : ℕ → ℕ → Bool
+is_reach block count = nat_le block 4294967295 && nat_le 1 count && nat_le count 8
+
+-- `blk C read B N`
+unfoldable pub read_line : Plan → List ℕ → List ℕ → List ℕ → Option Event
+read_line plan client first many =
+    with_number client (λ c. with_number first (λ block. with_number many (λ count.
+    kept_if (is_blk_client plan c && is_reach block count) (Some (Event.Request c (bare_ask Asked.Read block count))))))
+
+-- `blk C write B N DATA`
+unfoldable pub write_line : Plan → List ℕ → List ℕ → List ℕ → List ℕ → Option Event
+write_line plan client first many word =
+    with_number client (λ c. with_number first (λ block. with_number many (λ count. with_data word (λ bytes.
+    kept_if (is_blk_client plan c && is_reach block count && length bytes == count * 4096)
+    (Some (Event.Request c (record { code = Asked.Write; block = block; count = count; fill = bytes })))))))
+
+-- what the words of a line say: none where the line is bad by itself
+unfoldable pub words_say : Plan → List (List ℕ) → Option Event
+words_say plan (name ∷ a ∷ []) =
+    if same_text name (codes "rx") then rx_line plan a
+    else if same_text name (codes "in") then in_line plan a
+    else if same_text name (codes "disk") then disk_line plan a
+    else None
+words_say plan (name ∷ a ∷ b ∷ []) =
+    if same_text name (codes "send") then send_line plan a b
+    else if same_text name (codes "say") then say_line plan a b
+    else if same_text name (codes "bytes") then bytes_line plan a b
+    else if same_text name (codes "blk") then order_line plan a b
+    else None
+words_say plan (name ∷ a ∷ b ∷ c ∷ d ∷ []) = if same_text name (codes "blk") && same_text b (codes "read") then read_line plan a c d else None
+words_say plan (name ∷ a ∷ b ∷ c ∷ d ∷ e ∷ []) = if same_text name (codes "blk") && same_text b (codes "write") then write_line plan a c d e else None
+words_say plan _ = None
+
+-- whether a line is skipped: it is empty, or begins with `#`
+abbrev pub is_skipped : List ℕ → Bool
+is_skipped line = if length line == 0 then true else slice_index line 0 == 35
+
+-- what a line says: none where it is bad by itself
+unfoldable pub meaning : Plan → List ℕ → Option Event
+meaning plan line = if is_skipped line then Some Event.Skipped else words_say plan (words_of line)

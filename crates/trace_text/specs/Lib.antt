@@ -1,0 +1,4 @@
+pub mod Texts
+pub mod Events
+pub mod Traces
+pub mod Reading

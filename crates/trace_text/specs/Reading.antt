@@ -1,0 +1,78 @@
+use Rattle.std.specs.Prelude.{◌≡◌, ℕ, zero, suc, ◌+◌, ◌*◌, ◌^◌, ◌<◌, ◌≤◌, ◌==◌, ◌||◌, nat_le, nat_lt, Bool, false, if◌then◌else◌, List, [], ◌∷◌, ◌++◌, length, count_by, sum_by, replicate, Option, Some, None, MatchBool}
+use Rattle.cargo_core.specs.Lists.{replaced}
+use Rattle.sdf_model.specs.declared.plan.Plan.{Plan}
+use Rattle.trace_text.specs.declared.reader.Reader.{Reader}
+use Rattle.trace_text.specs.Events.{Event, net_clients, serial_clients, blk_clients}
+use Rattle.trace_text.specs.Traces.{trace_from, is_frame_line, is_request_line, is_disk_line, stream_bytes_in}
+
+-- the lists, with more at the end of the one of a number
+abbrev pub grown_at : {T : Type 0} → List (List T) → ℕ → List T → List (List T)
+grown_at [] c more = []
+grown_at (l ∷ rest) zero more = (l ++ more) ∷ rest
+grown_at (l ∷ rest) (suc c) more = l ∷ grown_at rest c more
+
+-- what the reader keeps after the lines that said these events
+abbrev pub reader_after : Plan → List Event → Reader
+reader_after plan events = record {
+  trace = trace_from plan events;
+  frame_lines = count_by is_frame_line events;
+  stream_bytes = sum_by stream_bytes_in events;
+  request_lines = count_by is_request_line events;
+  disk_lines = count_by is_disk_line events;
+}
+
+-- whether the reader refuses an event
+abbrev pub is_refused : Reader → Event → Bool
+is_refused r Event.Skipped = false
+is_refused r (Event.Rx frame) = nat_le 1024 r.frame_lines
+is_refused r (Event.Send c frame) = nat_le 1024 r.frame_lines
+is_refused r (Event.In bytes) = nat_lt 81920 (r.stream_bytes + length bytes)
+is_refused r (Event.Say c bytes) = nat_lt 81920 (r.stream_bytes + length bytes)
+is_refused r (Event.Disk sectors) = nat_lt 0 r.disk_lines
+is_refused r (Event.Patch at bytes) = r.disk_lines == 0 || nat_lt (length r.trace.image) (at + length bytes)
+is_refused r (Event.Request c ask) = nat_le 1024 r.request_lines
+
+-- what the reader keeps after an event that it takes
+abbrev pub grown : Reader → Event → Reader
+grown r Event.Skipped = r
+grown r (Event.Rx frame) = record r { trace = record r.trace { frames = r.trace.frames ++ frame ∷ [] }; frame_lines = r.frame_lines + 1 }
+grown r (Event.Send c frame) = record r { trace = record r.trace { sends = grown_at r.trace.sends c (frame ∷ []) }; frame_lines = r.frame_lines + 1 }
+grown r (Event.In bytes) = record r { trace = record r.trace { input = r.trace.input ++ bytes }; stream_bytes = r.stream_bytes + length bytes }
+grown r (Event.Say c bytes) = record r { trace = record r.trace { says = grown_at r.trace.says c bytes }; stream_bytes = r.stream_bytes + length bytes }
+grown r (Event.Disk sectors) = record r { trace = record r.trace { image = replicate (512 * sectors) 0 }; disk_lines = r.disk_lines + 1 }
+grown r (Event.Patch at bytes) = record r { trace = record r.trace { image = replaced r.trace.image at bytes } }
+grown r (Event.Request c ask) = record r { trace = record r.trace { asks = grown_at r.trace.asks c (ask ∷ []) }; request_lines = r.request_lines + 1 }
+
+-- what the reader keeps after a line of this meaning: none where the line is bad
+abbrev pub judged : Reader → Option Event → Option Reader
+judged r None = None
+judged r (Some event) = if is_refused r event then None else Some (grown r event)
+
+-- how a line was read: taken, or found bad
+abbrev pub IsRead : Reader → Reader → Bool → Option Event → Type 0
+IsRead old new good event = MatchBool good (judged old event ≡ Some new) (judged old event ≡ None)
+
+-- a number that no line can use: it isn't there, or is 2 ^ 64 or more
+abbrev pub IsNoneOrHuge : Option ℕ → Type 0
+IsNoneOrHuge number = (n : ℕ) → number ≡ Some n → 2 ^ 64 ≤ n
+
+-- DATA as it was read: its bytes, or none where it has none or more than so many
+abbrev pub IsData : Option (List ℕ) → ℕ → Option (List ℕ) → Type 0
+IsData «data» most None = (bytes : List ℕ) → «data» ≡ Some bytes → most < length bytes
+IsData «data» most (Some bytes) = («data» ≡ Some bytes) × (length bytes ≤ most)
+
+-- a piece as it was read: its bytes were appended, or it has none or too many
+abbrev pub IsTaken : Option (List ℕ) → List ℕ → List ℕ → ℕ → Bool → Type 0
+IsTaken piece old new most good =
+    MatchBool good ((bytes : List ℕ) × (piece ≡ Some bytes) × (new ≡ old ++ bytes) × (length new ≤ most))
+    ((bytes : List ℕ) → piece ≡ Some bytes → most < length old + length bytes)
+
+-- a number that isn't there, or isn't below a limit
+abbrev pub IsNoneOrFrom : ℕ → Option ℕ → Type 0
+IsNoneOrFrom limit number = (n : ℕ) → number ≡ Some n → limit ≤ n
+
+-- the reader has a list for each client of the plan
+pub record HasLists (plan : Plan) (r : Reader) : Type 0 where
+  pub sends : length r.trace.sends ≡ length (net_clients plan)
+  pub says : length r.trace.says ≡ length (serial_clients plan)
+  pub asks : length r.trace.asks ≡ length (blk_clients plan)

@@ -1,0 +1,19 @@
+//! Traces: what the devices receive and the clients ask for, one line each, and how a text of such lines is read.
+#![tactic(auto)]
+
+mod clients;
+mod data;
+mod line;
+mod lists;
+mod number;
+mod read;
+mod reader;
+mod text;
+mod trace;
+
+pub use cargo_core::Ask;
+pub use read::{TraceFault, read_trace};
+pub use trace::Trace;
+
+/// Whether `in` lines are read: where they are not, such a line is bad.
+pub const INPUT_IS_PLAYED: bool = false;

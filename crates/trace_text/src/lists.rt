@@ -1,0 +1,97 @@
+ghost use Rattle.std.specs.Prelude.{◌≡◌, ◌<◌, [], ◌∷◌, length, OnOk, IfOk};
+ghost use Rattle.trace_text.specs.Traces.{per_client};
+ghost use Rattle.trace_text.specs.Reading.{grown_at};
+
+use cargo_core::{Ask, Bytes, FrameLog, Memory, Series};
+use std::alloc::Global;
+use std::mem;
+
+// An empty list of frames for each client.
+#[tactic(auto, using(crate::proofs::Rows::per_client_more))]
+pub fn no_frames(alloc: Global, clients: usize) -> Result<Series<FrameLog>, Memory>
+    ensures { IfOk result (λ lists. lists ≡ per_client clients (λ _. [])) }
+{
+    let mut lists = Series::new(alloc);
+    for _client in 0..clients {
+        lists.push(FrameLog::new(alloc))?;
+    }
+    Ok(lists)
+}
+
+// No bytes for each client.
+#[tactic(auto, using(crate::proofs::Rows::per_client_more))]
+pub fn no_bytes(alloc: Global, clients: usize) -> Result<Series<Bytes>, Memory>
+    ensures { IfOk result (λ lists. lists ≡ per_client clients (λ _. [])) }
+{
+    let mut lists = Series::new(alloc);
+    for _client in 0..clients {
+        lists.push(Bytes::new(alloc))?;
+    }
+    Ok(lists)
+}
+
+// An empty list of requests for each client.
+#[tactic(auto, using(crate::proofs::Rows::per_client_more))]
+pub fn no_asks(alloc: Global, clients: usize) -> Result<Series<Series<Ask>>, Memory>
+    ensures { IfOk result (λ lists. lists ≡ per_client clients (λ _. [])) }
+{
+    let mut lists = Series::new(alloc);
+    for _client in 0..clients {
+        lists.push(Series::new(alloc))?;
+    }
+    Ok(lists)
+}
+
+// Gives a client one more frame. After want of memory the lists are gone.
+#[tactic(auto, using(crate::proofs::Rows::grown_at_set))]
+pub fn add_frame(
+    alloc: Global,
+    lists: &mut Series<FrameLog>,
+    client: usize,
+    frame: &[u8],
+) -> Result<(), Memory>
+    requires { client < length lists.old }
+    ensures { OnOk result (lists.new ≡ grown_at lists.old client (frame.now ∷ [])) }
+{
+    let mut all = mem::replace(lists, Series::new(alloc)).into_vec();
+    let list = &mut all[client];
+    list.push(frame)?;
+    *lists = Series::from_vec(all);
+    Ok(())
+}
+
+// Gives a client more bytes. After want of memory the lists are gone.
+#[tactic(auto, using(crate::proofs::Rows::grown_at_set))]
+pub fn add_bytes(
+    alloc: Global,
+    lists: &mut Series<Bytes>,
+    client: usize,
+    bytes: &[u8],
+) -> Result<(), Memory>
+    requires { client < length lists.old }
+    ensures { OnOk result (lists.new ≡ grown_at lists.old client bytes.now) }
+{
+    let mut all = mem::replace(lists, Series::new(alloc)).into_vec();
+    let list = &mut all[client];
+    list.extend_from_slice(bytes)?;
+    *lists = Series::from_vec(all);
+    Ok(())
+}
+
+// Gives a client one more request. After want of memory the lists are gone.
+#[tactic(auto, using(crate::proofs::Rows::grown_at_set))]
+pub fn add_ask(
+    alloc: Global,
+    lists: &mut Series<Series<Ask>>,
+    client: usize,
+    ask: Ask,
+) -> Result<(), Memory>
+    requires { client < length lists.old }
+    ensures { OnOk result (lists.new ≡ grown_at lists.old client (ask ∷ [])) }
+{
+    let mut all = mem::replace(lists, Series::new(alloc)).into_vec();
+    let list = &mut all[client];
+    list.push(ask)?;
+    *lists = Series::from_vec(all);
+    Ok(())
+}
