@@ -15,12 +15,19 @@ use Rattle.sdf_model.specs.declared.plan.SerialClient.{SerialClient}
 use Rattle.sdf_model.specs.declared.plan.Blk.{Blk}
 use Rattle.sdf_model.specs.declared.plan.BlkClient.{BlkClient}
 
+-- how many maps and interrupts a domain has, and how many ends a channel
+abbrev pub domain_parts : Domain → ℕ × ℕ
+domain_parts domain = (length domain.map, length domain.irq)
+
+abbrev pub channel_parts : Channel → ℕ
+channel_parts channel = length channel.end
+
 -- how many elements of each sort a plan has
 abbrev pub outline_of : Plan → Outline
 outline_of plan = record {
   regions = length plan.memory_region;
-  domains = map (λ (d : Domain). (length d.map, length d.irq)) plan.protection_domain;
-  channels = map (λ (c : Channel). length c.end) plan.channel;
+  domains = map domain_parts plan.protection_domain;
+  channels = map channel_parts plan.channel;
   net = option_map (λ (n : Net). length n.client) plan.net;
   serial = option_map (λ (s : Serial). length s.client) plan.serial;
   blk = option_map (λ (b : Blk). length b.client) plan.blk;

@@ -1,4 +1,10 @@
 pub mod Elements
+pub mod Lookups
+pub mod Meetings
 pub mod Names
+pub mod Priors
 pub mod Rules
+pub mod Sweeps
+pub mod Uses
 pub mod Valid
+pub mod Walks

@@ -10,11 +10,17 @@ use Rattle.sdf_model.specs.declared.plan.Blk.{Blk}
 use Rattle.sdf_model.specs.declared.plan.BlkClient.{BlkClient}
 
 -- the names of the regions, and of the domains, in file order
+abbrev pub region_names_of : List Region → List (List ℕ)
+region_names_of regions = map (λ (r : Region). r.name) regions
+
+abbrev pub domain_names_of : List Domain → List (List ℕ)
+domain_names_of domains = map (λ (d : Domain). d.name) domains
+
 abbrev pub region_names : Plan → List (List ℕ)
-region_names plan = map (λ (r : Region). r.name) plan.memory_region
+region_names plan = region_names_of plan.memory_region
 
 abbrev pub domain_names : Plan → List (List ℕ)
-domain_names plan = map (λ (d : Domain). d.name) plan.protection_domain
+domain_names plan = domain_names_of plan.protection_domain
 
 -- the place of the first of these names that is this one
 abbrev pub place_of : List ℕ → List (List ℕ) → Option ℕ
@@ -27,10 +33,9 @@ region_named plan name = place_of name (region_names plan)
 abbrev pub domain_named : Plan → List ℕ → Option ℕ
 domain_named plan name = place_of name (domain_names plan)
 
--- the value at this place of a list stands at an earlier place too
-abbrev pub RepeatsEarlier : {T : Type 0} → List T → ℕ → Type 0
-RepeatsEarlier {T} values at =
-    (earlier : ℕ) × (value : T) × (earlier < at) × (slice_get values earlier ≡ Some value) × (slice_get values at ≡ Some value)
+-- the value stands in a list before this place
+abbrev pub StandsBefore : {T : Type 0} → T → List T → ℕ → Type 0
+StandsBefore value values at = (earlier : ℕ) × (earlier < at) × (slice_get values earlier ≡ Some value)
 
 -- the regions that a class element names, by its keys in the order of the key table
 abbrev pub net_regions : Net → List (List ℕ)

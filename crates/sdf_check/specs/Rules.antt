@@ -7,12 +7,12 @@ use Rattle.sdf_model.specs.declared.plan.Region.{Region}
 use Rattle.sdf_model.specs.declared.plan.Map.{Map}
 use Rattle.sdf_model.specs.declared.plan.Irq.{Irq}
 use Rattle.sdf_check.specs.Elements.{OfRegion, OfDomain, OfMap, OfIrq, OfEnd, OfNetClient, OfSerialClient, OfBlkClient}
-use Rattle.sdf_check.specs.Names.{RepeatsEarlier, region_names, domain_names, region_named, domain_named, net_regions, net_client_regions, serial_regions, serial_client_regions, blk_regions, blk_client_regions, net_domains, net_client_domains, serial_domains, serial_client_domains, blk_domains, blk_client_domains}
+use Rattle.sdf_check.specs.Names.{StandsBefore, region_names, domain_names, region_named, domain_named, net_regions, net_client_regions, serial_regions, serial_client_regions, blk_regions, blk_client_regions, net_domains, net_client_domains, serial_domains, serial_client_domains, blk_domains, blk_client_domains}
 
 -- rule 5: a region has the name of an earlier region, or a domain that of an earlier domain
 abbrev pub TakesName : Plan → Place → Type 0
-TakesName plan (At.Region r) = RepeatsEarlier (region_names plan) r
-TakesName plan (At.Domain d) = RepeatsEarlier (domain_names plan) d
+TakesName plan (At.Region r) = OfRegion plan r (λ region. StandsBefore region.name (region_names plan) r)
+TakesName plan (At.Domain d) = OfDomain plan d (λ domain. StandsBefore domain.name (domain_names plan) d)
 TakesName plan _ = ⊥
 
 -- rule 6: there are 63 domains before this one
@@ -165,7 +165,8 @@ EarlierEndHas plan channel end d id =
 
 -- rule 19: an id was used before in the same domain, where the interrupts of all domains come before the ends
 abbrev pub TakesId : Plan → Place → Type 0
-TakesId plan (At.Irq d i) = OfDomain plan d (λ domain. RepeatsEarlier (map (λ (irq : Irq). irq.id) domain.irq) i)
+TakesId plan (At.Irq d i) =
+    OfDomain plan d (λ domain. IsSomeAnd (slice_get domain.irq i) (λ irq. StandsBefore irq.id (map (λ (other : Irq). other.id) domain.irq) i))
 TakesId plan (At.End c e) =
     OfEnd plan c e (λ end. IsSomeAnd (domain_named plan end.pd) (λ d. InterruptHas plan d end.id ⊎ EarlierEndHas plan c e d end.id))
 TakesId plan _ = ⊥
@@ -173,5 +174,5 @@ TakesId plan _ = ⊥
 -- rule 20: both ends of a channel name one domain
 abbrev pub JoinsOneDomain : Plan → Place → Type 0
 JoinsOneDomain plan (At.Channel c) =
-    (pd : List ℕ) × OfEnd plan c 0 (λ end. end.pd ≡ pd) × OfEnd plan c 1 (λ end. end.pd ≡ pd)
+    OfEnd plan c 0 (λ first. OfEnd plan c 1 (λ second. first.pd ≡ second.pd))
 JoinsOneDomain plan _ = ⊥

@@ -1,7 +1,9 @@
-use Rattle.std.specs.Prelude.{ℕ, ◌==◌, MatchBool}
+use Rattle.std.specs.Prelude.{ℕ, ◌==◌, MatchBool, ⊤, Result, Ok, Err}
 use Rattle.sdf_model.specs.Places.{walk, KeepsRules, IsRefusal}
 use Rattle.sdf_model.specs.declared.place.Place.{Place}
 use Rattle.sdf_model.specs.declared.place.Refusal.{Refusal}
+use Rattle.sdf_model.specs.declared.place.SdfFault.{SdfFault}
+use Rattle.sdf_model.specs.declared.place.SdfFault.TheVariants as Fault
 use Rattle.sdf_model.specs.declared.plan.Plan.{Plan}
 use Rattle.sdf_check.specs.Elements.{outline_of}
 use Rattle.sdf_check.specs.Rules.{TakesName, IsPastLastDomain, HasPriorityTooHigh, HasPeriodTooShort, HasBadSize, HasBadPageSize, HasBadPhysAddr, MeetsGivenRange, NamesNoRegion, HasBadVaddr, MeetsMap, HasBadPerms, NamesNoDomain, HasIdTooHigh, TakesId, JoinsOneDomain}
@@ -32,3 +34,9 @@ Valid plan = KeepsRules (broken plan) (walk (outline_of plan)) first_rule last_r
 -- the least rule that a plan breaks, at the first element that breaks it
 abbrev pub IsRefused : Plan → Refusal → Type 0
 IsRefused plan refusal = IsRefusal (broken plan) (walk (outline_of plan)) first_rule last_rule refusal
+
+-- this holds of the refusal, where the answer is one
+abbrev pub IfRefused : {T : Type 0} → Result T SdfFault → (Refusal → Type 0) → Type 0
+IfRefused (Ok answer) P = ⊤
+IfRefused (Err Fault.Memory) P = ⊤
+IfRefused (Err (Fault.Refused refusal)) P = P refusal

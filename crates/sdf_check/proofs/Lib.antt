@@ -1,0 +1,9 @@
+pub mod WalkLemmas
+pub mod NameLemmas
+pub mod RuleLemmas
+pub mod SweepLemmas
+pub mod UseLemmas
+pub mod ListLemmas
+pub mod MeetingLemmas
+pub mod SoughtLemmas
+pub mod PriorLemmas

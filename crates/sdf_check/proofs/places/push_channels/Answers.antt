@@ -1,0 +1,7 @@
+use Rattle.sdf_check.proofs.WalkLemmas.{channels-step}
+use Rattle.sdf_check.proofs.places.push_channels.Goals as goal
+
+pub loop-at-preserved : goal.loop-at-preserved
+loop-at-preserved c =
+    channels-step _ _ _ _ _ _ _ _ _ c.loop-at-test.true c.index-channels-at.is c.in_ok-number.ensures c.len.ensures c.in_ok-push.ensures.items
+    c.in_ok-push_members.ensures c.loop-at.invariant

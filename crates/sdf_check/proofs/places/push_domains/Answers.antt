@@ -1,0 +1,7 @@
+use Rattle.sdf_check.proofs.WalkLemmas.{domains-step}
+use Rattle.sdf_check.proofs.places.push_domains.Goals as goal
+
+pub loop-at-preserved : goal.loop-at-preserved
+loop-at-preserved c =
+    domains-step _ _ _ _ _ _ _ _ _ _ _ c.loop-at-test.true c.index-domains-at.is c.in_ok-number.ensures c.len.ensures c.len-in-loop-at.ensures c.in_ok-push.ensures.items
+    c.in_ok-push_members.ensures c.in_ok-push_members-2.ensures c.loop-at.invariant

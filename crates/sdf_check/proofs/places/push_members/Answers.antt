@@ -1,0 +1,7 @@
+use Rattle.sdf_check.specs.Walks.{member}
+use Rattle.sdf_check.proofs.WalkLemmas.{members-step}
+use Rattle.sdf_check.proofs.places.push_members.Goals as goal
+
+pub loop-number-preserved : goal.loop-number-preserved
+loop-number-preserved c =
+    members-step (member c.args.sort) _ _ _ _ _ c.loop-number-test.true (rw (← c.in_ok-number_of.ensures, ← c.member.ensures) c.in_ok-push.ensures.items) c.loop-number.invariant

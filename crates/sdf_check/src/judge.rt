@@ -1,0 +1,396 @@
+ghost use Rattle.std.specs.Prelude.{◌≡◌, ◌↔◌, ◌^◌, ℕ, List, map, length, IsTrue, Some, None, MatchOption, slice_get};
+ghost use Rattle.sdf_check.specs.Lookups.{FindsPlaces};
+ghost use Rattle.sdf_check.specs.Names.{region_names, domain_names, region_named, domain_named, StandsBefore};
+ghost use Rattle.sdf_check.specs.Rules.{TakesName, IsPastLastDomain, HasPriorityTooHigh, HasPeriodTooShort, HasBadSize, HasBadPageSize, HasBadPhysAddr, NamesNoRegion, HasBadVaddr, HasBadPerms, NamesNoDomain, HasIdTooHigh, JoinsOneDomain, MissesRegion, MissesDomain, the_region};
+
+use crate::names::{Places, place_of};
+use crate::numbers::{are_permissions, ends_above, is_multiple, is_page_size};
+use crate::uses::Uses;
+use cargo_core::Series;
+use sdf_model::{Place, Plan, Region};
+
+/// What is found out once about the ranges and the ids of a plan.
+#[derive(Drop)]
+pub struct Tables {
+    /// The first region whose given range meets an earlier one.
+    pub given: Option<usize>,
+    /// For each domain the first of its maps that meets an earlier one.
+    pub maps: Series<Option<usize>>,
+    /// For each domain and id the first end that has them.
+    pub uses: Uses,
+}
+
+/// A plan with what its names are the names of.
+#[derive(Drop)]
+pub struct Judge<'a> {
+    pub plan: &'a Plan,
+    pub regions: Places<'a>,
+    pub domains: Places<'a>,
+    ghost regions_found: { FindsPlaces regions (region_names plan.now) },
+    ghost domains_found: { FindsPlaces domains (domain_names plan.now) },
+}
+
+/// The element at a place in file order.
+pub fn at<T>(items: &Series<T>, number: u32) -> Option<&T>
+    ensures { MatchOption result (slice_get items.now number ≡ None) (λ item. slice_get items.now number ≡ Some item.now) }
+{
+    nth(items, number as usize)
+}
+
+/// The element at a place of a list.
+pub fn nth<T>(items: &Series<T>, at: usize) -> Option<&T>
+    ensures { MatchOption result (slice_get items.now at ≡ None) (λ item. slice_get items.now at ≡ Some item.now) }
+{
+    if at < items.len() {
+        Some(items.get(at))
+    } else {
+        None
+    }
+}
+
+fn is_same(first: &str, second: &str) -> bool
+    ensures { IsTrue result ↔ (first.now ≡ second.now) }
+{
+    first == second
+}
+
+// Whether a name stands before a place.
+fn stands_before(places: &Places<'_>, name: &str, number: u32) -> bool
+    ensures { (names : List (List ℕ)) → FindsPlaces places.now names → (IsTrue result ↔ StandsBefore name.now names number) }
+{
+    match place_of(places, name) {
+        Some(first) => first < number as usize,
+        None => false,
+    }
+}
+
+impl Judge<'_> {
+    fn misses_region(&self, names: &[&str]) -> bool
+        ensures { IsTrue result ↔ MissesRegion self.now.plan.now (map (λ name. name.now) names.now) }
+    {
+        for name in names {
+            if place_of(&self.regions, *name).is_none() {
+                return true;
+            }
+        }
+        false
+    }
+
+    fn misses_domain(&self, names: &[&str]) -> bool
+        ensures { IsTrue result ↔ MissesDomain self.now.plan.now (map (λ name. name.now) names.now) }
+    {
+        for name in names {
+            if place_of(&self.domains, *name).is_none() {
+                return true;
+            }
+        }
+        false
+    }
+
+    /// The region that has a name.
+    pub fn region(&self, name: &str) -> Option<&Region>
+        ensures { MatchOption result (the_region self.now.plan.now name.now ≡ None) (λ region. the_region self.now.plan.now name.now ≡ Some region.now) }
+    {
+        match place_of(&self.regions, name) {
+            Some(at) => self.plan.memory_region.as_slice().get(at),
+            None => None,
+        }
+    }
+
+    pub fn takes_name(&self, place: Place) -> bool
+        ensures { IsTrue result ↔ TakesName self.now.plan.now place }
+    {
+        match place {
+            Place::Region(r) => match at(&self.plan.memory_region, r) {
+                Some(region) => stands_before(&self.regions, region.name.as_str(), r),
+                None => false,
+            },
+            Place::Domain(d) => match at(&self.plan.protection_domain, d) {
+                Some(domain) => stands_before(&self.domains, domain.name.as_str(), d),
+                None => false,
+            },
+            _ => false,
+        }
+    }
+
+    pub fn is_past_last_domain(&self, place: Place) -> bool
+        ensures { IsTrue result ↔ IsPastLastDomain self.now.plan.now place }
+    {
+        match place {
+            Place::Domain(d) => d >= 63 && (d as usize) < self.plan.protection_domain.len(),
+            _ => false,
+        }
+    }
+
+    pub fn has_priority_too_high(&self, place: Place) -> bool
+        ensures { IsTrue result ↔ HasPriorityTooHigh self.now.plan.now place }
+    {
+        match place {
+            Place::Domain(d) => match at(&self.plan.protection_domain, d) {
+                Some(domain) => domain.priority > 254,
+                None => false,
+            },
+            _ => false,
+        }
+    }
+
+    pub fn has_period_too_short(&self, place: Place) -> bool
+        ensures { IsTrue result ↔ HasPeriodTooShort self.now.plan.now place }
+    {
+        match place {
+            Place::Domain(d) => match at(&self.plan.protection_domain, d) {
+                Some(domain) => domain.period < domain.budget,
+                None => false,
+            },
+            _ => false,
+        }
+    }
+
+    pub fn has_bad_size(&self, place: Place) -> bool
+        ensures { IsTrue result ↔ HasBadSize self.now.plan.now place }
+    {
+        match place {
+            Place::Region(r) => match at(&self.plan.memory_region, r) {
+                Some(region) => {
+                    region.size == 0
+                        || region.size > 0x4000_0000
+                        || is_page_size(region.page_size)
+                            && !is_multiple(region.size, region.page_size)
+                }
+                None => false,
+            },
+            _ => false,
+        }
+    }
+
+    pub fn has_bad_page_size(&self, place: Place) -> bool
+        ensures { IsTrue result ↔ HasBadPageSize self.now.plan.now place }
+    {
+        match place {
+            Place::Region(r) => match at(&self.plan.memory_region, r) {
+                Some(region) => !is_page_size(region.page_size),
+                None => false,
+            },
+            _ => false,
+        }
+    }
+
+    pub fn has_bad_phys_addr(&self, place: Place) -> bool
+        ensures { IsTrue result ↔ HasBadPhysAddr self.now.plan.now place }
+    {
+        match place {
+            Place::Region(r) => match at(&self.plan.memory_region, r) {
+                Some(region) => match region.phys_addr {
+                    Some(base) => !is_multiple(base, region.page_size)
+                        || ends_above(base, region.size, 1 << 40),
+                    None => false,
+                },
+                None => false,
+            },
+            _ => false,
+        }
+    }
+
+    pub fn has_id_too_high(&self, place: Place) -> bool
+        ensures { IsTrue result ↔ HasIdTooHigh self.now.plan.now place }
+    {
+        match place {
+            Place::Irq(d, i) => match at(&self.plan.protection_domain, d) {
+                Some(domain) => match at(&domain.irq, i) {
+                    Some(irq) => irq.id > 62,
+                    None => false,
+                },
+                None => false,
+            },
+            Place::End(c, e) => match at(&self.plan.channel, c) {
+                Some(channel) => match at(&channel.end, e) {
+                    Some(end) => end.id > 62,
+                    None => false,
+                },
+                None => false,
+            },
+            _ => false,
+        }
+    }
+
+    pub fn has_bad_vaddr(&self, place: Place) -> bool
+        ensures { IsTrue result ↔ HasBadVaddr self.now.plan.now place }
+    {
+        match place {
+            Place::Map(d, m) => match at(&self.plan.protection_domain, d) {
+                Some(domain) => match at(&domain.map, m) {
+                    Some(map) => match self.region(map.mr.as_str()) {
+                        Some(region) => {
+                            !is_multiple(map.vaddr, region.page_size)
+                                || ends_above(map.vaddr, region.size, 1 << 38)
+                        }
+                        None => false,
+                    },
+                    None => false,
+                },
+                None => false,
+            },
+            _ => false,
+        }
+    }
+
+    pub fn has_bad_perms(&self, place: Place) -> bool
+        ensures { IsTrue result ↔ HasBadPerms self.now.plan.now place }
+    {
+        match place {
+            Place::Map(d, m) => match at(&self.plan.protection_domain, d) {
+                Some(domain) => match at(&domain.map, m) {
+                    Some(map) => !are_permissions(map.perms.as_str()),
+                    None => false,
+                },
+                None => false,
+            },
+            _ => false,
+        }
+    }
+
+    pub fn names_no_region(&self, place: Place) -> bool
+        ensures { IsTrue result ↔ NamesNoRegion self.now.plan.now place }
+    {
+        match place {
+            Place::Map(d, m) => match at(&self.plan.protection_domain, d) {
+                Some(domain) => match at(&domain.map, m) {
+                    Some(map) => self.misses_region(&[map.mr.as_str()]),
+                    None => false,
+                },
+                None => false,
+            },
+            Place::Net => match &self.plan.net {
+                Some(net) => {
+                    self.misses_region(&[
+                        net.rx_region.as_str(),
+                        net.rx_queues.as_str(),
+                        net.tx_queues.as_str(),
+                    ])
+                }
+                None => false,
+            },
+            Place::NetClient(c) => match &self.plan.net {
+                Some(net) => match at(&net.client, c) {
+                    Some(client) => self.misses_region(&[
+                        client.lease_queues.as_str(),
+                        client.rx_region.as_str(),
+                        client.rx_queues.as_str(),
+                        client.tx_region.as_str(),
+                        client.tx_queues.as_str(),
+                    ]),
+                    None => false,
+                },
+                None => false,
+            },
+            Place::Serial => match &self.plan.serial {
+                Some(serial) => self.misses_region(&[
+                    serial.rx_queues.as_str(),
+                    serial.tx_queues.as_str(),
+                ]),
+                None => false,
+            },
+            Place::SerialClient(c) => match &self.plan.serial {
+                Some(serial) => match at(&serial.client, c) {
+                    Some(client) => self.misses_region(&[
+                        client.rx_queues.as_str(),
+                        client.tx_queues.as_str(),
+                    ]),
+                    None => false,
+                },
+                None => false,
+            },
+            Place::Blk => match &self.plan.blk {
+                Some(blk) => self.misses_region(&[blk.queues.as_str(), blk.region.as_str()]),
+                None => false,
+            },
+            Place::BlkClient(c) => match &self.plan.blk {
+                Some(blk) => match at(&blk.client, c) {
+                    Some(client) => self.misses_region(&[
+                        client.region.as_str(),
+                        client.queues.as_str(),
+                    ]),
+                    None => false,
+                },
+                None => false,
+            },
+            _ => false,
+        }
+    }
+
+    pub fn names_no_domain(&self, place: Place) -> bool
+        ensures { IsTrue result ↔ NamesNoDomain self.now.plan.now place }
+    {
+        match place {
+            Place::End(c, e) => match at(&self.plan.channel, c) {
+                Some(channel) => match at(&channel.end, e) {
+                    Some(end) => self.misses_domain(&[end.pd.as_str()]),
+                    None => false,
+                },
+                None => false,
+            },
+            Place::Net => match &self.plan.net {
+                Some(net) => self.misses_domain(&[
+                    net.driver.as_str(),
+                    net.rx_virt.as_str(),
+                    net.tx_virt.as_str(),
+                ]),
+                None => false,
+            },
+            Place::NetClient(c) => match &self.plan.net {
+                Some(net) => match at(&net.client, c) {
+                    Some(client) => self.misses_domain(&[
+                        client.pd.as_str(),
+                        client.copier.as_str(),
+                    ]),
+                    None => false,
+                },
+                None => false,
+            },
+            Place::Serial => match &self.plan.serial {
+                Some(serial) => {
+                    self.misses_domain(&[
+                        serial.driver.as_str(),
+                        serial.rx_virt.as_str(),
+                        serial.tx_virt.as_str(),
+                    ])
+                }
+                None => false,
+            },
+            Place::SerialClient(c) => match &self.plan.serial {
+                Some(serial) => match at(&serial.client, c) {
+                    Some(client) => self.misses_domain(&[client.pd.as_str()]),
+                    None => false,
+                },
+                None => false,
+            },
+            Place::Blk => match &self.plan.blk {
+                Some(blk) => self.misses_domain(&[blk.driver.as_str(), blk.virt.as_str()]),
+                None => false,
+            },
+            Place::BlkClient(c) => match &self.plan.blk {
+                Some(blk) => match at(&blk.client, c) {
+                    Some(client) => self.misses_domain(&[client.pd.as_str()]),
+                    None => false,
+                },
+                None => false,
+            },
+            _ => false,
+        }
+    }
+
+    pub fn joins_one_domain(&self, place: Place) -> bool
+        ensures { IsTrue result ↔ JoinsOneDomain self.now.plan.now place }
+    {
+        match place {
+            Place::Channel(c) => match at(&self.plan.channel, c) {
+                Some(channel) => match (at(&channel.end, 0), at(&channel.end, 1)) {
+                    (Some(first), Some(second)) => is_same(first.pd.as_str(), second.pd.as_str()),
+                    _ => false,
+                },
+                None => false,
+            },
+            _ => false,
+        }
+    }
+}

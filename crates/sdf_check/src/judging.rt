@@ -1,0 +1,112 @@
+ghost use Rattle.std.specs.Prelude.{◌≡◌, ◌↔◌, ℕ, MatchOption, MatchResult, IsTrue, Ok, IfOk, OnOk};
+ghost use Rattle.std.specs.BTreeMap.{get};
+ghost use Rattle.sdf_model.specs.Places.{walk, IsKept, IsFirstBroken};
+ghost use Rattle.sdf_check.specs.Elements.{outline_of};
+ghost use Rattle.sdf_check.specs.Priors.{OrPrior, AreTables};
+ghost use Rattle.sdf_check.specs.Valid.{Valid, IsRefused, IfRefused, broken};
+
+use crate::judge::{Judge, Tables};
+use crate::names::{domains_by_name, regions_by_name};
+use crate::places::places_of;
+use crate::sought::{meets_given_range, meets_map, takes_id};
+use crate::tables::{first_given, first_maps};
+use crate::uses::uses_of;
+use cargo_core::{Memory, Series};
+use sdf_model::{Place, Plan, Refusal, SdfFault};
+use std::alloc::Global;
+
+/// The first rule that a plan is judged by; the reader of descriptions judges those before.
+const FIRST_RULE: u8 = 5;
+
+/// The last rule.
+const LAST_RULE: u8 = 20;
+
+fn judge_of<'a>(alloc: Global, plan: &'a Plan) -> Result<Judge<'a>, Memory>
+    ensures { IfOk result (λ judge. judge.plan.now ≡ plan.now) }
+{
+    Ok(Judge {
+        plan,
+        regions: regions_by_name(alloc, plan.memory_region.as_slice())?,
+        domains: domains_by_name(alloc, plan.protection_domain.as_slice())?,
+    })
+}
+
+fn tables_of(alloc: Global, judge: &Judge<'_>) -> Result<Tables, Memory>
+    ensures { IfOk result (λ tables. AreTables tables judge.now.plan.now) }
+{
+    let given = first_given(alloc, judge.plan.memory_region.as_slice())?;
+    let maps = Series::from_vec(first_maps(alloc, judge)?);
+    let uses = uses_of(alloc, judge.plan, &judge.domains)?;
+    Ok(Tables { given, maps, uses })
+}
+
+// Whether the element at a place breaks a rule. Where no place prior to it does, the answer is exact.
+fn breaks(judge: &Judge<'_>, tables: &Tables, rule: u8, place: Place) -> bool
+    requires { AreTables tables.now judge.now.plan.now }
+    ensures complete { broken judge.now.plan.now rule place → IsTrue result }
+    ensures sound { IsTrue result → OrPrior (broken judge.now.plan.now rule) place }
+{
+    match rule {
+        5 => judge.takes_name(place),
+        6 => judge.is_past_last_domain(place),
+        7 => judge.has_priority_too_high(place),
+        8 => judge.has_period_too_short(place),
+        9 => judge.has_bad_size(place),
+        10 => judge.has_bad_page_size(place),
+        11 => judge.has_bad_phys_addr(place),
+        12 => meets_given_range(judge, tables, place),
+        13 => judge.names_no_region(place),
+        14 => judge.has_bad_vaddr(place),
+        15 => meets_map(judge, tables, place),
+        16 => judge.has_bad_perms(place),
+        17 => judge.names_no_domain(place),
+        18 => judge.has_id_too_high(place),
+        19 => takes_id(judge, tables, place),
+        20 => judge.joins_one_domain(place),
+        _ => false,
+    }
+}
+
+// The first place that breaks a rule.
+fn first_broken(judge: &Judge<'_>, tables: &Tables, rule: u8, places: &[Place]) -> Option<Place>
+    requires tables { AreTables tables.now judge.now.plan.now }
+    requires all { places.now ≡ walk (outline_of judge.now.plan.now) }
+    ensures { MatchOption result (IsKept (broken judge.now.plan.now rule) (walk (outline_of judge.now.plan.now)))
+        (λ place. IsFirstBroken (broken judge.now.plan.now rule) (walk (outline_of judge.now.plan.now)) place) }
+{
+    for place in places {
+        if breaks(judge, tables, rule, *place) {
+            return Some(*place);
+        }
+    }
+    None
+}
+
+// The least rule that is broken, at the first place that breaks it.
+fn refusal_of(alloc: Global, plan: &Plan) -> Result<Option<Refusal>, Memory>
+    ensures { IfOk result (λ refusal. MatchOption refusal (Valid plan.now) (IsRefused plan.now)) }
+{
+    let judge = judge_of(alloc, plan)?;
+    let tables = tables_of(alloc, &judge)?;
+    let places = places_of(alloc, plan)?;
+    for rule in FIRST_RULE..LAST_RULE + 1 {
+        if let Some(place) = first_broken(&judge, &tables, rule, &places) {
+            return Ok(Some(Refusal { rule, place }));
+        }
+    }
+    Ok(None)
+}
+
+/// Judges a plan by the rules on names, limits, sizes, ranges, permissions and ids. `Refused` has the least rule that
+/// an element breaks, and the first element that breaks it, in the order of the walk over a description. Want of
+/// memory, which a list of 2^32 elements counts as too, may come at any plan.
+pub fn check(alloc: Global, plan: &Plan) -> Result<(), SdfFault>
+    ensures valid { OnOk result (Valid plan.now) }
+    ensures refused { IfRefused result (IsRefused plan.now) }
+{
+    match refusal_of(alloc, plan) {
+        Ok(None) => Ok(()),
+        Ok(Some(refusal)) => Err(SdfFault::Refused(refusal)),
+        Err(Memory) => Err(SdfFault::Memory),
+    }
+}

@@ -1,0 +1,141 @@
+ghost use Rattle.std.specs.Prelude.{◌≡◌, ◌++◌, ◌∷◌, List, length, map, IfOk, OnOk, Option};
+ghost use Rattle.std.specs.Option.{option_map};
+ghost use Rattle.sdf_model.specs.Places.{walk, places_from, domain_places, channel_places, class_places};
+ghost use Rattle.sdf_model.specs.declared.place.Place.{Place};
+ghost use Rattle.sdf_check.specs.Elements.{outline_of, domain_parts, channel_parts};
+ghost use Rattle.sdf_check.specs.Walks.{member};
+
+use cargo_core::Memory;
+use sdf_model::{Channel, Domain, Place, Plan};
+use std::alloc::Global;
+
+/// A sort of elements that are told apart by a number.
+#[derive(Clone, Copy)]
+pub enum Sort {
+    Region,
+    Map(u32),
+    Irq(u32),
+    End(u32),
+    NetClient,
+    SerialClient,
+    BlkClient,
+}
+
+// The element of this sort with this number.
+fn member(sort: Sort, number: u32) -> Place
+    ensures { result ≡ member sort number }
+{
+    match sort {
+        Sort::Region => Place::Region(number),
+        Sort::Map(domain) => Place::Map(domain, number),
+        Sort::Irq(domain) => Place::Irq(domain, number),
+        Sort::End(channel) => Place::End(channel, number),
+        Sort::NetClient => Place::NetClient(number),
+        Sort::SerialClient => Place::SerialClient(number),
+        Sort::BlkClient => Place::BlkClient(number),
+    }
+}
+
+// A place's number. A list of 2^32 elements, for which there is no number, counts as want of memory.
+fn number_of(at: usize) -> Result<u32, Memory>
+    ensures { IfOk result (λ number. number ≡ at) }
+{
+    match u32::try_from(at) {
+        Ok(number) => Ok(number),
+        Err(_) => Err(Memory),
+    }
+}
+
+fn push_members(places: &mut Vec<Place>, sort: Sort, count: usize) -> Result<(), Memory>
+    ensures { OnOk result (places.new.items ≡ places.old.items ++ places_from (member sort) 0 count) }
+{
+    for number in 0..count {
+        places.push(member(sort, number_of(number)?))?;
+    }
+    Ok(())
+}
+
+fn push_domains(places: &mut Vec<Place>, domains: &[Domain]) -> Result<(), Memory>
+    ensures { OnOk result (places.new.items ≡ places.old.items ++ domain_places 0 (map domain_parts domains.now)) }
+{
+    for (at, domain) in domains.iter().enumerate() {
+        let number = number_of(at)?;
+        places.push(Place::Domain(number))?;
+        push_members(places, Sort::Map(number), domain.map.len())?;
+        push_members(places, Sort::Irq(number), domain.irq.len())?;
+    }
+    Ok(())
+}
+
+fn push_channels(places: &mut Vec<Place>, channels: &[Channel]) -> Result<(), Memory>
+    ensures { OnOk result (places.new.items ≡ places.old.items ++ channel_places 0 (map channel_parts channels.now)) }
+{
+    for (at, channel) in channels.iter().enumerate() {
+        let number = number_of(at)?;
+        places.push(Place::Channel(number))?;
+        push_members(places, Sort::End(number), channel.end.len())?;
+    }
+    Ok(())
+}
+
+fn push_class(
+    places: &mut Vec<Place>,
+    class: Place,
+    sort: Sort,
+    clients: Option<usize>,
+) -> Result<(), Memory>
+    ensures { OnOk result (places.new.items ≡ places.old.items ++ class_places class (member sort) clients) }
+{
+    if let Some(count) = clients {
+        places.push(class)?;
+        push_members(places, sort, count)?;
+    }
+    Ok(())
+}
+
+fn net_clients(plan: &Plan) -> Option<usize>
+    ensures { result ≡ (outline_of plan.now).net }
+{
+    match &plan.net {
+        Some(net) => Some(net.client.len()),
+        None => None,
+    }
+}
+
+fn serial_clients(plan: &Plan) -> Option<usize>
+    ensures { result ≡ (outline_of plan.now).serial }
+{
+    match &plan.serial {
+        Some(serial) => Some(serial.client.len()),
+        None => None,
+    }
+}
+
+fn blk_clients(plan: &Plan) -> Option<usize>
+    ensures { result ≡ (outline_of plan.now).blk }
+{
+    match &plan.blk {
+        Some(blk) => Some(blk.client.len()),
+        None => None,
+    }
+}
+
+/// All elements of a plan, in the order in which a rule is read.
+pub fn places_of(alloc: Global, plan: &Plan) -> Result<Vec<Place>, Memory>
+    ensures { IfOk result (λ places. places.items ≡ walk (outline_of plan.now)) }
+{
+    let mut places = Vec::new(alloc);
+    places.push(Place::System)?;
+    push_members(&mut places, Sort::Region, plan.memory_region.len())?;
+    push_domains(&mut places, plan.protection_domain.as_slice())?;
+    push_channels(&mut places, plan.channel.as_slice())?;
+    push_class(&mut places, Place::Net, Sort::NetClient, net_clients(plan))?;
+    push_class(
+        &mut places,
+        Place::Serial,
+        Sort::SerialClient,
+        serial_clients(plan),
+    )?;
+    push_class(&mut places, Place::Blk, Sort::BlkClient, blk_clients(plan))?;
+    Ok(places)
+}
