@@ -1,9 +1,12 @@
+pub mod ClassRules
 pub mod Elements
 pub mod Lookups
 pub mod Meetings
 pub mod Names
 pub mod Priors
+pub mod Roles
 pub mod Rules
+pub mod Shares
 pub mod Sweeps
 pub mod Uses
 pub mod Valid

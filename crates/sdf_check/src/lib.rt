@@ -6,6 +6,7 @@ mod judging;
 mod names;
 mod numbers;
 mod places;
+mod role;
 mod sought;
 mod sweep;
 mod tables;
