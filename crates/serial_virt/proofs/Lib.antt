@@ -1,0 +1,6 @@
+pub mod Merging
+pub mod Counting
+pub mod Rounds
+pub mod Places
+pub mod Forgets
+pub mod Sharing

@@ -1,0 +1,10 @@
+use Rattle.std.specs.Prelude.{None}
+use Rattle.turn_kit.specs.declared.ends.Intake.{Intake}
+use Rattle.turn_kit.specs.declared.ends.Outlet.{Outlet}
+
+-- an end without its last look
+abbrev pub intake_forgotten : Intake → Intake
+intake_forgotten i = record i { kept = record i.kept { look = None } }
+
+abbrev pub outlet_forgotten : Outlet → Outlet
+outlet_forgotten o = record o { kept = record o.kept { look = None } }

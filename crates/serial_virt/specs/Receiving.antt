@@ -1,0 +1,90 @@
+use Rattle.std.specs.Prelude.{◌≡◌, ◌==◌, ◌≤◌, ℕ, Bool, ◌&&◌, Option, Some, None, is_some, is_none, List, [], ◌∷◌, ◌++◌, map, length, option_to_list, slice_get, if◌then◌else◌}
+use Rattle.std.specs.Option.{ForSome, option_map}
+use Rattle.cargo_core.specs.Items.{kind_of}
+use Rattle.cargo_core.specs.declared.item.QueueKind.TheVariants as Kind
+use Rattle.wire_core.specs.declared.names.QueueId.{QueueId}
+use Rattle.wire_core.specs.declared.names.Side.TheVariants.{Forward, Backward}
+use Rattle.wire_core.specs.Deeds.{Cargo}
+use Rattle.wire_core.specs.Lists.{Lists}
+use Rattle.wire_core.specs.Ends.{Role, Consumer, Producer, End}
+use Rattle.turn_kit.specs.Table.{Agrees, start_kept}
+use Rattle.turn_kit.specs.Turns.{Round}
+use Rattle.turn_kit.specs.Posts.{intake_post}
+use Rattle.turn_kit.specs.ManyEnds.{FitsOutlets, outlet_queues, outlet_posts, loads_from}
+use Rattle.turn_kit.specs.declared.ends.Outlet.{Outlet}
+use Rattle.serial_switch.specs.Carried.{byte_cargo, bytes_carried}
+use Rattle.serial_switch.specs.Switching.{input_of}
+use Rattle.serial_switch.specs.Standing.{StandsAfter}
+use Rattle.serial_virt.specs.declared.rx.SerialVirtRx.{SerialVirtRx}
+
+-- the virtualiser's ends are its own, and as it keeps them; all are queues of bytes
+pub record FitsRx (ends : Role → ℕ → End) (v : SerialVirtRx) : Type 0 where
+  pub input : Agrees (ends Consumer v.input.queue.0) v.input.kept
+  pub outputs : FitsOutlets ends v.outputs
+  pub hears : (ends Consumer v.input.queue.0).kind ≡ Kind.Byte
+  pub says : (k : ℕ) (q : QueueId) → slice_get (outlet_queues v.outputs) k ≡ Some q → (ends Producer q.0).kind ≡ Kind.Byte
+  pub load : ForSome v.load (λ c. kind_of c.0 ≡ Kind.Byte)
+
+-- what is owed to the client at a place
+abbrev pub owed_to : Option Cargo → (owner k : ℕ) → List Cargo
+owed_to load owner k = if owner == k then option_to_list load else []
+
+abbrev pub clients_of : SerialVirtRx → ℕ
+clients_of v = length (outlet_queues v.outputs)
+
+-- the switch has read all that was taken; each client was given its part of it, but for what is owed to it
+pub record RxStandsFor (v : SerialVirtRx) (taken sent : Lists) : Type 0 where
+  pub switched : StandsAfter (clients_of v) (bytes_carried (taken v.input.queue.0)) v.switch
+  pub given : (k : ℕ) (q : QueueId) → slice_get (outlet_queues v.outputs) k ≡ Some q → sent q.0 ++ owed_to v.load v.to k ≡ map byte_cargo (input_of (clients_of v) k (bytes_carried (taken v.input.queue.0)))
+
+-- each client was given its part of what was taken, but that over all clients at most one byte is owed
+pub record RxRow (v : SerialVirtRx) (taken sent : Lists) : Type 0 where
+  pub owner : ℕ
+  pub owed : List Cargo
+  pub few : length owed ≤ 1
+  pub given : (k : ℕ) (q : QueueId) → slice_get (outlet_queues v.outputs) k ≡ Some q → sent q.0 ++ (if owner == k then owed else []) ≡ map byte_cargo (input_of (clients_of v) k (bytes_carried (taken v.input.queue.0)))
+
+-- one of its ends
+abbrev pub RxEnd : SerialVirtRx → Role → ℕ → Type 0
+RxEnd v Consumer n = n ≡ v.input.queue.0
+RxEnd v Producer n = (k : ℕ) × (q : QueueId) × (slice_get (outlet_queues v.outputs) k ≡ Some q) × (n ≡ q.0)
+
+-- its queues, the input's first
+abbrev pub rx_queues : SerialVirtRx → List QueueId
+rx_queues v = v.input.queue ∷ outlet_queues v.outputs
+
+-- an end in its start state
+abbrev pub new_outlet : QueueId → Outlet
+new_outlet q = record { queue = q; kept = start_kept Backward }
+
+pub record IsNewRx (from : QueueId) (clients : List QueueId) (v : SerialVirtRx) : Type 0 where
+  pub input : v.input.queue ≡ from
+  pub input_kept : v.input.kept ≡ start_kept Forward
+  pub outputs : v.outputs.ends.items ≡ map new_outlet clients
+  pub switched : StandsAfter (length clients) [] v.switch
+  pub load : v.load ≡ None
+  pub last : v.turn.last ≡ 65535
+
+-- the place of the client that is owed a byte
+abbrev pub place_loaded : SerialVirtRx → Option ℕ
+place_loaded v = option_map (λ c. v.to) v.load
+
+abbrev pub is_owed_at : SerialVirtRx → ℕ → Bool
+is_owed_at v k = (k == v.to) && is_some v.load
+
+-- its ends: the input is needed while nothing is owed
+abbrev pub rx_round : SerialVirtRx → Round
+rx_round v = record {
+  posts = intake_post v.input ∷ outlet_posts v.outputs;
+  needs = is_none v.load ∷ loads_from (place_loaded v) 0 (outlet_queues v.outputs);
+  last = v.turn.last;
+}
+
+-- what is loaded, and for whom, where a client was given a byte or none was
+abbrev pub loaded_with : Option Cargo → Option (ℕ × ℕ) → Option Cargo
+loaded_with load None = load
+loaded_with load (Some g) = Some (byte_cargo g.1)
+
+abbrev pub owner_of : ℕ → Option (ℕ × ℕ) → ℕ
+owner_of to None = to
+owner_of to (Some g) = g.0

@@ -1,0 +1,205 @@
+ghost use Rattle.std.specs.Prelude.{◌≡◌, ◌==◌, ◌<◌, ◌+◌, ◌^◌, ℕ, List, [], ◌++◌, None, IfOk, IfSome, length, map, is_none, is_some, false, if◌then◌else◌};
+ghost use Rattle.std.specs.Option.{ForSome, option_to_list};
+ghost use Rattle.cargo_core.specs.Items.{kind_of};
+ghost use Rattle.wire_core.specs.Ends.{role_of, Role, End, Producer, Consumer};
+ghost use Rattle.wire_core.specs.Lists.{Lists, Stepped};
+ghost use Rattle.turn_kit.specs.Calls.{is_mark};
+ghost use Rattle.turn_kit.specs.Turns.{Turned, Posted, PostedAt, choice_of, chosen, last_after, is_at_rest};
+ghost use Rattle.turn_kit.specs.Posts.{intake_post};
+ghost use Rattle.turn_kit.specs.ManyEnds.{outlet_queues, outlet_posts};
+ghost use Rattle.serial_switch.specs.Carried.{bytes_carried, byte_cargo};
+ghost use Rattle.serial_switch.specs.Standing.{StandsAfter};
+ghost use Rattle.serial_switch.specs.Switching.{input_of, given_to};
+ghost use Rattle.serial_virt.specs.Forgetting.{intake_forgotten, outlet_forgotten};
+ghost use Rattle.serial_virt.specs.Receiving.{FitsRx, RxStandsFor, RxRow, RxEnd, IsNewRx, new_outlet, rx_queues, rx_round, loaded_with, owner_of, is_owed_at, place_loaded};
+
+use cargo_core::{Body, Item, Memory};
+use serial_switch::Switch;
+use std::alloc::Global;
+use turn_kit::{Intake, Outlet, Outlets, Turn};
+use wire_core::{Event, QueueId, Wires};
+
+/// Shares out what the driver received, by the selections that stand in it. `load` is the byte that it owes to the
+/// client at the place `to`; while that client has no room, it waits.
+#[derive(Drop)]
+pub struct SerialVirtRx {
+    pub input: Intake,
+    pub outputs: Outlets,
+    pub switch: Switch,
+    pub load: Option<(Item, Body)>,
+    pub to: usize,
+    pub turn: Turn,
+}
+
+// Ends in their start state.
+fn outlets(alloc: Global, queues: &[QueueId]) -> Result<Outlets, Memory>
+    ensures { IfOk result (λ o. o.ends.items ≡ map new_outlet queues.now) }
+{
+    let mut ends = Vec::with_capacity(alloc, queues.len())?;
+    for queue in queues {
+        ends.push(Outlet::new(*queue))?;
+    }
+    Ok(Outlets { ends })
+}
+
+// Discards the last look of each end.
+fn forget_outputs(outputs: &mut Outlets)
+    ensures { outputs.new.ends.items ≡ map outlet_forgotten outputs.old.ends.items }
+{
+    for k in 0..outputs.ends.len() {
+        let end = &mut outputs.ends[k];
+        end.forget();
+    }
+}
+
+// Reads what was taken, and answers the client that gets a byte for it.
+fn read(switch: &mut Switch, got: Option<(Item, Body)>) -> Option<(u32, u8)>
+    ensures after { (clients : ℕ) (input : List ℕ) → StandsAfter clients input switch.old
+        → StandsAfter clients (input ++ bytes_carried (option_to_list got)) switch.new }
+    ensures given { (clients : ℕ) (input : List ℕ) → StandsAfter clients input switch.old
+        → (client : ℕ) → input_of clients client (input ++ bytes_carried (option_to_list got)) ≡ input_of clients client input ++ given_to client result }
+    ensures known { (clients : ℕ) (input : List ℕ) → StandsAfter clients input switch.old → IfSome result (λ g. g.0 < clients) }
+    ensures none { got ≡ None → result ≡ None }
+{
+    match got {
+        Some((Item::Byte(byte), _)) => switch.step(byte),
+        _ => None,
+    }
+}
+
+impl SerialVirtRx {
+    /// A virtualiser in its start state, which shares out what comes at `rx` to the clients, one queue a client.
+    pub fn new(alloc: Global, rx: QueueId, clients: Vec<QueueId>) -> Result<SerialVirtRx, Memory>
+        requires some { 0 < length clients.items }
+        requires few { length clients.items < 2 ^ 32 }
+        ensures new { IfOk result (λ v. IsNewRx rx clients.items v) }
+        ensures stands { IfOk result (λ v. RxStandsFor v (λ n. []) (λ n. [])) }
+    {
+        Ok(SerialVirtRx {
+            input: Intake::new(rx),
+            outputs: outlets(alloc, &clients)?,
+            switch: Switch::new(clients.len() as u32),
+            load: None,
+            to: 0,
+            turn: Turn::new(),
+        })
+    }
+
+    // The place of the client that is owed a byte.
+    fn owner(&self) -> Option<usize>
+        ensures { result ≡ place_loaded self.now }
+    {
+        if self.load.is_some() {
+            Some(self.to)
+        } else {
+            None
+        }
+    }
+
+    /// Whether nothing is to be done before a notification comes.
+    pub fn at_rest(&self) -> bool
+        ensures { result ≡ is_at_rest (rx_round self.now) }
+    {
+        self.input.settled(self.load.is_none()) && self.outputs.settled(self.owner())
+    }
+
+    // The end that is stepped now: the input is the first, the clients follow in their order.
+    fn choose(&mut self) -> usize
+        ensures place { result ≡ chosen (choice_of (rx_round self.old)) }
+        ensures within { result < 1 + length (outlet_queues self.old.outputs) }
+        ensures after { self.new ≡ record self.old { turn = record { last = last_after (choice_of (rx_round self.old)) } } }
+    {
+        let choice = self.turn.begin(1 + self.outputs.len()).offer(
+            0,
+            self.input.queue,
+            self.input.settled(self.load.is_none()),
+        );
+        let owner = self.owner();
+        let choice = self.outputs.offer(choice, 1, owner);
+        self.turn.pass(choice)
+    }
+
+    // A byte that was given is owed.
+    fn owe(&mut self, given: Option<(u32, u8)>)
+        ensures load { self.new.load ≡ loaded_with self.old.load given }
+        ensures to { self.new.to ≡ owner_of self.old.to given }
+        ensures rest { self.new ≡ record self.old { load = self.new.load; to = self.new.to } }
+    {
+        if let Some((client, byte)) = given {
+            self.to = client as usize;
+            self.load = Some((Item::Byte(byte), Body::Empty));
+        }
+    }
+
+    // The next call of the input. What it takes is switched.
+    fn step_input<W: Wires>(&mut self, wires: &mut W) -> Event
+        requires { FitsRx (W.ends wires.old) self.old }
+        ensures fits { FitsRx (W.ends wires.new) self.new }
+        ensures own { RxEnd self.old (role_of result.op) result.queue.0 }
+        ensures queues { rx_queues self.new ≡ rx_queues self.old }
+        ensures stepped { Stepped RxStandsFor W.did wires.old wires.new self.old self.new result }
+        ensures posted { Posted (intake_post self.old.input) (is_none self.old.load) result (intake_post self.new.input) }
+        ensures still { is_mark result.op result.answer ≡ false → self.new.load ≡ self.old.load }
+        ensures to { is_mark result.op result.answer ≡ false → self.new.to ≡ self.old.to }
+        ensures outputs { self.new.outputs ≡ self.old.outputs }
+        ensures turn { self.new.turn ≡ self.old.turn }
+    {
+        let (event, got) = self.input.step(wires, self.load.is_none());
+        let given = read(&mut self.switch, got);
+        self.owe(given);
+        event
+    }
+
+    // The next call of a client's end, which puts the byte that is owed to it.
+    fn step_output<W: Wires>(&mut self, wires: &mut W, k: usize) -> Event
+        requires fits { FitsRx (W.ends wires.old) self.old }
+        requires there { k < length (outlet_queues self.old.outputs) }
+        ensures fits { FitsRx (W.ends wires.new) self.new }
+        ensures own { RxEnd self.old (role_of result.op) result.queue.0 }
+        ensures queues { rx_queues self.new ≡ rx_queues self.old }
+        ensures stepped { Stepped RxStandsFor W.did wires.old wires.new self.old self.new result }
+        ensures posted { PostedAt (outlet_posts self.old.outputs) k (is_owed_at self.old k) result (outlet_posts self.new.outputs) }
+        ensures still { is_mark result.op result.answer ≡ false → self.new.load ≡ self.old.load }
+        ensures to { self.new.to ≡ self.old.to }
+        ensures input { self.new.input ≡ self.old.input }
+        ensures turn { self.new.turn ≡ self.old.turn }
+    {
+        if k == self.to {
+            self.outputs.step(wires, k, &mut self.load)
+        } else {
+            let mut nothing = None;
+            self.outputs.step(wires, k, &mut nothing)
+        }
+    }
+
+    /// Makes one call on one of its ends.
+    pub fn step<W: Wires>(&mut self, wires: &mut W) -> Event
+        requires { FitsRx (W.ends wires.old) self.old }
+        ensures fits { FitsRx (W.ends wires.new) self.new }
+        ensures own { RxEnd self.old (role_of result.op) result.queue.0 }
+        ensures queues { rx_queues self.new ≡ rx_queues self.old }
+        ensures stepped { Stepped RxStandsFor W.did wires.old wires.new self.old self.new result }
+        ensures row { (taken sent : Lists) → RxStandsFor self.new taken sent → RxRow self.new taken sent }
+        ensures turned { Turned (rx_round self.old) result (rx_round self.new) }
+    {
+        let place = self.choose();
+        if place == 0 {
+            self.step_input(wires)
+        } else {
+            self.step_output(wires, place - 1)
+        }
+    }
+
+    /// Discards the last look of each end, and nothing else.
+    pub fn forget(&mut self)
+        ensures input { self.new.input ≡ intake_forgotten self.old.input }
+        ensures outputs { self.new.outputs.ends.items ≡ map outlet_forgotten self.old.outputs.ends.items }
+        ensures rest { self.new ≡ record self.old { input = self.new.input; outputs = self.new.outputs } }
+        ensures queues { rx_queues self.new ≡ rx_queues self.old }
+        ensures fits { (ends : Role → ℕ → End) → FitsRx ends self.old → FitsRx ends self.new }
+        ensures lists { (taken sent : Lists) → RxStandsFor self.old taken sent → RxStandsFor self.new taken sent }
+    {
+        self.input.forget();
+        forget_outputs(&mut self.outputs);
+    }
+}
