@@ -1,0 +1,13 @@
+pub mod Answers
+pub mod Codes
+pub mod Names
+pub mod Outside
+pub mod Playing
+pub mod Plays
+pub mod Readings
+pub mod Scripts
+pub mod Serial
+pub mod Shown
+pub mod Sunk
+pub mod Texts
+pub mod Words

@@ -1,0 +1,30 @@
+use Rattle.std.specs.Prelude.{ℕ, Option, Some, None, List, [], drop, slice_get, position, nat_eq, unwrap_or}
+use Rattle.std.specs.Option.{option_map}
+use Rattle.std.specs.Cmp.Lexicographic.{pointwise}
+use Rattle.sddf_top.specs.declared.memory_shelf.Kept.{Kept}
+
+-- the first text of this name: its place, and its bytes
+abbrev pub place_under : List Kept → List ℕ → Option ℕ
+place_under kept name = position (λ k. pointwise nat_eq k.name name) kept
+
+abbrev pub text_at : List Kept → Option ℕ → Option (List ℕ)
+text_at kept (Some place) = option_map (λ k. k.text) (slice_get kept place)
+text_at kept None = None
+
+abbrev pub text_under : List Kept → List ℕ → Option (List ℕ)
+text_under kept name = text_at kept (place_under kept name)
+
+-- what is left of the open text, from a byte of it on
+abbrev pub left_of : List Kept → Option ℕ → ℕ → List ℕ
+left_of kept opened at = drop at (unwrap_or (text_at kept opened) [])
+
+-- a shelf in memory: the texts, which is open and how far it was read, the calls so far, those that fail, how many
+-- bytes a call gives at most, and the faults
+pub record Shelved : Type 0 where
+  pub kept : List Kept
+  pub opened : Option ℕ
+  pub at : ℕ
+  pub calls : ℕ
+  pub failing : List ℕ
+  pub piece : ℕ
+  pub faults : ℕ

@@ -1,0 +1,9 @@
+use Rattle.std.specs.Prelude.{◌≡◌, ◌≤◌, ℕ, Option, List, [], ◌++◌, length, take, drop, IfSome}
+use Rattle.std.specs.Option.{option_map}
+
+-- a piece of n bytes was read on: the next bytes of what was left, where it is told, and none only at its end
+pub record ReadsOn (left : Option (List ℕ)) (old : List ℕ) (n : ℕ) (left' : Option (List ℕ)) (new : List ℕ) : Type 0 where
+  pub bytes : IfSome left (λ l. new ≡ old ++ take n l)
+  pub within : IfSome left (λ l. n ≤ length l)
+  pub rest : left' ≡ option_map (drop n) left
+  pub none : n ≡ 0 → IfSome left (λ l. l ≡ [])

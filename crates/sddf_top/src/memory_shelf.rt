@@ -1,0 +1,185 @@
+ghost use Rattle.std.specs.Prelude.{◌≡◌, ◌≤◌, ◌<◌, ◌∷◌, ◌++◌, [], ℕ, None, length, min, OnOk, OnErr, IfSome, ◌==◌, ◌+◌, ◌^◌, drop};
+ghost use Rattle.std.specs.List.{list_any};
+ghost use Rattle.sddf_top.specs.Outside.{Rose};
+ghost use Rattle.sddf_top.specs.Names.{place_under, left_of};
+
+use crate::faults::raised;
+use crate::{Failed, Shelf};
+use cargo_core::{Bytes, Memory, Text};
+use std::alloc::Global;
+use std::marker::Model;
+
+/// A text under its name.
+#[derive(Debug, Drop)]
+pub struct Kept {
+    pub name: Text,
+    pub text: Bytes,
+}
+
+/// Texts in memory. It counts the calls of its trait from 0, opens among them, and fails those that it was told to.
+/// Until `piece` is called, a read gives as many bytes as it can.
+#[derive(Drop)]
+pub struct MemShelf {
+    alloc: Global,
+    kept: Vec<Kept>,
+    opened: Option<usize>,
+    at: usize,
+    calls: u64,
+    failing: Vec<u64>,
+    piece: usize,
+    faults: u64,
+}
+
+impl Model for MemShelf {
+    ghost use Rattle.sddf_top.specs.Names.{Shelved};
+
+    ghost Value = { Shelved };
+
+    ghost view = { λ s. record { kept = s.kept.items; opened = s.opened; at = s.at; calls = s.calls; failing = s.failing.items; piece = s.piece; faults = s.faults } };
+}
+
+impl MemShelf {
+    /// No texts. It takes no memory.
+    pub fn new(alloc: Global) -> MemShelf
+        ensures kept { result.kept ≡ [] }
+        ensures failing { result.failing ≡ [] }
+        ensures calls { result.calls ≡ 0 }
+        ensures faults { result.faults ≡ 0 }
+    {
+        MemShelf {
+            alloc,
+            kept: Vec::new(alloc),
+            opened: None,
+            at: 0,
+            calls: 0,
+            failing: Vec::new(alloc),
+            piece: usize::MAX,
+            faults: 0,
+        }
+    }
+
+    /// Adds a text, which stands in place of one that had this name. No text is open afterwards.
+    pub fn add(&mut self, name: &str, text: &[u8]) -> Result<(), Memory>
+        ensures ok { OnOk result (self.new.kept ≡ (record { name = name.now; text = text.now }) ∷ self.old.kept) }
+        ensures err { OnErr result (self.new.kept ≡ self.old.kept) }
+        ensures closed { self.new.opened ≡ None }
+        ensures calls { self.new.calls ≡ self.old.calls }
+        ensures faults { self.new.faults ≡ self.old.faults }
+    {
+        self.opened = None;
+        let kept = Kept {
+            name: Text::new(self.alloc, name)?,
+            text: Bytes::from_slice(self.alloc, text)?,
+        };
+        self.kept.insert(0, kept)?;
+        Ok(())
+    }
+
+    /// Fails the call of this number.
+    pub fn fail_at(&mut self, call: u64) -> Result<(), Memory>
+        ensures ok { OnOk result (self.new ≡ record self.old { failing = self.old.failing ++ call ∷ [] }) }
+        ensures err { OnErr result (self.new ≡ self.old) }
+    {
+        self.failing.push(call)?;
+        Ok(())
+    }
+
+    /// Gives at most so many bytes in one call.
+    pub fn piece(&mut self, most: usize)
+        requires { 1 ≤ most }
+        ensures { self.new ≡ record self.old { piece = most } }
+    {
+        self.piece = most;
+    }
+
+    /// Counts a call, and tells whether it fails.
+    fn is_failing(&mut self) -> bool
+        ensures failing { result ≡ list_any (λ n. n == self.old.calls) self.old.failing }
+        ensures same { self.new ≡ record self.old { calls = self.new.calls } }
+    {
+        let fails = self.failing.contains(&self.calls);
+        self.calls = self.calls.saturating_add(1);
+        fails
+    }
+
+    /// The text that is open fails.
+    fn fail(&mut self) -> Failed
+        ensures kept { self.new.kept ≡ self.old.kept }
+        ensures closed { self.new.opened ≡ None }
+        ensures rose { Rose self.old.faults self.new.faults }
+        ensures rising { self.old.faults ≤ self.new.faults }
+    {
+        self.opened = None;
+        self.faults = raised(self.faults);
+        Failed
+    }
+
+    /// The place of the text of a name.
+    fn place_of(&self, name: &str) -> Option<usize>
+        ensures { result ≡ place_under self.now.kept name.now }
+    {
+        self.kept.iter().position(|k| k.name.as_str() == name)
+    }
+
+    /// What is left of the open text.
+    fn left(&self) -> &[u8]
+        ensures left { result.now ≡ left_of self.now.kept self.now.opened self.now.at }
+        ensures fits { self.now.at + length result.now < 2 ^ 64 }
+    {
+        let at = self.at;
+        match self.opened {
+            Some(place) if place < self.kept.len() => {
+                let kept = &self.kept[place];
+                let text = kept.text.as_slice();
+                if at < text.len() { &text[at..] } else { &[] }
+            }
+            _ => &[],
+        }
+    }
+}
+
+impl MemShelf {
+    /// Goes on behind the next bytes.
+    fn skip(&mut self, n: usize)
+        requires { self.old.at + n < 2 ^ 64 }
+        ensures left { left_of self.new.kept self.new.opened self.new.at ≡ drop n (left_of self.old.kept self.old.opened self.old.at) }
+        ensures kept { self.new.kept ≡ self.old.kept }
+        ensures faults { self.new.faults ≡ self.old.faults }
+    {
+        self.at += n;
+    }
+}
+
+impl Shelf for MemShelf {
+    ghost use Rattle.std.specs.Prelude.{Some};
+    ghost use Rattle.sddf_top.specs.Names.{text_under, left_of};
+
+    ghost text = { λ s name. text_under s.kept name };
+
+    ghost left = { λ s. Some (left_of s.kept s.opened s.at) };
+
+    ghost faults = { λ s. s.faults };
+
+    fn open(&mut self, name: &str) -> Result<(), Failed> {
+        if self.is_failing() {
+            return Err(self.fail());
+        }
+        let Some(place) = self.place_of(name) else {
+            return Err(self.fail());
+        };
+        self.opened = Some(place);
+        self.at = 0;
+        Ok(())
+    }
+
+    fn read(&mut self, into: &mut [u8]) -> Result<usize, Failed> {
+        if self.is_failing() {
+            return Err(self.fail());
+        }
+        let left = self.left();
+        let n = left.len().min(into.len()).min(self.piece.max(1));
+        into[..n].copy_from_slice(&left[..n]);
+        self.skip(n);
+        Ok(n)
+    }
+}

@@ -1,0 +1,78 @@
+ghost use Rattle.std.specs.Prelude.{◌≡◌, ◌+◌, ◌<◌, ◌≤◌, ℕ, List, Err, OnOk, IfOk, IfSome, length};
+ghost use Rattle.sddf_top.specs.Outside.{Rose, IsRead};
+ghost use Rattle.sddf_top.specs.Readings.{ReadsOn};
+
+use crate::{Failed, Shelf};
+use cargo_core::{Bytes, Memory};
+use std::alloc::Global;
+
+/// How many bytes of a text are read at most: one more than a text may have.
+pub const READ_MOST: usize = 16_777_217;
+
+/// Why a text wasn't read to its end.
+#[derive(Clone, Copy, Debug, PartialEq, Eq)]
+pub enum ReadStop {
+    Failed,
+    Memory,
+}
+
+impl From<Failed> for ReadStop {
+    ghost use Rattle.std.specs.Prelude.{◌≡◌};
+    ghost use Rattle.sddf_top.specs.declared.reading.ReadStop.TheVariants as Stop;
+
+    ghost from_gives = { λ _ stop. stop ≡ Stop.Failed };
+
+    fn from(_: Failed) -> Self {
+        ReadStop::Failed
+    }
+}
+
+impl From<Memory> for ReadStop {
+    ghost use Rattle.std.specs.Prelude.{◌≡◌};
+    ghost use Rattle.sddf_top.specs.declared.reading.ReadStop.TheVariants as Stop;
+
+    ghost from_gives = { λ _ stop. stop ≡ Stop.Memory };
+
+    fn from(_: Memory) -> Self {
+        ReadStop::Memory
+    }
+}
+
+/// Reads one more piece of the open text, of at most `most` bytes, and answers how many they are.
+fn read_piece<F: Shelf>(shelf: &mut F, text: &mut Bytes, most: usize) -> Result<usize, ReadStop>
+    requires { 0 < most }
+    ensures texts { (n : List ℕ) → F.text shelf.new n ≡ F.text shelf.old n }
+    ensures calm { OnOk result (F.faults shelf.new ≡ F.faults shelf.old) }
+    ensures more { IfOk result (λ n. length text.new ≡ length text.old + n) }
+    ensures within { IfOk result (λ n. n ≤ most) }
+    ensures on { IfOk result (λ n. ReadsOn (F.left shelf.old) text.old n (F.left shelf.new) text.new) }
+    ensures failed { result ≡ Err ReadStop.Failed → Rose (F.faults shelf.old) (F.faults shelf.new) }
+    ensures starved { result ≡ Err ReadStop.Memory → F.faults shelf.new ≡ F.faults shelf.old }
+{
+    let mut piece = [0u8; 4096];
+    let room = most.min(4096);
+    let into = &mut piece[..room];
+    let n = shelf.read(into)?;
+    text.extend_from_slice(&into[..n])?;
+    Ok(n)
+}
+
+/// Reads the text of a name to its end, or its first 16,777,217 bytes.
+pub fn read_text<F: Shelf>(alloc: Global, shelf: &mut F, name: &str) -> Result<Bytes, ReadStop>
+    ensures texts { (n : List ℕ) → F.text shelf.new n ≡ F.text shelf.old n }
+    ensures calm { OnOk result (F.faults shelf.new ≡ F.faults shelf.old) }
+    ensures bytes { IfOk result (IsRead (F.text shelf.old name.now)) }
+    ensures within { IfOk result (λ bytes. length bytes ≤ 16777217) }
+    ensures failed { result ≡ Err ReadStop.Failed → Rose (F.faults shelf.old) (F.faults shelf.new) }
+    ensures starved { result ≡ Err ReadStop.Memory → F.faults shelf.new ≡ F.faults shelf.old }
+{
+    shelf.open(name)?;
+    let mut text = Bytes::new(alloc);
+    while text.len() < READ_MOST {
+        let most = READ_MOST - text.len();
+        if read_piece(shelf, &mut text, most)? == 0 {
+            break;
+        }
+    }
+    Ok(text)
+}

@@ -1,0 +1,44 @@
+ghost use Rattle.std.specs.Prelude.{◌≡◌};
+ghost use Rattle.sddf_top.specs.Codes.{code_of};
+
+/// How a call of the program ended.
+#[derive(Clone, Copy, Debug, PartialEq, Eq)]
+pub enum Status {
+    /// What was asked was done.
+    Ok,
+    /// The words are no command; the place of the first bad word, counted from 0.
+    Usage(u32),
+    /// The description is refused; the number of the broken rule, 0 where it can't be played yet.
+    Refused(u8),
+    /// The trace is refused; the number of the bad line, counted from 1.
+    BadTrace(u64),
+    /// A text couldn't be read.
+    ReadFault,
+    /// The answer couldn't be written to its end.
+    WriteFault,
+    /// The limit of steps was reached before the system was quiet; the number of steps.
+    Spent(u64),
+    /// A text is longer than 16,777,216 bytes.
+    TooLong,
+    /// Memory was refused.
+    Memory,
+}
+
+impl Status {
+    /// The status with which the program ends. The numbers are this project's own.
+    pub fn code(&self) -> u8
+        ensures { result ≡ code_of self.now }
+    {
+        match self {
+            Status::Ok => 0,
+            Status::Usage(_) => 2,
+            Status::Refused(_) => 3,
+            Status::BadTrace(_) => 4,
+            Status::ReadFault => 5,
+            Status::WriteFault => 6,
+            Status::Spent(_) => 7,
+            Status::TooLong => 8,
+            Status::Memory => 9,
+        }
+    }
+}
