@@ -1,0 +1,84 @@
+ghost use Rattle.std.specs.Prelude.{◌≡◌, ℕ, IfOk, OnErr};
+ghost use Rattle.wire_core.specs.Ends.{role_of, Role, End};
+ghost use Rattle.wire_core.specs.Lists.{Lists, Stepped};
+ghost use Rattle.turn_kit.specs.Turns.{Turned, is_at_rest};
+ghost use Rattle.actor_set.specs.Actors.{FitsActor, ActorStandsFor, ActorRow, ActorEnd, actor_round, part_of, record_length};
+
+use cargo_core::Memory;
+use client_programs::SerialClient;
+use device_model::UartDevice;
+use serial_virt::{SerialVirtRx, SerialVirtTx};
+use uart_driver::UartDriver;
+use wire_core::{Event, Wires};
+
+/// One actor of any kind.
+#[derive(Drop)]
+pub enum Actor {
+    UartDevice(UartDevice),
+    UartDriver(UartDriver),
+    SerialVirtRx(SerialVirtRx),
+    SerialVirtTx(SerialVirtTx),
+    SerialClient(SerialClient),
+}
+
+impl Actor {
+    /// Whether nothing is to be done before a notification comes.
+    pub fn at_rest(&self) -> bool
+        ensures { result ≡ is_at_rest (actor_round self.now) }
+    {
+        match self {
+            Actor::UartDevice(device) => device.at_rest(),
+            Actor::UartDriver(driver) => driver.at_rest(),
+            Actor::SerialVirtRx(virt) => virt.at_rest(),
+            Actor::SerialVirtTx(virt) => virt.at_rest(),
+            Actor::SerialClient(client) => client.at_rest(),
+        }
+    }
+
+    /// The length of a client's record, and 0 for an actor of another kind.
+    pub fn recorded(&self) -> u64
+        ensures { result ≡ record_length self.now }
+    {
+        match self {
+            Actor::SerialClient(client) => client.got().len() as u64,
+            _ => 0,
+        }
+    }
+
+    /// Makes one call on one of its ends. After want of memory no call was made and nothing changed.
+    pub fn step<W: Wires>(&mut self, wires: &mut W) -> Result<Event, Memory>
+        requires { FitsActor (W.ends wires.old) self.old }
+        ensures fits { FitsActor (W.ends wires.new) self.new }
+        ensures own { IfOk result (λ e. ActorEnd self.old (role_of e.op) e.queue.0) }
+        ensures part { part_of self.new ≡ part_of self.old }
+        ensures stepped { IfOk result (λ e. Stepped ActorStandsFor W.did wires.old wires.new self.old self.new e) }
+        ensures row { (taken sent : Lists) → ActorStandsFor self.new taken sent → ActorRow self.new taken sent }
+        ensures turned { IfOk result (λ e. Turned (actor_round self.old) e (actor_round self.new)) }
+        ensures no_call { OnErr result (wires.new ≡ wires.old) }
+        ensures unchanged { OnErr result (self.new ≡ self.old) }
+    {
+        match self {
+            Actor::UartDevice(device) => device.step(wires),
+            Actor::UartDriver(driver) => Ok(driver.step(wires)),
+            Actor::SerialVirtRx(virt) => Ok(virt.step(wires)),
+            Actor::SerialVirtTx(virt) => Ok(virt.step(wires)),
+            Actor::SerialClient(client) => client.step(wires),
+        }
+    }
+
+    /// Discards the last look of each end, and nothing else.
+    pub fn forget(&mut self)
+        ensures part { part_of self.new ≡ part_of self.old }
+        ensures recorded { record_length self.new ≡ record_length self.old }
+        ensures fits { (ends : Role → ℕ → End) → FitsActor ends self.old → FitsActor ends self.new }
+        ensures lists { (taken sent : Lists) → ActorStandsFor self.old taken sent → ActorStandsFor self.new taken sent }
+    {
+        match self {
+            Actor::UartDevice(device) => device.forget(),
+            Actor::UartDriver(driver) => driver.forget(),
+            Actor::SerialVirtRx(virt) => virt.forget(),
+            Actor::SerialVirtTx(virt) => virt.forget(),
+            Actor::SerialClient(client) => client.forget(),
+        }
+    }
+}

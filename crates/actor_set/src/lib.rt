@@ -1,0 +1,6 @@
+//! One type for the actors of all kinds.
+#![tactic(auto)]
+
+mod actor;
+
+pub use actor::Actor;
