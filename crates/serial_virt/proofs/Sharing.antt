@@ -1,4 +1,4 @@
-use Rattle.std.proofs.Common.{◌≡◌, ◌≢◌, ◌⊎◌, ◌==◌, ◌≤◌, ◌++◌, ℕ, Bool, true, false, not, Option, Some, None, is_some, IsSome, List, [], ◌∷◌, map, length, slice_get, if◌then◌else◌, refl, sym, ap, ◌∙◌, subst, inl, inr, append_assoc, arith}
+use Rattle.std.proofs.Common.{◌≡◌, ◌≢◌, ◌⊎◌, ◌==◌, ◌<◌, ◌≤◌, ◌++◌, ℕ, Bool, true, false, not, Option, Some, None, is_some, IsSome, IfSome, List, [], ◌∷◌, map, length, slice_get, if◌then◌else◌, refl, sym, ap, ◌∙◌, subst, inl, inr, append_assoc, arith}
 use Rattle.std.specs.Option.{option_to_list}
 use Rattle.std.proofs.Math.Dec.{eqb}
 use Rattle.std.proofs.lemmas.Bool.Decides.{eqb_tells}
@@ -64,11 +64,24 @@ module _ (qs : List QueueId) (k : ℕ) (q : QueueId) (at : slice_get qs k ≡ So
   owed_after j q' s there (inr other) =
       ap (λ c. (s ++ c) ++ owed_to load' k j) (elsewhere j q' there other.1 (eqb_tells q.0 q'.0)) ∙ (ap (λ c. c ++ owed_to load' k j) (append-nil s) ∙ (ap (λ b. s ++ (if b then option_to_list load' else [])) other.0 ∙ sym (ap (λ b. s ++ (if b then option_to_list load else [])) other.0)))
 
+-- who is owed a byte is there, after one was given or none was
+owner_there : (n to : ℕ) (load : Option Cargo) (given : Option (ℕ × ℕ)) → (is_some load ≡ true → to < n) → IfSome given (λ g. g.0 < n) → is_some (loaded_with load given) ≡ true → owner_of to given < n
+owner_there n to load None there known some = there some
+owner_there n to load (Some g) there known some = known
+
+-- what is owed after a put was owed before
+still_owed : (load p load' : Option Cargo) → option_to_list load ≡ option_to_list p ++ option_to_list load' → is_some load' ≡ true → is_some load ≡ true
+still_owed (Some c) p load' parts some = refl
+still_owed None p None parts some = some
+still_owed None None (Some c) parts some = cc
+still_owed None (Some x) (Some c) parts some = cc
+
 -- a step of the input
 module _ (old new : SerialVirtRx) (taken sent took put : Lists) (got : Option Cargo) (given : Option (ℕ × ℕ))
     (outputs : new.outputs ≡ old.outputs) (input : new.input.queue ≡ old.input.queue) (load : new.load ≡ loaded_with old.load given) (to : new.to ≡ owner_of old.to given)
     (after : (clients : ℕ) (bytes : List ℕ) → StandsAfter clients bytes old.switch → StandsAfter clients (bytes ++ bytes_carried (option_to_list got)) new.switch)
     (gives : (clients : ℕ) (bytes : List ℕ) → StandsAfter clients bytes old.switch → (client : ℕ) → input_of clients client (bytes ++ bytes_carried (option_to_list got)) ≡ input_of clients client bytes ++ given_to client given)
+    (known : (clients : ℕ) (bytes : List ℕ) → StandsAfter clients bytes old.switch → IfSome given (λ g. g.0 < clients))
     (free : (g : ℕ × ℕ) → given ≡ Some g → old.load ≡ None)
     (takes : (n : ℕ) → took n ≡ if_there (old.input.queue.0 == n) (option_to_list got)) (puts : (n : ℕ) → put n ≡ []) (h : RxStandsFor old taken sent) where
   bytes_now : bytes_carried (with taken took new.input.queue.0) ≡ bytes_carried (taken old.input.queue.0) ++ bytes_carried (option_to_list got)
@@ -87,7 +100,7 @@ module _ (old new : SerialVirtRx) (taken sent took put : Lists) (got : Option Ca
   switched_now = subst (λ n. StandsAfter n (bytes_carried (with taken took new.input.queue.0)) new.switch) (sym clients_now) (subst (λ bs. StandsAfter (clients_of old) bs new.switch) (sym bytes_now) (after (clients_of old) (bytes_carried (taken old.input.queue.0)) h.switched))
 
   pub rx_takes : RxStandsFor new (with taken took) (with sent put)
-  rx_takes = record { switched = switched_now; given = given_now }
+  rx_takes = record { switched = switched_now; to = λ some. rw (clients_now, to) (owner_there (clients_of old) old.to old.load given h.to (known (clients_of old) (bytes_carried (taken old.input.queue.0)) h.switched) (sym (ap is_some load) ∙ some)); given = given_now }
 
 -- a step of an output
 module _ (old new : SerialVirtRx) (taken sent took put : Lists) (k : ℕ) (q : QueueId) (p : Option Cargo)
@@ -111,7 +124,7 @@ module _ (old new : SerialVirtRx) (taken sent took put : Lists) (k : ℕ) (q : Q
   switched_then = subst (StandsAfter (clients_of new) (bytes_carried (with taken took new.input.queue.0))) (sym switch) (subst (λ n. StandsAfter n (bytes_carried (with taken took new.input.queue.0)) old.switch) (sym same_clients) (subst (λ bs. StandsAfter (clients_of old) bs old.switch) (sym same_bytes) h.switched))
 
   pub rx_puts : RxStandsFor new (with taken took) (with sent put)
-  rx_puts = record { switched = switched_then; given = given_then }
+  rx_puts = record { switched = switched_then; to = λ some. rw (same_clients, to) (h.to (still_owed old.load p new.load parts some)); given = given_then }
 
 few_load : (load : Option Cargo) → length (option_to_list load) ≤ 1
 few_load None = omega arith

@@ -1,4 +1,4 @@
-use Rattle.std.specs.Prelude.{◌≡◌, ◌==◌, ◌≤◌, ℕ, Bool, ◌&&◌, Option, Some, None, is_some, is_none, List, [], ◌∷◌, ◌++◌, map, length, option_to_list, slice_get, if◌then◌else◌}
+use Rattle.std.specs.Prelude.{◌≡◌, ◌==◌, ◌<◌, ◌≤◌, ℕ, Bool, true, ◌&&◌, Option, Some, None, is_some, is_none, List, [], ◌∷◌, ◌++◌, map, length, option_to_list, slice_get, if◌then◌else◌}
 use Rattle.std.specs.Option.{ForSome, option_map}
 use Rattle.cargo_core.specs.Items.{kind_of}
 use Rattle.cargo_core.specs.declared.item.QueueKind.TheVariants as Kind
@@ -32,9 +32,11 @@ owed_to load owner k = if owner == k then option_to_list load else []
 abbrev pub clients_of : SerialVirtRx → ℕ
 clients_of v = length (outlet_queues v.outputs)
 
--- the switch has read all that was taken; each client was given its part of it, but for what is owed to it
+-- the switch has read all that was taken; each client was given its part of it, but for what is owed to it, and who is
+-- owed a byte is there
 pub record RxStandsFor (v : SerialVirtRx) (taken sent : Lists) : Type 0 where
   pub switched : StandsAfter (clients_of v) (bytes_carried (taken v.input.queue.0)) v.switch
+  pub to : is_some v.load ≡ true → v.to < clients_of v
   pub given : (k : ℕ) (q : QueueId) → slice_get (outlet_queues v.outputs) k ≡ Some q → sent q.0 ++ owed_to v.load v.to k ≡ map byte_cargo (input_of (clients_of v) k (bytes_carried (taken v.input.queue.0)))
 
 -- each client was given its part of what was taken, but that over all clients at most one byte is owed

@@ -24,5 +24,6 @@ returns-clause-lists c = λ taken sent h.
     let stay = outlets_stay c.args.self.now.outputs.ends.items c.forget_outputs.new.outputs.ends.items c.forget_outputs.ensures in
     record {
       switched = rw (c.forget.ensures, stay) h.switched;
+      to = rw stay h.to;
       given = rw (c.forget.ensures, stay) h.given;
     }

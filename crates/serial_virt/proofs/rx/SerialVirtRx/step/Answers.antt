@@ -19,7 +19,7 @@ returns-then-place-eq0-clause-stepped g c =
     record {
       body = s.body;
       happened = s.happened;
-      kept = λ taken sent h. s.kept taken sent (subst (λ v. RxStandsFor v taken sent) (sym c.choose-place.ensures.after) (record { switched = h.switched; given = h.given }));
+      kept = λ taken sent h. s.kept taken sent (subst (λ v. RxStandsFor v taken sent) (sym c.choose-place.ensures.after) (record { switched = h.switched; to = h.to; given = h.given }));
     }
 
 pub returns-else-place-eq0-clause-stepped : goal.returns-else-place-eq0-clause-stepped
@@ -28,5 +28,5 @@ returns-else-place-eq0-clause-stepped g c =
     record {
       body = s.body;
       happened = s.happened;
-      kept = λ taken sent h. s.kept taken sent (subst (λ v. RxStandsFor v taken sent) (sym c.choose-place.ensures.after) (record { switched = h.switched; given = h.given }));
+      kept = λ taken sent h. s.kept taken sent (subst (λ v. RxStandsFor v taken sent) (sym c.choose-place.ensures.after) (record { switched = h.switched; to = h.to; given = h.given }));
     }
