@@ -4,3 +4,6 @@
 mod actor;
 
 pub use actor::Actor;
+
+#[cfg(test)]
+mod tests;
