@@ -1,0 +1,193 @@
+// Each helper makes one call where the discipline allows it, and answers None where it doesn't.
+ghost use Rattle.std.specs.Prelude.{◌≡◌, ◌<◌, length, IfOk};
+ghost use Rattle.wire_core.specs.Ends.{Producer};
+ghost use Rattle.wire_core.specs.Queues.{end_at};
+
+use crate::World;
+use cargo_core::{Body, Item, QueueKind, Text};
+use std::alloc::Global;
+use std::test::Fail;
+use wire_core::{ActorId, QueueId, QueueRow, Ringer, Side, Waiter, Wires};
+
+const Q: QueueId = QueueId(0);
+
+fn row(alloc: Global, capacity: u32) -> Result<QueueRow, Fail>
+    ensures { IfOk result (λ r. r.kind ≡ QueueKind.Byte) }
+{
+    Ok(QueueRow {
+        name: Text::new(alloc, "uart.tx")?,
+        kind: QueueKind::Byte,
+        capacity,
+        producer: ActorId(0),
+        consumer: ActorId(1),
+        region: None,
+        offset: 0,
+    })
+}
+
+fn see(world: &mut World) -> Option<bool>
+    requires { 0 < length world.old }
+    ensures len { length world.new ≡ length world.old }
+    ensures kind { (end_at world.new Producer 0).kind ≡ (end_at world.old Producer 0).kind }
+{
+    if world.bell(Q, Side::Forward).waiter == Waiter::Clear {
+        return None;
+    }
+    Some(world.see(Q))
+}
+
+fn room(world: &mut World) -> Option<bool>
+    requires { 0 < length world.old }
+    ensures len { length world.new ≡ length world.old }
+    ensures kind { (end_at world.new Producer 0).kind ≡ (end_at world.old Producer 0).kind }
+{
+    if world.bell(Q, Side::Backward).waiter == Waiter::Clear {
+        return None;
+    }
+    Some(world.room(Q))
+}
+
+// Looks and takes.
+fn take(world: &mut World) -> Option<Item>
+    requires { 0 < length world.old }
+    ensures len { length world.new ≡ length world.old }
+    ensures kind { (end_at world.new Producer 0).kind ≡ (end_at world.old Producer 0).kind }
+{
+    if world.bell(Q, Side::Forward).waiter == Waiter::Clear {
+        return None;
+    }
+    match world.bell(Q, Side::Backward).ringer {
+        Ringer::Free | Ringer::Put => {}
+        Ringer::Hot | Ringer::Ringing => return None,
+    }
+    if !world.see(Q) {
+        return None;
+    }
+    Some(world.take(Q).0)
+}
+
+// Looks and puts.
+fn put(world: &mut World, byte: u8) -> Option<bool>
+    requires there { 0 < length world.old }
+    requires byte { (end_at world.old Producer 0).kind ≡ QueueKind.Byte }
+    ensures len { length world.new ≡ length world.old }
+    ensures kind { (end_at world.new Producer 0).kind ≡ (end_at world.old Producer 0).kind }
+{
+    if world.bell(Q, Side::Backward).waiter == Waiter::Clear {
+        return None;
+    }
+    match world.bell(Q, Side::Forward).ringer {
+        Ringer::Free | Ringer::Put => {}
+        Ringer::Hot | Ringer::Ringing => return None,
+    }
+    if !world.room(Q) {
+        return Some(false);
+    }
+    world.put(Q, Item::Byte(byte), Body::Empty);
+    Some(true)
+}
+
+// The producer's ring, in three calls; whether the consumer was notified.
+fn signal(world: &mut World, side: Side) -> Option<bool>
+    requires { 0 < length world.old }
+    ensures len { length world.new ≡ length world.old }
+    ensures kind { (end_at world.new Producer 0).kind ≡ (end_at world.old Producer 0).kind }
+{
+    if world.bell(Q, side).ringer != Ringer::Put {
+        return None;
+    }
+    if !world.wanted(Q, side) {
+        return Some(false);
+    }
+    world.settle(Q, side);
+    world.ring(Q, side);
+    Some(true)
+}
+
+fn ask(world: &mut World, side: Side) -> Option<()>
+    requires { 0 < length world.old }
+    ensures len { length world.new ≡ length world.old }
+    ensures kind { (end_at world.new Producer 0).kind ≡ (end_at world.old Producer 0).kind }
+{
+    match world.bell(Q, side).waiter {
+        Waiter::Busy | Waiter::Off => {}
+        Waiter::Asked | Waiter::Clear => return None,
+    }
+    world.ask(Q, side);
+    Some(())
+}
+
+fn wake(world: &mut World, side: Side) -> bool
+    requires { 0 < length world.old }
+    ensures len { length world.new ≡ length world.old }
+    ensures kind { (end_at world.new Producer 0).kind ≡ (end_at world.old Producer 0).kind }
+{
+    world.wake(Q, side)
+}
+
+fn one_queue(alloc: Global, capacity: u32) -> Result<World, Fail>
+    ensures len { IfOk result (λ w. length w ≡ 1) }
+    ensures kind { IfOk result (λ w. (end_at w Producer 0).kind ≡ QueueKind.Byte) }
+{
+    let rows = [row(alloc, capacity)?];
+    Ok(World::new(alloc, &rows)?)
+}
+
+#[test]
+fn a_consumer_that_asked_is_notified_once(rt: HostRuntime) -> Result<(), Fail> {
+    for capacity in [1, 2] {
+        let mut world = one_queue(rt.alloc(), capacity)?;
+        assert_eq!(rt; see(&mut world), Some(false));
+        assert_eq!(rt; ask(&mut world, Side::Forward), Some(()));
+        assert_eq!(rt; see(&mut world), Some(false));
+        assert_eq!(rt; see(&mut world), None);
+        assert!(rt; !world.is_pending(ActorId(1)));
+        assert_eq!(rt; put(&mut world, 97), Some(true));
+        assert_eq!(rt; signal(&mut world, Side::Forward), Some(true));
+        assert!(rt; world.is_pending(ActorId(1)));
+        assert!(rt; !world.is_pending(ActorId(0)));
+        assert!(rt; wake(&mut world, Side::Forward));
+        assert!(rt; !wake(&mut world, Side::Forward));
+        assert_eq!(rt; take(&mut world), Some(Item::Byte(97)));
+        assert_eq!(rt; put(&mut world, 98), Some(true));
+        assert_eq!(rt; signal(&mut world, Side::Forward), Some(false));
+        assert_eq!(rt; put(&mut world, 99), Some(capacity == 2));
+        assert_eq!(rt; take(&mut world), Some(Item::Byte(98)));
+    }
+    Ok(())
+}
+
+#[test]
+fn a_producer_that_asked_for_room_is_notified(rt: HostRuntime) -> Result<(), Fail> {
+    let mut world = one_queue(rt.alloc(), 1)?;
+    assert_eq!(rt; put(&mut world, 1), Some(true));
+    assert_eq!(rt; room(&mut world), Some(false));
+    assert_eq!(rt; ask(&mut world, Side::Backward), Some(()));
+    assert_eq!(rt; room(&mut world), Some(false));
+    assert_eq!(rt; room(&mut world), None);
+    assert_eq!(rt; take(&mut world), Some(Item::Byte(1)));
+    assert_eq!(rt; signal(&mut world, Side::Backward), Some(true));
+    assert!(rt; world.is_pending(ActorId(0)));
+    assert!(rt; wake(&mut world, Side::Backward));
+    assert_eq!(rt; put(&mut world, 2), Some(true));
+    assert_eq!(rt; world.len(Q), 1);
+    Ok(())
+}
+
+#[test]
+fn the_largest_queue_is_filled_and_emptied(rt: HostRuntime) -> Result<(), Fail> {
+    let mut world = one_queue(rt.alloc(), 32_768)?;
+    let mut byte = 0u8;
+    for _ in 0..32_768 {
+        assert_eq!(rt; put(&mut world, byte), Some(true));
+        byte = byte.wrapping_add(1);
+    }
+    assert_eq!(rt; put(&mut world, 0), Some(false));
+    assert_eq!(rt; world.len(Q), 32_768);
+    for _ in 0..32_768 {
+        assert_eq!(rt; take(&mut world), Some(Item::Byte(byte)));
+        byte = byte.wrapping_add(1);
+    }
+    assert_eq!(rt; see(&mut world), Some(false));
+    Ok(())
+}
