@@ -1,0 +1,103 @@
+use Rattle.std.proofs.Common.{◌≡◌, ℕ, List, [], ◌++◌, refl, sym, ◌∙◌, subst, ap, inl, inr}
+use Rattle.std.specs.Option.{ForSome}
+use Rattle.wire_core.specs.Deeds.{Cargo}
+use Rattle.wire_core.specs.Ends.{Role, Consumer, Producer, End}
+use Rattle.wire_core.specs.Lists.{Lists}
+use Rattle.turn_kit.specs.Table.{Agrees}
+use Rattle.turn_kit.specs.Pipes.{FitsPipe, PipeStandsFor}
+use Rattle.turn_kit.specs.declared.pipe.Pipe.{Pipe}
+use Rattle.serial_terminal.specs.Terminals.{FitsTerminal, TerminalStandsFor}
+use Rattle.serial_terminal.specs.declared.Terminal.{Terminal}
+use Rattle.std.proofs.Common.{map, slice_get, Some}
+use Rattle.wire_core.specs.declared.names.QueueId.{QueueId}
+use Rattle.turn_kit.specs.ManyEnds.{intake_queues, outlet_queues}
+use Rattle.turn_kit.specs.declared.ends.Intake.{Intake}
+use Rattle.turn_kit.specs.declared.ends.Outlet.{Outlet}
+use Rattle.serial_virt.specs.Receiving.{FitsRx, RxStandsFor, RxEnd}
+use Rattle.serial_virt.specs.declared.rx.SerialVirtRx.{SerialVirtRx}
+use Rattle.serial_virt.specs.Sending.{FitsTx, TxStandsFor, TxEnd}
+use Rattle.serial_virt.specs.declared.tx.SerialVirtTx.{SerialVirtTx}
+use Rattle.system_core.proofs.Merges.{map_get, map_alike}
+use Rattle.actor_set.specs.Actors.{FitsActor, ActorStandsFor, ActorEnd}
+use Rattle.actor_set.specs.declared.actor.Actor.{Actor}
+use Rattle.actor_set.specs.declared.actor.Actor.TheVariants as Kinds
+
+-- where an actor's ends stay, it fits as before
+module _ (ends ends' : Role → ℕ → End) (kinds : (r : Role) (n : ℕ) → (ends' r n).kind ≡ (ends r n).kind) where
+  fits_terminal : (t : Terminal) → ends' Consumer t.input.queue.0 ≡ ends Consumer t.input.queue.0 → ends' Producer t.output.queue.0 ≡ ends Producer t.output.queue.0 → FitsTerminal ends t → FitsTerminal ends' t
+  fits_terminal t i o f = record {
+    input = subst (λ e. Agrees e t.input.kept) (sym i) f.input;
+    output = subst (λ e. Agrees e t.output.kept) (sym o) f.output;
+    hears = kinds Consumer t.input.queue.0 ∙ f.hears;
+    says = kinds Producer t.output.queue.0 ∙ f.says;
+    next = f.next;
+  }
+
+  fits_pipe : (p : Pipe) → ends' Consumer p.input.queue.0 ≡ ends Consumer p.input.queue.0 → ends' Producer p.output.queue.0 ≡ ends Producer p.output.queue.0 → FitsPipe ends p → FitsPipe ends' p
+  fits_pipe p i o f = record {
+    input = subst (λ e. Agrees e p.input.kept) (sym i) f.input;
+    output = subst (λ e. Agrees e p.output.kept) (sym o) f.output;
+    kinds = kinds Consumer p.input.queue.0 ∙ (f.kinds ∙ sym (kinds Producer p.output.queue.0));
+    load = rw o f.load;
+  }
+
+  fits_rx : (v : SerialVirtRx) → ((r : Role) (n : ℕ) → RxEnd v r n → ends' r n ≡ ends r n) → FitsRx ends v → FitsRx ends' v
+  fits_rx v same f = record {
+    input = subst (λ e. Agrees e v.input.kept) (sym (same Consumer v.input.queue.0 refl)) f.input;
+    outputs = record {
+      agrees = λ k i at. subst (λ e. Agrees e i.kept) (sym (same Producer i.queue.0 (k, i.queue, map_get (λ (o : Outlet). o.queue) v.outputs.ends.items k i at, refl))) (f.outputs.agrees k i at);
+      apart = f.outputs.apart;
+    };
+    hears = kinds Consumer v.input.queue.0 ∙ f.hears;
+    says = λ k q at. kinds Producer q.0 ∙ f.says k q at;
+    load = f.load;
+  }
+
+  fits_tx : (v : SerialVirtTx) → ((r : Role) (n : ℕ) → TxEnd v r n → ends' r n ≡ ends r n) → FitsTx ends v → FitsTx ends' v
+  fits_tx v same f = record {
+    inputs = record {
+      agrees = λ k i at. subst (λ e. Agrees e i.kept) (sym (same Consumer i.queue.0 (k, i.queue, map_get (λ (o : Intake). o.queue) v.inputs.ends.items k i at, refl))) (f.inputs.agrees k i at);
+      apart = f.inputs.apart;
+    };
+    output = subst (λ e. Agrees e v.output.kept) (sym (same Producer v.output.queue.0 refl)) f.output;
+    hears = λ k q at. kinds Consumer q.0 ∙ f.hears k q at;
+    says = kinds Producer v.output.queue.0 ∙ f.says;
+    load = f.load;
+  }
+
+  pub fits_beside : (x : Actor) → ((r : Role) (n : ℕ) → ActorEnd x r n → ends' r n ≡ ends r n) → FitsActor ends x → FitsActor ends' x
+  fits_beside (Kinds.UartDevice x) same f = fits_terminal x.terminal (same Consumer x.terminal.input.queue.0 refl) (same Producer x.terminal.output.queue.0 refl) f
+  fits_beside (Kinds.SerialClient x) same f = fits_terminal x.terminal (same Consumer x.terminal.input.queue.0 refl) (same Producer x.terminal.output.queue.0 refl) f
+  fits_beside (Kinds.SerialVirtRx x) same f = fits_rx x same f
+  fits_beside (Kinds.SerialVirtTx x) same f = fits_tx x same f
+  fits_beside (Kinds.UartDriver x) same f = record {
+    rx = fits_pipe x.rx (same Consumer x.rx.input.queue.0 (inl refl)) (same Producer x.rx.output.queue.0 (inl refl)) f.rx;
+    tx = fits_pipe x.tx (same Consumer x.tx.input.queue.0 (inr refl)) (same Producer x.tx.output.queue.0 (inr refl)) f.tx;
+    inputs = f.inputs;
+    outputs = f.outputs;
+  }
+
+-- where nothing moved at an actor's ends, it stands for the same lists
+module _ (taken sent taken' sent' : Lists) where
+  stands_terminal : (t : Terminal) → taken' t.input.queue.0 ≡ taken t.input.queue.0 → sent' t.output.queue.0 ≡ sent t.output.queue.0 → TerminalStandsFor t taken sent → TerminalStandsFor t taken' sent'
+  stands_terminal t i o f = record { sent_is = o ∙ f.sent_is; heard_is = rw i f.heard_is }
+
+  stands_pipe : (p : Pipe) → taken' p.input.queue.0 ≡ taken p.input.queue.0 → sent' p.output.queue.0 ≡ sent p.output.queue.0 → PipeStandsFor p taken sent → PipeStandsFor p taken' sent'
+  stands_pipe p i o f = rw (i, o) f
+
+  stands_rx : (v : SerialVirtRx) → ((n : ℕ) → RxEnd v Consumer n → taken' n ≡ taken n) → ((n : ℕ) → RxEnd v Producer n → sent' n ≡ sent n) → RxStandsFor v taken sent → RxStandsFor v taken' sent'
+  stands_rx v ins outs f = record {
+    switched = rw (ins v.input.queue.0 refl) f.switched;
+    to = f.to;
+    given = λ k q at. rw (ins v.input.queue.0 refl, outs q.0 (k, q, at, refl)) (f.given k q at);
+  }
+
+  stands_tx : (v : SerialVirtTx) → ((n : ℕ) → TxEnd v Consumer n → taken' n ≡ taken n) → ((n : ℕ) → TxEnd v Producer n → sent' n ≡ sent n) → TxStandsFor v taken sent → TxStandsFor v taken' sent'
+  stands_tx v ins outs f = rw (outs v.output.queue.0 refl, map_alike (λ (q : QueueId). taken' q.0) (λ (q : QueueId). taken q.0) (intake_queues v.inputs) (λ k q at. ins q.0 (k, q, at, refl))) f
+
+  pub stands_beside : (x : Actor) → ((n : ℕ) → ActorEnd x Consumer n → taken' n ≡ taken n) → ((n : ℕ) → ActorEnd x Producer n → sent' n ≡ sent n) → ActorStandsFor x taken sent → ActorStandsFor x taken' sent'
+  stands_beside (Kinds.UartDevice x) ins outs f = stands_terminal x.terminal (ins x.terminal.input.queue.0 refl) (outs x.terminal.output.queue.0 refl) f
+  stands_beside (Kinds.SerialClient x) ins outs f = stands_terminal x.terminal (ins x.terminal.input.queue.0 refl) (outs x.terminal.output.queue.0 refl) f
+  stands_beside (Kinds.SerialVirtRx x) ins outs f = stands_rx x ins outs f
+  stands_beside (Kinds.SerialVirtTx x) ins outs f = stands_tx x ins outs f
+  stands_beside (Kinds.UartDriver x) ins outs f = (stands_pipe x.rx (ins x.rx.input.queue.0 (inl refl)) (outs x.rx.output.queue.0 (inl refl)) f.0, stands_pipe x.tx (ins x.tx.input.queue.0 (inr refl)) (outs x.tx.output.queue.0 (inr refl)) f.1)

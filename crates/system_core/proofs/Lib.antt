@@ -1,0 +1,13 @@
+pub mod Places
+pub mod Rising
+pub mod Merges
+pub mod Beside
+pub mod PartEnds
+pub mod SystemStep
+pub mod Playing
+pub mod RowsNow
+pub mod RunsNow
+pub mod Flags
+pub mod Stepping
+pub mod Starting
+pub mod Hearing

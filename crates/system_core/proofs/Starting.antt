@@ -1,0 +1,120 @@
+use Rattle.std.proofs.Common.{◌≡◌, ◌<◌, ◌≤◌, ◌+◌, ℕ, Bool, true, false, not, ◌&&◌, Some, List, [], ◌∷◌, ◌++◌, length, map, take, slice_get, slice_index_or, get_or, length-append, length-take, None, Option, refl, sym, ap, ◌∙◌, subst, arith, zero, suc, min}
+use Rattle.std.proofs.lemmas.List.{take_more, length-map, append-nil}
+use Rattle.std.proofs.lemmas.Option.{slice_get_read}
+use Rattle.wire_core.specs.declared.names.QueueRow.{QueueRow}
+use Rattle.wire_core.specs.Queues.{Queue, starts, queue_at, end_at, is_pending}
+use Rattle.wire_core.specs.Journal.{History, start_track, start_history, track, IsShown}
+use Rattle.wire_core.proofs.BellTheorem.{start_is}
+use Rattle.turn_kit.specs.Turns.{is_at_rest}
+use Rattle.actor_set.specs.Actors.{actor_round, part_of}
+use Rattle.actor_set.specs.declared.actor.Actor.{Actor}
+use Rattle.system_core.specs.Runs.{is_runnable, flags_from, places_from, if_so, runnable}
+use Rattle.system_core.specs.Runnings.{with_number}
+use Rattle.system_core.specs.Starts.{AreStarting}
+use Rattle.system_core.specs.Systems.{Holds}
+use Rattle.system_core.proofs.SystemStep.{some_eq}
+use Rattle.system_core.proofs.Merges.{map_get}
+use Rattle.system_core.proofs.Rising.{with_above}
+use Rattle.system_core.proofs.Places.{places_few}
+use Rattle.system_core.proofs.Flags.{flag_at, flags_length}
+use Rattle.system_core.proofs.RunsNow.{idle_here}
+
+starts_shown : (rows : List QueueRow) (n : ℕ) (row : QueueRow) → slice_get rows n ≡ Some row → IsShown row (queue_at (starts rows) n) start_track
+starts_shown [] n row h = cc
+starts_shown (a ∷ rows) zero row h = let e : a ≡ row = some_eq h in record { kind = ap (λ (r : QueueRow). r.kind) e; capacity = ap (λ (r : QueueRow). r.capacity) e; producer = ap (λ (r : QueueRow). r.producer.0) e; consumer = ap (λ (r : QueueRow). r.consumer.0) e; lists = refl; bells = refl }
+starts_shown (a ∷ rows) (suc n) row h = starts_shown rows n row h
+
+-- a start state holds
+pub start_holds : (rows : List QueueRow) (actors : List Actor) → AreStarting rows actors → Holds (start_history rows) rows (starts rows) actors []
+start_holds rows actors s = record {
+  taken = λ n. [];
+  sent = λ n. [];
+  shows_taken = λ n. ap (λ t. t.taken) (sym (start_is rows n));
+  shows_sent = λ n. ap (λ t. t.sent) (sym (start_is rows n));
+  size = simp length-map;
+  queues = λ n row at. subst (IsShown row (queue_at (starts rows) n)) (sym (start_is rows n)) (starts_shown rows n row at);
+  fits = s.fits;
+  stands = s.stands;
+  owners = s.owners;
+  peers = s.peers;
+  few = s.few;
+  legal = tt;
+}
+
+-- all of them are below m
+abbrev Below : ℕ → List ℕ → Type 0
+Below m [] = Unit {0}
+Below m (x ∷ xs) = (x < m) × Below m xs
+
+with_last : (m : ℕ) (xs : List ℕ) → Below m xs → with_number m xs ≡ xs ++ m ∷ []
+with_last m [] h = refl
+with_last m (x ∷ xs) h = with_above x m xs h.0 ∙ ap (λ ys. x ∷ ys) (with_last m xs h.1)
+
+places_under : (k m : ℕ) (bs : List Bool) → k + length bs ≤ m → Below m (places_from k bs)
+places_under k m [] le = tt
+places_under k m (true ∷ bs) le = (omega arith, places_under (k + 1) m bs (omega arith))
+places_under k m (false ∷ bs) le = places_under (k + 1) m bs (omega arith)
+
+places_push : (k m : ℕ) (bs : List Bool) (b : Bool) → m ≡ k + length bs → places_from k (bs ++ b ∷ []) ≡ places_from k bs ++ if_so b m []
+places_push k m [] true e = let f : k ≡ m = omega arith in ap (λ x. x ∷ []) f
+places_push k m [] false e = refl
+places_push k m (true ∷ bs) b e = ap (λ xs. k ∷ xs) (places_push (k + 1) m bs b (omega arith))
+places_push k m (false ∷ bs) b e = places_push (k + 1) m bs b (omega arith)
+
+take_all : (n : ℕ) (xs : List Bool) → length xs ≤ n → take n xs ≡ xs
+take_all zero [] le = refl
+take_all (suc n) [] le = refl
+take_all zero (x ∷ xs) le = absurd (omega arith)
+take_all (suc n) (x ∷ xs) le = ap (λ ys. x ∷ ys) (take_all n xs (omega arith))
+
+get_there : (xs : List Bool) (k : ℕ) (b : Bool) → slice_get xs k ≡ Some b → (k < length xs) × (get_or xs k b ≡ b)
+get_there [] k b h = cc
+get_there (x ∷ xs) zero b h = (omega arith, some_eq h)
+get_there (x ∷ xs) (suc k) b h = let r = get_there xs k b h in let lt : k < length xs = r.0 in (omega arith, r.1)
+
+take_with : (bs : List Bool) (k : ℕ) (b : Bool) → slice_get bs k ≡ Some b → take (k + 1) bs ≡ take k bs ++ b ∷ []
+take_with bs k b h = let g = get_there bs k b h in take_more bs k b g.0 ∙ ap (λ x. take k bs ++ x ∷ []) g.1
+
+take_count : (bs : List Bool) (k : ℕ) (b : Bool) → slice_get bs k ≡ Some b → length (take k bs) ≡ k
+take_count bs k b h = let g = get_there bs k b h in let lt : k < length bs = g.0 in length-take k bs ∙ least k (length bs) (omega arith)
+  where
+    least : (m n : ℕ) → m ≤ n → min m n ≡ m
+    least m n le = omega arith
+
+-- one more runnable actor, or one more that isn't
+pub list_added : (bs : List Bool) (k : ℕ) (list : List ℕ) → slice_get bs k ≡ Some true → list ≡ places_from 0 (take k bs) → with_number k list ≡ places_from 0 (take (k + 1) bs)
+list_added bs k list at is =
+    let n : length (take k bs) ≡ k = take_count bs k true at in
+    ap (with_number k) is ∙ (with_last k (places_from 0 (take k bs)) (places_under 0 k (take k bs) (omega arith)) ∙ (sym (places_push 0 k (take k bs) true (omega arith)) ∙ ap (places_from 0) (sym (take_with bs k true at))))
+
+pub list_skipped : (bs : List Bool) (k : ℕ) (list : List ℕ) → slice_get bs k ≡ Some false → list ≡ places_from 0 (take k bs) → list ≡ places_from 0 (take (k + 1) bs)
+list_skipped bs k list at is =
+    let n : length (take k bs) ≡ k = take_count bs k false at in
+    is ∙ (sym (places_push 0 k (take k bs) false (omega arith) ∙ append-nil (places_from 0 (take k bs))) ∙ ap (places_from 0) (sym (take_with bs k false at)))
+
+pub list_room : (bs : List Bool) (k : ℕ) (list : List ℕ) (room : ℕ) (b : Bool) → slice_get bs k ≡ Some b → list ≡ places_from 0 (take k bs) → length bs ≤ room → length (with_number k list) ≤ room
+list_room bs k list room b at is le =
+    let n : length (take k bs) ≡ k = take_count bs k b at in
+    let g = get_there bs k b at in
+    let lt : k < length bs = g.0 in
+    let f : length (places_from 0 (take k bs)) ≤ length (take k bs) = places_few 0 (take k bs) in
+    let w : with_number k (places_from 0 (take k bs)) ≡ places_from 0 (take k bs) ++ k ∷ [] = with_last k (places_from 0 (take k bs)) (places_under 0 k (take k bs) (omega arith)) in
+    let m : length (places_from 0 (take k bs) ++ k ∷ []) ≡ length (places_from 0 (take k bs)) + 1 = length-append (places_from 0 (take k bs)) (k ∷ []) in
+    rw (is, w) (omega arith)
+
+pub list_whole : (bs : List Bool) (k : ℕ) (list : List ℕ) → length bs ≤ k → list ≡ places_from 0 (take k bs) → list ≡ places_from 0 bs
+list_whole bs k list le is = is ∙ ap (places_from 0) (take_all k bs le)
+
+pub flags_many : (rows : List QueueRow) (actors : List Actor) → length (flags_from 0 (start_history rows) rows (map part_of actors) []) ≡ length actors
+flags_many rows actors = flags_length 0 (start_history rows) rows (map part_of actors) [] ∙ simp length-map
+
+-- whether an actor is runnable at the start
+pub flag_start : (rows : List QueueRow) (world : List Queue) (actors : List Actor) (k : ℕ) (x : Actor) (idle : Bool) → AreStarting rows actors → world ≡ starts rows → k < length actors → x ≡ slice_index_or actors k x → idle ≡ (is_at_rest (actor_round x) && not (is_pending k world)) → slice_get (flags_from 0 (start_history rows) rows (map part_of actors) []) k ≡ Some (not idle)
+flag_start rows world actors k x idle s w lt at is =
+    let here : slice_get actors k ≡ Some x = slice_get_read actors _ k x refl lt at in
+    let said : idle ≡ not (is_runnable k (part_of x) (start_history rows) rows []) = is ∙ (ap (λ v. is_at_rest (actor_round x) && not (is_pending k v)) w ∙ idle_here (start_history rows) rows (starts rows) actors [] (start_holds rows actors s) k x here) in
+    flag_at 0 (start_history rows) rows (map part_of actors) [] k k (part_of x) (omega arith) (map_get part_of actors k x here) ∙ ap Some (twice (is_runnable k (part_of x) (start_history rows) rows []) ∙ ap not (sym said))
+  where
+    twice : (b : Bool) → b ≡ not (not b)
+    twice true = refl
+    twice false = refl

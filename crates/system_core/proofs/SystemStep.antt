@@ -1,0 +1,176 @@
+use Rattle.std.proofs.Common.{◌≡◌, ◌≢◌, ◌⊎◌, ◌==◌, ◌<◌, ◌≤◌, ℕ, Bool, true, false, Some, None, List, [], ◌∷◌, ◌++◌, length, length-set, slice_get, slice_set, get_or, get_or-set_same, get_or-set_other, refl, sym, ◌∙◌, subst, ap, inl, inr, map, arith, zero, suc}
+use Rattle.std.specs.Option.{option_to_list}
+use Rattle.std.proofs.lemmas.List.{append-nil, map-append}
+use Rattle.std.proofs.lemmas.Option.{slice_get-get_or}
+use Rattle.std.proofs.Math.Dec.{eqb}
+use Rattle.std.proofs.lemmas.Bool.Decides.{eqb_tells}
+use Rattle.cargo_core.specs.declared.item.Item.{Item}
+use Rattle.cargo_core.specs.declared.item.QueueKind.TheVariants as Kind
+use Rattle.wire_core.specs.declared.names.QueueRow.{QueueRow}
+use Rattle.wire_core.specs.declared.names.Event.{Event}
+use Rattle.wire_core.specs.declared.names.Entry.{Entry}
+use Rattle.wire_core.specs.declared.names.Op.{Op}
+use Rattle.wire_core.specs.declared.names.Op.TheVariants as Do
+use Rattle.wire_core.specs.Deeds.{Deed, Cargo, cargo_of}
+use Rattle.wire_core.specs.Ends.{Role, Consumer, Producer, End, Moves, role_of}
+use Rattle.wire_core.specs.Lists.{Lists, Stepped, with, taken_by, put_by, if_there, if_taken, if_put}
+use Rattle.wire_core.specs.Queues.{Queue, Happens, queue_at, no_queue, end_at, items_of, after}
+use Rattle.wire_core.specs.Journal.{Track, track, track_after, sent_after, taken_after, History, nobody, history_at, if_on, IsShown, Legal, LegalEntry, owner_of}
+use Rattle.wire_core.proofs.Moving.{moves}
+use Rattle.wire_core.proofs.Places.{slice_get_written, slice_get_beside}
+use Rattle.wire_core.proofs.Beside.{take_beside, put_beside}
+use Rattle.wire_core.proofs.Tracks.{EachFrom-append, track_from-append, shown_tells, shown_condition, shown_carries, shown_after}
+use Rattle.actor_set.specs.Actors.{FitsActor, ActorStandsFor, ActorEnd, part_of}
+use Rattle.actor_set.specs.Parts.{Part}
+use Rattle.system_core.specs.Systems.{Holds}
+use Rattle.actor_set.specs.declared.actor.Actor.{Actor}
+use Rattle.system_core.proofs.Beside.{fits_beside, stands_beside}
+use Rattle.system_core.proofs.PartEnds.{same_part}
+
+pub no_row : QueueRow
+no_row = record { name = []; kind = Kind.Byte; capacity = 0; producer = record { 0 = 0 }; consumer = record { 0 = 0 }; region = None; offset = 0 }
+
+abbrev pub entry_of : ℕ → Event → Entry
+entry_of k e = record { actor = record { 0 = k }; event = e }
+
+pub some_eq : {X : Type 0} {a b : X} → Some a ≡ Some b → a ≡ b
+some_eq h = cc
+
+-- what the lists with the entry added show
+taken_more : (o : Op) (ts : List Item) (item : List Item) (c xs : List Cargo) → item ≡ items_of c → items_of xs ≡ ts → items_of (xs ++ if_taken o c) ≡ taken_after ts o item
+taken_more Do.Take ts item c xs e h = map-append (λ x. x.0) xs c ∙ rw (h, e) refl
+taken_more Do.Put ts item c xs e h = rw append-nil h
+taken_more Do.See ts item c xs e h = rw append-nil h
+taken_more Do.Room ts item c xs e h = rw append-nil h
+taken_more (Do.Ask s) ts item c xs e h = rw append-nil h
+taken_more (Do.Waive s) ts item c xs e h = rw append-nil h
+taken_more (Do.Wake s) ts item c xs e h = rw append-nil h
+taken_more (Do.Wanted s) ts item c xs e h = rw append-nil h
+taken_more (Do.Settle s) ts item c xs e h = rw append-nil h
+taken_more (Do.Ring s) ts item c xs e h = rw append-nil h
+
+sent_more : (o : Op) (ts : List Item) (item : List Item) (c xs : List Cargo) → item ≡ items_of c → items_of xs ≡ ts → items_of (xs ++ if_put o c) ≡ sent_after ts o item
+sent_more Do.Put ts item c xs e h = map-append (λ x. x.0) xs c ∙ rw (h, e) refl
+sent_more Do.Take ts item c xs e h = rw append-nil h
+sent_more Do.See ts item c xs e h = rw append-nil h
+sent_more Do.Room ts item c xs e h = rw append-nil h
+sent_more (Do.Ask s) ts item c xs e h = rw append-nil h
+sent_more (Do.Waive s) ts item c xs e h = rw append-nil h
+sent_more (Do.Wake s) ts item c xs e h = rw append-nil h
+sent_more (Do.Wanted s) ts item c xs e h = rw append-nil h
+sent_more (Do.Settle s) ts item c xs e h = rw append-nil h
+sent_more (Do.Ring s) ts item c xs e h = rw append-nil h
+
+taken_shown : (b : Bool) (t : Track) (e : Event) (c xs : List Cargo) → option_to_list e.item ≡ items_of c → items_of xs ≡ t.taken → items_of (xs ++ if_there b (if_taken e.op c)) ≡ (if_on b (track_after t e) t).taken
+taken_shown false t e c xs item h = rw append-nil h
+taken_shown true t e c xs item h = taken_more e.op t.taken (option_to_list e.item) c xs item h
+
+sent_shown : (b : Bool) (t : Track) (e : Event) (c xs : List Cargo) → option_to_list e.item ≡ items_of c → items_of xs ≡ t.sent → items_of (xs ++ if_there b (if_put e.op c)) ≡ (if_on b (track_after t e) t).sent
+sent_shown false t e c xs item h = rw append-nil h
+sent_shown true t e c xs item h = sent_more e.op t.sent (option_to_list e.item) c xs item h
+
+-- actor k, which is x, makes the call of event e, and is then x'
+module _ (history : History) (rows : List QueueRow) (w v : List Queue) (actors : List Actor) (journal : List Entry) (k : ℕ) (x x' : Actor) (e : Event) (here : slice_get actors k ≡ Some x) (old : Holds history rows w actors journal) (own : ActorEnd x (role_of e.op) e.queue.0) (st : Stepped ActorStandsFor Happens w v x x' e) where
+  deed : Deed
+  deed = record { event = e; body = st.body }
+
+  -- an actor's ends are its own: no other actor has them
+  apart : (j : ℕ) (y : Actor) → slice_get actors j ≡ Some y → (j ≡ k → ⊥) → ActorEnd y (role_of e.op) e.queue.0 → ⊥
+  apart j y at away theirs =
+      let row = slice_get-get_or rows e.queue.0 no_row (subst (λ n. e.queue.0 < n) old.size st.happened.there) in
+      away (sym (old.owners j y at (role_of e.op) e.queue.0 theirs _ row) ∙ old.owners k x here (role_of e.op) e.queue.0 own _ row)
+
+  taken' : Lists
+  taken' = with old.taken (taken_by deed)
+
+  sent' : Lists
+  sent' = with old.sent (put_by deed)
+
+  more : (n : ℕ) → track history n (journal ++ entry_of k e ∷ []) ≡ if_on (e.queue.0 == n) (track_after (track history n journal) e) (track history n journal)
+  more n = track_from-append (history_at history n) n journal (entry_of k e)
+
+  shows_taken' : (n : ℕ) → items_of (taken' n) ≡ (track history n (journal ++ entry_of k e ∷ [])).taken
+  unfolding taken' deed
+  shows_taken' n = taken_shown (e.queue.0 == n) (track history n journal) e (cargo_of deed) (old.taken n) st.happened.may.item (old.shows_taken n) ∙ ap (λ t. t.taken) (sym (more n))
+
+  shows_sent' : (n : ℕ) → items_of (sent' n) ≡ (track history n (journal ++ entry_of k e ∷ [])).sent
+  unfolding sent' deed
+  shows_sent' n = sent_shown (e.queue.0 == n) (track history n journal) e (cargo_of deed) (old.sent n) st.happened.may.item (old.shows_sent n) ∙ ap (λ t. t.sent) (sym (more n))
+
+  size' : length v ≡ length rows
+  size' = ap length st.happened.after_is ∙ (length-set w e.queue.0 _ ∙ old.size)
+
+  queue_after_here : (n : ℕ) (row : QueueRow) → slice_get rows n ≡ Some row → ((eqb e.queue.0 n ≡ true) × (e.queue.0 ≡ n)) ⊎ ((eqb e.queue.0 n ≡ false) × (e.queue.0 ≢ n)) → IsShown row (queue_at v n) (if_on (e.queue.0 == n) (track_after (track history n journal) e) (track history n journal))
+  unfolding deed
+  queue_after_here n row at (inl same) =
+      rw (st.happened.after_is, same.0, ← same.1, get_or-set_same w e.queue.0 (after (queue_at w e.queue.0) deed) no_queue st.happened.there)
+      (shown_after row (queue_at w e.queue.0) (track history e.queue.0 journal) deed (old.queues e.queue.0 row (rw same.1 at)) st.happened.may)
+  queue_after_here n row at (inr away) =
+      rw (st.happened.after_is, away.0, get_or-set_other w e.queue.0 n (after (queue_at w e.queue.0) deed) no_queue (λ h. away.1 (sym h)))
+      (old.queues n row at)
+
+  queues' : (n : ℕ) (row : QueueRow) → slice_get rows n ≡ Some row → IsShown row (queue_at v n) (track history n (journal ++ entry_of k e ∷ []))
+  queues' n row at = subst (IsShown row (queue_at v n)) (sym (more n)) (queue_after_here n row at (eqb_tells e.queue.0 n))
+
+  changes : Moves (end_at w) e (end_at v)
+  unfolding deed
+  changes = moves w deed v st.happened
+
+  fits' : FitsActor (end_at v) x' → (j : ℕ) (y : Actor) → slice_get (slice_set actors k x') j ≡ Some y → ((eqb j k ≡ true) × (j ≡ k)) ⊎ ((eqb j k ≡ false) × (j ≢ k)) → FitsActor (end_at v) y
+  fits' new j y at (inl same) = let e : x' ≡ y = some_eq (sym (slice_get_written actors k x x' here) ∙ (ap (slice_get (slice_set actors k x')) (sym same.1) ∙ at)) in subst (FitsActor (end_at v)) e new
+  fits' new j y at (inr away) =
+      let was : slice_get actors j ≡ Some y = sym (slice_get_beside actors k j x' away.1) ∙ at in
+      fits_beside (end_at w) (end_at v) changes.kinds y (λ r n theirs. changes.others r n (λ a b. apart j y was away.1 (subst (λ r'. ActorEnd y r' e.queue.0) a (subst (ActorEnd y r) b theirs)))) (old.fits j y was)
+
+  stands' : (j : ℕ) (y : Actor) → slice_get (slice_set actors k x') j ≡ Some y → ((eqb j k ≡ true) × (j ≡ k)) ⊎ ((eqb j k ≡ false) × (j ≢ k)) → ActorStandsFor y taken' sent'
+  unfolding taken' sent' deed
+  stands' j y at (inl same) = let e : x' ≡ y = some_eq (sym (slice_get_written actors k x x' here) ∙ (ap (slice_get (slice_set actors k x')) (sym same.1) ∙ at)) in subst (λ a. ActorStandsFor a taken' sent') e (st.kept old.taken old.sent (old.stands k x here))
+  stands' j y at (inr away) =
+      let was : slice_get actors j ≡ Some y = sym (slice_get_beside actors k j x' away.1) ∙ at in
+      stands_beside old.taken old.sent taken' sent' y
+      (λ n theirs. ap (λ c. old.taken n ++ c) (take_beside deed n (λ a b. apart j y was away.1 (subst (λ r. ActorEnd y r e.queue.0) (sym a) (subst (ActorEnd y Consumer) (sym b) theirs)))) ∙ append-nil (old.taken n))
+      (λ n theirs. ap (λ c. old.sent n ++ c) (put_beside deed n (λ a b. apart j y was away.1 (subst (λ r. ActorEnd y r e.queue.0) (sym a) (subst (ActorEnd y Producer) (sym b) theirs)))) ∙ append-nil (old.sent n))
+      (old.stands j y was)
+
+  owners' : part_of x' ≡ part_of x → (j : ℕ) (y : Actor) → slice_get (slice_set actors k x') j ≡ Some y → ((eqb j k ≡ true) × (j ≡ k)) ⊎ ((eqb j k ≡ false) × (j ≢ k)) → (r : Role) (n : ℕ) → ActorEnd y r n → (row : QueueRow) → slice_get rows n ≡ Some row → owner_of row r ≡ j
+  owners' part j y at (inl same) r n theirs row rat = let e : y ≡ x' = some_eq (sym at ∙ (ap (slice_get (slice_set actors k x')) same.1 ∙ slice_get_written actors k x x' here)) in old.owners k x here r n (same_part x x' r n part (subst (λ a. ActorEnd a r n) e theirs)) row rat ∙ sym same.1
+  owners' part j y at (inr away) r n theirs row rat = old.owners j y (sym (slice_get_beside actors k j x' away.1) ∙ at) r n theirs row rat
+
+  legal' : LegalEntry nobody history rows journal (entry_of k e)
+  unfolding deed
+  legal' =
+      let row : slice_get rows e.queue.0 ≡ Some (get_or rows e.queue.0 no_row) = slice_get-get_or rows e.queue.0 no_row (subst (λ n. e.queue.0 < n) old.size st.happened.there) in
+      let shown = old.queues e.queue.0 (get_or rows e.queue.0 no_row) row in
+      record {
+        row = get_or rows e.queue.0 no_row;
+        there = row;
+        legal = record {
+          condition = shown_condition (get_or rows e.queue.0 no_row) (queue_at w e.queue.0) (track history e.queue.0 journal) shown e.op st.happened.may.condition;
+          tells = λ calm. shown_tells (get_or rows e.queue.0 no_row) (queue_at w e.queue.0) (track history e.queue.0 journal) shown e.op e.answer st.happened.may.tells;
+          carries = λ calm. shown_carries (get_or rows e.queue.0 no_row) (queue_at w e.queue.0) (track history e.queue.0 journal) shown e.op (cargo_of deed) e.item st.happened.may.carries st.happened.may.item;
+          owner = sym (old.owners k x here (role_of e.op) e.queue.0 own (get_or rows e.queue.0 no_row) row);
+        };
+      }
+
+  -- all goes on to hold
+  pub step_holds : FitsActor (end_at v) x' → part_of x' ≡ part_of x → Holds history rows v (slice_set actors k x') (journal ++ entry_of k e ∷ [])
+  step_holds new part = record {
+    taken = taken';
+    sent = sent';
+    shows_taken = shows_taken';
+    shows_sent = shows_sent';
+    size = size';
+    queues = queues';
+    fits = λ j y at. fits' new j y at (eqb_tells j k);
+    stands = λ j y at. stands' j y at (eqb_tells j k);
+    owners = λ j y at. owners' part j y at (eqb_tells j k);
+    peers = λ n row at r. rw length-set (old.peers n row at r);
+    few = rw length-set old.few;
+    legal = EachFrom-append (LegalEntry nobody history rows) [] journal (entry_of k e) old.legal legal';
+  }
+
+-- where one actor's part stays, all parts stay
+pub map_same : (f : Actor → Part) (xs : List Actor) (k : ℕ) (x x' : Actor) → slice_get xs k ≡ Some x → f x' ≡ f x → map f (slice_set xs k x') ≡ map f xs
+map_same f [] k x x' at same = refl
+map_same f (a ∷ xs) zero x x' at same = let e : a ≡ x = some_eq at in ap (λ b. b ∷ map f xs) (same ∙ ap f (sym e))
+map_same f (a ∷ xs) (suc k) x x' at same = ap (λ bs. f a ∷ bs) (map_same f xs k x x' at same)

@@ -1,0 +1,11 @@
+use Rattle.std.proofs.Common.{subst, sym}
+use Rattle.wire_core.specs.Journal.{nobody, LegalJournal, EachMoment, BellsHold, QueuesFlow, start_history}
+use Rattle.wire_core.proofs.BellTheorem.{bells_hold, queues_flow, starts_hold, starts_flow}
+use Rattle.system_core.specs.Shows.{Shown}
+use Rattle.system_core.proofs.system.System.journal.Goals as goal
+
+pub returns-clause-bells_hold : goal.returns-clause-bells_hold
+returns-clause-bells_hold c = subst (λ (s : Shown). EachMoment (BellsHold nobody s.history s.rows) s.journal) c.self.view_is (bells_hold nobody (start_history c.self.inside.rows.items) c.self.inside.rows.items c.self.inside.journal.items (starts_hold nobody c.self.inside.rows.items) c.self.invariant.holds.legal)
+
+pub returns-clause-flows : goal.returns-clause-flows
+returns-clause-flows c = subst (λ (s : Shown). EachMoment (QueuesFlow nobody s.history s.rows) s.journal) c.self.view_is (queues_flow nobody (start_history c.self.inside.rows.items) c.self.inside.rows.items c.self.inside.journal.items (starts_flow nobody c.self.inside.rows.items) c.self.invariant.holds.legal)

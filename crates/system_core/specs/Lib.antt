@@ -1,0 +1,10 @@
+pub mod Shows
+pub mod Tracks
+pub mod Rows
+pub mod Runs
+pub mod Plays
+pub mod Runnings
+pub mod Systems
+pub mod Inside
+pub mod Starts
+pub mod Reports

@@ -1,0 +1,31 @@
+use Rattle.std.specs.Prelude.{◌≡◌, ◌≤◌, ◌+◌, ◌++◌, ℕ, Some, List, [], length, slice_get}
+use Rattle.wire_core.specs.declared.names.Entry.{Entry}
+use Rattle.wire_core.specs.Picks.{PickedFrom}
+use Rattle.system_core.specs.Shows.{Shown, Appends}
+use Rattle.system_core.specs.Runs.{runnable}
+
+-- the actors of a system that are runnable now
+abbrev pub runnable_now : Shown → List ℕ
+runnable_now s = runnable s.history s.rows s.cast s.journal
+
+-- the system played on by steps that the seed picks, at most so many
+pub record Played (old new : Shown) (seed limit : ℕ) : Type 0 where
+  pub history : new.history ≡ old.history
+  pub rows : new.rows ≡ old.rows
+  pub cast : new.cast ≡ old.cast
+  pub device : new.device ≡ old.device
+  pub clients : new.clients ≡ old.clients
+  pub more : List Entry
+  pub journal : new.journal ≡ old.journal ++ more
+  pub picked : PickedFrom (runnable old.history old.rows old.cast) seed old.journal more
+  pub within : length more ≤ limit
+
+-- so many steps were made, and some actor is runnable
+abbrev pub IsSpent : Shown → Shown → ℕ → Type 0
+IsSpent old new limit = (length new.journal ≡ length old.journal + limit) × (runnable_now new ≡ [] → ⊥)
+
+-- the actor at a place among the runnable ones made one call more
+pub record StepsAt (place : ℕ) (old new : Shown) : Type 0 where
+  pub actor : ℕ
+  pub there : slice_get (runnable_now old) place ≡ Some actor
+  pub appends : Appends actor old new

@@ -1,0 +1,32 @@
+use Rattle.std.specs.Prelude.{◌≡◌, ◌<◌, ◌≤◌, ◌+◌, ◌==◌, ℕ, Bool, true, false, Option, Some, None, remove, nat_lt, if◌then◌else◌, List, [], ◌∷◌, length, map}
+use Rattle.std.specs.Vec.{vec_capacity}
+use Rattle.system_core.specs.declared.running.Running.TheInside.{Inside}
+
+-- ascending numbers and the room that is taken for them
+pub record Ascending : Type 0 where
+  pub list : List ℕ
+  pub room : ℕ
+
+-- ascending numbers with one more, where it isn't there yet
+abbrev pub with_number : ℕ → List ℕ → List ℕ
+with_number k [] = k ∷ []
+with_number k (x ∷ xs) = if nat_lt k x then k ∷ x ∷ xs else (if k == x then x ∷ xs else x ∷ with_number k xs)
+
+abbrev pub running_of : Inside → Ascending
+running_of r = record { list = r.list.items; room = vec_capacity r.list }
+
+-- each is below the next, and the first isn't below k
+abbrev pub Rises : ℕ → List ℕ → Type 0
+Rises k [] = Unit {0}
+Rises k (x ∷ xs) = (k ≤ x) × Rises (x + 1) xs
+
+pub record IsAscending (r : Inside) : Type 0 where
+  pub rises : Rises 0 r.list.items
+
+abbrev pub removed_if : Bool → List ℕ → ℕ → List ℕ
+removed_if true xs place = remove xs place
+removed_if false xs place = xs
+
+abbrev pub with_option : Option ℕ → List ℕ → List ℕ
+with_option None xs = xs
+with_option (Some k) xs = with_number k xs

@@ -1,0 +1,8 @@
+//! The actors with the queues between them, and the one journal.
+#![tactic(auto)]
+
+mod running;
+mod system;
+
+pub use actor_set::Actor;
+pub use system::{Ending, System};

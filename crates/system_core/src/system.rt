@@ -1,0 +1,259 @@
+ghost use Rattle.std.specs.Prelude.{◌≡◌, ◌<◌, ◌≤◌, ◌&&◌, not, length, map, OnOk, OnErr, IfOk, slice_get, Some, []};
+ghost use Rattle.std.specs.Option.{option_map};
+ghost use Rattle.wire_core.specs.Queues.{is_pending, starts};
+ghost use Rattle.wire_core.specs.Journal.{nobody, start_history, LegalJournal, EachMoment, BellsHold, QueuesFlow};
+ghost use Rattle.turn_kit.specs.Turns.{is_at_rest};
+ghost use Rattle.actor_set.specs.Actors.{actor_round, part_of};
+ghost use Rattle.system_core.specs.Rows.{RowsHold};
+ghost use Rattle.system_core.specs.Runs.{runnable, rung_at};
+ghost use Rattle.system_core.specs.Shows.{started};
+ghost use Rattle.system_core.specs.Starts.{AreStarting};
+ghost use Rattle.system_core.specs.Reports.{heard_of, heard_at, report_of};
+ghost use Rattle.system_core.specs.Runnings.{removed_if, with_option};
+ghost use Rattle.system_core.specs.Plays.{Played, IsSpent, StepsAt, runnable_now};
+
+use crate::running::Running;
+use actor_set::Actor;
+use cargo_core::{Bytes, Memory, Series};
+use expect_core::Report;
+use plain_wires::World;
+use std::alloc::Global;
+use std::marker::Model;
+use wire_core::{ActorId, Entry, Op, QueueRow, Side, next_seed, place_of};
+
+/// How a play ended: no actor is runnable, or the steps are spent and some actor is runnable.
+#[derive(Clone, Copy, Debug, PartialEq, Eq)]
+pub enum Ending {
+    Quiet,
+    Spent,
+}
+
+/// A system at play: the queues of its rows with what stands in them, its actors, and the one journal. Which actors are
+/// runnable is kept up to date, so that a step costs the ends of the actor that makes it.
+#[derive(Drop)]
+pub struct System {
+    alloc: Global,
+    rows: Vec<QueueRow>,
+    world: World,
+    actors: Vec<Actor>,
+    device: Option<u16>,
+    clients: Vec<u16>,
+    running: Running,
+    journal: Vec<Entry>,
+}
+
+impl Model for System {
+    ghost use Rattle.system_core.specs.Shows.{Shown};
+
+    ghost Value = { Shown };
+
+    ghost use Rattle.system_core.specs.Inside.{shown_of, IsSystem};
+
+    ghost view = { shown_of };
+
+    ghost invariant = { IsSystem };
+}
+
+// Whether the actor at a place isn't runnable.
+fn is_idle(actor: &Actor, world: &World, place: ActorId) -> bool
+    ensures { result ≡ (is_at_rest (actor_round actor.now) && not (is_pending place.0 world.now)) }
+{
+    actor.at_rest() && !world.is_pending(place)
+}
+
+// The actor whose pending word a call on a queue sets, if it sets one.
+fn rung(op: Op, row: &QueueRow) -> Option<u16>
+    ensures { result ≡ rung_at op row.now }
+{
+    match op {
+        Op::Ring(Side::Forward) => Some(row.consumer.0),
+        Op::Ring(Side::Backward) => Some(row.producer.0),
+        _ => None,
+    }
+}
+
+// Takes out the actor at a place where it is idle, and adds the one that was rung.
+fn note(running: &mut Running, place: usize, idle: bool, rung: Option<u16>)
+    requires there { place < length running.old.list }
+    requires room { length (with_option rung (removed_if idle running.old.list place)) ≤ running.old.room }
+    ensures { running.new ≡ record running.old { list = with_option rung (removed_if idle running.old.list place) } }
+{
+    if idle {
+        running.remove(place);
+    }
+    if let Some(actor) = rung {
+        running.add(actor);
+    }
+}
+
+// The runnable actors at the start.
+fn first_running(
+    alloc: Global,
+    rows: &[QueueRow],
+    world: &World,
+    actors: &[Actor],
+) -> Result<Running, Memory>
+    requires starting { AreStarting rows.now actors.now }
+    requires world { world.now ≡ starts rows.now }
+    ensures list { IfOk result (λ r. r.list ≡ runnable (start_history rows.now) rows.now (map part_of actors.now) []) }
+    ensures room { IfOk result (λ r. length actors.now ≤ r.room) }
+{
+    let mut running = Running::with_room(alloc, actors.len())?;
+    for k in 0..actors.len() {
+        let actor = &actors[k];
+        if !is_idle(actor, world, ActorId(k as u16)) {
+            running.add(k as u16);
+        }
+    }
+    Ok(running)
+}
+
+// What an actor sent on its line, or recorded.
+fn heard_of(actor: &Actor) -> &[u8]
+    ensures { result.now ≡ heard_of actor.now }
+{
+    match actor {
+        Actor::UartDevice(device) => device.line(),
+        Actor::SerialClient(client) => client.got(),
+        _ => &[],
+    }
+}
+
+impl System {
+    /// A system in its start state: actors in theirs, at queues in theirs. `device` is the place of the serial device among
+    /// the actors, `clients` the places of the serial clients in their order.
+    pub fn start(
+        alloc: Global,
+        rows: Vec<QueueRow>,
+        actors: Vec<Actor>,
+        device: Option<u16>,
+        clients: Vec<u16>,
+    ) -> Result<System, Memory>
+        requires { AreStarting rows.items actors.items }
+        ensures { IfOk result (λ s. s ≡ started rows.items (map part_of actors.items) device clients.items) }
+    {
+        let world = World::new(alloc, &rows)?;
+        let running = first_running(alloc, &rows, &world, &actors)?;
+        Ok(System {
+            alloc,
+            rows,
+            world,
+            actors,
+            device,
+            clients,
+            running,
+            journal: Vec::new(alloc),
+        })
+    }
+
+    // What the actor at a place sent on its line, or recorded.
+    fn heard(&self, place: u16) -> &[u8]
+        ensures { result.now ≡ heard_at self.now place }
+    {
+        if place as usize >= self.actors.len() {
+            return &[];
+        }
+        let actor = &self.actors[place as usize];
+        heard_of(actor)
+    }
+
+    // What was sent on the serial line.
+    fn line(&self) -> Result<Option<Bytes>, Memory>
+        ensures { IfOk result (λ l. l ≡ option_map (heard_at self.now) self.now.device) }
+    {
+        match self.device {
+            Some(place) => Ok(Some(Bytes::from_slice(self.alloc, self.heard(place))?)),
+            None => Ok(None),
+        }
+    }
+
+    // What each serial client recorded.
+    fn records(&self) -> Result<Series<Bytes>, Memory>
+        ensures { IfOk result (λ rs. rs ≡ map (heard_at self.now) self.now.clients) }
+    {
+        let mut records = Series::new(self.alloc);
+        for client in &self.clients {
+            records.push(Bytes::from_slice(self.alloc, self.heard(*client))?)?;
+        }
+        Ok(records)
+    }
+
+    /// What the system shows as it is.
+    pub fn report(&self) -> Result<Report, Memory>
+        ensures { IfOk result (λ r. r ≡ report_of self.now) }
+    {
+        Ok(Report {
+            quiet: self.running.len() == 0,
+            steps: self.journal.len() as u64,
+            wire: None,
+            net: Series::new(self.alloc),
+            line: self.line()?,
+            serial: self.records()?,
+            blk: Series::new(self.alloc),
+            pools: Series::new(self.alloc),
+            bad: 0,
+        })
+    }
+
+    /// All calls that were made, since the system was built.
+    pub fn journal(&self) -> &[Entry]
+        ensures value { result.now ≡ self.now.journal }
+        ensures legal { LegalJournal nobody self.now.history self.now.rows self.now.journal }
+        ensures bells_hold { EachMoment (BellsHold nobody self.now.history self.now.rows) self.now.journal }
+        ensures flows { EachMoment (QueuesFlow nobody self.now.history self.now.rows) self.now.journal }
+        ensures rows_hold { EachMoment (RowsHold self.now.history self.now.cast) self.now.journal }
+    {
+        &self.journal
+    }
+
+    fn runnable_count(&self) -> usize
+        ensures { result ≡ length (runnable_now self.now) }
+    {
+        self.running.len()
+    }
+
+    // One call of the actor at a place among the runnable ones.
+    fn step_at(&mut self, place: usize) -> Result<(), Memory>
+        requires { place < length (runnable_now self.old) }
+        ensures ok { OnOk result (StepsAt place self.old self.new) }
+        ensures err { OnErr result (self.new ≡ self.old) }
+    {
+        self.journal.reserve(1)?;
+        let number = self.running.at(place);
+        let actor = &mut self.actors[number as usize];
+        let event = actor.step(&mut self.world)?;
+        self.journal.push_reserved(Entry {
+            actor: ActorId(number),
+            event,
+        });
+        let actor = &self.actors[number as usize];
+        let idle = is_idle(actor, &self.world, ActorId(number));
+        let row = &self.rows[event.queue.0 as usize];
+        let rung = rung(event.op, row);
+        note(&mut self.running, place, idle, rung);
+        Ok(())
+    }
+
+    /// Makes steps of actors that the seed picks, until none is runnable or so many were made. After want of memory the
+    /// journal holds the steps that were made.
+    pub fn play(&mut self, seed: u64, limit: u64) -> Result<Ending, Memory>
+        ensures played { Played self.old self.new seed limit }
+        ensures quiet { IfOk result (λ e. e ≡ Ending.Quiet → runnable_now self.new ≡ []) }
+        ensures spent { IfOk result (λ e. e ≡ Ending.Spent → IsSpent self.old self.new limit) }
+    {
+        let mut x = seed;
+        for _step in 0..limit {
+            let count = self.runnable_count();
+            if count == 0 {
+                return Ok(Ending::Quiet);
+            }
+            x = next_seed(x);
+            self.step_at(place_of(x, count))?;
+        }
+        if self.runnable_count() == 0 {
+            Ok(Ending::Quiet)
+        } else {
+            Ok(Ending::Spent)
+        }
+    }
+}
