@@ -11,3 +11,6 @@ pub mod Flags
 pub mod Stepping
 pub mod Starting
 pub mod Hearing
+pub mod InputBegins
+pub mod Prefixes
+pub mod EndToEnd

@@ -8,3 +8,4 @@ pub mod Systems
 pub mod Inside
 pub mod Starts
 pub mod Reports
+pub mod Serial

@@ -1,4 +1,4 @@
-ghost use Rattle.std.specs.Prelude.{◌≡◌, ◌<◌, ◌≤◌, ◌&&◌, not, length, map, OnOk, OnErr, IfOk, slice_get, Some, []};
+ghost use Rattle.std.specs.Prelude.{◌≡◌, ◌<◌, ◌≤◌, ◌&&◌, ℕ, List, not, length, map, OnOk, OnErr, IfOk, slice_get, Some, []};
 ghost use Rattle.std.specs.Option.{option_map};
 ghost use Rattle.wire_core.specs.Queues.{is_pending, starts};
 ghost use Rattle.wire_core.specs.Journal.{nobody, start_history, LegalJournal, EachMoment, BellsHold, QueuesFlow};
@@ -10,6 +10,7 @@ ghost use Rattle.system_core.specs.Shows.{started};
 ghost use Rattle.system_core.specs.Starts.{AreStarting};
 ghost use Rattle.system_core.specs.Reports.{heard_of, heard_at, report_of};
 ghost use Rattle.system_core.specs.Runnings.{removed_if, with_option};
+ghost use Rattle.system_core.specs.Serial.{IsSerial, ArrivesInPart, at_moment};
 ghost use Rattle.system_core.specs.Plays.{Played, IsSpent, StepsAt, runnable_now};
 
 use crate::running::Running;
@@ -202,6 +203,7 @@ impl System {
         ensures bells_hold { EachMoment (BellsHold nobody self.now.history self.now.rows) self.now.journal }
         ensures flows { EachMoment (QueuesFlow nobody self.now.history self.now.rows) self.now.journal }
         ensures rows_hold { EachMoment (RowsHold self.now.history self.now.cast) self.now.journal }
+        ensures serial { (input : List ℕ) (scripts : List (List ℕ)) → IsSerial self.now input scripts → EachMoment (λ j. ArrivesInPart (at_moment self.now j) input scripts) self.now.journal }
     {
         &self.journal
     }

@@ -2,6 +2,8 @@ use Rattle.std.proofs.Common.{subst, sym}
 use Rattle.wire_core.specs.Journal.{nobody, LegalJournal, EachMoment, BellsHold, QueuesFlow, start_history}
 use Rattle.wire_core.proofs.BellTheorem.{bells_hold, queues_flow, starts_hold, starts_flow}
 use Rattle.system_core.specs.Shows.{Shown}
+use Rattle.system_core.specs.Rows.{RowsHold}
+use Rattle.system_core.proofs.EndToEnd.{arrives_at_each_moment}
 use Rattle.system_core.proofs.system.System.journal.Goals as goal
 
 pub returns-clause-bells_hold : goal.returns-clause-bells_hold
@@ -9,3 +11,6 @@ returns-clause-bells_hold c = subst (λ (s : Shown). EachMoment (BellsHold nobod
 
 pub returns-clause-flows : goal.returns-clause-flows
 returns-clause-flows c = subst (λ (s : Shown). EachMoment (QueuesFlow nobody s.history s.rows) s.journal) c.self.view_is (queues_flow nobody (start_history c.self.inside.rows.items) c.self.inside.rows.items c.self.inside.journal.items (starts_flow nobody c.self.inside.rows.items) c.self.invariant.holds.legal)
+
+pub returns-clause-serial : goal.returns-clause-serial
+returns-clause-serial c = λ input scripts w. arrives_at_each_moment c.args.self.now input scripts w (subst (λ (s : Shown). EachMoment (RowsHold s.history s.cast) s.journal) c.self.view_is c.self.invariant.rows_hold) (returns-clause-flows c)
