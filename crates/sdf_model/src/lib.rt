@@ -18,3 +18,6 @@ pub use plan::{
     SerialClient,
 };
 pub use read::read_description;
+
+#[cfg(test)]
+mod tests;
