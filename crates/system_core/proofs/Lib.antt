@@ -14,3 +14,4 @@ pub mod Hearing
 pub mod InputBegins
 pub mod Prefixes
 pub mod EndToEnd
+pub mod Seating

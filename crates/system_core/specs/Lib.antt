@@ -9,3 +9,4 @@ pub mod Inside
 pub mod Starts
 pub mod Reports
 pub mod Serial
+pub mod Seats

@@ -8,6 +8,7 @@ ghost use Rattle.system_core.specs.Rows.{RowsHold};
 ghost use Rattle.system_core.specs.Runs.{runnable, rung_at};
 ghost use Rattle.system_core.specs.Shows.{started};
 ghost use Rattle.system_core.specs.Starts.{AreStarting};
+ghost use Rattle.system_core.specs.Seats.{AreSeated};
 ghost use Rattle.system_core.specs.Reports.{heard_of, heard_at, report_of};
 ghost use Rattle.system_core.specs.Runnings.{removed_if, with_option};
 ghost use Rattle.system_core.specs.Serial.{IsSerial, ArrivesInPart, at_moment};
@@ -121,7 +122,7 @@ fn heard_of(actor: &Actor) -> &[u8]
 }
 
 impl System {
-    /// A system in its start state: actors in theirs, at queues in theirs. `device` is the place of the serial device among
+    /// A system in its start state: actors in theirs, each with the ends that the rows give it. `device` is the place of the serial device among
     /// the actors, `clients` the places of the serial clients in their order.
     pub fn start(
         alloc: Global,
@@ -130,7 +131,7 @@ impl System {
         device: Option<u16>,
         clients: Vec<u16>,
     ) -> Result<System, Memory>
-        requires { AreStarting rows.items actors.items }
+        requires { AreSeated rows.items actors.items }
         ensures { IfOk result (λ s. s ≡ started rows.items (map part_of actors.items) device clients.items) }
     {
         let world = World::new(alloc, &rows)?;
