@@ -1,0 +1,4 @@
+pub mod BaseLemmas
+pub mod NameLemmas
+pub mod RowLemmas
+pub mod DisjointLemmas

@@ -1,0 +1,7 @@
+use Rattle.std.proofs.Common.{append_assoc}
+use Rattle.region_layout.specs.Rows.{eth_tx_queues}
+use Rattle.region_layout.proofs.queues.add_eth_tx.Goals as goal
+
+pub returns : goal.returns
+unfolding eth_tx_queues
+returns c = rw (c.in_ok-add_queue-2.ensures, c.in_ok-add_queue.ensures, c.as_str.ensures, c.as_str-2.ensures) (simp append_assoc)

@@ -1,0 +1,11 @@
+//! Where the regions of a plan lie, which queues and pools stand in them, and who acts.
+#![tactic(auto)]
+
+mod actors;
+mod bases;
+mod layout;
+mod pools;
+mod queues;
+
+pub use layout::{Layout, lay_out};
+pub use wire_core::{PoolRow, QueueRow};
