@@ -7,3 +7,7 @@ pub mod ListLemmas
 pub mod MeetingLemmas
 pub mod SoughtLemmas
 pub mod PriorLemmas
+pub mod LoopLemmas
+pub mod NamedLemmas
+pub mod ValueLemmas
+pub mod BrokenLemmas

@@ -1,6 +1,9 @@
-use Rattle.std.specs.Prelude.{◌≡◌, ◌≢◌, ℕ, ◌+◌, ◌*◌, ◌^◌, ◌<◌, ◌≤◌, ◌⊎◌, Bool, false, List, [], ◌∷◌, ◌++◌, length, map, sum_by, slice_get, codes, IsNone, IsSomeAnd, MatchBool}
+use Rattle.std.specs.Prelude.{◌≡◌, ◌≢◌, ℕ, ◌+◌, ◌*◌, ◌^◌, ◌<◌, ◌≤◌, ◌⊎◌, Bool, false, List, [], ◌∷◌, ◌++◌, length, map, sum_by, Option, slice_get, codes, IsNone, IsSomeAnd, MatchBool}
 use Rattle.std.specs.List.{flat_map}
-use Rattle.std.specs.Option.{option_map_or}
+use Rattle.std.specs.Option.{option_map_or, option_and_then}
+use Rattle.sdf_model.specs.declared.plan.Domain.{Domain}
+use Rattle.sdf_model.specs.declared.plan.Map.{Map}
+use Rattle.sdf_model.specs.declared.plan.Channel.{Channel}
 use Rattle.std.specs.Prelude.{⊤}
 use Rattle.frame_core.specs.Macs.{mac_of}
 use Rattle.sdf_model.specs.declared.place.Place.{Place}
@@ -13,7 +16,7 @@ use Rattle.sdf_model.specs.declared.plan.SerialClient.{SerialClient}
 use Rattle.sdf_model.specs.declared.plan.Blk.{Blk}
 use Rattle.sdf_model.specs.declared.plan.BlkClient.{BlkClient}
 use Rattle.sdf_check.specs.declared.role.Role.{Role}
-use Rattle.sdf_check.specs.Elements.{OfDomain, OfMap, OfIrq, OfNetClient, OfSerialClient, OfBlkClient}
+use Rattle.sdf_check.specs.Elements.{OfDomain, OfNetClient, OfSerialClient, OfBlkClient}
 use Rattle.sdf_check.specs.Names.{StandsBefore, domain_named, net_regions, net_client_regions, serial_regions, serial_client_regions, blk_regions, blk_client_regions, net_domains, net_client_domains, serial_domains, serial_client_domains, blk_domains, blk_client_domains}
 use Rattle.sdf_check.specs.Rules.{the_region, count_of}
 use Rattle.sdf_check.specs.Roles.{IsProgramOf, net_roles, net_client_roles, serial_roles, serial_client_roles, blk_roles, blk_client_roles}
@@ -64,9 +67,13 @@ regions_before plan _ = 0
 abbrev pub RepeatsName : List (List ℕ) → ℕ → List (List ℕ) → Type 0
 RepeatsName all before names = (key : ℕ) × IsSomeAnd (slice_get names key) (λ name. StandsBefore name all (before + key))
 
+-- the domain that has this name
+abbrev pub the_domain : Plan → List ℕ → Option Domain
+the_domain plan name = option_and_then (λ d. slice_get plan.protection_domain d) (domain_named plan name)
+
 -- the domain of this name runs a program of this role
 abbrev pub Plays : Plan → List ℕ × Role → Type 0
-Plays plan role = IsSomeAnd (domain_named plan role.0) (λ d. OfDomain plan d (λ domain. IsProgramOf role.1 domain.program))
+Plays plan role = IsSomeAnd (the_domain plan role.0) (λ domain. IsProgramOf role.1 domain.program)
 
 -- an element gives a role to a domain with another program, or to one that has a role already
 abbrev pub GivesWrongRole : Plan → Place → List (List ℕ × Role) → Type 0
@@ -85,15 +92,18 @@ HasWrongRole plan At.Blk = IsSomeAnd plan.blk (λ blk. GivesWrongRole plan At.Bl
 HasWrongRole plan (At.BlkClient c) = OfBlkClient plan c (λ client. GivesWrongRole plan (At.BlkClient c) (blk_client_roles client))
 HasWrongRole plan _ = ⊥
 
--- a channel joins the two domains, whichever end stands first
+-- a channel joins two domains, whichever end stands first
+abbrev pub Joins : List ℕ × List ℕ → Channel → Type 0
+Joins link channel =
+    IsSomeAnd (slice_get channel.end 0) (λ first. IsSomeAnd (slice_get channel.end 1) (λ second.
+    ((first.pd ≡ link.0) × (second.pd ≡ link.1)) ⊎ ((first.pd ≡ link.1) × (second.pd ≡ link.0))))
+
 abbrev pub AreJoined : Plan → List ℕ × List ℕ → Type 0
-AreJoined plan link =
-    SomeOf (λ channel. IsSomeAnd (slice_get channel.end 0) (λ first. IsSomeAnd (slice_get channel.end 1) (λ second.
-    ((first.pd ≡ link.0) × (second.pd ≡ link.1)) ⊎ ((first.pd ≡ link.1) × (second.pd ≡ link.0))))) plan.channel
+AreJoined plan link = SomeOf (Joins link) plan.channel
 
 -- the domain of this name has an interrupt
 abbrev pub HasInterrupt : Plan → List ℕ → Type 0
-HasInterrupt plan name = IsSomeAnd (domain_named plan name) (λ d. OfDomain plan d (λ domain. 0 < length domain.irq))
+HasInterrupt plan name = IsSomeAnd (the_domain plan name) (λ domain. 0 < length domain.irq)
 
 -- rule 22: two domains of a link have no channel between them, or a driver has no interrupt
 abbrev pub MissesChannel : Plan → Place → Type 0
@@ -112,10 +122,13 @@ MissesChannel plan _ = ⊥
 abbrev pub AllowUse : List ℕ → Bool → Type 0
 AllowUse perms writes = (0 < count_of 114 perms) × MatchBool writes (0 < count_of 119 perms) ⊤
 
+-- a map of the region of a name, with the permissions asked
+abbrev pub Grants : List ℕ → Bool → Map → Type 0
+Grants region writes m = (m.mr ≡ region) × AllowUse m.perms writes
+
 -- the domain of a name maps the region of a name with the permissions asked, by one single map
 abbrev pub IsGranted : Plan → List ℕ × List ℕ × Bool → Type 0
-IsGranted plan right =
-    IsSomeAnd (domain_named plan right.0) (λ d. OfDomain plan d (λ domain. SomeOf (λ map. (map.mr ≡ right.1) × AllowUse map.perms right.2) domain.map))
+IsGranted plan right = IsSomeAnd (the_domain plan right.0) (λ domain. SomeOf (Grants right.1 right.2) domain.map)
 
 -- rule 23: a domain doesn't map a region of its class with the permissions asked
 abbrev pub MissesRight : Plan → Place → Type 0
@@ -131,38 +144,64 @@ MissesRight plan (At.BlkClient c) =
     IsSomeAnd plan.blk (λ blk. IsSomeAnd (slice_get blk.client c) (λ client. SomeOf (λ right. ¬ IsGranted plan right) (blk_client_rights blk client)))
 MissesRight plan _ = ⊥
 
--- a domain of none of these names maps the region of this name
+-- a domain has none of these names, and maps the region of this name
+abbrev pub IsStranger : List ℕ → List (List ℕ) → Domain → Type 0
+IsStranger region allowed domain = (¬ SomeOf (λ name. name ≡ domain.name) allowed) × SomeOf (λ (m : Map). m.mr ≡ region) domain.map
+
 abbrev pub HasStranger : Plan → List ℕ → List (List ℕ) → Type 0
-HasStranger plan region allowed =
-    SomeOf (λ domain. (¬ SomeOf (λ name. name ≡ domain.name) allowed) × SomeOf (λ map. map.mr ≡ region) domain.map) plan.protection_domain
+HasStranger plan region allowed = SomeOf (IsStranger region allowed) plan.protection_domain
+
+-- a region of a class element is mapped by a domain that isn't allowed to
+abbrev pub NetStranger : Plan → Net → Type 0
+NetStranger plan net =
+    HasStranger plan net.rx_region ((net.rx_virt ∷ net.driver ∷ []) ++ map (λ (c : NetClient). c.copier) net.client)
+    ⊎ HasStranger plan net.rx_queues (net.driver ∷ net.rx_virt ∷ []) ⊎ HasStranger plan net.tx_queues (net.tx_virt ∷ net.driver ∷ [])
+
+abbrev pub NetRxStranger : Plan → Net → NetClient → Type 0
+NetRxStranger plan net client =
+    HasStranger plan client.lease_queues (net.rx_virt ∷ client.copier ∷ []) ⊎ HasStranger plan client.rx_region (client.copier ∷ client.pd ∷ [])
+    ⊎ HasStranger plan client.rx_queues (client.copier ∷ client.pd ∷ [])
+
+abbrev pub NetTxStranger : Plan → Net → NetClient → Type 0
+NetTxStranger plan net client =
+    HasStranger plan client.tx_region (client.pd ∷ net.tx_virt ∷ net.driver ∷ []) ⊎ HasStranger plan client.tx_queues (client.pd ∷ net.tx_virt ∷ [])
+
+abbrev pub NetClientStranger : Plan → Net → NetClient → Type 0
+NetClientStranger plan net client = NetRxStranger plan net client ⊎ NetTxStranger plan net client
+
+abbrev pub SerialStranger : Plan → Serial → Type 0
+SerialStranger plan serial =
+    HasStranger plan serial.rx_queues (serial.driver ∷ serial.rx_virt ∷ []) ⊎ HasStranger plan serial.tx_queues (serial.tx_virt ∷ serial.driver ∷ [])
+
+abbrev pub SerialClientStranger : Plan → Serial → SerialClient → Type 0
+SerialClientStranger plan serial client =
+    HasStranger plan client.rx_queues (serial.rx_virt ∷ client.pd ∷ []) ⊎ HasStranger plan client.tx_queues (client.pd ∷ serial.tx_virt ∷ [])
+
+abbrev pub BlkStranger : Plan → Blk → Type 0
+BlkStranger plan blk = HasStranger plan blk.queues (blk.virt ∷ blk.driver ∷ []) ⊎ HasStranger plan blk.region (blk.virt ∷ blk.driver ∷ [])
+
+abbrev pub BlkClientStranger : Plan → Blk → BlkClient → Type 0
+BlkClientStranger plan blk client =
+    HasStranger plan client.region (client.pd ∷ blk.virt ∷ blk.driver ∷ []) ⊎ HasStranger plan client.queues (client.pd ∷ blk.virt ∷ [])
 
 -- rule 24: a region that a class element names is named by an earlier key too, or is mapped by a domain that isn't
 -- allowed to
 abbrev pub SharesRegion : Plan → Place → Type 0
 SharesRegion plan At.Net =
-    IsSomeAnd plan.net (λ net. RepeatsName (class_regions plan) (regions_before plan At.Net) (net_regions net)
-    ⊎ HasStranger plan net.rx_region (net.rx_virt ∷ net.driver ∷ map (λ (c : NetClient). c.copier) net.client)
-    ⊎ HasStranger plan net.rx_queues (net.driver ∷ net.rx_virt ∷ []) ⊎ HasStranger plan net.tx_queues (net.tx_virt ∷ net.driver ∷ []))
+    IsSomeAnd plan.net (λ net. RepeatsName (class_regions plan) (regions_before plan At.Net) (net_regions net) ⊎ NetStranger plan net)
 SharesRegion plan (At.NetClient c) =
     IsSomeAnd plan.net (λ net. IsSomeAnd (slice_get net.client c) (λ client.
-    RepeatsName (class_regions plan) (regions_before plan (At.NetClient c)) (net_client_regions client)
-    ⊎ HasStranger plan client.lease_queues (net.rx_virt ∷ client.copier ∷ []) ⊎ HasStranger plan client.rx_region (client.copier ∷ client.pd ∷ [])
-    ⊎ HasStranger plan client.rx_queues (client.copier ∷ client.pd ∷ []) ⊎ HasStranger plan client.tx_region (client.pd ∷ net.tx_virt ∷ net.driver ∷ [])
-    ⊎ HasStranger plan client.tx_queues (client.pd ∷ net.tx_virt ∷ [])))
+    RepeatsName (class_regions plan) (regions_before plan (At.NetClient c)) (net_client_regions client) ⊎ NetClientStranger plan net client))
 SharesRegion plan At.Serial =
-    IsSomeAnd plan.serial (λ serial. RepeatsName (class_regions plan) (regions_before plan At.Serial) (serial_regions serial)
-    ⊎ HasStranger plan serial.rx_queues (serial.driver ∷ serial.rx_virt ∷ []) ⊎ HasStranger plan serial.tx_queues (serial.tx_virt ∷ serial.driver ∷ []))
+    IsSomeAnd plan.serial (λ serial. RepeatsName (class_regions plan) (regions_before plan At.Serial) (serial_regions serial) ⊎ SerialStranger plan serial)
 SharesRegion plan (At.SerialClient c) =
     IsSomeAnd plan.serial (λ serial. IsSomeAnd (slice_get serial.client c) (λ client.
-    RepeatsName (class_regions plan) (regions_before plan (At.SerialClient c)) (serial_client_regions client)
-    ⊎ HasStranger plan client.rx_queues (serial.rx_virt ∷ client.pd ∷ []) ⊎ HasStranger plan client.tx_queues (client.pd ∷ serial.tx_virt ∷ [])))
+    RepeatsName (class_regions plan) (regions_before plan (At.SerialClient c)) (serial_client_regions client) ⊎ SerialClientStranger plan serial client))
 SharesRegion plan At.Blk =
-    IsSomeAnd plan.blk (λ blk. RepeatsName (class_regions plan) (regions_before plan At.Blk) (blk_regions blk)
-    ⊎ HasStranger plan blk.queues (blk.virt ∷ blk.driver ∷ []) ⊎ HasStranger plan blk.region (blk.virt ∷ blk.driver ∷ []))
+    IsSomeAnd plan.blk (λ blk. RepeatsName (class_regions plan) (regions_before plan At.Blk) (blk_regions blk) ⊎ BlkStranger plan blk)
 SharesRegion plan (At.BlkClient c) =
     IsSomeAnd plan.blk (λ blk. IsSomeAnd (slice_get blk.client c) (λ client.
-    RepeatsName (class_regions plan) (regions_before plan (At.BlkClient c)) (blk_client_regions client)
-    ⊎ HasStranger plan client.region (client.pd ∷ blk.virt ∷ blk.driver ∷ []) ⊎ HasStranger plan client.queues (client.pd ∷ blk.virt ∷ [])))
+    RepeatsName (class_regions plan) (regions_before plan (At.BlkClient c)) (blk_client_regions client) ⊎ BlkClientStranger plan blk client))
 SharesRegion plan _ = ⊥
 
 -- a power of two from 1 to 32,768
@@ -225,8 +264,8 @@ IsBufferCount n = (1 ≤ n) × (n ≤ 512)
 -- rule 30: a count passes its limit, or a class has no client, or a pool no buffer
 abbrev pub IsPastLimit : Plan → Place → Type 0
 IsPastLimit plan (At.Region r) = (256 ≤ r) × (r < length plan.memory_region)
-IsPastLimit plan (At.Map d m) = (64 ≤ m) × OfMap plan d m (λ map. ⊤)
-IsPastLimit plan (At.Irq d i) = (8 ≤ i) × OfIrq plan d i (λ irq. ⊤)
+IsPastLimit plan (At.Map d m) = OfDomain plan d (λ domain. (64 ≤ m) × (m < length domain.map))
+IsPastLimit plan (At.Irq d i) = OfDomain plan d (λ domain. (8 ≤ i) × (i < length domain.irq))
 IsPastLimit plan (At.Channel c) = (256 ≤ c) × (c < length plan.channel)
 IsPastLimit plan At.Net = IsSomeAnd plan.net (λ net. (¬ IsClientCount (length net.client)) ⊎ (¬ IsBufferCount net.rx_buffers))
 IsPastLimit plan (At.NetClient c) = OfNetClient plan c (λ client. (¬ IsBufferCount client.rx_buffers) ⊎ (¬ IsBufferCount client.tx_buffers))

@@ -7,6 +7,7 @@ pub mod Priors
 pub mod Roles
 pub mod Rules
 pub mod Shares
+pub mod Shown
 pub mod Sweeps
 pub mod Uses
 pub mod Valid

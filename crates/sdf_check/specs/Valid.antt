@@ -1,4 +1,4 @@
-use Rattle.std.specs.Prelude.{ℕ, ◌==◌, MatchBool, ⊤, Result, Ok, Err}
+use Rattle.std.specs.Prelude.{ℕ, ◌==◌, nat_lt, MatchBool, ⊤, Result, Ok, Err}
 use Rattle.sdf_model.specs.Places.{walk, KeepsRules, IsRefusal}
 use Rattle.sdf_model.specs.declared.place.Place.{Place}
 use Rattle.sdf_model.specs.declared.place.Refusal.{Refusal}
@@ -6,6 +6,7 @@ use Rattle.sdf_model.specs.declared.place.SdfFault.{SdfFault}
 use Rattle.sdf_model.specs.declared.place.SdfFault.TheVariants as Fault
 use Rattle.sdf_model.specs.declared.plan.Plan.{Plan}
 use Rattle.sdf_check.specs.Elements.{outline_of}
+use Rattle.sdf_check.specs.ClassRules.{HasWrongRole, MissesChannel, MissesRight, SharesRegion, HasBadCapacity, HasLowCapacity, HasSmallRegion, HasBadMac, HasBadPartition, IsPastLimit}
 use Rattle.sdf_check.specs.Rules.{TakesName, IsPastLastDomain, HasPriorityTooHigh, HasPeriodTooShort, HasBadSize, HasBadPageSize, HasBadPhysAddr, MeetsGivenRange, NamesNoRegion, HasBadVaddr, MeetsMap, HasBadPerms, NamesNoDomain, HasIdTooHigh, TakesId, JoinsOneDomain}
 
 -- the first and the last rule that a plan is judged by
@@ -13,19 +14,43 @@ abbrev pub first_rule : ℕ
 first_rule = 5
 
 abbrev pub last_rule : ℕ
-last_rule = 20
+last_rule = 30
 
--- the element at the place breaks the rule of this number
+-- the element at the place breaks the rule of this number: one of those on any system, or one of those on its classes
+abbrev pub BreaksPlanRule : Plan → ℕ → Place → Type 0
+BreaksPlanRule plan rule place =
+    MatchBool (rule == 5) (TakesName plan place) (
+    MatchBool (rule == 6) (IsPastLastDomain plan place) (
+    MatchBool (rule == 7) (HasPriorityTooHigh plan place) (
+    MatchBool (rule == 8) (HasPeriodTooShort plan place) (
+    MatchBool (rule == 9) (HasBadSize plan place) (
+    MatchBool (rule == 10) (HasBadPageSize plan place) (
+    MatchBool (rule == 11) (HasBadPhysAddr plan place) (
+    MatchBool (rule == 12) (MeetsGivenRange plan place) (
+    MatchBool (rule == 13) (NamesNoRegion plan place) (
+    MatchBool (rule == 14) (HasBadVaddr plan place) (
+    MatchBool (rule == 15) (MeetsMap plan place) (
+    MatchBool (rule == 16) (HasBadPerms plan place) (
+    MatchBool (rule == 17) (NamesNoDomain plan place) (
+    MatchBool (rule == 18) (HasIdTooHigh plan place) (
+    MatchBool (rule == 19) (TakesId plan place) (
+    MatchBool (rule == 20) (JoinsOneDomain plan place) ⊥)))))))))))))))
+
+abbrev pub BreaksClassRule : Plan → ℕ → Place → Type 0
+BreaksClassRule plan rule place =
+    MatchBool (rule == 21) (HasWrongRole plan place) (
+    MatchBool (rule == 22) (MissesChannel plan place) (
+    MatchBool (rule == 23) (MissesRight plan place) (
+    MatchBool (rule == 24) (SharesRegion plan place) (
+    MatchBool (rule == 25) (HasBadCapacity plan place) (
+    MatchBool (rule == 26) (HasLowCapacity plan place) (
+    MatchBool (rule == 27) (HasSmallRegion plan place) (
+    MatchBool (rule == 28) (HasBadMac plan place) (
+    MatchBool (rule == 29) (HasBadPartition plan place) (
+    MatchBool (rule == 30) (IsPastLimit plan place) ⊥)))))))))
+
 abbrev pub broken : Plan → ℕ → Place → Type 0
-broken plan rule place =
-    MatchBool (rule == 5) (TakesName plan place) (MatchBool (rule == 6) (IsPastLastDomain plan place)
-    (MatchBool (rule == 7) (HasPriorityTooHigh plan place) (MatchBool (rule == 8) (HasPeriodTooShort plan place)
-    (MatchBool (rule == 9) (HasBadSize plan place) (MatchBool (rule == 10) (HasBadPageSize plan place)
-    (MatchBool (rule == 11) (HasBadPhysAddr plan place) (MatchBool (rule == 12) (MeetsGivenRange plan place)
-    (MatchBool (rule == 13) (NamesNoRegion plan place) (MatchBool (rule == 14) (HasBadVaddr plan place)
-    (MatchBool (rule == 15) (MeetsMap plan place) (MatchBool (rule == 16) (HasBadPerms plan place)
-    (MatchBool (rule == 17) (NamesNoDomain plan place) (MatchBool (rule == 18) (HasIdTooHigh plan place)
-    (MatchBool (rule == 19) (TakesId plan place) (MatchBool (rule == 20) (JoinsOneDomain plan place) ⊥)))))))))))))))
+broken plan rule place = MatchBool (nat_lt rule 21) (BreaksPlanRule plan rule place) (BreaksClassRule plan rule place)
 
 -- a plan is valid where no element breaks a rule
 abbrev pub Valid : Plan → Type 0

@@ -3,21 +3,25 @@ ghost use Rattle.sdf_check.specs.Lookups.{FindsPlaces};
 ghost use Rattle.sdf_check.specs.Names.{region_names, domain_names, region_named, domain_named, StandsBefore};
 ghost use Rattle.sdf_check.specs.Rules.{TakesName, IsPastLastDomain, HasPriorityTooHigh, HasPeriodTooShort, HasBadSize, HasBadPageSize, HasBadPhysAddr, NamesNoRegion, HasBadVaddr, HasBadPerms, NamesNoDomain, HasIdTooHigh, JoinsOneDomain, MissesRegion, MissesDomain, the_region};
 
+use crate::keys::Keys;
 use crate::names::{Places, place_of};
 use crate::numbers::{are_permissions, ends_above, is_multiple, is_page_size};
 use crate::uses::Uses;
-use cargo_core::Series;
+use cargo_core::{Series, Text};
 use sdf_model::{Place, Plan, Region};
 
 /// What is found out once about the ranges and the ids of a plan.
 #[derive(Drop)]
-pub struct Tables {
+pub struct Tables<'a> {
     /// The first region whose given range meets an earlier one.
     pub given: Option<usize>,
     /// For each domain the first of its maps that meets an earlier one.
     pub maps: Series<Option<usize>>,
     /// For each domain and id the first end that has them.
     pub uses: Uses,
+    /// The domains and the regions that class elements name.
+    pub named_domains: Keys<'a>,
+    pub named_regions: Keys<'a>,
 }
 
 /// A plan with what its names are the names of.
@@ -52,6 +56,13 @@ fn is_same(first: &str, second: &str) -> bool
     ensures { IsTrue result ↔ (first.now ≡ second.now) }
 {
     first == second
+}
+
+/// Whether two texts are equal.
+pub fn same_text(first: &Text, second: &Text) -> bool
+    ensures { IsTrue result ↔ (first.now ≡ second.now) }
+{
+    is_same(first.as_str(), second.as_str())
 }
 
 // Whether a name stands before a place.

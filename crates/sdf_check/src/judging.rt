@@ -3,9 +3,13 @@ ghost use Rattle.std.specs.BTreeMap.{get};
 ghost use Rattle.sdf_model.specs.Places.{walk, IsKept, IsFirstBroken};
 ghost use Rattle.sdf_check.specs.Elements.{outline_of};
 ghost use Rattle.sdf_check.specs.Priors.{OrPrior, AreTables};
-ghost use Rattle.sdf_check.specs.Valid.{Valid, IsRefused, IfRefused, broken};
+ghost use Rattle.sdf_check.specs.Valid.{Valid, IsRefused, IfRefused, broken, BreaksPlanRule, BreaksClassRule};
 
+use crate::class_ids::{has_bad_mac, has_bad_partition};
+use crate::class_maps::{has_wrong_role, misses_channel, misses_right, shares_region};
+use crate::class_sizes::{has_bad_capacity, has_low_capacity, has_small_region, is_past_limit};
 use crate::judge::{Judge, Tables};
+use crate::keys::{domain_keys, region_keys};
 use crate::names::{domains_by_name, regions_by_name};
 use crate::places::places_of;
 use crate::sought::{meets_given_range, meets_map, takes_id};
@@ -19,7 +23,7 @@ use std::alloc::Global;
 const FIRST_RULE: u8 = 5;
 
 /// The last rule.
-const LAST_RULE: u8 = 20;
+const LAST_RULE: u8 = 30;
 
 fn judge_of<'a>(alloc: Global, plan: &'a Plan) -> Result<Judge<'a>, Memory>
     ensures { IfOk result (λ judge. judge.plan.now ≡ plan.now) }
@@ -31,20 +35,28 @@ fn judge_of<'a>(alloc: Global, plan: &'a Plan) -> Result<Judge<'a>, Memory>
     })
 }
 
-fn tables_of(alloc: Global, judge: &Judge<'_>) -> Result<Tables, Memory>
+fn tables_of<'a>(alloc: Global, judge: &Judge<'a>) -> Result<Tables<'a>, Memory>
     ensures { IfOk result (λ tables. AreTables tables judge.now.plan.now) }
 {
     let given = first_given(alloc, judge.plan.memory_region.as_slice())?;
     let maps = Series::from_vec(first_maps(alloc, judge)?);
     let uses = uses_of(alloc, judge.plan, &judge.domains)?;
-    Ok(Tables { given, maps, uses })
+    let named_domains = domain_keys(alloc, judge.plan)?;
+    let named_regions = region_keys(alloc, judge.plan)?;
+    Ok(Tables {
+        given,
+        maps,
+        uses,
+        named_domains,
+        named_regions,
+    })
 }
 
-// Whether the element at a place breaks a rule. Where no place prior to it does, the answer is exact.
-fn breaks(judge: &Judge<'_>, tables: &Tables, rule: u8, place: Place) -> bool
+// Whether the element at a place breaks a rule on any system. Where no place prior to it does, the answer is exact.
+fn breaks_plan_rule(judge: &Judge<'_>, tables: &Tables<'_>, rule: u8, place: Place) -> bool
     requires { AreTables tables.now judge.now.plan.now }
-    ensures complete { broken judge.now.plan.now rule place → IsTrue result }
-    ensures sound { IsTrue result → OrPrior (broken judge.now.plan.now rule) place }
+    ensures complete { BreaksPlanRule judge.now.plan.now rule place → IsTrue result }
+    ensures sound { IsTrue result → OrPrior (BreaksPlanRule judge.now.plan.now rule) place }
 {
     match rule {
         5 => judge.takes_name(place),
@@ -61,14 +73,47 @@ fn breaks(judge: &Judge<'_>, tables: &Tables, rule: u8, place: Place) -> bool
         16 => judge.has_bad_perms(place),
         17 => judge.names_no_domain(place),
         18 => judge.has_id_too_high(place),
-        19 => takes_id(judge, tables, place),
+        19 => takes_id(judge, &tables.uses, place),
         20 => judge.joins_one_domain(place),
         _ => false,
     }
 }
 
+// Whether the element at a place breaks a rule on classes.
+fn breaks_class_rule(judge: &Judge<'_>, tables: &Tables<'_>, rule: u8, place: Place) -> bool
+    requires { AreTables tables.now judge.now.plan.now }
+    ensures { IsTrue result ↔ BreaksClassRule judge.now.plan.now rule place }
+{
+    match rule {
+        21 => has_wrong_role(judge, tables, place),
+        22 => misses_channel(judge, place),
+        23 => misses_right(judge, place),
+        24 => shares_region(judge, tables, place),
+        25 => has_bad_capacity(judge, place),
+        26 => has_low_capacity(judge, place),
+        27 => has_small_region(judge, place),
+        28 => has_bad_mac(judge, place),
+        29 => has_bad_partition(judge, place),
+        30 => is_past_limit(judge, place),
+        _ => false,
+    }
+}
+
+// Whether the element at a place breaks a rule. Where no place prior to it does, the answer is exact.
+fn breaks(judge: &Judge<'_>, tables: &Tables<'_>, rule: u8, place: Place) -> bool
+    requires { AreTables tables.now judge.now.plan.now }
+    ensures complete { broken judge.now.plan.now rule place → IsTrue result }
+    ensures sound { IsTrue result → OrPrior (broken judge.now.plan.now rule) place }
+{
+    if rule < 21 {
+        breaks_plan_rule(judge, tables, rule, place)
+    } else {
+        breaks_class_rule(judge, tables, rule, place)
+    }
+}
+
 // The first place that breaks a rule.
-fn first_broken(judge: &Judge<'_>, tables: &Tables, rule: u8, places: &[Place]) -> Option<Place>
+fn first_broken(judge: &Judge<'_>, tables: &Tables<'_>, rule: u8, places: &[Place]) -> Option<Place>
     requires tables { AreTables tables.now judge.now.plan.now }
     requires all { places.now ≡ walk (outline_of judge.now.plan.now) }
     ensures { MatchOption result (IsKept (broken judge.now.plan.now rule) (walk (outline_of judge.now.plan.now)))
@@ -97,7 +142,7 @@ fn refusal_of(alloc: Global, plan: &Plan) -> Result<Option<Refusal>, Memory>
     Ok(None)
 }
 
-/// Judges a plan by the rules on names, limits, sizes, ranges, permissions and ids. `Refused` has the least rule that
+/// Judges a plan by the rules on names, sizes, ranges, permissions, ids and classes. `Refused` has the least rule that
 /// an element breaks, and the first element that breaks it, in the order of the walk over a description. Want of
 /// memory, which a list of 2^32 elements counts as too, may come at any plan.
 pub fn check(alloc: Global, plan: &Plan) -> Result<(), SdfFault>

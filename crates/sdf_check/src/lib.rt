@@ -1,12 +1,18 @@
 //! Judging a description that was read: the rules on its names, numbers, ranges and ids.
 #![tactic(auto)]
 
+mod class;
+mod class_ids;
+mod class_maps;
+mod class_sizes;
 mod judge;
 mod judging;
+mod keys;
 mod names;
 mod numbers;
 mod places;
 mod role;
+mod sizes;
 mod sought;
 mod sweep;
 mod tables;

@@ -1,5 +1,5 @@
 ghost use Rattle.std.specs.Prelude.{◌≡◌, ◌∷◌, ◌++◌, List, [], ℕ, length, map, IfOk, OnOk, Option};
-ghost use Rattle.sdf_check.specs.Lookups.{FindsPlaces};
+ghost use Rattle.sdf_check.specs.Lookups.{FindsPlaces, shown};
 ghost use Rattle.sdf_check.specs.Names.{place_of, region_names_of, domain_names_of};
 
 use cargo_core::Memory;
@@ -47,4 +47,15 @@ pub fn place_of(places: &Places<'_>, name: &str) -> Option<usize>
     ensures { (names : List (List ℕ)) → FindsPlaces places.now names → result ≡ place_of name.now names }
 {
     places.get(name).copied()
+}
+
+/// The places of names in a list of them.
+pub fn places_by_name<'a>(alloc: Global, names: &[&'a str]) -> Result<Places<'a>, Memory>
+    ensures { IfOk result (λ places. FindsPlaces places (shown names.now)) }
+{
+    let mut places = BTreeMap::new(alloc);
+    for (at, name) in names.iter().enumerate() {
+        note(&mut places, *name, at)?;
+    }
+    Ok(places)
 }

@@ -44,7 +44,8 @@ fn are_once(reads: usize, writes: usize, runs: usize, len: usize) -> bool
     reads <= 1 && writes <= 1 && runs <= 1 && reads + writes + runs == len && reads + runs > 0
 }
 
-fn count_of(letter: u8, text: &[u8]) -> usize
+/// How often a letter stands in a text.
+pub fn count_of(letter: u8, text: &[u8]) -> usize
     ensures { result ≡ count_of letter text.now }
 {
     text.iter().filter(|byte| **byte == letter).count()

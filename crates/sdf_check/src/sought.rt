@@ -1,12 +1,14 @@
 ghost use Rattle.std.specs.Prelude.{◌≡◌, ◌↔◌, ℕ, List, map, length, ◌≤◌, IsTrue, Some, None, IsSomeAnd};
 ghost use Rattle.sdf_model.specs.declared.plan.Irq.{Irq};
+ghost use Rattle.std.specs.BTreeMap.{get};
+ghost use Rattle.sdf_check.specs.Uses.{use_cmp, UsesUpTo};
 ghost use Rattle.sdf_check.specs.Names.{StandsBefore};
 ghost use Rattle.sdf_check.specs.Priors.{OrPrior, AreTables};
 ghost use Rattle.sdf_check.specs.Rules.{MeetsGivenRange, MeetsMap, TakesId, InterruptHas};
 
 use crate::judge::{Judge, Tables, at, nth};
 use crate::names::place_of;
-use crate::uses::is_used_before;
+use crate::uses::{Uses, is_used_before};
 use cargo_core::Series;
 use sdf_model::{Irq, Place};
 
@@ -21,7 +23,7 @@ fn is_reached(first: Option<usize>, number: u32) -> bool
 }
 
 /// Whether a given range meets an earlier one, here or at a region before.
-pub fn meets_given_range(judge: &Judge<'_>, tables: &Tables, place: Place) -> bool
+pub fn meets_given_range(judge: &Judge<'_>, tables: &Tables<'_>, place: Place) -> bool
     requires { AreTables tables.now judge.now.plan.now }
     ensures complete { MeetsGivenRange judge.now.plan.now place → IsTrue result }
     ensures sound { IsTrue result → OrPrior (MeetsGivenRange judge.now.plan.now) place }
@@ -33,7 +35,7 @@ pub fn meets_given_range(judge: &Judge<'_>, tables: &Tables, place: Place) -> bo
 }
 
 /// Whether a map meets an earlier one of its domain, here or at a map before.
-pub fn meets_map(judge: &Judge<'_>, tables: &Tables, place: Place) -> bool
+pub fn meets_map(judge: &Judge<'_>, tables: &Tables<'_>, place: Place) -> bool
     requires { AreTables tables.now judge.now.plan.now }
     ensures complete { MeetsMap judge.now.plan.now place → IsTrue result }
     ensures sound { IsTrue result → OrPrior (MeetsMap judge.now.plan.now) place }
@@ -74,8 +76,8 @@ fn interrupt_has(judge: &Judge<'_>, domain: usize, id: u64) -> bool
 }
 
 /// Whether an id was used before in the same domain.
-pub fn takes_id(judge: &Judge<'_>, tables: &Tables, place: Place) -> bool
-    requires { AreTables tables.now judge.now.plan.now }
+pub fn takes_id(judge: &Judge<'_>, uses: &Uses, place: Place) -> bool
+    requires { UsesUpTo (get use_cmp uses.now) judge.now.plan.now (length judge.now.plan.now.channel) 0 }
     ensures { IsTrue result ↔ TakesId judge.now.plan.now place }
 {
     match place {
@@ -91,7 +93,7 @@ pub fn takes_id(judge: &Judge<'_>, tables: &Tables, place: Place) -> bool
                 Some(end) => match place_of(&judge.domains, end.pd.as_str()) {
                     Some(domain) => {
                         interrupt_has(judge, domain, end.id)
-                            || is_used_before(&tables.uses, domain, end.id, c, e)
+                            || is_used_before(uses, domain, end.id, c, e)
                     }
                     None => false,
                 },

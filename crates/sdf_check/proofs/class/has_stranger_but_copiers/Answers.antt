@@ -1,0 +1,16 @@
+use Rattle.std.proofs.Common.{◌++◌, map}
+use Rattle.sdf_model.specs.declared.plan.NetClient.{NetClient}
+use Rattle.sdf_check.specs.Lookups.{shown}
+use Rattle.sdf_check.specs.ClassRules.{IsStranger}
+use Rattle.sdf_check.proofs.LoopLemmas.{more-item, none_left-item, not-so}
+use Rattle.sdf_check.proofs.class.has_stranger_but_copiers.Goals as goal
+
+pub loop-domain-preserved : goal.loop-domain-preserved
+loop-domain-preserved c =
+    more-item (IsStranger c.args.region.now (shown c.args.allowed.now ++ map (λ (x : NetClient). x.copier) c.args.clients.now)) c.args.judge.now.plan.now.protection_domain c.as_slice-domain-items.result.now c.loop-domain.domain-index c.domain-item.result
+    c.as_slice-domain-items.ensures c.loop-domain-test.true c.domain-item.is (not-so c.is_stranger.result c.is_stranger.ensures.1 c.if-is_stranger.false) c.loop-domain.invariant
+
+pub returns : goal.returns
+returns c =
+    none_left-item (IsStranger c.args.region.now (shown c.args.allowed.now ++ map (λ (x : NetClient). x.copier) c.args.clients.now)) c.args.judge.now.plan.now.protection_domain c.as_slice-domain-items.result.now c.loop-domain.domain-index
+    c.as_slice-domain-items.ensures c.loop-domain-test.false c.loop-domain.invariant
