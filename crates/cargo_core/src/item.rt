@@ -3,6 +3,10 @@ ghost use Rattle.cargo_core.specs.Items.{kind_of, code_number, status_number};
 
 use crate::Bytes;
 
+/// A pool of buffers, by its place among the pools of a layout, counted from 0.
+#[derive(Clone, Copy, Debug, PartialEq, Eq)]
+pub struct PoolId(pub u16);
+
 /// A descriptor of a network buffer: where it begins (a device address, or an offset into the client's region,
 /// by the queue), and how many bytes of it are a frame. From sDDF's net queue header.
 #[derive(Clone, Copy, Debug, PartialEq, Eq)]
