@@ -11,7 +11,9 @@ mod text;
 
 pub use bytes::Bytes;
 pub use frame_log::FrameLog;
-pub use item::{Ask, BlkReq, BlkResp, BlkStatus, Body, Code, Item, NetDesc, PoolId, QueueKind, Reply};
+pub use item::{
+    Ask, BlkReq, BlkResp, BlkStatus, Body, Code, Item, NetDesc, PoolId, QueueKind, Reply,
+};
 pub use memory::Memory;
 pub use series::Series;
 pub use tape::Tape;
