@@ -6,7 +6,6 @@ use Rattle.cargo_core.specs.declared.item.Code.{Code}
 use Rattle.cargo_core.specs.declared.item.Code.TheVariants as Asked
 use Rattle.sdf_model.specs.declared.plan.Plan.{Plan}
 use Rattle.frame_core.specs.Frames.{is_frame_of}
-use Rattle.trace_text.specs.declared.TheConstants.{INPUT_IS_PLAYED}
 use Rattle.trace_text.specs.declared.reader.Reader.{Reader}
 use Rattle.trace_text.specs.Texts.{number_of, data_of}
 use Rattle.trace_text.specs.Events.{Event, net_clients, serial_clients, blk_clients, is_source, is_speaker, is_blk_client, is_reach, bare_ask, order_code, rx_line, in_line, send_line, say_line, disk_line, bytes_line, order_line, read_line, write_line}
@@ -24,11 +23,11 @@ unfolding rx_line
 rx_taken r plan word frame e holds taken = rw e (kept_taken r _ (Event.Rx frame) holds taken)
 
 pub in_none : (r : Reader) (plan : Plan) (word : List ℕ)
-    → ((bytes : List ℕ) → data_of word ≡ Some bytes → Fails r (INPUT_IS_PLAYED && is_some plan.serial) (Event.In bytes)) → judged r (in_line plan word) ≡ None
+    → ((bytes : List ℕ) → data_of word ≡ Some bytes → Fails r (is_some plan.serial) (Event.In bytes)) → judged r (in_line plan word) ≡ None
 unfolding in_line
 in_none r plan word h = data_none r word _ (λ bytes e. kept_none r _ (Event.In bytes) (h bytes e))
 
-pub in_taken : (r : Reader) (plan : Plan) (word bytes : List ℕ) → data_of word ≡ Some bytes → (INPUT_IS_PLAYED && is_some plan.serial) ≡ true
+pub in_taken : (r : Reader) (plan : Plan) (word bytes : List ℕ) → data_of word ≡ Some bytes → (is_some plan.serial) ≡ true
     → is_refused r (Event.In bytes) ≡ false → judged r (in_line plan word) ≡ Some (grown r (Event.In bytes))
 unfolding in_line
 in_taken r plan word bytes e holds taken = rw e (kept_taken r _ (Event.In bytes) holds taken)

@@ -11,7 +11,6 @@ use Rattle.sdf_model.specs.declared.plan.NetClient.{NetClient}
 use Rattle.sdf_model.specs.declared.plan.SerialClient.{SerialClient}
 use Rattle.sdf_model.specs.declared.plan.BlkClient.{BlkClient}
 use Rattle.frame_core.specs.Frames.{is_frame_of}
-use Rattle.trace_text.specs.declared.TheConstants.{INPUT_IS_PLAYED}
 use Rattle.trace_text.specs.Texts.{words_of, number_of, data_of}
 
 -- what a line says
@@ -78,9 +77,9 @@ with_data word event = option_and_then event (data_of word)
 unfoldable pub rx_line : Plan → List ℕ → Option Event
 rx_line plan word = with_data word (λ frame. kept_if (is_some plan.net && is_frame_of frame) (Some (Event.Rx frame)))
 
--- `in DATA`: bad until input is played
+-- `in DATA`
 unfoldable pub in_line : Plan → List ℕ → Option Event
-in_line plan word = with_data word (λ bytes. kept_if (INPUT_IS_PLAYED && is_some plan.serial) (Some (Event.In bytes)))
+in_line plan word = with_data word (λ bytes. kept_if (is_some plan.serial) (Some (Event.In bytes)))
 
 -- `send C DATA`
 unfoldable pub send_line : Plan → List ℕ → List ℕ → Option Event

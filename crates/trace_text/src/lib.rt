@@ -14,6 +14,3 @@ mod trace;
 pub use cargo_core::Ask;
 pub use read::{TraceFault, read_trace};
 pub use trace::Trace;
-
-/// Whether `in` lines are read: where they are not, such a line is bad.
-pub const INPUT_IS_PLAYED: bool = false;

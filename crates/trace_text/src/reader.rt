@@ -2,7 +2,6 @@ ghost use Rattle.std.specs.Prelude.{◌≡◌, ◌==◌, ◌&&◌, [], is_some, 
 ghost use Rattle.trace_text.specs.Events.{rx_line, in_line, send_line, say_line, disk_line, bytes_line, order_code, order_line, read_line, write_line};
 ghost use Rattle.trace_text.specs.Reading.{IsRead, HasLists, reader_after};
 
-use crate::INPUT_IS_PLAYED;
 use crate::clients::{
     blk_clients, is_blk_client, is_source, is_speaker, net_clients, serial_clients,
 };
@@ -98,9 +97,6 @@ impl Reader {
     pub fn read_in(&mut self, alloc: Global, plan: &Plan, word: &[u8]) -> Result<bool, Memory>
         ensures { IfOk result (λ good. IsRead self.old self.new good (in_line plan.now word.now)) }
     {
-        if !input_is_played() {
-            return Ok(false);
-        }
         if plan.serial.is_none() {
             return Ok(false);
         }
@@ -392,11 +388,4 @@ fn order_code(order: &[u8]) -> Option<Code>
     } else {
         None
     }
-}
-
-// Whether `in` lines are read.
-fn input_is_played() -> bool
-    ensures { result ≡ INPUT_IS_PLAYED }
-{
-    INPUT_IS_PLAYED
 }

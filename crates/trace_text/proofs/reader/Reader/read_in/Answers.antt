@@ -1,16 +1,10 @@
-use Rattle.std.proofs.Common.{inl, inr, not, is_some, ap, sym, ◌∙◌, arith}
-use Rattle.trace_text.specs.declared.TheConstants.{INPUT_IS_PLAYED}
-use Rattle.trace_text.proofs.Judged.{and_left, and_right, and_true}
+use Rattle.std.proofs.Common.{inl, inr, not, ap, ◌∙◌, arith}
 use Rattle.trace_text.proofs.Forms.{in_none, in_taken, is_above, not_above}
 use Rattle.trace_text.proofs.reader.Reader.read_in.Goals as goal
 
-pub returns-then-not-input_is_played : goal.returns-then-not-input_is_played
-returns-then-not-input_is_played c =
-    in_none c.args.self.now c.args.plan.now c.args.word.now (λ bytes e. inl (and_left INPUT_IS_PLAYED (is_some c.args.plan.now.serial) (sym c.input_is_played.ensures ∙ c.if-not-input_is_played.true)))
-
 pub returns-then-is_none : goal.returns-then-is_none
 returns-then-is_none c =
-    in_none c.args.self.now c.args.plan.now c.args.word.now (λ bytes e. inl (and_right INPUT_IS_PLAYED (is_some c.args.plan.now.serial) (c.is_none.ensures ∙ ap not c.if-is_none.true)))
+    in_none c.args.self.now c.args.plan.now c.args.word.now (λ bytes e. inl (c.is_none.ensures ∙ ap not c.if-is_none.true))
 
 pub returns-then-self-gt-STREAM_BYTES : goal.returns-then-self-gt-STREAM_BYTES
 returns-then-self-gt-STREAM_BYTES c =
@@ -25,4 +19,4 @@ pub returns : goal.returns
 returns c =
     let read = rw c.in-Some.is at c.in_ok-bytes.ensures in
     let fits = read.1 in
-    rw (c.in_ok-extend_from_slice.ensures.ok, c.as_slice.ensures, c.len.ensures) (in_taken c.args.self.now c.args.plan.now c.args.word.now c.in-Some.bytes read.0 (and_true INPUT_IS_PLAYED (is_some c.args.plan.now.serial) (sym c.input_is_played.ensures ∙ c.if-not-input_is_played.false) (c.is_none.ensures ∙ ap not c.if-is_none.false)) (not_above 81920 _ (omega arith)))
+    rw (c.in_ok-extend_from_slice.ensures.ok, c.as_slice.ensures, c.len.ensures) (in_taken c.args.self.now c.args.plan.now c.args.word.now c.in-Some.bytes read.0 (c.is_none.ensures ∙ ap not c.if-is_none.false) (not_above 81920 _ (omega arith)))
