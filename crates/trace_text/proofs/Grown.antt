@@ -50,13 +50,13 @@ has_lists plan events = record {
   asks = length_per_client (length (blk_clients plan)) _;
 }
 
-choice_here : {T : Type 0} (c k : ℕ) (more : List T) → c ≡ k → cond (eqb c k) more [] ≡ more
+pub choice_here : {T : Type 0} (c k : ℕ) (more : List T) → c ≡ k → cond (eqb c k) more [] ≡ more
 choice_here c k more is = elim (cases_Bool (eqb c k)) [
   | inl same ↦ rw same refl
   | inr other ↦ absurd (eqb-false c k other is)
 ]
 
-choice_other : {T : Type 0} (c k : ℕ) (more : List T) → (c ≡ k → ⊥) → cond (eqb c k) more [] ≡ []
+pub choice_other : {T : Type 0} (c k : ℕ) (more : List T) → (c ≡ k → ⊥) → cond (eqb c k) more [] ≡ []
 choice_other c k more isnt = elim (cases_Bool (eqb c k)) [
   | inl same ↦ absurd (isnt (eqb-true c k same))
   | inr other ↦ rw other refl

@@ -7,3 +7,4 @@ pub mod Forms
 pub mod Words
 pub mod Grown
 pub mod SoFar
+pub mod Limits

@@ -43,14 +43,14 @@ one_meaning : (m : Option Event) → cons_option m [] ≡ option_to_list m
 one_meaning None = refl
 one_meaning (Some e) = refl
 
-events_more : (plan : Plan) (text : List ℕ) (k : ℕ) (line : List ℕ) → slice_get (lines_of text) k ≡ Some line
+pub events_more : (plan : Plan) (text : List ℕ) (k : ℕ) (line : List ℕ) → slice_get (lines_of text) k ≡ Some line
     → events_before plan text (k + 1) ≡ events_before plan text k ++ option_to_list (meaning plan line)
 unfolding events_before
 events_more plan text k line h =
     rw (add-one k, take_snoc (lines_of text) k line h, filter_map-append (meaning plan) (take k (lines_of text)) (line ∷ []))
     (ap (λ more. filter_map (meaning plan) (take k (lines_of text)) ++ more) (one_meaning (meaning plan line)))
 
-bad_line : (plan : Plan) (text : List ℕ) (k : ℕ) (line : List ℕ) → slice_get (lines_of text) k ≡ Some line
+pub bad_line : (plan : Plan) (text : List ℕ) (k : ℕ) (line : List ℕ) → slice_get (lines_of text) k ≡ Some line
     → is_bad plan text k ≡ is_bad_after (events_before plan text k) (meaning plan line)
 unfolding is_bad
 bad_line plan text k line h = rw h refl
@@ -60,7 +60,7 @@ bad_end : (plan : Plan) (text : List ℕ) (k : ℕ) → length (lines_of text) �
 unfolding is_bad
 bad_end plan text k h = rw (slice_get_past (lines_of text) k h) refl
 
-no_events : (plan : Plan) (text : List ℕ) → events_before plan text 0 ≡ []
+pub no_events : (plan : Plan) (text : List ℕ) → events_before plan text 0 ≡ []
 unfolding events_before
 no_events plan text = refl
 

@@ -1,4 +1,4 @@
-use Rattle.std.specs.Prelude.{◌≡◌, ℕ, zero, suc, ◌+◌, ◌*◌, ◌<◌, ◌==◌, ◌&&◌, ◌||◌, nat_le, nat_lt, Bool, true, false, if◌then◌else◌, List, [], ◌∷◌, length, take, fold, sum_by, count_by, replicate, slice_get, Option, Some, None, is_some}
+use Rattle.std.specs.Prelude.{◌≡◌, ℕ, zero, suc, ◌+◌, ◌*◌, ◌<◌, ◌≤◌, ◌==◌, ◌&&◌, ◌||◌, nat_le, nat_lt, Bool, true, false, if◌then◌else◌, List, [], ◌∷◌, length, take, fold, sum_by, count_by, replicate, slice_get, Option, Some, None, is_some}
 use Rattle.std.specs.List.{flat_map, filter_map}
 use Rattle.cargo_core.specs.Lists.{replaced}
 use Rattle.cargo_core.specs.declared.item.Ask.{Ask}
@@ -115,3 +115,18 @@ pub record IsLeastBadLine (plan : Plan) (text : List ℕ) (number : ℕ) : Type 
 -- the trace that a text gives
 unfoldable pub trace_of : Plan → List ℕ → Trace
 trace_of plan text = trace_from plan (events_before plan text (length (lines_of text)))
+
+-- the trace is what a text without a bad line gives for this plan
+pub record IsReadFor (plan : Plan) (trace : Trace) : Type 0 where
+  pub text : List ℕ
+  pub good : HasNoBadLine plan text
+  pub given : trace ≡ trace_of plan text
+
+-- the trace has a list for each client, and keeps the limits on frames, bytes and requests
+pub record KeepsLimits (plan : Plan) (trace : Trace) : Type 0 where
+  pub sends : length trace.sends ≡ length (net_clients plan)
+  pub says : length trace.says ≡ length (serial_clients plan)
+  pub asks : length trace.asks ≡ length (blk_clients plan)
+  pub frames : length trace.frames + sum_by length trace.sends ≤ 1024
+  pub bytes : length trace.input + sum_by length trace.says ≤ 81920
+  pub requests : sum_by length trace.asks ≤ 1024

@@ -3,6 +3,7 @@
 
 mod clients;
 mod data;
+mod laws;
 mod line;
 mod lists;
 mod number;
@@ -12,5 +13,6 @@ mod text;
 mod trace;
 
 pub use cargo_core::Ask;
+pub use laws::limits_law;
 pub use read::{TraceFault, read_trace};
 pub use trace::Trace;
