@@ -1,14 +1,15 @@
 use Rattle.std.specs.Prelude.{ℕ, List, length, map}
+use Rattle.wire_core.specs.Deeds.{Cargo}
 use Rattle.wire_core.specs.Lists.{Lists}
 use Rattle.wire_core.specs.Ends.{Role, End}
 use Rattle.turn_kit.specs.Turns.{Round}
-use Rattle.serial_terminal.specs.Terminals.{terminal_round}
+use Rattle.serial_terminal.specs.Terminals.{terminal_round, terminal_hand}
 use Rattle.device_model.specs.Devices.{FitsUart, UartStandsFor, UartRow, UartEnd}
-use Rattle.serial_virt.specs.Receiving.{FitsRx, RxStandsFor, RxRow, RxEnd, rx_round}
-use Rattle.serial_virt.specs.Sending.{FitsTx, TxStandsFor, TxRow, TxEnd, tx_round}
+use Rattle.serial_virt.specs.Receiving.{FitsRx, RxStandsFor, RxRow, RxEnd, rx_round, rx_hand}
+use Rattle.serial_virt.specs.Sending.{FitsTx, TxStandsFor, TxRow, TxEnd, tx_round, tx_hand}
 use Rattle.turn_kit.specs.ManyEnds.{intake_queues, outlet_queues}
 use Rattle.wire_core.specs.declared.names.QueueId.{QueueId}
-use Rattle.uart_driver.specs.Driver.{FitsDriver, DriverStandsFor, DriverRow, DriverEnd, driver_round}
+use Rattle.uart_driver.specs.Driver.{FitsDriver, DriverStandsFor, DriverRow, DriverEnd, driver_round, driver_hand}
 use Rattle.client_programs.specs.Clients.{FitsSerial, SerialStandsFor, SerialRow, SerialEnd}
 use Rattle.actor_set.specs.Parts.{Part, UartPart, DriverPart, RxPart, TxPart, ClientPart}
 use Rattle.actor_set.specs.declared.actor.Actor.{Actor}
@@ -53,6 +54,14 @@ actor_round (Kinds.UartDriver x) = driver_round x
 actor_round (Kinds.SerialVirtRx x) = rx_round x
 actor_round (Kinds.SerialVirtTx x) = tx_round x
 actor_round (Kinds.SerialClient x) = terminal_round x.terminal
+
+-- the entries in its hand
+abbrev pub actor_hand : Actor → List Cargo
+actor_hand (Kinds.UartDevice x) = terminal_hand x.terminal
+actor_hand (Kinds.UartDriver x) = driver_hand x
+actor_hand (Kinds.SerialVirtRx x) = rx_hand x
+actor_hand (Kinds.SerialVirtTx x) = tx_hand x
+actor_hand (Kinds.SerialClient x) = terminal_hand x.terminal
 
 -- the numbers of queues
 abbrev pub numbers : List QueueId → List ℕ

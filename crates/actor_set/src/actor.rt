@@ -2,9 +2,11 @@ ghost use Rattle.std.specs.Prelude.{◌≡◌, ℕ, IfOk, OnErr};
 ghost use Rattle.wire_core.specs.Ends.{role_of, Role, End};
 ghost use Rattle.wire_core.specs.Lists.{Lists, Stepped};
 ghost use Rattle.turn_kit.specs.Turns.{Turned, is_at_rest};
-ghost use Rattle.actor_set.specs.Actors.{FitsActor, ActorStandsFor, ActorRow, ActorEnd, actor_round, part_of, record_length};
+ghost use Rattle.turn_kit.specs.Marks.{KeepsMarks};
+ghost use Rattle.turn_kit.specs.Hands.{held_in};
+ghost use Rattle.actor_set.specs.Actors.{FitsActor, ActorStandsFor, ActorRow, ActorEnd, actor_round, actor_hand, part_of, record_length};
 
-use cargo_core::Memory;
+use cargo_core::{Memory, PoolId};
 use client_programs::SerialClient;
 use device_model::UartDevice;
 use serial_virt::{SerialVirtRx, SerialVirtTx};
@@ -45,6 +47,19 @@ impl Actor {
         }
     }
 
+    /// How many buffers of a pool are in its hand; one that it lent isn't.
+    pub fn held(&self, pool: PoolId) -> u32
+        ensures { result ≡ held_in pool (actor_hand self.now) }
+    {
+        match self {
+            Actor::UartDevice(device) => device.held(pool),
+            Actor::UartDriver(driver) => driver.held(pool),
+            Actor::SerialVirtRx(virt) => virt.held(pool),
+            Actor::SerialVirtTx(virt) => virt.held(pool),
+            Actor::SerialClient(client) => client.held(pool),
+        }
+    }
+
     /// Makes one call on one of its ends. After want of memory no call was made and nothing changed.
     pub fn step<W: Wires>(&mut self, wires: &mut W) -> Result<Event, Memory>
         requires { FitsActor (W.ends wires.old) self.old }
@@ -54,6 +69,7 @@ impl Actor {
         ensures stepped { IfOk result (λ e. Stepped ActorStandsFor W.did wires.old wires.new self.old self.new e) }
         ensures row { (taken sent : Lists) → ActorStandsFor self.new taken sent → ActorRow self.new taken sent }
         ensures turned { IfOk result (λ e. Turned (actor_round self.old) e (actor_round self.new)) }
+        ensures marks { KeepsMarks (actor_round self.new) }
         ensures no_call { OnErr result (wires.new ≡ wires.old) }
         ensures unchanged { OnErr result (self.new ≡ self.old) }
     {

@@ -6,10 +6,12 @@ ghost use Rattle.std.specs.Prelude.{◌≡◌, [], ℕ, IfOk, OnErr};
 ghost use Rattle.wire_core.specs.Ends.{role_of, Role, End};
 ghost use Rattle.wire_core.specs.Lists.{Lists, Stepped};
 ghost use Rattle.turn_kit.specs.Turns.{Turned, is_at_rest};
-ghost use Rattle.serial_terminal.specs.Terminals.{SameTerminal, IsNewTerminal, terminal_round, terminal_forgotten};
+ghost use Rattle.turn_kit.specs.Marks.{KeepsMarks};
+ghost use Rattle.turn_kit.specs.Hands.{held_in};
+ghost use Rattle.serial_terminal.specs.Terminals.{SameTerminal, IsNewTerminal, terminal_round, terminal_hand, terminal_forgotten};
 ghost use Rattle.device_model.specs.Devices.{FitsUart, UartStandsFor, UartRow, UartEnd};
 
-use cargo_core::{Bytes, Memory};
+use cargo_core::{Bytes, Memory, PoolId};
 use serial_terminal::Terminal;
 use std::alloc::Global;
 use wire_core::{Event, QueueId, Wires};
@@ -45,6 +47,13 @@ impl UartDevice {
         self.terminal.at_rest()
     }
 
+    /// How many buffers of a pool are in its hand: none, since a byte has no buffer.
+    pub fn held(&self, pool: PoolId) -> u32
+        ensures { result ≡ held_in pool (terminal_hand self.now.terminal) }
+    {
+        self.terminal.held(pool)
+    }
+
     /// Makes one call on one of its ends. The memory of the line is taken first; after want of memory no call was made
     /// and nothing changed.
     pub fn step<W: Wires>(&mut self, wires: &mut W) -> Result<Event, Memory>
@@ -55,6 +64,7 @@ impl UartDevice {
         ensures stepped { IfOk result (λ e. Stepped UartStandsFor W.did wires.old wires.new self.old self.new e) }
         ensures row { (taken sent : Lists) → UartStandsFor self.new taken sent → UartRow self.new taken sent }
         ensures turned { IfOk result (λ e. Turned (terminal_round self.old.terminal) e (terminal_round self.new.terminal)) }
+        ensures marks { KeepsMarks (terminal_round self.new.terminal) }
         ensures no_call { OnErr result (wires.new ≡ wires.old) }
         ensures unchanged { OnErr result (self.new ≡ self.old) }
     {

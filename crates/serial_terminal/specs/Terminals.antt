@@ -3,6 +3,7 @@ use Rattle.cargo_core.specs.declared.item.QueueKind.TheVariants as Kind
 use Rattle.cargo_core.specs.Lists.{IsPrefix}
 use Rattle.wire_core.specs.declared.names.QueueId.{QueueId}
 use Rattle.wire_core.specs.declared.names.Side.TheVariants.{Forward, Backward}
+use Rattle.wire_core.specs.Deeds.{Cargo}
 use Rattle.wire_core.specs.Lists.{Lists}
 use Rattle.wire_core.specs.Ends.{Role, Consumer, Producer, End}
 use Rattle.turn_kit.specs.Table.{Agrees, start_kept}
@@ -57,6 +58,10 @@ terminal_round t = record {
   needs = true ∷ nat_lt t.next (length t.script) ∷ [];
   last = t.turn.last;
 }
+
+-- the entries in its hand: none, since it records what it takes, and makes what it puts in the same step
+abbrev pub terminal_hand : Terminal → List Cargo
+terminal_hand t = []
 
 -- the same without the last looks
 abbrev pub terminal_forgotten : Terminal → Terminal

@@ -9,13 +9,15 @@ ghost use Rattle.wire_core.specs.Lists.{Lists, Stepped};
 ghost use Rattle.turn_kit.specs.Table.{start_kept};
 ghost use Rattle.turn_kit.specs.Calls.{is_mark};
 ghost use Rattle.turn_kit.specs.Turns.{Turned, Posted, choice_of, chosen, last_after, is_at_rest};
+ghost use Rattle.turn_kit.specs.Marks.{KeepsMarks};
+ghost use Rattle.turn_kit.specs.Hands.{held_in};
 ghost use Rattle.turn_kit.specs.Posts.{intake_post, outlet_post};
 ghost use Rattle.serial_switch.specs.Carried.{byte_cargo, bytes_carried};
-ghost use Rattle.serial_terminal.specs.Terminals.{FitsTerminal, TerminalStandsFor, TerminalRow, TerminalEnd, SameTerminal, terminal_round, terminal_forgotten, IsNewTerminal};
+ghost use Rattle.serial_terminal.specs.Terminals.{FitsTerminal, TerminalStandsFor, TerminalRow, TerminalEnd, SameTerminal, terminal_round, terminal_hand, terminal_forgotten, IsNewTerminal};
 
-use cargo_core::{Body, Bytes, Item, Memory, Tape};
+use cargo_core::{Body, Bytes, Item, Memory, PoolId, Tape};
 use std::alloc::Global;
-use turn_kit::{Intake, Outlet, Turn};
+use turn_kit::{Intake, Outlet, Turn, held};
 use wire_core::{Event, QueueId, Wires};
 
 /// A serial actor with a script, of which it put the first `next` bytes, and a record of what came.
@@ -74,6 +76,13 @@ impl Terminal {
         ensures { result ≡ is_at_rest (terminal_round self.now) }
     {
         self.input.settled(true) && self.output.settled(self.is_saying())
+    }
+
+    /// How many buffers of a pool are in its hand: none, since a byte has no buffer.
+    pub fn held(&self, pool: PoolId) -> u32
+        ensures { result ≡ held_in pool (terminal_hand self.now) }
+    {
+        held(pool, &None)
     }
 
     // The next byte, ready to be put.
@@ -151,6 +160,7 @@ impl Terminal {
         ensures stepped { IfOk result (λ e. Stepped TerminalStandsFor W.did wires.old wires.new self.old self.new e) }
         ensures row { (taken sent : Lists) → TerminalStandsFor self.new taken sent → TerminalRow self.new taken sent }
         ensures turned { IfOk result (λ e. Turned (terminal_round self.old) e (terminal_round self.new)) }
+        ensures marks { KeepsMarks (terminal_round self.new) }
         ensures no_call { OnErr result (wires.new ≡ wires.old) }
         ensures unchanged { OnErr result (self.new ≡ self.old) }
     {

@@ -82,6 +82,10 @@ rx_round v = record {
   last = v.turn.last;
 }
 
+-- the entries in its hand: the byte that it owes
+abbrev pub rx_hand : SerialVirtRx → List Cargo
+rx_hand v = option_to_list v.load
+
 -- what is loaded, and for whom, where a client was given a byte or none was
 abbrev pub loaded_with : Option Cargo → Option (ℕ × ℕ) → Option Cargo
 loaded_with load None = load

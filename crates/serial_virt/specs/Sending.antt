@@ -64,3 +64,7 @@ tx_round v = record {
   needs = is_some v.load ∷ all_need (is_none v.load) (intake_queues v.inputs);
   last = v.turn.last;
 }
+
+-- the entries in its hand: what it took and has yet to put
+abbrev pub tx_hand : SerialVirtTx → List Cargo
+tx_hand v = option_to_list v.load

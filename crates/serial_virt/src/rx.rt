@@ -6,17 +6,19 @@ ghost use Rattle.wire_core.specs.Lists.{Lists, Stepped};
 ghost use Rattle.turn_kit.specs.Calls.{is_mark};
 ghost use Rattle.turn_kit.specs.Turns.{Turned, Posted, PostedAt, choice_of, chosen, last_after, is_at_rest};
 ghost use Rattle.turn_kit.specs.Posts.{intake_post};
+ghost use Rattle.turn_kit.specs.Marks.{KeepsMarks};
+ghost use Rattle.turn_kit.specs.Hands.{held_in};
 ghost use Rattle.turn_kit.specs.ManyEnds.{outlet_queues, outlet_posts};
 ghost use Rattle.serial_switch.specs.Carried.{bytes_carried, byte_cargo};
 ghost use Rattle.serial_switch.specs.Standing.{StandsAfter};
 ghost use Rattle.serial_switch.specs.Switching.{input_of, given_to};
 ghost use Rattle.serial_virt.specs.Forgetting.{intake_forgotten, outlet_forgotten};
-ghost use Rattle.serial_virt.specs.Receiving.{FitsRx, RxStandsFor, RxRow, RxEnd, IsNewRx, new_outlet, rx_queues, rx_round, loaded_with, owner_of, is_owed_at, place_loaded};
+ghost use Rattle.serial_virt.specs.Receiving.{FitsRx, RxStandsFor, RxRow, RxEnd, IsNewRx, new_outlet, rx_queues, rx_round, rx_hand, loaded_with, owner_of, is_owed_at, place_loaded};
 
-use cargo_core::{Body, Item, Memory};
+use cargo_core::{Body, Item, Memory, PoolId};
 use serial_switch::Switch;
 use std::alloc::Global;
-use turn_kit::{Intake, Outlet, Outlets, Turn};
+use turn_kit::{Intake, Outlet, Outlets, Turn, held};
 use wire_core::{Event, QueueId, Wires};
 
 /// Shares out what the driver received, by the selections that stand in it. `load` is the byte that it owes to the
@@ -103,6 +105,13 @@ impl SerialVirtRx {
         self.input.settled(self.load.is_none()) && self.outputs.settled(self.owner())
     }
 
+    /// How many buffers of a pool are in its hand: none, since a byte has no buffer.
+    pub fn held(&self, pool: PoolId) -> u32
+        ensures { result ≡ held_in pool (rx_hand self.now) }
+    {
+        held(pool, &self.load)
+    }
+
     // The end that is stepped now: the input is the first, the clients follow in their order.
     fn choose(&mut self) -> usize
         ensures place { result ≡ chosen (choice_of (rx_round self.old)) }
@@ -181,6 +190,7 @@ impl SerialVirtRx {
         ensures stepped { Stepped RxStandsFor W.did wires.old wires.new self.old self.new result }
         ensures row { (taken sent : Lists) → RxStandsFor self.new taken sent → RxRow self.new taken sent }
         ensures turned { Turned (rx_round self.old) result (rx_round self.new) }
+        ensures marks { KeepsMarks (rx_round self.new) }
     {
         let place = self.choose();
         if place == 0 {

@@ -4,13 +4,15 @@ ghost use Rattle.wire_core.specs.Lists.{Lists, Stepped};
 ghost use Rattle.turn_kit.specs.Calls.{is_mark};
 ghost use Rattle.turn_kit.specs.Turns.{Turned, Posted, PostedAt, choice_of, chosen, last_after, is_at_rest};
 ghost use Rattle.turn_kit.specs.Posts.{outlet_post};
+ghost use Rattle.turn_kit.specs.Marks.{KeepsMarks};
+ghost use Rattle.turn_kit.specs.Hands.{held_in};
 ghost use Rattle.turn_kit.specs.ManyEnds.{intake_queues, intake_posts};
 ghost use Rattle.serial_virt.specs.Forgetting.{intake_forgotten, outlet_forgotten};
-ghost use Rattle.serial_virt.specs.Sending.{FitsTx, TxStandsFor, TxRow, TxEnd, IsNewTx, new_intake, tx_queues, tx_round};
+ghost use Rattle.serial_virt.specs.Sending.{FitsTx, TxStandsFor, TxRow, TxEnd, IsNewTx, new_intake, tx_queues, tx_round, tx_hand};
 
-use cargo_core::{Body, Item, Memory};
+use cargo_core::{Body, Item, Memory, PoolId};
 use std::alloc::Global;
-use turn_kit::{Intake, Intakes, Outlet, Turn};
+use turn_kit::{Intake, Intakes, Outlet, Turn, held};
 use wire_core::{Event, QueueId, Wires};
 
 /// Moves the clients' bytes to the driver, one at a time and in any order between clients.
@@ -63,6 +65,13 @@ impl SerialVirtTx {
         ensures { result ≡ is_at_rest (tx_round self.now) }
     {
         self.output.settled(self.load.is_some()) && self.inputs.settled(self.load.is_none())
+    }
+
+    /// How many buffers of a pool are in its hand: none, since a byte has no buffer.
+    pub fn held(&self, pool: PoolId) -> u32
+        ensures { result ≡ held_in pool (tx_hand self.now) }
+    {
+        held(pool, &self.load)
     }
 
     // The end that is stepped now: the output is the first, the clients follow in their order.
@@ -125,6 +134,7 @@ impl SerialVirtTx {
         ensures stepped { Stepped TxStandsFor W.did wires.old wires.new self.old self.new result }
         ensures row { (taken sent : Lists) → TxStandsFor self.new taken sent → TxRow self.new taken sent }
         ensures turned { Turned (tx_round self.old) result (tx_round self.new) }
+        ensures marks { KeepsMarks (tx_round self.new) }
     {
         let place = self.choose();
         if place == 0 {

@@ -9,3 +9,4 @@ pub mod Offers
 pub mod Choosing
 pub mod Turning
 pub mod Waking
+pub mod Marking

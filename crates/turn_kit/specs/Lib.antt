@@ -5,3 +5,5 @@ pub mod Posts
 pub mod Pipes
 pub mod ManyEnds
 pub mod Choices
+pub mod Marks
+pub mod Hands

@@ -1,7 +1,8 @@
-ghost use Rattle.std.specs.Prelude.{◌≡◌, ◌+◌, ◌≤◌, ℕ, Bool, true, false, Some, List, length, slice_get};
+ghost use Rattle.std.specs.Prelude.{◌≡◌, ◌+◌, ◌<◌, ◌≤◌, ℕ, Bool, true, false, Some, List, length, slice_get};
 ghost use Rattle.turn_kit.specs.Table.{is_settled};
 ghost use Rattle.turn_kit.specs.Calls.{is_mark, calls_left, settling_left, is_moving};
 ghost use Rattle.turn_kit.specs.Turns.{Post, Posted, Round, Turned, IsRound, IsNext, is_at_rest, Unmarked, Unsettled, calls_on, WokenInVain};
+ghost use Rattle.turn_kit.specs.Marks.{KeepsMarks};
 
 use crate::Kept;
 use wire_core::Event;
@@ -33,4 +34,6 @@ pub fn mark_law()
     ensures rest { (r new : Round) (es : List Event) → Unmarked r es new → is_at_rest r ≡ true → is_at_rest new ≡ true }
     ensures wake { (r new : Round) (es : List Event) → IsRound r → is_at_rest r ≡ true → Unmarked r es new → length r.posts + length r.posts ≤ length es → (k : ℕ) (p : Post) → slice_get r.posts k ≡ Some p → WokenInVain p.queue p.side es }
     ensures next { (r m : Round) (e : Event) → IsRound r → Turned r e m → is_mark e.op e.answer ≡ false → IsRound m }
+    // The same, of an actor's round as it is now.
+    ensures claims { (now : Round) → 0 < length now.posts → length now.needs ≡ length now.posts → KeepsMarks now }
 {}

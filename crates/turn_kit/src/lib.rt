@@ -2,6 +2,7 @@
 #![tactic(auto)]
 
 mod ends;
+mod hands;
 mod intakes;
 mod kept;
 mod laws;
@@ -10,6 +11,7 @@ mod pipe;
 mod turns;
 
 pub use ends::{Intake, Outlet};
+pub use hands::held;
 pub use intakes::Intakes;
 pub use kept::Kept;
 pub use laws::{end_law, mark_law, turn_law};

@@ -1,5 +1,6 @@
-use Rattle.std.specs.Prelude.{◌≡◌, ◌⊎◌, ℕ, is_some, is_none, None, [], ◌∷◌}
+use Rattle.std.specs.Prelude.{◌≡◌, ◌⊎◌, ℕ, is_some, is_none, None, List, [], ◌∷◌, ◌++◌, option_to_list}
 use Rattle.cargo_core.specs.Lists.{IsPrefix}
+use Rattle.wire_core.specs.Deeds.{Cargo}
 use Rattle.wire_core.specs.Lists.{Lists}
 use Rattle.wire_core.specs.Ends.{Role, Consumer, Producer, End}
 use Rattle.turn_kit.specs.Turns.{Round}
@@ -41,6 +42,10 @@ driver_round d = record {
   needs = is_none d.rx.load ∷ is_some d.rx.load ∷ is_none d.tx.load ∷ is_some d.tx.load ∷ [];
   last = d.turn.last;
 }
+
+-- the entries in its hand: what it took and has yet to put
+abbrev pub driver_hand : UartDriver → List Cargo
+driver_hand d = option_to_list d.rx.load ++ option_to_list d.tx.load
 
 -- the same without the last looks
 abbrev pub pipe_forgotten : Pipe → Pipe

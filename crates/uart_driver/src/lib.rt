@@ -6,10 +6,13 @@ ghost use Rattle.std.specs.Prelude.{◌≡◌, ◌≢◌, ◌<◌, ℕ, []};
 ghost use Rattle.wire_core.specs.Ends.{role_of, Role, End};
 ghost use Rattle.wire_core.specs.Lists.{Lists, Stepped};
 ghost use Rattle.turn_kit.specs.Turns.{Turned, choice_of, chosen, last_after, is_at_rest};
+ghost use Rattle.turn_kit.specs.Marks.{KeepsMarks};
+ghost use Rattle.turn_kit.specs.Hands.{held_in};
 ghost use Rattle.turn_kit.specs.Pipes.{IsNewPipe};
-ghost use Rattle.uart_driver.specs.Driver.{FitsDriver, DriverStandsFor, DriverRow, DriverEnd, SameEnds, driver_round, driver_forgotten};
+ghost use Rattle.uart_driver.specs.Driver.{FitsDriver, DriverStandsFor, DriverRow, DriverEnd, SameEnds, driver_round, driver_hand, driver_forgotten};
 
-use turn_kit::{Pipe, Turn};
+use cargo_core::PoolId;
+use turn_kit::{Pipe, Turn, held};
 use wire_core::{Event, QueueId, Wires};
 
 /// The driver of a serial device: `rx` moves what the device received, `tx` what it is to send. From sDDF's design
@@ -46,6 +49,13 @@ impl UartDriver {
             && self.tx.output_settled()
     }
 
+    /// How many buffers of a pool are in its hand: none, since a byte has no buffer.
+    pub fn held(&self, pool: PoolId) -> u32
+        ensures { result ≡ held_in pool (driver_hand self.now) }
+    {
+        held(pool, &self.rx.load) + held(pool, &self.tx.load)
+    }
+
     // The end that is stepped now: the two of `rx` come first, then those of `tx`, each input before its output.
     fn choose(&mut self) -> usize
         ensures place { result ≡ chosen (choice_of (driver_round self.old)) }
@@ -71,6 +81,7 @@ impl UartDriver {
         ensures stepped { Stepped DriverStandsFor W.did wires.old wires.new self.old self.new result }
         ensures row { (taken sent : Lists) → DriverStandsFor self.new taken sent → DriverRow self.new taken sent }
         ensures turned { Turned (driver_round self.old) result (driver_round self.new) }
+        ensures marks { KeepsMarks (driver_round self.new) }
     {
         match self.choose() {
             0 => self.rx.step_input(wires),

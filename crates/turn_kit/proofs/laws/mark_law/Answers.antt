@@ -2,6 +2,7 @@ use Rattle.std.proofs.Common.{arith}
 use Rattle.turn_kit.proofs.Bounds.{seven, six}
 use Rattle.turn_kit.proofs.Turning.{need_at, few_calls, settling_calls, round_next}
 use Rattle.turn_kit.proofs.Waking.{rest_stays, two_rounds}
+use Rattle.turn_kit.proofs.Marking.{keeps_marks}
 use Rattle.turn_kit.proofs.laws.mark_law.Goals as goal
 
 pub returns-clause-seven : goal.returns-clause-seven
@@ -18,3 +19,6 @@ returns-clause-wake c r new es ok rest u h k p at = two_rounds r new es ok rest 
 
 pub returns-clause-next : goal.returns-clause-next
 returns-clause-next c r m e ok t n = round_next r e m t ok n
+
+pub returns-clause-claims : goal.returns-clause-claims
+returns-clause-claims c now some needs = keeps_marks now some needs

@@ -1,0 +1,26 @@
+use Rattle.std.proofs.Common.{◌≡◌, ◌+◌, ℕ, Bool, Option, List, [], ◌∷◌, length, map, is_none, refl, arith}
+use Rattle.turn_kit.specs.declared.ends.Intake.{Intake}
+use Rattle.turn_kit.specs.declared.ends.Outlet.{Outlet}
+use Rattle.turn_kit.specs.Posts.{intake_post, outlet_post}
+use Rattle.turn_kit.specs.ManyEnds.{all_need, loads_from}
+use Rattle.turn_kit.specs.Marks.{KeepsMarks}
+use Rattle.turn_kit.proofs.Marking.{keeps_marks}
+use Rattle.serial_virt.specs.declared.rx.SerialVirtRx.{SerialVirtRx}
+use Rattle.serial_virt.specs.declared.tx.SerialVirtTx.{SerialVirtTx}
+use Rattle.serial_virt.specs.Receiving.{rx_round, place_loaded}
+use Rattle.serial_virt.specs.Sending.{tx_round}
+
+outlet_needs : (owner : Option ℕ) (place : ℕ) (ends : List Outlet) → length (loads_from owner place (map (λ (o : Outlet). o.queue) ends)) ≡ length (map outlet_post ends)
+outlet_needs owner place [] = refl
+outlet_needs owner place (o ∷ ends) = let h = outlet_needs owner (place + 1) ends in omega (arith, h)
+
+intake_needs : (need : Bool) (ends : List Intake) → length (all_need need (map (λ (i : Intake). i.queue) ends)) ≡ length (map intake_post ends)
+intake_needs need [] = refl
+intake_needs need (i ∷ ends) = let h = intake_needs need ends in omega (arith, h)
+
+-- both virtualisers keep the claims on marks
+pub rx_marks : (v : SerialVirtRx) → KeepsMarks (rx_round v)
+rx_marks v = let h = outlet_needs (place_loaded v) 0 v.outputs.ends.items in keeps_marks (rx_round v) (omega arith) (omega (arith, h))
+
+pub tx_marks : (v : SerialVirtTx) → KeepsMarks (tx_round v)
+tx_marks v = let h = intake_needs (is_none v.load) v.inputs.ends.items in keeps_marks (tx_round v) (omega arith) (omega (arith, h))

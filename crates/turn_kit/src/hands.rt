@@ -1,0 +1,16 @@
+// What an actor has in its hand.
+ghost use Rattle.std.specs.Prelude.{◌≡◌, ◌≤◌, option_to_list};
+ghost use Rattle.turn_kit.specs.Hands.{held_in};
+
+use cargo_core::{Body, Item, PoolId};
+
+/// How many buffers of a pool an actor holds that has at most this entry in its hand: none, as long as no entry carries
+/// a buffer.
+pub fn held(pool: PoolId, load: &Option<(Item, Body)>) -> u32
+    ensures held { result ≡ held_in pool (option_to_list load.now) }
+    ensures one { result ≤ 1 }
+{
+    match load {
+        None | Some((_, Body::Empty)) => 0,
+    }
+}
