@@ -1,7 +1,7 @@
-use Rattle.std.proofs.Common.{◌≡◌, ℕ, zero, suc, ◌+◌, ◌-◌, ◌*◌, ◌/◌, ◌<◌, ◌≤◌, ◌⊎◌, inl, inr, max, List, [], ◌∷◌, length, fold, Option, Some, None, slice_get, refl, ap, sym, ◌∙◌, arith}
+use Rattle.std.proofs.Common.{◌≡◌, ℕ, zero, suc, ◌+◌, ◌<◌, ◌≤◌, ◌⊎◌, inl, inr, max, List, [], ◌∷◌, fold, Option, Some, None, slice_get, refl, sym, arith}
 use Rattle.sdf_model.specs.declared.plan.Region.{Region}
-use Rattle.region_layout.specs.Bases.{given_end, floor_of, round_up, base_at, free_after, bases_from, bases_of, ArePartedBy, AreDisjoint, AreGivenApart}
-use Rattle.region_layout.specs.Sizes.{IsSmallRegion, AreSmallRegions}
+use Rattle.region_layout.specs.Bases.{given_end, floor_of, round_up, base_at, free_after, bases_from, bases_of, AreDisjoint, AreGivenApart}
+use Rattle.region_layout.specs.Sizes.{AreSmallRegions}
 
 opt_cases : (o : Option ℕ) → (o ≡ None) ⊎ ((p : ℕ) × (o ≡ Some p))
 opt_cases None = inl refl

@@ -2,3 +2,5 @@ pub mod BaseLemmas
 pub mod NameLemmas
 pub mod RowLemmas
 pub mod DisjointLemmas
+pub mod WalkLemmas
+pub mod ValidLemmas

@@ -1,4 +1,4 @@
-use Rattle.std.proofs.Common.{◌≡◌, ℕ, suc, ◌+◌, List, [], ◌∷◌, ◌++◌, drop, Option, Some, slice_get, refl, ap, sym, ◌∙◌, append_assoc, add-one}
+use Rattle.std.proofs.Common.{◌≡◌, ℕ, ◌+◌, List, ◌++◌, drop, Some, slice_get, ap, ◌∙◌, append_assoc, add-one}
 use Rattle.region_layout.specs.Rows.{each_client}
 use Rattle.region_layout.proofs.BaseLemmas.{drop_get}
 

@@ -1,4 +1,5 @@
 ghost use Rattle.std.specs.Prelude.{◌≡◌, ◌<◌, length, slice_get, Some, IfOk};
+ghost use Rattle.sdf_check.specs.Valid.{Valid};
 ghost use Rattle.region_layout.specs.Bases.{AreDisjoint, AreGivenApart};
 ghost use Rattle.region_layout.specs.Layouts.{layout_of};
 ghost use Rattle.region_layout.specs.Sizes.{HasSmallNumbers};
@@ -56,9 +57,18 @@ impl Layout {
     }
 }
 
-/// Lays a plan out: the base of each region, the queues and the pools in them, and who acts. The numbers of the plan must
-/// be such as the rules on a plan allow, and no two given ranges may meet.
+/// Lays a valid plan out, this project's own: the base of each region, the queues and the pools in them, and who acts.
+/// The only error is want of memory.
 pub fn lay_out(alloc: Global, plan: &Plan) -> Result<Layout, Memory>
+    requires { Valid plan.now }
+    ensures layout { IfOk result (λ layout. layout ≡ layout_of plan.now) }
+    ensures disjoint { IfOk result (λ layout. AreDisjoint plan.now.memory_region layout.bases) }
+{
+    laid_out(alloc, plan)
+}
+
+// Lays out a plan whose numbers are such as the rules allow, and in which no two given ranges meet.
+fn laid_out(alloc: Global, plan: &Plan) -> Result<Layout, Memory>
     requires small { HasSmallNumbers plan.now }
     requires apart { AreGivenApart plan.now.memory_region }
     ensures layout { IfOk result (λ layout. layout ≡ layout_of plan.now) }

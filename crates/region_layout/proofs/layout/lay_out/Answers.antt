@@ -1,22 +1,8 @@
-use Rattle.std.proofs.Common.{◌≡◌, ◌≤◌, length, refl, ap, sym, ◌∙◌, arith}
-use Rattle.region_layout.specs.Layouts.{layout_of}
-use Rattle.region_layout.specs.Rows.{actors_of}
-use Rattle.region_layout.specs.Bases.{bases_of}
-use Rattle.region_layout.proofs.NameLemmas.{few_actors}
-use Rattle.region_layout.proofs.DisjointLemmas.{are_disjoint}
+use Rattle.region_layout.proofs.ValidLemmas.{small_numbers, given_apart}
 use Rattle.region_layout.proofs.layout.lay_out.Goals as goal
 
-pub returns-clause-layout : goal.returns-clause-layout
-unfolding layout_of
-returns-clause-layout c = rw (c.in_ok-bases.ensures, c.as_slice.ensures, c.in_ok-queues.ensures, c.in_ok-pools.ensures, c.in_ok-actors.ensures) refl
+pub laid_out-requires-clause-small : goal.laid_out-requires-clause-small
+laid_out-requires-clause-small c = small_numbers c.args.plan.now c.requires
 
-pub returns-clause-disjoint : goal.returns-clause-disjoint
-returns-clause-disjoint c = rw (c.in_ok-bases.ensures, c.as_slice.ensures) (are_disjoint c.args.plan.now.memory_region c.requires.small.regions c.requires.apart)
-
-pub invariant_of-names : goal.invariant_of-names
-invariant_of-names c = record {
-  all_actors = c.in_ok-actors.ensures;
-  all_bases = rw c.as_slice.ensures at c.in_ok-bases.ensures;
-  few_actors = rw c.in_ok-actors.ensures (few_actors c.args.plan.now c.requires.small.domains);
-  few_regions = c.requires.small.regions.few;
-}
+pub laid_out-requires-clause-apart : goal.laid_out-requires-clause-apart
+laid_out-requires-clause-apart c = given_apart c.args.plan.now c.requires

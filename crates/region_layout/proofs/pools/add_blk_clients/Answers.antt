@@ -1,5 +1,4 @@
-use Rattle.std.proofs.Common.{◌≡◌, ◌++◌, sym, ◌∙◌}
-use Rattle.region_layout.specs.Rows.{each_client, blk_client_pools}
+use Rattle.region_layout.specs.Rows.{blk_client_pools}
 use Rattle.region_layout.proofs.RowLemmas.{each_more}
 use Rattle.region_layout.proofs.pools.add_blk_clients.Goals as goal
 

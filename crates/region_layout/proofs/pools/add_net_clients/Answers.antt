@@ -1,5 +1,4 @@
-use Rattle.std.proofs.Common.{◌≡◌, ◌++◌, sym, ◌∙◌}
-use Rattle.region_layout.specs.Rows.{each_client, net_client_pools}
+use Rattle.region_layout.specs.Rows.{net_client_pools}
 use Rattle.region_layout.proofs.RowLemmas.{each_more}
 use Rattle.region_layout.proofs.pools.add_net_clients.Goals as goal
 

@@ -1,4 +1,4 @@
-use Rattle.std.proofs.Common.{[], refl}
+use Rattle.std.proofs.Common.{refl}
 use Rattle.region_layout.specs.Rows.{queues_of}
 use Rattle.region_layout.proofs.queues.queues_of.Goals as goal
 
