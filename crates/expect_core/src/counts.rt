@@ -1,11 +1,13 @@
 ghost use Rattle.std.specs.Prelude.{◌≡◌, ◌+◌, ◌*◌, ◌<◌, ◌≤◌, ◌^◌, length, sum_by};
 ghost use Rattle.cargo_core.specs.declared.item.Ask.{Ask};
 ghost use Rattle.sdf_model.specs.declared.plan.NetClient.{NetClient as NetClientOf};
+ghost use Rattle.trace_text.specs.Traces.{IsReadFor};
+ghost use Rattle.sdf_check.specs.Valid.{Valid};
 ghost use Rattle.expect_core.specs.Budgets.{counts_of, no_trace, budget_of, budget_from, clients_or_none, IsWithinLimits, hops_of, most_ends, actors_of};
 
 use cargo_core::{Ask, Bytes, FrameLog, Series};
 use sdf_model::{NetClient, Plan};
-use trace_text::Trace;
+use trace_text::{Trace, limits_law};
 
 // The frames of some lists together.
 fn total_frames(logs: &[FrameLog]) -> u64
@@ -206,11 +208,14 @@ fn counts(plan: &Plan, trace: &Trace) -> ClassCounts
 }
 
 /// How many steps are enough for a play of this plan and trace: 32 for each hop and each actor, and 32 more, times one
-/// more than the greatest number of queue ends of one actor. This project's own.
+/// more than the greatest number of queue ends of one actor. The plan is valid, and the trace was read for it. This
+/// project's own.
 pub fn budget(plan: &Plan, trace: &Trace) -> u64
-    requires { IsWithinLimits (counts_of plan.now trace.now) }
+    requires valid { Valid plan.now }
+    requires read { IsReadFor plan.now trace.now }
     ensures value { result ≡ budget_of plan.now trace.now }
     ensures small { result < 268435456 }
 {
+    limits_law();
     counts(plan, trace).budget()
 }
