@@ -15,3 +15,14 @@ pub mod InputBegins
 pub mod Prefixes
 pub mod EndToEnd
 pub mod Seating
+pub mod WalkPlaces
+pub mod Apart
+pub mod Named
+pub mod SerialRows
+pub mod Seconds
+pub mod NewActors
+pub mod Building
+pub mod Spelling
+pub mod Begun
+pub mod Built
+pub mod Together

@@ -34,7 +34,7 @@ queue_there (a ∷ qs) zero n h = (a, refl, sym (some_same h))
 queue_there (a ∷ qs) (suc k) n h = queue_there qs k n h
 
 -- an actor's ends are those of its part
-to_part : (x : Actor) (r : Role) (n : ℕ) → ActorEnd x r n → PartEnd (part_of x) r n
+pub to_part : (x : Actor) (r : Role) (n : ℕ) → ActorEnd x r n → PartEnd (part_of x) r n
 to_part (Kinds.UartDevice x) Consumer n h = h
 to_part (Kinds.UartDevice x) Producer n h = h
 to_part (Kinds.SerialVirtRx x) Consumer n h = h

@@ -10,3 +10,6 @@ pub mod Starts
 pub mod Reports
 pub mod Serial
 pub mod Seats
+pub mod Builds
+pub mod Jobs
+pub mod PlanPlays

@@ -1,6 +1,7 @@
 //! The actors with the queues between them, and the one journal.
 #![tactic(auto)]
 
+mod build;
 mod running;
 mod system;
 

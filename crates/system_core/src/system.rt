@@ -1,4 +1,4 @@
-ghost use Rattle.std.specs.Prelude.{◌≡◌, ◌<◌, ◌≤◌, ◌&&◌, ℕ, List, not, length, map, OnOk, OnErr, IfOk, slice_get, Some, []};
+ghost use Rattle.std.specs.Prelude.{◌≡◌, ◌<◌, ◌≤◌, ◌&&◌, ℕ, List, not, length, map, OnOk, OnErr, IfOk, slice_get, Some, None, []};
 ghost use Rattle.std.specs.Option.{option_map};
 ghost use Rattle.wire_core.specs.Queues.{is_pending, starts};
 ghost use Rattle.wire_core.specs.Journal.{nobody, start_history, LegalJournal, EachMoment, BellsHold, QueuesFlow};
@@ -13,14 +13,24 @@ ghost use Rattle.system_core.specs.Reports.{heard_of, heard_at, report_of};
 ghost use Rattle.system_core.specs.Runnings.{removed_if, with_option};
 ghost use Rattle.system_core.specs.Serial.{IsSerial, ArrivesInPart, at_moment};
 ghost use Rattle.system_core.specs.Plays.{Played, IsSpent, StepsAt, runnable_now};
+ghost use Rattle.system_core.specs.Builds.{IsSpelled, IsBuilt};
+ghost use Rattle.trace_text.specs.Traces.{IsReadFor};
+ghost use Rattle.system_core.specs.PlanPlays.{IsPlayed, HasEnded};
+ghost use Rattle.region_layout.specs.Layouts.{layout_of};
+ghost use Rattle.sdf_check.specs.Valid.{Valid};
+ghost use Rattle.sdf_model.specs.declared.plan.Serial.{Serial};
 
+use crate::build::{cast, client_numbers, copies};
 use crate::running::Running;
 use actor_set::Actor;
 use cargo_core::{Bytes, Memory, Series};
 use expect_core::Report;
 use plain_wires::World;
+use region_layout::Layout;
+use sdf_model::Plan;
 use std::alloc::Global;
 use std::marker::Model;
+use trace_text::Trace;
 use wire_core::{ActorId, Entry, Op, QueueRow, Side, next_seed, place_of};
 
 /// How a play ended: no actor is runnable, or the steps are spent and some actor is runnable.
@@ -148,6 +158,35 @@ impl System {
         })
     }
 
+    /// The system of a plan in its start state: the actors and queues of its layout, with what a trace gives them. The plan
+    /// is one without the network class and the block class.
+    pub fn build(
+        alloc: Global,
+        plan: &Plan,
+        layout: &Layout,
+        trace: &Trace,
+    ) -> Result<System, Memory>
+        requires spelled { IsSpelled plan.now }
+        requires valid { Valid plan.now }
+        requires net { plan.now.net ≡ None }
+        requires blk { plan.now.blk ≡ None }
+        requires layout { layout.now ≡ layout_of plan.now }
+        requires trace { IsReadFor plan.now trace.now }
+        ensures built { IfOk result (IsBuilt plan.now trace.now) }
+        ensures serial { IfOk result (λ s. (serial : Serial) → plan.now.serial ≡ Some serial → IsSerial s trace.now.input trace.now.says) }
+    {
+        let rows = copies(alloc, layout.queues())?;
+        let Some(serial) = &plan.serial else {
+            return System::start(alloc, rows, Vec::new(alloc), None, Vec::new(alloc));
+        };
+        let clients = serial.client.len() as u16;
+        let count = layout.actors().len() as u16;
+        let device = rows[0].producer.0;
+        let numbers = client_numbers(alloc, &rows, clients)?;
+        let actors = cast(alloc, &rows, clients, count, trace)?;
+        System::start(alloc, rows, actors, Some(device), numbers)
+    }
+
     // What the actor at a place sent on its line, or recorded.
     fn heard(&self, place: u16) -> &[u8]
         ensures { result.now ≡ heard_at self.now place }
@@ -258,5 +297,30 @@ impl System {
         } else {
             Ok(Ending::Spent)
         }
+    }
+
+    /// Builds the system of a plan and plays it by a seed until it is quiet or so many steps were made. The plan is one
+    /// without the network class and the block class.
+    pub fn played(
+        alloc: Global,
+        plan: &Plan,
+        layout: &Layout,
+        trace: &Trace,
+        seed: u64,
+        limit: u64,
+    ) -> Result<(System, Ending), Memory>
+        requires spelled { IsSpelled plan.now }
+        requires valid { Valid plan.now }
+        requires net { plan.now.net ≡ None }
+        requires blk { plan.now.blk ≡ None }
+        requires layout { layout.now ≡ layout_of plan.now }
+        requires trace { IsReadFor plan.now trace.now }
+        ensures played { IfOk result (λ r. IsPlayed plan.now trace.now seed limit r.0) }
+        ensures ended { IfOk result (λ r. HasEnded limit r.0 r.1) }
+    {
+        let mut system = System::build(alloc, plan, layout, trace)?;
+        let ending = system.play(seed, limit)?;
+        let _ = system.journal();
+        Ok((system, ending))
     }
 }

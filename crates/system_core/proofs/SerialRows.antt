@@ -1,0 +1,157 @@
+use Rattle.std.proofs.Common.{◌≡◌, ◌+◌, ◌*◌, ◌<◌, ◌++◌, ℕ, zero, suc, Some, None, Option, List, [], ◌∷◌, length, map, codes, slice_get, refl, sym, ap, ◌∙◌, subst, arith}
+use Rattle.std.proofs.lemmas.List.{append-nil}
+use Rattle.cargo_core.specs.declared.item.QueueKind.TheVariants as Kind
+use Rattle.wire_core.specs.declared.names.QueueRow.{QueueRow}
+use Rattle.wire_core.specs.Ends.{Role, Consumer, Producer}
+use Rattle.wire_core.specs.Journal.{owner_of}
+use Rattle.sdf_model.specs.declared.plan.Plan.{Plan}
+use Rattle.sdf_model.specs.declared.plan.Serial.{Serial}
+use Rattle.sdf_model.specs.declared.plan.SerialClient.{SerialClient}
+use Rattle.region_layout.specs.Rows.{device_queue, only_queue, queue_in, client_name, each_client, uart_queues, shared_serial_queues, serial_client_queues, net_queues, serial_queues, blk_queues, queues_of}
+use Rattle.std.specs.Option.{option_map_or}
+use Rattle.system_core.specs.Builds.{number_named}
+use Rattle.system_core.specs.Seats.{HasSeat}
+use Rattle.system_core.proofs.Merges.{some_is}
+
+-- the two rows of each client
+client_rows : {C T : Type 0} (rows : ℕ → C → List T) (first second : ℕ → C → T) → ((c : ℕ) (x : C) → rows c x ≡ first c x ∷ second c x ∷ []) → (from : ℕ) (clients : List C) (c : ℕ) (x : C) → slice_get clients c ≡ Some x
+    → (slice_get (each_client rows from clients) (2 * c) ≡ Some (first (from + c) x)) × (slice_get (each_client rows from clients) (suc (2 * c)) ≡ Some (second (from + c) x))
+client_rows rows first second two from [] c x h = cc
+client_rows {C} {T} rows first second two from (y ∷ ys) zero x h =
+    let e : y ≡ x = cc in
+    let n : from + 0 ≡ from = omega arith in
+    let is : each_client rows from (y ∷ ys) ≡ first from y ∷ second from y ∷ each_client rows (from + 1) ys = ap (λ (l : List T). l ++ each_client rows (from + 1) ys) (two from y) in
+    (rw (is, n, sym e) refl, rw (is, n, sym e) refl)
+client_rows {C} {T} rows first second two from (y ∷ ys) (suc c) x h =
+    let r = client_rows rows first second two (from + 1) ys c x h in
+    let is : each_client rows from (y ∷ ys) ≡ first from y ∷ second from y ∷ each_client rows (from + 1) ys = ap (λ (l : List T). l ++ each_client rows (from + 1) ys) (two from y) in
+    let n : from + 1 + c ≡ from + suc c = omega arith in
+    let m : 2 * suc c ≡ suc (suc (2 * c)) = omega arith in
+    (rw (is, m) (r.0 ∙ ap (λ k. Some (first k x)) n), rw (is, m) (r.1 ∙ ap (λ k. Some (second k x)) n))
+
+-- what holds of the rows of each client holds of them all
+row_in : (P : QueueRow → Type 0) (front back : List QueueRow) → ((n : ℕ) (row : QueueRow) → slice_get front n ≡ Some row → P row) → ((n : ℕ) (row : QueueRow) → slice_get back n ≡ Some row → P row)
+    → (n : ℕ) (row : QueueRow) → slice_get (front ++ back) n ≡ Some row → P row
+row_in P [] back f b n row h = b n row h
+row_in P (x ∷ xs) back f b zero row h = f 0 row h
+row_in P (x ∷ xs) back f b (suc n) row h = row_in P xs back (λ m r g. f (suc m) r g) b n row h
+
+each_row : {C : Type 0} (P : QueueRow → Type 0) (rows : ℕ → C → List QueueRow) → ((c : ℕ) (x : C) (n : ℕ) (row : QueueRow) → slice_get (rows c x) n ≡ Some row → P row)
+    → (from : ℕ) (clients : List C) (n : ℕ) (row : QueueRow) → slice_get (each_client rows from clients) n ≡ Some row → P row
+each_row P rows all from [] n row h = cc
+each_row P rows all from (y ∷ ys) n row h = row_in P (rows from y) (each_client rows (from + 1) ys) (all from y) (each_row P rows all (from + 1) ys) n row h
+
+module _ (plan : Plan) (serial : Serial) (net : plan.net ≡ None) (blk : plan.blk ≡ None) (has : plan.serial ≡ Some serial) where
+  abbrev uart : List ℕ
+  uart = codes "@uart"
+
+  abbrev row_0 : QueueRow
+  row_0 = device_queue plan (codes "uart.rx") Kind.Byte uart serial.driver serial.rx_capacity
+
+  abbrev row_1 : QueueRow
+  row_1 = device_queue plan (codes "uart.tx") Kind.Byte serial.driver uart serial.tx_capacity
+
+  abbrev row_2 : QueueRow
+  row_2 = only_queue plan serial.rx_queues (codes "serial.rx") Kind.Byte serial.driver serial.rx_virt serial.rx_capacity
+
+  abbrev row_3 : QueueRow
+  row_3 = only_queue plan serial.tx_queues (codes "serial.tx") Kind.Byte serial.tx_virt serial.driver serial.tx_capacity
+
+  abbrev client_rx : ℕ → SerialClient → QueueRow
+  client_rx c client = only_queue plan client.rx_queues (client_name (codes "serial.") c (codes ".rx")) Kind.Byte serial.rx_virt client.pd client.rx_capacity
+
+  abbrev client_tx : ℕ → SerialClient → QueueRow
+  client_tx c client = only_queue plan client.tx_queues (client_name (codes "serial.") c (codes ".tx")) Kind.Byte client.pd serial.tx_virt client.tx_capacity
+
+  abbrev clients : List QueueRow
+  clients = each_client (serial_client_queues plan serial) 0 serial.client
+
+  rows_are : queues_of plan ≡ row_0 ∷ row_1 ∷ row_2 ∷ row_3 ∷ clients
+  unfolding queues_of serial_queues uart_queues shared_serial_queues
+  rows_are =
+      ap (λ o. option_map_or (net_queues plan) o [] ++ option_map_or (serial_queues plan) plan.serial [] ++ option_map_or (blk_queues plan) plan.blk []) net
+      ∙ (ap (λ o. option_map_or (serial_queues plan) o [] ++ option_map_or (blk_queues plan) plan.blk []) has
+      ∙ (ap (λ o. serial_queues plan serial ++ option_map_or (blk_queues plan) o []) blk ∙ append-nil (serial_queues plan serial)))
+
+  two_rows : (c : ℕ) (client : SerialClient) → serial_client_queues plan serial c client ≡ client_rx c client ∷ client_tx c client ∷ []
+  unfolding serial_client_queues
+  two_rows c client = refl
+
+  at_row : (n : ℕ) (row : QueueRow) → slice_get (row_0 ∷ row_1 ∷ row_2 ∷ row_3 ∷ clients) n ≡ Some row → slice_get (queues_of plan) n ≡ Some row
+  at_row n row h = ap (λ rs. slice_get rs n) rows_are ∙ h
+
+  -- the two seats at a queue
+  seats_at : (n : ℕ) (region : Option ℕ) (offset : ℕ) (name from to : List ℕ) (capacity : ℕ) → slice_get (queues_of plan) n ≡ Some (queue_in plan region offset name Kind.Byte from to capacity)
+      → HasSeat (queues_of plan) (number_named plan from) Producer n × HasSeat (queues_of plan) (number_named plan to) Consumer n
+  unfolding queue_in
+  seats_at n region offset name from to capacity there = (record { row = _; there = there; owner = refl; kind = refl }, record { row = _; there = there; owner = refl; kind = refl })
+
+  abbrev pub Seat : List ℕ → Role → ℕ → Type 0
+  Seat a r n = HasSeat (queues_of plan) (number_named plan a) r n
+
+  pub seats_0 : Seat uart Producer 0 × Seat serial.driver Consumer 0
+  seats_0 = seats_at 0 _ _ _ _ _ _ (at_row 0 row_0 refl)
+
+  pub seats_1 : Seat serial.driver Producer 1 × Seat uart Consumer 1
+  seats_1 = seats_at 1 _ _ _ _ _ _ (at_row 1 row_1 refl)
+
+  pub seats_2 : Seat serial.driver Producer 2 × Seat serial.rx_virt Consumer 2
+  seats_2 = seats_at 2 _ _ _ _ _ _ (at_row 2 row_2 refl)
+
+  pub seats_3 : Seat serial.tx_virt Producer 3 × Seat serial.driver Consumer 3
+  seats_3 = seats_at 3 _ _ _ _ _ _ (at_row 3 row_3 refl)
+
+  both_rows : (c : ℕ) (client : SerialClient) → slice_get serial.client c ≡ Some client → (slice_get clients (2 * c) ≡ Some (client_rx c client)) × (slice_get clients (suc (2 * c)) ≡ Some (client_tx c client))
+  both_rows c client h =
+      let r = client_rows (serial_client_queues plan serial) client_rx client_tx two_rows 0 serial.client c client h in
+      let e : 0 + c ≡ c = omega arith in
+      (r.0 ∙ ap (λ k. Some (client_rx k client)) e, r.1 ∙ ap (λ k. Some (client_tx k client)) e)
+
+  at_client : (n m : ℕ) (row : QueueRow) → n ≡ suc (suc (suc (suc m))) → slice_get clients m ≡ Some row → slice_get (queues_of plan) n ≡ Some row
+  at_client n m row e h = ap (slice_get (queues_of plan)) e ∙ at_row (suc (suc (suc (suc m)))) row h
+
+  pub seats_rx : (c : ℕ) (client : SerialClient) → slice_get serial.client c ≡ Some client → Seat serial.rx_virt Producer (4 + 2 * c) × Seat client.pd Consumer (4 + 2 * c)
+  seats_rx c client h = seats_at (4 + 2 * c) _ _ _ _ _ _ (at_client (4 + 2 * c) (2 * c) (client_rx c client) (omega arith) (both_rows c client h).0)
+
+  pub seats_tx : (c : ℕ) (client : SerialClient) → slice_get serial.client c ≡ Some client → Seat client.pd Producer (5 + 2 * c) × Seat serial.tx_virt Consumer (5 + 2 * c)
+  seats_tx c client h = seats_at (5 + 2 * c) _ _ _ _ _ _ (at_client (5 + 2 * c) (suc (2 * c)) (client_tx c client) (omega arith) (both_rows c client h).1)
+
+  -- each owner of a queue has a name
+  abbrev IsNamed : QueueRow → Type 0
+  IsNamed row = (r : Role) → (a : List ℕ) × (owner_of row r ≡ number_named plan a)
+
+  named_queue : (region : Option ℕ) (offset : ℕ) (name from to : List ℕ) (capacity : ℕ) → IsNamed (queue_in plan region offset name Kind.Byte from to capacity)
+  unfolding queue_in
+  named_queue region offset name from to capacity Producer = (from, refl)
+  named_queue region offset name from to capacity Consumer = (to, refl)
+
+  named_client : (c : ℕ) (client : SerialClient) (n : ℕ) (row : QueueRow) → slice_get (serial_client_queues plan serial c client) n ≡ Some row → IsNamed row
+  named_client c client n row h = go n (ap (λ rs. slice_get rs n) (sym (two_rows c client)) ∙ h)
+    where
+      go : (n : ℕ) → slice_get (client_rx c client ∷ client_tx c client ∷ []) n ≡ Some row → IsNamed row
+      go zero h = subst IsNamed (some_is h) (named_queue _ _ _ _ _ _)
+      go (suc zero) h = subst IsNamed (some_is h) (named_queue _ _ _ _ _ _)
+      go (suc (suc n)) h = cc
+
+  pub owner_named : (n : ℕ) (row : QueueRow) → slice_get (queues_of plan) n ≡ Some row → IsNamed row
+  owner_named n row h = go n (ap (λ rs. slice_get rs n) (sym rows_are) ∙ h)
+    where
+      go : (n : ℕ) → slice_get (row_0 ∷ row_1 ∷ row_2 ∷ row_3 ∷ clients) n ≡ Some row → IsNamed row
+      go zero h = subst IsNamed (some_is h) (named_queue _ _ _ _ _ _)
+      go (suc zero) h = subst IsNamed (some_is h) (named_queue _ _ _ _ _ _)
+      go (suc (suc zero)) h = subst IsNamed (some_is h) (named_queue _ _ _ _ _ _)
+      go (suc (suc (suc zero))) h = subst IsNamed (some_is h) (named_queue _ _ _ _ _ _)
+      go (suc (suc (suc (suc n)))) h = each_row IsNamed (serial_client_queues plan serial) named_client 0 serial.client n row h
+
+  each_length : (from : ℕ) (cs : List SerialClient) → length (each_client (serial_client_queues plan serial) from cs) ≡ 2 * length cs
+  each_length from [] = refl
+  each_length from (c ∷ cs) =
+      let r = each_length (from + 1) cs in
+      let is : each_client (serial_client_queues plan serial) from (c ∷ cs) ≡ client_rx from c ∷ client_tx from c ∷ each_client (serial_client_queues plan serial) (from + 1) cs = ap (λ (l : List QueueRow). l ++ each_client (serial_client_queues plan serial) (from + 1) cs) (two_rows from c) in
+      rw (is, r) (omega arith)
+
+  pub row_count : length (queues_of plan) ≡ 4 + 2 * length serial.client
+  row_count =
+      let whole : length (queues_of plan) ≡ suc (suc (suc (suc (length clients)))) = ap length rows_are in
+      let each : length clients ≡ 2 * length serial.client = each_length 0 serial.client in
+      omega (arith, whole, each)
