@@ -1,23 +1,20 @@
-use Rattle.std.proofs.Common.{◌≡◌, ◌+◌, ◌*◌, ◌<◌, ◌++◌, ℕ, zero, suc, Some, None, Option, List, [], ◌∷◌, length, map, codes, slice_get, refl, sym, ap, ◌∙◌, subst, arith}
+use Rattle.std.proofs.Common.{◌≡◌, ◌+◌, ◌*◌, ◌++◌, ℕ, Some, None, List, [], ◌∷◌, length, codes, slice_get, refl, sym, ap, ◌∙◌, subst}
 use Rattle.std.proofs.lemmas.List.{length-map}
 use Rattle.sdf_model.specs.declared.plan.Plan.{Plan}
-use Rattle.sdf_model.specs.declared.plan.Domain.{Domain}
 use Rattle.sdf_model.specs.declared.plan.Serial.{Serial}
 use Rattle.sdf_model.specs.declared.plan.SerialClient.{SerialClient}
-use Rattle.wire_core.specs.declared.names.QueueRow.{QueueRow}
 use Rattle.wire_core.specs.Ends.{Role}
 use Rattle.sdf_check.specs.Valid.{Valid}
 use Rattle.sdf_check.specs.ClassRules.{class_domains}
 use Rattle.trace_text.specs.declared.trace.Trace.{Trace}
 use Rattle.region_layout.specs.Rows.{queues_of, actors_of}
-use Rattle.actor_set.specs.Parts.{Part, UartPart, DriverPart, RxPart, TxPart, ClientPart}
+use Rattle.actor_set.specs.Parts.{UartPart, ClientPart}
 use Rattle.system_core.specs.Shows.{Shown}
 use Rattle.system_core.specs.Seats.{HasSeat}
 use Rattle.system_core.specs.Serial.{IsSerial, IsThere}
 use Rattle.system_core.specs.Builds.{number_named, every_second, HasSerial}
 use Rattle.system_core.proofs.Merges.{map_from}
-use Rattle.system_core.proofs.Prefixes.{there_is, there_below}
-use Rattle.system_core.proofs.WalkPlaces.{Stands}
+use Rattle.system_core.proofs.Prefixes.{there_is}
 use Rattle.system_core.proofs.Apart.{acting_names, acting_from}
 use Rattle.system_core.proofs.Named.{has_role}
 use Rattle.system_core.proofs.SerialRows.{seats_0, seats_1, seats_2, seats_3, seats_rx, seats_tx}

@@ -1,6 +1,4 @@
-use Rattle.std.proofs.Common.{◌≡◌, ℕ, List, [], ◌++◌, refl, sym, ◌∙◌, subst, ap, inl, inr}
-use Rattle.std.specs.Option.{ForSome}
-use Rattle.wire_core.specs.Deeds.{Cargo}
+use Rattle.std.proofs.Common.{◌≡◌, ℕ, refl, sym, ◌∙◌, subst, inl, inr}
 use Rattle.wire_core.specs.Ends.{Role, Consumer, Producer, End}
 use Rattle.wire_core.specs.Lists.{Lists}
 use Rattle.turn_kit.specs.Table.{Agrees}
@@ -8,9 +6,8 @@ use Rattle.turn_kit.specs.Pipes.{FitsPipe, PipeStandsFor}
 use Rattle.turn_kit.specs.declared.pipe.Pipe.{Pipe}
 use Rattle.serial_terminal.specs.Terminals.{FitsTerminal, TerminalStandsFor}
 use Rattle.serial_terminal.specs.declared.Terminal.{Terminal}
-use Rattle.std.proofs.Common.{map, slice_get, Some}
 use Rattle.wire_core.specs.declared.names.QueueId.{QueueId}
-use Rattle.turn_kit.specs.ManyEnds.{intake_queues, outlet_queues}
+use Rattle.turn_kit.specs.ManyEnds.{intake_queues}
 use Rattle.turn_kit.specs.declared.ends.Intake.{Intake}
 use Rattle.turn_kit.specs.declared.ends.Outlet.{Outlet}
 use Rattle.serial_virt.specs.Receiving.{FitsRx, RxStandsFor, RxEnd}

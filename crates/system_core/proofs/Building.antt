@@ -1,4 +1,4 @@
-use Rattle.std.proofs.Common.{◌≡◌, ◌≢◌, ◌⊎◌, ◌+◌, ◌*◌, ◌<◌, ◌≤◌, ◌++◌, ℕ, zero, suc, Some, None, Option, List, [], ◌∷◌, length, map, codes, slice_get, refl, sym, ap, ◌∙◌, subst, arith, inl, inr, ⊎_elim, unwrap_or}
+use Rattle.std.proofs.Common.{◌≡◌, ◌≢◌, ◌+◌, ◌*◌, ◌<◌, ◌≤◌, ℕ, zero, suc, Some, None, List, [], ◌∷◌, length, map, codes, slice_get, refl, sym, ap, ◌∙◌, subst, arith, inl, inr, unwrap_or}
 use Rattle.std.proofs.lemmas.List.{length-map}
 use Rattle.wire_core.specs.declared.names.QueueRow.{QueueRow}
 use Rattle.wire_core.specs.Ends.{Role, Consumer, Producer}
@@ -12,13 +12,12 @@ use Rattle.sdf_check.specs.Valid.{Valid}
 use Rattle.trace_text.specs.declared.trace.Trace.{Trace}
 use Rattle.region_layout.specs.Rows.{queues_of, actors_of}
 use Rattle.actor_set.specs.Parts.{Part, UartPart, DriverPart, RxPart, TxPart, ClientPart}
-use Rattle.actor_set.specs.Actors.{ActorEnd, part_of}
+use Rattle.actor_set.specs.Actors.{part_of}
 use Rattle.actor_set.specs.declared.actor.Actor.{Actor}
 use Rattle.actor_set.specs.declared.actor.Actor.TheVariants as Kinds
 use Rattle.system_core.specs.Shows.{Shown, started}
-use Rattle.system_core.specs.Serial.{IsSerial}
 use Rattle.system_core.specs.Seats.{HasSeat, HasApartEnds, AreSeated}
-use Rattle.system_core.specs.Builds.{number_named, every_second, IsPart, HasSerial}
+use Rattle.system_core.specs.Builds.{number_named, HasSerial}
 use Rattle.system_core.specs.Jobs.{IsOwner, within, known_queue, known_role, HasJob, SomeJob, job_part, AreCast, AreClients}
 use Rattle.system_core.specs.declared.build.Job.{Job}
 use Rattle.system_core.specs.declared.build.Job.TheVariants as Of
@@ -27,7 +26,7 @@ use Rattle.system_core.proofs.Prefixes.{there_is, there_below}
 use Rattle.system_core.proofs.PartEnds.{PartEnd, to_part, number_there}
 use Rattle.system_core.proofs.WalkPlaces.{Stands}
 use Rattle.system_core.proofs.Apart.{one_place}
-use Rattle.system_core.proofs.Named.{role_names, pd_of, roles_differ, uart, uart_acts, role_is_actor, not_role, one_name, number_below, who}
+use Rattle.system_core.proofs.Named.{role_names, pd_of, roles_differ, uart_acts, role_is_actor, not_role, one_name, number_below, who}
 use Rattle.system_core.proofs.Seconds.{second_get, second_apart}
 use Rattle.system_core.proofs.SerialRows.{seats_0, seats_1, seats_2, seats_3, seats_rx, seats_tx, owner_named}
 
@@ -240,8 +239,8 @@ module _ (plan : Plan) (valid : Valid plan) (serial : Serial) (net : plan.net �
       clients_are : numbers ≡ map (λ (c : SerialClient). number c.pd) serial.client
       clients_are = same_lists numbers (map (λ (c : SerialClient). number c.pd) serial.client) (owners.count ∙ sym (length-map serial.client (λ (c : SerialClient). number c.pd)))
           (λ c k j p q.
-              let m = map_from (λ (x : SerialClient). number x.pd) serial.client c j q in
-              sym (seat_owner (number m.0.pd) k Consumer (4 + 2 * c) (seats_rx plan serial net blk has c m.0 m.1).1 (owners.each c k p)) ∙ m.2)
+          let m = map_from (λ (x : SerialClient). number x.pd) serial.client c j q in
+          sym (seat_owner (number m.0.pd) k Consumer (4 + 2 * c) (seats_rx plan serial net blk has c m.0 m.1).1 (owners.each c k p)) ∙ m.2)
 
       pub has_serial : HasSerial plan serial trace state
       has_serial = record {

@@ -1,4 +1,4 @@
-use Rattle.std.proofs.Common.{◌≡◌, ◌+◌, ◌*◌, ◌<◌, ◌≤◌, ℕ, Some, None, List, [], length, map, get_or, slice_get, refl, sym, ap, ◌∙◌, subst, arith}
+use Rattle.std.proofs.Common.{◌≡◌, ◌+◌, ◌*◌, ◌<◌, ◌≤◌, ℕ, Some, None, List, [], length, map, get_or, refl, sym, ap, ◌∙◌, subst, arith}
 use Rattle.std.proofs.lemmas.List.{length-map}
 use Rattle.std.proofs.lemmas.Option.{slice_get_read}
 use Rattle.wire_core.specs.declared.names.QueueRow.{QueueRow}
@@ -15,9 +15,9 @@ use Rattle.region_layout.proofs.NameLemmas.{few_actors}
 use Rattle.actor_set.specs.Actors.{part_of}
 use Rattle.actor_set.specs.declared.actor.Actor.{Actor}
 use Rattle.system_core.specs.Shows.{Shown, started}
-use Rattle.system_core.specs.Serial.{IsSerial, at_moment}
+use Rattle.system_core.specs.Serial.{IsSerial}
 use Rattle.system_core.specs.Seats.{AreSeated}
-use Rattle.system_core.specs.Builds.{IsSpelled, IsBuilt, HasSerial, HasNobody}
+use Rattle.system_core.specs.Builds.{IsSpelled, IsBuilt, HasSerial}
 use Rattle.system_core.specs.Jobs.{IsOwner, SomeJob, AreCast, AreClients}
 use Rattle.system_core.proofs.Named.{domains_few, client_count}
 use Rattle.system_core.proofs.SerialRows.{row_count}

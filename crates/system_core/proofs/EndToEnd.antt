@@ -1,12 +1,12 @@
-use Rattle.std.proofs.Common.{◌≡◌, ◌<◌, ◌++◌, ℕ, true, Some, Option, List, [], ◌∷◌, length, map, flat_map, slice_get, refl, sym, ap, ◌∙◌, subst, arith}
+use Rattle.std.proofs.Common.{◌≡◌, ◌++◌, ℕ, Some, List, [], ◌∷◌, length, map, slice_get, refl, sym, ap, ◌∙◌, subst, arith}
 use Rattle.std.proofs.lemmas.List.{length-map}
-use Rattle.cargo_core.specs.Lists.{IsPrefix, PrefixMerge, Merge}
+use Rattle.cargo_core.specs.Lists.{IsPrefix, PrefixMerge}
 use Rattle.cargo_core.specs.declared.item.Item.{Item}
 use Rattle.wire_core.specs.declared.names.Entry.{Entry}
 use Rattle.wire_core.specs.Journal.{nobody, EachFrom, EachMoment, QueuesFlow}
 use Rattle.serial_switch.specs.Carried.{byte_of}
 use Rattle.serial_switch.specs.Switching.{input_of}
-use Rattle.actor_set.specs.Parts.{Part, ClientPart}
+use Rattle.actor_set.specs.Parts.{ClientPart}
 use Rattle.system_core.specs.Shows.{Shown}
 use Rattle.system_core.specs.Tracks.{sent, taken, bytes_in}
 use Rattle.system_core.specs.Rows.{RowsHold, byte_items, SharesOut, MergesAll}

@@ -1,4 +1,4 @@
-use Rattle.std.proofs.Common.{◌≡◌, ◌≢◌, ◌⊎◌, ◌+◌, ◌<◌, ◌≤◌, ◌++◌, ℕ, zero, suc, Bool, true, false, not, Some, None, Option, List, [], ◌∷◌, length, map, flat_map, codes, slice_get, refl, sym, ap, ◌∙◌, subst, arith, inl, inr, ⊎_elim, unwrap_or}
+use Rattle.std.proofs.Common.{◌≡◌, ◌≢◌, ◌⊎◌, ◌<◌, ◌≤◌, ◌++◌, ℕ, zero, suc, Bool, true, false, not, Some, None, Option, List, [], ◌∷◌, length, map, flat_map, codes, slice_get, refl, sym, ap, ◌∙◌, subst, arith, inl, inr, ⊎_elim, unwrap_or}
 use Rattle.std.specs.Option.{IsSomeAnd, option_and_then, option_map}
 use Rattle.std.specs.Str.{bytes_eq}
 use Rattle.std.proofs.lemmas.Bool.{cases_lt}
@@ -16,15 +16,15 @@ use Rattle.sdf_check.specs.declared.role.Role.TheVariants as For
 use Rattle.sdf_check.specs.Elements.{outline_of, domain_parts}
 use Rattle.sdf_check.specs.Names.{place_of, domain_names, domain_named, serial_client_domains}
 use Rattle.sdf_check.specs.Roles.{IsProgramOf, serial_roles, serial_client_roles}
-use Rattle.sdf_check.specs.ClassRules.{SomeOf, class_domains, the_domain, Plays, GivesWrongRole, IsClientCount}
+use Rattle.sdf_check.specs.ClassRules.{class_domains, the_domain, Plays, GivesWrongRole, IsClientCount}
 use Rattle.sdf_check.specs.Valid.{Valid, broken}
 use Rattle.sdf_check.proofs.NamedLemmas.{named-none}
-use Rattle.region_layout.specs.Rows.{acts, actors_of, actor_named, devices_of}
+use Rattle.region_layout.specs.Rows.{acts, actors_of, actor_named}
 use Rattle.system_core.specs.Builds.{number_named}
 use Rattle.system_core.proofs.Merges.{some_is, map_get, map_from}
 use Rattle.system_core.proofs.Prefixes.{there_is, there_below}
 use Rattle.system_core.proofs.WalkPlaces.{Stands, stands_left, stands_right, walk_domain, walk_serial, walk_client}
-use Rattle.system_core.proofs.Apart.{option_cases, AreApart, one_place, added_cases, apart_added, name_of, acting_names, acting_apart, acting_there, acting_from, place_there, place_found, place_is}
+use Rattle.system_core.proofs.Apart.{option_cases, AreApart, added_cases, apart_added, name_of, acting_names, acting_apart, acting_there, acting_from, place_there, place_is}
 
 some_and : {T : Type 0} (o : Option T) (x : T) (P : T → Type 0) → o ≡ Some x → P x → IsSomeAnd o P
 some_and o x P is p = subst (λ z. IsSomeAnd z P) (sym is) p
@@ -220,10 +220,13 @@ module _ (plan : Plan) (valid : Valid plan) where
       -- each actor is the device, or has a role
       pub who : (k : ℕ) → k < length (actors_of plan) → (a : List ℕ) × (number_named plan a ≡ k) × ((a ≡ uart) ⊎ Stands a role_names)
       who k lt =
-          let there = there_is (actors_of plan) k lt in
-          (there.0, number_at k there.0 there.1, elim (added_cases (acting_names plan.protection_domain) uart there.0 k (ap (λ ns. slice_get ns k) (sym actors_are) ∙ there.1)) [
-            | inl acting ↦
-                let f = acting_from plan.protection_domain k there.0 acting in
-                inr (subst (λ n. Stands n role_names) f.4 (subst (Stands f.1.name) names_are (has_role f.0 f.1 f.2 f.3)))
-            | inr device ↦ inl (sym device.0)
-          ])
+          let there = there_is (actors_of plan) k lt in (
+            there.0,
+            number_at k there.0 there.1,
+            elim (added_cases (acting_names plan.protection_domain) uart there.0 k (ap (λ ns. slice_get ns k) (sym actors_are) ∙ there.1)) [
+              | inl acting ↦
+                  let f = acting_from plan.protection_domain k there.0 acting in
+                  inr (subst (λ n. Stands n role_names) f.4 (subst (Stands f.1.name) names_are (has_role f.0 f.1 f.2 f.3)))
+              | inr device ↦ inl (sym device.0)
+            ],
+          )

@@ -1,4 +1,4 @@
-use Rattle.std.proofs.Common.{◌≡◌, ◌+◌, ◌*◌, ◌<◌, ◌≤◌, ◌++◌, ℕ, zero, suc, Some, None, List, [], ◌∷◌, length, map, slice_get, refl, sym, ap, ◌∙◌, subst, arith, inl, inr}
+use Rattle.std.proofs.Common.{◌≡◌, ◌+◌, ◌*◌, ◌<◌, ◌++◌, ℕ, Some, List, [], ◌∷◌, length, map, slice_get, refl, sym, ap, ◌∙◌, subst, arith, inl, inr}
 use Rattle.std.proofs.lemmas.List.{length-map}
 use Rattle.std.proofs.Common.{length-append}
 use Rattle.std.proofs.lemmas.Bool.{cases_lt}
@@ -12,7 +12,7 @@ use Rattle.serial_virt.specs.Sending.{IsNewTx, new_intake}
 use Rattle.serial_virt.specs.declared.tx.SerialVirtTx.{SerialVirtTx}
 use Rattle.trace_text.specs.declared.trace.Trace.{Trace}
 use Rattle.actor_set.specs.Actors.{numbers}
-use Rattle.actor_set.specs.Parts.{Part, RxPart, TxPart}
+use Rattle.actor_set.specs.Parts.{RxPart, TxPart}
 use Rattle.actor_set.specs.declared.actor.Actor.{Actor}
 use Rattle.system_core.specs.Builds.{every_second}
 use Rattle.system_core.specs.Jobs.{IsOwner, IsCast, AreCast}

@@ -1,4 +1,4 @@
-use Rattle.std.proofs.Common.{◌≡◌, ◌⊎◌, ℕ, Some, List, [], ◌∷◌, map, slice_get, subst, refl, sym, ap, ◌∙◌, zero, suc}
+use Rattle.std.proofs.Common.{◌≡◌, ◌⊎◌, ℕ, Some, List, [], ◌∷◌, slice_get, subst, refl, sym, ap, ◌∙◌, zero, suc}
 use Rattle.wire_core.specs.declared.names.QueueId.{QueueId}
 use Rattle.turn_kit.specs.ManyEnds.{intake_queues, outlet_queues}
 use Rattle.wire_core.specs.Ends.{Role, Consumer, Producer}

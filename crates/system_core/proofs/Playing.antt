@@ -1,9 +1,9 @@
-use Rattle.std.proofs.Common.{◌≡◌, ◌≤◌, ◌+◌, ◌++◌, ℕ, Option, Some, List, [], ◌∷◌, length, length-append, slice_get, append_assoc, subst, refl, sym, ap, ◌∙◌, arith}
+use Rattle.std.proofs.Common.{◌≡◌, ◌≤◌, ◌+◌, ◌++◌, ℕ, Some, List, [], ◌∷◌, length, length-append, slice_get, append_assoc, subst, refl, sym, ap, ◌∙◌}
 use Rattle.std.proofs.lemmas.List.{append-nil}
 use Rattle.wire_core.specs.declared.names.Entry.{Entry}
 use Rattle.wire_core.specs.Picks.{PickedFrom, next_seed, place_of, drawn}
 use Rattle.wire_core.proofs.Tracks.{PickedFrom-append, drawn-append}
-use Rattle.system_core.specs.Shows.{Shown, Appends}
+use Rattle.system_core.specs.Shows.{Shown}
 use Rattle.system_core.specs.Runs.{runnable}
 use Rattle.system_core.specs.Plays.{Played, StepsAt, runnable_now}
 

@@ -1,4 +1,4 @@
-use Rattle.std.proofs.Common.{◌≡◌, ◌<◌, ◌≤◌, ◌+◌, ℕ, Bool, true, false, not, ◌&&◌, ◌||◌, nat_lt, Option, Some, None, is_some, is_none, List, [], ◌∷◌, ◌++◌, map, take, length, length-append, length-take, slice_get, get_or, subst, refl, sym, ap, ◌∙◌, arith, zero, suc, add-suc, add-zero}
+use Rattle.std.proofs.Common.{◌≡◌, ◌<◌, ◌≤◌, ◌+◌, ℕ, Bool, true, false, not, ◌&&◌, ◌||◌, nat_lt, Option, Some, None, is_some, is_none, List, [], ◌∷◌, ◌++◌, map, length, length-append, length-take, slice_get, get_or, subst, refl, sym, ap, ◌∙◌, arith, suc, add-zero}
 use Rattle.std.specs.Option.{option_to_list}
 use Rattle.std.specs.List.{list_any}
 use Rattle.std.proofs.lemmas.List.{length-map}
@@ -9,8 +9,7 @@ use Rattle.cargo_core.specs.declared.item.QueueKind.TheVariants as Kind
 use Rattle.wire_core.specs.declared.names.QueueRow.{QueueRow}
 use Rattle.wire_core.specs.declared.names.Entry.{Entry}
 use Rattle.wire_core.specs.Deeds.{Cargo}
-use Rattle.wire_core.specs.Bells.{is_free}
-use Rattle.wire_core.specs.Ends.{Role, Consumer, Producer, End, is_clear}
+use Rattle.wire_core.specs.Ends.{Role, Consumer, Producer, End}
 use Rattle.wire_core.specs.Queues.{Bells, Queue, items_of, queue_at, end_at, end_of, is_called, is_pending}
 use Rattle.wire_core.specs.Journal.{History, IsShown, track}
 use Rattle.wire_core.proofs.Moving.{there_if_owned}
@@ -18,11 +17,11 @@ use Rattle.wire_core.proofs.Tracks.{shown_calls}
 use Rattle.turn_kit.specs.Table.{Agrees, is_settled}
 use Rattle.turn_kit.specs.Turns.{Post, settled_all, is_at_rest}
 use Rattle.turn_kit.specs.declared.kept.Kept.{Kept}
-use Rattle.turn_kit.specs.Pipes.{FitsPipe, PipeStandsFor}
+use Rattle.turn_kit.specs.Pipes.{PipeStandsFor}
 use Rattle.turn_kit.specs.declared.pipe.Pipe.{Pipe}
 use Rattle.serial_terminal.specs.Terminals.{FitsTerminal, TerminalStandsFor}
 use Rattle.serial_terminal.specs.declared.Terminal.{Terminal}
-use Rattle.std.proofs.Common.{◌⊎◌, ◌≢◌, ◌==◌, nat_eq, if◌then◌else◌, inl, inr}
+use Rattle.std.proofs.Common.{◌⊎◌, ◌≢◌, nat_eq, if◌then◌else◌, inl, inr}
 use Rattle.std.specs.Option.{option_map}
 use Rattle.std.proofs.Math.Dec.{eqb}
 use Rattle.std.proofs.lemmas.Bool.Decides.{eqb_tells}
@@ -39,7 +38,6 @@ use Rattle.serial_virt.specs.Receiving.{FitsRx, RxStandsFor, rx_round, owed_to, 
 use Rattle.serial_virt.specs.declared.rx.SerialVirtRx.{SerialVirtRx}
 use Rattle.serial_virt.specs.Sending.{FitsTx, TxStandsFor, tx_round}
 use Rattle.serial_virt.specs.declared.tx.SerialVirtTx.{SerialVirtTx}
-use Rattle.actor_set.specs.Parts.{Part}
 use Rattle.system_core.specs.Tracks.{bytes_in, Want, end_settled, want_settled, all_settled, sent, taken}
 use Rattle.system_core.specs.Rows.{wants, is_owed, some_owed, shares, taken_count, is_held}
 use Rattle.system_core.specs.Runs.{called_from, is_runnable}

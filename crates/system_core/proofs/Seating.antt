@@ -1,4 +1,4 @@
-use Rattle.std.proofs.Common.{is_some, ◌≡◌, ◌==◌, ◌<◌, ◌≤◌, ◌++◌, ℕ, Bool, true, false, nat_lt, if◌then◌else◌, Some, None, Option, List, [], ◌∷◌, length, map, take, slice_get, refl, sym, ap, ◌∙◌, subst, arith, zero, suc, inl, inr}
+use Rattle.std.proofs.Common.{is_some, ◌≡◌, ◌==◌, ◌<◌, ℕ, Bool, true, false, if◌then◌else◌, Some, None, List, [], ◌∷◌, length, map, slice_get, refl, sym, ap, ◌∙◌, subst, arith, zero, suc, inl, inr}
 use Rattle.std.specs.Option.{option_to_list}
 use Rattle.std.proofs.lemmas.List.{length-map}
 use Rattle.std.proofs.lemmas.Bool.{lt-ltb}
@@ -22,9 +22,9 @@ use Rattle.turn_kit.specs.Pipes.{FitsPipe, PipeStandsFor, IsNewPipe}
 use Rattle.turn_kit.specs.declared.pipe.Pipe.{Pipe}
 use Rattle.serial_terminal.specs.Terminals.{FitsTerminal, TerminalStandsFor, IsNewTerminal}
 use Rattle.serial_terminal.specs.declared.Terminal.{Terminal}
-use Rattle.serial_virt.specs.Receiving.{FitsRx, RxStandsFor, IsNewRx, new_outlet, owed_to}
+use Rattle.serial_virt.specs.Receiving.{FitsRx, IsNewRx, new_outlet}
 use Rattle.serial_virt.specs.declared.rx.SerialVirtRx.{SerialVirtRx}
-use Rattle.serial_virt.specs.Sending.{FitsTx, TxStandsFor, IsNewTx, new_intake}
+use Rattle.serial_virt.specs.Sending.{FitsTx, IsNewTx, new_intake}
 use Rattle.serial_virt.specs.declared.tx.SerialVirtTx.{SerialVirtTx}
 use Rattle.actor_set.specs.Actors.{FitsActor, ActorStandsFor, ActorEnd}
 use Rattle.actor_set.specs.declared.actor.Actor.{Actor}

@@ -1,9 +1,8 @@
-use Rattle.std.proofs.Common.{◌≡◌, ◌≢◌, ◌<◌, ℕ, zero, suc, Bool, true, false, not, Some, None, Option, List, [], ◌∷◌, length, map, codes, slice_get, refl, sym, ap, ◌∙◌, subst, arith, inr, unwrap_or}
+use Rattle.std.proofs.Common.{◌≡◌, ◌≢◌, ◌<◌, ℕ, zero, suc, true, not, Some, None, Option, List, [], length, codes, slice_get, refl, sym, ap, ◌∙◌, subst, arith, inr, unwrap_or}
 use Rattle.std.specs.Option.{option_and_then}
 use Rattle.std.proofs.lemmas.List.{length-map}
 use Rattle.toml.specs.Data.{Data, Members, get_member, as_str}
 use Rattle.toml.specs.Parse.{parse_document}
-use Rattle.sdf_model.specs.declared.place.Place.{Place}
 use Rattle.sdf_model.specs.declared.place.Place.TheVariants as At
 use Rattle.sdf_model.specs.declared.key.Kind.TheVariants as A
 use Rattle.sdf_model.specs.declared.key.Absent.TheVariants as If

@@ -1,14 +1,14 @@
-use Rattle.std.proofs.Common.{◌≡◌, ◌<◌, ◌≤◌, ◌+◌, ℕ, Bool, true, false, not, ◌&&◌, Some, List, [], ◌∷◌, ◌++◌, length, map, take, slice_get, slice_index_or, get_or, length-append, length-take, None, Option, refl, sym, ap, ◌∙◌, subst, arith, zero, suc, min}
+use Rattle.std.proofs.Common.{◌≡◌, ◌<◌, ◌≤◌, ◌+◌, ℕ, Bool, true, false, not, ◌&&◌, Some, List, [], ◌∷◌, ◌++◌, length, map, take, slice_get, slice_index_or, get_or, length-append, length-take, refl, sym, ap, ◌∙◌, subst, arith, zero, suc, min}
 use Rattle.std.proofs.lemmas.List.{take_more, length-map, append-nil}
 use Rattle.std.proofs.lemmas.Option.{slice_get_read}
 use Rattle.wire_core.specs.declared.names.QueueRow.{QueueRow}
-use Rattle.wire_core.specs.Queues.{Queue, starts, queue_at, end_at, is_pending}
-use Rattle.wire_core.specs.Journal.{History, start_track, start_history, track, IsShown}
+use Rattle.wire_core.specs.Queues.{Queue, starts, queue_at, is_pending}
+use Rattle.wire_core.specs.Journal.{start_track, start_history, IsShown}
 use Rattle.wire_core.proofs.BellTheorem.{start_is}
 use Rattle.turn_kit.specs.Turns.{is_at_rest}
 use Rattle.actor_set.specs.Actors.{actor_round, part_of}
 use Rattle.actor_set.specs.declared.actor.Actor.{Actor}
-use Rattle.system_core.specs.Runs.{is_runnable, flags_from, places_from, if_so, runnable}
+use Rattle.system_core.specs.Runs.{is_runnable, flags_from, places_from, if_so}
 use Rattle.system_core.specs.Runnings.{with_number}
 use Rattle.system_core.specs.Starts.{AreStarting}
 use Rattle.system_core.specs.Systems.{Holds}

@@ -1,18 +1,15 @@
-use Rattle.std.proofs.Common.{◌≡◌, ◌≢◌, ◌⊎◌, ◌==◌, ◌<◌, ◌≤◌, ◌+◌, ℕ, Bool, true, false, not, ◌&&◌, ◌||◌, Option, Some, None, List, [], ◌∷◌, ◌++◌, length, length-set, slice_get, slice_set, slice_index_or, get_or, map, subst, refl, sym, ap, ◌∙◌, arith, inl, inr, zero, suc}
-use Rattle.std.specs.List.{remove}
-use Rattle.std.proofs.Math.Dec.{eqb}
+use Rattle.std.proofs.Common.{◌≡◌, ◌≢◌, ◌⊎◌, ◌<◌, ◌≤◌, ◌+◌, ℕ, Bool, true, false, not, ◌&&◌, ◌||◌, Option, Some, None, List, [], ◌∷◌, ◌++◌, length, length-set, slice_get, slice_set, slice_index_or, map, subst, refl, sym, ap, ◌∙◌, arith, inl, inr, zero, suc}
 use Rattle.std.proofs.lemmas.List.{length-map}
-use Rattle.std.proofs.lemmas.Bool.Decides.{eqb_tells}
 use Rattle.wire_core.specs.declared.names.QueueRow.{QueueRow}
 use Rattle.wire_core.specs.declared.names.Entry.{Entry}
 use Rattle.wire_core.specs.declared.names.Event.{Event}
 use Rattle.wire_core.specs.declared.names.Op.{Op}
 use Rattle.wire_core.specs.declared.names.Op.TheVariants as Do
-use Rattle.wire_core.specs.Ends.{Role, role_of, waiting_role}
+use Rattle.wire_core.specs.Ends.{role_of, waiting_role}
 use Rattle.wire_core.specs.Lists.{Stepped}
 use Rattle.wire_core.specs.Queues.{Queue, Happens, end_at, is_pending}
 use Rattle.std.proofs.lemmas.Option.{slice_get_read}
-use Rattle.wire_core.specs.Journal.{History, EachMoment, track, owner_of}
+use Rattle.wire_core.specs.Journal.{History, EachMoment, owner_of}
 use Rattle.wire_core.proofs.Tracks.{EachFrom-append}
 use Rattle.system_core.proofs.RowsNow.{rows_now}
 use Rattle.wire_core.proofs.Places.{slice_get_written, slice_get_beside}
@@ -21,13 +18,12 @@ use Rattle.actor_set.specs.Parts.{Part}
 use Rattle.actor_set.specs.Actors.{FitsActor, ActorStandsFor, ActorEnd, actor_round, part_of}
 use Rattle.system_core.specs.Tracks.{all_settled}
 use Rattle.system_core.specs.Rows.{wants, RowsHold}
-use Rattle.system_core.specs.Runs.{called_from, is_runnable, flags_from, places_from, runnable, rung_at}
+use Rattle.system_core.specs.Runs.{is_runnable, flags_from, places_from, runnable, rung_at}
 use Rattle.system_core.specs.Runnings.{removed_if, with_option, with_number}
 use Rattle.system_core.specs.Systems.{Holds}
 use Rattle.actor_set.specs.declared.actor.Actor.{Actor}
 use Rattle.system_core.proofs.SystemStep.{step_holds, map_same, entry_of, some_eq}
-use Rattle.system_core.proofs.RowsNow.{map_back}
-use Rattle.system_core.proofs.RunsNow.{either, both, rests_here, idle_here}
+use Rattle.system_core.proofs.RunsNow.{either, rests_here, idle_here}
 use Rattle.system_core.proofs.Places.{places_set, places_clear, places_so, places_below, places_few}
 use Rattle.system_core.proofs.Flags.{differs_at, differs_twice, flag_at, flags_length, called_still, called_now}
 

@@ -1,4 +1,4 @@
-use Rattle.std.proofs.Common.{◌≡◌, ◌≢◌, ◌⊎◌, ◌==◌, ◌<◌, ◌≤◌, ℕ, Bool, true, false, Some, None, List, [], ◌∷◌, ◌++◌, length, length-set, slice_get, slice_set, get_or, get_or-set_same, get_or-set_other, refl, sym, ◌∙◌, subst, ap, inl, inr, map, arith, zero, suc}
+use Rattle.std.proofs.Common.{◌≡◌, ◌≢◌, ◌⊎◌, ◌==◌, ◌<◌, ℕ, Bool, true, false, Some, None, List, [], ◌∷◌, ◌++◌, length, length-set, slice_get, slice_set, get_or, get_or-set_same, get_or-set_other, refl, sym, ◌∙◌, subst, ap, inl, inr, map, zero, suc}
 use Rattle.std.specs.Option.{option_to_list}
 use Rattle.std.proofs.lemmas.List.{append-nil, map-append}
 use Rattle.std.proofs.lemmas.Option.{slice_get-get_or}
@@ -12,10 +12,10 @@ use Rattle.wire_core.specs.declared.names.Entry.{Entry}
 use Rattle.wire_core.specs.declared.names.Op.{Op}
 use Rattle.wire_core.specs.declared.names.Op.TheVariants as Do
 use Rattle.wire_core.specs.Deeds.{Deed, Cargo, cargo_of}
-use Rattle.wire_core.specs.Ends.{Role, Consumer, Producer, End, Moves, role_of}
+use Rattle.wire_core.specs.Ends.{Role, Consumer, Producer, Moves, role_of}
 use Rattle.wire_core.specs.Lists.{Lists, Stepped, with, taken_by, put_by, if_there, if_taken, if_put}
 use Rattle.wire_core.specs.Queues.{Queue, Happens, queue_at, no_queue, end_at, items_of, after}
-use Rattle.wire_core.specs.Journal.{Track, track, track_after, sent_after, taken_after, History, nobody, history_at, if_on, IsShown, Legal, LegalEntry, owner_of}
+use Rattle.wire_core.specs.Journal.{Track, track, track_after, sent_after, taken_after, History, nobody, history_at, if_on, IsShown, LegalEntry, owner_of}
 use Rattle.wire_core.proofs.Moving.{moves}
 use Rattle.wire_core.proofs.Places.{slice_get_written, slice_get_beside}
 use Rattle.wire_core.proofs.Beside.{take_beside, put_beside}

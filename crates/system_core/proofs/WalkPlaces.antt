@@ -1,4 +1,4 @@
-use Rattle.std.proofs.Common.{◌≡◌, ◌+◌, ◌<◌, ◌++◌, ℕ, zero, suc, Some, None, Option, List, [], ◌∷◌, length, slice_get, refl, sym, ap, ◌∙◌, subst, arith}
+use Rattle.std.proofs.Common.{◌≡◌, ◌+◌, ◌<◌, ◌++◌, ℕ, zero, suc, Some, Option, List, [], ◌∷◌, length, slice_get, refl, sym, ap, subst, arith}
 use Rattle.sdf_model.specs.declared.place.Place.{Place}
 use Rattle.sdf_model.specs.declared.place.Place.TheVariants as At
 use Rattle.sdf_model.specs.Places.{Outline, walk, places_from, domain_places, channel_places, class_places}

@@ -1,6 +1,5 @@
 use Rattle.std.specs.Prelude.{◌≡◌, ◌≤◌, length, map}
 use Rattle.wire_core.specs.Journal.{EachMoment, start_history}
-use Rattle.actor_set.specs.Parts.{Part}
 use Rattle.system_core.specs.Shows.{Shown}
 use Rattle.actor_set.specs.Actors.{part_of}
 use Rattle.system_core.specs.Rows.{RowsHold}

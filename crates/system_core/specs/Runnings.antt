@@ -1,4 +1,4 @@
-use Rattle.std.specs.Prelude.{◌≡◌, ◌<◌, ◌≤◌, ◌+◌, ◌==◌, ℕ, Bool, true, false, Option, Some, None, remove, nat_lt, if◌then◌else◌, List, [], ◌∷◌, length, map}
+use Rattle.std.specs.Prelude.{◌≤◌, ◌+◌, ◌==◌, ℕ, Bool, true, false, Option, Some, None, remove, nat_lt, if◌then◌else◌, List, [], ◌∷◌}
 use Rattle.std.specs.Vec.{vec_capacity}
 use Rattle.system_core.specs.declared.running.Running.TheInside.{Inside}
 

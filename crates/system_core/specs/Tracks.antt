@@ -1,5 +1,4 @@
-use Rattle.std.specs.Prelude.{◌&&◌, ◌||◌, ℕ, Bool, true, not, List, [], ◌∷◌, flat_map, length}
-use Rattle.std.specs.List.{list_all}
+use Rattle.std.specs.Prelude.{◌&&◌, ◌||◌, ℕ, Bool, true, not, List, [], ◌∷◌, flat_map}
 use Rattle.cargo_core.specs.declared.item.Item.{Item}
 use Rattle.cargo_core.specs.declared.item.QueueKind.TheVariants as Kind
 use Rattle.wire_core.specs.declared.names.Entry.{Entry}

@@ -115,12 +115,7 @@ fn client(alloc: Global, client: u16, trace: &Trace) -> Result<SerialClient, Mem
 {
     let script = Bytes::from_slice(alloc, trace.says(client as u32))?;
     let rx = client_queue(client);
-    Ok(SerialClient::new(
-        alloc,
-        QueueId(rx),
-        QueueId(rx + 1),
-        script,
-    ))
+    Ok(SerialClient::new(alloc, QueueId(rx), QueueId(rx + 1), script))
 }
 
 // The actor of a job.
@@ -135,12 +130,7 @@ fn actor(alloc: Global, job: Job, clients: u16, trace: &Trace) -> Result<Actor, 
     match job {
         Job::Device => {
             let input = Bytes::from_slice(alloc, trace.input())?;
-            Ok(Actor::UartDevice(UartDevice::new(
-                alloc,
-                QueueId(0),
-                QueueId(1),
-                input,
-            )))
+            Ok(Actor::UartDevice(UartDevice::new(alloc, QueueId(0), QueueId(1), input)))
         }
         Job::Driver => Ok(Actor::UartDriver(UartDriver::new(
             QueueId(0),
@@ -150,19 +140,11 @@ fn actor(alloc: Global, job: Job, clients: u16, trace: &Trace) -> Result<Actor, 
         ))),
         Job::Receiver => {
             let queues = every_second(alloc, 4, clients)?;
-            Ok(Actor::SerialVirtRx(SerialVirtRx::new(
-                alloc,
-                QueueId(2),
-                queues,
-            )?))
+            Ok(Actor::SerialVirtRx(SerialVirtRx::new(alloc, QueueId(2), queues)?))
         }
         Job::Sender => {
             let queues = every_second(alloc, 5, clients)?;
-            Ok(Actor::SerialVirtTx(SerialVirtTx::new(
-                alloc,
-                QueueId(3),
-                queues,
-            )?))
+            Ok(Actor::SerialVirtTx(SerialVirtTx::new(alloc, QueueId(3), queues)?))
         }
         Job::Client(c) => Ok(Actor::SerialClient(client(alloc, c, trace)?)),
     }
@@ -192,11 +174,7 @@ pub fn cast(
 }
 
 /// The numbers of the clients of the serial class.
-pub fn client_numbers(
-    alloc: Global,
-    rows: &[QueueRow],
-    clients: u16,
-) -> Result<Vec<u16>, Memory>
+pub fn client_numbers(alloc: Global, rows: &[QueueRow], clients: u16) -> Result<Vec<u16>, Memory>
     requires few { clients ≤ 8 }
     requires rows { 4 + 2 * clients ≤ length rows.now }
     ensures { IfOk result (λ numbers. AreClients rows.now clients numbers.items) }

@@ -1,4 +1,4 @@
-use Rattle.std.proofs.Common.{◌≡◌, length, ap, sym, ◌∙◌, arith}
+use Rattle.std.proofs.Common.{ap, sym, ◌∙◌, arith}
 use Rattle.system_core.specs.Jobs.{job_part}
 use Rattle.system_core.proofs.NewActors.{rx_new, tx_new, rx_part, tx_part, queue_count}
 use Rattle.system_core.proofs.build.actor.Goals as goal

@@ -1,7 +1,4 @@
-use Rattle.std.proofs.Common.{◌≡◌, ◌<◌, ◌≤◌, ◌∙◌, Bool, true, false, not, sym, ap, length, map, [], arith}
-use Rattle.wire_core.specs.Journal.{start_history}
-use Rattle.actor_set.specs.Actors.{part_of}
-use Rattle.system_core.specs.Runs.{flags_from}
+use Rattle.std.proofs.Common.{arith}
 use Rattle.system_core.proofs.Starting.{flag_start, flags_many, list_added, list_skipped, list_room, list_whole}
 use Rattle.system_core.proofs.system.first_running.Goals as goal
 use Rattle.system_core.proofs.system.first_running.Goals.{then-not-is_idle, else-not-is_idle}

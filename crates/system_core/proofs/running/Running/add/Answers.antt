@@ -1,4 +1,4 @@
-use Rattle.std.proofs.Common.{◌≡◌, ◌<◌, ◌≤◌, ◌+◌, ℕ, Err, Ok, List, length, get_or, insert, arith, refl, sym, ap, ◌∙◌, subst}
+use Rattle.std.proofs.Common.{◌≡◌, ◌≤◌, ℕ, List, length, arith, refl, sym, ap, ◌∙◌, subst}
 use Rattle.std.specs.Vec.{vec_capacity, vec_len}
 use Rattle.system_core.specs.Runnings.{with_number, Ascending}
 use Rattle.system_core.proofs.Rising.{rises_with, place_to_add, found_there, room_to_add}

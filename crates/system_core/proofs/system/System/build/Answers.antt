@@ -1,11 +1,5 @@
-use Rattle.std.proofs.Common.{◌≡◌, ◌<◌, ◌≤◌, ◌∙◌, ap, sym, refl, length, map, [], None, Some, subst, arith}
+use Rattle.std.proofs.Common.{◌∙◌, ap, sym, refl, length, subst, arith}
 use Rattle.std.proofs.lemmas.Result.{IfOk-weaker}
-use Rattle.wire_core.specs.declared.names.QueueRow.{QueueRow}
-use Rattle.region_layout.specs.Rows.{queues_of, actors_of}
-use Rattle.actor_set.specs.Actors.{part_of}
-use Rattle.actor_set.specs.declared.actor.Actor.{Actor}
-use Rattle.system_core.specs.Seats.{AreSeated}
-use Rattle.system_core.specs.Shows.{Shown, started}
 use Rattle.system_core.specs.Serial.{IsSerial}
 use Rattle.system_core.specs.Builds.{IsBuilt}
 use Rattle.system_core.proofs.Built.{first_owner, layout_queues, layout_actors, actors_few, some_clients, few_clients, rows_there, jobs_there, are_seated, is_built, is_serial, none_seated, none_built}
@@ -60,7 +54,7 @@ start-requires-2 c =
 pub returns-clause-built : goal.returns-clause-built
 returns-clause-built c =
     let built = is_built c.args.plan.now c.requires.spelled c.requires.valid c.requires.net c.requires.blk c.in-Some.serial c.in-Some.is c.args.trace.now c.in_ok-rows.rows.items c.len-clients.result (length c.actors.result.now) (c.in_ok-rows.ensures ∙ (c.queues.ensures ∙ layout_queues c.args.plan.now c.args.layout.now c.requires.layout)) c.len-clients.ensures (ap length c.actors.ensures ∙ ap length (layout_actors c.args.plan.now c.args.layout.now c.requires.layout))
-        c.in_ok-actors.actors.items (rw c.deref-2.ensures.value at c.in_ok-actors.ensures) _ c.in_ok-numbers.numbers.items (first_owner c.in_ok-rows.rows.items c.len-clients.result c.index.result.now (rows_there c.args.plan.now c.requires.spelled c.requires.valid c.requires.net c.requires.blk c.in-Some.serial c.in-Some.is c.args.trace.now c.in_ok-rows.rows.items c.len-clients.result _ (c.in_ok-rows.ensures ∙ (c.queues.ensures ∙ layout_queues c.args.plan.now c.args.layout.now c.requires.layout)) c.len-clients.ensures refl) c.index.ensures) (rw c.deref.ensures.value at c.in_ok-numbers.ensures) in
+    c.in_ok-actors.actors.items (rw c.deref-2.ensures.value at c.in_ok-actors.ensures) _ c.in_ok-numbers.numbers.items (first_owner c.in_ok-rows.rows.items c.len-clients.result c.index.result.now (rows_there c.args.plan.now c.requires.spelled c.requires.valid c.requires.net c.requires.blk c.in-Some.serial c.in-Some.is c.args.trace.now c.in_ok-rows.rows.items c.len-clients.result _ (c.in_ok-rows.ensures ∙ (c.queues.ensures ∙ layout_queues c.args.plan.now c.args.layout.now c.requires.layout)) c.len-clients.ensures refl) c.index.ensures) (rw c.deref.ensures.value at c.in_ok-numbers.ensures) in
     IfOk-weaker c.start-2.result _ _ (λ s e. subst (IsBuilt c.args.plan.now c.args.trace.now) (sym e) built) c.start-2.ensures
 
 pub returns-clause-serial : goal.returns-clause-serial

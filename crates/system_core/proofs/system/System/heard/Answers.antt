@@ -1,4 +1,4 @@
-use Rattle.std.proofs.Common.{◌≡◌, ◌<◌, ◌∙◌, length, arith}
+use Rattle.std.proofs.Common.{◌≡◌, ◌∙◌, length, arith}
 use Rattle.std.specs.Vec.{vec_len}
 use Rattle.system_core.proofs.Hearing.{heard_shown}
 use Rattle.system_core.proofs.system.System.heard.Goals as goal

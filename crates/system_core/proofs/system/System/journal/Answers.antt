@@ -1,5 +1,5 @@
-use Rattle.std.proofs.Common.{subst, sym}
-use Rattle.wire_core.specs.Journal.{nobody, LegalJournal, EachMoment, BellsHold, QueuesFlow, start_history}
+use Rattle.std.proofs.Common.{subst}
+use Rattle.wire_core.specs.Journal.{nobody, EachMoment, BellsHold, QueuesFlow, start_history}
 use Rattle.wire_core.proofs.BellTheorem.{bells_hold, queues_flow, starts_hold, starts_flow}
 use Rattle.system_core.specs.Shows.{Shown}
 use Rattle.system_core.specs.Rows.{RowsHold}

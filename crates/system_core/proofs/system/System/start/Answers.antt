@@ -1,4 +1,4 @@
-use Rattle.std.proofs.Common.{◌≡◌, ◌∙◌, ap, map, [], subst}
+use Rattle.std.proofs.Common.{◌≡◌, ◌∙◌, ap, []}
 use Rattle.wire_core.specs.Queues.{starts}
 use Rattle.wire_core.specs.Journal.{start_history}
 use Rattle.system_core.proofs.RowsNow.{rows_now}
