@@ -1,103 +1,127 @@
-use Rattle.std.proofs.Common.{◌≡◌, ◌+◌, ◌<◌, ◌≤◌, ◌⊎◌, inl, inr, ℕ, List, ◌++◌, length, take, drop, Option, refl, sym, ap, ◌∙◌, subst, append_assoc, arith}
-use Rattle.std.proofs.lemmas.List.{take-append-drop, take-take}
-use Rattle.std.proofs.lemmas.Bool.{cases_lt}
+use Rattle.std.proofs.Common.{◌≡◌, ◌⊎◌, inl, inr, ℕ, List, Option, sym, ◌∙◌, subst, Result, Ok, Err, IfOk}
+use Rattle.sdf_model.specs.declared.plan.Plan.{Plan}
 use Rattle.sddf_top.specs.declared.status.Status.{Status}
 use Rattle.sddf_top.specs.declared.status.Status.TheVariants as Ended
 use Rattle.sddf_top.specs.declared.served.Played.{Played}
-use Rattle.sddf_top.specs.declared.served.Played.TheVariants as Was
-use Rattle.sddf_top.specs.declared.player.System.{System}
-use Rattle.sddf_top.specs.Scripts.{IsScript}
-use Rattle.sddf_top.specs.Plays.{PlaysScript}
-use Rattle.sddf_top.specs.Texts.{report_text}
-use Rattle.sddf_top.specs.declared.words.Command.{Command}
-use Rattle.sddf_top.specs.declared.words.Command.TheVariants as Do
-use Rattle.sddf_top.specs.Serial.{serial_example}
-use Rattle.sddf_top.specs.Words.{IsPlay, Spells, Begins, IsBadWord}
-use Rattle.sddf_top.specs.Answers.{Answers, Serves, WasRead, IsTold, IsFault, no_command, not_played, bad_trace, quiet, no_reading, no_writing, no_memory}
-
--- fewer words begin a command too
-begins-fewer : (n m : ℕ) (words : List (List ℕ)) → n ≤ m → Begins (take m words) → Begins (take n words)
-begins-fewer n m words le b =
-    let same : take m words ++ b.0 ≡ take n words ++ (drop n (take m words) ++ b.0)
-    = ap (λ x. x ++ b.0) (sym (take-append-drop n (take m words))) ∙ append_assoc (take n (take m words)) (drop n (take m words)) b.0
-    ∙ ap (λ x. x ++ (drop n (take m words) ++ b.0)) (take-take n m words le) in
-    (drop n (take m words) ++ b.0, b.1, subst (λ ws. Spells ws b.1) same b.2)
-
--- no two words are the first bad one
-bad-once : (words : List (List ℕ)) (k l : ℕ) → IsBadWord words k → IsBadWord words l → k < l → ⊥
-bad-once words k l h i lt = h.here (omega (arith, i.within)) (begins-fewer (k + 1) l words (omega arith) i.before)
-
-pub bad-same : (words : List (List ℕ)) (k l : ℕ) → IsBadWord words k → IsBadWord words l → k ≡ l
-bad-same words k l h i = elim (cases_lt k l) [
-  | inl lt ↦ absurd (bad-once words k l h i lt)
-  | inr ge ↦ elim (cases_lt l k) [ inl lt ↦ absurd (bad-once words l k i h lt) | inr le ↦ omega arith ]
-]
-
--- a command has no bad word
-pub bad-none : (words : List (List ℕ)) (k : ℕ) (command : Command) → IsBadWord words k → Spells words command → ⊥
-bad-none words k command h s = elim (cases_lt k (length words)) [
-  | inl lt ↦ h.here lt (drop (k + 1) words, command, subst (λ ws. Spells ws command) (sym (take-append-drop (k + 1) words)) s)
-  | inr ge ↦ h.whole (omega (arith, h.within)) command s
-]
+use Rattle.sddf_top.specs.Decisions.{Decision, Say, Play, Decides, TextDecides, PlanDecides, TraceDecides, long_trace, bad_trace, script, checked, not_played, traced, long_description, refused, accepted, no_command, described}
+use Rattle.sddf_top.specs.Answers.{Answers, Comes, IsStatusOf, Serves, WasRead, IsTold, IsFault, no_reading, no_writing, no_memory}
+use Rattle.sddf_top.specs.Outside.{appended}
+use Rattle.sddf_top.proofs.DecisionLemmas.{Agrees, one-decision, plan-read, text-read}
 
 -- what was read of a told text is its bytes
 pub told-same : (told : List ℕ → Option (List ℕ)) (name a b : List ℕ) → IsTold told name a → WasRead told name b → a ≡ b
 told-same told name a b h r = h.2 ∙ sym (rw h.1 at r)
 
-same-names : (words : List (List ℕ)) (desc trace desc' trace' : List ℕ) → IsPlay words desc trace → IsPlay words desc' trace' → (desc' ≡ desc) × (trace' ≡ trace)
-same-names words desc trace desc' trace' p q =
-    let e = sym p.words_are ∙ q.words_are in let d : desc' ≡ desc = cc in let t : trace' ≡ trace = cc in (d, t)
+-- texts that didn't change are read as before
+pub read-before : (told told' : List ℕ → Option (List ℕ)) → ((n : List ℕ) → told' n ≡ told n) → (name bytes : List ℕ) → WasRead told' name bytes → WasRead told name bytes
+read-before told told' same name bytes r = rw (same name) at r
 
-module _ (R S : List ℕ → List ℕ → Type 0) (same : (name a b : List ℕ) → R name a → S name b → a ≡ b) (words : List (List ℕ)) where
-  same-desc : (desc trace desc' trace' : List ℕ) {a : List ℕ} → IsPlay words desc trace → IsPlay words desc' trace' → S desc' a → S desc a
-  same-desc desc trace desc' trace' {a} p q r = subst (λ n. S n a) (same-names words desc trace desc' trace' p q).0 r
+pub plan-before : (told told' : List ℕ → Option (List ℕ)) → ((n : List ℕ) → told' n ≡ told n) → (words : List (List ℕ)) (text : List ℕ) (plan : Plan) (d : Decision)
+    → PlanDecides (WasRead told') words text plan d → PlanDecides (WasRead told) words text plan d
+plan-before told told' same = plan-read (WasRead told') (WasRead told) (read-before told told' same)
 
-  same-trace : (desc trace desc' trace' : List ℕ) {a : List ℕ} → IsPlay words desc trace → IsPlay words desc' trace' → S trace' a → S trace a
-  same-trace desc trace desc' trace' {a} p q r = subst (λ n. S n a) (same-names words desc trace desc' trace' p q).1 r
+pub text-before : (told told' : List ℕ → Option (List ℕ)) → ((n : List ℕ) → told' n ≡ told n) → (words : List (List ℕ)) (bytes : List ℕ) (d : Decision)
+    → TextDecides (WasRead told') words bytes d → TextDecides (WasRead told) words bytes d
+text-before told told' same = text-read (WasRead told') (WasRead told) (read-before told told' same)
 
-  -- words, texts and names decide one status
-  pub one-answer : (s : Status) (x : List ℕ) (p : Played) (s' : Status) (x' : List ℕ) (p' : Played) → Answers R words s x p → Answers S words s' x' p' → s ≡ s'
-  one-answer _ _ _ _ _ _ (no_command k h) (no_command l i) = ap (λ n. Ended.Usage n) (bad-same words k l h i)
-  one-answer _ _ _ _ _ _ (no_command k h) (not_played desc trace text play r n) = absurd (bad-none words k Do.Play h (desc, trace, play))
-  one-answer _ _ _ _ _ _ (no_command k h) (bad_trace desc trace text play r q n) = absurd (bad-none words k Do.Play h (desc, trace, play))
-  one-answer _ _ _ _ _ _ (no_command k h) (quiet desc trace text script system play r q t j) = absurd (bad-none words k Do.Play h (desc, trace, play))
-  one-answer _ _ _ _ _ _ (not_played desc trace text play r n) (no_command k h) = absurd (bad-none words k Do.Play h (desc, trace, play))
-  one-answer _ _ _ _ _ _ (not_played desc trace text play r n) (not_played desc' trace' text' play' r' n') = refl
-  one-answer _ _ _ _ _ _ (not_played desc trace text play r n) (bad_trace desc' trace' text' play' r' q' n') = absurd (n (same desc text serial_example r (same-desc desc trace desc' trace' play play' r')))
-  one-answer _ _ _ _ _ _ (not_played desc trace text play r n) (quiet desc' trace' text' script' system' play' r' q' t' j') = absurd (n (same desc text serial_example r (same-desc desc trace desc' trace' play play' r')))
-  one-answer _ _ _ _ _ _ (bad_trace desc trace text play r q n) (no_command k h) = absurd (bad-none words k Do.Play h (desc, trace, play))
-  one-answer _ _ _ _ _ _ (bad_trace desc trace text play r q n) (not_played desc' trace' text' play' r' n') = absurd (n' (sym (same desc serial_example text' r (same-desc desc trace desc' trace' play play' r'))))
-  one-answer _ _ _ _ _ _ (bad_trace desc trace text play r q n) (bad_trace desc' trace' text' play' r' q' n') = refl
-  one-answer _ _ _ _ _ _ (bad_trace desc trace text play r q n) (quiet desc' trace' text' script' system' play' r' q' t' j') =
-      absurd (n script' (subst (λ x. IsScript x script') (sym (same trace text text' q (same-trace desc trace desc' trace' play play' q'))) t'))
-  one-answer _ _ _ _ _ _ (quiet desc trace text script system play r q t j) (no_command k h) = absurd (bad-none words k Do.Play h (desc, trace, play))
-  one-answer _ _ _ _ _ _ (quiet desc trace text script system play r q t j) (not_played desc' trace' text' play' r' n') = absurd (n' (sym (same desc serial_example text' r (same-desc desc trace desc' trace' play play' r'))))
-  one-answer _ _ _ _ _ _ (quiet desc trace text script system play r q t j) (bad_trace desc' trace' text' play' r' q' n') =
-      absurd (n' script (subst (λ x. IsScript x script) (same trace text text' q (same-trace desc trace desc' trace' play play' q')) t))
-  one-answer _ _ _ _ _ _ (quiet desc trace text script system play r q t j) (quiet desc' trace' text' script' system' play' r' q' t' j') = refl
+-- the status of an answer is the one that a decision which agrees leads to
+agreed-status : (d d' : Decision) (s : Status) (x : List ℕ) (p : Played) → Agrees d d' → Comes d' s x p → IsStatusOf d s
+agreed-status (Say t y) (Say t' y') s x p a c = c.0 ∙ sym a.0
+agreed-status (Say t y) (Play q) s x p a c = absurd a
+agreed-status (Play q) (Say t' y') s x p a c = absurd a
+agreed-status (Play q) (Play q') s x p a c = c.status_is
 
--- an answer that was written whole or in part is the one that the causes decide, or a fault
-pub served-answer : (R S : List ℕ → List ℕ → Type 0) (same : (name a b : List ℕ) → R name a → S name b → a ≡ b) (words : List (List ℕ)) (old new : Option (List ℕ))
-    (result : Status) (played : Played) (s : Status) (x : List ℕ) (p : Played) → Answers R words s x p → Serves S words old new result played → (result ≡ s) ⊎ IsFault result
-served-answer R S same words old new Ended.Ok played s x p a b = inl (sym (one-answer R S same words s x p Ended.Ok b.0 played a b.1))
-served-answer R S same words old new (Ended.Usage k) played s x p a b = inl (sym (one-answer R S same words s x p (Ended.Usage k) b.0 played a b.1))
-served-answer R S same words old new (Ended.Refused n) played s x p a b = inl (sym (one-answer R S same words s x p (Ended.Refused n) b.0 played a b.1))
-served-answer R S same words old new (Ended.BadTrace l) played s x p a b = inl (sym (one-answer R S same words s x p (Ended.BadTrace l) b.0 played a b.1))
-served-answer R S same words old new Ended.ReadFault played s x p a b = inr no_reading
-served-answer R S same words old new Ended.WriteFault played s x p a b = inr no_writing
-served-answer R S same words old new (Ended.Spent n) played s x p a b = inl (sym (one-answer R S same words s x p (Ended.Spent n) b.0 played a b.1))
-served-answer R S same words old new Ended.TooLong played s x p a b = inl (sym (one-answer R S same words s x p Ended.TooLong b.0 played a b.1))
-served-answer R S same words old new Ended.Memory played s x p a b = inr no_memory
+-- these aren't faults
+abbrev pub MayBeFault : Status → Type 0
+MayBeFault Ended.Ok = ⊥
+MayBeFault (Ended.Usage k) = ⊥
+MayBeFault (Ended.Refused n) = ⊥
+MayBeFault (Ended.BadTrace l) = ⊥
+MayBeFault Ended.ReadFault = Unit {0}
+MayBeFault Ended.WriteFault = Unit {0}
+MayBeFault (Ended.Spent n) = ⊥
+MayBeFault Ended.TooLong = ⊥
+MayBeFault Ended.Memory = Unit {0}
 
--- an answer with its text, where this is what was made
-pub quiet-written : (R : List ℕ → List ℕ → Type 0) (words : List (List ℕ)) (desc trace text script : List ℕ) (system : System) (written : List ℕ) → IsPlay words desc trace → R desc serial_example
-    → R trace text → IsScript text script → PlaysScript script system.journal → written ≡ report_text (length system.journal) script → Answers R words Ended.Ok written (Was.Classes system)
-quiet-written R words desc trace text script system written play r q t j e =
-    subst (λ w. Answers R words Ended.Ok w (Was.Classes system)) (sym e) (quiet desc trace text script system play r q t j)
+may-be : (s : Status) → IsFault s → MayBeFault s
+may-be _ no_reading = tt
+may-be _ no_writing = tt
+may-be _ no_memory = tt
 
--- no cause decides that reading fails
-pub answer-read : (told : List ℕ → Option (List ℕ)) (words : List (List ℕ)) (s : Status) (x : List ℕ) (p : Played) → Answers (WasRead told) words s x p → s ≡ Ended.ReadFault → ⊥
-answer-read told words _ _ _ (no_command k h) e = cc
-answer-read told words _ _ _ (not_played desc trace text play r n) e = cc
-answer-read told words _ _ _ (bad_trace desc trace text play r q n) e = cc
-answer-read told words _ _ _ (quiet desc trace text script system play r q t j) e = cc
+module _ (told : List ℕ → Option (List ℕ)) (words : List (List ℕ)) where
+  -- an answer has the status that the told texts decide
+  pub told-status : (d : Decision) (s : Status) (x : List ℕ) (p : Played) → Decides (IsTold told) words d → Answers (WasRead told) words s x p → IsStatusOf d s
+  told-status d s x p h a = agreed-status d a.0 s x p (one-decision (IsTold told) (WasRead told) (told-same told) words d a.0 h a.1) a.2
+
+  -- an answer that was written whole or in part is the one that the told texts decide, or a fault
+  pub served-status : (old new : Option (List ℕ)) (result : Status) (played : Played) (d : Decision) → Decides (IsTold told) words d
+      → Serves (WasRead told) words old new result played → IsStatusOf d result ⊎ IsFault result
+  served-status old new Ended.Ok played d h b = inl (told-status d Ended.Ok b.0 played h b.1)
+  served-status old new (Ended.Usage k) played d h b = inl (told-status d (Ended.Usage k) b.0 played h b.1)
+  served-status old new (Ended.Refused n) played d h b = inl (told-status d (Ended.Refused n) b.0 played h b.1)
+  served-status old new (Ended.BadTrace l) played d h b = inl (told-status d (Ended.BadTrace l) b.0 played h b.1)
+  served-status old new Ended.ReadFault played d h b = inr no_reading
+  served-status old new Ended.WriteFault played d h b = inr no_writing
+  served-status old new (Ended.Spent n) played d h b = inl (told-status d (Ended.Spent n) b.0 played h b.1)
+  served-status old new Ended.TooLong played d h b = inl (told-status d Ended.TooLong b.0 played h b.1)
+  served-status old new Ended.Memory played d h b = inr no_memory
+
+-- a decision isn't a fault
+abbrev pub IsCalm : Decision → Type 0
+IsCalm (Say s x) = IsFault s → ⊥
+IsCalm (Play q) = Unit {0}
+
+trace-calm : (bytes : List ℕ) (d : Decision) → TraceDecides bytes d → IsCalm d
+trace-calm bytes _ (long_trace l) = may-be Ended.TooLong
+trace-calm bytes _ (bad_trace l n) = may-be (Ended.BadTrace 1)
+trace-calm bytes _ (script q l h) = tt
+
+module _ (R : List ℕ → List ℕ → Type 0) (words : List (List ℕ)) where
+  plan-calm : (text : List ℕ) (plan : Plan) (d : Decision) → PlanDecides R words text plan d → IsCalm d
+  plan-calm text plan _ (checked desc c) = may-be Ended.Ok
+  plan-calm text plan _ (not_played desc trace p n) = may-be (Ended.Refused 0)
+  plan-calm text plan _ (traced desc trace bytes d p e r t) = trace-calm bytes d t
+
+  text-calm : (bytes : List ℕ) (d : Decision) → TextDecides R words bytes d → IsCalm d
+  text-calm bytes _ (long_description l) = may-be Ended.TooLong
+  text-calm bytes _ (refused r l h) = may-be (Ended.Refused r.rule)
+  text-calm bytes _ (accepted p d l h q) = plan-calm bytes p d q
+
+  is-calm : (d : Decision) → Decides R words d → IsCalm d
+  is-calm _ (no_command k h) = may-be (Ended.Usage k)
+  is-calm _ (described desc bytes d n r t) = text-calm bytes d t
+
+calm-status : (d : Decision) (s : Status) (x : List ℕ) (p : Played) → IsCalm d → Comes d s x p → IsFault s → ⊥
+calm-status (Say t y) s x p n c f = n (subst (λ s. IsFault s) c.0 f)
+calm-status (Play q) s x p n c f = may-be Ended.Ok (subst (λ s. IsFault s) c.status_is f)
+
+-- no answer is a fault
+pub answer-calm : (R : List ℕ → List ℕ → Type 0) (words : List (List ℕ)) (s : Status) (x : List ℕ) (p : Played) → Answers R words s x p → IsFault s → ⊥
+answer-calm R words s x p a f = calm-status a.0 s x p (is-calm R words a.0 a.1) a.2 f
+
+pub answer-not : (R : List ℕ → List ℕ → Type 0) (words : List (List ℕ)) (s s' : Status) (x : List ℕ) (p : Played) → Answers R words s x p → IsFault s' → s ≡ s' → ⊥
+answer-not R words s s' x p a f e = answer-calm R words s x p a (subst (λ t. IsFault t) (sym e) f)
+
+-- an answer whose text was written whole
+pub written-whole : (R : List ℕ → List ℕ → Type 0) (words : List (List ℕ)) (old new : Option (List ℕ)) (s : Status) (x : List ℕ) (p : Played) → Answers R words s x p → new ≡ appended old x
+    → Serves R words old new s p
+written-whole R words old new Ended.Ok x p a e = (x, a, e)
+written-whole R words old new (Ended.Usage k) x p a e = (x, a, e)
+written-whole R words old new (Ended.Refused n) x p a e = (x, a, e)
+written-whole R words old new (Ended.BadTrace l) x p a e = (x, a, e)
+written-whole R words old new Ended.ReadFault x p a e = absurd (answer-calm R words Ended.ReadFault x p a no_reading)
+written-whole R words old new Ended.WriteFault x p a e = absurd (answer-calm R words Ended.WriteFault x p a no_writing)
+written-whole R words old new (Ended.Spent n) x p a e = (x, a, e)
+written-whole R words old new Ended.TooLong x p a e = (x, a, e)
+written-whole R words old new Ended.Memory x p a e = absurd (answer-calm R words Ended.Memory x p a no_memory)
+
+-- what came of an answer isn't another fault than one of writing
+pub not-instead : (R : List ℕ → List ℕ → Type 0) (words : List (List ℕ)) (s result f : Status) (x : List ℕ) (p : Played) → Answers R words s x p → (result ≡ s) ⊎ (result ≡ Ended.WriteFault) → IsFault f
+    → (f ≡ Ended.WriteFault → ⊥) → result ≡ f → ⊥
+not-instead R words s result f x p a (inl same) h n e = answer-not R words s f x p a h (sym same ∙ e)
+not-instead R words s result f x p a (inr failed) h n e = n (sym e ∙ failed)
+
+-- what holds of an answer holds in another form
+pub map-ok : {T E : Type 0} (r : Result T E) (P Q : T → Type 0) → ((x : T) → P x → Q x) → IfOk r P → IfOk r Q
+map-ok (Ok x) P Q m h = m x h
+map-ok (Err e) P Q m h = tt

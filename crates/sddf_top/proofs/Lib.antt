@@ -1,5 +1,7 @@
 pub mod AnswerLemmas
 pub mod Appending
+pub mod DecisionLemmas
+pub mod JudgedLemmas
 pub mod NumberLemmas
 pub mod PlayLemmas
 pub mod ReadLemmas

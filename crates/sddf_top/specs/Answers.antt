@@ -1,32 +1,40 @@
-use Rattle.std.specs.Prelude.{◌≡◌, ℕ, Option, Some, List, length, take, codes}
+use Rattle.std.specs.Prelude.{◌≡◌, ℕ, Option, Some, List, length, take}
 use Rattle.sddf_top.specs.declared.status.Status.{Status}
 use Rattle.sddf_top.specs.declared.status.Status.TheVariants as Ended
 use Rattle.sddf_top.specs.declared.served.Played.{Played}
 use Rattle.sddf_top.specs.declared.served.Played.TheVariants as Was
 use Rattle.sddf_top.specs.declared.player.System.{System}
-use Rattle.sddf_top.specs.Words.{IsPlay, IsBadWord}
-use Rattle.sddf_top.specs.Serial.{serial_example}
-use Rattle.sddf_top.specs.Scripts.{IsScript}
+use Rattle.sddf_top.specs.Decisions.{Decision, Say, Play, Decides}
 use Rattle.sddf_top.specs.Plays.{PlaysScript}
 use Rattle.cargo_core.specs.Lists.{IsPrefix}
 use Rattle.sddf_top.specs.Outside.{IsRead, appended}
-use Rattle.sddf_top.specs.Texts.{usage_text, refused_text, bad_trace_text, report_text}
+use Rattle.sddf_top.specs.Texts.{report_text}
 
--- what the words and the texts under their names decide, where reads tells the bytes that were read of a text: the
--- status, the whole text that is written, and the system that was played; one constructor a cause
-pub data Answers (reads : List ℕ → List ℕ → Type 0) (words : List (List ℕ)) : Status → List ℕ → Played → Type 0 where
-  -- the words are no command
-  no_command : (k : ℕ) → IsBadWord words k → Answers reads words (Ended.Usage k) (usage_text k) Was.Nothing
-  -- the description can't be played yet
-  not_played : (desc trace text : List ℕ) → IsPlay words desc trace → reads desc text → (text ≡ serial_example → ⊥)
-      → Answers reads words (Ended.Refused 0) (refused_text 0 (codes "system")) Was.Nothing
-  -- the trace is bad
-  bad_trace : (desc trace text : List ℕ) → IsPlay words desc trace → reads desc serial_example → reads trace text
-      → ((script : List ℕ) → IsScript text script → ⊥) → Answers reads words (Ended.BadTrace 1) (bad_trace_text 1) Was.Nothing
-  -- the script was played until nobody had anything to do
-  quiet : (desc trace text script : List ℕ) (system : System) → IsPlay words desc trace → reads desc serial_example → reads trace text
-      → IsScript text script → PlaysScript script system.journal
-      → Answers reads words Ended.Ok (report_text (length system.journal) script) (Was.Classes system)
+-- the script was played by a system until nobody had anything to do: the status, the text, and the system
+pub record IsPlayed (script : List ℕ) (status : Status) (text : List ℕ) (played : Played) : Type 0 where
+  pub system : System
+  pub played_is : played ≡ Was.Classes system
+  pub plays : PlaysScript script system.journal
+  pub status_is : status ≡ Ended.Ok
+  pub text_is : text ≡ report_text (length system.journal) script
+
+-- the answer that a decision leads to: its status, the whole text that is written, and the system that was played
+abbrev pub Comes : Decision → Status → List ℕ → Played → Type 0
+Comes (Say status' text') status text played = (status ≡ status') × (text ≡ text') × (played ≡ Was.Nothing)
+Comes (Play script) status text played = IsPlayed script status text played
+
+-- an answer that comes by such a decision
+abbrev pub ComesBy : (Decision → Type 0) → Status → List ℕ → Played → Type 0
+ComesBy decides status text played = (decision : Decision) × decides decision × Comes decision status text played
+
+-- the answer to words, by what they and the texts under their names decide
+abbrev pub Answers : (List ℕ → List ℕ → Type 0) → List (List ℕ) → Status → List ℕ → Played → Type 0
+Answers reads words status text played = ComesBy (Decides reads words) status text played
+
+-- the status that a decision leads to
+abbrev pub IsStatusOf : Decision → Status → Type 0
+IsStatusOf (Say status' text') status = status ≡ status'
+IsStatusOf (Play script) status = status ≡ Ended.Ok
 
 -- the bytes that were read of a text, where a shelf tells some texts
 abbrev pub WasRead : (List ℕ → Option (List ℕ)) → List ℕ → List ℕ → Type 0

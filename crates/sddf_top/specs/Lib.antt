@@ -1,5 +1,7 @@
 pub mod Answers
 pub mod Codes
+pub mod Decisions
+pub mod Judged
 pub mod Names
 pub mod Outside
 pub mod Playing

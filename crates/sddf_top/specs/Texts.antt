@@ -1,5 +1,7 @@
 use Rattle.std.specs.Prelude.{ℕ, List, [], ◌∷◌, ◌++◌, length, codes}
+use Rattle.sdf_model.specs.declared.plan.Plan.{Plan}
 use Rattle.std.specs.Fmt.{decimal}
+use Rattle.sddf_top.specs.Judged.{queue_count}
 use Rattle.hex.specs.Hex.{encode_lower}
 
 -- the text of some lines: each of them, and a byte 10
@@ -18,6 +20,15 @@ refused_text rule place = text_of ((codes "refused " ++ (decimal rule ++ (codes 
 -- the line for a trace that is refused, and the number of its bad line
 abbrev pub bad_trace_text : ℕ → List ℕ
 bad_trace_text l = text_of ((codes "bad trace line " ++ decimal l) ∷ [])
+
+-- the line for a text that is too long
+abbrev pub long_text : List ℕ
+long_text = text_of (codes "too long" ∷ [])
+
+-- the line for a description that is accepted: how many domains, regions, channels and queues it has
+abbrev pub accepted_text : Plan → List ℕ
+accepted_text plan = text_of ((codes "accepted domains " ++ (decimal (length plan.protection_domain) ++ (codes " regions " ++ (decimal (length plan.memory_region)
+    ++ (codes " channels " ++ (decimal (length plan.channel) ++ (codes " queues " ++ decimal (queue_count plan)))))))) ∷ [])
 
 -- a line of bytes as hexadecimal, where there are any
 abbrev pub byte_lines : List ℕ → List (List ℕ)

@@ -14,6 +14,11 @@ pub record IsName (word : List ℕ) : Type 0 where
   pub filled : 0 < length word
   pub plain : IsPrefix (codes "--") word → ⊥
 
+-- `check` and the name of a description
+pub record IsCheck (words : List (List ℕ)) (desc : List ℕ) : Type 0 where
+  pub words_are : words ≡ codes "check" ∷ desc ∷ []
+  pub desc_named : IsName desc
+
 -- `play`, the name of a description and that of a trace
 pub record IsPlay (words : List (List ℕ)) (desc trace : List ℕ) : Type 0 where
   pub words_are : words ≡ codes "play" ∷ desc ∷ trace ∷ []
@@ -22,7 +27,18 @@ pub record IsPlay (words : List (List ℕ)) (desc trace : List ℕ) : Type 0 whe
 
 -- the words spell a command
 abbrev pub Spells : List (List ℕ) → Command → Type 0
+Spells words Do.Check = (desc : List ℕ) × IsCheck words desc
 Spells words Do.Play = (desc trace : List ℕ) × IsPlay words desc trace
+
+-- the first word of a command
+abbrev pub word_of : Command → List ℕ
+word_of Do.Check = codes "check"
+word_of Do.Play = codes "play"
+
+-- how many names stand behind it
+abbrev pub names_of : Command → ℕ
+names_of Do.Check = 1
+names_of Do.Play = 2
 
 -- a command begins with these words
 abbrev pub Begins : List (List ℕ) → Type 0

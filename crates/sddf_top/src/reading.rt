@@ -6,6 +6,9 @@ use crate::{Failed, Shelf};
 use cargo_core::{Bytes, Memory};
 use std::alloc::Global;
 
+/// How many bytes a text has at most.
+pub const TEXT_MOST: usize = 16_777_216;
+
 /// How many bytes of a text are read at most: one more than a text may have.
 pub const READ_MOST: usize = 16_777_217;
 

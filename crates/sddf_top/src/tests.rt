@@ -98,12 +98,26 @@ fn half_a_byte_is_a_bad_trace(rt: HostRuntime) -> Result<(), Fail> {
 #[test]
 fn another_description_is_refused(rt: HostRuntime) -> Result<(), Fail> {
     let mut desc = Vec::from_slice(rt.alloc(), SERIAL.as_bytes())?;
-    assert!(rt; 100 < desc.len());
-    desc[100] = b'#';
+    desc.push(b'\n')?;
     let mut sink = MemSink::new(rt.alloc(), 1000)?;
     let status = play(&rt, &desc, SCRIPT, &mut sink)?;
     assert_eq!(rt; status.code(), 3);
-    assert_eq!(rt; sink.written(), b"refused 0 system\n".as_slice());
+    assert_eq!(rt; sink.written(), b"refused 0 serial\n".as_slice());
+    Ok(())
+}
+
+#[test]
+fn a_description_is_judged(rt: HostRuntime) -> Result<(), Fail> {
+    let mut shelf = shelf(rt.alloc(), SERIAL.as_bytes(), b"x = 1".as_slice())?;
+    let mut sink = MemSink::new(rt.alloc(), 1000)?;
+    let status = answer(&rt, ["check", "S"].as_slice(), &mut shelf, &mut sink)?;
+    assert_eq!(rt; status.code(), 0);
+    let status = answer(&rt, ["check", "T"].as_slice(), &mut shelf, &mut sink)?;
+    assert_eq!(rt; status.code(), 3);
+    assert_eq!(rt;
+        sink.written(),
+        b"accepted domains 4 regions 4 channels 4 queues 6\nrefused 2 system\n".as_slice()
+    );
     Ok(())
 }
 

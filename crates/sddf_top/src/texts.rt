@@ -1,7 +1,11 @@
 ghost use Rattle.std.specs.Prelude.{◌≡◌, IfOk, string_bytes, codes};
-ghost use Rattle.sddf_top.specs.Texts.{usage_text, refused_text, bad_trace_text, text_of, byte_lines, report_text};
+ghost use Rattle.sddf_top.specs.Texts.{usage_text, refused_text, bad_trace_text, long_text, accepted_text, text_of, byte_lines, report_text};
+ghost use Rattle.report_text.specs.Places.{place_text};
 
+use crate::judged::queue_count;
 use cargo_core::Memory;
+use report_text::write_place;
+use sdf_model::{Plan, Refusal};
 use std::alloc::Global;
 
 /// The line for words that are no command.
@@ -12,10 +16,32 @@ pub fn write_usage(alloc: Global, k: u32) -> Result<String, Memory>
 }
 
 /// The line for a description that is refused.
-pub fn write_refused(alloc: Global, rule: u8, place: &str) -> Result<String, Memory>
-    ensures { IfOk result (λ s. string_bytes s ≡ refused_text rule place.now) }
+pub fn write_refused(alloc: Global, refusal: Refusal) -> Result<String, Memory>
+    ensures { IfOk result (λ s. string_bytes s ≡ refused_text refusal.rule (place_text refusal.place)) }
 {
+    let place = write_place(alloc, refusal.place)?;
+    let rule = refusal.rule;
     Ok(format!(in alloc; "refused {rule} {place}\n")?)
+}
+
+/// The line for a description that is accepted.
+pub fn write_accepted(alloc: Global, plan: &Plan) -> Result<String, Memory>
+    ensures { IfOk result (λ s. string_bytes s ≡ accepted_text plan.now) }
+{
+    let domains = plan.protection_domain.len();
+    let regions = plan.memory_region.len();
+    let channels = plan.channel.len();
+    let queues = queue_count(plan);
+    Ok(format!(in alloc;
+        "accepted domains {domains} regions {regions} channels {channels} queues {queues}\n"
+    )?)
+}
+
+/// The line for a text that is too long.
+pub fn write_long(alloc: Global) -> Result<String, Memory>
+    ensures { IfOk result (λ s. string_bytes s ≡ long_text) }
+{
+    Ok(String::from_str(alloc, "too long\n")?)
 }
 
 /// The line for a trace that is refused.

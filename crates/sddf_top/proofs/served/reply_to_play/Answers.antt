@@ -1,32 +1,25 @@
-use Rattle.std.proofs.Common.{◌≡◌, ℕ, List, length, Err, refl, sym, ap, ◌∙◌}
-use Rattle.sddf_top.specs.Serial.{serial_example}
-use Rattle.sddf_top.specs.Answers.{not_played, bad_trace}
-use Rattle.wire_core.specs.declared.names.Entry.{Entry}
-use Rattle.sddf_top.specs.Texts.{report_text}
-use Rattle.sddf_top.proofs.AnswerLemmas.{quiet-written}
+use Rattle.std.proofs.Common.{refl, subst}
+use Rattle.std.specs.Prelude.{string_bytes}
+use Rattle.sddf_top.specs.Answers.{Comes}
+use Rattle.sddf_top.specs.Decisions.{TraceDecides, refuses, unplayed, not_played, traced}
+use Rattle.sddf_top.proofs.AnswerLemmas.{map-ok}
 use Rattle.sddf_top.proofs.served.reply_to_play.Goals as goal
 
 pub returns-then-not-is_serial-clause-answer : goal.returns-then-not-is_serial-clause-answer
-returns-then-not-is_serial-clause-answer g c words play =
-    rw c.in_ok-write_refused.ensures
-    (not_played _ _ c.in_ok-text.text play c.in_ok-text.ensures.bytes (λ e. let f = c.if-not-is_serial.ensures.1 (c.as_slice.ensures ∙ e) in cc))
+returns-then-not-is_serial-clause-answer g c =
+    map-ok c.refused.result _ _ (λ r h words desc p. (
+      refuses (unplayed c.args.plan.now),
+      not_played desc c.args.trace.now p (λ e. let f = c.if-not-is_serial.ensures.1 e in cc),
+      subst (λ place. Comes (refuses (record { rule = 0; place = place })) r.status (string_bytes r.text) r.played) c.class_place.ensures h,
+    ))
+    c.refused.ensures.answer
 
-pub returns-in-Ok-clause-answer : goal.returns-in-Ok-clause-answer
-returns-in-Ok-clause-answer g c words play =
-    let text-is : c.in_ok-text.text ≡ serial_example = sym c.as_slice.ensures ∙ c.if-not-is_serial.ensures.0 refl in
-    quiet-written _ words _ _ c.in_ok-text-2.text c.in-Ok.script c.in_ok-system-in-Ok.system _ play
-    (rw text-is at c.in_ok-text.ensures.bytes)
-    (rw (c.in_ok-text.ensures.texts c.args.trace.now) at c.in_ok-text-2.ensures.bytes)
-    (rw c.as_slice-2.ensures at c.in-Ok.ensures.script)
-    c.in_ok-system-in-Ok.ensures.plays
-    (c.in_ok-write_report-in-Ok.ensures ∙ ap (λ (j : List Entry). report_text (length j) c.line.result.now) c.journal.ensures
-    ∙ ap (λ (l : List ℕ). report_text (length c.in_ok-system-in-Ok.system.journal) l) (c.line.ensures ∙ c.in_ok-system-in-Ok.ensures.line))
-
-pub returns-in-Err-Bad-clause-answer : goal.returns-in-Err-Bad-clause-answer
-returns-in-Err-Bad-clause-answer g c words play =
-    let text-is : c.in_ok-text.text ≡ serial_example = sym c.as_slice.ensures ∙ c.if-not-is_serial.ensures.0 refl in
-    rw c.in_ok-write_bad_trace-in-Err-Bad.ensures
-    (bad_trace _ _ c.in_ok-text-2.text play
-    (rw text-is at c.in_ok-text.ensures.bytes)
-    (rw (c.in_ok-text.ensures.texts c.args.trace.now) at c.in_ok-text-2.ensures.bytes)
-    (rw c.as_slice-2.ensures at (c.in-Err-Bad.ensures.bad (ap Err c.in-Err-Bad.field-0-is))))
+pub returns-clause-answer : goal.returns-clause-answer
+returns-clause-answer g c =
+    map-ok c.reply_to_trace.result _ _ (λ r h words desc p. (
+      h.0,
+      traced desc c.args.trace.now c.in_ok-bytes.bytes h.0 p (c.if-not-is_serial.ensures.0 refl) c.in_ok-bytes.ensures.bytes
+          (subst (λ x. TraceDecides x h.0) c.as_slice.ensures h.1),
+      h.2,
+    ))
+    c.reply_to_trace.ensures.answer

@@ -1,0 +1,9 @@
+use Rattle.std.proofs.Common.{ap, ◌∙◌}
+use Rattle.sddf_top.specs.Outside.{appended}
+use Rattle.sddf_top.specs.Answers.{WasRead}
+use Rattle.sddf_top.proofs.AnswerLemmas.{written-whole}
+use Rattle.sddf_top.proofs.served.write_reply.Goals as goal
+
+pub returns-in-Ok-clause-served : goal.returns-in-Ok-clause-served
+returns-in-Ok-clause-served g c told words a =
+    written-whole (WasRead told) words _ _ _ _ _ a (c.in-Ok.ensures.ok ∙ ap (λ text. appended (g.K.Sink.written c.args.sink.now) text) c.as_bytes.ensures.value)
