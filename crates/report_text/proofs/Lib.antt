@@ -1,2 +1,5 @@
 mod LineLemmas
+mod QueueLemmas
 mod RunLemmas
+mod HexLemmas
+mod RegionLemmas

@@ -1,6 +1,6 @@
 use Rattle.std.proofs.Common.{◌≡◌, refl, sym, ◌∙◌, ap, ℕ, zero, suc, ◌+◌, List, [], ◌∷◌, ◌++◌, map, drop, slice_get, Some, append_assoc, rules}
 use Rattle.report_text.specs.Lines.{text_of}
-use Rattle.report_text.specs.Reports.{each_client}
+use Rattle.report_text.specs.Reports.{each_numbered}
 
 -- the text of more lines
 pub text_of-append : (a b : List (List ℕ)) → text_of (a ++ b) ≡ text_of a ++ text_of b
@@ -24,13 +24,13 @@ line_written {X = X} f xs k x old new whole at is so =
 
 -- the lines of one more client written
 pub client_written : {X : Type 0} (lines : ℕ → X → List (List ℕ)) (xs : List X) (k : ℕ) (x : X) (old new whole : List ℕ)
-    → slice_get xs k ≡ Some x → new ≡ old ++ text_of (lines k x) → old ++ text_of (each_client lines k (drop k xs)) ≡ whole
-    → new ++ text_of (each_client lines (k + 1) (drop (k + 1) xs)) ≡ whole
+    → slice_get xs k ≡ Some x → new ≡ old ++ text_of (lines k x) → old ++ text_of (each_numbered lines k (drop k xs)) ≡ whole
+    → new ++ text_of (each_numbered lines (k + 1) (drop (k + 1) xs)) ≡ whole
 client_written {X = X} lines xs k x old new whole at is so =
-    let rest = each_client lines (k + 1) (drop (k + 1) xs) in
+    let rest = each_numbered lines (k + 1) (drop (k + 1) xs) in
     ap (λ w. w ++ text_of rest) is ∙ append_assoc old (text_of (lines k x)) (text_of rest)
     ∙ sym (ap (λ w. old ++ w) (text_of-append (lines k x) rest))
-    ∙ sym (ap (λ (l : List X). old ++ text_of (each_client lines k l)) (drop_at xs k x at)) ∙ so
+    ∙ sym (ap (λ (l : List X). old ++ text_of (each_numbered lines k l)) (drop_at xs k x at)) ∙ so
 
 -- lines written behind lines
 pub written_on : (a b : List (List ℕ)) (old new : List ℕ) → old ≡ text_of a → new ≡ old ++ text_of b → new ≡ text_of (a ++ b)

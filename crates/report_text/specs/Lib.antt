@@ -1,3 +1,6 @@
+pub mod Answers
+pub mod Journals
+pub mod Layouts
 pub mod Lines
 pub mod Places
 pub mod Reports

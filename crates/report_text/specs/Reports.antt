@@ -66,16 +66,16 @@ pool_line p =
 abbrev pub bad_line : ℕ → List ℕ
 bad_line n = codes "bad " ++ decimal n
 
--- the lines of each client of a class in turn, counted from a number on
-abbrev pub each_client : {T : Type 0} → (ℕ → T → List (List ℕ)) → ℕ → List T → List (List ℕ)
-each_client lines c [] = []
-each_client lines c (x ∷ xs) = lines c x ++ each_client lines (c + 1) xs
+-- the lines of each element of a list in turn, counted from a number on
+abbrev pub each_numbered : {T : Type 0} → (ℕ → T → List (List ℕ)) → ℕ → List T → List (List ℕ)
+each_numbered lines c [] = []
+each_numbered lines c (x ∷ xs) = lines c x ++ each_numbered lines (c + 1) xs
 
 -- the lines of a report; those of a class that the description lacks are not there
 abbrev pub report_lines : Report → List (List ℕ)
 report_lines r =
-    ending_line r.quiet ∷ steps_line r.steps ∷ wire_lines r.wire ++ each_client net_lines 0 r.net ++ uart_lines r.line
-    ++ each_client serial_lines 0 r.serial ++ each_client blk_lines 0 r.blk ++ map pool_line r.pools ++ bad_line r.bad ∷ []
+    ending_line r.quiet ∷ steps_line r.steps ∷ wire_lines r.wire ++ each_numbered net_lines 0 r.net ++ uart_lines r.line
+    ++ each_numbered serial_lines 0 r.serial ++ each_numbered blk_lines 0 r.blk ++ map pool_line r.pools ++ bad_line r.bad ∷ []
 
 -- the text of a report
 abbrev pub report_text : Report → List ℕ

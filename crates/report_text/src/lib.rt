@@ -1,9 +1,15 @@
 //! The texts that the program prints.
 #![tactic(auto)]
 
+mod answers;
+mod journal;
+mod layout;
 mod place;
 mod report;
 
+pub use answers::{write_accepted, write_bad_trace, write_refused, write_too_long, write_usage};
+pub use journal::write_journal;
+pub use layout::write_layout;
 pub use place::write_place;
 pub use report::write_report;
 

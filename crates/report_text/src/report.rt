@@ -2,7 +2,7 @@ ghost use Rattle.std.specs.Prelude.{◌≡◌, ◌<◌, ◌≤◌, ◌∷◌, []
 ghost use Rattle.hex.specs.Hex.{encode_lower};
 ghost use Rattle.report_text.specs.Lines.{text_of};
 ghost use Rattle.report_text.specs.Runs.{runs_of, run_text, more_runs_text};
-ghost use Rattle.report_text.specs.Reports.{report_text, byte_lines, wire_lines, net_lines, uart_lines, serial_lines, blk_lines, each_client, pool_line, reply_line, given_text, status_text, ending_line, steps_line, bad_line};
+ghost use Rattle.report_text.specs.Reports.{report_text, byte_lines, wire_lines, net_lines, uart_lines, serial_lines, blk_lines, each_numbered, pool_line, reply_line, given_text, status_text, ending_line, steps_line, bad_line};
 
 use cargo_core::{BlkStatus, Bytes, FrameLog, Memory, Reply, Series};
 use expect_core::{Census, Report};
@@ -188,7 +188,7 @@ fn add_pool(to: &mut String, pool: &Census) -> Result<(), Memory>
 
 // Appends what each network client recorded.
 fn add_net(alloc: Global, to: &mut String, clients: &Series<FrameLog>) -> Result<(), Memory>
-    ensures { OnOk result (string_bytes to.new ≡ string_bytes to.old ++ text_of (each_client net_lines 0 clients.now)) }
+    ensures { OnOk result (string_bytes to.new ≡ string_bytes to.old ++ text_of (each_numbered net_lines 0 clients.now)) }
 {
     for k in 0..clients.len() {
         add_net_client(alloc, to, k, clients.get(k))?;
@@ -198,7 +198,7 @@ fn add_net(alloc: Global, to: &mut String, clients: &Series<FrameLog>) -> Result
 
 // Appends what each serial client recorded.
 fn add_serial(alloc: Global, to: &mut String, clients: &Series<Bytes>) -> Result<(), Memory>
-    ensures { OnOk result (string_bytes to.new ≡ string_bytes to.old ++ text_of (each_client serial_lines 0 clients.now)) }
+    ensures { OnOk result (string_bytes to.new ≡ string_bytes to.old ++ text_of (each_numbered serial_lines 0 clients.now)) }
 {
     for k in 0..clients.len() {
         add_serial_client(alloc, to, k, clients.get(k))?;
@@ -208,7 +208,7 @@ fn add_serial(alloc: Global, to: &mut String, clients: &Series<Bytes>) -> Result
 
 // Appends what each block client recorded.
 fn add_blk(alloc: Global, to: &mut String, clients: &Series<Series<Reply>>) -> Result<(), Memory>
-    ensures { OnOk result (string_bytes to.new ≡ string_bytes to.old ++ text_of (each_client blk_lines 0 clients.now)) }
+    ensures { OnOk result (string_bytes to.new ≡ string_bytes to.old ++ text_of (each_numbered blk_lines 0 clients.now)) }
 {
     for k in 0..clients.len() {
         add_blk_client(alloc, to, k, clients.get(k))?;

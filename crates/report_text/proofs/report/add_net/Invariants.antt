@@ -1,8 +1,8 @@
-use Rattle.std.proofs.Common.{◌≡◌, ◌++◌, map, drop, string_bytes}
+use Rattle.std.proofs.Common.{◌≡◌, ◌++◌, drop, string_bytes}
 use Rattle.report_text.specs.Lines.{text_of}
-use Rattle.report_text.specs.Reports.{each_client, net_lines}
+use Rattle.report_text.specs.Reports.{each_numbered, net_lines}
 use Rattle.report_text.proofs.report.add_net.Given as goal
 
 -- what was written and what is left is the whole
 abbrev pub invariant-loop-k : goal.invariant-loop-k
-invariant-loop-k l = string_bytes l.to ++ text_of (each_client net_lines l.k (drop l.k l.clients)) ≡ string_bytes l.initial.to ++ text_of (each_client net_lines 0 l.clients)
+invariant-loop-k l = string_bytes l.to ++ text_of (each_numbered net_lines l.k (drop l.k l.clients)) ≡ string_bytes l.initial.to ++ text_of (each_numbered net_lines 0 l.clients)

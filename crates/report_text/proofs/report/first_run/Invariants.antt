@@ -1,4 +1,4 @@
-use Rattle.std.proofs.Common.{◌≡◌, ◌-◌, ◌<◌, ◌≤◌, ◌==◌, length, drop, slice_index}
+use Rattle.std.proofs.Common.{◌≡◌, ◌-◌, ◌<◌, ◌≤◌, length, drop}
 use Rattle.report_text.specs.Runs.{runs_of}
 use Rattle.report_text.proofs.RunLemmas.{lengthened}
 use Rattle.report_text.proofs.report.first_run.Given as goal
