@@ -1,0 +1,119 @@
+use Rattle.std.proofs.Common.{◌≡◌, ◌≢◌, ◌↔◌, ℕ, List, [], ◌∷◌, length, drop, codes, refl, sym, ap, ◌∙◌, subst, arith, Some}
+use Rattle.std.specs.Prelude.{slice_get}
+use Rattle.command_words.specs.declared.command.Command.{Command}
+use Rattle.command_words.specs.declared.command.Command.TheVariants as Do
+use Rattle.command_words.specs.declared.command.Options.{Options}
+use Rattle.command_words.specs.Words.{Spells, IsBadWord}
+use Rattle.command_words.specs.Reading.{IsFirstBad, IsBadFrom, IsOneName, AsksToPlay, MayAskToPlay}
+use Rattle.command_words.proofs.Names.{a-name}
+use Rattle.command_words.proofs.FirstBad.{drop-at, bad-first, bad-none, bad-behind, bad-also}
+
+abbrev IsCommand : List (List ℕ) → Type 0
+IsCommand words = (command : Command) × Spells words command
+
+from-first : (words : List (List ℕ)) (k : ℕ) → IsFirstBad IsCommand words k → IsBadWord words k
+from-first words k b = record {
+  within = b.within;
+  before = (b.before.0, b.before.1.0, b.before.1.1);
+  here = λ lt begun. b.here lt begun.0 (begun.1, begun.2);
+  whole = λ e command s. b.whole e (command, s);
+}
+
+-- the first word, and what its kind of command wants behind it
+check-behind : (more : List (List ℕ)) → IsOneName more ↔ IsCommand (codes "check" ∷ more)
+check-behind more = ((λ o. (Do.Check, (o.0, record { words_are = ap (λ (w : List (List ℕ)). codes "check" ∷ w) o.1; desc_named = o.2 }))), (λ s. from s.0 s.1)) where
+  from : (command : Command) → Spells (codes "check" ∷ more) command → IsOneName more
+  from Do.Check s = (s.0, (let e = s.1.words_are in cc), s.1.desc_named)
+  from Do.Layout s = let e = s.1.words_are in cc
+  from (Do.Play options) s = let e = s.2.words_are in cc
+
+layout-behind : (more : List (List ℕ)) → IsOneName more ↔ IsCommand (codes "layout" ∷ more)
+layout-behind more = ((λ o. (Do.Layout, (o.0, record { words_are = ap (λ (w : List (List ℕ)). codes "layout" ∷ w) o.1; desc_named = o.2 }))), (λ s. from s.0 s.1)) where
+  from : (command : Command) → Spells (codes "layout" ∷ more) command → IsOneName more
+  from Do.Check s = let e = s.1.words_are in cc
+  from Do.Layout s = (s.0, (let e = s.1.words_are in cc), s.1.desc_named)
+  from (Do.Play options) s = let e = s.2.words_are in cc
+
+play-spelled : (more : List (List ℕ)) (options : Options) → AsksToPlay more options → Spells (codes "play" ∷ more) (Do.Play options)
+play-spelled more options o = (
+  o.desc,
+  o.trace,
+  record {
+    more = o.more;
+    seed = o.options_are.0;
+    words_are = ap (λ (w : List (List ℕ)). codes "play" ∷ w) o.words_are;
+    desc_named = o.desc_named;
+    trace_named = o.trace_named;
+    options_are = o.options_are.1;
+    seed_is = o.options_are.2;
+  },
+)
+
+play-behind : (more : List (List ℕ)) → MayAskToPlay more ↔ IsCommand (codes "play" ∷ more)
+play-behind more = ((λ o. (Do.Play o.0, play-spelled more o.0 o.1)), (λ s. from s.0 s.1)) where
+  from : (command : Command) → Spells (codes "play" ∷ more) command → MayAskToPlay more
+  from Do.Check s = let e = s.1.words_are in cc
+  from Do.Layout s = let e = s.1.words_are in cc
+  from (Do.Play options) s = (
+    options,
+    record {
+      desc = s.0;
+      trace = s.1;
+      more = s.2.more;
+      words_are = let e = s.2.words_are in cc;
+      desc_named = s.2.desc_named;
+      trace_named = s.2.trace_named;
+      options_are = (s.2.seed, s.2.options_are, s.2.seed_is);
+    },
+  )
+
+module _ (words : List (List ℕ)) (name : List ℕ) (first : slice_get words 0 ≡ Some name) where
+  stands : (kind : List ℕ) → name ≡ kind → words ≡ kind ∷ drop 1 words
+  stands kind e = drop-at words 0 name first ∙ ap (λ (n : List ℕ). n ∷ drop 1 words) e
+
+  bad-behind-first : (kind : List ℕ) (Good : List (List ℕ) → Type 0) → ((more : List (List ℕ)) → Good more ↔ IsCommand (kind ∷ more)) → name ≡ kind → (k : ℕ) → IsBadFrom 1 Good words k → IsBadWord words k
+  bad-behind-first kind Good same e k b =
+      from-first words k
+      (subst (λ ws. IsFirstBad IsCommand ws k) (sym (stands kind e))
+      (bad-behind IsCommand (kind ∷ []) (drop 1 words) b.0 k b.1 (bad-also Good (λ ws. IsCommand (kind ∷ ws)) same (drop 1 words) b.0 b.2)))
+
+  pub bad-check : name ≡ codes "check" → (k : ℕ) → IsBadFrom 1 IsOneName words k → IsBadWord words k
+  bad-check e k b = bad-behind-first (codes "check") IsOneName check-behind e k b
+
+  pub bad-layout : name ≡ codes "layout" → (k : ℕ) → IsBadFrom 1 IsOneName words k → IsBadWord words k
+  bad-layout e k b = bad-behind-first (codes "layout") IsOneName layout-behind e k b
+
+  pub bad-play : name ≡ codes "play" → (k : ℕ) → IsBadFrom 1 MayAskToPlay words k → IsBadWord words k
+  bad-play e k b = bad-behind-first (codes "play") MayAskToPlay play-behind e k b
+
+  pub spells-check : name ≡ codes "check" → IsOneName (drop 1 words) → Spells words Do.Check
+  spells-check e o = (o.0, record { words_are = stands (codes "check") e ∙ ap (λ (w : List (List ℕ)). codes "check" ∷ w) o.1; desc_named = o.2 })
+
+  pub spells-layout : name ≡ codes "layout" → IsOneName (drop 1 words) → Spells words Do.Layout
+  spells-layout e o = (o.0, record { words_are = stands (codes "layout") e ∙ ap (λ (w : List (List ℕ)). codes "layout" ∷ w) o.1; desc_named = o.2 })
+
+  pub spells-play : name ≡ codes "play" → (options : Options) → AsksToPlay (drop 1 words) options → Spells words (Do.Play options)
+  spells-play e options o = subst (λ ws. Spells ws (Do.Play options)) (sym (stands (codes "play") e)) (play-spelled (drop 1 words) options o)
+
+begun : (more : List (List ℕ)) × IsCommand more
+begun = (codes "check" ∷ codes "a" ∷ [], (Do.Check, (codes "a", record { words_are = refl; desc_named = a-name })))
+
+no-such : (name : List ℕ) → name ≢ codes "check" → name ≢ codes "layout" → name ≢ codes "play" → (more : List (List ℕ)) (command : Command) → Spells (name ∷ more) command → ⊥
+no-such name c l p more Do.Check s = c (let e = s.1.words_are in cc)
+no-such name c l p more Do.Layout s = l (let e = s.1.words_are in cc)
+no-such name c l p more (Do.Play options) s = p (let e = s.2.words_are in cc)
+
+-- the first word names no kind of command
+pub bad-kind : (words : List (List ℕ)) (name : List ℕ) → slice_get words 0 ≡ Some name → name ≢ codes "check" → name ≢ codes "layout" → name ≢ codes "play" → IsBadWord words 0
+bad-kind words name first c l p =
+    from-first words 0
+    (subst (λ ws. IsFirstBad IsCommand ws 0) (sym (drop-at words 0 name first)) (bad-first IsCommand name (drop 1 words) begun (λ more g. no-such name c l p more g.0 g.1)))
+
+no-words : (command : Command) → Spells [] command → ⊥
+no-words Do.Check s = let e = s.1.words_are in cc
+no-words Do.Layout s = let e = s.1.words_are in cc
+no-words (Do.Play options) s = let e = s.2.words_are in cc
+
+pub bad-empty : (words : List (List ℕ)) → length words ≡ 0 → IsBadWord words 0
+bad-empty [] e = from-first [] 0 (bad-none IsCommand begun (λ g. no-words g.0 g.1))
+bad-empty (w ∷ words) e = absurd (omega arith)

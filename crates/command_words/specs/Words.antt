@@ -1,0 +1,61 @@
+use Rattle.std.specs.Prelude.{◌≡◌, ◌+◌, ◌<◌, ◌≤◌, ℕ, Option, unwrap_or, List, [], ◌∷◌, ◌++◌, length, take, map, string_bytes, codes}
+use Rattle.std.specs.Global.{Global}
+use Rattle.std.specs.declared.string.String.{String}
+use Rattle.cargo_core.specs.Lists.{IsPrefix}
+use Rattle.command_words.specs.declared.command.Command.{Command}
+use Rattle.command_words.specs.declared.command.Command.TheVariants as Do
+use Rattle.command_words.specs.declared.command.Options.{Options}
+use Rattle.command_words.specs.Options.{AreOptions}
+
+-- the bytes of each word
+abbrev pub texts_of : List (String Global) → List (List ℕ)
+texts_of words = map (λ w. string_bytes w) words
+
+-- a word that may name a text: it isn't empty and doesn't begin with two dashes
+pub record IsName (word : List ℕ) : Type 0 where
+  pub filled : 0 < length word
+  pub plain : IsPrefix (codes "--") word → ⊥
+
+-- `check` and the name of a description
+pub record IsCheck (words : List (List ℕ)) (desc : List ℕ) : Type 0 where
+  pub words_are : words ≡ codes "check" ∷ desc ∷ []
+  pub desc_named : IsName desc
+
+-- `layout` and the name of a description
+pub record IsLayout (words : List (List ℕ)) (desc : List ℕ) : Type 0 where
+  pub words_are : words ≡ codes "layout" ∷ desc ∷ []
+  pub desc_named : IsName desc
+
+-- `play`, the name of a description and that of a trace, and options; without a seed it is 0
+pub record IsPlay (words : List (List ℕ)) (desc trace : List ℕ) (options : Options) : Type 0 where
+  pub more : List (List ℕ)
+  pub seed : Option ℕ
+  pub words_are : words ≡ codes "play" ∷ desc ∷ trace ∷ more
+  pub desc_named : IsName desc
+  pub trace_named : IsName trace
+  pub options_are : AreOptions more seed options.steps options.journal
+  pub seed_is : options.seed ≡ unwrap_or seed 0
+
+-- the words spell a command
+abbrev pub Spells : List (List ℕ) → Command → Type 0
+Spells words Do.Check = (desc : List ℕ) × IsCheck words desc
+Spells words Do.Layout = (desc : List ℕ) × IsLayout words desc
+Spells words (Do.Play options) = (desc trace : List ℕ) × IsPlay words desc trace options
+
+-- a command begins with these words
+abbrev pub Begins : List (List ℕ) → Type 0
+Begins words = (more : List (List ℕ)) × (command : Command) × Spells (words ++ more) command
+
+-- the first bad word: the least place up to which no command begins with the words, or the number of the words where
+-- a command begins with all of them and they are none
+pub record IsBadWord (words : List (List ℕ)) (k : ℕ) : Type 0 where
+  pub within : k ≤ length words
+  pub before : Begins (take k words)
+  pub here : k < length words → Begins (take (k + 1) words) → ⊥
+  pub whole : k ≡ length words → (command : Command) → Spells words command → ⊥
+
+-- the place of the last name in the words of a command
+abbrev pub last_name : Command → ℕ
+last_name Do.Check = 1
+last_name Do.Layout = 1
+last_name (Do.Play options) = 2

@@ -1,0 +1,25 @@
+/// The most steps that `--steps` may set; this project's own.
+pub const MOST_STEPS: u64 = 268_435_456;
+
+/// What the words ask for. The names of the texts are the words behind the first: the description's name is word 1, and
+/// the trace's is word 2.
+#[derive(Clone, Copy, Debug, PartialEq, Eq)]
+pub enum Command {
+    /// `check DESC`: to judge a description.
+    Check,
+    /// `layout DESC`: to show where the regions of a description lie.
+    Layout,
+    /// `play DESC TRACE`, with options: to play a trace on a description.
+    Play(Options),
+}
+
+/// What the options of `play` set.
+#[derive(Clone, Copy, Debug, PartialEq, Eq)]
+pub struct Options {
+    /// The seed of the picks, below 2^64; 0 without `--seed`.
+    pub seed: u64,
+    /// The limit of steps, from 1 to `MOST_STEPS`; `None` without `--steps`.
+    pub steps: Option<u64>,
+    /// Whether the journal is written behind the report.
+    pub journal: bool,
+}

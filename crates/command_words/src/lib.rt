@@ -1,0 +1,14 @@
+//! The words of the program: which commands they spell, and which word is the first bad one.
+#![tactic(auto)]
+
+mod chosen;
+mod command;
+mod name;
+mod number;
+mod words;
+
+pub use command::{Command, MOST_STEPS, Options};
+pub use words::read_words;
+
+#[cfg(test)]
+mod tests;

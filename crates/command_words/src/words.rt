@@ -1,0 +1,91 @@
+ghost use Rattle.std.specs.Prelude.{◌≡◌, ◌<◌, ◌≤◌, ℕ, List, Ok, Err, length, drop, OnOk, IfOk, IfErr};
+ghost use Rattle.command_words.specs.Words.{texts_of, Spells, IsBadWord, last_name};
+ghost use Rattle.command_words.specs.Reading.{IsBadFrom, IsOneName, AsksToPlay, MayAskToPlay, OptionsAre, MayBeOptions};
+
+use crate::chosen::Chosen;
+use crate::command::{Command, Options};
+use crate::name::{is_name_at, is_word, word_at};
+
+/// The command that the words spell, or the place of the first bad word: the least place such that no command begins
+/// with the words up to it, or the number of the words where a command begins with all of them and they are none.
+///
+/// An option's number that is none, or past its limits, is the bad word; of an option that stands there twice the
+/// second name is.
+pub fn read_words(words: &[String]) -> Result<Command, u32>
+    ensures command { IfOk result (Spells (texts_of words.now)) }
+    ensures bad { IfErr result (IsBadWord (texts_of words.now)) }
+    // Words spell one command at most, and have a bad word exactly where they spell none.
+    ensures unique { (command : Command) → Spells (texts_of words.now) command → result ≡ Ok command }
+    ensures bad_unique { (k : ℕ) → IsBadWord (texts_of words.now) k → result ≡ Err k }
+    ensures names { IfOk result (λ command. last_name command < length words.now) }
+{
+    match read_command(words) {
+        Ok(command) => Ok(command),
+        Err(place) => Err(place as u32),
+    }
+}
+
+// The command that the words spell, or the place of the first bad word.
+fn read_command(words: &[String]) -> Result<Command, usize>
+    ensures command { IfOk result (Spells (texts_of words.now)) }
+    ensures bad { IfErr result (IsBadWord (texts_of words.now)) }
+{
+    if words.is_empty() {
+        return Err(0);
+    }
+    let name = word_at(words, 0);
+    if is_word(name, "check") {
+        read_name(words)?;
+        return Ok(Command::Check);
+    }
+    if is_word(name, "layout") {
+        read_name(words)?;
+        return Ok(Command::Layout);
+    }
+    if is_word(name, "play") {
+        return Ok(Command::Play(read_play(words)?));
+    }
+    Err(0)
+}
+
+// Reads the one name behind the first word.
+fn read_name(words: &[String]) -> Result<(), usize>
+    ensures ok { OnOk result (IsOneName (drop 1 (texts_of words.now))) }
+    ensures err { IfErr result (IsBadFrom 1 IsOneName (texts_of words.now)) }
+{
+    if !is_name_at(words, 1) {
+        return Err(1);
+    }
+    if words.len() > 2 {
+        return Err(2);
+    }
+    Ok(())
+}
+
+// Reads what stands behind `play`: two names and options.
+fn read_play(words: &[String]) -> Result<Options, usize>
+    ensures ok { IfOk result (AsksToPlay (drop 1 (texts_of words.now))) }
+    ensures err { IfErr result (IsBadFrom 1 MayAskToPlay (texts_of words.now)) }
+{
+    if !is_name_at(words, 1) {
+        return Err(1);
+    }
+    if !is_name_at(words, 2) {
+        return Err(2);
+    }
+    read_options(words)
+}
+
+// Reads the options of `play`, which stand behind three words.
+fn read_options(words: &[String]) -> Result<Options, usize>
+    requires { 3 ≤ length words.now }
+    ensures ok { IfOk result (OptionsAre (drop 3 (texts_of words.now))) }
+    ensures err { IfErr result (IsBadFrom 3 MayBeOptions (texts_of words.now)) }
+{
+    let mut chosen = Chosen::nothing();
+    let mut at = 3;
+    while at < words.len() {
+        at = chosen.read(words, at)?;
+    }
+    Ok(chosen.options())
+}
