@@ -3,7 +3,8 @@ ghost use Rattle.std.specs.Prelude.{◌≡◌, ◌<◌, not, true, false, length
 ghost use Rattle.cargo_core.specs.Items.{kind_of};
 ghost use Rattle.wire_core.specs.Deeds.{answer_of};
 ghost use Rattle.wire_core.specs.Ends.{Condition, Consumer, Producer};
-ghost use Rattle.wire_core.specs.Queues.{Queue, queue_after, start_queue, end_of, bell_of, with_bell, is_filled, has_room, is_called};
+ghost use Rattle.wire_core.specs.Queues.{Queue, queue_after, start_queue, end_of, bell_of, with_bell, is_filled, has_room};
+ghost use Rattle.plain_wires.specs.Pendings.{waiting_actor};
 
 use cargo_core::{Body, Item, Memory, QueueKind};
 use std::alloc::Global;
@@ -72,12 +73,14 @@ impl Line {
         self.cargo.len() as u32
     }
 
-    /// Whether a pending word of one of this actor's waiters is 1.
-    pub fn calls(&self, actor: ActorId) -> bool
-        ensures { result ≡ is_called actor.0 self.now }
+    /// The actor that waits on a bell: forward the consumer, backward the producer.
+    pub fn waits(&self, side: Side) -> ActorId
+        ensures { result.0 ≡ waiting_actor self.now side }
     {
-        (self.consumer.0 == actor.0 && self.front.pending)
-            || (self.producer.0 == actor.0 && self.back.pending)
+        match side {
+            Side::Forward => self.consumer,
+            Side::Backward => self.producer,
+        }
     }
 
     pub fn bell(&self, side: Side) -> BellState

@@ -1,5 +1,6 @@
-ghost use Rattle.std.specs.Prelude.{◌≡◌, ◌<◌, ◌≤◌, ◌^◌, length, map, IfOk, IfSome, OnOk, slice_get, Some};
+ghost use Rattle.std.specs.Prelude.{◌≡◌, ◌<◌, ◌≤◌, ◌^◌, length, map, All, IfOk, IfSome, OnOk, slice_get, Some};
 ghost use Rattle.wire_core.specs.Queues.{Happens, bell_of, queue_at, end_at, starts, is_pending};
+ghost use Rattle.plain_wires.specs.Pendings.{IsCounted};
 
 use crate::line::Line;
 use cargo_core::{Body, Item, Memory};
@@ -13,6 +14,8 @@ use wire_core::{ActorId, BellState, Op, QueueId, QueueRow, Side, Wires};
 #[derive(Drop)]
 pub struct World {
     lines: Vec<Line>,
+    // For each actor, how many pending words of its waiters are 1.
+    pending: Vec<u64>,
 }
 
 impl Model for World {
@@ -21,7 +24,33 @@ impl Model for World {
 
     ghost Value = { List Queue };
 
+    ghost use Rattle.plain_wires.specs.Pendings.{IsCounted};
+
     ghost view = { λ w. w.lines.items };
+
+    ghost invariant = { λ w. IsCounted w.pending.items w.lines.items };
+}
+
+// One more than the greatest number of an actor at a queue's end.
+fn actors_of(rows: &[QueueRow]) -> usize
+    ensures { All (λ r. (r.producer.0 < result) × (r.consumer.0 < result)) rows.now }
+{
+    let mut count = 0;
+    for row in rows {
+        let last = row.producer.0.max(row.consumer.0) as usize;
+        if count <= last {
+            count = last + 1;
+        }
+    }
+    count
+}
+
+// No pending word is 1, of any actor at the queues' ends.
+#[tactic(auto, using(crate::proofs::Counts::at_start))]
+fn none_pending(alloc: Global, rows: &[QueueRow]) -> Result<Vec<u64>, Memory>
+    ensures { IfOk result (λ counts. IsCounted counts.items (starts rows.now)) }
+{
+    Ok(vec![in alloc; 0; actors_of(rows)]?)
 }
 
 impl World {
@@ -33,7 +62,10 @@ impl World {
         for row in rows {
             lines.push(Line::new(alloc, row)?)?;
         }
-        Ok(World { lines })
+        Ok(World {
+            lines,
+            pending: none_pending(alloc, rows)?,
+        })
     }
 
     /// How many entries stand in a queue.
@@ -50,7 +82,10 @@ impl World {
     pub fn is_pending(&self, actor: ActorId) -> bool
         ensures { result ≡ is_pending actor.0 self.now }
     {
-        self.lines.iter().any(|line| line.calls(actor))
+        match self.pending.get(actor.0 as usize) {
+            Some(count) => *count > 0,
+            None => false,
+        }
     }
 
     /// A bell of a queue.
@@ -100,7 +135,12 @@ impl Wires for World {
 
     fn wake(&mut self, q: QueueId, side: Side) -> bool {
         let line = &mut self.lines[q.0 as usize];
-        line.wake(side)
+        let actor = line.waits(side);
+        let woken = line.wake(side);
+        if woken {
+            self.pending[actor.0 as usize] -= 1;
+        }
+        woken
     }
 
     fn wanted(&mut self, q: QueueId, side: Side) -> bool {
@@ -115,6 +155,11 @@ impl Wires for World {
 
     fn ring(&mut self, q: QueueId, side: Side) {
         let line = &mut self.lines[q.0 as usize];
+        let actor = line.waits(side);
+        let first = !line.bell(side).pending;
         line.ring(side);
+        if first {
+            self.pending[actor.0 as usize] += 1;
+        }
     }
 }

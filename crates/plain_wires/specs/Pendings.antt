@@ -1,0 +1,23 @@
+use Rattle.std.specs.Prelude.{◌≡◌, ◌==◌, ◌+◌, ◌<◌, ◌&&◌, ℕ, List, length, slice_index_or, sum_by, All}
+use Rattle.wire_core.specs.declared.names.Side.{Side}
+use Rattle.wire_core.specs.declared.names.Side.TheVariants.{Forward, Backward}
+use Rattle.wire_core.specs.Bells.{bit}
+use Rattle.wire_core.specs.Queues.{Queue}
+
+-- the actor that waits on a bell: forward the consumer, backward the producer
+abbrev pub waiting_actor : Queue → Side → ℕ
+waiting_actor q Forward = q.consumer
+waiting_actor q Backward = q.producer
+
+-- how many pending words of this actor's waiters are 1 at a queue
+abbrev pub pending_of : ℕ → Queue → ℕ
+pending_of actor q = bit (q.consumer == actor && q.bells.forward.pending) + bit (q.producer == actor && q.bells.backward.pending)
+
+-- the actors at a queue's ends are among the first so many
+abbrev pub IsAmong : ℕ → Queue → Type 0
+IsAmong count q = (q.producer < count) × (q.consumer < count)
+
+-- for each actor, how many pending words of its waiters are 1; each queue's actors are there
+pub record IsCounted (counts : List ℕ) (queues : List Queue) : Type 0 where
+  pub right : (actor : ℕ) → slice_index_or counts actor 0 ≡ sum_by (pending_of actor) queues
+  pub known : All (IsAmong (length counts)) queues
