@@ -1,0 +1,5 @@
+pub mod Lists
+pub mod Found
+pub mod Queues
+pub mod Pools
+pub mod Acting

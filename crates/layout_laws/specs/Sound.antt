@@ -1,0 +1,28 @@
+use Rattle.std.specs.Prelude.{◌≡◌, ℕ, ◌+◌, ◌*◌, ◌≤◌, List, Some, slice_get, IsSomeAnd}
+use Rattle.wire_core.specs.declared.names.QueueRow.{QueueRow}
+use Rattle.wire_core.specs.declared.names.PoolRow.{PoolRow}
+use Rattle.sdf_model.specs.declared.plan.Plan.{Plan}
+use Rattle.sdf_check.specs.Rules.{IsMultiple}
+use Rattle.sdf_check.specs.ClassRules.{IsCapacity, IsBufferCount}
+use Rattle.region_layout.specs.Bases.{bases_of}
+use Rattle.region_layout.specs.Rows.{entry_size, actors_of, actor_named}
+
+-- a queue begins at a multiple of 64, and its header and its entries end inside the region
+abbrev pub LiesIn : Plan → QueueRow → ℕ → Type 0
+LiesIn plan row r =
+    IsSomeAnd (slice_get plan.memory_region r) (λ region. IsMultiple row.offset 64 × (row.offset + (64 + entry_size row.kind * row.capacity) ≤ region.size))
+
+-- what holds of a queue
+pub record IsSoundQueue (plan : Plan) (row : QueueRow) : Type 0 where
+  pub capacity : IsCapacity row.capacity
+  pub lies : (r : ℕ) → row.region ≡ Some r → LiesIn plan row r
+
+-- what holds of a pool
+pub record IsSoundPool (plan : Plan) (row : PoolRow) : Type 0 where
+  pub buffers : IsBufferCount row.buffers
+  pub base : slice_get (bases_of plan.memory_region) row.region ≡ Some row.base
+  pub lies : IsSomeAnd (slice_get plan.memory_region row.region) (λ region. row.size * row.buffers ≤ region.size)
+
+-- a name is that of the actor of its number
+abbrev pub IsActor : Plan → List ℕ → Type 0
+IsActor plan name = slice_get (actors_of plan) (actor_named plan name).0 ≡ Some name
