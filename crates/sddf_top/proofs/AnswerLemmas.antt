@@ -1,12 +1,16 @@
-use Rattle.std.proofs.Common.{◌≡◌, ◌⊎◌, inl, inr, ℕ, List, Option, sym, ◌∙◌, subst, Result, Ok, Err, IfOk}
+use Rattle.std.proofs.Common.{◌≡◌, ◌⊎◌, inl, inr, ℕ, Bool, true, false, List, Option, sym, ◌∙◌, subst, Result, Ok, Err, IfOk}
 use Rattle.sdf_model.specs.declared.plan.Plan.{Plan}
+use Rattle.trace_text.specs.declared.trace.Trace.{Trace}
+use Rattle.system_core.specs.Reports.{report_of}
+use Rattle.command_words.specs.declared.command.Options.{Options}
 use Rattle.sddf_top.specs.declared.status.Status.{Status}
 use Rattle.sddf_top.specs.declared.status.Status.TheVariants as Ended
-use Rattle.sddf_top.specs.declared.served.Played.{Played}
-use Rattle.sddf_top.specs.Decisions.{Decision, Say, Play, Decides, TextDecides, PlanDecides, TraceDecides, long_trace, bad_trace, script, checked, not_played, traced, long_description, refused, accepted, no_command, described}
-use Rattle.sddf_top.specs.Answers.{Answers, Comes, IsStatusOf, Serves, WasRead, IsTold, IsFault, no_reading, no_writing, no_memory}
+use Rattle.sddf_top.specs.declared.played.Played.{Played}
+use Rattle.sddf_top.specs.Decisions.{Decision, Say, Play, Decides, TextDecides, PlanDecides, TraceDecides, long_trace, bad_trace, good_trace, checked, laid_out, not_played, traced, long_description, refused, accepted, no_command, described}
+use Rattle.sddf_top.specs.Shown.{ending_of}
+use Rattle.sddf_top.specs.Answers.{Answers, Comes, Shows, IsStatusOf, Serves, WasRead, IsTold, IsFault, no_reading, no_writing, no_memory}
 use Rattle.sddf_top.specs.Outside.{appended}
-use Rattle.sddf_top.proofs.DecisionLemmas.{Agrees, one-decision, plan-read, text-read}
+use Rattle.sddf_top.proofs.DecisionLemmas.{Agrees, one-decision, text-read}
 
 -- what was read of a told text is its bytes
 pub told-same : (told : List ℕ → Option (List ℕ)) (name a b : List ℕ) → IsTold told name a → WasRead told name b → a ≡ b
@@ -16,20 +20,24 @@ told-same told name a b h r = h.2 ∙ sym (rw h.1 at r)
 pub read-before : (told told' : List ℕ → Option (List ℕ)) → ((n : List ℕ) → told' n ≡ told n) → (name bytes : List ℕ) → WasRead told' name bytes → WasRead told name bytes
 read-before told told' same name bytes r = rw (same name) at r
 
-pub plan-before : (told told' : List ℕ → Option (List ℕ)) → ((n : List ℕ) → told' n ≡ told n) → (words : List (List ℕ)) (text : List ℕ) (plan : Plan) (d : Decision)
-    → PlanDecides (WasRead told') words text plan d → PlanDecides (WasRead told) words text plan d
-plan-before told told' same = plan-read (WasRead told') (WasRead told) (read-before told told' same)
-
 pub text-before : (told told' : List ℕ → Option (List ℕ)) → ((n : List ℕ) → told' n ≡ told n) → (words : List (List ℕ)) (bytes : List ℕ) (d : Decision)
     → TextDecides (WasRead told') words bytes d → TextDecides (WasRead told) words bytes d
 text-before told told' same = text-read (WasRead told') (WasRead told) (read-before told told' same)
 
+-- a play gets quiet or spends its steps
+ending-status : (quiet : Bool) (steps : ℕ) (s : Status) → s ≡ ending_of quiet steps → (s ≡ Ended.Ok) ⊎ ((n : ℕ) × (s ≡ Ended.Spent n))
+ending-status true steps s e = inl e
+ending-status false steps s e = inr (steps, e)
+
+play-status : (plan : Plan) (t : Trace) (o : Options) (s : Status) (x : List ℕ) (p : Played) → Shows plan t o s x p → (s ≡ Ended.Ok) ⊎ ((n : ℕ) × (s ≡ Ended.Spent n))
+play-status plan t o s x p h = ending-status (report_of h.system).quiet (report_of h.system).steps s h.status_is
+
 -- the status of an answer is the one that a decision which agrees leads to
 agreed-status : (d d' : Decision) (s : Status) (x : List ℕ) (p : Played) → Agrees d d' → Comes d' s x p → IsStatusOf d s
 agreed-status (Say t y) (Say t' y') s x p a c = c.0 ∙ sym a.0
-agreed-status (Say t y) (Play q) s x p a c = absurd a
-agreed-status (Play q) (Say t' y') s x p a c = absurd a
-agreed-status (Play q) (Play q') s x p a c = c.status_is
+agreed-status (Say t y) (Play q u o) s x p a c = absurd a
+agreed-status (Play q u o) (Say t' y') s x p a c = absurd a
+agreed-status (Play q u o) (Play q' u' o') s x p a c = play-status q' u' o' s x p c
 
 -- these aren't faults
 abbrev pub MayBeFault : Status → Type 0
@@ -69,31 +77,36 @@ module _ (told : List ℕ → Option (List ℕ)) (words : List (List ℕ)) where
 -- a decision isn't a fault
 abbrev pub IsCalm : Decision → Type 0
 IsCalm (Say s x) = IsFault s → ⊥
-IsCalm (Play q) = Unit {0}
+IsCalm (Play q t o) = Unit {0}
 
-trace-calm : (bytes : List ℕ) (d : Decision) → TraceDecides bytes d → IsCalm d
-trace-calm bytes _ (long_trace l) = may-be Ended.TooLong
-trace-calm bytes _ (bad_trace l n) = may-be (Ended.BadTrace 1)
-trace-calm bytes _ (script q l h) = tt
+trace-calm : (plan : Plan) (o : Options) (bytes : List ℕ) (d : Decision) → TraceDecides plan o bytes d → IsCalm d
+trace-calm plan o bytes _ (long_trace l) = may-be Ended.TooLong
+trace-calm plan o bytes _ (bad_trace k l b) = may-be (Ended.BadTrace k)
+trace-calm plan o bytes _ (good_trace l g) = tt
 
 module _ (R : List ℕ → List ℕ → Type 0) (words : List (List ℕ)) where
-  plan-calm : (text : List ℕ) (plan : Plan) (d : Decision) → PlanDecides R words text plan d → IsCalm d
-  plan-calm text plan _ (checked desc c) = may-be Ended.Ok
-  plan-calm text plan _ (not_played desc trace p n) = may-be (Ended.Refused 0)
-  plan-calm text plan _ (traced desc trace bytes d p e r t) = trace-calm bytes d t
+  plan-calm : (plan : Plan) (d : Decision) → PlanDecides R words plan d → IsCalm d
+  plan-calm plan _ (checked desc c) = may-be Ended.Ok
+  plan-calm plan _ (laid_out desc l) = may-be Ended.Ok
+  plan-calm plan _ (not_played desc trace o place p u) = may-be (Ended.Refused 0)
+  plan-calm plan _ (traced desc trace bytes o d p u r t) = trace-calm plan o bytes d t
 
   text-calm : (bytes : List ℕ) (d : Decision) → TextDecides R words bytes d → IsCalm d
   text-calm bytes _ (long_description l) = may-be Ended.TooLong
   text-calm bytes _ (refused r l h) = may-be (Ended.Refused r.rule)
-  text-calm bytes _ (accepted p d l h q) = plan-calm bytes p d q
+  text-calm bytes _ (accepted p d l h q) = plan-calm p d q
 
   is-calm : (d : Decision) → Decides R words d → IsCalm d
   is-calm _ (no_command k h) = may-be (Ended.Usage k)
   is-calm _ (described desc bytes d n r t) = text-calm bytes d t
 
+calm-ending : (s : Status) → (s ≡ Ended.Ok) ⊎ ((n : ℕ) × (s ≡ Ended.Spent n)) → IsFault s → ⊥
+calm-ending s (inl e) f = may-be Ended.Ok (subst (λ t. IsFault t) e f)
+calm-ending s (inr h) f = may-be (Ended.Spent h.0) (subst (λ t. IsFault t) h.1 f)
+
 calm-status : (d : Decision) (s : Status) (x : List ℕ) (p : Played) → IsCalm d → Comes d s x p → IsFault s → ⊥
 calm-status (Say t y) s x p n c f = n (subst (λ s. IsFault s) c.0 f)
-calm-status (Play q) s x p n c f = may-be Ended.Ok (subst (λ s. IsFault s) c.status_is f)
+calm-status (Play q t o) s x p n c f = calm-ending s (play-status q t o s x p c) f
 
 -- no answer is a fault
 pub answer-calm : (R : List ℕ → List ℕ → Type 0) (words : List (List ℕ)) (s : Status) (x : List ℕ) (p : Played) → Answers R words s x p → IsFault s → ⊥

@@ -1,13 +1,16 @@
-use Rattle.std.proofs.Common.{◌≡◌, inl, inr, ◌<◌, ◌≤◌, ◌+◌, ℕ, List, ◌++◌, ◌∷◌, length, take, drop, refl, sym, ap, ◌∙◌, subst, append_assoc, arith}
+use Rattle.std.proofs.Common.{◌≡◌, inl, inr, ◌<◌, ◌≤◌, ◌+◌, ℕ, Some, List, ◌++◌, ◌∷◌, length, take, drop, refl, sym, ap, ◌∙◌, subst, append_assoc, arith}
 use Rattle.std.proofs.lemmas.Bool.{cases_lt}
 use Rattle.std.proofs.lemmas.List.{take-append-drop, take-take}
 use Rattle.sdf_model.specs.declared.place.Refusal.{Refusal}
 use Rattle.sdf_model.specs.declared.plan.Plan.{Plan}
-use Rattle.sddf_top.specs.declared.words.Command.{Command}
-use Rattle.sddf_top.specs.declared.words.Command.TheVariants as Do
-use Rattle.sddf_top.specs.Words.{IsCheck, IsPlay, Spells, Begins, IsBadWord}
-use Rattle.sddf_top.specs.Texts.{usage_text}
-use Rattle.sddf_top.specs.Decisions.{Decision, Say, Play, TraceDecides, PlanDecides, TextDecides, Decides, NamesDescription, refuses, long_trace, bad_trace, script, checked, not_played, traced, long_description, refused, accepted, no_command, described}
+use Rattle.trace_text.specs.Traces.{HasNoBadLine, IsLeastBadLine}
+use Rattle.report_text.specs.Answers.{usage_text, bad_trace_text}
+use Rattle.command_words.specs.declared.command.Command.{Command}
+use Rattle.command_words.specs.declared.command.Command.TheVariants as Do
+use Rattle.command_words.specs.declared.command.Options.{Options}
+use Rattle.command_words.specs.Words.{IsCheck, IsLayout, IsPlay, Spells, Begins, IsBadWord}
+use Rattle.sddf_top.specs.declared.status.Status.TheVariants as Ended
+use Rattle.sddf_top.specs.Decisions.{Decision, Say, Play, TraceDecides, PlanDecides, TextDecides, Decides, NamesDescription, refuses, long_trace, bad_trace, good_trace, checked, laid_out, not_played, traced, long_description, refused, accepted, no_command, described}
 use Rattle.sddf_top.proofs.JudgedLemmas.{same-accepted, accepted-or-refused, same-refused}
 
 -- fewer words begin a command too
@@ -36,9 +39,10 @@ bad-none words k command h s = elim (cases_lt k (length words)) [
 ]
 
 -- words that name a description are a command
-pub names-spell : (words : List (List ℕ)) (desc : List ℕ) → NamesDescription words desc → (command : Command) × Spells words command
+names-spell : (words : List (List ℕ)) (desc : List ℕ) → NamesDescription words desc → (command : Command) × Spells words command
 names-spell words desc (inl c) = (Do.Check, (desc, c))
-names-spell words desc (inr p) = (Do.Play, (desc, p.0, p.1))
+names-spell words desc (inr (inl l)) = (Do.Layout, (desc, l))
+names-spell words desc (inr (inr p)) = (Do.Play p.1, (desc, p.0, p.2))
 
 -- the names in words
 second-of : (words : List (List ℕ)) (w desc : List ℕ) (ws : List (List ℕ)) (v desc' : List ℕ) (vs : List (List ℕ)) → words ≡ w ∷ desc ∷ ws → words ≡ v ∷ desc' ∷ vs → desc ≡ desc'
@@ -46,23 +50,31 @@ second-of words w desc ws v desc' vs e f = let g : w ∷ desc ∷ ws ≡ v ∷ d
 
 names-words : (words : List (List ℕ)) (desc : List ℕ) → NamesDescription words desc → (w : List ℕ) × (ws : List (List ℕ)) × (words ≡ w ∷ desc ∷ ws)
 names-words words desc (inl c) = (_, _, c.words_are)
-names-words words desc (inr p) = (_, _, p.1.words_are)
+names-words words desc (inr (inl l)) = (_, _, l.words_are)
+names-words words desc (inr (inr p)) = (_, _, p.2.words_are)
 
 same-desc : (words : List (List ℕ)) (desc desc' : List ℕ) → NamesDescription words desc → NamesDescription words desc' → desc ≡ desc'
 same-desc words desc desc' n m = let a = names-words words desc n in let b = names-words words desc' m in second-of words a.0 desc a.1 b.0 desc' b.1 a.2 b.2
 
-same-trace : (words : List (List ℕ)) (desc trace desc' trace' : List ℕ) → IsPlay words desc trace → IsPlay words desc' trace' → trace ≡ trace'
-same-trace words desc trace desc' trace' p q = let e = sym p.words_are ∙ q.words_are in cc
+same-trace : (words : List (List ℕ)) (desc trace desc' trace' : List ℕ) (o o' : Options) → IsPlay words desc trace o → IsPlay words desc' trace' o' → trace ≡ trace'
+same-trace words desc trace desc' trace' o o' p q = let e = sym p.words_are ∙ q.words_are in cc
 
-check-or-play : (words : List (List ℕ)) (desc desc' trace : List ℕ) → IsCheck words desc → IsPlay words desc' trace → ⊥
-check-or-play words desc desc' trace c p = let e = sym c.words_are ∙ p.words_are in cc
+-- words are one command
+check-or-play : (words : List (List ℕ)) (desc desc' trace : List ℕ) (o : Options) → IsCheck words desc → IsPlay words desc' trace o → ⊥
+check-or-play words desc desc' trace o c p = let e = sym c.words_are ∙ p.words_are in cc
+
+layout-or-play : (words : List (List ℕ)) (desc desc' trace : List ℕ) (o : Options) → IsLayout words desc → IsPlay words desc' trace o → ⊥
+layout-or-play words desc desc' trace o l p = let e = sym l.words_are ∙ p.words_are in cc
+
+check-or-layout : (words : List (List ℕ)) (desc desc' : List ℕ) → IsCheck words desc → IsLayout words desc' → ⊥
+check-or-layout words desc desc' c l = let e = sym c.words_are ∙ l.words_are in cc
 
 -- two decisions agree where they say the same, or both play
 abbrev pub Agrees : Decision → Decision → Type 0
 Agrees (Say s x) (Say s' x') = (s ≡ s') × (x ≡ x')
-Agrees (Say s x) (Play q) = ⊥
-Agrees (Play p) (Say s' x') = ⊥
-Agrees (Play p) (Play q) = Unit {0}
+Agrees (Say s x) (Play p t o) = ⊥
+Agrees (Play p t o) (Say s' x') = ⊥
+Agrees (Play p t o) (Play p' t' o') = Unit {0}
 
 agrees-refused : (r r' : Refusal) → r ≡ r' → Agrees (refuses r) (refuses r')
 agrees-refused r r' e = let f = ap refuses e in (cc, cc)
@@ -70,33 +82,58 @@ agrees-refused r r' e = let f = ap refuses e in (cc, cc)
 long-or-short : (xs : List ℕ) → 16777216 < length xs → length xs ≤ 16777216 → ⊥
 long-or-short xs long short = omega arith
 
+-- there is one least bad line
+bad-once-line : (plan : Plan) (bytes : List ℕ) (l m : ℕ) (h : IsLeastBadLine plan bytes l) (i : IsLeastBadLine plan bytes m) → h.at < i.at → ⊥
+bad-once-line plan bytes l m h i lt = let e = h.bad in let f = i.before h.at lt in cc
+
+same-line : (plan : Plan) (bytes : List ℕ) (l m : ℕ) → IsLeastBadLine plan bytes l → IsLeastBadLine plan bytes m → l ≡ m
+same-line plan bytes l m h i = elim (cases_lt h.at i.at) [
+  | inl lt ↦ absurd (bad-once-line plan bytes l m h i lt)
+  | inr ge ↦ elim (cases_lt i.at h.at) [ inl lt ↦ absurd (bad-once-line plan bytes m l i h lt) | inr le ↦ omega (arith, h.counted, i.counted) ]
+]
+
+good-or-bad : (plan : Plan) (bytes : List ℕ) (l : ℕ) → HasNoBadLine plan bytes → IsLeastBadLine plan bytes l → ⊥
+good-or-bad plan bytes l h i = let e = i.bad in let f = h i.at in cc
+
+agrees-bad : (l m : ℕ) → l ≡ m → Agrees (Say (Ended.BadTrace l) (bad_trace_text l)) (Say (Ended.BadTrace m) (bad_trace_text m))
+agrees-bad l m e = (ap (λ n. Ended.BadTrace n) e, ap bad_trace_text e)
+
 -- what the bytes of a trace decide
-one-trace : (bytes : List ℕ) (d d' : Decision) → TraceDecides bytes d → TraceDecides bytes d' → Agrees d d'
-one-trace bytes _ _ (long_trace l) (long_trace m) = (refl, refl)
-one-trace bytes _ _ (long_trace l) (bad_trace m n) = absurd (long-or-short bytes l m)
-one-trace bytes _ _ (long_trace l) (script q m i) = absurd (long-or-short bytes l m)
-one-trace bytes _ _ (bad_trace l n) (long_trace m) = absurd (long-or-short bytes m l)
-one-trace bytes _ _ (bad_trace l n) (bad_trace m o) = (refl, refl)
-one-trace bytes _ _ (bad_trace l n) (script q m i) = absurd (n q i)
-one-trace bytes _ _ (script p l h) (long_trace m) = absurd (long-or-short bytes m l)
-one-trace bytes _ _ (script p l h) (bad_trace m n) = absurd (n p h)
-one-trace bytes _ _ (script p l h) (script q m i) = tt
+one-trace : (plan : Plan) (o o' : Options) (bytes : List ℕ) (d d' : Decision) → TraceDecides plan o bytes d → TraceDecides plan o' bytes d' → Agrees d d'
+one-trace plan o o' bytes _ _ (long_trace l) (long_trace m) = (refl, refl)
+one-trace plan o o' bytes _ _ (long_trace l) (bad_trace k m b) = absurd (long-or-short bytes l m)
+one-trace plan o o' bytes _ _ (long_trace l) (good_trace m g) = absurd (long-or-short bytes l m)
+one-trace plan o o' bytes _ _ (bad_trace k l b) (long_trace m) = absurd (long-or-short bytes m l)
+one-trace plan o o' bytes _ _ (bad_trace k l b) (bad_trace k' m b') = agrees-bad k k' (same-line plan bytes k k' b b')
+one-trace plan o o' bytes _ _ (bad_trace k l b) (good_trace m g) = absurd (good-or-bad plan bytes k g b)
+one-trace plan o o' bytes _ _ (good_trace l g) (long_trace m) = absurd (long-or-short bytes m l)
+one-trace plan o o' bytes _ _ (good_trace l g) (bad_trace k m b) = absurd (good-or-bad plan bytes k g b)
+one-trace plan o o' bytes _ _ (good_trace l g) (good_trace m g') = tt
 
 -- two tellings of what was read agree
 module _ (R S : List ℕ → List ℕ → Type 0) (same : (name a b : List ℕ) → R name a → S name b → a ≡ b) (words : List (List ℕ)) where
   -- what the words decide for a plan
-  one-plan : (text : List ℕ) (plan : Plan) (d d' : Decision) → PlanDecides R words text plan d → PlanDecides S words text plan d' → Agrees d d'
-  one-plan text plan _ _ (checked desc c) (checked desc' c') = (refl, refl)
-  one-plan text plan _ _ (checked desc c) (not_played desc' trace' p' n') = absurd (check-or-play words desc desc' trace' c p')
-  one-plan text plan _ _ (checked desc c) (traced desc' trace' bytes' d' p' e' r' t') = absurd (check-or-play words desc desc' trace' c p')
-  one-plan text plan _ _ (not_played desc trace p n) (checked desc' c') = absurd (check-or-play words desc' desc trace c' p)
-  one-plan text plan _ _ (not_played desc trace p n) (not_played desc' trace' p' n') = (refl, refl)
-  one-plan text plan _ _ (not_played desc trace p n) (traced desc' trace' bytes' d' p' e' r' t') = absurd (n e')
-  one-plan text plan _ _ (traced desc trace bytes d p e r t) (checked desc' c') = absurd (check-or-play words desc' desc trace c' p)
-  one-plan text plan _ _ (traced desc trace bytes d p e r t) (not_played desc' trace' p' n') = absurd (n' e)
-  one-plan text plan _ _ (traced desc trace bytes d p e r t) (traced desc' trace' bytes' d' p' e' r' t') =
-      let b : bytes ≡ bytes' = same trace' bytes bytes' (subst (λ n. R n bytes) (same-trace words desc trace desc' trace' p p') r) r' in
-      one-trace bytes' d d' (subst (λ x. TraceDecides x d) b t) t'
+  one-plan : (plan : Plan) (d d' : Decision) → PlanDecides R words plan d → PlanDecides S words plan d' → Agrees d d'
+  one-plan plan _ _ (checked desc c) (checked desc' c') = (refl, refl)
+  one-plan plan _ _ (checked desc c) (laid_out desc' l') = absurd (check-or-layout words desc desc' c l')
+  one-plan plan _ _ (checked desc c) (not_played desc' trace' o' place' p' u') = absurd (check-or-play words desc desc' trace' o' c p')
+  one-plan plan _ _ (checked desc c) (traced desc' trace' bytes' o' d' p' u' r' t') = absurd (check-or-play words desc desc' trace' o' c p')
+  one-plan plan _ _ (laid_out desc l) (checked desc' c') = absurd (check-or-layout words desc' desc c' l)
+  one-plan plan _ _ (laid_out desc l) (laid_out desc' l') = (refl, refl)
+  one-plan plan _ _ (laid_out desc l) (not_played desc' trace' o' place' p' u') = absurd (layout-or-play words desc desc' trace' o' l p')
+  one-plan plan _ _ (laid_out desc l) (traced desc' trace' bytes' o' d' p' u' r' t') = absurd (layout-or-play words desc desc' trace' o' l p')
+  one-plan plan _ _ (not_played desc trace o place p u) (checked desc' c') = absurd (check-or-play words desc' desc trace o c' p)
+  one-plan plan _ _ (not_played desc trace o place p u) (laid_out desc' l') = absurd (layout-or-play words desc' desc trace o l' p)
+  one-plan plan _ _ (not_played desc trace o place p u) (not_played desc' trace' o' place' p' u') =
+      let e : Some place ≡ Some place' = sym u ∙ u' in let f : place ≡ place' = cc in
+      agrees-refused (record { rule = 0; place = place }) (record { rule = 0; place = place' }) (ap (λ q. record { rule = 0; place = q }) f)
+  one-plan plan _ _ (not_played desc trace o place p u) (traced desc' trace' bytes' o' d' p' u' r' t') = let e = sym u ∙ u' in cc
+  one-plan plan _ _ (traced desc trace bytes o d p u r t) (checked desc' c') = absurd (check-or-play words desc' desc trace o c' p)
+  one-plan plan _ _ (traced desc trace bytes o d p u r t) (laid_out desc' l') = absurd (layout-or-play words desc' desc trace o l' p)
+  one-plan plan _ _ (traced desc trace bytes o d p u r t) (not_played desc' trace' o' place' p' u') = let e = sym u ∙ u' in cc
+  one-plan plan _ _ (traced desc trace bytes o d p u r t) (traced desc' trace' bytes' o' d' p' u' r' t') =
+      let b : bytes ≡ bytes' = same trace' bytes bytes' (subst (λ n. R n bytes) (same-trace words desc trace desc' trace' o o' p p') r) r' in
+      one-trace plan o o' bytes' d d' (subst (λ x. TraceDecides plan o x d) b t) t'
 
   -- what the words and the bytes of a description decide
   one-text : (bytes : List ℕ) (d d' : Decision) → TextDecides R words bytes d → TextDecides S words bytes d' → Agrees d d'
@@ -109,7 +146,7 @@ module _ (R S : List ℕ → List ℕ → Type 0) (same : (name a b : List ℕ) 
   one-text bytes _ _ (accepted p d l h q) (long_description m) = absurd (long-or-short bytes m l)
   one-text bytes _ _ (accepted p d l h q) (refused r m i) = absurd (accepted-or-refused bytes p r h i)
   one-text bytes _ _ (accepted p d l h q) (accepted p' d' m i q') =
-      one-plan bytes p' d d' (subst (λ x. PlanDecides R words bytes x d) (same-accepted bytes p p' h i) q) q'
+      one-plan p' d d' (subst (λ x. PlanDecides R words x d) (same-accepted bytes p p' h i) q) q'
 
   -- what the words and the texts under their names decide
   pub one-decision : (d d' : Decision) → Decides R words d → Decides S words d' → Agrees d d'
@@ -121,14 +158,15 @@ module _ (R S : List ℕ → List ℕ → Type 0) (same : (name a b : List ℕ) 
       one-text bytes' d d' (subst (λ x. TextDecides R words x d) b t) t'
 
 -- what is decided where a text was read as it was before
-pub plan-read : (R S : List ℕ → List ℕ → Type 0) → ((name bytes : List ℕ) → R name bytes → S name bytes) → (words : List (List ℕ)) (text : List ℕ) (plan : Plan) (d : Decision)
-    → PlanDecides R words text plan d → PlanDecides S words text plan d
-plan-read R S m words text plan _ (checked desc c) = checked desc c
-plan-read R S m words text plan _ (not_played desc trace p n) = not_played desc trace p n
-plan-read R S m words text plan _ (traced desc trace bytes d p e r t) = traced desc trace bytes d p e (m trace bytes r) t
+pub plan-read : (R S : List ℕ → List ℕ → Type 0) → ((name bytes : List ℕ) → R name bytes → S name bytes) → (words : List (List ℕ)) (plan : Plan) (d : Decision)
+    → PlanDecides R words plan d → PlanDecides S words plan d
+plan-read R S m words plan _ (checked desc c) = checked desc c
+plan-read R S m words plan _ (laid_out desc l) = laid_out desc l
+plan-read R S m words plan _ (not_played desc trace o place p u) = not_played desc trace o place p u
+plan-read R S m words plan _ (traced desc trace bytes o d p u r t) = traced desc trace bytes o d p u (m trace bytes r) t
 
 pub text-read : (R S : List ℕ → List ℕ → Type 0) → ((name bytes : List ℕ) → R name bytes → S name bytes) → (words : List (List ℕ)) (bytes : List ℕ) (d : Decision)
     → TextDecides R words bytes d → TextDecides S words bytes d
 text-read R S m words bytes _ (long_description l) = long_description l
 text-read R S m words bytes _ (refused r l h) = refused r l h
-text-read R S m words bytes _ (accepted p d l h q) = accepted p d l h (plan-read R S m words bytes p d q)
+text-read R S m words bytes _ (accepted p d l h q) = accepted p d l h (plan-read R S m words p d q)

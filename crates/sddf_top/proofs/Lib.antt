@@ -2,9 +2,6 @@ pub mod AnswerLemmas
 pub mod Appending
 pub mod DecisionLemmas
 pub mod JudgedLemmas
-pub mod NumberLemmas
-pub mod PlayLemmas
+pub mod PlanLemmas
 pub mod ReadLemmas
-pub mod ScriptLemmas
-pub mod TextLemmas
 pub mod WordLemmas

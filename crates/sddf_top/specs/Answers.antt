@@ -1,27 +1,34 @@
-use Rattle.std.specs.Prelude.{◌≡◌, ℕ, Option, Some, List, length, take}
+use Rattle.std.specs.Prelude.{◌≡◌, ◌⊎◌, ℕ, false, Option, Some, List, length, take}
+use Rattle.cargo_core.specs.Lists.{IsPrefix}
+use Rattle.sdf_model.specs.declared.plan.Plan.{Plan}
+use Rattle.trace_text.specs.declared.trace.Trace.{Trace}
+use Rattle.region_layout.specs.Layouts.{layout_of}
+use Rattle.system_core.specs.declared.system.System.{System}
+use Rattle.system_core.specs.PlanPlays.{IsPlayed}
+use Rattle.system_core.specs.Reports.{report_of}
+use Rattle.command_words.specs.declared.command.Options.{Options}
 use Rattle.sddf_top.specs.declared.status.Status.{Status}
 use Rattle.sddf_top.specs.declared.status.Status.TheVariants as Ended
-use Rattle.sddf_top.specs.declared.served.Played.{Played}
-use Rattle.sddf_top.specs.declared.served.Played.TheVariants as Was
-use Rattle.sddf_top.specs.declared.player.System.{System}
+use Rattle.sddf_top.specs.declared.played.Played.{Played}
+use Rattle.sddf_top.specs.declared.played.Played.TheVariants as Was
 use Rattle.sddf_top.specs.Decisions.{Decision, Say, Play, Decides}
-use Rattle.sddf_top.specs.Plays.{PlaysScript}
-use Rattle.cargo_core.specs.Lists.{IsPrefix}
+use Rattle.sddf_top.specs.Shown.{limit_of, ending_of, shown_text}
 use Rattle.sddf_top.specs.Outside.{IsRead, appended}
-use Rattle.sddf_top.specs.Texts.{report_text}
 
--- the script was played by a system until nobody had anything to do: the status, the text, and the system
-pub record IsPlayed (script : List ℕ) (status : Status) (text : List ℕ) (played : Played) : Type 0 where
+-- a trace was played on a plan: the system that was built and played, the status by whether it is quiet, and the text of
+-- its report, with its journal where the options ask for it. Where it isn't quiet all steps were made.
+pub record Shows (plan : Plan) (trace : Trace) (options : Options) (status : Status) (text : List ℕ) (played : Played) : Type 0 where
   pub system : System
   pub played_is : played ≡ Was.Classes system
-  pub plays : PlaysScript script system.journal
-  pub status_is : status ≡ Ended.Ok
-  pub text_is : text ≡ report_text (length system.journal) script
+  pub plays : IsPlayed plan trace options.seed (limit_of plan trace options) system
+  pub spent : (report_of system).quiet ≡ false → length system.journal ≡ limit_of plan trace options
+  pub status_is : status ≡ ending_of (report_of system).quiet (report_of system).steps
+  pub text_is : text ≡ shown_text (layout_of plan) options.journal (report_of system) system.journal
 
 -- the answer that a decision leads to: its status, the whole text that is written, and the system that was played
 abbrev pub Comes : Decision → Status → List ℕ → Played → Type 0
 Comes (Say status' text') status text played = (status ≡ status') × (text ≡ text') × (played ≡ Was.Nothing)
-Comes (Play script) status text played = IsPlayed script status text played
+Comes (Play plan trace options) status text played = Shows plan trace options status text played
 
 -- an answer that comes by such a decision
 abbrev pub ComesBy : (Decision → Type 0) → Status → List ℕ → Played → Type 0
@@ -31,10 +38,10 @@ ComesBy decides status text played = (decision : Decision) × decides decision �
 abbrev pub Answers : (List ℕ → List ℕ → Type 0) → List (List ℕ) → Status → List ℕ → Played → Type 0
 Answers reads words status text played = ComesBy (Decides reads words) status text played
 
--- the status that a decision leads to
+-- the status that a decision leads to: a play gets quiet or spends its steps
 abbrev pub IsStatusOf : Decision → Status → Type 0
 IsStatusOf (Say status' text') status = status ≡ status'
-IsStatusOf (Play script) status = status ≡ Ended.Ok
+IsStatusOf (Play plan trace options) status = (status ≡ Ended.Ok) ⊎ ((steps : ℕ) × (status ≡ Ended.Spent steps))
 
 -- the bytes that were read of a text, where a shelf tells some texts
 abbrev pub WasRead : (List ℕ → Option (List ℕ)) → List ℕ → List ℕ → Type 0

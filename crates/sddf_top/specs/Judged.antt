@@ -1,11 +1,10 @@
-use Rattle.std.specs.Prelude.{◌≡◌, ◌⊎◌, ◌+◌, ◌*◌, ℕ, Option, Some, None, List, length}
+use Rattle.std.specs.Prelude.{◌≡◌, ◌⊎◌, ℕ, Option, Some, None, List}
 use Rattle.toml.specs.Data.{Members}
 use Rattle.sdf_model.specs.declared.place.Place.{Place}
 use Rattle.sdf_model.specs.declared.place.Place.TheVariants as At
 use Rattle.sdf_model.specs.declared.place.Refusal.{Refusal}
 use Rattle.sdf_model.specs.declared.plan.Plan.{Plan}
 use Rattle.sdf_model.specs.declared.plan.Net.{Net}
-use Rattle.sdf_model.specs.declared.plan.Serial.{Serial}
 use Rattle.sdf_model.specs.declared.plan.Blk.{Blk}
 use Rattle.sdf_model.specs.Places.{KeepsRules, IsRefusal}
 use Rattle.sdf_model.specs.Spelled.{plan_of}
@@ -24,30 +23,17 @@ pub record IsAccepted (text : List ℕ) (plan : Plan) : Type 0 where
   pub spelled : IsSpelled text plan
   pub valid : Valid plan
 
+-- a plan that some description spells which is accepted
+abbrev pub IsAcceptedPlan : Plan → Type 0
+IsAcceptedPlan plan = (text : List ℕ) × IsAccepted text plan
+
 -- a description is refused by the least rule that it breaks, at the first element that breaks it: by a rule on texts,
 -- or where it keeps these by a rule on plans
 abbrev pub IsRefusedText : List ℕ → Refusal → Type 0
 IsRefusedText text refusal = IsRefusal (BreaksText text) (places_of text) 1 4 refusal ⊎ ((plan : Plan) × IsSpelled text plan × IsRefused plan refusal)
 
--- the first class that a plan has, or the system where it has none
-abbrev pub first_class : Option Net → Option Serial → Option Blk → Place
-first_class (Some n) s b = At.Net
-first_class None (Some s) b = At.Serial
-first_class None None (Some b) = At.Blk
-first_class None None None = At.System
-
--- how many queues the classes have, by their clients
-abbrev pub net_queues : Option Net → ℕ
-net_queues (Some n) = 8 + 6 * length n.client
-net_queues None = 0
-
-abbrev pub serial_queues : Option Serial → ℕ
-serial_queues (Some s) = 4 + 2 * length s.client
-serial_queues None = 0
-
-abbrev pub blk_queues : Option Blk → ℕ
-blk_queues (Some b) = 4 + 2 * length b.client
-blk_queues None = 0
-
-abbrev pub queue_count : Plan → ℕ
-queue_count plan = net_queues plan.net + serial_queues plan.serial + blk_queues plan.blk
+-- the first class of a plan that can't be played yet, if it has one
+abbrev pub unplayed_class : Option Net → Option Blk → Option Place
+unplayed_class (Some n) b = Some At.Net
+unplayed_class None (Some b) = Some At.Blk
+unplayed_class None None = None

@@ -4,12 +4,6 @@ pub mod Decisions
 pub mod Judged
 pub mod Names
 pub mod Outside
-pub mod Playing
-pub mod Plays
 pub mod Readings
-pub mod Scripts
-pub mod Serial
 pub mod Shown
 pub mod Sunk
-pub mod Texts
-pub mod Words

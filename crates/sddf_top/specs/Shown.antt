@@ -1,15 +1,26 @@
-use Rattle.std.specs.Prelude.{ℕ, Bool, List}
+use Rattle.std.specs.Prelude.{ℕ, Bool, true, false, List, ◌++◌, unwrap_or}
+use Rattle.sdf_model.specs.declared.plan.Plan.{Plan}
+use Rattle.trace_text.specs.declared.trace.Trace.{Trace}
 use Rattle.wire_core.specs.declared.names.Entry.{Entry}
-use Rattle.wire_core.specs.Queues.{Queue}
+use Rattle.region_layout.specs.declared.layout.Layout.{Layout}
+use Rattle.expect_core.specs.declared.report.Report.{Report}
+use Rattle.expect_core.specs.Budgets.{budget_of}
+use Rattle.report_text.specs.Reports.{report_text}
+use Rattle.report_text.specs.Journals.{journal_text}
+use Rattle.command_words.specs.declared.command.Options.{Options}
+use Rattle.sddf_top.specs.declared.status.Status.{Status}
+use Rattle.sddf_top.specs.declared.status.Status.TheVariants as Ended
 
--- a play of a script as it stands: the queues, how many bytes were put, what the line got, whether each actor's last
--- look isn't used, the last number drawn, and the calls that were made
-pub record Shown : Type 0 where
-  pub script : List ℕ
-  pub queues : List Queue
-  pub said : ℕ
-  pub line : List ℕ
-  pub roomed : Bool
-  pub seen : Bool
-  pub drawn : ℕ
-  pub journal : List Entry
+-- how many steps a play may make: those that the words say, or those that are enough
+abbrev pub limit_of : Plan → Trace → Options → ℕ
+limit_of plan trace options = unwrap_or options.steps (budget_of plan trace)
+
+-- how a play ended: quiet, or with so many steps
+abbrev pub ending_of : Bool → ℕ → Status
+ending_of true steps = Ended.Ok
+ending_of false steps = Ended.Spent steps
+
+-- the text of a play: its report, and the journal behind it where it is asked for
+abbrev pub shown_text : Layout → Bool → Report → List Entry → List ℕ
+shown_text layout false report journal = report_text report
+shown_text layout true report journal = report_text report ++ journal_text layout journal

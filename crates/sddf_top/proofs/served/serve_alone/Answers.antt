@@ -1,5 +1,5 @@
 use Rattle.std.proofs.Common.{inr}
-use Rattle.sddf_top.specs.Words.{texts_of}
+use Rattle.command_words.specs.Words.{texts_of}
 use Rattle.sddf_top.specs.Answers.{WasRead, no_reading, no_writing, no_memory}
 use Rattle.sddf_top.proofs.AnswerLemmas.{served-status, answer-not, not-instead}
 use Rattle.sddf_top.proofs.served.serve_alone.Goals as goal

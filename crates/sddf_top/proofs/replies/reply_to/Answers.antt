@@ -1,0 +1,12 @@
+use Rattle.std.proofs.Common.{◌∙◌}
+use Rattle.sddf_top.specs.declared.status.Status.TheVariants as Ended
+use Rattle.report_text.specs.Answers.{usage_text}
+use Rattle.sddf_top.specs.Decisions.{Say, no_command}
+use Rattle.sddf_top.proofs.replies.reply_to.Goals as goal
+
+pub returns-in_ok-text-in-Err-clause-answer : goal.returns-in_ok-text-in-Err-clause-answer
+returns-in_ok-text-in-Err-clause-answer g c = (
+  Say (Ended.Usage c.in-Err.k) (usage_text c.in-Err.k),
+  no_command c.in-Err.k c.in-Err.ensures.bad,
+  (c.of.ensures.status, c.of.ensures.text ∙ c.in_ok-text-in-Err.ensures, c.of.ensures.played),
+)

@@ -1,0 +1,8 @@
+use system_core::System;
+
+/// The system that a call played, if it played one.
+#[derive(Drop)]
+pub enum Played {
+    Nothing,
+    Classes(System),
+}
