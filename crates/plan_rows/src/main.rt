@@ -1,0 +1,102 @@
+//! Judges and lays out descriptions that are edited from others. A row of the input names a file with a description, or
+//! its layout as `layout of FILE`, and may replace fragments of it, each as ` | OLD => NEW`. For each row the program
+//! writes what an accepted description has, or its layout, or the rule that a refused one breaks and the place.
+#![tactic(auto)]
+
+ghost use Rattle.std.specs.Prelude.{IfOk};
+ghost use Rattle.sdf_check.specs.Valid.{Valid};
+
+use cargo_core::Memory;
+use region_layout::lay_out;
+use report_text::{write_accepted, write_layout, write_refused};
+use sdf_check::check;
+use sdf_model::{Plan, SdfFault, read_description};
+use std::alloc::{AllocError, Global};
+use std::{fs, io};
+
+// The plan that a text spells, where no rule is broken.
+fn judged(alloc: Global, text: &str) -> Result<Plan, SdfFault>
+    ensures { IfOk result Valid }
+{
+    let plan = read_description(alloc, text.as_bytes())?;
+    check(alloc, &plan)?;
+    Ok(plan)
+}
+
+// What is written of a valid plan.
+fn accepted(alloc: Global, plan: &Plan, lays_out: bool) -> Result<String, Memory>
+    requires { Valid plan.now }
+{
+    if lays_out {
+        let layout = lay_out(alloc, plan)?;
+        write_layout(alloc, plan, &layout)
+    } else {
+        write_accepted(alloc, plan)
+    }
+}
+
+// What is written of a description.
+fn answer(alloc: Global, text: &str, lays_out: bool) -> Result<String, Memory> {
+    match judged(alloc, text) {
+        Ok(plan) => accepted(alloc, &plan, lays_out),
+        Err(SdfFault::Refused(refusal)) => write_refused(alloc, &refusal),
+        Err(SdfFault::Memory) => Err(Memory),
+    }
+}
+
+// A text with the fragment replaced that an edit names; `None` where it doesn't stand there exactly once.
+fn edited(alloc: Global, text: &str, edit: &str) -> Result<Option<String>, AllocError> {
+    let Some((old, new)) = edit.split_once(" => ") else {
+        return Ok(None);
+    };
+    let Some((before, after)) = text.split_once(old) else {
+        return Ok(None);
+    };
+    if after.contains(old) {
+        return Ok(None);
+    }
+    Ok(Some(format!(in alloc; "{before}{new}{after}")?))
+}
+
+// The text that a row's edits make of another.
+fn edited_by(alloc: Global, text: String, edits: &str) -> Result<Option<String>, AllocError> {
+    let mut text = text;
+    for edit in edits.split(" | ") {
+        match edited(alloc, text.as_str(), edit)? {
+            Some(next) => text = next,
+            None => return Ok(None),
+        }
+    }
+    Ok(Some(text))
+}
+
+// The answer at a row.
+fn row(rt: &HostRuntime, row: &str) -> io::Result<()> {
+    let (name, edits) = match row.split_once(" | ") {
+        Some((name, edits)) => (name, Some(edits)),
+        None => (row, None),
+    };
+    let (file, lays_out) = match name.strip_prefix("layout of ") {
+        Some(file) => (file, true),
+        None => (name, false),
+    };
+    let text = fs::read_to_string(rt, file)?;
+    let changed = match edits {
+        Some(edits) => edited_by(rt.alloc(), text, edits)?,
+        None => Some(text),
+    };
+    let Some(text) = changed else {
+        return rt.println("a fragment doesn't stand there once");
+    };
+    match answer(rt.alloc(), text.as_str(), lays_out) {
+        Ok(lines) => rt.print(lines),
+        Err(Memory) => rt.println("no memory"),
+    }
+}
+
+fn main(rt: HostRuntime) -> io::Result<()> {
+    for line in rt.lines(rt.alloc()) {
+        row(&rt, line?.as_str())?;
+    }
+    Ok(())
+}
