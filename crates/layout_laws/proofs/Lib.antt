@@ -3,3 +3,4 @@ pub mod Found
 pub mod Queues
 pub mod Pools
 pub mod Acting
+pub mod Once

@@ -2,6 +2,7 @@ use Rattle.std.specs.Prelude.{◌≡◌, ℕ, ◌+◌, ◌*◌, ◌≤◌, List,
 use Rattle.wire_core.specs.declared.names.QueueRow.{QueueRow}
 use Rattle.wire_core.specs.declared.names.PoolRow.{PoolRow}
 use Rattle.sdf_model.specs.declared.plan.Plan.{Plan}
+use Rattle.sdf_check.specs.Names.{StandsBefore}
 use Rattle.sdf_check.specs.Rules.{IsMultiple}
 use Rattle.sdf_check.specs.ClassRules.{IsCapacity, IsBufferCount}
 use Rattle.region_layout.specs.Bases.{bases_of}
@@ -26,3 +27,7 @@ pub record IsSoundPool (plan : Plan) (row : PoolRow) : Type 0 where
 -- a name is that of the actor of its number
 abbrev pub IsActor : Plan → List ℕ → Type 0
 IsActor plan name = slice_get (actors_of plan) (actor_named plan name).0 ≡ Some name
+
+-- no name stands twice in a list
+abbrev pub NoNameTwice : List (List ℕ) → Type 0
+NoNameTwice names = (at : ℕ) (name : List ℕ) → slice_get names at ≡ Some name → StandsBefore name names at → ⊥

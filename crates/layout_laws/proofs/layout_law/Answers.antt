@@ -1,6 +1,7 @@
 use Rattle.layout_laws.proofs.Queues.{queues_sound}
 use Rattle.layout_laws.proofs.Pools.{pools_sound}
 use Rattle.layout_laws.proofs.Acting.{class_acts}
+use Rattle.layout_laws.proofs.Once.{regions_once, domains_once, queue_ends}
 use Rattle.layout_laws.proofs.layout_law.Goals as goal
 
 pub returns-clause-queues : goal.returns-clause-queues
@@ -11,3 +12,12 @@ returns-clause-pools c = pools_sound
 
 pub returns-clause-actors : goal.returns-clause-actors
 returns-clause-actors c = class_acts
+
+pub returns-clause-domains : goal.returns-clause-domains
+returns-clause-domains c = domains_once
+
+pub returns-clause-regions : goal.returns-clause-regions
+returns-clause-regions c = regions_once
+
+pub returns-clause-spans : goal.returns-clause-spans
+returns-clause-spans c = queue_ends
