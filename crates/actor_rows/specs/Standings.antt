@@ -1,0 +1,22 @@
+use Rattle.std.specs.Prelude.{◌≡◌, ℕ, List, [], ◌∷◌, length}
+use Rattle.cargo_core.specs.declared.item.QueueKind.TheVariants as Kind
+use Rattle.wire_core.specs.declared.names.QueueId.{QueueId}
+use Rattle.wire_core.specs.Ends.{Producer}
+use Rattle.wire_core.specs.Queues.{Queue, end_at}
+use Rattle.turn_kit.specs.ManyEnds.{outlet_queues}
+use Rattle.serial_virt.specs.Receiving.{FitsRx}
+use Rattle.serial_virt.specs.declared.rx.SerialVirtRx.{SerialVirtRx}
+
+abbrev pub queue : ℕ → QueueId
+queue n = record { 0 = n }
+
+abbrev pub eight : List QueueId
+eight = queue 1 ∷ queue 2 ∷ queue 3 ∷ queue 4 ∷ queue 5 ∷ queue 6 ∷ queue 7 ∷ queue 8 ∷ []
+
+-- a virtualiser stands at the queues 0 to 8, and queue 0 is filled by hand
+pub record RxStands (w : List Queue) (v : SerialVirtRx) : Type 0 where
+  pub fits : FitsRx (end_at w) v
+  pub long : length w ≡ 9
+  pub kind : (end_at w Producer 0).kind ≡ Kind.Byte
+  pub input : v.input.queue.0 ≡ 0
+  pub outputs : outlet_queues v.outputs ≡ eight

@@ -1,0 +1,10 @@
+//! Queues whose other ends are worked by hand, for tests of one actor at a time.
+#![tactic(auto)]
+
+mod hand;
+mod rows;
+#[cfg(test)]
+mod tests;
+
+pub use hand::{get, give};
+pub use rows::queues;

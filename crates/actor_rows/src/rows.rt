@@ -1,0 +1,33 @@
+ghost use Rattle.std.specs.Prelude.{◌≡◌, IfOk};
+ghost use Rattle.actor_rows.specs.Hands.{AreByteQueues};
+
+use cargo_core::{Memory, QueueKind, Text};
+use plain_wires::World;
+use std::alloc::Global;
+use wire_core::{ActorId, QueueRow};
+
+fn row(alloc: Global, capacity: u32) -> Result<QueueRow, Memory>
+    ensures { IfOk result (λ r. r.kind ≡ QueueKind.Byte) }
+{
+    Ok(QueueRow {
+        name: Text::new(alloc, "queue")?,
+        kind: QueueKind::Byte,
+        capacity,
+        producer: ActorId(0),
+        consumer: ActorId(1),
+        region: None,
+        offset: 0,
+    })
+}
+
+/// So many queues of bytes in their start state, each of which holds up to `capacity` of them.
+#[tactic(auto, using(crate::proofs::Started::byte_queues))]
+pub fn queues(alloc: Global, count: u16, capacity: u32) -> Result<World, Memory>
+    ensures { IfOk result (λ w. AreByteQueues count w) }
+{
+    let mut rows = Vec::new(alloc);
+    for _place in 0..count {
+        rows.push(row(alloc, capacity)?)?;
+    }
+    World::new(alloc, &rows)
+}

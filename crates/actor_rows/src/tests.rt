@@ -1,0 +1,95 @@
+// Each actor stands alone over queues that hold one byte each.
+ghost use Rattle.std.specs.Prelude.{◌≡◌, ◌<◌, IfOk};
+ghost use Rattle.serial_virt.specs.Receiving.{IsNewRx};
+ghost use Rattle.actor_rows.specs.Standings.{RxStands, eight, queue};
+
+use crate::{get, give, queues};
+use cargo_core::{Item, Memory};
+use plain_wires::World;
+use serial_virt::SerialVirtRx;
+use std::alloc::Global;
+use wire_core::QueueId;
+
+// Shares out queue 0 between eight clients, at the queues 1 to 8.
+fn virtualiser(alloc: Global) -> Result<SerialVirtRx, Memory>
+    ensures { IfOk result (λ v. IsNewRx (queue 0) eight v) }
+{
+    let clients = vec![in alloc;
+        QueueId(1),
+        QueueId(2),
+        QueueId(3),
+        QueueId(4),
+        QueueId(5),
+        QueueId(6),
+        QueueId(7),
+        QueueId(8),
+    ]?;
+    SerialVirtRx::new(alloc, QueueId(0), clients)
+}
+
+// Puts a byte to the virtualiser, which then has time to be at rest; false where there is no room.
+fn say(virt: &mut SerialVirtRx, world: &mut World, byte: u8) -> bool
+    requires { RxStands world.old virt.old }
+    ensures { RxStands world.new virt.new }
+{
+    let given = give(world, QueueId(0), byte);
+    for _call in 0..60 {
+        virt.step(world);
+    }
+    given
+}
+
+// What a client finds, if anything; then the virtualiser has time to be at rest.
+fn hear(virt: &mut SerialVirtRx, world: &mut World, client: u16) -> Option<Item>
+    requires there { client < 8 }
+    requires stands { RxStands world.old virt.old }
+    ensures { RxStands world.new virt.new }
+{
+    let got = get(world, QueueId(1 + client));
+    for _call in 0..60 {
+        virt.step(world);
+    }
+    got
+}
+
+#[test]
+fn each_of_eight_clients_gets_its_byte(rt: HostRuntime) -> Result<(), Memory> {
+    let alloc = rt.alloc();
+    let mut wires = queues(alloc, 9, 1)?;
+    let mut virt = virtualiser(alloc)?;
+    for client in 0..8u8 {
+        for byte in [28, b'0' + client, 13, b'a' + client] {
+            assert!(rt; say(&mut virt, &mut wires, byte));
+        }
+        for other in 0..8u8 {
+            let got = hear(&mut virt, &mut wires, other as u16);
+            let want = if other == client {
+                Some(Item::Byte(b'a' + client))
+            } else {
+                None
+            };
+            assert!(rt; got == want);
+        }
+    }
+    Ok(())
+}
+
+#[test]
+fn a_byte_waits_until_its_client_has_room(rt: HostRuntime) -> Result<(), Memory> {
+    let alloc = rt.alloc();
+    let mut wires = queues(alloc, 9, 1)?;
+    let mut virt = virtualiser(alloc)?;
+    for byte in b"\x1c1\rh\x1c\x1ci" {
+        assert!(rt; say(&mut virt, &mut wires, *byte));
+        if *byte == b'h' {
+            assert!(rt; hear(&mut virt, &mut wires, 0).is_none());
+        }
+    }
+    assert!(rt; !say(&mut virt, &mut wires, b'j'));
+    for byte in [b'h', 28, b'i'] {
+        assert!(rt; hear(&mut virt, &mut wires, 1) == Some(Item::Byte(byte)));
+    }
+    assert!(rt; hear(&mut virt, &mut wires, 1).is_none());
+    assert!(rt; virt.at_rest());
+    Ok(())
+}
