@@ -232,7 +232,7 @@ module _ (plan : Plan) (valid : Valid plan) (serial : Serial) (net : plan.net �
     role_part : (i : ℕ) (a : List ℕ) → slice_get roles i ≡ Some a → slice_get (map part_of actors) (number a) ≡ Some (job_part count trace (of_role i))
     role_part i a h = part_at (number a) (of_role i) (number_below plan valid serial net blk has plain a) (λ j g. job_of_role i a j h g)
 
-    module _ (device : ℕ) (numbers : List ℕ) (device_owner : IsOwner rows 0 Producer device) (owners : AreClients rows count numbers) where
+    module _ (device : ℕ) (numbers : List ℕ) (device_owner : (IsOwner rows) 0 Producer device) (owners : AreClients rows count numbers) where
       abbrev state : Shown
       state = started rows (map part_of actors) (Some device) numbers
 

@@ -29,7 +29,7 @@ some_is : {X : Type 0} {a b : X} → Some a ≡ Some b → a ≡ b
 some_is h = cc
 
 -- the producer of the first row
-pub first_owner : (rows : List QueueRow) (n : ℕ) (row : QueueRow) → 4 + 2 * n ≤ length rows → row ≡ get_or rows 0 row → IsOwner rows 0 Producer row.producer.0
+pub first_owner : (all : List QueueRow) (n : ℕ) (row : QueueRow) → 4 + 2 * n ≤ length all → row ≡ get_or all 0 row → IsOwner all 0 Producer row.producer.0
 first_owner rows n row room is = (row, slice_get_read rows (length rows) 0 row refl (omega (arith, room)) is, refl)
 
 pub layout_queues : (plan : Plan) (layout : Layout) → layout ≡ layout_of plan → layout.queues ≡ queues_of plan
@@ -74,7 +74,7 @@ module _ (plan : Plan) (spelled : IsSpelled plan) (valid : Valid plan) (net : pl
         are_seated = rw rows_are (seated plan valid serial net blk has (spelled_plain plan spelled) trace actors cast_of
             (let n : length actors ≡ length (actors_of plan) = cast_of.count_is in let few = actors_few plan valid in omega (arith, n, few)))
 
-        module _ (device : ℕ) (numbers : List ℕ) (owner : IsOwner rows 0 Producer device) (owners : AreClients rows clients numbers) where
+        module _ (device : ℕ) (numbers : List ℕ) (owner : (IsOwner rows) 0 Producer device) (owners : AreClients rows clients numbers) where
           abbrev pub state : Shown
           state = started rows (map part_of actors) (Some device) numbers
 
