@@ -1,0 +1,187 @@
+//! Plays descriptions. A row of the input is `FILE | SEED | STEPS | LINE | LINE`: a description, the seed, the most steps, and the
+//! lines of a trace for it. For each row one line is written: how the play ended, what was sent on the line, and what each
+//! client recorded. Bytes are written as runs, `3*61` for 616161; where several clients speak, the line is written as how
+//! often each byte stands in it, since their bytes come in any order.
+#![tactic(auto)]
+
+ghost use Rattle.std.specs.Prelude.{◌≡◌, ◌<◌, IfOk, length, None};
+ghost use Rattle.sdf_check.specs.Valid.{Valid};
+ghost use Rattle.system_core.specs.Builds.{IsSpelled};
+ghost use Rattle.trace_text.specs.Traces.{IsReadFor};
+
+use cargo_core::Memory;
+use expect_core::{Report, input_of};
+use region_layout::lay_out;
+use sdf_check::check;
+use sdf_model::{Plan, SdfFault, read_description};
+use std::alloc::Global;
+use std::{fs, io};
+use system_core::{Ending, System};
+use trace_text::{Trace, TraceFault, read_trace};
+
+// The plan that a text spells, where no rule is broken.
+fn judged(alloc: Global, text: &str) -> Result<Plan, SdfFault>
+    ensures spelled { IfOk result IsSpelled }
+    ensures valid { IfOk result Valid }
+{
+    let plan = read_description(alloc, text.as_bytes())?;
+    check(alloc, &plan)?;
+    Ok(plan)
+}
+
+// Bytes as runs of one value.
+fn add_runs(to: &mut String, bytes: &[u8]) -> Result<(), Memory> {
+    let mut run = 0u64;
+    for k in 0..bytes.len() {
+        run = run.saturating_add(1);
+        if k + 1 == bytes.len() || bytes[k + 1] != bytes[k] {
+            write!(to, " {}*{:02x}", run, bytes[k])?;
+            run = 0;
+        }
+    }
+    Ok(())
+}
+
+// How often each value stands among bytes.
+fn add_counts(to: &mut String, bytes: &[u8]) -> Result<(), Memory> {
+    for value in 0..256u32 {
+        let mut times = 0u64;
+        for byte in bytes {
+            if *byte as u32 == value {
+                times = times.saturating_add(1);
+            }
+        }
+        if times > 0 {
+            write!(to, " {}*{:02x}", times, value)?;
+        }
+    }
+    Ok(())
+}
+
+// What a client recorded; that it isn't what the trace gives it is said where the play is quiet.
+fn add_client(
+    alloc: Global,
+    to: &mut String,
+    report: &Report,
+    trace: &Trace,
+    client: usize,
+    ending: Ending,
+) -> Result<(), Memory>
+    requires { client < length report.now.serial }
+{
+    let record = report.serial.get(client);
+    write!(to, " client {client} {}:", record.len())?;
+    add_runs(to, record.as_slice())?;
+    let (Ok(clients), Ok(client)) = (u32::try_from(report.serial.len()), u32::try_from(client))
+    else {
+        return Ok(());
+    };
+    if ending == Ending::Quiet && client < clients {
+        let wanted = input_of(alloc, trace, clients, client)?;
+        if wanted.as_slice() != record.as_slice() {
+            to.push_str(" and not what it must get")?;
+        }
+    }
+    Ok(())
+}
+
+// What a play came to.
+fn told(alloc: Global, report: &Report, trace: &Trace, ending: Ending) -> Result<String, Memory> {
+    let mut line = match ending {
+        Ending::Quiet => String::from_str(alloc, "quiet")?,
+        Ending::Spent => format!(in alloc; "spent {}", report.steps)?,
+    };
+    if let Some(sent) = &report.line {
+        write!(line, " line {}:", sent.len())?;
+        if report.serial.len() > 1 {
+            add_counts(&mut line, sent.as_slice())?;
+        } else {
+            add_runs(&mut line, sent.as_slice())?;
+        }
+    }
+    for c in 0..report.serial.len() {
+        add_client(alloc, &mut line, report, trace, c, ending)?;
+    }
+    line.push_str("\n")?;
+    Ok(line)
+}
+
+// What a play of a plan comes to, with a trace that was read for it.
+fn play(alloc: Global, plan: &Plan, trace: &Trace, seed: u64, steps: u64) -> Result<String, Memory>
+    requires spelled { IsSpelled plan.now }
+    requires valid { Valid plan.now }
+    requires net { plan.now.net ≡ None }
+    requires blk { plan.now.blk ≡ None }
+    requires trace { IsReadFor plan.now trace.now }
+{
+    let layout = lay_out(alloc, plan)?;
+    let (system, ending) = System::played(alloc, plan, &layout, trace, seed, steps)?;
+    let report = system.report()?;
+    told(alloc, &report, trace, ending)
+}
+
+// What a play of a plan comes to, with the lines of a row.
+fn play_lines(
+    alloc: Global,
+    plan: &Plan,
+    seed: u64,
+    steps: u64,
+    lines: &str,
+) -> Result<String, Memory>
+    requires spelled { IsSpelled plan.now }
+    requires valid { Valid plan.now }
+{
+    if plan.net.is_some() || plan.blk.is_some() {
+        return Ok(String::from_str(alloc, "not played\n")?);
+    }
+    let text = trace_of(alloc, lines)?;
+    match read_trace(alloc, text.as_str().as_bytes(), plan) {
+        Ok(trace) => play(alloc, plan, &trace, seed, steps),
+        Err(TraceFault::BadLine(_)) => Ok(String::from_str(alloc, "bad trace\n")?),
+        Err(TraceFault::Memory) => Err(Memory),
+    }
+}
+
+// What a play of a description's text comes to.
+fn answer(alloc: Global, text: &str, seed: u64, steps: u64, lines: &str) -> Result<String, Memory> {
+    match judged(alloc, text) {
+        Ok(plan) => play_lines(alloc, &plan, seed, steps, lines),
+        Err(SdfFault::Refused(_)) => Ok(String::from_str(alloc, "refused\n")?),
+        Err(SdfFault::Memory) => Err(Memory),
+    }
+}
+
+// The text of a trace, by the lines of a row.
+fn trace_of(alloc: Global, lines: &str) -> Result<String, Memory> {
+    let mut text = String::new(alloc);
+    for line in lines.split(" | ") {
+        text.push_str(line)?;
+        text.push_str("\n")?;
+    }
+    Ok(text)
+}
+
+// The answer at a row.
+fn row(rt: &HostRuntime, row: &str) -> io::Result<()> {
+    let Some((name, rest)) = row.split_once(" | ") else {
+        return rt.println("no row");
+    };
+    let Some((seed, rest)) = rest.split_once(" | ") else {
+        return rt.println("no row");
+    };
+    let (steps, lines) = rest.split_once(" | ").unwrap_or((rest, ""));
+    let text = fs::read_to_string(rt, name)?;
+    let seed = seed.parse::<u64>().unwrap_or(0);
+    let steps = steps.parse::<u64>().unwrap_or(0);
+    match answer(rt.alloc(), text.as_str(), seed, steps, lines) {
+        Ok(line) => rt.print(line.as_str()),
+        Err(Memory) => rt.println("no memory"),
+    }
+}
+
+fn main(rt: HostRuntime) -> io::Result<()> {
+    for line in rt.lines(rt.alloc()) {
+        row(&rt, line?.as_str())?;
+    }
+    Ok(())
+}
