@@ -1,3 +1,4 @@
 pub mod Moved
 pub mod Started
 pub mod Fitting
+pub mod Driving

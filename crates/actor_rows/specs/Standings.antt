@@ -4,6 +4,8 @@ use Rattle.wire_core.specs.declared.names.QueueId.{QueueId}
 use Rattle.wire_core.specs.Ends.{Producer}
 use Rattle.wire_core.specs.Queues.{Queue, end_at}
 use Rattle.turn_kit.specs.ManyEnds.{outlet_queues}
+use Rattle.uart_driver.specs.Driver.{FitsDriver}
+use Rattle.uart_driver.specs.declared.UartDriver.{UartDriver}
 use Rattle.serial_virt.specs.Receiving.{FitsRx}
 use Rattle.serial_virt.specs.declared.rx.SerialVirtRx.{SerialVirtRx}
 
@@ -20,3 +22,13 @@ pub record RxStands (w : List Queue) (v : SerialVirtRx) : Type 0 where
   pub kind : (end_at w Producer 0).kind ≡ Kind.Byte
   pub input : v.input.queue.0 ≡ 0
   pub outputs : outlet_queues v.outputs ≡ eight
+
+-- a driver stands between the queues 0 and 2, and the queues 3 and 1; queue 0 is filled by hand
+pub record DriverStands (w : List Queue) (d : UartDriver) : Type 0 where
+  pub fits : FitsDriver (end_at w) d
+  pub long : length w ≡ 4
+  pub kind : (end_at w Producer 0).kind ≡ Kind.Byte
+  pub rx_input : d.rx.input.queue.0 ≡ 0
+  pub rx_output : d.rx.output.queue.0 ≡ 2
+  pub tx_input : d.tx.input.queue.0 ≡ 3
+  pub tx_output : d.tx.output.queue.0 ≡ 1

@@ -1,13 +1,14 @@
 // Each actor stands alone over queues that hold one byte each.
 ghost use Rattle.std.specs.Prelude.{◌≡◌, ◌<◌, IfOk};
 ghost use Rattle.serial_virt.specs.Receiving.{IsNewRx};
-ghost use Rattle.actor_rows.specs.Standings.{RxStands, eight, queue};
+ghost use Rattle.actor_rows.specs.Standings.{DriverStands, RxStands, eight, queue};
 
 use crate::{get, give, queues};
 use cargo_core::{Item, Memory};
 use plain_wires::World;
 use serial_virt::SerialVirtRx;
 use std::alloc::Global;
+use uart_driver::UartDriver;
 use wire_core::QueueId;
 
 // Shares out queue 0 between eight clients, at the queues 1 to 8.
@@ -91,5 +92,48 @@ fn a_byte_waits_until_its_client_has_room(rt: HostRuntime) -> Result<(), Memory>
     }
     assert!(rt; hear(&mut virt, &mut wires, 1).is_none());
     assert!(rt; virt.at_rest());
+    Ok(())
+}
+
+// Puts a byte to the driver, which then has time to be at rest; false where there is no room.
+fn feed(driver: &mut UartDriver, world: &mut World, byte: u8) -> bool
+    requires { DriverStands world.old driver.old }
+    ensures { DriverStands world.new driver.new }
+{
+    let given = give(world, QueueId(0), byte);
+    for _call in 0..60 {
+        driver.step(world);
+    }
+    given
+}
+
+// What came out of the driver, if anything; then the driver has time to be at rest.
+fn drain(driver: &mut UartDriver, world: &mut World) -> Option<Item>
+    requires { DriverStands world.old driver.old }
+    ensures { DriverStands world.new driver.new }
+{
+    let got = get(world, QueueId(2));
+    for _call in 0..60 {
+        driver.step(world);
+    }
+    got
+}
+
+// As many fit as both queues hold, and one more in the driver's hand.
+#[test]
+fn bytes_pass_the_driver_in_order(rt: HostRuntime) -> Result<(), Memory> {
+    let alloc = rt.alloc();
+    for (capacity, fit) in [(1, 3), (2, 5)] {
+        let mut wires = queues(alloc, 4, capacity)?;
+        let mut driver = UartDriver::new(QueueId(0), QueueId(1), QueueId(2), QueueId(3));
+        for byte in 0..8u8 {
+            assert!(rt; feed(&mut driver, &mut wires, byte) == (byte < fit));
+        }
+        for byte in 0..8u8 {
+            let got = drain(&mut driver, &mut wires);
+            assert!(rt; got == if byte < fit { Some(Item::Byte(byte)) } else { None });
+        }
+        assert!(rt; driver.at_rest());
+    }
     Ok(())
 }

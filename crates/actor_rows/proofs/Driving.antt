@@ -1,0 +1,93 @@
+use Rattle.std.proofs.Common.{◌≡◌, ◌<◌, ℕ, List, length, length-set, refl, sym, ap, ◌∙◌, subst, arith}
+use Rattle.std.specs.Option.{ForSome}
+use Rattle.cargo_core.specs.Items.{kind_of}
+use Rattle.wire_core.specs.declared.names.QueueId.{QueueId}
+use Rattle.wire_core.specs.declared.names.Event.{Event}
+use Rattle.wire_core.specs.Ends.{Role, Consumer, Producer}
+use Rattle.wire_core.specs.Lists.{Stepped}
+use Rattle.wire_core.specs.Queues.{Queue, Happens, end_at}
+use Rattle.wire_core.proofs.Moving.{moves}
+use Rattle.turn_kit.specs.Table.{Agrees}
+use Rattle.turn_kit.specs.Pipes.{FitsPipe, IsNewPipe}
+use Rattle.turn_kit.specs.declared.pipe.Pipe.{Pipe}
+use Rattle.uart_driver.specs.Driver.{FitsDriver, DriverStandsFor, SameEnds}
+use Rattle.uart_driver.specs.declared.UartDriver.{UartDriver}
+use Rattle.actor_rows.specs.Hands.{OnlyAt, AreByteQueues}
+use Rattle.actor_rows.specs.Standings.{DriverStands, queue}
+
+-- a pipe in its start state fits queues in their start state
+new_pipe : (w : List Queue) (count : ℕ) (p : Pipe) (from to : ℕ) → AreByteQueues count w → from < count → to < count → IsNewPipe (queue from) (queue to) p → FitsPipe (end_at w) p
+new_pipe w count p from to b f t new = record {
+  input = rw (new.input, new.input_kept, b.start Consumer from f) (record { owned = refl; waiter = refl; ringer = refl; looked = λ h. cc });
+  output = rw (new.output, new.output_kept, b.start Producer to t) (record { owned = refl; waiter = refl; ringer = refl; looked = λ h. cc });
+  kinds = rw (new.input, new.output) (ap (λ e. e.kind) (b.start Consumer from f) ∙ sym (ap (λ e. e.kind) (b.start Producer to t)));
+  load = rw new.load (λ x h. cc);
+}
+
+pub new_driver : (w : List Queue) (d : UartDriver) → AreByteQueues 4 w → IsNewPipe (queue 0) (queue 2) d.rx → IsNewPipe (queue 3) (queue 1) d.tx → DriverStands w d
+new_driver w d b rx tx = record {
+  fits = record {
+    rx = new_pipe w 4 d.rx 0 2 b (omega arith) (omega arith) rx;
+    tx = new_pipe w 4 d.tx 3 1 b (omega arith) (omega arith) tx;
+    inputs = λ h. let x : d.rx.input.queue.0 ≡ 0 = ap (λ (q : QueueId). q.0) rx.input in let y : d.tx.input.queue.0 ≡ 3 = ap (λ (q : QueueId). q.0) tx.input in omega (arith, h, x, y);
+    outputs = λ h. let x : d.rx.output.queue.0 ≡ 2 = ap (λ (q : QueueId). q.0) rx.output in let y : d.tx.output.queue.0 ≡ 1 = ap (λ (q : QueueId). q.0) tx.output in omega (arith, h, x, y);
+  };
+  long = b.long;
+  kind = ap (λ e. e.kind) (b.start Producer 0 (omega arith));
+  rx_input = ap (λ (q : QueueId). q.0) rx.input;
+  rx_output = ap (λ (q : QueueId). q.0) rx.output;
+  tx_input = ap (λ (q : QueueId). q.0) tx.input;
+  tx_output = ap (λ (q : QueueId). q.0) tx.output;
+}
+
+-- what the hand does at an end that isn't the pipe's leaves it
+pipe_beside : (w u : List Queue) (p : Pipe) (role : Role) (place : ℕ) → OnlyAt role place w u → (Consumer ≡ role → p.input.queue.0 ≡ place → ⊥) → (Producer ≡ role → p.output.queue.0 ≡ place → ⊥) → FitsPipe (end_at w) p → FitsPipe (end_at u) p
+pipe_beside w u p role place only i o f =
+    let input = only.rest Consumer p.input.queue.0 i in
+    let output = only.rest Producer p.output.queue.0 o in
+    record {
+      input = subst (λ e. Agrees e p.input.kept) (sym input) f.input;
+      output = subst (λ e. Agrees e p.output.kept) (sym output) f.output;
+      kinds = only.kinds Consumer p.input.queue.0 ∙ (f.kinds ∙ sym (only.kinds Producer p.output.queue.0));
+      load = subst (λ e. ForSome p.load (λ c. kind_of c.0 ≡ e.kind)) (sym output) f.load;
+    }
+
+still : (w u : List Queue) (d : UartDriver) (role : Role) (place : ℕ) → OnlyAt role place w u → DriverStands w d → FitsDriver (end_at u) d → DriverStands u d
+still w u d role place only s fits = record {
+  fits = fits;
+  long = only.long ∙ s.long;
+  kind = only.kinds Producer 0 ∙ s.kind;
+  rx_input = s.rx_input;
+  rx_output = s.rx_output;
+  tx_input = s.tx_input;
+  tx_output = s.tx_output;
+}
+
+-- queue 0 is filled by hand, and queue 2 is emptied
+pub after_feed : (w u : List Queue) (d : UartDriver) → DriverStands w d → OnlyAt Producer 0 w u → DriverStands u d
+after_feed w u d s only = still w u d Producer 0 only s (record {
+  rx = pipe_beside w u d.rx Producer 0 only (λ r. cc) (λ r h. let x = s.rx_output in omega (arith, h, x)) s.fits.rx;
+  tx = pipe_beside w u d.tx Producer 0 only (λ r. cc) (λ r h. let x = s.tx_output in omega (arith, h, x)) s.fits.tx;
+  inputs = s.fits.inputs;
+  outputs = s.fits.outputs;
+})
+
+pub after_drain : (w u : List Queue) (d : UartDriver) → DriverStands w d → OnlyAt Consumer 2 w u → DriverStands u d
+after_drain w u d s only = still w u d Consumer 2 only s (record {
+  rx = pipe_beside w u d.rx Consumer 2 only (λ r h. let x = s.rx_input in omega (arith, h, x)) (λ r. cc) s.fits.rx;
+  tx = pipe_beside w u d.tx Consumer 2 only (λ r h. let x = s.tx_input in omega (arith, h, x)) (λ r. cc) s.fits.tx;
+  inputs = s.fits.inputs;
+  outputs = s.fits.outputs;
+})
+
+-- a step of the driver
+pub after_turn : (w u : List Queue) (d d' : UartDriver) (e : Event) → DriverStands w d → FitsDriver (end_at u) d' → Stepped DriverStandsFor (λ old x new. Happens old x new) w u d d' e → SameEnds d d' → DriverStands u d'
+after_turn w u d d' e s fits st same = record {
+  fits = fits;
+  long = ap length st.happened.after_is ∙ (length-set w e.queue.0 _ ∙ s.long);
+  kind = (moves w _ u st.happened).kinds Producer 0 ∙ s.kind;
+  rx_input = ap (λ (q : QueueId). q.0) same.rx_input ∙ s.rx_input;
+  rx_output = ap (λ (q : QueueId). q.0) same.rx_output ∙ s.rx_output;
+  tx_input = ap (λ (q : QueueId). q.0) same.tx_input ∙ s.tx_input;
+  tx_output = ap (λ (q : QueueId). q.0) same.tx_output ∙ s.tx_output;
+}
