@@ -131,7 +131,13 @@ fn bytes_pass_the_driver_in_order(rt: HostRuntime) -> Result<(), Memory> {
         }
         for byte in 0..8u8 {
             let got = drain(&mut driver, &mut wires);
-            assert!(rt; got == if byte < fit { Some(Item::Byte(byte)) } else { None });
+            assert!(rt;
+                got == if byte < fit {
+                    Some(Item::Byte(byte))
+                } else {
+                    None
+                }
+            );
         }
         assert!(rt; driver.at_rest());
     }
