@@ -11,7 +11,10 @@ use std::sync::Wait;
 use std::thread::Threads;
 
 /// How many bytes the answer to a row may have.
-const ROOM: usize = 65_536;
+const ROOM: usize = 1_048_576;
+
+/// The longest line that is printed whole.
+const LINE: usize = 100;
 
 fn words_of(alloc: Global, row: &str) -> io::Result<Vec<String>> {
     let mut words = Vec::new(alloc);
@@ -21,10 +24,13 @@ fn words_of(alloc: Global, row: &str) -> io::Result<Vec<String>> {
     Ok(words)
 }
 
-/// Prints a line of an answer. How many steps a play makes depends on its schedule: above 9 the number prints as N.
+/// Prints a line of an answer. How many steps a play makes depends on its schedule: above 9 the number prints as N. A
+/// longer line than `LINE` prints as how many bytes it has.
 fn print_line(rt: &impl Print, line: &str) -> io::Result<()> {
     if line.starts_with("steps ") && line.len() > 7 {
         println!(rt; "steps N")
+    } else if line.len() > LINE {
+        println!(rt; "a line of {} bytes", line.len())
     } else {
         println!(rt; "{line}")
     }
