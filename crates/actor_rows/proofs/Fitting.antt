@@ -13,10 +13,10 @@ use Rattle.serial_virt.specs.declared.rx.SerialVirtRx.{SerialVirtRx}
 use Rattle.actor_rows.specs.Hands.{OnlyAt, AreByteQueues}
 use Rattle.actor_rows.specs.Standings.{RxStands, queue, eight}
 
-some_is : {X : Type 0} {a b : X} → Some a ≡ Some b → a ≡ b
+pub some_is : {X : Type 0} {a b : X} → Some a ≡ Some b → a ≡ b
 some_is h = cc
 
-map_get : {T U : Type 0} (f : T → U) (xs : List T) (k : ℕ) (x : T) → slice_get xs k ≡ Some x → slice_get (map f xs) k ≡ Some (f x)
+pub map_get : {T U : Type 0} (f : T → U) (xs : List T) (k : ℕ) (x : T) → slice_get xs k ≡ Some x → slice_get (map f xs) k ≡ Some (f x)
 map_get f [] k x h = cc
 map_get f (a ∷ xs) zero x h = ap (λ y. Some (f y)) (some_is h)
 map_get f (a ∷ xs) (suc k) x h = map_get f xs k x h
@@ -32,7 +32,7 @@ queues_are [] = refl
 queues_are (q ∷ qs) = ap (λ xs. q ∷ xs) (queues_are qs)
 
 -- the eight queues stand at the places 1 to 8
-eight_at : (k : ℕ) (q : QueueId) → slice_get eight k ≡ Some q → (q.0 ≡ k + 1) × (k < 8)
+pub eight_at : (k : ℕ) (q : QueueId) → slice_get eight k ≡ Some q → (q.0 ≡ k + 1) × (k < 8)
 eight_at zero q h = (ap (λ (x : QueueId). x.0) (sym (some_is h)), omega arith)
 eight_at (suc zero) q h = (ap (λ (x : QueueId). x.0) (sym (some_is h)), omega arith)
 eight_at (suc (suc zero)) q h = (ap (λ (x : QueueId). x.0) (sym (some_is h)), omega arith)
@@ -43,7 +43,7 @@ eight_at (suc (suc (suc (suc (suc (suc zero)))))) q h = (ap (λ (x : QueueId). x
 eight_at (suc (suc (suc (suc (suc (suc (suc zero))))))) q h = (ap (λ (x : QueueId). x.0) (sym (some_is h)), omega arith)
 eight_at (suc (suc (suc (suc (suc (suc (suc (suc k)))))))) q h = cc
 
-eight_apart : AreApart eight
+pub eight_apart : AreApart eight
 eight_apart k j q r at there same = let a = eight_at k q at in let b = eight_at j r there in let x : q.0 ≡ k + 1 = a.0 in let y : r.0 ≡ j + 1 = b.0 in omega (arith, same, x, y)
 
 -- a virtualiser in its start state fits queues in their start state

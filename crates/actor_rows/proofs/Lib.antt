@@ -2,3 +2,4 @@ pub mod Moved
 pub mod Started
 pub mod Fitting
 pub mod Driving
+pub mod Merging

@@ -1,13 +1,15 @@
-use Rattle.std.specs.Prelude.{◌≡◌, ℕ, List, [], ◌∷◌, length}
+use Rattle.std.specs.Prelude.{◌≡◌, ◌<◌, ℕ, List, [], ◌∷◌, length}
 use Rattle.cargo_core.specs.declared.item.QueueKind.TheVariants as Kind
 use Rattle.wire_core.specs.declared.names.QueueId.{QueueId}
 use Rattle.wire_core.specs.Ends.{Producer}
 use Rattle.wire_core.specs.Queues.{Queue, end_at}
-use Rattle.turn_kit.specs.ManyEnds.{outlet_queues}
+use Rattle.turn_kit.specs.ManyEnds.{intake_queues, outlet_queues}
 use Rattle.uart_driver.specs.Driver.{FitsDriver}
 use Rattle.uart_driver.specs.declared.UartDriver.{UartDriver}
 use Rattle.serial_virt.specs.Receiving.{FitsRx}
+use Rattle.serial_virt.specs.Sending.{FitsTx}
 use Rattle.serial_virt.specs.declared.rx.SerialVirtRx.{SerialVirtRx}
+use Rattle.serial_virt.specs.declared.tx.SerialVirtTx.{SerialVirtTx}
 
 abbrev pub queue : ℕ → QueueId
 queue n = record { 0 = n }
@@ -32,3 +34,11 @@ pub record DriverStands (w : List Queue) (d : UartDriver) : Type 0 where
   pub rx_output : d.rx.output.queue.0 ≡ 2
   pub tx_input : d.tx.input.queue.0 ≡ 3
   pub tx_output : d.tx.output.queue.0 ≡ 1
+
+-- a transmit virtualiser stands at the queues 0 to 8, and the queues 1 to 8 are filled by hand
+pub record TxStands (w : List Queue) (v : SerialVirtTx) : Type 0 where
+  pub fits : FitsTx (end_at w) v
+  pub long : length w ≡ 9
+  pub kinds : (n : ℕ) → n < 9 → (end_at w Producer n).kind ≡ Kind.Byte
+  pub output : v.output.queue.0 ≡ 0
+  pub inputs : intake_queues v.inputs ≡ eight

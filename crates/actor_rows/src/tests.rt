@@ -1,21 +1,22 @@
 // Each actor stands alone over queues that hold one byte each.
 ghost use Rattle.std.specs.Prelude.{◌≡◌, ◌<◌, IfOk};
 ghost use Rattle.serial_virt.specs.Receiving.{IsNewRx};
-ghost use Rattle.actor_rows.specs.Standings.{DriverStands, RxStands, eight, queue};
+ghost use Rattle.serial_virt.specs.Sending.{IsNewTx};
+ghost use Rattle.actor_rows.specs.Standings.{DriverStands, RxStands, TxStands, eight, queue};
 
 use crate::{get, give, queues};
 use cargo_core::{Item, Memory};
 use plain_wires::World;
-use serial_virt::SerialVirtRx;
+use serial_virt::{SerialVirtRx, SerialVirtTx};
 use std::alloc::Global;
 use uart_driver::UartDriver;
 use wire_core::QueueId;
 
-// Shares out queue 0 between eight clients, at the queues 1 to 8.
-fn virtualiser(alloc: Global) -> Result<SerialVirtRx, Memory>
-    ensures { IfOk result (λ v. IsNewRx (queue 0) eight v) }
+// The queues 1 to 8, one of each client.
+fn clients(alloc: Global) -> Result<Vec<QueueId>, Memory>
+    ensures { IfOk result (λ qs. qs.items ≡ eight) }
 {
-    let clients = vec![in alloc;
+    Ok(vec![in alloc;
         QueueId(1),
         QueueId(2),
         QueueId(3),
@@ -24,8 +25,21 @@ fn virtualiser(alloc: Global) -> Result<SerialVirtRx, Memory>
         QueueId(6),
         QueueId(7),
         QueueId(8),
-    ]?;
-    SerialVirtRx::new(alloc, QueueId(0), clients)
+    ]?)
+}
+
+// Shares out queue 0 between the clients.
+fn sharer(alloc: Global) -> Result<SerialVirtRx, Memory>
+    ensures { IfOk result (λ v. IsNewRx (queue 0) eight v) }
+{
+    SerialVirtRx::new(alloc, QueueId(0), clients(alloc)?)
+}
+
+// Merges the clients' queues into queue 0.
+fn merger(alloc: Global) -> Result<SerialVirtTx, Memory>
+    ensures { IfOk result (λ v. IsNewTx (queue 0) eight v) }
+{
+    SerialVirtTx::new(alloc, QueueId(0), clients(alloc)?)
 }
 
 // Puts a byte to the virtualiser, which then has time to be at rest; false where there is no room.
@@ -57,7 +71,7 @@ fn hear(virt: &mut SerialVirtRx, world: &mut World, client: u16) -> Option<Item>
 fn each_of_eight_clients_gets_its_byte(rt: HostRuntime) -> Result<(), Memory> {
     let alloc = rt.alloc();
     let mut wires = queues(alloc, 9, 1)?;
-    let mut virt = virtualiser(alloc)?;
+    let mut virt = sharer(alloc)?;
     for client in 0..8u8 {
         for byte in [28, b'0' + client, 13, b'a' + client] {
             assert!(rt; say(&mut virt, &mut wires, byte));
@@ -79,7 +93,7 @@ fn each_of_eight_clients_gets_its_byte(rt: HostRuntime) -> Result<(), Memory> {
 fn a_byte_waits_until_its_client_has_room(rt: HostRuntime) -> Result<(), Memory> {
     let alloc = rt.alloc();
     let mut wires = queues(alloc, 9, 1)?;
-    let mut virt = virtualiser(alloc)?;
+    let mut virt = sharer(alloc)?;
     for byte in b"\x1c1\rh\x1c\x1ci" {
         assert!(rt; say(&mut virt, &mut wires, *byte));
         if *byte == b'h' {
@@ -91,6 +105,52 @@ fn a_byte_waits_until_its_client_has_room(rt: HostRuntime) -> Result<(), Memory>
         assert!(rt; hear(&mut virt, &mut wires, 1) == Some(Item::Byte(byte)));
     }
     assert!(rt; hear(&mut virt, &mut wires, 1).is_none());
+    assert!(rt; virt.at_rest());
+    Ok(())
+}
+
+// A client puts a byte; then the virtualiser has time to be at rest; false where there is no room.
+fn offer(virt: &mut SerialVirtTx, world: &mut World, client: u16, byte: u8) -> bool
+    requires there { client < 8 }
+    requires stands { TxStands world.old virt.old }
+    ensures { TxStands world.new virt.new }
+{
+    let given = give(world, QueueId(1 + client), byte);
+    for _call in 0..60 {
+        virt.step(world);
+    }
+    given
+}
+
+// What came out of the virtualiser, if anything; then it has time to be at rest.
+fn collect(virt: &mut SerialVirtTx, world: &mut World) -> Option<Item>
+    requires { TxStands world.old virt.old }
+    ensures { TxStands world.new virt.new }
+{
+    let got = get(world, QueueId(0));
+    for _call in 0..60 {
+        virt.step(world);
+    }
+    got
+}
+
+// In any order between clients, but each byte once.
+#[test]
+fn the_bytes_of_eight_clients_all_come_out(rt: HostRuntime) -> Result<(), Memory> {
+    let alloc = rt.alloc();
+    let mut wires = queues(alloc, 9, 1)?;
+    let mut virt = merger(alloc)?;
+    for client in 0..8u8 {
+        assert!(rt; offer(&mut virt, &mut wires, client as u16, b'a' + client));
+    }
+    let mut out = Vec::new(alloc);
+    for _byte in 0..9 {
+        if let Some(Item::Byte(byte)) = collect(&mut virt, &mut wires) {
+            out.push(byte)?;
+        }
+    }
+    out.sort()?;
+    assert!(rt; out.as_slice() == b"abcdefgh".as_slice());
     assert!(rt; virt.at_rest());
     Ok(())
 }
