@@ -4,3 +4,6 @@ pub mod Queues
 pub mod Pools
 pub mod Acting
 pub mod Once
+pub mod Ranges
+pub mod Keys
+pub mod Spreads

@@ -1,7 +1,6 @@
-use Rattle.std.proofs.Common.{◌≡◌, ℕ, suc, ◌+◌, ◌-◌, ◌*◌, ◌/◌, ◌≤◌, ◌⊎◌, inl, inr, ⊎_elim, List, [], ◌∷◌, ◌++◌, length, flat_map, Option, Some, None, slice_get, refl, ap, ◌∙◌, subst, arith}
+use Rattle.std.proofs.Common.{◌≡◌, ℕ, suc, ◌+◌, ◌-◌, ◌*◌, ◌≤◌, ◌⊎◌, inl, inr, ⊎_elim, List, [], ◌∷◌, ◌++◌, length, flat_map, Option, Some, None, slice_get, refl, ap, ◌∙◌, subst, arith}
 use Rattle.std.specs.Option.{IsSomeAnd, option_map_or}
 use Rattle.std.proofs.lemmas.Option.{slice_get_within}
-use Rattle.cargo_core.specs.declared.item.QueueKind.{QueueKind}
 use Rattle.sdf_model.specs.declared.place.Place.TheVariants as At
 use Rattle.sdf_model.specs.declared.plan.Plan.{Plan}
 use Rattle.sdf_model.specs.declared.plan.Net.{Net}
@@ -17,7 +16,6 @@ use Rattle.sdf_check.specs.Valid.{Valid}
 use Rattle.sdf_check.proofs.ListLemmas.{get-either}
 use Rattle.sdf_check.proofs.SoughtLemmas.{here-some}
 use Rattle.sdf_check.proofs.SweepLemmas.{none-is-some}
-use Rattle.region_layout.specs.Rows.{entry_size, queue_span}
 use Rattle.region_layout.proofs.WalkLemmas.{kept, net_walked, net_client_walked, serial_walked, serial_client_walked, blk_walked, blk_client_walked}
 use Rattle.region_layout.proofs.ValidLemmas.{not_of, not_of_part}
 use Rattle.layout_laws.specs.Sound.{NoNameTwice}
@@ -168,11 +166,3 @@ domains_once plan valid =
     (once-class all 0 (λ (x : Net). net_domains x ++ flat_map net_client_domains x.client) plan.net (net_domains_once plan valid))
     (once-class all (serial_domains_at plan) (λ (x : Serial). serial_domains x ++ flat_map serial_client_domains x.client) plan.serial (serial_domains_once plan valid))
     (once-class all (blk_domains_at plan) (λ (x : Blk). blk_domains x ++ flat_map blk_client_domains x.client) plan.blk (blk_domains_once plan valid))
-
--- a queue ends before what comes behind it
-pub queue_ends : (kind : QueueKind) (capacity : ℕ) → 64 + entry_size kind * capacity ≤ queue_span kind capacity
-unfolding queue_span
-queue_ends kind capacity = ends (64 + entry_size kind * capacity)
-  where
-    ends : (size : ℕ) → size ≤ (size + 63) / 64 * 64
-    ends size = omega arith

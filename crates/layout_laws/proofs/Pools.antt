@@ -30,12 +30,12 @@ based : (regions : List Region) (free : ℕ) → length (bases_from free regions
 based [] free = refl
 based (r ∷ rest) free = ap suc (based rest (free_after free r))
 
-all-based : (regions : List Region) → length (bases_of regions) ≡ length regions
+pub all-based : (regions : List Region) → length (bases_of regions) ≡ length regions
 unfolding bases_of
 all-based regions = based regions (floor_of regions)
 
 -- a region that isn't missed is there
-not-missed : (plan : Plan) (keys : List (List ℕ)) (k : ℕ) (key : List ℕ) → (MissesRegion plan keys → ⊥) → slice_get keys k ≡ Some key → (r : ℕ) × (region_named plan key ≡ Some r)
+pub not-missed : (plan : Plan) (keys : List (List ℕ)) (k : ℕ) (key : List ℕ) → (MissesRegion plan keys → ⊥) → slice_get keys k ≡ Some key → (r : ℕ) × (region_named plan key ≡ Some r)
 not-missed plan keys k key fine there = elim (option_cases (region_named plan key)) [
   | inl none ↦ absurd (fine (k, here-some (slice_get keys k) key (λ name. IsNone (region_named plan name)) there (ap is_some none)))
   | inr some ↦ some
@@ -54,21 +54,21 @@ sound_pool plan key name buffers size r count is large =
       lies = rw is (here-some (slice_get plan.memory_region r) found.0 (λ (region : Region). size * buffers ≤ region.size) found.1 found.2);
     }
 
-net_named : (plan : Plan) (net : Net) → Valid plan → plan.net ≡ Some net → MissesRegion plan (net_regions net) → ⊥
+pub net_named : (plan : Plan) (net : Net) → Valid plan → plan.net ≡ Some net → MissesRegion plan (net_regions net) → ⊥
 net_named plan net valid is =
     not_of plan.net net (λ (x : Net). MissesRegion plan (net_regions x)) is (kept plan 13 At.Net valid (omega arith) (omega arith) (net_walked plan net is))
 
-net_client_named : (plan : Plan) (net : Net) (c : ℕ) (client : NetClient) → Valid plan → plan.net ≡ Some net → slice_get net.client c ≡ Some client
+pub net_client_named : (plan : Plan) (net : Net) (c : ℕ) (client : NetClient) → Valid plan → plan.net ≡ Some net → slice_get net.client c ≡ Some client
     → MissesRegion plan (net_client_regions client) → ⊥
 net_client_named plan net c client valid is there =
     not_of_part plan.net net (λ (x : Net). x.client) c client (λ (x : NetClient). MissesRegion plan (net_client_regions x)) is there
     (kept plan 13 (At.NetClient c) valid (omega arith) (omega arith) (net_client_walked plan net c is (slice_get_within net.client c client there)))
 
-blk_named : (plan : Plan) (blk : Blk) → Valid plan → plan.blk ≡ Some blk → MissesRegion plan (blk_regions blk) → ⊥
+pub blk_named : (plan : Plan) (blk : Blk) → Valid plan → plan.blk ≡ Some blk → MissesRegion plan (blk_regions blk) → ⊥
 blk_named plan blk valid is =
     not_of plan.blk blk (λ (x : Blk). MissesRegion plan (blk_regions x)) is (kept plan 13 At.Blk valid (omega arith) (omega arith) (blk_walked plan blk is))
 
-blk_client_named : (plan : Plan) (blk : Blk) (c : ℕ) (client : BlkClient) → Valid plan → plan.blk ≡ Some blk → slice_get blk.client c ≡ Some client
+pub blk_client_named : (plan : Plan) (blk : Blk) (c : ℕ) (client : BlkClient) → Valid plan → plan.blk ≡ Some blk → slice_get blk.client c ≡ Some client
     → MissesRegion plan (blk_client_regions client) → ⊥
 blk_client_named plan blk c client valid is there =
     not_of_part plan.blk blk (λ (x : Blk). x.client) c client (λ (x : BlkClient). MissesRegion plan (blk_client_regions x)) is there

@@ -95,11 +95,11 @@ net_client_fine plan net c client valid is there needs =
     (here-some plan.net net (λ (x : Net). IsSomeAnd (slice_get x.client c) (λ (y : NetClient). SomeOf (IsSmaller plan) (net_client_needs x y))) is
     (here-some (slice_get net.client c) client (λ (y : NetClient). SomeOf (IsSmaller plan) (net_client_needs net y)) there needs))
 
-serial_fine : (plan : Plan) (serial : Serial) → Valid plan → plan.serial ≡ Some serial → SomeOf (IsSmaller plan) (serial_needs serial) → ⊥
+pub serial_fine : (plan : Plan) (serial : Serial) → Valid plan → plan.serial ≡ Some serial → SomeOf (IsSmaller plan) (serial_needs serial) → ⊥
 serial_fine plan serial valid is =
     not_of plan.serial serial (λ (x : Serial). SomeOf (IsSmaller plan) (serial_needs x)) is (kept plan 27 At.Serial valid (omega arith) (omega arith) (serial_walked plan serial is))
 
-serial_client_fine : (plan : Plan) (serial : Serial) (c : ℕ) (client : SerialClient) → Valid plan → plan.serial ≡ Some serial → slice_get serial.client c ≡ Some client
+pub serial_client_fine : (plan : Plan) (serial : Serial) (c : ℕ) (client : SerialClient) → Valid plan → plan.serial ≡ Some serial → slice_get serial.client c ≡ Some client
     → SomeOf (IsSmaller plan) (serial_client_needs client) → ⊥
 serial_client_fine plan serial c client valid is there =
     not_of_part plan.serial serial (λ (x : Serial). x.client) c client (λ (x : SerialClient). SomeOf (IsSmaller plan) (serial_client_needs x)) is there

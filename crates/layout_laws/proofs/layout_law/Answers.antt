@@ -1,7 +1,8 @@
 use Rattle.layout_laws.proofs.Queues.{queues_sound}
 use Rattle.layout_laws.proofs.Pools.{pools_sound}
 use Rattle.layout_laws.proofs.Acting.{class_acts}
-use Rattle.layout_laws.proofs.Once.{regions_once, domains_once, queue_ends}
+use Rattle.layout_laws.proofs.Once.{regions_once, domains_once}
+use Rattle.layout_laws.proofs.Spreads.{rows_apart}
 use Rattle.layout_laws.proofs.layout_law.Goals as goal
 
 pub returns-clause-queues : goal.returns-clause-queues
@@ -19,5 +20,5 @@ returns-clause-domains c = domains_once
 pub returns-clause-regions : goal.returns-clause-regions
 returns-clause-regions c = regions_once
 
-pub returns-clause-spans : goal.returns-clause-spans
-returns-clause-spans c = queue_ends
+pub returns-clause-apart : goal.returns-clause-apart
+returns-clause-apart c = rows_apart
