@@ -38,8 +38,8 @@ pub enum Ringer {
     Ringing,
 }
 
-/// A call on an end of a queue. `Ask`, `Waive` and `Settle` are sDDF's request, cancel and require signal, split into
-/// single steps.
+/// A call on an end of a queue. `Ask`, `Waive` and `Wanted` stand for request, cancel and require signal of sDDF's net
+/// queue header; `Settle` is this project's own (the trait `Wires` says what each does).
 #[derive(Clone, Copy, Debug, PartialEq, Eq)]
 pub enum Op {
     See,

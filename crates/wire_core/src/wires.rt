@@ -6,9 +6,12 @@ ghost use Rattle.wire_core.specs.Deeds.{Deed, look_deed, plain_deed, move_deed};
 use crate::{Op, QueueId, Side};
 use cargo_core::{Body, Item};
 
-/// The calls on the ends of queues. Each is exactly one step, takes no memory and waits for nobody. The values, the
-/// conditions and the effects are this project's own; `ask`, `waive` and `settle` are sDDF's request, cancel and
-/// require signal.
+/// The calls on the ends of queues. Each is exactly one step, takes no memory and waits for nobody.
+///
+/// Of the signalling calls in sDDF's net queue header, `ask` stands for `net_request_signal_*` (a notification is
+/// wanted), `waive` for `net_cancel_signal_*` (none is wanted) and `wanted` for `net_require_signal_*` (is one wanted?).
+/// `ring` and `wake` are the Microkit's notify and the notification that comes. `settle` is this project's own step, as
+/// are the flag's values, the conditions and the effects of all ten.
 pub trait Wires {
     /// What the owner of an end knows of it, by its role and the queue's place.
     ghost ends: { Self → Role → ℕ → End };
