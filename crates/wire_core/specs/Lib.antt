@@ -4,4 +4,5 @@ pub mod Queues
 pub mod Bells
 pub mod Lists
 pub mod Journal
+pub mod Marks
 pub mod Picks
