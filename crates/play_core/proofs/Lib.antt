@@ -1,0 +1,9 @@
+pub mod OneQueue
+pub mod Stillness
+pub mod Walks
+pub mod Lists
+pub mod Merges
+pub mod Moments
+pub mod Flags
+pub mod Quieting
+pub mod Tables

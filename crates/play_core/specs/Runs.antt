@@ -1,0 +1,51 @@
+-- Which actors may be picked to make the next call, by what each of them wants.
+use Rattle.std.specs.Prelude.{◌+◌, ◌&&◌, ◌||◌, ℕ, Bool, true, false, not, Option, Some, None, List, [], ◌∷◌}
+use Rattle.wire_core.specs.declared.names.QueueRow.{QueueRow}
+use Rattle.wire_core.specs.declared.names.Entry.{Entry}
+use Rattle.wire_core.specs.declared.names.Op.{Op}
+use Rattle.wire_core.specs.declared.names.Op.TheVariants as Do
+use Rattle.wire_core.specs.Ends.{waiting_role}
+use Rattle.wire_core.specs.Queues.{calls}
+use Rattle.wire_core.specs.Journal.{History, Hostiles, track, owner_of}
+use Rattle.play_core.specs.Wants.{Want, Needful, all_settled}
+
+-- a pending word of one of this actor's waiters is 1, at a queue from number n on
+abbrev pub called_from : ℕ → ℕ → History → List QueueRow → List Entry → Bool
+called_from actor n history [] journal = false
+called_from actor n history (row ∷ rows) journal = calls actor row.producer.0 row.consumer.0 (track history n journal).bells || called_from actor (n + 1) history rows journal
+
+-- actor k, which wants this, is runnable: it isn't at rest, or a pending word of one of its waiters
+-- is 1; a hostile actor isn't runnable for a pending word
+abbrev pub is_runnable : Hostiles → ℕ → List Want → History → List QueueRow → List Entry → Bool
+is_runnable hostile k ws history rows journal = not (all_settled history journal ws) || (not (hostile k) && called_from k 0 history rows journal)
+
+-- whether each actor is runnable, from number k on
+abbrev pub flags_from : Hostiles → ℕ → History → List QueueRow → Needful → List Entry → List Bool
+flags_from hostile k history rows [] journal = []
+flags_from hostile k history rows (ws ∷ actors) journal = is_runnable hostile k ws history rows journal ∷ flags_from hostile (k + 1) history rows actors journal
+
+abbrev pub if_so : Bool → ℕ → List ℕ → List ℕ
+if_so true k ks = k ∷ ks
+if_so false k ks = ks
+
+-- the places where it is so, from k on
+abbrev pub places_from : ℕ → List Bool → List ℕ
+places_from k [] = []
+places_from k (b ∷ bs) = if_so b k (places_from (k + 1) bs)
+
+-- the runnable actors, in their order
+abbrev pub runnable : Hostiles → History → List QueueRow → Needful → List Entry → List ℕ
+runnable hostile history rows actors journal = places_from 0 (flags_from hostile 0 history rows actors journal)
+
+-- the actor whose pending word a call on a queue of this row sets, if it sets one
+abbrev pub rung_at : Op → QueueRow → Option ℕ
+rung_at (Do.Ring s) row = Some (owner_of row (waiting_role s))
+rung_at (Do.Ask s) row = None
+rung_at (Do.Waive s) row = None
+rung_at (Do.Wake s) row = None
+rung_at (Do.Wanted s) row = None
+rung_at (Do.Settle s) row = None
+rung_at Do.See row = None
+rung_at Do.Room row = None
+rung_at Do.Take row = None
+rung_at Do.Put row = None

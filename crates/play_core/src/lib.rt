@@ -1,0 +1,58 @@
+//! The definitions of a played system, low, and what holds of any class of actors: whose turn it
+//! may be after a call, and what rests where nobody may make one. They stand just above the calls,
+//! so that a law on a class waits for no description.
+#![tactic(auto)]
+
+ghost use Rattle.std.specs.Prelude.{◌≡◌, ◌≤◌, ◌++◌, ℕ, Bool, true, false, List, [], ◌∷◌, Some, length, slice_get};
+ghost use Rattle.cargo_core.specs.Lists.{Merge, PrefixMerge};
+ghost use Rattle.wire_core.specs.declared.names.QueueRow.{QueueRow};
+ghost use Rattle.wire_core.specs.declared.names.Entry.{Entry};
+ghost use Rattle.wire_core.specs.declared.names.Event.{Event};
+ghost use Rattle.wire_core.specs.Ends.{Role, role_of};
+ghost use Rattle.wire_core.specs.Journal.{History, Hostiles, is_calm, track, owner_of};
+ghost use Rattle.play_core.specs.Wants.{Want, Needful};
+ghost use Rattle.play_core.specs.Runs.{is_runnable, rung_at};
+ghost use Rattle.play_core.specs.Resting.{QueueRests, QueuePays, is_due};
+ghost use Rattle.play_core.specs.Totals.{total};
+ghost use Rattle.play_core.specs.Still.{IsQuiet, IsStill, Needs, Owes};
+
+/// Where no actor is runnable, all ends are settled and nobody is called; and then of each queue
+/// with no hostile end: no entry stands in it where its consumer needs one, and an entry is owed to
+/// it only where it is full.
+pub fn quiet_law()
+    ensures still { (hostile : Hostiles) (history : History) (rows : List QueueRow) (actors : Needful) (journal : List Entry)
+        → IsQuiet hostile history rows actors journal → IsStill hostile history rows actors journal }
+    ensures rests { (hostile : Hostiles) (history : History) (rows : List QueueRow) (actors : Needful) (journal : List Entry)
+        → IsStill hostile history rows actors journal
+        → (n : ℕ) (row : QueueRow) (needed owed : Bool) → slice_get rows n ≡ Some row
+        → is_calm hostile row ≡ true → Needs hostile actors n needed → Owes hostile actors n owed
+        → QueueRests row (track history n journal) needed owed }
+    ensures pays { (hostile : Hostiles) (history : History) (rows : List QueueRow) (actors : Needful) (journal : List Entry)
+        → IsStill hostile history rows actors journal
+        → (n : ℕ) (row : QueueRow) (needed : Bool) (due : ℕ) → slice_get rows n ≡ Some row
+        → is_calm hostile row ≡ true → Needs hostile actors n needed
+        → Owes hostile actors n (is_due (track history n journal) due)
+        → QueuePays row (track history n journal) needed due }
+{}
+
+/// A call on a queue changes who is runnable only among the two owners of its row: an actor that
+/// owns neither end, and of whose ends none is at that queue, stays runnable or not; one that is
+/// rung is runnable, unless it is hostile.
+pub fn step_law()
+    ensures strangers { (hostile : Hostiles) (history : History) (rows : List QueueRow) (journal : List Entry) (k : ℕ) (e : Event) (row : QueueRow)
+        → slice_get rows e.queue.0 ≡ Some row → owner_of row (role_of e.op) ≡ k
+        → (i : ℕ) (wants : List Want) → ((r : Role) → owner_of row r ≡ i → ⊥)
+        → ((p : ℕ) (w : Want) → slice_get wants p ≡ Some w → w.queue ≡ e.queue.0 → ⊥)
+        → is_runnable hostile i wants history rows (journal ++ record { actor = record { 0 = k }; event = e } ∷ []) ≡ is_runnable hostile i wants history rows journal }
+    ensures rung { (hostile : Hostiles) (history : History) (rows : List QueueRow) (journal : List Entry) (k : ℕ) (e : Event) (row : QueueRow)
+        → slice_get rows e.queue.0 ≡ Some row → owner_of row (role_of e.op) ≡ k
+        → (i : ℕ) (wants : List Want) → hostile i ≡ false → rung_at e.op row ≡ Some i
+        → is_runnable hostile i wants history rows (journal ++ record { actor = record { 0 = k }; event = e } ∷ []) ≡ true }
+{}
+
+/// A merge of beginnings that has as many elements as the lists have together is a merge of the
+/// whole lists.
+pub fn merge_law()
+    ensures { (lists : List (List ℕ)) (all : List ℕ) → PrefixMerge lists all → total lists ≤ length all
+        → Merge lists all }
+{}
