@@ -6,7 +6,7 @@ use Rattle.wire_core.specs.declared.names.QueueRow.{QueueRow}
 use Rattle.wire_core.specs.Ends.{Consumer, Producer}
 use Rattle.wire_core.specs.Journal.{Hostiles, owner_of}
 use Rattle.play_core.specs.Moved.{Moved, Seat, AreAlike, with_put}
-use Rattle.play_core.specs.Wants.{Want, Needful, seat_of}
+use Rattle.play_core.specs.Wants.{Want, Needful, seat_of, outlet_want}
 
 -- what a trace gives the classes beside the parts of their actors: the frames that the network's
 -- device receives, and the first image of the disk
@@ -34,7 +34,7 @@ pub record Sheet : Type 1 where
 
 -- fewer entries were put to an output than are due
 abbrev pub due_want : Moved → Due → Want
-due_want m d = record { queue = d.queue; role = Producer; need = nat_lt (length (m.sent d.queue)) d.number }
+due_want m d = outlet_want d.queue (nat_lt (length (m.sent d.queue)) d.number)
 
 -- the row would still hold after one more put of some item to queue n
 abbrev pub CouldPut : Sheet → Moved → ℕ → Type 0

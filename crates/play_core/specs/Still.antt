@@ -3,10 +3,10 @@
 use Rattle.std.specs.Prelude.{◌≡◌, ◌<◌, ◌≤◌, ℕ, Bool, true, false, Some, List, [], length, slice_get}
 use Rattle.wire_core.specs.declared.names.QueueRow.{QueueRow}
 use Rattle.wire_core.specs.declared.names.Entry.{Entry}
-use Rattle.wire_core.specs.Ends.{Role, Consumer, Producer}
+use Rattle.wire_core.specs.Ends.{Role}
 use Rattle.wire_core.specs.Journal.{History, Hostiles, is_calm, BellsHold, QueuesFlow, owner_of}
 use Rattle.play_core.specs.Moved.{Moved}
-use Rattle.play_core.specs.Wants.{Want, Needful, all_settled}
+use Rattle.play_core.specs.Wants.{Want, Needful, all_settled, intake_want, outlet_want}
 use Rattle.play_core.specs.Runs.{called_from, runnable}
 use Rattle.play_core.specs.Sheets.{Sheet}
 
@@ -63,8 +63,8 @@ pub record Holds (hostile : Hostiles) (rows : List QueueRow) (n least : ℕ) : T
 
 -- the consumer of queue n is there and needs an entry, or not
 abbrev pub Needs : Hostiles → Needful → ℕ → Bool → Type 0
-Needs hostile actors n need = HasWant hostile actors (record { queue = n; role = Consumer; need = need })
+Needs hostile actors n need = HasWant hostile actors (intake_want n need)
 
 -- the producer of queue n is there and owes an entry, or not
 abbrev pub Owes : Hostiles → Needful → ℕ → Bool → Type 0
-Owes hostile actors n owed = HasWant hostile actors (record { queue = n; role = Producer; need = owed })
+Owes hostile actors n owed = HasWant hostile actors (outlet_want n owed)

@@ -19,6 +19,20 @@ pub record Want : Type 0 where
 abbrev pub seat_of : Want → Seat
 seat_of w = record { queue = w.queue; role = w.role }
 
+-- an end from which an actor takes, and one to which it puts
+abbrev pub intake : ℕ → Seat
+intake n = record { queue = n; role = Consumer }
+
+abbrev pub outlet : ℕ → Seat
+outlet n = record { queue = n; role = Producer }
+
+-- an entry is needed at an intake, or not; room is needed at an outlet, since an entry is owed
+abbrev pub intake_want : ℕ → Bool → Want
+intake_want n need = record { queue = n; role = Consumer; need = need }
+
+abbrev pub outlet_want : ℕ → Bool → Want
+outlet_want n owed = record { queue = n; role = Producer; need = owed }
+
 -- of each actor, its ends with what it needs
 abbrev pub Needful : Type 0
 Needful = List (List Want)

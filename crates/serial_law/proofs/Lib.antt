@@ -1,0 +1,6 @@
+pub mod Lists
+pub mod Shares
+pub mod Own
+pub mod InputBegins
+pub mod Arrivals
+pub mod Wholes

@@ -1,0 +1,38 @@
+//! The serial class as a law of its own, apart from any system: what is said of each kind of its
+//! actors, that their needs follow from it, and what the class brings at any moment and where
+//! nobody may make a call.
+#![tactic(auto)]
+
+ghost use Rattle.std.specs.Prelude.{List};
+ghost use Rattle.wire_core.specs.declared.names.QueueRow.{QueueRow};
+ghost use Rattle.wire_core.specs.declared.names.Entry.{Entry};
+ghost use Rattle.wire_core.specs.Journal.{History, Hostiles, QueuesFlow};
+ghost use Rattle.play_core.specs.Moved.{moved};
+ghost use Rattle.play_core.specs.Wants.{Needful};
+ghost use Rattle.play_core.specs.Sheets.{IsOwn, NeedsFollow};
+ghost use Rattle.play_core.specs.Still.{IsStill, Plays};
+ghost use Rattle.serial_law.specs.Parts.{SerialPart};
+ghost use Rattle.serial_law.specs.Table.{serial_sheet};
+ghost use Rattle.serial_law.specs.Serial.{SerialClass, IsSerial, ArrivesInPart, ArrivesWhole};
+
+/// The table of the serial class: what is said of an actor speaks of its own ends alone, and an
+/// output is owed exactly where the actor's row would still hold after one more put there.
+pub fn table_law()
+    ensures own { (p : SerialPart) → IsOwn (serial_sheet p) }
+    ensures follow { (p : SerialPart) → NeedsFollow (serial_sheet p) }
+{}
+
+/// Where the queues hand over in order and the rows of the class's actors hold, each client's
+/// record is a beginning of its part of the input, and the line is a merge of beginnings of the
+/// scripts. Where in addition nobody is runnable, each record is whole, and the line is a merge of
+/// the whole scripts.
+pub fn serial_law()
+    ensures part { (hostile : Hostiles) (history : History) (rows : List QueueRow) (journal : List Entry) (class : SerialClass)
+        → QueuesFlow hostile history rows journal
+        → IsSerial (λ p. (serial_sheet p).row (moved history journal)) hostile rows class
+        → ArrivesInPart class (moved history journal) }
+    ensures whole { (hostile : Hostiles) (history : History) (rows : List QueueRow) (actors : Needful) (journal : List Entry) (class : SerialClass)
+        → IsStill hostile history rows actors journal
+        → IsSerial (λ p. Plays hostile actors (moved history journal) (serial_sheet p)) hostile rows class
+        → ArrivesWhole class (moved history journal) }
+{}
