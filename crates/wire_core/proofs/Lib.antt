@@ -5,3 +5,4 @@ pub mod Beside
 pub mod BellLemmas
 pub mod BellTheorem
 pub mod Seeds
+pub mod Sinces

@@ -1,0 +1,5 @@
+pub mod Sums
+pub mod Paying
+pub mod Counting
+pub mod Walking
+pub mod Law
