@@ -1,3 +1,4 @@
+-- What a call by hand leaves of the ends of queues.
 use Rattle.std.specs.Prelude.{◌≡◌, ◌<◌, ℕ, true, List, length}
 use Rattle.cargo_core.specs.declared.item.QueueKind.TheVariants as Kind
 use Rattle.wire_core.specs.Ends.{Role}

@@ -1,3 +1,4 @@
+-- The queues of these tests, and how an actor stands at them.
 use Rattle.std.specs.Prelude.{◌≡◌, ◌<◌, ℕ, List, [], ◌∷◌, length}
 use Rattle.cargo_core.specs.declared.item.QueueKind.TheVariants as Kind
 use Rattle.wire_core.specs.declared.names.QueueId.{QueueId}
@@ -11,9 +12,11 @@ use Rattle.serial_virt.specs.Sending.{FitsTx}
 use Rattle.serial_virt.specs.declared.rx.SerialVirtRx.{SerialVirtRx}
 use Rattle.serial_virt.specs.declared.tx.SerialVirtTx.{SerialVirtTx}
 
+-- the queue of a number
 abbrev pub queue : ℕ → QueueId
 queue n = record { 0 = n }
 
+-- the queues of eight clients
 abbrev pub eight : List QueueId
 eight = queue 1 ∷ queue 2 ∷ queue 3 ∷ queue 4 ∷ queue 5 ∷ queue 6 ∷ queue 7 ∷ queue 8 ∷ []
 

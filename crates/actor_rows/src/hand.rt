@@ -1,4 +1,6 @@
-// One byte is put or taken by hand. The hand keeps the discipline of its end, but never asks for a notification.
+//! One byte is put or taken by hand: the other end of a queue, whose actor is missing. The hand
+//! keeps the discipline of its end, but never asks for a notification.
+
 ghost use Rattle.std.specs.Prelude.{◌≡◌, ◌<◌, length};
 ghost use Rattle.wire_core.specs.Ends.{Producer, Consumer, Allows, ringing_role};
 ghost use Rattle.wire_core.specs.Queues.{end_at};
@@ -19,7 +21,8 @@ fn notify(world: &mut World, q: QueueId, side: Side)
     }
 }
 
-/// Puts a byte into a queue of bytes, and notifies the consumer where it wants that; false where there is no room.
+/// Puts a byte into a queue of bytes, and notifies the consumer where it wants that; false where
+/// there is no room.
 pub fn give(world: &mut World, q: QueueId, byte: u8) -> bool
     requires there { q.0 < length world.old }
     requires kind { (end_at world.old Producer q.0).kind ≡ QueueKind.Byte }

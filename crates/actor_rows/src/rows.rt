@@ -1,3 +1,5 @@
+//! Rows of queues of bytes for one actor, as a layout would give them.
+
 ghost use Rattle.std.specs.Prelude.{◌≡◌, IfOk};
 ghost use Rattle.actor_rows.specs.Hands.{AreByteQueues};
 

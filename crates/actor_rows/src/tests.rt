@@ -1,4 +1,5 @@
-// Each actor stands alone over queues that hold one byte each.
+//! Each actor stands alone over queues that hold one byte each.
+
 ghost use Rattle.std.specs.Prelude.{◌≡◌, ◌<◌, IfOk};
 ghost use Rattle.serial_virt.specs.Receiving.{IsNewRx};
 ghost use Rattle.serial_virt.specs.Sending.{IsNewTx};

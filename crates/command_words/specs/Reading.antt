@@ -1,3 +1,4 @@
+-- What the private functions say of the words that they read; no public clause cites it.
 use Rattle.std.specs.Prelude.{◌≡◌, ◌↔◌, ◌+◌, ◌<◌, ◌≤◌, ℕ, true, false, Bool, Option, Some, None, unwrap_or, List, [], ◌∷◌, ◌++◌, length, take, drop, slice_get, codes, decimal}
 use Rattle.command_words.specs.declared.command.Options.{Options}
 use Rattle.command_words.specs.declared.chosen.Name.{Name}
@@ -5,8 +6,6 @@ use Rattle.command_words.specs.declared.chosen.Name.TheVariants as An
 use Rattle.command_words.specs.declared.chosen.Chosen.{Chosen}
 use Rattle.command_words.specs.Options.{AreOptions}
 use Rattle.command_words.specs.Words.{IsName}
-
--- What the private functions say of the words that they read.
 
 -- the first bad word, where good words were to stand
 pub record IsFirstBad (Good : List (List ℕ) → Type 0) (words : List (List ℕ)) (k : ℕ) : Type 0 where
@@ -42,6 +41,7 @@ abbrev pub Joined : Option ℕ → Option ℕ → Option ℕ → Type 0
 Joined None behind all = all ≡ behind
 Joined (Some n) behind all = (behind ≡ None) × (all ≡ Some n)
 
+-- and one choice in all
 abbrev pub JoinedFlag : Bool → Bool → Bool → Type 0
 JoinedFlag false behind all = all ≡ behind
 JoinedFlag true behind all = (behind ≡ false) × (all ≡ true)
@@ -56,6 +56,7 @@ pub record Follow (before : Chosen) (words : List (List ℕ)) (all : Chosen) : T
   pub one_limit : Joined before.steps steps all.steps
   pub one_journal : JoinedFlag before.journal journal all.journal
 
+-- the words may stand behind these options
 abbrev pub MayFollow : Chosen → List (List ℕ) → Type 0
 MayFollow before words = (all : Chosen) × Follow before words all
 
@@ -65,12 +66,15 @@ pub record HasRead (before after : Chosen) (words : List (List ℕ)) (at next : 
   pub filled : 0 < length group
   pub next_is : next ≡ at + length group
   pub stands : drop at words ≡ group ++ drop next words
-  pub follows : (more : List (List ℕ)) (all : Chosen) → Follow before (group ++ more) all ↔ Follow after more all
+  pub follows : (more : List (List ℕ)) (all : Chosen)
+      → Follow before (group ++ more) all ↔ Follow after more all
 
 -- the words are options that set this
 abbrev pub OptionsAre : List (List ℕ) → Options → Type 0
-OptionsAre words o = (seed : Option ℕ) × AreOptions words seed o.steps o.journal × (o.seed ≡ unwrap_or seed 0)
+OptionsAre words o =
+    (seed : Option ℕ) × AreOptions words seed o.steps o.journal × (o.seed ≡ unwrap_or seed 0)
 
+-- the words are options
 abbrev pub MayBeOptions : List (List ℕ) → Type 0
 MayBeOptions words = (options : Options) × OptionsAre words options
 
@@ -88,5 +92,6 @@ pub record AsksToPlay (words : List (List ℕ)) (options : Options) : Type 0 whe
   pub trace_named : IsName trace
   pub options_are : OptionsAre more options
 
+-- the words ask to play something
 abbrev pub MayAskToPlay : List (List ℕ) → Type 0
 MayAskToPlay words = (options : Options) × AsksToPlay words options

@@ -1,3 +1,4 @@
+-- The grammar of the program's words, and the first bad word of those that have none of its forms.
 use Rattle.std.specs.Prelude.{◌≡◌, ◌+◌, ◌<◌, ◌≤◌, ℕ, Option, unwrap_or, List, [], ◌∷◌, ◌++◌, length, take, map, string_bytes, codes}
 use Rattle.std.specs.Global.{Global}
 use Rattle.std.specs.declared.string.String.{String}
@@ -46,8 +47,8 @@ Spells words (Do.Play options) = (desc trace : List ℕ) × IsPlay words desc tr
 abbrev pub Begins : List (List ℕ) → Type 0
 Begins words = (more : List (List ℕ)) × (command : Command) × Spells (words ++ more) command
 
--- the first bad word: the least place up to which no command begins with the words, or the number of the words where
--- a command begins with all of them and they are none
+-- the first bad word: the least place up to which no command begins with the words, or the number
+-- of the words where a command begins with all of them and they are none
 pub record IsBadWord (words : List (List ℕ)) (k : ℕ) : Type 0 where
   pub within : k ≤ length words
   pub before : Begins (take k words)

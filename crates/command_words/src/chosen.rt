@@ -1,3 +1,5 @@
+//! The options of `play` as they are read: each at most once, in any order.
+
 ghost use Rattle.std.specs.Prelude.{◌≡◌, ◌≢◌, ◌↔◌, ◌<◌, ◌≤◌, ℕ, Option, List, Some, None, true, false, length, IfOk, IfErr, IfSome, IfNone, unwrap_or};
 ghost use Rattle.command_words.specs.Words.{texts_of};
 ghost use Rattle.command_words.specs.Reading.{text_of, IsUnset, IsNumberAt, IsBadFrom, MayFollow, HasRead};
@@ -36,7 +38,11 @@ impl Chosen {
 
     // What all options set.
     pub fn options(&self) -> Options
-        ensures { result ≡ record { seed = unwrap_or self.now.seed 0; steps = self.now.steps; journal = self.now.journal } }
+        ensures { result ≡ record {
+          seed = unwrap_or self.now.seed 0;
+          steps = self.now.steps;
+          journal = self.now.journal;
+        } }
     {
         Options {
             seed: self.seed.unwrap_or(0),
@@ -77,7 +83,8 @@ impl Chosen {
     // The option that a word names, where it wasn't set yet.
     fn unset(&self, word: &str) -> Option<Name>
         ensures some { IfSome result (λ name. (word.now ≡ text_of name) × IsUnset name self.now) }
-        ensures none { IfNone result ((name : Name) → IsUnset name self.now → word.now ≢ text_of name) }
+        ensures none { IfNone result ((name : Name) → IsUnset name self.now
+            → word.now ≢ text_of name) }
     {
         if word == "--seed" && self.seed.is_none() {
             return Some(Name::Seed);

@@ -1,8 +1,10 @@
+//! What the words ask for, as a value: the program above has one case for each command.
+
 /// The most steps that `--steps` may set; this project's own.
 pub const MOST_STEPS: u64 = 268_435_456;
 
-/// What the words ask for. The names of the texts are the words behind the first: the description's name is word 1, and
-/// the trace's is word 2.
+/// What the words ask for. The names of the texts are the words behind the first: the description's
+/// name is word 1, and the trace's is word 2.
 #[derive(Clone, Copy, Debug, PartialEq, Eq)]
 pub enum Command {
     /// `check DESC`: to judge a description.

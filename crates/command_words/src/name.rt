@@ -1,3 +1,5 @@
+//! The words that name a text.
+
 ghost use Rattle.std.specs.Prelude.{◌≡◌, ◌<◌, ◌↔◌, List, ℕ, Some, length, IsTrue, slice_get};
 ghost use Rattle.command_words.specs.Words.{texts_of, IsName};
 
@@ -18,7 +20,8 @@ pub fn is_word(word: &str, other: &str) -> bool
 
 // Whether a word at a place may name a text.
 pub fn is_name_at(words: &[String], at: usize) -> bool
-    ensures { IsTrue result ↔ ((word : List ℕ) × (slice_get (texts_of words.now) at ≡ Some word) × IsName word) }
+    ensures { IsTrue result ↔ ((word : List ℕ) × (slice_get (texts_of words.now) at ≡ Some word)
+        × IsName word) }
 {
     words.get(at).is_some_and(|w| is_name(w.as_str()))
 }

@@ -1,3 +1,5 @@
+//! The words that are a number: decimal text without a sign or leading zeros.
+
 ghost use Rattle.std.specs.Prelude.{◌≡◌, ◌≢◌, ◌↔◌, ◌<◌, ◌^◌, ℕ, length, slice_index, IsTrue, IfSome, IfNone, decimal};
 
 // The number below 2^64 that a word spells in decimal, without leading zeros.
@@ -13,7 +15,8 @@ pub fn read_number(word: &str) -> Option<u64>
 
 // Whether a word has no sign in front, and no leading zero but in `0`.
 fn is_plain(word: &[u8]) -> bool
-    ensures { IsTrue result ↔ ((slice_index word.now 0 ≢ 43) × (slice_index word.now 0 ≡ 48 → length word.now ≡ 1)) }
+    ensures { IsTrue result ↔ ((slice_index word.now 0 ≢ 43)
+        × (slice_index word.now 0 ≡ 48 → length word.now ≡ 1)) }
 {
     word.is_empty() || (word[0] != b'+' && (word[0] != b'0' || word.len() == 1))
 }

@@ -1,3 +1,5 @@
+//! Words with their commands and their first bad words, and want of memory.
+
 use super::*;
 use std::alloc::Global;
 use std::test::Fail;

@@ -1,3 +1,5 @@
+//! The reading of all words, command by command.
+
 ghost use Rattle.std.specs.Prelude.{◌≡◌, ◌<◌, ◌≤◌, ℕ, List, Ok, Err, length, drop, OnOk, IfOk, IfErr};
 ghost use Rattle.command_words.specs.Words.{texts_of, Spells, IsBadWord, last_name};
 ghost use Rattle.command_words.specs.Reading.{IsBadFrom, IsOneName, AsksToPlay, MayAskToPlay, OptionsAre, MayBeOptions};
@@ -6,16 +8,18 @@ use crate::chosen::Chosen;
 use crate::command::{Command, Options};
 use crate::name::{is_name_at, is_word, word_at};
 
-/// The command that the words spell, or the place of the first bad word: the least place such that no command begins
-/// with the words up to it, or the number of the words where a command begins with all of them and they are none.
+/// The command that the words spell, or the place of the first bad word: the least place such that
+/// no command begins with the words up to it, or the number of the words where a command begins
+/// with all of them and they are none.
 ///
-/// An option's number that is none, or past its limits, is the bad word; of an option that stands there twice the
-/// second name is.
+/// An option's number that is none, or past its limits, is the bad word; of an option that stands
+/// there twice the second name is.
 pub fn read_words(words: &[String]) -> Result<Command, u32>
     ensures command { IfOk result (Spells (texts_of words.now)) }
     ensures bad { IfErr result (IsBadWord (texts_of words.now)) }
     // Words spell one command at most, and have a bad word exactly where they spell none.
-    ensures unique { (command : Command) → Spells (texts_of words.now) command → result ≡ Ok command }
+    ensures unique { (command : Command) → Spells (texts_of words.now) command
+        → result ≡ Ok command }
     ensures bad_unique { (k : ℕ) → IsBadWord (texts_of words.now) k → result ≡ Err k }
     ensures names { IfOk result (λ command. last_name command < length words.now) }
 {

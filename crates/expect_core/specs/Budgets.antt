@@ -1,3 +1,5 @@
+-- The step budget: how many steps are enough for a play, from the numbers of its plan and its
+-- trace.
 use Rattle.std.specs.Prelude.{ℕ, ◌+◌, ◌*◌, ◌≤◌, max, Option, Some, None, List, [], length, sum_by}
 use Rattle.std.specs.Option.{option_map, option_map_or}
 use Rattle.sdf_model.specs.declared.plan.Plan.{Plan}
@@ -8,6 +10,7 @@ use Rattle.sdf_model.specs.declared.plan.Blk.{Blk}
 use Rattle.trace_text.specs.declared.trace.Trace.{Trace}
 use Rattle.expect_core.specs.declared.counts.ClassCounts.{ClassCounts}
 
+-- how many clients a class has; none where it isn't there
 abbrev pub clients_or_none : Option ℕ → ℕ
 clients_or_none None = 0
 clients_or_none (Some n) = n
@@ -20,11 +23,11 @@ first_read_hops (Some n) = 4
 -- how often the entries of a play are moved from queue to queue, at most
 abbrev pub hops_of : ClassCounts → ℕ
 hops_of c =
-    (4 + 10 * clients_or_none c.net) * c.frames + 6 * c.sends + 3 * c.bytes + 6 * c.asks + 2 * c.device_buffers + c.client_buffers
-    + first_read_hops c.blk
+    (4 + 10 * clients_or_none c.net) * c.frames + 6 * c.sends + 3 * c.bytes + 6 * c.asks
+    + 2 * c.device_buffers + c.client_buffers + first_read_hops c.blk
 
--- the actors of a class with so many clients: its device, its driver and virtualisers, and each client, with its copier
--- in the network class
+-- the actors of a class with so many clients: its device, its driver and virtualisers, and each
+-- client, with its copier in the network class
 abbrev pub net_actors : Option ℕ → ℕ
 net_actors None = 0
 net_actors (Some n) = 4 + 2 * n
@@ -37,7 +40,8 @@ abbrev pub blk_actors : Option ℕ → ℕ
 blk_actors None = 0
 blk_actors (Some n) = 3 + n
 
--- the greatest number of queue ends that one actor of the class has: the driver's, or a virtualiser's
+-- the greatest number of queue ends that one actor of the class has: the driver's, or a
+-- virtualiser's
 abbrev pub net_ends : Option ℕ → ℕ
 net_ends None = 0
 net_ends (Some n) = max (2 + 2 * n) 8
@@ -50,13 +54,15 @@ abbrev pub blk_ends : Option ℕ → ℕ
 blk_ends None = 0
 blk_ends (Some n) = max (2 + 2 * n) 4
 
+-- how many actors there are
 abbrev pub actors_of : ClassCounts → ℕ
 actors_of c = net_actors c.net + serial_actors c.serial + blk_actors c.blk
 
+-- the greatest number of queue ends of one actor
 abbrev pub most_ends : ClassCounts → ℕ
 most_ends c = max (net_ends c.net) (max (serial_ends c.serial) (blk_ends c.blk))
 
--- how many steps are enough
+-- how many steps are enough, by these numbers
 abbrev pub budget_from : ClassCounts → ℕ
 budget_from c = 32 * (hops_of c + actors_of c + 1) * (most_ends c + 1)
 
@@ -64,6 +70,7 @@ budget_from c = 32 * (hops_of c + actors_of c + 1) * (most_ends c + 1)
 abbrev pub net_clients : Plan → List NetClient
 net_clients plan = option_map_or (λ (net : Net). net.client) plan.net []
 
+-- the numbers of a plan and a trace on which the budget rests
 abbrev pub counts_of : Plan → Trace → ClassCounts
 counts_of plan trace = record {
   net = option_map (λ (net : Net). length net.client) plan.net;

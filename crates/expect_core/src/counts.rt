@@ -1,3 +1,5 @@
+//! The numbers of a plan and a trace on which the step budget rests, and the budget.
+
 ghost use Rattle.std.specs.Prelude.{◌≡◌, ◌+◌, ◌*◌, ◌<◌, ◌≤◌, ◌^◌, length, sum_by};
 ghost use Rattle.cargo_core.specs.declared.item.Ask.{Ask};
 ghost use Rattle.sdf_model.specs.declared.plan.NetClient.{NetClient as NetClientOf};
@@ -207,9 +209,9 @@ fn counts(plan: &Plan, trace: &Trace) -> ClassCounts
     }
 }
 
-/// How many steps are enough for a play of this plan and trace: 32 for each hop and each actor, and 32 more, times one
-/// more than the greatest number of queue ends of one actor. The plan is valid, and the trace was read for it. This
-/// project's own.
+/// How many steps are enough for a play of this plan and trace: 32 for each hop and each actor, and
+/// 32 more, times one more than the greatest number of queue ends of one actor. The plan is valid,
+/// and the trace was read for it. This project's own.
 pub fn budget(plan: &Plan, trace: &Trace) -> u64
     requires valid { Valid plan.now }
     requires read { IsReadFor plan.now trace.now }

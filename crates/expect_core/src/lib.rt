@@ -1,4 +1,5 @@
-//! What a play shows, how many steps are enough for it, and what its clients must get, as plain functions.
+//! What a play shows, how many steps are enough for it, and what its clients must get, as plain
+//! functions.
 #![tactic(auto)]
 
 mod counts;

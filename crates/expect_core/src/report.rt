@@ -1,7 +1,10 @@
+//! What a play shows, as a value: the system fills it, and the printer reads it.
+
 use cargo_core::{Bytes, FrameLog, Reply, Series, Text};
 
-/// What a play shows: how it ended, what the wire, the serial line and each client got, and where the buffers are. The
-/// lists of clients are empty, and `wire` and `line` are `None`, where the description lacks the class.
+/// What a play shows: how it ended, what the wire, the serial line and each client got, and where
+/// the buffers are. The lists of clients are empty, and `wire` and `line` are `None`, where the
+/// description lacks the class.
 #[derive(Debug, Drop)]
 pub struct Report {
     /// Whether no actor is runnable.
@@ -24,7 +27,8 @@ pub struct Report {
     pub bad: u64,
 }
 
-/// Where the buffers of a pool are. Each is counted once, and a lent one once, however many receivers it has.
+/// Where the buffers of a pool are. Each is counted once, and a lent one once, however many
+/// receivers it has.
 #[derive(Debug, Drop)]
 pub struct Census {
     pub name: Text,

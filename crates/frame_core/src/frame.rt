@@ -1,9 +1,13 @@
+//! What the header of a frame says: whether bytes can be a frame, for whom it is, and the frame
+//! that answers it. The network's actors rest on these functions.
+
 ghost use Rattle.std.specs.Prelude.{◌≡◌, ◌≤◌, length, take};
 ghost use Rattle.frame_core.specs.Frames.{is_frame_of, is_frame_for, turned_round};
 
 use crate::Mac;
 
-/// The shortest and the longest frame, in bytes: a header of 14 bytes with 0 to 1,500 bytes after it.
+/// The shortest and the longest frame, in bytes: a header of 14 bytes with 0 to 1,500 bytes after
+/// it.
 const SHORTEST: usize = 14;
 
 const LONGEST: usize = 1514;
@@ -23,7 +27,8 @@ pub fn destination(frame: &[u8]) -> Mac
     Mac([frame[0], frame[1], frame[2], frame[3], frame[4], frame[5]])
 }
 
-/// Whether a frame is for the station of an address: its destination is that address, or that of all stations.
+/// Whether a frame is for the station of an address: its destination is that address, or that of
+/// all stations.
 pub fn is_for(frame: &[u8], own: Mac) -> bool
     requires { 14 ≤ length frame.now }
     ensures { result ≡ is_frame_for frame.now own }
@@ -31,7 +36,8 @@ pub fn is_for(frame: &[u8], own: Mac) -> bool
     frame.starts_with(&own.0) || frame.starts_with(&[0xff; 6])
 }
 
-/// Makes a frame the answer to itself: it goes to the station from which it came, and comes from `own`.
+/// Makes a frame the answer to itself: it goes to the station from which it came, and comes from
+/// `own`.
 pub fn turn_round(frame: &mut [u8], own: Mac)
     requires { 14 ≤ length frame.old }
     ensures { frame.new ≡ turned_round frame.old own }

@@ -1,3 +1,6 @@
+//! The address of a station, read from text. The judge of descriptions and the routing of frames
+//! rest on the same reading.
+
 ghost use Rattle.std.specs.Prelude.{◌≡◌, ◌+◌, ◌<◌, ◌≤◌, length, slice_index, IsTrue};
 ghost use Rattle.frame_core.specs.Macs.{is_digit, digit_value, has_pair, has_colon, byte_at, is_mac_text, mac_bytes, mac_of};
 
@@ -5,8 +8,9 @@ ghost use Rattle.frame_core.specs.Macs.{is_digit, digit_value, has_pair, has_col
 #[derive(Clone, Copy, Debug, PartialEq, Eq)]
 pub struct Mac(pub [u8; 6]);
 
-/// Reads an address: six pairs of hexadecimal digits of either case, joined by colons. None exactly where the text
-/// isn't of this form, or where the low bit of the first byte is 1, which marks the address of a group.
+/// Reads an address: six pairs of hexadecimal digits of either case, joined by colons. None exactly
+/// where the text isn't of this form, or where the low bit of the first byte is 1, which marks the
+/// address of a group.
 #[tactic(auto, unfolding(crate::specs::Macs::mac_of))]
 pub fn read_mac(text: &str) -> Option<Mac>
     ensures { result ≡ mac_of text.now }

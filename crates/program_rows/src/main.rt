@@ -1,6 +1,6 @@
-//! The worked rows of the program: each line of standard input is the name of a row, behind `#`, or the words of one,
-//! whose texts are the files beside it. Standard output has each name, what `serve` writes to these words, and the
-//! status code.
+//! The worked rows of the program: each line of standard input is the name of a row, behind `#`, or
+//! the words of one, whose texts are the files beside it. Standard output has each name, what
+//! `serve` writes to these words, and the status code.
 #![tactic(auto)]
 
 use sddf_top::{FileShelf, MemSink, OpenGate, Played, serve};
@@ -24,8 +24,8 @@ fn words_of(alloc: Global, row: &str) -> io::Result<Vec<String>> {
     Ok(words)
 }
 
-/// Prints a line of an answer. How many steps a play makes depends on its schedule: above 9 the number prints as N. A
-/// longer line than `LINE` prints as how many bytes it has.
+/// Prints a line of an answer. How many steps a play makes depends on its schedule: above 9 the
+/// number prints as N. A longer line than `LINE` prints as how many bytes it has.
 fn print_line(rt: &impl Print, line: &str) -> io::Result<()> {
     if line.starts_with("steps ") && line.len() > 7 {
         println!(rt; "steps N")

@@ -1,3 +1,4 @@
+-- The lines of a journal, field by field.
 use Rattle.std.specs.Prelude.{ℕ, Option, Some, None, List, [], ◌∷◌, ◌++◌, map, slice_get, codes}
 use Rattle.std.specs.Option.{option_map_or}
 use Rattle.std.specs.Fmt.{decimal}
@@ -35,18 +36,24 @@ op_text (Do.Settle side) = codes "settle" ++ side_text side
 op_text (Do.Ring side) = codes "ring" ++ side_text side
 op_text (Do.Wake side) = codes "wake" ++ side_text side
 
+-- what a call answers: nothing where it only acts
 abbrev pub answer_text : Answer → List ℕ
 answer_text Told.Done = codes "-"
 answer_text Told.Yes = codes "yes"
 answer_text Told.No = codes "no"
 
--- an item: a descriptor's address and length, a byte in two digits, the fields of a request or of a response
+-- an item: a descriptor's address and length, a byte in two digits, the fields of a request or of a
+-- response
 abbrev pub item_text : Item → List ℕ
 item_text (Carried.Net d) = decimal d.addr ++ (codes " " ++ decimal d.len)
 item_text (Carried.Byte b) = encode_lower (b ∷ [])
 item_text (Carried.Req r) =
-    decimal (code_number r.code) ++ (codes " " ++ (decimal r.addr ++ (codes " " ++ (decimal r.block ++ (codes " " ++ (decimal r.count ++ (codes " " ++ decimal r.id)))))))
-item_text (Carried.Resp r) = decimal (status_number r.status) ++ (codes " " ++ (decimal r.count ++ (codes " " ++ decimal r.id)))
+    decimal (code_number r.code) ++ (codes " " ++ (decimal r.addr
+    ++ (codes " " ++ (decimal r.block ++ (codes " " ++ (decimal r.count
+    ++ (codes " " ++ decimal r.id)))))))
+item_text (Carried.Resp r) =
+    decimal (status_number r.status) ++ (codes " " ++ (decimal r.count
+    ++ (codes " " ++ decimal r.id)))
 
 -- an item that is there, behind a space
 abbrev pub carried_text : Option Item → List ℕ
@@ -57,10 +64,12 @@ carried_text (Some item) = codes " " ++ item_text item
 abbrev pub queue_name : List QueueRow → ℕ → List ℕ
 queue_name queues q = option_map_or (λ (queue : QueueRow). queue.name) (slice_get queues q) []
 
--- an entry of the journal: who called, on which queue, which call, what it answered, and the item that was put or taken
+-- an entry of the journal: who called, on which queue, which call, what it answered, and the item
+-- that was put or taken
 abbrev pub entry_line : Layout → Entry → List ℕ
 entry_line layout e =
-    name_at layout.actors e.actor.0 ++ (codes " " ++ (queue_name layout.queues e.event.queue.0 ++ (codes " " ++ (op_text e.event.op
+    name_at layout.actors e.actor.0 ++ (codes " " ++ (queue_name layout.queues e.event.queue.0
+    ++ (codes " " ++ (op_text e.event.op
     ++ (codes " " ++ (answer_text e.event.answer ++ carried_text e.event.item))))))
 
 -- the text of a journal

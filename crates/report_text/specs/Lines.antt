@@ -1,3 +1,4 @@
+-- The text of some lines: all texts that are printed are made of lines.
 use Rattle.std.specs.Prelude.{ℕ, List, [], ◌∷◌, ◌++◌}
 
 -- the text of some lines: each of them, and a byte 10 behind it

@@ -1,3 +1,4 @@
+-- How a place in a description prints: its element, with the numbers that lead to it.
 use Rattle.std.specs.Prelude.{ℕ, List, [], ◌++◌, codes}
 use Rattle.std.specs.Fmt.{decimal}
 use Rattle.sdf_model.specs.declared.place.Place.{Place}

@@ -1,3 +1,4 @@
+-- The lines of a report, field by field.
 use Rattle.std.specs.Prelude.{ℕ, ◌+◌, Bool, true, false, Option, Some, None, List, [], ◌∷◌, ◌++◌, length, map, codes}
 use Rattle.std.specs.Fmt.{decimal}
 use Rattle.hex.specs.Hex.{encode_lower}
@@ -9,10 +10,12 @@ use Rattle.expect_core.specs.declared.report.Census.{Census}
 use Rattle.report_text.specs.Lines.{text_of}
 use Rattle.report_text.specs.Runs.{runs_of, runs_text}
 
+-- how the play ended
 abbrev pub ending_line : Bool → List ℕ
 ending_line true = codes "quiet"
 ending_line false = codes "spent"
 
+-- how many steps were made
 abbrev pub steps_line : ℕ → List ℕ
 steps_line n = codes "steps " ++ decimal n
 
@@ -23,7 +26,9 @@ wire_lines (Some frames) = (codes "wire " ++ decimal (length frames)) ∷ map en
 
 -- the frames of a network client
 abbrev pub net_lines : ℕ → List (List ℕ) → List (List ℕ)
-net_lines c frames = (codes "net " ++ (decimal c ++ (codes " frames " ++ decimal (length frames)))) ∷ map encode_lower frames
+net_lines c frames =
+    (codes "net " ++ (decimal c ++ (codes " frames " ++ decimal (length frames))))
+    ∷ map encode_lower frames
 
 -- bytes on one line, where there are any
 abbrev pub byte_lines : List ℕ → List (List ℕ)
@@ -37,8 +42,11 @@ uart_lines (Some bytes) = (codes "uart " ++ decimal (length bytes)) ∷ byte_lin
 
 -- the bytes of a serial client
 abbrev pub serial_lines : ℕ → List ℕ → List (List ℕ)
-serial_lines c bytes = (codes "serial " ++ (decimal c ++ (codes " bytes " ++ decimal (length bytes)))) ∷ byte_lines bytes
+serial_lines c bytes =
+    (codes "serial " ++ (decimal c ++ (codes " bytes " ++ decimal (length bytes))))
+    ∷ byte_lines bytes
 
+-- how a request ended
 abbrev pub status_text : BlkStatus → List ℕ
 status_text Answered.Ok = codes "ok"
 status_text Answered.Invalid = codes "invalid"
@@ -51,18 +59,24 @@ given_text (b ∷ bytes) = 32 ∷ runs_text (runs_of (b ∷ bytes))
 
 -- a response: its id, its status and its count, and what a read gave
 abbrev pub reply_line : Reply → List ℕ
-reply_line r = decimal r.resp.id ++ (codes " " ++ (status_text r.resp.status ++ (codes " " ++ (decimal r.resp.count ++ given_text r.bytes))))
+reply_line r =
+    decimal r.resp.id ++ (codes " " ++ (status_text r.resp.status
+    ++ (codes " " ++ (decimal r.resp.count ++ given_text r.bytes))))
 
 -- the responses of a block client
 abbrev pub blk_lines : ℕ → List Reply → List (List ℕ)
-blk_lines c replies = (codes "blk " ++ (decimal c ++ (codes " replies " ++ decimal (length replies)))) ∷ map reply_line replies
+blk_lines c replies =
+    (codes "blk " ++ (decimal c ++ (codes " replies " ++ decimal (length replies))))
+    ∷ map reply_line replies
 
 -- where the buffers of a pool are
 abbrev pub pool_line : Census → List ℕ
 pool_line p =
-    codes "pool " ++ (p.name ++ (codes " buffers " ++ (decimal p.buffers ++ (codes " queues " ++ (decimal p.queues
-    ++ (codes " hands " ++ (decimal p.hands ++ (codes " lent " ++ decimal p.lent))))))))
+    codes "pool " ++ (p.name ++ (codes " buffers " ++ (decimal p.buffers
+    ++ (codes " queues " ++ (decimal p.queues ++ (codes " hands " ++ (decimal p.hands
+    ++ (codes " lent " ++ decimal p.lent))))))))
 
+-- how many descriptors were refused
 abbrev pub bad_line : ℕ → List ℕ
 bad_line n = codes "bad " ++ decimal n
 
@@ -74,8 +88,11 @@ each_numbered lines c (x ∷ xs) = lines c x ++ each_numbered lines (c + 1) xs
 -- the lines of a report; those of a class that the description lacks are not there
 abbrev pub report_lines : Report → List (List ℕ)
 report_lines r =
-    ending_line r.quiet ∷ steps_line r.steps ∷ wire_lines r.wire ++ each_numbered net_lines 0 r.net ++ uart_lines r.line
-    ++ each_numbered serial_lines 0 r.serial ++ each_numbered blk_lines 0 r.blk ++ map pool_line r.pools ++ bad_line r.bad ∷ []
+    ending_line r.quiet ∷ steps_line r.steps
+    ∷ wire_lines r.wire ++ each_numbered net_lines 0 r.net
+    ++ uart_lines r.line ++ each_numbered serial_lines 0 r.serial
+    ++ each_numbered blk_lines 0 r.blk
+    ++ map pool_line r.pools ++ bad_line r.bad ∷ []
 
 -- the text of a report
 abbrev pub report_text : Report → List ℕ

@@ -1,3 +1,4 @@
+-- How many bytes of a disk print in few words: as runs of equal bytes.
 use Rattle.std.specs.Prelude.{ℕ, ◌+◌, ◌==◌, if◌then◌else◌, List, [], ◌∷◌, ◌++◌}
 use Rattle.std.specs.Fmt.{decimal}
 use Rattle.hex.specs.Hex.{encode_lower}
@@ -11,7 +12,8 @@ pub record ByteRun : Type 0 where
 abbrev pub with_byte : ℕ → List ByteRun → List ByteRun
 with_byte b [] = record { times = 1; byte = b } ∷ []
 with_byte b (r ∷ rs) =
-    if b == r.byte then record { times = r.times + 1; byte = b } ∷ rs else record { times = 1; byte = b } ∷ r ∷ rs
+    if b == r.byte then record { times = r.times + 1; byte = b } ∷ rs
+    else record { times = 1; byte = b } ∷ r ∷ rs
 
 -- the maximal runs of equal bytes
 abbrev pub runs_of : List ℕ → List ByteRun

@@ -1,3 +1,5 @@
+//! The answers of one line.
+
 ghost use Rattle.std.specs.Prelude.{◌≡◌, ◌<◌, ◌^◌, [], length, IfOk, string_bytes};
 ghost use Rattle.std.specs.Option.{option_map_or};
 ghost use Rattle.region_layout.specs.Rows.{queues_of, net_queues, serial_queues, blk_queues};
@@ -8,16 +10,16 @@ use cargo_core::Memory;
 use sdf_model::{Plan, Refusal};
 use std::alloc::Global;
 
-/// The line for words that are no command: the place of the first bad word, counted from 0. The spellings here are this
-/// project's own; the only error of each is want of memory.
+/// The line for words that are no command: the place of the first bad word, counted from 0. The
+/// spellings here are this project's own; the only error of each is want of memory.
 pub fn write_usage(alloc: Global, k: u32) -> Result<String, Memory>
     ensures { IfOk result (λ s. string_bytes s ≡ usage_text k) }
 {
     Ok(format!(in alloc; "usage: word {k}\n")?)
 }
 
-/// The line for a description that is refused: the rule that it breaks, 0 where none is broken and it can't be played,
-/// and the place.
+/// The line for a description that is refused: the rule that it breaks, 0 where none is broken and
+/// it can't be played, and the place.
 pub fn write_refused(alloc: Global, refusal: &Refusal) -> Result<String, Memory>
     ensures { IfOk result (λ s. string_bytes s ≡ refused_text refusal.now) }
 {
@@ -83,7 +85,8 @@ fn queue_count(plan: &Plan) -> u128
     net_count(plan) + serial_count(plan) + blk_count(plan)
 }
 
-/// The line for a description that is accepted: how many domains, regions, channels and queues its plan has.
+/// The line for a description that is accepted: how many domains, regions, channels and queues its
+/// plan has.
 pub fn write_accepted(alloc: Global, plan: &Plan) -> Result<String, Memory>
     ensures { IfOk result (λ s. string_bytes s ≡ accepted_text plan.now) }
 {

@@ -1,3 +1,5 @@
+//! The text of a journal: one line for each step that was made.
+
 ghost use Rattle.std.specs.Prelude.{◌≡◌, [], ◌∷◌, ◌++◌, map, IfOk, OnOk, string_bytes};
 ghost use Rattle.hex.specs.Hex.{encode_lower};
 ghost use Rattle.report_text.specs.Lines.{text_of};
@@ -68,7 +70,8 @@ fn add_request(to: &mut String, req: BlkReq) -> Result<(), Memory>
 
 // Appends a response.
 fn add_response(to: &mut String, resp: BlkResp) -> Result<(), Memory>
-    ensures { OnOk result (string_bytes to.new ≡ string_bytes to.old ++ item_text (Item.Resp resp)) }
+    ensures { OnOk result (string_bytes to.new ≡ string_bytes to.old
+        ++ item_text (Item.Resp resp)) }
 {
     write!(to, "{} {} {}", resp.status.number(), resp.count, resp.id)?;
     Ok(())
@@ -114,7 +117,8 @@ fn queue_name(queues: &[QueueRow], q: usize) -> &str
 
 // Appends an entry.
 fn add_entry(to: &mut String, layout: &Layout, entry: &Entry) -> Result<(), Memory>
-    ensures { OnOk result (string_bytes to.new ≡ string_bytes to.old ++ text_of (entry_line layout.now entry.now ∷ [])) }
+    ensures { OnOk result (string_bytes to.new ≡ string_bytes to.old
+        ++ text_of (entry_line layout.now entry.now ∷ [])) }
 {
     let actor = name_at(layout.actors(), entry.actor.0 as usize);
     let queue = queue_name(layout.queues(), entry.event.queue.0 as usize);
@@ -126,9 +130,9 @@ fn add_entry(to: &mut String, layout: &Layout, entry: &Entry) -> Result<(), Memo
     Ok(())
 }
 
-/// The text of a journal: a line for each entry, with the names that the layout gives the actors and the queues (nothing
-/// where it has no such number). The time is linear in the text. The spellings are this project's own; the only error is
-/// want of memory.
+/// The text of a journal: a line for each entry, with the names that the layout gives the actors
+/// and the queues (nothing where it has no such number). The time is linear in the text. The
+/// spellings are this project's own; the only error is want of memory.
 pub fn write_journal(alloc: Global, layout: &Layout, journal: &[Entry]) -> Result<String, Memory>
     ensures { IfOk result (λ s. string_bytes s ≡ journal_text layout.now journal.now) }
 {

@@ -1,3 +1,5 @@
+//! The text of a layout, which `layout` prints.
+
 ghost use Rattle.std.specs.Prelude.{◌≡◌, [], ◌∷◌, ◌++◌, map, IfOk, OnOk, string_bytes};
 ghost use Rattle.report_text.specs.Lines.{text_of};
 ghost use Rattle.report_text.specs.Reports.{each_numbered};
@@ -40,7 +42,8 @@ fn queue_region(regions: &[Region], region: Option<u32>) -> &str
 
 // Appends a region.
 fn add_region(to: &mut String, region: &Region, base: u64) -> Result<(), Memory>
-    ensures { OnOk result (string_bytes to.new ≡ string_bytes to.old ++ text_of (region_line region.now base ∷ [])) }
+    ensures { OnOk result (string_bytes to.new ≡ string_bytes to.old
+        ++ text_of (region_line region.now base ∷ [])) }
 {
     write!(
         to,
@@ -54,7 +57,8 @@ fn add_region(to: &mut String, region: &Region, base: u64) -> Result<(), Memory>
 
 // Appends each region that has a base.
 fn add_regions(to: &mut String, regions: &[Region], bases: &[u64]) -> Result<(), Memory>
-    ensures { OnOk result (string_bytes to.new ≡ string_bytes to.old ++ text_of (region_lines regions.now bases.now)) }
+    ensures { OnOk result (string_bytes to.new ≡ string_bytes to.old
+        ++ text_of (region_lines regions.now bases.now)) }
 {
     for k in 0..regions.len().min(bases.len()) {
         add_region(to, &regions[k], bases[k])?;
@@ -64,7 +68,8 @@ fn add_regions(to: &mut String, regions: &[Region], bases: &[u64]) -> Result<(),
 
 // Appends a pool.
 fn add_pool(to: &mut String, regions: &[Region], pool: &PoolRow) -> Result<(), Memory>
-    ensures { OnOk result (string_bytes to.new ≡ string_bytes to.old ++ text_of (layout_pool_line regions.now pool.now ∷ [])) }
+    ensures { OnOk result (string_bytes to.new ≡ string_bytes to.old
+        ++ text_of (layout_pool_line regions.now pool.now ∷ [])) }
 {
     let region = region_name(regions, pool.region);
     write!(
@@ -80,7 +85,8 @@ fn add_pool(to: &mut String, regions: &[Region], pool: &PoolRow) -> Result<(), M
 
 // Appends each pool.
 fn add_pools(to: &mut String, regions: &[Region], pools: &[PoolRow]) -> Result<(), Memory>
-    ensures { OnOk result (string_bytes to.new ≡ string_bytes to.old ++ text_of (map (layout_pool_line regions.now) pools.now)) }
+    ensures { OnOk result (string_bytes to.new ≡ string_bytes to.old
+        ++ text_of (map (layout_pool_line regions.now) pools.now)) }
 {
     for k in 0..pools.len() {
         add_pool(to, regions, &pools[k])?;
@@ -96,7 +102,8 @@ fn add_queue(
     n: usize,
     queue: &QueueRow,
 ) -> Result<(), Memory>
-    ensures { OnOk result (string_bytes to.new ≡ string_bytes to.old ++ text_of (queue_line regions.now actors.now n queue.now ∷ [])) }
+    ensures { OnOk result (string_bytes to.new ≡ string_bytes to.old
+        ++ text_of (queue_line regions.now actors.now n queue.now ∷ [])) }
 {
     let producer = name_at(actors, queue.producer.0 as usize);
     let consumer = name_at(actors, queue.consumer.0 as usize);
@@ -114,7 +121,8 @@ fn add_queues(
     actors: &[Text],
     queues: &[QueueRow],
 ) -> Result<(), Memory>
-    ensures { OnOk result (string_bytes to.new ≡ string_bytes to.old ++ text_of (each_numbered (λ n queue. queue_line regions.now actors.now n queue ∷ []) 0 queues.now)) }
+    ensures { OnOk result (string_bytes to.new ≡ string_bytes to.old ++ text_of (each_numbered
+        (λ n queue. queue_line regions.now actors.now n queue ∷ []) 0 queues.now)) }
 {
     for k in 0..queues.len() {
         add_queue(to, regions, actors, k, &queues[k])?;
@@ -122,8 +130,9 @@ fn add_queues(
     Ok(())
 }
 
-/// The text of a plan's layout: a line for each region, each pool and each queue. Bases, sizes of regions and offsets
-/// print in hexadecimal, all else in decimal. The spellings are this project's own; the only error is want of memory.
+/// The text of a plan's layout: a line for each region, each pool and each queue. Bases, sizes of
+/// regions and offsets print in hexadecimal, all else in decimal. The spellings are this project's
+/// own; the only error is want of memory.
 pub fn write_layout(alloc: Global, plan: &Plan, layout: &Layout) -> Result<String, Memory>
     ensures { IfOk result (λ s. string_bytes s ≡ layout_text plan.now layout.now) }
 {

@@ -1,3 +1,5 @@
+//! The text of a place in a description, which a refusal names.
+
 ghost use Rattle.std.specs.Prelude.{◌≡◌, IfOk, string_bytes};
 ghost use Rattle.report_text.specs.Places.{place_text};
 
@@ -5,7 +7,8 @@ use cargo_core::Memory;
 use sdf_model::Place;
 use std::alloc::Global;
 
-/// The text of a place in a description, as `protection_domain[2].map[0]`. The spellings are this project's own.
+/// The text of a place in a description, as `protection_domain[2].map[0]`. The spellings are this
+/// project's own.
 pub fn write_place(alloc: Global, place: Place) -> Result<String, Memory>
     ensures { IfOk result (λ s. string_bytes s ≡ place_text place) }
 {

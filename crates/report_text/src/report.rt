@@ -1,3 +1,5 @@
+//! The text of a report, which `play` prints.
+
 ghost use Rattle.std.specs.Prelude.{◌≡◌, ◌<◌, ◌≤◌, ◌∷◌, [], ◌++◌, map, drop, length, slice_index, IfOk, OnOk, string_bytes};
 ghost use Rattle.hex.specs.Hex.{encode_lower};
 ghost use Rattle.report_text.specs.Lines.{text_of};
@@ -19,7 +21,8 @@ fn add_line(to: &mut String, line: &str) -> Result<(), Memory>
 
 // Appends a line of bytes in hexadecimal.
 fn add_hex(alloc: Global, to: &mut String, bytes: &[u8]) -> Result<(), Memory>
-    ensures { OnOk result (string_bytes to.new ≡ string_bytes to.old ++ text_of (encode_lower bytes.now ∷ [])) }
+    ensures { OnOk result (string_bytes to.new ≡ string_bytes to.old
+        ++ text_of (encode_lower bytes.now ∷ [])) }
 {
     let digits = hex::encode(alloc, bytes)?;
     add_line(to, digits.as_str())
@@ -27,7 +30,8 @@ fn add_hex(alloc: Global, to: &mut String, bytes: &[u8]) -> Result<(), Memory>
 
 // Appends a line of bytes, where there are any.
 fn add_bytes(alloc: Global, to: &mut String, bytes: &[u8]) -> Result<(), Memory>
-    ensures { OnOk result (string_bytes to.new ≡ string_bytes to.old ++ text_of (byte_lines bytes.now)) }
+    ensures { OnOk result (string_bytes to.new ≡ string_bytes to.old
+        ++ text_of (byte_lines bytes.now)) }
 {
     if bytes.is_empty() {
         return Ok(());
@@ -37,7 +41,8 @@ fn add_bytes(alloc: Global, to: &mut String, bytes: &[u8]) -> Result<(), Memory>
 
 // Appends each frame on a line.
 fn add_frames(alloc: Global, to: &mut String, frames: &FrameLog) -> Result<(), Memory>
-    ensures { OnOk result (string_bytes to.new ≡ string_bytes to.old ++ text_of (map encode_lower frames.now)) }
+    ensures { OnOk result (string_bytes to.new ≡ string_bytes to.old
+        ++ text_of (map encode_lower frames.now)) }
 {
     for k in 0..frames.len() {
         add_hex(alloc, to, frames.get(k))?;
@@ -47,7 +52,8 @@ fn add_frames(alloc: Global, to: &mut String, frames: &FrameLog) -> Result<(), M
 
 // Appends what the wire got, where there is one.
 fn add_wire(alloc: Global, to: &mut String, wire: &Option<FrameLog>) -> Result<(), Memory>
-    ensures { OnOk result (string_bytes to.new ≡ string_bytes to.old ++ text_of (wire_lines wire.now)) }
+    ensures { OnOk result (string_bytes to.new ≡ string_bytes to.old
+        ++ text_of (wire_lines wire.now)) }
 {
     if let Some(frames) = wire {
         write!(to, "wire {}\n", frames.len())?;
@@ -58,7 +64,8 @@ fn add_wire(alloc: Global, to: &mut String, wire: &Option<FrameLog>) -> Result<(
 
 // Appends what the serial line got, where there is one.
 fn add_uart(alloc: Global, to: &mut String, line: &Option<Bytes>) -> Result<(), Memory>
-    ensures { OnOk result (string_bytes to.new ≡ string_bytes to.old ++ text_of (uart_lines line.now)) }
+    ensures { OnOk result (string_bytes to.new ≡ string_bytes to.old
+        ++ text_of (uart_lines line.now)) }
 {
     if let Some(bytes) = line {
         write!(to, "uart {}\n", bytes.len())?;
@@ -69,7 +76,8 @@ fn add_uart(alloc: Global, to: &mut String, line: &Option<Bytes>) -> Result<(), 
 
 // Appends what a network client recorded.
 fn add_net_client(alloc: Global, to: &mut String, c: usize, frames: &FrameLog) -> Result<(), Memory>
-    ensures { OnOk result (string_bytes to.new ≡ string_bytes to.old ++ text_of (net_lines c frames.now)) }
+    ensures { OnOk result (string_bytes to.new ≡ string_bytes to.old
+        ++ text_of (net_lines c frames.now)) }
 {
     write!(to, "net {} frames {}\n", c, frames.len())?;
     add_frames(alloc, to, frames)
@@ -77,7 +85,8 @@ fn add_net_client(alloc: Global, to: &mut String, c: usize, frames: &FrameLog) -
 
 // Appends what a serial client recorded.
 fn add_serial_client(alloc: Global, to: &mut String, c: usize, bytes: &Bytes) -> Result<(), Memory>
-    ensures { OnOk result (string_bytes to.new ≡ string_bytes to.old ++ text_of (serial_lines c bytes.now)) }
+    ensures { OnOk result (string_bytes to.new ≡ string_bytes to.old
+        ++ text_of (serial_lines c bytes.now)) }
 {
     write!(to, "serial {} bytes {}\n", c, bytes.len())?;
     add_bytes(alloc, to, bytes.as_slice())
@@ -96,7 +105,8 @@ fn status_word(status: BlkStatus) -> &'static str
 
 // Appends a run of equal bytes.
 fn add_run(alloc: Global, to: &mut String, times: usize, byte: u8) -> Result<(), Memory>
-    ensures { OnOk result (string_bytes to.new ≡ string_bytes to.old ++ run_text (record { times = times; byte = byte })) }
+    ensures { OnOk result (string_bytes to.new ≡ string_bytes to.old
+        ++ run_text (record { times = times; byte = byte })) }
 {
     let digits = hex::encode(alloc, &[byte])?;
     write!(to, "{}*{}", times, digits.as_str())?;
@@ -107,7 +117,8 @@ fn add_run(alloc: Global, to: &mut String, times: usize, byte: u8) -> Result<(),
 fn first_run(bytes: &[u8]) -> usize
     requires { 0 < length bytes.now }
     ensures within { (0 < result) × (result ≤ length bytes.now) }
-    ensures runs { runs_of bytes.now ≡ record { times = result; byte = slice_index bytes.now 0 } ∷ runs_of (drop result bytes.now) }
+    ensures runs { runs_of bytes.now ≡ record { times = result; byte = slice_index bytes.now 0 }
+        ∷ runs_of (drop result bytes.now) }
 {
     let first = bytes[0];
     let mut times = 1;
@@ -119,7 +130,8 @@ fn first_run(bytes: &[u8]) -> usize
 
 // Appends the runs of bytes, each with a comma before it.
 fn add_more_runs(alloc: Global, to: &mut String, bytes: &[u8]) -> Result<(), Memory>
-    ensures { OnOk result (string_bytes to.new ≡ string_bytes to.old ++ more_runs_text (runs_of bytes.now)) }
+    ensures { OnOk result (string_bytes to.new ≡ string_bytes to.old
+        ++ more_runs_text (runs_of bytes.now)) }
 {
     let mut at = 0;
     while at < bytes.len() {
@@ -146,7 +158,8 @@ fn add_given(alloc: Global, to: &mut String, bytes: &[u8]) -> Result<(), Memory>
 
 // Appends a response.
 fn add_reply(alloc: Global, to: &mut String, reply: &Reply) -> Result<(), Memory>
-    ensures { OnOk result (string_bytes to.new ≡ string_bytes to.old ++ text_of (reply_line reply.now ∷ [])) }
+    ensures { OnOk result (string_bytes to.new ≡ string_bytes to.old
+        ++ text_of (reply_line reply.now ∷ [])) }
 {
     let status = status_word(reply.resp.status);
     write!(to, "{} {} {}", reply.resp.id, status, reply.resp.count)?;
@@ -162,7 +175,8 @@ fn add_blk_client(
     c: usize,
     replies: &Series<Reply>,
 ) -> Result<(), Memory>
-    ensures { OnOk result (string_bytes to.new ≡ string_bytes to.old ++ text_of (blk_lines c replies.now)) }
+    ensures { OnOk result (string_bytes to.new ≡ string_bytes to.old
+        ++ text_of (blk_lines c replies.now)) }
 {
     write!(to, "blk {} replies {}\n", c, replies.len())?;
     for k in 0..replies.len() {
@@ -173,7 +187,8 @@ fn add_blk_client(
 
 // Appends where the buffers of a pool are.
 fn add_pool(to: &mut String, pool: &Census) -> Result<(), Memory>
-    ensures { OnOk result (string_bytes to.new ≡ string_bytes to.old ++ text_of (pool_line pool.now ∷ [])) }
+    ensures { OnOk result (string_bytes to.new ≡ string_bytes to.old
+        ++ text_of (pool_line pool.now ∷ [])) }
 {
     write!(
         to,
@@ -188,7 +203,8 @@ fn add_pool(to: &mut String, pool: &Census) -> Result<(), Memory>
 
 // Appends what each network client recorded.
 fn add_net(alloc: Global, to: &mut String, clients: &Series<FrameLog>) -> Result<(), Memory>
-    ensures { OnOk result (string_bytes to.new ≡ string_bytes to.old ++ text_of (each_numbered net_lines 0 clients.now)) }
+    ensures { OnOk result (string_bytes to.new ≡ string_bytes to.old
+        ++ text_of (each_numbered net_lines 0 clients.now)) }
 {
     for k in 0..clients.len() {
         add_net_client(alloc, to, k, clients.get(k))?;
@@ -198,7 +214,8 @@ fn add_net(alloc: Global, to: &mut String, clients: &Series<FrameLog>) -> Result
 
 // Appends what each serial client recorded.
 fn add_serial(alloc: Global, to: &mut String, clients: &Series<Bytes>) -> Result<(), Memory>
-    ensures { OnOk result (string_bytes to.new ≡ string_bytes to.old ++ text_of (each_numbered serial_lines 0 clients.now)) }
+    ensures { OnOk result (string_bytes to.new ≡ string_bytes to.old
+        ++ text_of (each_numbered serial_lines 0 clients.now)) }
 {
     for k in 0..clients.len() {
         add_serial_client(alloc, to, k, clients.get(k))?;
@@ -208,7 +225,8 @@ fn add_serial(alloc: Global, to: &mut String, clients: &Series<Bytes>) -> Result
 
 // Appends what each block client recorded.
 fn add_blk(alloc: Global, to: &mut String, clients: &Series<Series<Reply>>) -> Result<(), Memory>
-    ensures { OnOk result (string_bytes to.new ≡ string_bytes to.old ++ text_of (each_numbered blk_lines 0 clients.now)) }
+    ensures { OnOk result (string_bytes to.new ≡ string_bytes to.old
+        ++ text_of (each_numbered blk_lines 0 clients.now)) }
 {
     for k in 0..clients.len() {
         add_blk_client(alloc, to, k, clients.get(k))?;
@@ -218,7 +236,8 @@ fn add_blk(alloc: Global, to: &mut String, clients: &Series<Series<Reply>>) -> R
 
 // Appends where the buffers of each pool are.
 fn add_pools(to: &mut String, pools: &Series<Census>) -> Result<(), Memory>
-    ensures { OnOk result (string_bytes to.new ≡ string_bytes to.old ++ text_of (map pool_line pools.now)) }
+    ensures { OnOk result (string_bytes to.new ≡ string_bytes to.old
+        ++ text_of (map pool_line pools.now)) }
 {
     for k in 0..pools.len() {
         add_pool(to, pools.get(k))?;
@@ -228,7 +247,8 @@ fn add_pools(to: &mut String, pools: &Series<Census>) -> Result<(), Memory>
 
 // Appends the two lines with which a report begins.
 fn add_head(to: &mut String, quiet: bool, steps: u64) -> Result<(), Memory>
-    ensures { OnOk result (string_bytes to.new ≡ string_bytes to.old ++ text_of (ending_line quiet ∷ steps_line steps ∷ [])) }
+    ensures { OnOk result (string_bytes to.new ≡ string_bytes to.old
+        ++ text_of (ending_line quiet ∷ steps_line steps ∷ [])) }
 {
     let ending = if quiet { "quiet" } else { "spent" };
     write!(to, "{}\nsteps {}\n", ending, steps)?;
@@ -237,15 +257,17 @@ fn add_head(to: &mut String, quiet: bool, steps: u64) -> Result<(), Memory>
 
 // Appends the line with which a report ends.
 fn add_bad(to: &mut String, bad: u64) -> Result<(), Memory>
-    ensures { OnOk result (string_bytes to.new ≡ string_bytes to.old ++ text_of (bad_line bad ∷ [])) }
+    ensures { OnOk result (string_bytes to.new ≡ string_bytes to.old
+        ++ text_of (bad_line bad ∷ [])) }
 {
     write!(to, "bad {}\n", bad)?;
     Ok(())
 }
 
-/// The text of a report: how the play ended and its steps, and then, for each class that the description has, what
-/// its device and its clients got, where the buffers of each pool are, and what was counted as bad. Bytes print as
-/// lower-case hexadecimal. The spellings are this project's own.
+/// The text of a report: how the play ended and its steps, and then, for each class that the
+/// description has, what its device and its clients got, where the buffers of each pool are, and
+/// what was counted as bad. Bytes print as lower-case hexadecimal. The spellings are this project's
+/// own.
 pub fn write_report(alloc: Global, report: &Report) -> Result<String, Memory>
     ensures { IfOk result (λ s. string_bytes s ≡ report_text report.now) }
 {

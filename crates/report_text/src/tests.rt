@@ -1,3 +1,5 @@
+//! The texts of places and reports beside texts that were written down by hand.
+
 use super::{write_place, write_report};
 use cargo_core::{BlkResp, BlkStatus, Bytes, Reply, Series, Text};
 use expect_core::{Census, Report};

@@ -1,5 +1,5 @@
-//! The program: its words are the arguments behind its name, its texts are files, and its answer goes to standard
-//! output.
+//! The program: its words are the arguments behind its name, its texts are files, and its answer
+//! goes to standard output.
 #![tactic(auto)]
 
 use sddf_top::{FileShelf, OpenGate, OutSink, Played, Status, serve};

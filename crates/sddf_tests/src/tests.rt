@@ -1,3 +1,5 @@
+//! `serve_alone` with failing shelves and sinks, with texts at the limit, and with real files.
+
 use sddf_top::{FileShelf, MemShelf, MemSink, OutSink, Played, read_text, serve_alone, write_text};
 use std::alloc::Global;
 use std::test::Fail;

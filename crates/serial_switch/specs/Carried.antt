@@ -1,3 +1,4 @@
+-- The bytes that the entries of a serial queue carry: all actors of the class speak of them.
 use Rattle.std.specs.Prelude.{ℕ, List, [], ◌∷◌, flat_map}
 use Rattle.cargo_core.specs.declared.item.Item.{Item}
 use Rattle.cargo_core.specs.declared.item.Item.TheVariants as ItemOf

@@ -1,3 +1,4 @@
+-- What the private functions of the plain program say; no public clause cites it.
 use Rattle.std.specs.Prelude.{◌≡◌, ◌<◌, ◌≤◌, ℕ, false, Some, List, ◌++◌, length, option_to_list, slice_get, drop, flat_map}
 use Rattle.std.specs.Char.{is_ascii_digit}
 use Rattle.serial_switch.specs.declared.plain.Found.{Found}
@@ -16,8 +17,10 @@ pub record Finds (f : Found) (input : List ℕ) : Type 0 where
   pub gives : option_to_list f.gives ≡ byte_in piece
   pub selects : option_to_list f.selects ≡ number_in piece
 
--- what was read of an input up to a place: whole pieces, whose client is selected and whose bytes were given
-pub record IsRead (clients client : ℕ) (input : List ℕ) (at selected_now : ℕ) (given : List ℕ) : Type 0 where
+-- what was read of an input up to a place: whole pieces, whose client is selected and whose bytes
+-- were given
+pub record IsRead
+    (clients client : ℕ) (input : List ℕ) (at selected_now : ℕ) (given : List ℕ) : Type 0 where
   pub pieces : List Piece
   pub are_pieces : ArePieces pieces
   pub text : flat_map bytes_of pieces ++ drop at input ≡ input

@@ -1,3 +1,4 @@
+-- What the switch keeps of the input that it read.
 use Rattle.std.specs.Prelude.{◌≡◌, ℕ, List, [], ◌∷◌, length, Option, Some, None}
 use Rattle.std.specs.Option.{option_map}
 use Rattle.serial_switch.specs.declared.switch.Switch.{Switch}
@@ -9,6 +10,7 @@ abbrev pub kept_of : List ℕ → Option (ℕ × ℕ)
 kept_of [] = None
 kept_of (b ∷ ds) = Some (length ds, number_of ds)
 
+-- an open selection: how many digits it has, and their number
 abbrev pub shown : Selection → ℕ × ℕ
 shown s = (s.digits, s.number)
 

@@ -1,3 +1,6 @@
+//! The law that an input is pieces and a rest in one way only: what a client gets is well defined
+//! by it.
+
 ghost use Rattle.std.specs.Prelude.{◌≡◌, ℕ, List};
 ghost use Rattle.serial_switch.specs.Switching.{Split, IsSplit, split_of};
 

@@ -1,6 +1,6 @@
-//! Serial input is switched between clients by selections that stand in it. Byte 28 opens a selection, up to four
-//! decimal digits name a client, and byte 13 ends it; byte 28 twice stands for one byte 28. The two bytes and the
-//! number of digits are this project's own values.
+//! Serial input is switched between clients by selections that stand in it. Byte 28 opens a
+//! selection, up to four decimal digits name a client, and byte 13 ends it; byte 28 twice stands
+//! for one byte 28. The two bytes and the number of digits are this project's own values.
 #![tactic(auto)]
 
 mod grammar;

@@ -1,3 +1,5 @@
+//! A client's part of an input, by a plain and slow program: tests compare the switch with it.
+
 ghost use Rattle.std.specs.Prelude.{◌≡◌, ◌<◌, ◌≤◌, IfOk, OnOk, if◌then◌else◌, [], ◌++◌, ◌+◌, option_to_list, MatchOption, length, take, drop, Some, false, slice_get};
 ghost use Rattle.std.specs.Char.{is_ascii_digit};
 ghost use Rattle.serial_switch.specs.Switching.{AreDigits, IsRest, number_of, number_in, byte_in, ended, last_client, input_of};
@@ -48,7 +50,8 @@ fn number(digits: &[u8]) -> u32
     number
 }
 
-// A piece of switched input: how many bytes it has, the byte that it gives, and the number that it selects.
+// A piece of switched input: how many bytes it has, the byte that it gives, and the number that it
+// selects.
 #[derive(Clone, Copy, Debug, PartialEq, Eq)]
 struct Found {
     length: usize,

@@ -1,3 +1,6 @@
+//! The switch of the receiving virtualiser: it reads the input byte by byte, and tells whose each
+//! byte is.
+
 ghost use Rattle.std.specs.Prelude.{◌≡◌, ◌<◌, ◌≤◌, ◌^◌, ◌&&◌, nat_lt, ℕ, List, [], ◌∷◌, ◌++◌, length, IfSome};
 ghost use Rattle.std.specs.Char.{is_ascii_digit};
 ghost use Rattle.serial_switch.specs.Switching.{input_of, given_to, given_by, selected_next, number_of, ended};
@@ -60,7 +63,8 @@ impl Switch {
         ensures given { (clients : ℕ) (input : List ℕ) → StandsAfter clients input self.old
             → (client : ℕ) → input_of clients client (input ++ byte ∷ [])
             ≡ input_of clients client input ++ given_to client result }
-        ensures known { (clients : ℕ) (input : List ℕ) → StandsAfter clients input self.old → IfSome result (λ g. g.0 < clients) }
+        ensures known { (clients : ℕ) (input : List ℕ) → StandsAfter clients input self.old
+            → IfSome result (λ g. g.0 < clients) }
     {
         match self.opened {
             None if byte == ESCAPE => {
@@ -90,7 +94,8 @@ impl Switch {
     fn end(&mut self, selection: Selection, byte: u8) -> Option<(u32, u8)>
         ensures clients { self.new.clients ≡ self.old.clients }
         ensures opened { self.new.opened ≡ self.old.opened }
-        ensures selects { (ds : List ℕ) → length ds ≡ selection.digits → number_of ds ≡ selection.number
+        ensures selects { (ds : List ℕ) → length ds ≡ selection.digits
+            → number_of ds ≡ selection.number
             → self.new.selected ≡ selected_next self.old.clients self.old.selected (ended ds byte) }
         ensures gives { (ds : List ℕ) → length ds ≡ selection.digits → (client : ℕ)
             → given_to client result ≡ given_by self.old.selected client (ended ds byte) }

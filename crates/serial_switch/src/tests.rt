@@ -1,3 +1,5 @@
+//! The switch and the plain program on the same inputs.
+
 use crate::{Switch, plain_input_of};
 use cargo_core::{Bytes, Memory};
 use std::alloc::Global;

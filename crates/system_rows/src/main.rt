@@ -1,7 +1,8 @@
-//! Plays descriptions. A row of the input is `FILE | SEED | STEPS | LINE | LINE`: a description, the seed, the most steps, and the
-//! lines of a trace for it. For each row one line is written: how the play ended, what was sent on the line, and what each
-//! client recorded. Bytes are written as runs, `3*61` for 616161; where several clients speak, the line is written as how
-//! often each byte stands in it, since their bytes come in any order.
+//! Plays descriptions. A row of the input is `FILE | SEED | STEPS | LINE | LINE`: a description,
+//! the seed, the most steps, and the lines of a trace for it. For each row one line is written: how
+//! the play ended, what was sent on the line, and what each client recorded. Bytes are written as
+//! runs, `3*61` for 616161; where several clients speak, the line is written as how often each byte
+//! stands in it, since their bytes come in any order.
 #![tactic(auto)]
 
 ghost use Rattle.std.specs.Prelude.{◌≡◌, ◌<◌, IfOk, length, None};
