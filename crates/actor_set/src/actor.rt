@@ -2,7 +2,6 @@ ghost use Rattle.std.specs.Prelude.{◌≡◌, ℕ, IfOk, OnErr};
 ghost use Rattle.wire_core.specs.Ends.{role_of, Role, End};
 ghost use Rattle.wire_core.specs.Lists.{Lists, Stepped};
 ghost use Rattle.turn_kit.specs.Turns.{Turned, is_at_rest};
-ghost use Rattle.turn_kit.specs.Marks.{KeepsMarks};
 ghost use Rattle.turn_kit.specs.Hands.{held_in};
 ghost use Rattle.actor_set.specs.Actors.{FitsActor, ActorStandsFor, ActorRow, ActorEnd, actor_round, actor_hand, part_of, record_length};
 
@@ -69,7 +68,6 @@ impl Actor {
         ensures stepped { IfOk result (λ e. Stepped ActorStandsFor W.did wires.old wires.new self.old self.new e) }
         ensures row { (taken sent : Lists) → ActorStandsFor self.new taken sent → ActorRow self.new taken sent }
         ensures turned { IfOk result (λ e. Turned (actor_round self.old) e (actor_round self.new)) }
-        ensures marks { KeepsMarks (actor_round self.new) }
         ensures no_call { OnErr result (wires.new ≡ wires.old) }
         ensures unchanged { OnErr result (self.new ≡ self.old) }
     {

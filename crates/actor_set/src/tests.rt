@@ -12,7 +12,8 @@ use wire_core::{ActorId, QueueId, QueueRow};
 
 // A queue of bytes that holds two of them.
 fn row(alloc: Global) -> Result<QueueRow, Memory>
-    ensures { IfOk result (λ r. r.kind ≡ QueueKind.Byte) }
+    ensures kind { IfOk result (λ r. r.kind ≡ QueueKind.Byte) }
+    ensures capacity { IfOk result (λ r. r.capacity ≡ 2) }
 {
     Ok(QueueRow {
         name: Text::new(alloc, "queue")?,

@@ -6,7 +6,6 @@ ghost use Rattle.std.specs.Prelude.{◌≡◌, [], ℕ, IfOk, OnErr};
 ghost use Rattle.wire_core.specs.Ends.{role_of, Role, End};
 ghost use Rattle.wire_core.specs.Lists.{Lists, Stepped};
 ghost use Rattle.turn_kit.specs.Turns.{Turned, is_at_rest};
-ghost use Rattle.turn_kit.specs.Marks.{KeepsMarks};
 ghost use Rattle.turn_kit.specs.Hands.{held_in};
 ghost use Rattle.serial_terminal.specs.Terminals.{SameTerminal, IsNewTerminal, terminal_round, terminal_hand, terminal_forgotten};
 ghost use Rattle.client_programs.specs.Clients.{FitsSerial, SerialStandsFor, SerialRow, SerialEnd};
@@ -64,7 +63,6 @@ impl SerialClient {
         ensures stepped { IfOk result (λ e. Stepped SerialStandsFor W.did wires.old wires.new self.old self.new e) }
         ensures row { (taken sent : Lists) → SerialStandsFor self.new taken sent → SerialRow self.new taken sent }
         ensures turned { IfOk result (λ e. Turned (terminal_round self.old.terminal) e (terminal_round self.new.terminal)) }
-        ensures marks { KeepsMarks (terminal_round self.new.terminal) }
         ensures no_call { OnErr result (wires.new ≡ wires.old) }
         ensures unchanged { OnErr result (self.new ≡ self.old) }
     {

@@ -7,9 +7,8 @@ ghost use Rattle.std.specs.Option.{option_map, option_to_list};
 ghost use Rattle.wire_core.specs.Ends.{role_of, Role, End};
 ghost use Rattle.wire_core.specs.Lists.{Lists, Stepped};
 ghost use Rattle.turn_kit.specs.Table.{start_kept};
-ghost use Rattle.turn_kit.specs.Calls.{is_mark};
+ghost use Rattle.wire_core.specs.Marks.{is_mark};
 ghost use Rattle.turn_kit.specs.Turns.{Turned, Posted, choice_of, chosen, last_after, is_at_rest};
-ghost use Rattle.turn_kit.specs.Marks.{KeepsMarks};
 ghost use Rattle.turn_kit.specs.Hands.{held_in};
 ghost use Rattle.turn_kit.specs.Posts.{intake_post, outlet_post};
 ghost use Rattle.serial_switch.specs.Carried.{byte_cargo, bytes_carried};
@@ -160,7 +159,6 @@ impl Terminal {
         ensures stepped { IfOk result (λ e. Stepped TerminalStandsFor W.did wires.old wires.new self.old self.new e) }
         ensures row { (taken sent : Lists) → TerminalStandsFor self.new taken sent → TerminalRow self.new taken sent }
         ensures turned { IfOk result (λ e. Turned (terminal_round self.old) e (terminal_round self.new)) }
-        ensures marks { KeepsMarks (terminal_round self.new) }
         ensures no_call { OnErr result (wires.new ≡ wires.old) }
         ensures unchanged { OnErr result (self.new ≡ self.old) }
     {

@@ -4,4 +4,4 @@ pub mod Rounds
 pub mod Places
 pub mod Forgets
 pub mod Sharing
-pub mod Marking
+pub mod Sizes

@@ -3,11 +3,13 @@ use Rattle.std.proofs.lemmas.Option.{slice_get-get_or}
 use Rattle.wire_core.specs.declared.names.QueueId.{QueueId}
 use Rattle.wire_core.specs.declared.names.Event.{Event}
 use Rattle.turn_kit.specs.declared.turns.Turn.{Turn}
-use Rattle.turn_kit.specs.Calls.{is_mark}
+use Rattle.wire_core.specs.Marks.{is_mark}
 use Rattle.turn_kit.specs.Posts.{outlet_post, intake_post}
-use Rattle.turn_kit.specs.Turns.{Turned, PostedAt, choice_of, chosen, last_after}
+use Rattle.turn_kit.specs.Turns.{Turned, Posted, PostedAt, choice_of, chosen, last_after}
 use Rattle.turn_kit.specs.ManyEnds.{intake_queues, intake_posts, outlet_queues, outlet_posts, loads_from, is_here}
-use Rattle.turn_kit.proofs.Offers.{later, get_need, get_load}
+use Rattle.turn_kit.proofs.Offers.{first, later, get_need, get_load}
+use Rattle.turn_kit.proofs.Turning.{no_mark_at}
+use Rattle.serial_virt.proofs.Sizes.{rx_size, tx_size}
 use Rattle.serial_virt.specs.declared.tx.SerialVirtTx.{SerialVirtTx}
 use Rattle.std.specs.Option.{option_map}
 use Rattle.std.proofs.Math.Dec.{eqb}
@@ -29,13 +31,15 @@ tx_turned old mid new t e place k after is place_is there posted output still qu
     let posted' : PostedAt (intake_posts old.inputs) k (is_none old.load) e (intake_posts new.inputs) = subst (λ v. PostedAt (intake_posts v.inputs) k (is_none v.load) e (intake_posts new.inputs)) after posted in
     let out : new.output ≡ old.output = output ∙ ap (λ v. v.output) after in
     let same : intake_queues new.inputs ≡ intake_queues old.inputs = ap (drop 1) queues ∙ ap intake_queues inputs in
+    let posted'' : PostedAt (tx_round old).posts place (is_none old.load) e (tx_round new).posts = rw (place_is, out) (later (outlet_post old.output) (intake_posts old.inputs) (intake_posts new.inputs) k (is_none old.load) e posted') in
     record {
       place = place;
       need = is_none old.load;
       is_chosen = is;
       needed = rw place_is (get_need (is_none old.load) (intake_queues old.inputs) k (slice_index_or (intake_queues old.inputs) k no_queue) (slice_get-get_or (intake_queues old.inputs) k no_queue there));
-      posted = rw (place_is, out) (later (outlet_post old.output) (intake_posts old.inputs) (intake_posts new.inputs) k (is_none old.load) e posted');
-      needs = λ m. rw (same, still m, load) refl;
+      posted = posted'';
+      needs = λ m. rw (same, still (no_mark_at posted''.post e m), load) refl;
+      size = tx_size new;
       last = ap (λ t. t.last) (turn ∙ ap (λ v. v.turn) after) ∙ last;
     }
 
@@ -67,12 +71,34 @@ rx_turned old mid new t e place k after is place_is there posted input still to 
     let load : mid.load ≡ old.load = ap (λ v. v.load) after in
     let to' : new.to ≡ old.to = to ∙ ap (λ v. v.to) after in
     let same : outlet_queues new.outputs ≡ outlet_queues old.outputs = ap (drop 1) queues ∙ ap (λ v. outlet_queues v.outputs) after in
+    let posted'' : PostedAt (rx_round old).posts place (is_owed_at old k) e (rx_round new).posts = rw (place_is, into) (later (intake_post old.input) (outlet_posts old.outputs) (outlet_posts new.outputs) k (is_owed_at old k) e posted') in
     record {
       place = place;
       need = is_owed_at old k;
       is_chosen = is;
       needed = rw place_is (owed_at_place old k there);
-      posted = rw (place_is, into) (later (intake_post old.input) (outlet_posts old.outputs) (outlet_posts new.outputs) k (is_owed_at old k) e posted');
-      needs = λ m. rw (same, still m, load, to') refl;
+      posted = posted'';
+      needs = λ m. rw (same, still (no_mark_at posted''.post e m), load, to') refl;
+      size = rx_size new;
+      last = ap (λ t. t.last) (turn ∙ ap (λ v. v.turn) after) ∙ last;
+    }
+
+-- the input of the receiving virtualiser had its turn
+pub rx_input_turned : (old mid new : SerialVirtRx) (t : Turn) (e : Event) (place : ℕ) → mid ≡ record old { turn = t } → place ≡ chosen (choice_of (rx_round old)) → place ≡ 0
+    → Posted (intake_post mid.input) (is_none mid.load) e (intake_post new.input) → new.outputs ≡ mid.outputs → (is_mark e.op e.answer ≡ false → new.load ≡ mid.load) → (is_mark e.op e.answer ≡ false → new.to ≡ mid.to) → new.turn ≡ mid.turn → t.last ≡ last_after (choice_of (rx_round old)) → Turned (rx_round old) e (rx_round new)
+rx_input_turned old mid new t e place after is place_is posted outputs still to turn last =
+    let posted' : Posted (intake_post old.input) (is_none old.load) e (intake_post new.input) = subst (λ v. Posted (intake_post v.input) (is_none v.load) e (intake_post new.input)) after posted in
+    let out : new.outputs ≡ old.outputs = outputs ∙ ap (λ v. v.outputs) after in
+    let load : mid.load ≡ old.load = ap (λ v. v.load) after in
+    let to' : mid.to ≡ old.to = ap (λ v. v.to) after in
+    let posted'' : PostedAt (rx_round old).posts place (is_none old.load) e (rx_round new).posts = rw (place_is, out) (first (intake_post old.input) (intake_post new.input) (outlet_posts old.outputs) (is_none old.load) e posted') in
+    record {
+      place = place;
+      need = is_none old.load;
+      is_chosen = is;
+      needed = rw place_is refl;
+      posted = posted'';
+      needs = λ m. rw (out, still (no_mark_at posted''.post e m), to (no_mark_at posted''.post e m), load, to') refl;
+      size = rx_size new;
       last = ap (λ t. t.last) (turn ∙ ap (λ v. v.turn) after) ∙ last;
     }

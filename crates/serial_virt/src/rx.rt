@@ -3,10 +3,9 @@ ghost use Rattle.std.specs.Option.{ForSome, option_to_list};
 ghost use Rattle.cargo_core.specs.Items.{kind_of};
 ghost use Rattle.wire_core.specs.Ends.{role_of, Role, End, Producer, Consumer};
 ghost use Rattle.wire_core.specs.Lists.{Lists, Stepped};
-ghost use Rattle.turn_kit.specs.Calls.{is_mark};
+ghost use Rattle.wire_core.specs.Marks.{is_mark};
 ghost use Rattle.turn_kit.specs.Turns.{Turned, Posted, PostedAt, choice_of, chosen, last_after, is_at_rest};
 ghost use Rattle.turn_kit.specs.Posts.{intake_post};
-ghost use Rattle.turn_kit.specs.Marks.{KeepsMarks};
 ghost use Rattle.turn_kit.specs.Hands.{held_in};
 ghost use Rattle.turn_kit.specs.ManyEnds.{outlet_queues, outlet_posts};
 ghost use Rattle.serial_switch.specs.Carried.{bytes_carried, byte_cargo};
@@ -190,7 +189,6 @@ impl SerialVirtRx {
         ensures stepped { Stepped RxStandsFor W.did wires.old wires.new self.old self.new result }
         ensures row { (taken sent : Lists) → RxStandsFor self.new taken sent → RxRow self.new taken sent }
         ensures turned { Turned (rx_round self.old) result (rx_round self.new) }
-        ensures marks { KeepsMarks (rx_round self.new) }
     {
         let place = self.choose();
         if place == 0 {

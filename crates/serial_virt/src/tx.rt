@@ -1,10 +1,9 @@
 ghost use Rattle.std.specs.Prelude.{◌≡◌, ◌<◌, ◌+◌, ℕ, [], None, IfOk, length, is_none, is_some, false, map};
 ghost use Rattle.wire_core.specs.Ends.{role_of, Role, End, Producer, Consumer};
 ghost use Rattle.wire_core.specs.Lists.{Lists, Stepped};
-ghost use Rattle.turn_kit.specs.Calls.{is_mark};
+ghost use Rattle.wire_core.specs.Marks.{is_mark};
 ghost use Rattle.turn_kit.specs.Turns.{Turned, Posted, PostedAt, choice_of, chosen, last_after, is_at_rest};
 ghost use Rattle.turn_kit.specs.Posts.{outlet_post};
-ghost use Rattle.turn_kit.specs.Marks.{KeepsMarks};
 ghost use Rattle.turn_kit.specs.Hands.{held_in};
 ghost use Rattle.turn_kit.specs.ManyEnds.{intake_queues, intake_posts};
 ghost use Rattle.serial_virt.specs.Forgetting.{intake_forgotten, outlet_forgotten};
@@ -134,7 +133,6 @@ impl SerialVirtTx {
         ensures stepped { Stepped TxStandsFor W.did wires.old wires.new self.old self.new result }
         ensures row { (taken sent : Lists) → TxStandsFor self.new taken sent → TxRow self.new taken sent }
         ensures turned { Turned (tx_round self.old) result (tx_round self.new) }
-        ensures marks { KeepsMarks (tx_round self.new) }
     {
         let place = self.choose();
         if place == 0 {

@@ -9,7 +9,8 @@ use Rattle.wire_core.specs.declared.names.Ringer.{Ringer}
 use Rattle.wire_core.specs.declared.names.Ringer.TheVariants as Rung
 use Rattle.turn_kit.specs.declared.kept.Kept.{Kept}
 use Rattle.turn_kit.specs.Table.{next_op, kept_after, is_settled}
-use Rattle.turn_kit.specs.Calls.{is_mark, may_answer, calls_left}
+use Rattle.wire_core.specs.Marks.{is_mark}
+use Rattle.turn_kit.specs.Calls.{may_answer, calls_left}
 
 -- each lemma is shown for each state of an end and each answer, by computing it
 

@@ -10,3 +10,6 @@ pub mod Choosing
 pub mod Turning
 pub mod Waking
 pub mod Marking
+pub mod Even
+pub mod Pacing
+pub mod Playing

@@ -8,7 +8,8 @@ use Rattle.wire_core.specs.declared.names.Waiter.TheVariants as Wait
 use Rattle.wire_core.specs.declared.names.Ringer.{Ringer}
 use Rattle.wire_core.specs.declared.names.Ringer.TheVariants as Rung
 use Rattle.turn_kit.specs.Table.{next_op, kept_after, is_settled}
-use Rattle.turn_kit.specs.Calls.{is_mark, may_answer, is_waking}
+use Rattle.wire_core.specs.Marks.{is_mark}
+use Rattle.turn_kit.specs.Calls.{may_answer, is_waking}
 use Rattle.turn_kit.proofs.Calls.{end_kept}
 
 -- each lemma is shown for each state of an end and each answer, by computing it

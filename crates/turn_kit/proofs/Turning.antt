@@ -1,4 +1,4 @@
-use Rattle.std.proofs.Common.{◌≡◌, ◌≢◌, ◌⊎◌, ◌+◌, ◌==◌, ◌<◌, ◌≤◌, ◌&&◌, ℕ, zero, suc, Bool, true, false, not, cond, Option, Some, None, is_none, List, [], ◌∷◌, length, slice_get, slice_set, length-set, refl, sym, ap, ◌∙◌, subst, inl, inr, arith, zero-add, eq-eqb}
+use Rattle.std.proofs.Common.{◌≡◌, ◌≢◌, ◌⊎◌, ◌+◌, ◌==◌, ◌<◌, ◌≤◌, ◌&&◌, ◌||◌, ℕ, zero, suc, Bool, true, false, not, cond, Option, Some, None, is_none, List, [], ◌∷◌, length, slice_get, slice_set, length-set, refl, sym, ap, ◌∙◌, subst, inl, inr, arith, zero-add, eq-eqb}
 use Rattle.std.proofs.Math.Dec.{eqb}
 use Rattle.std.proofs.lemmas.Bool.{ltb-true, ltb-false, lt-ltb}
 use Rattle.std.proofs.lemmas.Bool.Decides.{eqb_tells}
@@ -7,8 +7,9 @@ use Rattle.wire_core.specs.declared.names.Event.{Event}
 use Rattle.wire_core.specs.Bells.{bit}
 use Rattle.wire_core.proofs.Places.{slice_get_written, slice_get_beside}
 use Rattle.turn_kit.specs.Table.{next_op, kept_after, is_settled}
-use Rattle.turn_kit.specs.Calls.{is_mark, may_answer, calls_left, settling_left, is_moving}
-use Rattle.turn_kit.specs.Turns.{Post, Posted, Round, Turned, IsRound, IsNext, choosing, choice_of, chosen, last_after, place_or, queue_or, is_at_rest, settled_all, Unsettled, calls_on}
+use Rattle.wire_core.specs.Marks.{is_mark}
+use Rattle.turn_kit.specs.Calls.{may_answer, calls_left, settling_left, is_moving}
+use Rattle.turn_kit.specs.Turns.{Post, Posted, is_drop, is_mark_at, forgotten_if, Round, Turned, IsRound, IsNext, choosing, choice_of, chosen, last_after, place_or, queue_or, is_at_rest, settled_all, Unsettled, calls_on}
 use Rattle.turn_kit.specs.declared.turns.Stand.{Stand}
 use Rattle.turn_kit.proofs.Calls.{nearer}
 use Rattle.turn_kit.proofs.Settles.{settles}
@@ -16,22 +17,38 @@ use Rattle.turn_kit.proofs.Moves.{moving_stays}
 use Rattle.turn_kit.proofs.Bounds.{moving_unsettled}
 use Rattle.turn_kit.proofs.Choosing.{some_is, best, best_none, is_loose, is_late, is_any, offered_best, Among, Found, found, rest_none, none_rest}
 
--- what is known of one call at one end
-module _ (p moved : Post) (b : Bool) (e : Event) (h : Posted p b e moved) (m : is_mark e.op e.answer ≡ false) where
+or_left : (a b : Bool) → (a || b) ≡ false → a ≡ false
+or_left false b h = refl
+or_left true b h = cc
+
+or_right : (a b : Bool) → (a || b) ≡ false → b ≡ false
+or_right false b h = h
+or_right true b h = cc
+
+-- a call that is no mark of its actor is none elsewhere, and no drop
+pub no_mark_at : (p : Post) (e : Event) → is_mark_at p e ≡ false → is_mark e.op e.answer ≡ false
+no_mark_at p e m = or_right (is_drop p e) (is_mark e.op e.answer) m
+
+no_drop_at : (p : Post) (e : Event) → is_mark_at p e ≡ false → is_drop p e ≡ false
+no_drop_at p e m = or_left (is_drop p e) (is_mark e.op e.answer) m
+
+-- an end keeps its queue and its side
+pub queue_is : (p moved : Post) (b : Bool) (e : Event) → Posted p b e moved → moved.queue ≡ p.queue
+queue_is p moved b e h = ap (λ (x : Post). x.queue) h.after
+
+pub side_is : (p moved : Post) (b : Bool) (e : Event) → Posted p b e moved → moved.side ≡ p.side
+side_is p moved b e h = ap (λ (x : Post). x.side) h.after
+
+-- what is known of one call at one end that is no mark
+module _ (p moved : Post) (b : Bool) (e : Event) (h : Posted p b e moved) (m : is_mark_at p e ≡ false) where
   pub no_mark : is_mark (next_op p.kept p.side b) e.answer ≡ false
-  no_mark = subst (λ o. is_mark o e.answer ≡ false) h.op m
+  no_mark = subst (λ o. is_mark o e.answer ≡ false) h.op (no_mark_at p e m)
 
   pub answers : may_answer (next_op p.kept p.side b) e.answer ≡ true
   answers = subst (λ o. may_answer o e.answer ≡ true) h.op h.answer
 
   pub kept_is : moved.kept ≡ kept_after p.kept (next_op p.kept p.side b) e.answer
-  kept_is = ap (λ (x : Post). x.kept) h.after ∙ ap (λ o. kept_after p.kept o e.answer) h.op
-
-  pub queue_is : moved.queue ≡ p.queue
-  queue_is = ap (λ (x : Post). x.queue) h.after
-
-  pub side_is : moved.side ≡ p.side
-  side_is = ap (λ (x : Post). x.side) h.after
+  kept_is = ap (λ (x : Post). x.kept) h.after ∙ (ap (λ d. forgotten_if d (kept_after p.kept e.op e.answer)) (no_drop_at p e m) ∙ ap (λ o. kept_after p.kept o e.answer) h.op)
 
   pub post_nearer : is_settled p.kept b ≡ false → calls_left moved.kept b + 1 ≤ calls_left p.kept b
   post_nearer s = rw kept_is (nearer p.kept.ringer p.kept.waiter b p.kept.look p.side e.answer s no_mark answers)
@@ -163,7 +180,7 @@ module _ (r : Round) (e : Event) (m : Round) (t : Turned r e m) (ok : IsRound r)
           inl (p_is, b_is, subst (λ x. Posted x b e t.posted.moved) (sym p_is) (subst (λ n. Posted t.posted.post n e t.posted.moved) (sym b_is) t.posted.posted), ap (λ ps. slice_get ps j) t.posted.after ∙ (ap (slice_get (slice_set r.posts t.place t.posted.moved)) same.1 ∙ slice_get_written r.posts t.place t.posted.post t.posted.moved t.posted.there))
       decide (inr apart) = inr ((λ q. apart.1 (ok.apart j t.place p t.posted.post at t.posted.there (sym q ∙ t.posted.posted.queue))), ap (λ ps. slice_get ps j) t.posted.after ∙ (slice_get_beside r.posts t.place j t.posted.moved apart.1 ∙ at))
 
-  old_post : (k : ℕ) (p : Post) → slice_get m.posts k ≡ Some p → (q : Post) × (slice_get r.posts k ≡ Some q) × (q.queue ≡ p.queue)
+  pub old_post : (k : ℕ) (p : Post) → slice_get m.posts k ≡ Some p → (q : Post) × (slice_get r.posts k ≡ Some q) × (q.queue ≡ p.queue)
   old_post k p at = decide (eqb_tells k t.place)
     where
       decide : ((eqb k t.place ≡ true) × (k ≡ t.place)) ⊎ ((eqb k t.place ≡ false) × (k ≢ t.place)) → (q : Post) × (slice_get r.posts k ≡ Some q) × (q.queue ≡ p.queue)
@@ -175,10 +192,11 @@ module _ (r : Round) (e : Event) (m : Round) (t : Turned r e m) (ok : IsRound r)
   pub same_length : length m.posts ≡ length r.posts
   same_length = ap length t.posted.after ∙ length-set r.posts t.place t.posted.moved
 
-  pub round_next : is_mark e.op e.answer ≡ false → IsRound m
-  round_next n = record {
+  -- each end has its need afterwards, and no two ends are of one queue
+  pub round_next : IsRound m
+  round_next = record {
     some = subst (λ x. 0 < x) (sym same_length) ok.some;
-    needs = ap length (t.needs n) ∙ (ok.needs ∙ sym same_length);
+    needs = t.size;
     apart = λ k j p q atk atj same. let a = old_post k p atk in let b = old_post j q atj in ok.apart k j a.0 b.0 a.1 b.1 (a.2 ∙ (same ∙ sym b.2));
   }
 
@@ -195,16 +213,16 @@ bit_other a b h = decide (eqb_tells a b)
 -- before it is settled or a mark comes, an end makes at most so many calls
 pub few_calls : (es : List Event) (r new : Round) → IsRound r → Unsettled r es new → (j : ℕ) (p : Post) (b : Bool) → slice_get r.posts j ≡ Some p → slice_get r.needs j ≡ Some b → calls_on p.queue es ≤ calls_left p.kept b
 few_calls [] r new ok u j p b at need = omega arith
-few_calls (e ∷ es) r new ok u j p b at need = elim (moved_or r e u.0 u.3 ok j p b at need) [
+few_calls (e ∷ es) r new ok u j p b at need = elim (moved_or r e u.0 u.2 ok j p b at need) [
   | inl h ↦
-      let next = few_calls es u.0 new (round_next r e u.0 u.3 ok u.2) u.4 j u.3.posted.moved b h.3 (ap (λ ns. slice_get ns j) (u.3.needs u.2) ∙ need) in
-      let settled : is_settled p.kept b ≡ false = ap (λ (x : Post). is_settled x.kept b) h.0 ∙ (ap (is_settled u.3.posted.post.kept) h.1 ∙ (loose_chosen r e u.0 u.3 ok u.1).0) in
-      let near = post_nearer p u.3.posted.moved b e h.2 u.2 settled in
+      let next = few_calls es u.0 new (round_next r e u.0 u.2 ok) u.4 j u.2.posted.moved b h.3 (ap (λ ns. slice_get ns j) (u.2.needs u.3) ∙ need) in
+      let settled : is_settled p.kept b ≡ false = ap (λ (x : Post). is_settled x.kept b) h.0 ∙ (ap (is_settled u.2.posted.post.kept) h.1 ∙ (loose_chosen r e u.0 u.2 ok u.1).0) in
+      let near = post_nearer p u.2.posted.moved b e h.2 (ap (λ (x : Post). is_mark_at x e) h.0 ∙ u.3) settled in
       let here : bit (e.queue.0 == p.queue) ≡ 1 = bit_same e.queue.0 p.queue h.2.queue in
-      let rest : calls_on p.queue es ≤ calls_left u.3.posted.moved.kept b = subst (λ n. calls_on n es ≤ calls_left u.3.posted.moved.kept b) (queue_is p u.3.posted.moved b e h.2 u.2) next in
+      let rest : calls_on p.queue es ≤ calls_left u.2.posted.moved.kept b = subst (λ n. calls_on n es ≤ calls_left u.2.posted.moved.kept b) (queue_is p u.2.posted.moved b e h.2) next in
       omega (arith, near, here, rest)
   | inr h ↦
-      let next = few_calls es u.0 new (round_next r e u.0 u.3 ok u.2) u.4 j p b h.1 (ap (λ ns. slice_get ns j) (u.3.needs u.2) ∙ need) in
+      let next = few_calls es u.0 new (round_next r e u.0 u.2 ok) u.4 j p b h.1 (ap (λ ns. slice_get ns j) (u.2.needs u.3) ∙ need) in
       let here : bit (e.queue.0 == p.queue) ≡ 0 = bit_other e.queue.0 p.queue h.0 in
       omega (arith, next, here)
 ]
@@ -212,9 +230,9 @@ few_calls (e ∷ es) r new ok u j p b at need = elim (moved_or r e u.0 u.3 ok j 
 -- an end that saw that it can move an entry goes on so
 pub still_moving : (es : List Event) (r new : Round) → IsRound r → Unsettled r es new → (j : ℕ) (p : Post) (b : Bool) → slice_get r.posts j ≡ Some p → slice_get r.needs j ≡ Some b → is_moving p.kept b ≡ true → (q : Post) × (slice_get new.posts j ≡ Some q) × (slice_get new.needs j ≡ Some b) × (is_moving q.kept b ≡ true)
 still_moving [] r new ok u j p b at need h = (p, ap (λ (x : Round). slice_get x.posts j) (sym u) ∙ at, ap (λ (x : Round). slice_get x.needs j) (sym u) ∙ need, h)
-still_moving (e ∷ es) r new ok u j p b at need h = elim (moved_or r e u.0 u.3 ok j p b at need) [
-  | inl g ↦ still_moving es u.0 new (round_next r e u.0 u.3 ok u.2) u.4 j u.3.posted.moved b g.3 (ap (λ ns. slice_get ns j) (u.3.needs u.2) ∙ need) (post_moving p u.3.posted.moved b e g.2 u.2 h)
-  | inr g ↦ still_moving es u.0 new (round_next r e u.0 u.3 ok u.2) u.4 j p b g.1 (ap (λ ns. slice_get ns j) (u.3.needs u.2) ∙ need) h
+still_moving (e ∷ es) r new ok u j p b at need h = elim (moved_or r e u.0 u.2 ok j p b at need) [
+  | inl g ↦ still_moving es u.0 new (round_next r e u.0 u.2 ok) u.4 j u.2.posted.moved b g.3 (ap (λ ns. slice_get ns j) (u.2.needs u.3) ∙ need) (post_moving p u.2.posted.moved b e g.2 (ap (λ (x : Post). is_mark_at x e) g.0 ∙ u.3) h)
+  | inr g ↦ still_moving es u.0 new (round_next r e u.0 u.2 ok) u.4 j p b g.1 (ap (λ ns. slice_get ns j) (u.2.needs u.3) ∙ need) h
 ]
 
 -- where all are settled, each is
@@ -234,18 +252,18 @@ not_moving_if true h = absurd (h refl)
 -- where at last all are settled, an end made at most so many calls
 pub settling_calls : (es : List Event) (r new : Round) → IsRound r → Unsettled r es new → is_at_rest new ≡ true → (j : ℕ) (p : Post) (b : Bool) → slice_get r.posts j ≡ Some p → slice_get r.needs j ≡ Some b → calls_on p.queue es ≤ settling_left p.kept b
 settling_calls [] r new ok u rest j p b at need = omega arith
-settling_calls (e ∷ es) r new ok u rest j p b at need = elim (moved_or r e u.0 u.3 ok j p b at need) [
+settling_calls (e ∷ es) r new ok u rest j p b at need = elim (moved_or r e u.0 u.2 ok j p b at need) [
   | inl h ↦
-      let need' : slice_get u.0.needs j ≡ Some b = ap (λ ns. slice_get ns j) (u.3.needs u.2) ∙ need in
-      let next = settling_calls es u.0 new (round_next r e u.0 u.3 ok u.2) u.4 rest j u.3.posted.moved b h.3 need' in
-      let settled : is_settled p.kept b ≡ false = ap (λ (x : Post). is_settled x.kept b) h.0 ∙ (ap (is_settled u.3.posted.post.kept) h.1 ∙ (loose_chosen r e u.0 u.3 ok u.1).0) in
-      let not_moving : is_moving u.3.posted.moved.kept b ≡ false = not_moving_if (is_moving u.3.posted.moved.kept b) (λ g. let q = still_moving es u.0 new (round_next r e u.0 u.3 ok u.2) u.4 j u.3.posted.moved b h.3 need' g in settled_no q.0 b (rest_at new.posts new.needs j q.0 b rest q.1 q.2) q.3) in
-      let near = post_settles p u.3.posted.moved b e h.2 u.2 settled not_moving in
+      let need' : slice_get u.0.needs j ≡ Some b = ap (λ ns. slice_get ns j) (u.2.needs u.3) ∙ need in
+      let next = settling_calls es u.0 new (round_next r e u.0 u.2 ok) u.4 rest j u.2.posted.moved b h.3 need' in
+      let settled : is_settled p.kept b ≡ false = ap (λ (x : Post). is_settled x.kept b) h.0 ∙ (ap (is_settled u.2.posted.post.kept) h.1 ∙ (loose_chosen r e u.0 u.2 ok u.1).0) in
+      let not_moving : is_moving u.2.posted.moved.kept b ≡ false = not_moving_if (is_moving u.2.posted.moved.kept b) (λ g. let q = still_moving es u.0 new (round_next r e u.0 u.2 ok) u.4 j u.2.posted.moved b h.3 need' g in settled_no q.0 b (rest_at new.posts new.needs j q.0 b rest q.1 q.2) q.3) in
+      let near = post_settles p u.2.posted.moved b e h.2 (ap (λ (x : Post). is_mark_at x e) h.0 ∙ u.3) settled not_moving in
       let here : bit (e.queue.0 == p.queue) ≡ 1 = bit_same e.queue.0 p.queue h.2.queue in
-      let rest : calls_on p.queue es ≤ settling_left u.3.posted.moved.kept b = subst (λ n. calls_on n es ≤ settling_left u.3.posted.moved.kept b) (queue_is p u.3.posted.moved b e h.2 u.2) next in
+      let rest : calls_on p.queue es ≤ settling_left u.2.posted.moved.kept b = subst (λ n. calls_on n es ≤ settling_left u.2.posted.moved.kept b) (queue_is p u.2.posted.moved b e h.2) next in
       omega (arith, near, here, rest)
   | inr h ↦
-      let next = settling_calls es u.0 new (round_next r e u.0 u.3 ok u.2) u.4 rest j p b h.1 (ap (λ ns. slice_get ns j) (u.3.needs u.2) ∙ need) in
+      let next = settling_calls es u.0 new (round_next r e u.0 u.2 ok) u.4 rest j p b h.1 (ap (λ ns. slice_get ns j) (u.2.needs u.3) ∙ need) in
       let here : bit (e.queue.0 == p.queue) ≡ 0 = bit_other e.queue.0 p.queue h.0 in
       omega (arith, next, here)
 ]

@@ -8,18 +8,19 @@ use Rattle.wire_core.specs.declared.names.Answer.{Answer}
 use Rattle.wire_core.specs.declared.names.Answer.TheVariants.{Done, Yes, No}
 use Rattle.wire_core.specs.Bells.{bit}
 use Rattle.turn_kit.specs.Table.{is_settled}
-use Rattle.turn_kit.specs.Calls.{is_mark, may_answer, is_waking}
-use Rattle.turn_kit.specs.Turns.{Post, Posted, Round, Turned, IsRound, IsNext, is_at_rest, settled_all, Unmarked, IsVainWake, WokenInVain}
+use Rattle.wire_core.specs.Marks.{is_mark}
+use Rattle.turn_kit.specs.Calls.{may_answer, is_waking}
+use Rattle.turn_kit.specs.Turns.{Post, Posted, is_mark_at, Round, Turned, IsRound, IsNext, is_at_rest, settled_all, Unmarked, IsVainWake, WokenInVain}
 use Rattle.turn_kit.proofs.Rests.{settled_wakes}
 use Rattle.turn_kit.proofs.Bounds.{waking_settled, waking_op}
 use Rattle.turn_kit.proofs.Choosing.{some_is}
-use Rattle.turn_kit.proofs.Turning.{no_mark, answers, kept_is, queue_is, side_is, need_at, rest_at, rest_chosen, moved_or, round_next, same_length, and_left, and_right}
+use Rattle.turn_kit.proofs.Turning.{no_mark_at, no_mark, answers, kept_is, queue_is, side_is, need_at, rest_at, rest_chosen, moved_or, round_next, same_length, and_left, and_right}
 
 abbrev count_of : (ℕ → Bool) → List Post → ℕ
 count_of f [] = 0
 count_of f (p ∷ ps) = bit (f p.queue) + count_of f ps
 
-bit_le : (a b : Bool) → (a ≡ true → b ≡ true) → bit a ≤ bit b
+pub bit_le : (a b : Bool) → (a ≡ true → b ≡ true) → bit a ≤ bit b
 bit_le false true h = omega arith
 bit_le false false h = omega arith
 bit_le true true h = omega arith
@@ -54,7 +55,7 @@ count_set f (x ∷ ps) zero p q at same = ap (λ n. bit (f n) + count_of f ps) (
 count_set f (x ∷ ps) (suc k) p q at same = ap (λ n. bit (f x.queue) + n) (count_set f ps k p q at same)
 
 -- in rising order from the last on, and round again, y comes before q
-abbrev between : ℕ → ℕ → ℕ → Bool
+abbrev pub between : ℕ → ℕ → ℕ → Bool
 between last q y = cond (nat_lt last q) (nat_lt last y && nat_lt y q) (nat_lt last y || nat_lt y q)
 
 between_high : (last q y : ℕ) → last < q → between last q y ≡ (nat_lt last y && nat_lt y q)
@@ -146,7 +147,7 @@ below x q h n = go (nat_lt x q) refl
     go true e = ltb-true x q e
     go false e = let l = ltb-false x q e in absurd (n (omega (arith, h, l)))
 
-next_nearer : (last : ℕ) (ps : List Post) (x : ℕ) (k : ℕ) (p : Post) → slice_get ps k ≡ Some p → IsNext last ps x → (x ≡ p.queue → ⊥) → Nearer last p.queue x
+pub next_nearer : (last : ℕ) (ps : List Post) (x : ℕ) (k : ℕ) (p : Post) → slice_get ps k ≡ Some p → IsNext last ps x → (x ≡ p.queue → ⊥) → Nearer last p.queue x
 next_nearer last ps x k p at (inl h) n = go (nat_lt last p.queue) refl
   where
     go : (v : Bool) → nat_lt last p.queue ≡ v → Nearer last p.queue x
@@ -176,7 +177,7 @@ settled_set (p ∷ ps) [] k q n h at g = cc
 settled_set (p ∷ ps) (m ∷ ns) zero q n h at g = both (is_settled q.kept m) (settled_all ps ns) (ap (is_settled q.kept) (some_is at) ∙ g) (and_right (is_settled p.kept m) (settled_all ps ns) h)
 settled_set (p ∷ ps) (m ∷ ns) (suc k) q n h at g = both (is_settled p.kept m) (settled_all (slice_set ps k q) ns) (and_left (is_settled p.kept m) (settled_all ps ns) h) (settled_set ps ns k q n (and_right (is_settled p.kept m) (settled_all ps ns) h) at g)
 
-module _ (p moved : Post) (b : Bool) (e : Event) (h : Posted p b e moved) (m : is_mark e.op e.answer ≡ false) where
+module _ (p moved : Post) (b : Bool) (e : Event) (h : Posted p b e moved) (m : is_mark_at p e ≡ false) where
   pub then_waking : is_settled p.kept b ≡ true → is_waking moved.kept b ≡ true
   then_waking s = rw (kept_is p moved b e h m) (settled_wakes p.kept.ringer p.kept.waiter b p.kept.look p.side e.answer s (no_mark p moved b e h m) (answers p moved b e h m))
 
@@ -192,15 +193,15 @@ module _ (p moved : Post) (b : Bool) (e : Event) (h : Posted p b e moved) (m : i
       no Done x y = cc
 
   pub vainly : is_waking p.kept b ≡ true → IsVainWake p.queue p.side e
-  vainly w = let o : e.op ≡ Do.Wake p.side = h.op ∙ waking_op p.kept.ringer p.kept.waiter b p.kept.look p.side w in record { queue = h.queue; op = o; answer = answers_no e.op p.side o m h.answer }
+  vainly w = let o : e.op ≡ Do.Wake p.side = h.op ∙ waking_op p.kept.ringer p.kept.waiter b p.kept.look p.side w in record { queue = h.queue; op = o; answer = answers_no e.op p.side o (no_mark_at p e m) h.answer }
 
-pub rest_next : (r : Round) (e : Event) (m : Round) (t : Turned r e m) → is_mark e.op e.answer ≡ false → is_at_rest r ≡ true → is_at_rest m ≡ true
+pub rest_next : (r : Round) (e : Event) (m : Round) (t : Turned r e m) → is_mark_at t.posted.post e ≡ false → is_at_rest r ≡ true → is_at_rest m ≡ true
 rest_next r e m t n rest = ap (λ ps. settled_all ps m.needs) t.posted.after ∙ (ap (settled_all (slice_set r.posts t.place t.posted.moved)) (t.needs n) ∙ settled_set r.posts r.needs t.place t.posted.moved t.need rest t.needed (then_settled t.posted.post t.posted.moved t.need e t.posted.posted n (rest_at r.posts r.needs t.place t.posted.post t.need rest t.posted.there t.needed)))
 
 -- where all are settled they stay so until a mark
 pub rest_stays : (es : List Event) (r new : Round) → Unmarked r es new → is_at_rest r ≡ true → is_at_rest new ≡ true
 rest_stays [] r new u rest = ap is_at_rest (sym u) ∙ rest
-rest_stays (e ∷ es) r new u rest = rest_stays es u.0 new u.3 (rest_next r e u.0 u.2 u.1 rest)
+rest_stays (e ∷ es) r new u rest = rest_stays es u.0 new u.3 (rest_next r e u.0 u.1 u.2 rest)
 
 later_wake : (n : ℕ) (side : Side) (e : Event) (es : List Event) → WokenInVain n side es → WokenInVain n side (e ∷ es)
 later_wake n side e es w = record { place = suc w.place; event = w.event; there = w.there; vain = w.vain }
@@ -208,25 +209,25 @@ later_wake n side e es w = record { place = suc w.place; event = w.event; there 
 -- an end whose next call is a wake makes it within a round
 within_round : (es : List Event) (r new : Round) → IsRound r → is_at_rest r ≡ true → Unmarked r es new → (j : ℕ) (p : Post) (b : Bool) → slice_get r.posts j ≡ Some p → slice_get r.needs j ≡ Some b → is_waking p.kept b ≡ true → gap r p.queue + 1 ≤ length es → WokenInVain p.queue p.side es
 within_round [] r new ok rest u j p b at need w h = absurd (omega (arith, h))
-within_round (e ∷ es) r new ok rest u j p b at need w h = elim (moved_or r e u.0 u.2 ok j p b at need) [
-  | inl g ↦ record { place = 0; event = e; there = refl; vain = vainly p u.2.posted.moved b e g.2 u.1 w }
-  | inr g ↦ let f = gap_falls r e u.0 u.2 ok rest j p at g.0 in later_wake p.queue p.side e es (within_round es u.0 new (round_next r e u.0 u.2 ok u.1) (rest_next r e u.0 u.2 u.1 rest) u.3 j p b g.1 (ap (λ ns. slice_get ns j) (u.2.needs u.1) ∙ need) w (omega (arith, h, f)))
+within_round (e ∷ es) r new ok rest u j p b at need w h = elim (moved_or r e u.0 u.1 ok j p b at need) [
+  | inl g ↦ record { place = 0; event = e; there = refl; vain = vainly p u.1.posted.moved b e g.2 (ap (λ (x : Post). is_mark_at x e) g.0 ∙ u.2) w }
+  | inr g ↦ let f = gap_falls r e u.0 u.1 ok rest j p at g.0 in later_wake p.queue p.side e es (within_round es u.0 new (round_next r e u.0 u.1 ok) (rest_next r e u.0 u.1 u.2 rest) u.3 j p b g.1 (ap (λ ns. slice_get ns j) (u.1.needs u.2) ∙ need) w (omega (arith, h, f)))
 ]
 
 -- any end makes a wake within two
 within_two : (es : List Event) (r new : Round) → IsRound r → is_at_rest r ≡ true → Unmarked r es new → (j : ℕ) (p : Post) (b : Bool) → slice_get r.posts j ≡ Some p → slice_get r.needs j ≡ Some b → gap r p.queue + 1 + length r.posts ≤ length es → WokenInVain p.queue p.side es
 within_two [] r new ok rest u j p b at need h = absurd (omega (arith, h))
-within_two (e ∷ es) r new ok rest u j p b at need h = elim (moved_or r e u.0 u.2 ok j p b at need) [
+within_two (e ∷ es) r new ok rest u j p b at need h = elim (moved_or r e u.0 u.1 ok j p b at need) [
   | inl g ↦
-      let need' : slice_get u.0.needs j ≡ Some b = ap (λ ns. slice_get ns j) (u.2.needs u.1) ∙ need in
-      let small = gap_small u.0 j u.2.posted.moved g.3 in
-      let long = same_length r e u.0 u.2 ok in
-      let w = within_round es u.0 new (round_next r e u.0 u.2 ok u.1) (rest_next r e u.0 u.2 u.1 rest) u.3 j u.2.posted.moved b g.3 need' (then_waking p u.2.posted.moved b e g.2 u.1 (rest_at r.posts r.needs j p b rest at need)) (omega (arith, h, small, long)) in
-      later_wake p.queue p.side e es (subst (λ s. WokenInVain p.queue s es) (side_is p u.2.posted.moved b e g.2 u.1) (subst (λ n. WokenInVain n u.2.posted.moved.side es) (queue_is p u.2.posted.moved b e g.2 u.1) w))
+      let need' : slice_get u.0.needs j ≡ Some b = ap (λ ns. slice_get ns j) (u.1.needs u.2) ∙ need in
+      let small = gap_small u.0 j u.1.posted.moved g.3 in
+      let long = same_length r e u.0 u.1 ok in
+      let w = within_round es u.0 new (round_next r e u.0 u.1 ok) (rest_next r e u.0 u.1 u.2 rest) u.3 j u.1.posted.moved b g.3 need' (then_waking p u.1.posted.moved b e g.2 (ap (λ (x : Post). is_mark_at x e) g.0 ∙ u.2) (rest_at r.posts r.needs j p b rest at need)) (omega (arith, h, small, long)) in
+      later_wake p.queue p.side e es (subst (λ s. WokenInVain p.queue s es) (side_is p u.1.posted.moved b e g.2) (subst (λ n. WokenInVain n u.1.posted.moved.side es) (queue_is p u.1.posted.moved b e g.2) w))
   | inr g ↦
-      let f = gap_falls r e u.0 u.2 ok rest j p at g.0 in
-      let long = same_length r e u.0 u.2 ok in
-      later_wake p.queue p.side e es (within_two es u.0 new (round_next r e u.0 u.2 ok u.1) (rest_next r e u.0 u.2 u.1 rest) u.3 j p b g.1 (ap (λ ns. slice_get ns j) (u.2.needs u.1) ∙ need) (omega (arith, h, f, long)))
+      let f = gap_falls r e u.0 u.1 ok rest j p at g.0 in
+      let long = same_length r e u.0 u.1 ok in
+      later_wake p.queue p.side e es (within_two es u.0 new (round_next r e u.0 u.1 ok) (rest_next r e u.0 u.1 u.2 rest) u.3 j p b g.1 (ap (λ ns. slice_get ns j) (u.1.needs u.2) ∙ need) (omega (arith, h, f, long)))
 ]
 
 pub two_rounds : (r new : Round) (es : List Event) → IsRound r → is_at_rest r ≡ true → Unmarked r es new → length r.posts + length r.posts ≤ length es → (j : ℕ) (p : Post) → slice_get r.posts j ≡ Some p → WokenInVain p.queue p.side es

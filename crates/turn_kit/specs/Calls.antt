@@ -11,21 +11,6 @@ use Rattle.wire_core.specs.Ends.{is_clear}
 use Rattle.turn_kit.specs.declared.kept.Kept.{Kept}
 use Rattle.turn_kit.specs.Table.{is_settled}
 
--- a call that is a mark: a take, a put, or a wake that answers yes
-abbrev pub is_mark : Op → Answer → Bool
-is_mark Do.Take a = true
-is_mark Do.Put a = true
-is_mark (Do.Wake s) Yes = true
-is_mark (Do.Wake s) No = false
-is_mark (Do.Wake s) Done = false
-is_mark Do.See a = false
-is_mark Do.Room a = false
-is_mark (Do.Ask s) a = false
-is_mark (Do.Waive s) a = false
-is_mark (Do.Wanted s) a = false
-is_mark (Do.Settle s) a = false
-is_mark (Do.Ring s) a = false
-
 abbrev pub is_told : Answer → Bool
 is_told Yes = true
 is_told No = true

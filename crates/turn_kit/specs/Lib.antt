@@ -6,4 +6,5 @@ pub mod Pipes
 pub mod ManyEnds
 pub mod Choices
 pub mod Marks
+pub mod Pace
 pub mod Hands

@@ -1,20 +1,26 @@
-use Rattle.std.specs.Prelude.{◌≡◌, ◌+◌, ◌≤◌, ℕ, true, Some, List, length, slice_get}
+-- What an actor did since its last mark, by its turns alone: each actor that steps as `Turned` says keeps these claims.
+use Rattle.std.specs.Prelude.{◌≡◌, ◌⊎◌, ◌+◌, ◌≤◌, ℕ, true, Some, List, [], ◌++◌, length, slice_get}
 use Rattle.wire_core.specs.declared.names.Event.{Event}
-use Rattle.turn_kit.specs.Turns.{Post, Round, is_at_rest, Unmarked, Unsettled, calls_on, WokenInVain}
+use Rattle.turn_kit.specs.Turns.{Post, Round, IsRound, is_at_rest, Unmarked, Unsettled, calls_on, WokenInVain}
 
--- no two ends are of one queue
-abbrev pub ArePostsApart : List Post → Type 0
-ArePostsApart posts = (k j : ℕ) (p q : Post) → slice_get posts k ≡ Some p → slice_get posts j ≡ Some q → p.queue ≡ q.queue → k ≡ j
+-- these are the calls that an actor at this round made since its last mark
+pub record StandsSince (now : Round) (calls : List Event) : Type 0 where
+  pub start : Round
+  pub round : IsRound start
+  pub made : Unmarked start calls now
 
--- the claims on marks, of calls with no mark among them: as long as some end isn't settled they are at most 7 on each
--- end, and where at last all are settled, at most 6 on each; from there all stay settled, and two rounds later each end
--- has made a wake that answered no, so that it would have been a mark where a notification was pending
-pub record MarkClaims (start : Round) (since : List Event) (now : Round) : Type 0 where
-  pub seven : Unsettled start since now → (k : ℕ) (p : Post) → slice_get start.posts k ≡ Some p → calls_on p.queue since ≤ 7
-  pub six : Unsettled start since now → is_at_rest now ≡ true → (k : ℕ) (p : Post) → slice_get start.posts k ≡ Some p → calls_on p.queue since ≤ 6
-  pub rest : is_at_rest start ≡ true → is_at_rest now ≡ true
-  pub wake : is_at_rest start ≡ true → length start.posts + length start.posts ≤ length since → (k : ℕ) (p : Post) → slice_get start.posts k ≡ Some p → WokenInVain p.queue p.side since
-
--- they hold of an actor whose ends are of different queues, whatever calls it made since its last mark
-abbrev pub KeepsMarks : Round → Type 0
-KeepsMarks now = ArePostsApart now.posts → (start : Round) (since : List Event) → Unmarked start since now → MarkClaims start since now
+-- the claims on them: first come the calls before which some end wasn't settled, at most 7 on each end; where at last all
+-- are settled, they are at most 6 on each; from there the ends are stepped in their order, so that no end makes two calls
+-- more than another, and two rounds later each has made a wake, which answered no and else would have been a mark
+pub record SinceClaims (start : Round) (calls : List Event) (now : Round) : Type 0 where
+  pub mid : Round
+  pub busy : List Event
+  pub idle : List Event
+  pub whole : calls ≡ busy ++ idle
+  pub unsettled : Unsettled start busy mid
+  pub resting : Unmarked mid idle now
+  pub rest : (idle ≡ []) ⊎ (is_at_rest mid ≡ true)
+  pub seven : (k : ℕ) (p : Post) → slice_get start.posts k ≡ Some p → calls_on p.queue busy ≤ 7
+  pub six : is_at_rest mid ≡ true → (k : ℕ) (p : Post) → slice_get start.posts k ≡ Some p → calls_on p.queue busy ≤ 6
+  pub even : (k j : ℕ) (p q : Post) → slice_get start.posts k ≡ Some p → slice_get start.posts j ≡ Some q → calls_on q.queue idle ≤ calls_on p.queue idle + 1
+  pub wake : length start.posts + length start.posts ≤ length idle → (k : ℕ) (p : Post) → slice_get start.posts k ≡ Some p → WokenInVain p.queue p.side idle

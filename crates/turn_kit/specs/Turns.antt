@@ -1,26 +1,42 @@
-use Rattle.std.specs.Prelude.{◌≡◌, ◌⊎◌, ◌+◌, ◌<◌, ◌≤◌, ◌==◌, ◌&&◌, ℕ, Bool, true, false, not, cond, nat_lt, Option, Some, None, is_none, List, [], ◌∷◌, length, slice_get, slice_set}
+use Rattle.std.specs.Prelude.{◌≡◌, ◌⊎◌, ◌+◌, ◌<◌, ◌≤◌, ◌==◌, ◌&&◌, ◌||◌, ℕ, Bool, true, false, not, cond, nat_lt, Option, Some, None, is_none, List, [], ◌∷◌, length, slice_get, slice_set}
 use Rattle.wire_core.specs.declared.names.Event.{Event}
 use Rattle.wire_core.specs.declared.names.Side.{Side}
 use Rattle.wire_core.specs.declared.names.Op.TheVariants as Do
 use Rattle.wire_core.specs.declared.names.Answer.TheVariants.{No}
 use Rattle.wire_core.specs.Bells.{bit}
+use Rattle.wire_core.specs.Marks.{is_mark, is_vain_look}
 use Rattle.turn_kit.specs.declared.kept.Kept.{Kept}
 use Rattle.turn_kit.specs.declared.turns.Stand.{Stand}
 use Rattle.turn_kit.specs.Table.{next_op, kept_after, is_settled}
-use Rattle.turn_kit.specs.Calls.{is_mark, may_answer}
+use Rattle.turn_kit.specs.Calls.{may_answer}
 
--- an end of an actor: its queue, the side on which it waits, and what is kept of it
+-- an end of an actor: its queue, the side on which it waits, whether its actor drops there in place of waiting, and what is
+-- kept of it
 pub record Post : Type 0 where
   pub queue : ℕ
   pub side : Side
+  pub drops : Bool
   pub kept : Kept
+
+-- where its actor drops, a look that answers no is a drop
+abbrev pub is_drop : Post → Event → Bool
+is_drop p e = p.drops && is_vain_look e.op e.answer
+
+-- a call at this end is a mark of its actor
+abbrev pub is_mark_at : Post → Event → Bool
+is_mark_at p e = is_drop p e || is_mark e.op e.answer
+
+-- after a drop the look is forgotten, so that the end looks again
+abbrev pub forgotten_if : Bool → Kept → Kept
+forgotten_if true k = record k { look = None }
+forgotten_if false k = k
 
 -- one call of the table at an end that is needed, or loaded, or not
 pub record Posted (old : Post) (need : Bool) (e : Event) (new : Post) : Type 0 where
   pub queue : e.queue.0 ≡ old.queue
   pub op : e.op ≡ next_op old.kept old.side need
   pub answer : may_answer e.op e.answer ≡ true
-  pub after : new ≡ record { queue = old.queue; side = old.side; kept = kept_after old.kept e.op e.answer }
+  pub after : new ≡ record old { kept = forgotten_if (is_drop old e) (kept_after old.kept e.op e.answer) }
 
 -- all ends of an actor, which of them are needed or loaded, and the queue of the end that it stepped last where all
 -- were settled
@@ -91,15 +107,16 @@ pub record PostedAt (old : List Post) (place : ℕ) (need : Bool) (e : Event) (n
   pub posted : Posted post need e moved
   pub after : new ≡ slice_set old place moved
 
--- one step of an actor: the chosen end makes its next call, the others stay, and what is needed or loaded changes only
--- at a mark
+-- one step of an actor: the chosen end makes its next call, the others stay, what is needed or loaded changes only at a
+-- mark, and each end has its need afterwards
 pub record Turned (old : Round) (e : Event) (new : Round) : Type 0 where
   pub place : ℕ
   pub need : Bool
   pub is_chosen : place ≡ chosen (choice_of old)
   pub needed : slice_get old.needs place ≡ Some need
   pub posted : PostedAt old.posts place need e new.posts
-  pub needs : is_mark e.op e.answer ≡ false → new.needs ≡ old.needs
+  pub needs : is_mark_at posted.post e ≡ false → new.needs ≡ old.needs
+  pub size : length new.needs ≡ length new.posts
   pub last : new.last ≡ last_after (choice_of old)
 
 -- each end has its need, and no two ends are of one queue
@@ -120,12 +137,12 @@ is_at_rest r = settled_all r.posts r.needs
 -- steps with no mark among them
 abbrev pub Unmarked : Round → List Event → Round → Type 0
 Unmarked r [] new = r ≡ new
-Unmarked r (e ∷ es) new = (next : Round) × (is_mark e.op e.answer ≡ false) × Turned r e next × Unmarked next es new
+Unmarked r (e ∷ es) new = (next : Round) × (t : Turned r e next) × (is_mark_at t.posted.post e ≡ false) × Unmarked next es new
 
 -- steps with no mark among them, before each of which some end isn't settled
 abbrev pub Unsettled : Round → List Event → Round → Type 0
 Unsettled r [] new = r ≡ new
-Unsettled r (e ∷ es) new = (next : Round) × (is_at_rest r ≡ false) × (is_mark e.op e.answer ≡ false) × Turned r e next × Unsettled next es new
+Unsettled r (e ∷ es) new = (next : Round) × (is_at_rest r ≡ false) × (t : Turned r e next) × (is_mark_at t.posted.post e ≡ false) × Unsettled next es new
 
 -- how many of the calls are on queue n
 abbrev pub calls_on : ℕ → List Event → ℕ

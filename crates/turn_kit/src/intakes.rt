@@ -5,7 +5,7 @@ ghost use Rattle.wire_core.specs.Deeds.{deed_of};
 ghost use Rattle.wire_core.specs.Lists.{taken_by, put_by, if_there};
 ghost use Rattle.wire_core.specs.Ends.{Moves, Consumer, role_of};
 ghost use Rattle.turn_kit.specs.ManyEnds.{FitsIntakes, intake_queues, intake_posts, all_need};
-ghost use Rattle.turn_kit.specs.Calls.{is_mark};
+ghost use Rattle.wire_core.specs.Marks.{is_mark};
 ghost use Rattle.turn_kit.specs.Turns.{PostedAt, offered_from, settled_all};
 
 use crate::{Choice, Intake};

@@ -1,21 +1,26 @@
-ghost use Rattle.std.specs.Prelude.{◌≡◌, ◌+◌, ◌<◌, ◌≤◌, ℕ, Bool, true, false, Some, List, length, slice_get};
+// Laws on the ends of an actor and their order, which no call has to show: they follow from the definitions alone.
+ghost use Rattle.std.specs.Prelude.{◌≡◌, ◌+◌, ◌<◌, ◌≤◌, ℕ, Bool, true, false, Some, List, [], ◌∷◌, ◌++◌, length, slice_get};
 ghost use Rattle.turn_kit.specs.Table.{is_settled};
-ghost use Rattle.turn_kit.specs.Calls.{is_mark, calls_left, settling_left, is_moving};
-ghost use Rattle.turn_kit.specs.Turns.{Post, Posted, Round, Turned, IsRound, IsNext, is_at_rest, Unmarked, Unsettled, calls_on, WokenInVain};
-ghost use Rattle.turn_kit.specs.Marks.{KeepsMarks};
+ghost use Rattle.turn_kit.specs.Calls.{calls_left, settling_left, is_moving};
+ghost use Rattle.turn_kit.specs.Turns.{Post, Posted, is_drop, is_mark_at, Round, Turned, IsRound, IsNext, is_at_rest, Unmarked, Unsettled, calls_on, WokenInVain};
+ghost use Rattle.turn_kit.specs.Marks.{StandsSince, SinceClaims};
+ghost use Rattle.turn_kit.specs.Pace.{Pendings, pendings, IsCalled, Paced, AreOwnPosts};
+ghost use Rattle.wire_core.specs.Ends.{Role};
+ghost use Rattle.wire_core.specs.Journal.{History, nobody, LegalEntry};
+ghost use Rattle.wire_core.specs.Marks.{Drops, since, calls_after, calls_at};
 
 use crate::Kept;
-use wire_core::Event;
+use wire_core::{Entry, Event, QueueRow};
 
 /// One end: while it isn't settled, each of its calls that is no mark brings it nearer, so it makes at most 7 before it
-/// is settled or a mark comes, and at most 6 until it is settled. A mark is a take, a put, or a wake that answers yes.
+/// is settled or a mark comes, and at most 6 until it is settled.
 pub fn end_law()
     ensures seven { (k : Kept) (need : Bool) → calls_left k need ≤ 7 }
     ensures six { (k : Kept) (need : Bool) → settling_left k need ≤ 6 }
-    ensures nearer { (p q : Post) (need : Bool) (e : Event) → Posted p need e q → is_mark e.op e.answer ≡ false → is_settled p.kept need ≡ false → calls_left q.kept need + 1 ≤ calls_left p.kept need }
-    ensures settles { (p q : Post) (need : Bool) (e : Event) → Posted p need e q → is_mark e.op e.answer ≡ false → is_settled p.kept need ≡ false → is_moving q.kept need ≡ false → settling_left q.kept need + 1 ≤ settling_left p.kept need }
-    ensures moves { (p q : Post) (need : Bool) (e : Event) → Posted p need e q → is_mark e.op e.answer ≡ false → is_moving p.kept need ≡ true → is_moving q.kept need ≡ true }
-    ensures stays { (p q : Post) (need : Bool) (e : Event) → Posted p need e q → is_mark e.op e.answer ≡ false → is_settled p.kept need ≡ true → is_settled q.kept need ≡ true }
+    ensures nearer { (p q : Post) (need : Bool) (e : Event) → Posted p need e q → is_mark_at p e ≡ false → is_settled p.kept need ≡ false → calls_left q.kept need + 1 ≤ calls_left p.kept need }
+    ensures settles { (p q : Post) (need : Bool) (e : Event) → Posted p need e q → is_mark_at p e ≡ false → is_settled p.kept need ≡ false → is_moving q.kept need ≡ false → settling_left q.kept need + 1 ≤ settling_left p.kept need }
+    ensures moves { (p q : Post) (need : Bool) (e : Event) → Posted p need e q → is_mark_at p e ≡ false → is_moving p.kept need ≡ true → is_moving q.kept need ≡ true }
+    ensures stays { (p q : Post) (need : Bool) (e : Event) → Posted p need e q → is_mark_at p e ≡ false → is_settled p.kept need ≡ true → is_settled q.kept need ≡ true }
 {}
 
 /// Which end an actor steps: while some end isn't settled, one that isn't, with the lowest queue number of these; where
@@ -25,7 +30,8 @@ pub fn turn_law()
     ensures settled { (r m : Round) (e : Event) → IsRound r → (t : Turned r e m) → is_at_rest r ≡ true → (m.last ≡ t.posted.post.queue) × IsNext r.last r.posts t.posted.post.queue }
 {}
 
-/// Each actor whose steps are turns keeps these. Between two marks, while some end isn't settled, it makes at most 7
+/// Each actor whose steps are turns keeps these. A mark is a take, a put, a wake that answers yes, or a look that answers no
+/// at an end where the actor drops. Between two marks, while some end isn't settled, it makes at most 7
 /// calls on each end; where at last all are settled, it has made at most 6 on each; then they stay settled until a mark;
 /// and within two rounds from there each end makes a wake, which is a mark where a notification is pending.
 pub fn mark_law()
@@ -33,7 +39,18 @@ pub fn mark_law()
     ensures six { (r new : Round) (es : List Event) → IsRound r → Unsettled r es new → is_at_rest new ≡ true → (k : ℕ) (p : Post) → slice_get r.posts k ≡ Some p → calls_on p.queue es ≤ 6 }
     ensures rest { (r new : Round) (es : List Event) → Unmarked r es new → is_at_rest r ≡ true → is_at_rest new ≡ true }
     ensures wake { (r new : Round) (es : List Event) → IsRound r → is_at_rest r ≡ true → Unmarked r es new → length r.posts + length r.posts ≤ length es → (k : ℕ) (p : Post) → slice_get r.posts k ≡ Some p → WokenInVain p.queue p.side es }
-    ensures next { (r m : Round) (e : Event) → IsRound r → Turned r e m → is_mark e.op e.answer ≡ false → IsRound m }
-    // The same, of an actor's round as it is now.
-    ensures claims { (now : Round) → 0 < length now.posts → length now.needs ≡ length now.posts → KeepsMarks now }
+    ensures next { (r m : Round) (e : Event) → IsRound r → Turned r e m → IsRound m }
+    // What an actor did since its last mark is kept up by each turn, and the claims hold of it.
+    ensures since { (r m : Round) (e : Event) (calls : List Event) → (t : Turned r e m) → StandsSince r calls → StandsSince m (calls_after (is_mark_at t.posted.post e) calls e) }
+    ensures claims { (now : Round) (calls : List Event) → (s : StandsSince now calls) → SinceClaims s.start calls now }
+{}
+
+/// Where each entry of a legal journal is a turn of an actor that wasn't at rest, or was called, the pace of all actors is
+/// kept: an actor begins, and goes on after each mark, with no calls since; its own turns and the entries of the others
+/// keep what is known of it; and from this it follows that it made at most 8 calls on each end since its last mark.
+pub fn pace_law()
+    ensures begins { (pending : Pendings) (now : Round) → IsRound now → Paced pending [] now }
+    ensures own { (drops : Drops) (history : History) (rows : List QueueRow) (before : List Entry) (e : Entry) → LegalEntry nobody history rows before e → (old new : Round) → Paced (pendings history before) (since drops e.actor.0 before) old → (t : Turned old e.event new) → drops e ≡ is_drop t.posted.post e.event → (is_at_rest old ≡ true → IsCalled (pendings history before) old.posts) → Paced (pendings history (before ++ e ∷ [])) (since drops e.actor.0 (before ++ e ∷ [])) new }
+    ensures beside { (drops : Drops) (history : History) (rows : List QueueRow) (before : List Entry) (e : Entry) → LegalEntry nobody history rows before e → (a : ℕ) (now : Round) → (e.actor.0 ≡ a → ⊥) → AreOwnPosts rows a now.posts → Paced (pendings history before) (since drops a before) now → Paced (pendings history (before ++ e ∷ [])) (since drops a (before ++ e ∷ [])) now }
+    ensures few { (pending : Pendings) (calls : List Event) (now : Round) → Paced pending calls now → (r : Role) (n : ℕ) → calls_at r n calls ≤ 8 }
 {}

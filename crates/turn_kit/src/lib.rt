@@ -14,7 +14,7 @@ pub use ends::{Intake, Outlet};
 pub use hands::held;
 pub use intakes::Intakes;
 pub use kept::Kept;
-pub use laws::{end_law, mark_law, turn_law};
+pub use laws::{end_law, mark_law, pace_law, turn_law};
 pub use outlets::Outlets;
 pub use pipe::Pipe;
 pub use turns::{Choice, Stand, Turn};

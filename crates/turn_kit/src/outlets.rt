@@ -5,7 +5,7 @@ ghost use Rattle.wire_core.specs.Deeds.{deed_of, put_of};
 ghost use Rattle.wire_core.specs.Lists.{taken_by, put_by, if_there};
 ghost use Rattle.wire_core.specs.Ends.{Moves, Producer, role_of};
 ghost use Rattle.turn_kit.specs.ManyEnds.{FitsOutlets, outlet_queues, outlet_posts, loads_from};
-ghost use Rattle.turn_kit.specs.Calls.{is_mark};
+ghost use Rattle.wire_core.specs.Marks.{is_mark};
 ghost use Rattle.turn_kit.specs.Turns.{PostedAt, offered_from, settled_all};
 
 use crate::{Choice, Outlet};

@@ -2,7 +2,7 @@ ghost use Rattle.std.specs.Prelude.{◌≡◌, ℕ, [], None, IsSome, is_some, i
 ghost use Rattle.wire_core.specs.Deeds.{deed_of, put_of};
 ghost use Rattle.wire_core.specs.Lists.{Lists, taken_by, put_by, with};
 ghost use Rattle.wire_core.specs.Ends.{Moves, Consumer, Producer, role_of};
-ghost use Rattle.turn_kit.specs.Calls.{is_mark};
+ghost use Rattle.wire_core.specs.Marks.{is_mark};
 ghost use Rattle.turn_kit.specs.Turns.{Posted};
 ghost use Rattle.turn_kit.specs.Posts.{intake_post, outlet_post};
 ghost use Rattle.turn_kit.specs.Table.{is_settled, start_kept};

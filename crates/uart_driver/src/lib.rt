@@ -6,7 +6,6 @@ ghost use Rattle.std.specs.Prelude.{◌≡◌, ◌≢◌, ◌<◌, ℕ, []};
 ghost use Rattle.wire_core.specs.Ends.{role_of, Role, End};
 ghost use Rattle.wire_core.specs.Lists.{Lists, Stepped};
 ghost use Rattle.turn_kit.specs.Turns.{Turned, choice_of, chosen, last_after, is_at_rest};
-ghost use Rattle.turn_kit.specs.Marks.{KeepsMarks};
 ghost use Rattle.turn_kit.specs.Hands.{held_in};
 ghost use Rattle.turn_kit.specs.Pipes.{IsNewPipe};
 ghost use Rattle.uart_driver.specs.Driver.{FitsDriver, DriverStandsFor, DriverRow, DriverEnd, SameEnds, driver_round, driver_hand, driver_forgotten};
@@ -81,7 +80,6 @@ impl UartDriver {
         ensures stepped { Stepped DriverStandsFor W.did wires.old wires.new self.old self.new result }
         ensures row { (taken sent : Lists) → DriverStandsFor self.new taken sent → DriverRow self.new taken sent }
         ensures turned { Turned (driver_round self.old) result (driver_round self.new) }
-        ensures marks { KeepsMarks (driver_round self.new) }
     {
         match self.choose() {
             0 => self.rx.step_input(wires),

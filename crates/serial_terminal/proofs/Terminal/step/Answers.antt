@@ -1,17 +1,7 @@
 use Rattle.std.proofs.Common.{◌∙◌, sym, subst}
 use Rattle.serial_terminal.specs.Terminals.{TerminalStandsFor}
 use Rattle.serial_terminal.proofs.Speech.{row_of}
-use Rattle.serial_terminal.proofs.Marking.{two_ends}
 use Rattle.serial_terminal.proofs.Terminal.step.Goals as goal
-
-pub returns-in_err-reserve-clause-marks : goal.returns-in_err-reserve-clause-marks
-returns-in_err-reserve-clause-marks g c = two_ends _ _ _ _ _
-
-pub returns-in-0-clause-marks : goal.returns-in-0-clause-marks
-returns-in-0-clause-marks g c = two_ends _ _ _ _ _
-
-pub returns-in-1-clause-marks : goal.returns-in-1-clause-marks
-returns-in-1-clause-marks g c = two_ends _ _ _ _ _
 
 pub returns-in_err-reserve-clause-row : goal.returns-in_err-reserve-clause-row
 returns-in_err-reserve-clause-row g c = row_of _

@@ -1,13 +1,6 @@
 use Rattle.std.proofs.Common.{◌-◌, arith, refl}
 use Rattle.serial_virt.proofs.Rounds.{tx_turned}
-use Rattle.serial_virt.proofs.Marking.{tx_marks}
 use Rattle.serial_virt.proofs.tx.SerialVirtTx.step.Goals as goal
-
-pub returns-then-place-eq0-clause-marks : goal.returns-then-place-eq0-clause-marks
-returns-then-place-eq0-clause-marks g c = tx_marks c.step_output.new.self
-
-pub returns-else-place-eq0-clause-marks : goal.returns-else-place-eq0-clause-marks
-returns-else-place-eq0-clause-marks g c = tx_marks c.step_input.new.self
 
 pub returns-else-place-eq0-clause-turned : goal.returns-else-place-eq0-clause-turned
 returns-else-place-eq0-clause-turned g c = tx_turned c.args.self.now c.choose-place.new.self c.step_input.new.self _ c.step_input.result c.choose-place.result (c.choose-place.result - 1) c.choose-place.ensures.after c.choose-place.ensures.place (omega arith) (omega (arith, c.choose-place.ensures.within)) c.step_input.ensures.posted c.step_input.ensures.output c.step_input.ensures.still c.step_input.ensures.queues c.step_input.ensures.turn refl

@@ -3,8 +3,6 @@ use Rattle.turn_kit.specs.declared.ends.Intake.{Intake}
 use Rattle.turn_kit.specs.declared.ends.Outlet.{Outlet}
 use Rattle.turn_kit.specs.Posts.{intake_post, outlet_post}
 use Rattle.turn_kit.specs.ManyEnds.{all_need, loads_from}
-use Rattle.turn_kit.specs.Marks.{KeepsMarks}
-use Rattle.turn_kit.proofs.Marking.{keeps_marks}
 use Rattle.serial_virt.specs.declared.rx.SerialVirtRx.{SerialVirtRx}
 use Rattle.serial_virt.specs.declared.tx.SerialVirtTx.{SerialVirtTx}
 use Rattle.serial_virt.specs.Receiving.{rx_round, place_loaded}
@@ -18,9 +16,9 @@ intake_needs : (need : Bool) (ends : List Intake) → length (all_need need (map
 intake_needs need [] = refl
 intake_needs need (i ∷ ends) = let h = intake_needs need ends in omega (arith, h)
 
--- both virtualisers keep the claims on marks
-pub rx_marks : (v : SerialVirtRx) → KeepsMarks (rx_round v)
-rx_marks v = let h = outlet_needs (place_loaded v) 0 v.outputs.ends.items in keeps_marks (rx_round v) (omega arith) (omega (arith, h))
+-- each end of the virtualisers has its need
+pub rx_size : (v : SerialVirtRx) → length (rx_round v).needs ≡ length (rx_round v).posts
+rx_size v = let h = outlet_needs (place_loaded v) 0 v.outputs.ends.items in omega (arith, h)
 
-pub tx_marks : (v : SerialVirtTx) → KeepsMarks (tx_round v)
-tx_marks v = let h = intake_needs (is_none v.load) v.inputs.ends.items in keeps_marks (tx_round v) (omega arith) (omega (arith, h))
+pub tx_size : (v : SerialVirtTx) → length (tx_round v).needs ≡ length (tx_round v).posts
+tx_size v = let h = intake_needs (is_none v.load) v.inputs.ends.items in omega (arith, h)
