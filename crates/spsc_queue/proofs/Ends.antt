@@ -1,0 +1,385 @@
+-- What a step of one end does to the words, the slots and the two ends.
+use Rattle.std.proofs.Common.{◌≡◌, ℕ, zero, suc, ◌+◌, ◌%◌, ◌<◌, ◌≤◌, Bool, true, false, nat_lt, List, [], ◌∷◌, ◌++◌, length, drop, set, refl, sym, ap, ◌∙◌, subst, arith, length-append, append_assoc, Option, Some, None}
+use Rattle.std.specs.Prelude.{All, slice_index}
+use Rattle.std.proofs.lemmas.List.Elements.{All-append}
+use Rattle.std.proofs.lemmas.Bool.{ltb-true, lt-ltb}
+use mathlib.Core.Option.{none, some}
+use mathlib.Core.Option as maybe
+use lib.ListN.{get_elem?}
+use Rattle.atomic_table.specs.Table.{Act, keeps, takes, Valid, homes_after, carried_after, gives}
+use Rattle.cargo_core.specs.declared.item.QueueKind.{QueueKind}
+use Rattle.cargo_core.specs.Items.{kind_of}
+use Rattle.wire_core.specs.declared.names.BellState.{BellState}
+use Rattle.wire_core.specs.declared.names.Waiter.{Waiter}
+use Rattle.wire_core.specs.declared.names.Ringer.{Ringer}
+use Rattle.wire_core.specs.declared.names.Ringer.TheVariants as Rung
+use Rattle.wire_core.specs.Bells.{BellHolds, bit}
+use Rattle.wire_core.specs.Deeds.{Cargo, answer_of}
+use Rattle.wire_core.specs.Ends.{is_clear, is_free_or_put, looked_waiter}
+use Rattle.spsc_queue.specs.declared.view.Half.{Half}
+use Rattle.spsc_queue.specs.Rule.{Slot, wrap, SlotsHold, EndsHold, forward_bell, backward_bell}
+use Rattle.spsc_queue.specs.Steps.{held, looked, empty_if, tells_room, tells_entry, sent_one, took_one, Granted, asked, waived, woken, wanted, settled, rung, sent_home}
+use Rattle.spsc_queue.proofs.Places.{grants_room, takes_in, grants_entry, takes_out, room_comes_back, entry_comes_back}
+use Rattle.spsc_queue.proofs.Looks.{room_tells, entry_tells}
+use Rattle.wire_core.proofs.BellLemmas.{look_holds, ask_holds, waive_holds, wake_holds, wanted_holds, settle_holds, ring_holds, move_holds, beside_holds}
+
+abbrev pub bell : Bool → Bool → Waiter → Ringer → BellState
+bell flag pending w r = record { flag = flag; pending = pending; waiter = w; ringer = r }
+
+-- a look that answers whether the bell is ready
+looks : (flag pending : Bool) (w : Waiter) (r : Ringer) (ready sure : Bool) (count : ℕ) → is_clear w ≡ false → sure ≡ ready → BellHolds (bell flag pending w r) ready count → BellHolds (bell flag pending (looked_waiter w (answer_of sure)) r) ready count
+looks flag pending w r ready sure count calm same h = subst (λ (z : Bool). BellHolds (bell flag pending (looked_waiter w (answer_of z)) r) ready count) (sym same) (look_holds (bell flag pending w r) ready count calm h)
+
+-- the ringer moved an entry
+moves : (flag pending : Bool) (w : Waiter) (r : Ringer) (ready ready' : Bool) (count count' : ℕ) → is_free_or_put r ≡ true → count' ≡ count + 1 → BellHolds (bell flag pending w r) ready count → BellHolds (bell flag pending w Rung.Put) ready' count'
+moves flag pending w r ready ready' count count' may more h = subst (λ (z : ℕ). BellHolds (bell flag pending w Rung.Put) ready' z) (sym more) (move_holds (bell flag pending w r) ready ready' count may h)
+
+pub All-one : (P : Cargo → Type 0) (x : Cargo) → P x → All P (x ∷ [])
+All-one P x h zero d lt = h
+All-one P x h (suc k) d lt = absurd (omega arith)
+
+pub All-at : (P : Cargo → Type 0) (xs : List Cargo) (y : Cargo) (ys : List Cargo) → All P (xs ++ y ∷ ys) → P y
+All-at P [] y ys h = h 0 y (omega arith)
+All-at P (x ∷ xs) y ys h = All-at P xs y ys (λ k d lt. h (suc k) d (omega arith))
+
+pub some_is : (x y : Cargo) → Some x ≡ Some y → x ≡ y
+some_is x y e = cc
+
+module _ (kind : QueueKind) (n : ℕ) (ws : List ℕ) (hs : List (maybe.Option Slot)) (p c : Half) where
+  -- as many were sent as were taken and are left
+  abbrev pub counts : (e : EndsHold kind n ws hs p c) → length p.entries ≡ length c.entries + length e.lists.left
+  counts e = ap length e.lists.sent ∙ length-append c.entries e.lists.left
+
+  -- the slot behind the last entry
+  abbrev pub last_place : (e : EndsHold kind n ws hs p c) → length p.entries % n ≡ (length c.entries + length e.lists.left) % n
+  last_place e = ap (λ (z : ℕ). z % n) (counts e)
+
+  -- the seat has the slots m, and there is an act for the look that answers b at the word r
+  abbrev pub LooksRoom : Bool → ℕ → List (ℕ × Slot) → Type 0
+  LooksRoom b r m = (a : Act Slot) × Valid hs m a × EndsHold kind n ws (homes_after hs m a) (looked b 0 r (empty_if b) p) c × (carried_after m a ≡ held (empty_if b) (length p.entries % n))
+
+  -- the producer looks, and the slots are now hs'
+  pub room_ends : (e : EndsHold kind n ws hs p c) (b : Bool) (r : ℕ) (hs' : List (maybe.Option Slot)) → is_clear p.waiter ≡ false → b ≡ nat_lt (length e.lists.left) n → SlotsHold n hs' (length c.entries) e.lists.left (empty_if b) c.grant
+      → EndsHold kind n ws hs' (looked b 0 r (empty_if b) p) c
+  room_ends e b r hs' calm is slots = record {
+    lists = record {
+      left = e.lists.left;
+      some_place = e.lists.some_place;
+      few = e.lists.few;
+      divides = e.lists.divides;
+      sent = e.lists.sent;
+      kinds = e.lists.kinds;
+      producer_kind = e.lists.producer_kind;
+      consumer_kind = e.lists.consumer_kind;
+      slots = slots;
+    };
+    shared = record {
+      flag = e.shared.flag;
+      pending = e.shared.pending;
+      flag_back = e.shared.flag_back;
+      pending_back = e.shared.pending_back;
+      words_are = e.shared.words_are;
+      forward = e.shared.forward;
+      backward = looks e.shared.flag_back e.shared.pending_back p.waiter c.ringer (nat_lt (length e.lists.left) n) b (length c.entries) calm is e.shared.backward;
+    };
+  }
+
+  room_goes : (e : EndsHold kind n ws hs p c) (b : Bool) (r : ℕ) (g : Option Slot) → is_clear p.waiter ≡ false → b ≡ nat_lt (length e.lists.left) n → p.grant ≡ g → LooksRoom b r (held g (length p.entries % n))
+  room_goes e true r None calm is gr = let room : length e.lists.left < n = ltb-true (length e.lists.left) n (sym is) in let slots = subst (λ (z : Option Slot). SlotsHold n hs (length c.entries) e.lists.left z c.grant) gr e.lists.slots in (
+    takes (length p.entries % n) None,
+    ap (get_elem? hs) (last_place e) ∙ slots.empty (length e.lists.left) (omega arith) room (λ _. refl),
+    room_ends e true r (set hs (length p.entries % n) none) calm is (grants_room n (length c.entries) hs e.lists.left c.grant (length p.entries % n) (last_place e) room slots),
+    refl,
+  )
+  room_goes e true r (Some y) calm is gr = let slots = subst (λ (z : Option Slot). SlotsHold n hs (length c.entries) e.lists.left z c.grant) gr e.lists.slots in let y_is : y ≡ None = (slots.to_producer y refl).0 in (
+    keeps,
+    tt,
+    room_ends e true r hs calm is (subst (λ (z : Slot). SlotsHold n hs (length c.entries) e.lists.left (Some z) c.grant) y_is slots),
+    ap (λ (z : Slot). (length p.entries % n, z) ∷ []) y_is,
+  )
+  room_goes e false r None calm is gr = let slots = subst (λ (z : Option Slot). SlotsHold n hs (length c.entries) e.lists.left z c.grant) gr e.lists.slots in (
+    keeps,
+    tt,
+    room_ends e false r hs calm is slots,
+    refl,
+  )
+  room_goes e false r (Some y) calm is gr = let room : length e.lists.left < n = (e.lists.slots.to_producer y gr).1 in absurd (let z : false ≡ true = is ∙ lt-ltb (length e.lists.left) n room in cc)
+
+  -- a store to the tail, with the producer's slot filled
+  pub put_ends : (e : EndsHold kind n ws hs p c) (x : Cargo) (new i : ℕ) → kind_of x.0 ≡ kind → is_clear p.waiter ≡ false → is_free_or_put p.ringer ≡ true → p.grant ≡ Some None → new ≡ wrap (length p.entries + 1) → i ≡ length p.entries % n
+      → EndsHold kind n (set ws 1 new) (set hs i (some (Some x))) (sent_one x p) c
+  put_ends e x new i fits calm may gr is at = let more : length (p.entries ++ x ∷ []) ≡ length p.entries + 1 = length-append p.entries (x ∷ []) in
+      let slots = subst (λ (z : Option Slot). SlotsHold n hs (length c.entries) e.lists.left z c.grant) gr e.lists.slots in record {
+        lists = record {
+          left = e.lists.left ++ x ∷ [];
+          some_place = e.lists.some_place;
+          few = e.lists.few;
+          divides = e.lists.divides;
+          sent = ap (λ (z : List Cargo). z ++ x ∷ []) e.lists.sent ∙ append_assoc c.entries e.lists.left (x ∷ []);
+          kinds = All-append (λ (z : Cargo). kind_of z.0 ≡ kind) p.entries (x ∷ []) e.lists.kinds (All-one (λ (z : Cargo). kind_of z.0 ≡ kind) x fits);
+          producer_kind = e.lists.producer_kind;
+          consumer_kind = e.lists.consumer_kind;
+          slots = takes_in n (length c.entries) hs e.lists.left c.grant x i (at ∙ last_place e) slots;
+        };
+        shared = record {
+          flag = e.shared.flag;
+          pending = e.shared.pending;
+          flag_back = e.shared.flag_back;
+          pending_back = e.shared.pending_back;
+          words_are = ap (λ (z : List ℕ). set z 1 new) e.shared.words_are ∙ ap (λ (z : ℕ). wrap (length c.entries) ∷ z ∷ bit e.shared.flag ∷ bit e.shared.pending ∷ bit e.shared.flag_back ∷ bit e.shared.pending_back ∷ []) (is ∙ ap wrap (sym more));
+          forward = moves e.shared.flag e.shared.pending c.waiter p.ringer (nat_lt 0 (length e.lists.left)) (nat_lt 0 (length (e.lists.left ++ x ∷ []))) (length p.entries) (length (p.entries ++ x ∷ [])) may more e.shared.forward;
+          backward = beside_holds (bell e.shared.flag_back e.shared.pending_back p.waiter c.ringer) (nat_lt (length e.lists.left) n) (nat_lt (length (e.lists.left ++ x ∷ [])) n) (length c.entries) calm e.shared.backward;
+        };
+      }
+
+  -- a load of the head by the producer
+  pub room_step : (e : EndsHold kind n ws hs p c) → is_clear p.waiter ≡ false → LooksRoom (tells_room n (length p.entries) (wrap (length c.entries))) (wrap (length c.entries)) (held p.grant (length p.entries % n))
+  room_step e calm = let t : ℕ = length c.entries in let k : ℕ = length e.lists.left in
+      room_goes e (tells_room n (length p.entries) (wrap t)) (wrap t) p.grant calm (ap (λ (z : ℕ). tells_room n z (wrap t)) (counts e) ∙ room_tells n t k e.lists.slots.within e.lists.few) refl
+
+  -- the consumer looks, and the slots are now hs'
+  pub see_ends : (e : EndsHold kind n ws hs p c) (b : Bool) (r : ℕ) (g : Option Slot) (hs' : List (maybe.Option Slot)) → is_clear c.waiter ≡ false → b ≡ nat_lt 0 (length e.lists.left) → SlotsHold n hs' (length c.entries) e.lists.left p.grant g
+      → EndsHold kind n ws hs' p (looked b 1 r g c)
+  see_ends e b r g hs' calm is slots = record {
+    lists = record {
+      left = e.lists.left;
+      some_place = e.lists.some_place;
+      few = e.lists.few;
+      divides = e.lists.divides;
+      sent = e.lists.sent;
+      kinds = e.lists.kinds;
+      producer_kind = e.lists.producer_kind;
+      consumer_kind = e.lists.consumer_kind;
+      slots = slots;
+    };
+    shared = record {
+      flag = e.shared.flag;
+      pending = e.shared.pending;
+      flag_back = e.shared.flag_back;
+      pending_back = e.shared.pending_back;
+      words_are = e.shared.words_are;
+      forward = looks e.shared.flag e.shared.pending c.waiter p.ringer (nat_lt 0 (length e.lists.left)) b (length p.entries) calm is e.shared.forward;
+      backward = e.shared.backward;
+    };
+  }
+
+  abbrev pub LooksEntry : Bool → ℕ → List (ℕ × Slot) → Type 0
+  LooksEntry b r m = (a : Act Slot) × Valid hs m a × ((g : Option Slot) × Granted kind b g × EndsHold kind n ws (homes_after hs m a) p (looked b 1 r g c) × (carried_after m a ≡ held g (length c.entries % n)))
+
+  -- the first entry has the kind
+  first_kind : (e : EndsHold kind n ws hs p c) (x : Cargo) (xs : List Cargo) → e.lists.left ≡ x ∷ xs → kind_of x.0 ≡ kind
+  first_kind e x xs is = let sent : p.entries ≡ c.entries ++ x ∷ xs = e.lists.sent ∙ ap (λ (z : List Cargo). c.entries ++ z) is in All-at (λ (z : Cargo). kind_of z.0 ≡ kind) c.entries x xs (subst (All (λ (z : Cargo). kind_of z.0 ≡ kind)) sent e.lists.kinds)
+
+  see_goes : (e : EndsHold kind n ws hs p c) (b : Bool) (r : ℕ) (g : Option Slot) (left : List Cargo) → is_clear c.waiter ≡ false → b ≡ nat_lt 0 (length e.lists.left) → c.grant ≡ g → e.lists.left ≡ left → LooksEntry b r (held g (length c.entries % n))
+  see_goes e b r (Some y) left calm is gr l = let o = e.lists.slots.to_consumer y gr in let some_left : b ≡ true = is ∙ (ap (λ (z : List Cargo). nat_lt 0 (length z)) o.2 ∙ lt-ltb 0 (suc (length (drop 1 e.lists.left))) (omega arith)) in (
+    keeps,
+    tt,
+    (
+      Some y,
+      subst (λ (z : Bool). Granted kind z (Some y)) (sym some_left) (o.0, ap (λ (z : Slot). Some z) o.1, first_kind e o.0 (drop 1 e.lists.left) o.2),
+      see_ends e b r (Some y) hs calm is (subst (λ (z : Option Slot). SlotsHold n hs (length c.entries) e.lists.left p.grant z) gr e.lists.slots),
+      refl,
+    ),
+  )
+  see_goes e b r None [] calm is gr l = let none_left : b ≡ false = is ∙ ap (λ (z : List Cargo). nat_lt 0 (length z)) l in (
+    keeps,
+    tt,
+    (
+      None,
+      subst (λ (z : Bool). Granted kind z None) (sym none_left) refl,
+      see_ends e b r None hs calm is (subst (λ (z : Option Slot). SlotsHold n hs (length c.entries) e.lists.left p.grant z) gr e.lists.slots),
+      refl,
+    ),
+  )
+  see_goes e b r None (x ∷ xs) calm is gr l = let t : ℕ = length c.entries in let i : ℕ = t % n in let at : i ≡ (t + 0) % n = ap (λ (z : ℕ). z % n) (let z : t ≡ t + 0 = omega arith in z) in
+      let slots = subst (λ (z : Option Slot × List Cargo). SlotsHold n hs t z.1 p.grant z.0) (λ k. (gr k, l k)) e.lists.slots in let some_left : b ≡ true = is ∙ (ap (λ (z : List Cargo). nat_lt 0 (length z)) l ∙ lt-ltb 0 (suc (length xs)) (omega arith)) in (
+        takes i (Some x),
+        ap (get_elem? hs) at ∙ slots.filled 0 x refl (λ _. refl),
+        (
+          Some (Some x),
+          subst (λ (z : Bool). Granted kind z (Some (Some x))) (sym some_left) (x, refl, first_kind e x xs l),
+          see_ends e b r (Some (Some x)) (set hs i none) calm is (subst (λ (z : List Cargo). SlotsHold n (set hs i none) t z p.grant (Some (Some x))) (sym l) (grants_entry n t hs x xs p.grant i at slots)),
+          refl,
+        ),
+      )
+
+  -- a load of the tail by the consumer
+  pub see_step : (e : EndsHold kind n ws hs p c) → is_clear c.waiter ≡ false → LooksEntry (tells_entry (length c.entries) (wrap (length p.entries))) (wrap (length p.entries)) (held c.grant (length c.entries % n))
+  see_step e calm = let t : ℕ = length c.entries in let k : ℕ = length e.lists.left in let within : k ≤ n = e.lists.slots.within in let few : n ≤ 32768 = e.lists.few in
+      see_goes e (tells_entry t (wrap (length p.entries))) (wrap (length p.entries)) c.grant e.lists.left calm (ap (λ (z : ℕ). tells_entry t (wrap z)) (counts e) ∙ entry_tells t k (omega arith)) refl refl
+
+  -- a store to the head, with the consumer's slot empty
+  pub take_ends : (e : EndsHold kind n ws hs p c) (x : Cargo) (new i : ℕ) → is_clear c.waiter ≡ false → is_free_or_put c.ringer ≡ true → c.grant ≡ Some (Some x) → new ≡ wrap (length c.entries + 1) → i ≡ length c.entries % n
+      → EndsHold kind n (set ws 0 new) (set hs i (some None)) p (took_one x c)
+  take_ends e x new i calm may gr is at = let t : ℕ = length c.entries in let more : length (c.entries ++ x ∷ []) ≡ t + 1 = length-append c.entries (x ∷ []) in let o = e.lists.slots.to_consumer (Some x) gr in let same : x ≡ o.0 = some_is x o.0 o.1 in
+      let l : e.lists.left ≡ x ∷ drop 1 e.lists.left = o.2 ∙ ap (λ (z : Cargo). z ∷ drop 1 e.lists.left) (sym same) in let xs : List Cargo = drop 1 e.lists.left in
+      let slots = subst (λ (z : Option Slot × List Cargo). SlotsHold n hs t z.1 p.grant z.0) (λ k. (gr k, l k)) e.lists.slots in record {
+        lists = record {
+          left = xs;
+          some_place = e.lists.some_place;
+          few = e.lists.few;
+          divides = e.lists.divides;
+          sent = e.lists.sent ∙ (ap (λ (z : List Cargo). c.entries ++ z) l ∙ sym (append_assoc c.entries (x ∷ []) xs));
+          kinds = e.lists.kinds;
+          producer_kind = e.lists.producer_kind;
+          consumer_kind = e.lists.consumer_kind;
+          slots = subst (λ (z : ℕ). SlotsHold n (set hs i (some None)) z xs p.grant None) (let z : suc t ≡ length (c.entries ++ x ∷ []) = omega arith in z) (takes_out n t hs x xs p.grant i (at ∙ ap (λ (z : ℕ). z % n) (let z : t ≡ t + 0 = omega arith in z)) slots);
+        };
+        shared = record {
+          flag = e.shared.flag;
+          pending = e.shared.pending;
+          flag_back = e.shared.flag_back;
+          pending_back = e.shared.pending_back;
+          words_are = ap (λ (z : List ℕ). set z 0 new) e.shared.words_are ∙ ap (λ (z : ℕ). z ∷ wrap (length p.entries) ∷ bit e.shared.flag ∷ bit e.shared.pending ∷ bit e.shared.flag_back ∷ bit e.shared.pending_back ∷ []) (is ∙ ap wrap (sym more));
+          forward = beside_holds (bell e.shared.flag e.shared.pending c.waiter p.ringer) (nat_lt 0 (length e.lists.left)) (nat_lt 0 (length xs)) (length p.entries) calm e.shared.forward;
+          backward = moves e.shared.flag_back e.shared.pending_back p.waiter c.ringer (nat_lt (length e.lists.left) n) (nat_lt (length xs) n) t (length (c.entries ++ x ∷ [])) may more e.shared.backward;
+        };
+      }
+
+  -- new words and bells, with the same entries, slots and kinds
+  pub rebell : (e : EndsHold kind n ws hs p c) (p' c' : Half) (ws' : List ℕ) (flag pending flag_back pending_back : Bool) → p'.entries ≡ p.entries → p'.kind ≡ p.kind → p'.grant ≡ p.grant → c'.entries ≡ c.entries → c'.kind ≡ c.kind → c'.grant ≡ c.grant
+      → ws' ≡ wrap (length c.entries) ∷ wrap (length p.entries) ∷ bit flag ∷ bit pending ∷ bit flag_back ∷ bit pending_back ∷ []
+      → BellHolds (forward_bell flag pending p' c') (nat_lt 0 (length e.lists.left)) (length p.entries) → BellHolds (backward_bell flag_back pending_back p' c') (nat_lt (length e.lists.left) n) (length c.entries) → EndsHold kind n ws' hs p' c'
+  rebell e p' c' ws' flag pending flag_back pending_back pe pk pg ce ck cg w f b = record {
+    lists = record {
+      left = e.lists.left;
+      some_place = e.lists.some_place;
+      few = e.lists.few;
+      divides = e.lists.divides;
+      sent = pe ∙ (e.lists.sent ∙ ap (λ (z : List Cargo). z ++ e.lists.left) (sym ce));
+      kinds = subst (All (λ (z : Cargo). kind_of z.0 ≡ kind)) (sym pe) e.lists.kinds;
+      producer_kind = pk ∙ e.lists.producer_kind;
+      consumer_kind = ck ∙ e.lists.consumer_kind;
+      slots = subst (λ (z : List Cargo × (Option Slot × Option Slot)). SlotsHold n hs (length z.0) e.lists.left z.1.0 z.1.1) (λ k. (sym ce k, (sym pg k, sym cg k))) e.lists.slots;
+    };
+    shared = record {
+      flag = flag;
+      pending = pending;
+      flag_back = flag_back;
+      pending_back = pending_back;
+      words_are = w ∙ ap (λ (z : List Cargo × List Cargo). wrap (length z.0) ∷ wrap (length z.1) ∷ bit flag ∷ bit pending ∷ bit flag_back ∷ bit pending_back ∷ []) (λ k. (sym ce k, sym pe k));
+      forward = subst (λ (z : List Cargo). BellHolds (forward_bell flag pending p' c') (nat_lt 0 (length e.lists.left)) (length z)) (sym pe) f;
+      backward = subst (λ (z : List Cargo). BellHolds (backward_bell flag_back pending_back p' c') (nat_lt (length e.lists.left) n) (length z)) (sym ce) b;
+    };
+  }
+
+  -- the forward bell's calls
+  pub ask_ends : (e : EndsHold kind n ws hs p c) → EndsHold kind n (set ws 2 0) hs p (asked 0 c)
+  ask_ends e = rebell e p (asked 0 c) (set ws 2 0) false e.shared.pending e.shared.flag_back e.shared.pending_back refl refl refl refl refl refl (ap (λ (z : List ℕ). set z 2 0) e.shared.words_are)
+      (ask_holds (bell e.shared.flag e.shared.pending c.waiter p.ringer) (nat_lt 0 (length e.lists.left)) (length p.entries) e.shared.forward) e.shared.backward
+
+  pub waive_ends : (e : EndsHold kind n ws hs p c) → EndsHold kind n (set ws 2 1) hs p (waived 1 c)
+  waive_ends e = rebell e p (waived 1 c) (set ws 2 1) true e.shared.pending e.shared.flag_back e.shared.pending_back refl refl refl refl refl refl (ap (λ (z : List ℕ). set z 2 1) e.shared.words_are)
+      (waive_holds (bell e.shared.flag e.shared.pending c.waiter p.ringer) (nat_lt 0 (length e.lists.left)) (length p.entries) e.shared.forward) e.shared.backward
+
+  wake_goes : (e : EndsHold kind n ws hs p c) (b : Bool) → e.shared.pending ≡ b → EndsHold kind n (set ws 3 0) hs p (woken 3 (bit b) c)
+  wake_goes e true is = rebell e p (woken 3 1 c) (set ws 3 0) e.shared.flag false e.shared.flag_back e.shared.pending_back refl refl refl refl refl refl (ap (λ (z : List ℕ). set z 3 0) e.shared.words_are)
+      (wake_holds (bell e.shared.flag e.shared.pending c.waiter p.ringer) (nat_lt 0 (length e.lists.left)) (length p.entries) true is e.shared.forward) e.shared.backward
+  wake_goes e false is = rebell e p (woken 3 0 c) (set ws 3 0) e.shared.flag false e.shared.flag_back e.shared.pending_back refl refl refl refl refl refl (ap (λ (z : List ℕ). set z 3 0) e.shared.words_are)
+      (subst (λ (z : Bool). BellHolds (forward_bell e.shared.flag z p c) (nat_lt 0 (length e.lists.left)) (length p.entries)) is e.shared.forward) e.shared.backward
+
+  pub wake_ends : (e : EndsHold kind n ws hs p c) → EndsHold kind n (set ws 3 0) hs p (woken 3 (slice_index ws 3) c)
+  wake_ends e = subst (λ (z : ℕ). EndsHold kind n (set ws 3 0) hs p (woken 3 z c)) (ap (λ (z : List ℕ). slice_index z 3) (sym e.shared.words_are)) (wake_goes e e.shared.pending refl)
+
+  -- a load of the word i changes no word
+  pub same_words : (e : EndsHold kind n ws hs p c) → set ws 2 (slice_index ws 2) ≡ ws
+  same_words e = ap (λ (z : List ℕ). set z 2 (slice_index z 2)) e.shared.words_are ∙ sym e.shared.words_are
+
+  wanted_goes : (e : EndsHold kind n ws hs p c) (b : Bool) → p.ringer ≡ Rung.Put → e.shared.flag ≡ b → EndsHold kind n ws hs (wanted 2 (bit b) p) c
+  wanted_goes e true put is = rebell e (wanted 2 1 p) c ws e.shared.flag e.shared.pending e.shared.flag_back e.shared.pending_back refl refl refl refl refl refl e.shared.words_are
+      (wanted_holds (bell e.shared.flag e.shared.pending c.waiter p.ringer) (nat_lt 0 (length e.lists.left)) (length p.entries) true is put e.shared.forward) e.shared.backward
+  wanted_goes e false put is = rebell e (wanted 2 0 p) c ws e.shared.flag e.shared.pending e.shared.flag_back e.shared.pending_back refl refl refl refl refl refl e.shared.words_are
+      (wanted_holds (bell e.shared.flag e.shared.pending c.waiter p.ringer) (nat_lt 0 (length e.lists.left)) (length p.entries) false is put e.shared.forward) e.shared.backward
+
+  pub wanted_ends : (e : EndsHold kind n ws hs p c) → p.ringer ≡ Rung.Put → EndsHold kind n (set ws 2 (slice_index ws 2)) hs (wanted 2 (slice_index ws 2) p) c
+  wanted_ends e put = subst (λ (z : ℕ × List ℕ). EndsHold kind n z.1 hs (wanted 2 z.0 p) c) (λ k. (ap (λ (z : List ℕ). slice_index z 2) (sym e.shared.words_are) k, sym (same_words e) k)) (wanted_goes e e.shared.flag put refl)
+
+  pub settle_ends : (e : EndsHold kind n ws hs p c) → p.ringer ≡ Rung.Hot → EndsHold kind n (set ws 2 1) hs (settled 1 p) c
+  settle_ends e hot = rebell e (settled 1 p) c (set ws 2 1) true e.shared.pending e.shared.flag_back e.shared.pending_back refl refl refl refl refl refl (ap (λ (z : List ℕ). set z 2 1) e.shared.words_are)
+      (settle_holds (bell e.shared.flag e.shared.pending c.waiter p.ringer) (nat_lt 0 (length e.lists.left)) (length p.entries) hot e.shared.forward) e.shared.backward
+
+  pub ring_ends : (e : EndsHold kind n ws hs p c) → p.ringer ≡ Rung.Ringing → EndsHold kind n (set ws 3 1) hs (rung 1 p) c
+  ring_ends e on = rebell e (rung 1 p) c (set ws 3 1) e.shared.flag true e.shared.flag_back e.shared.pending_back refl refl refl refl refl refl (ap (λ (z : List ℕ). set z 3 1) e.shared.words_are)
+      (ring_holds (bell e.shared.flag e.shared.pending c.waiter p.ringer) (nat_lt 0 (length e.lists.left)) (length p.entries) on e.shared.forward) e.shared.backward
+
+  -- the backward bell's calls
+  pub ask_back_ends : (e : EndsHold kind n ws hs p c) → EndsHold kind n (set ws 4 0) hs (asked 0 p) c
+  ask_back_ends e = rebell e (asked 0 p) c (set ws 4 0) e.shared.flag e.shared.pending false e.shared.pending_back refl refl refl refl refl refl (ap (λ (z : List ℕ). set z 4 0) e.shared.words_are) e.shared.forward
+      (ask_holds (bell e.shared.flag_back e.shared.pending_back p.waiter c.ringer) (nat_lt (length e.lists.left) n) (length c.entries) e.shared.backward)
+
+  pub waive_back_ends : (e : EndsHold kind n ws hs p c) → EndsHold kind n (set ws 4 1) hs (waived 1 p) c
+  waive_back_ends e = rebell e (waived 1 p) c (set ws 4 1) e.shared.flag e.shared.pending true e.shared.pending_back refl refl refl refl refl refl (ap (λ (z : List ℕ). set z 4 1) e.shared.words_are) e.shared.forward
+      (waive_holds (bell e.shared.flag_back e.shared.pending_back p.waiter c.ringer) (nat_lt (length e.lists.left) n) (length c.entries) e.shared.backward)
+
+  wake_back_goes : (e : EndsHold kind n ws hs p c) (b : Bool) → e.shared.pending_back ≡ b → EndsHold kind n (set ws 5 0) hs (woken 5 (bit b) p) c
+  wake_back_goes e true is = rebell e (woken 5 1 p) c (set ws 5 0) e.shared.flag e.shared.pending e.shared.flag_back false refl refl refl refl refl refl (ap (λ (z : List ℕ). set z 5 0) e.shared.words_are) e.shared.forward
+      (wake_holds (bell e.shared.flag_back e.shared.pending_back p.waiter c.ringer) (nat_lt (length e.lists.left) n) (length c.entries) true is e.shared.backward)
+  wake_back_goes e false is = rebell e (woken 5 0 p) c (set ws 5 0) e.shared.flag e.shared.pending e.shared.flag_back false refl refl refl refl refl refl (ap (λ (z : List ℕ). set z 5 0) e.shared.words_are) e.shared.forward
+      (subst (λ (z : Bool). BellHolds (backward_bell e.shared.flag_back z p c) (nat_lt (length e.lists.left) n) (length c.entries)) is e.shared.backward)
+
+  pub wake_back_ends : (e : EndsHold kind n ws hs p c) → EndsHold kind n (set ws 5 0) hs (woken 5 (slice_index ws 5) p) c
+  wake_back_ends e = subst (λ (z : ℕ). EndsHold kind n (set ws 5 0) hs (woken 5 z p) c) (ap (λ (z : List ℕ). slice_index z 5) (sym e.shared.words_are)) (wake_back_goes e e.shared.pending_back refl)
+
+  wanted_back_goes : (e : EndsHold kind n ws hs p c) (b : Bool) → c.ringer ≡ Rung.Put → e.shared.flag_back ≡ b → EndsHold kind n ws hs p (wanted 4 (bit b) c)
+  wanted_back_goes e true put is = rebell e p (wanted 4 1 c) ws e.shared.flag e.shared.pending e.shared.flag_back e.shared.pending_back refl refl refl refl refl refl e.shared.words_are e.shared.forward
+      (wanted_holds (bell e.shared.flag_back e.shared.pending_back p.waiter c.ringer) (nat_lt (length e.lists.left) n) (length c.entries) true is put e.shared.backward)
+  wanted_back_goes e false put is = rebell e p (wanted 4 0 c) ws e.shared.flag e.shared.pending e.shared.flag_back e.shared.pending_back refl refl refl refl refl refl e.shared.words_are e.shared.forward
+      (wanted_holds (bell e.shared.flag_back e.shared.pending_back p.waiter c.ringer) (nat_lt (length e.lists.left) n) (length c.entries) false is put e.shared.backward)
+
+  pub wanted_back_ends : (e : EndsHold kind n ws hs p c) → c.ringer ≡ Rung.Put → EndsHold kind n (set ws 4 (slice_index ws 4)) hs p (wanted 4 (slice_index ws 4) c)
+  wanted_back_ends e put = subst (λ (z : ℕ × List ℕ). EndsHold kind n z.1 hs p (wanted 4 z.0 c)) (λ k. (ap (λ (z : List ℕ). slice_index z 4) (sym e.shared.words_are) k, sym (ap (λ (z : List ℕ). set z 4 (slice_index z 4)) e.shared.words_are ∙ sym e.shared.words_are) k)) (wanted_back_goes e e.shared.flag_back put refl)
+
+  pub settle_back_ends : (e : EndsHold kind n ws hs p c) → c.ringer ≡ Rung.Hot → EndsHold kind n (set ws 4 1) hs p (settled 1 c)
+  settle_back_ends e hot = rebell e p (settled 1 c) (set ws 4 1) e.shared.flag e.shared.pending true e.shared.pending_back refl refl refl refl refl refl (ap (λ (z : List ℕ). set z 4 1) e.shared.words_are) e.shared.forward
+      (settle_holds (bell e.shared.flag_back e.shared.pending_back p.waiter c.ringer) (nat_lt (length e.lists.left) n) (length c.entries) hot e.shared.backward)
+
+  pub ring_back_ends : (e : EndsHold kind n ws hs p c) → c.ringer ≡ Rung.Ringing → EndsHold kind n (set ws 5 1) hs p (rung 1 c)
+  ring_back_ends e on = rebell e p (rung 1 c) (set ws 5 1) e.shared.flag e.shared.pending e.shared.flag_back true refl refl refl refl refl refl (ap (λ (z : List ℕ). set z 5 1) e.shared.words_are) e.shared.forward
+      (ring_holds (bell e.shared.flag_back e.shared.pending_back p.waiter c.ringer) (nat_lt (length e.lists.left) n) (length c.entries) on e.shared.backward)
+
+  -- new grants and slots, with the same entries, kinds, waiters and ringers
+  regrant : (e : EndsHold kind n ws hs p c) (p' c' : Half) (hs' : List (maybe.Option Slot)) → p'.entries ≡ p.entries → p'.kind ≡ p.kind → p'.waiter ≡ p.waiter → p'.ringer ≡ p.ringer → c'.entries ≡ c.entries → c'.kind ≡ c.kind → c'.waiter ≡ c.waiter → c'.ringer ≡ c.ringer
+      → SlotsHold n hs' (length c.entries) e.lists.left p'.grant c'.grant → EndsHold kind n ws hs' p' c'
+  regrant e p' c' hs' pe pk pw pr ce ck cw cr slots = record {
+    lists = record {
+      left = e.lists.left;
+      some_place = e.lists.some_place;
+      few = e.lists.few;
+      divides = e.lists.divides;
+      sent = pe ∙ (e.lists.sent ∙ ap (λ (z : List Cargo). z ++ e.lists.left) (sym ce));
+      kinds = subst (All (λ (z : Cargo). kind_of z.0 ≡ kind)) (sym pe) e.lists.kinds;
+      producer_kind = pk ∙ e.lists.producer_kind;
+      consumer_kind = ck ∙ e.lists.consumer_kind;
+      slots = subst (λ (z : List Cargo). SlotsHold n hs' (length z) e.lists.left p'.grant c'.grant) (sym ce) slots;
+    };
+    shared = record {
+      flag = e.shared.flag;
+      pending = e.shared.pending;
+      flag_back = e.shared.flag_back;
+      pending_back = e.shared.pending_back;
+      words_are = e.shared.words_are ∙ ap (λ (z : List Cargo × List Cargo). wrap (length z.0) ∷ wrap (length z.1) ∷ bit e.shared.flag ∷ bit e.shared.pending ∷ bit e.shared.flag_back ∷ bit e.shared.pending_back ∷ []) (λ k. (sym ce k, sym pe k));
+      forward = subst (λ (z : List Cargo × (Waiter × Ringer)). BellHolds (bell e.shared.flag e.shared.pending z.1.0 z.1.1) (nat_lt 0 (length e.lists.left)) (length z.0)) (λ k. (sym pe k, (sym cw k, sym pr k))) e.shared.forward;
+      backward = subst (λ (z : List Cargo × (Waiter × Ringer)). BellHolds (bell e.shared.flag_back e.shared.pending_back z.1.0 z.1.1) (nat_lt (length e.lists.left) n) (length z.0)) (λ k. (sym ce k, (sym pw k, sym cr k))) e.shared.backward;
+    };
+  }
+
+  -- a granted slot of the producer goes home
+  home_goes : (e : EndsHold kind n ws hs p c) (g : Option Slot) → p.grant ≡ g → EndsHold kind n ws (homes_after hs (held g (length p.entries % n)) gives) (sent_home p) c
+  home_goes e None is = regrant e (sent_home p) c hs refl refl refl refl refl refl refl refl (subst (λ (z : Option Slot). SlotsHold n hs (length c.entries) e.lists.left z c.grant) is e.lists.slots)
+  home_goes e (Some y) is = let slots = subst (λ (z : Option Slot). SlotsHold n hs (length c.entries) e.lists.left z c.grant) is e.lists.slots in let y_is : y ≡ None = (slots.to_producer y refl).0 in
+      regrant e (sent_home p) c (set hs (length p.entries % n) (some y)) refl refl refl refl refl refl refl refl
+      (subst (λ (z : Slot). SlotsHold n (set hs (length p.entries % n) (some z)) (length c.entries) e.lists.left None c.grant) (sym y_is) (room_comes_back n (length c.entries) hs e.lists.left c.grant (length p.entries % n) (last_place e) (subst (λ (z : Slot). SlotsHold n hs (length c.entries) e.lists.left (Some z) c.grant) y_is slots)))
+
+  pub home_ends : (e : EndsHold kind n ws hs p c) → EndsHold kind n ws (homes_after hs (held p.grant (length p.entries % n)) gives) (sent_home p) c
+  home_ends e = home_goes e p.grant refl
+
+  -- a granted slot of the consumer goes home
+  home_back_goes : (e : EndsHold kind n ws hs p c) (g : Option Slot) → c.grant ≡ g → EndsHold kind n ws (homes_after hs (held g (length c.entries % n)) gives) p (sent_home c)
+  home_back_goes e None is = regrant e p (sent_home c) hs refl refl refl refl refl refl refl refl (subst (λ (z : Option Slot). SlotsHold n hs (length c.entries) e.lists.left p.grant z) is e.lists.slots)
+  home_back_goes e (Some y) is = let t : ℕ = length c.entries in let i : ℕ = t % n in let o = e.lists.slots.to_consumer y is in let x : Cargo = o.0 in let xs : List Cargo = drop 1 e.lists.left in
+      let slots = subst (λ (z : Option Slot × List Cargo). SlotsHold n hs t z.1 p.grant z.0) (λ k. ((is ∙ ap (λ (z : Slot). Some z) o.1) k, o.2 k)) e.lists.slots in
+      regrant e p (sent_home c) (set hs i (some y)) refl refl refl refl refl refl refl refl
+      (subst (λ (z : Slot × List Cargo). SlotsHold n (set hs i (some z.0)) t z.1 p.grant None) (λ k. (sym o.1 k, sym o.2 k)) (entry_comes_back n t hs x xs p.grant i (ap (λ (z : ℕ). z % n) (let z : t ≡ t + 0 = omega arith in z)) slots))
+
+  pub home_back_ends : (e : EndsHold kind n ws hs p c) → EndsHold kind n ws (homes_after hs (held c.grant (length c.entries % n)) gives) p (sent_home c)
+  home_back_ends e = home_back_goes e c.grant refl

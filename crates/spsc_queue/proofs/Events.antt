@@ -1,0 +1,185 @@
+-- Each call on a ring is the queue law's next event on the queue that the ring shows.
+use Rattle.std.proofs.Common.{◌≡◌, ℕ, zero, suc, ◌+◌, ◌≤◌, Bool, true, false, not, nat_lt, nat_eq, List, [], ◌∷◌, ◌++◌, length, drop, length-append, refl, sym, ap, ◌∙◌, subst, arith, Option, Some, is_some}
+use Rattle.std.proofs.lemmas.Bool.{lt-ltb}
+use mathlib.Core.Option as maybe
+use Rattle.cargo_core.specs.declared.item.QueueKind.{QueueKind}
+use Rattle.wire_core.specs.declared.names.Op.{Op}
+use Rattle.wire_core.specs.declared.names.Op.TheVariants as Do
+use Rattle.wire_core.specs.declared.names.Side.TheVariants.{Forward, Backward}
+use Rattle.wire_core.specs.declared.names.Answer.{Answer}
+use Rattle.wire_core.specs.declared.names.Answer.TheVariants.{Done}
+use Rattle.wire_core.specs.Bells.{bit}
+use Rattle.wire_core.specs.Deeds.{Cargo, answer_of}
+use Rattle.wire_core.specs.Ends.{Condition, role_of}
+use Rattle.wire_core.specs.Queues.{Queue, queue_after}
+use Rattle.spsc_queue.specs.declared.view.Half.{Half}
+use Rattle.spsc_queue.specs.Rule.{Slot, wrap, ListsHold, EndsHold}
+use Rattle.spsc_queue.specs.Steps.{empty_if, looked, Granted, tells_room, tells_entry, sent_one, took_one, woken, wanted, known_end, CallDid}
+use Rattle.spsc_queue.specs.Shown.{ring_queue, half_of, words_after, read_by, IsEvent}
+use Rattle.spsc_queue.proofs.Looks.{room_tells, entry_tells}
+use Rattle.spsc_queue.proofs.Calls.{granted_some}
+
+drop_all : (xs ys : List Cargo) → drop (length xs) (xs ++ ys) ≡ ys
+drop_all [] ys = refl
+drop_all (x ∷ xs) ys = drop_all xs ys
+
+drop_short : (t : ℕ) (xs ys : List Cargo) → t ≤ length xs → drop t (xs ++ ys) ≡ drop t xs ++ ys
+drop_short zero xs ys le = refl
+drop_short (suc t) [] ys le = absurd (omega arith)
+drop_short (suc t) (x ∷ xs) ys le = drop_short t xs ys (omega arith)
+
+drop_next : (t : ℕ) (xs : List Cargo) → drop (suc t) xs ≡ drop 1 (drop t xs)
+drop_next zero xs = refl
+drop_next (suc t) [] = refl
+drop_next (suc t) (x ∷ xs) = drop_next t xs
+
+module _ (kind : QueueKind) (n : ℕ) (hs : List (maybe.Option Slot)) (p c : Half) (l : ListsHold kind n hs p c) (flag pending flag_back pending_back : Bool) where
+  abbrev words : List ℕ
+  words = wrap (length c.entries) ∷ wrap (length p.entries) ∷ bit flag ∷ bit pending ∷ bit flag_back ∷ bit pending_back ∷ []
+
+  abbrev shown : Queue
+  shown = ring_queue kind n words p c
+
+  left_is : drop (length c.entries) p.entries ≡ l.left
+  left_is = ap (λ (z : List Cargo). drop (length c.entries) z) l.sent ∙ drop_all c.entries l.left
+
+  counts : length p.entries ≡ length c.entries + length l.left
+  counts = ap length l.sent ∙ length-append c.entries l.left
+
+  entry_answers : tells_entry (length c.entries) (wrap (length p.entries)) ≡ nat_lt 0 (length (drop (length c.entries) p.entries))
+  entry_answers = let within : length l.left ≤ n = l.slots.within in let few : n ≤ 32768 = l.few in ap (λ (z : ℕ). tells_entry (length c.entries) (wrap z)) counts ∙ (entry_tells (length c.entries) (length l.left) (omega arith) ∙ ap (λ (z : List Cargo). nat_lt 0 (length z)) (sym left_is))
+
+  room_answers : tells_room n (length p.entries) (wrap (length c.entries)) ≡ nat_lt (length (drop (length c.entries) p.entries)) n
+  room_answers = ap (λ (z : ℕ). tells_room n z (wrap (length c.entries))) counts ∙ (room_tells n (length c.entries) (length l.left) l.slots.within l.few ∙ ap (λ (z : List Cargo). nat_lt (length z) n) (sym left_is))
+
+  see_after : (b : Bool) (r : ℕ) (g : Option Slot) → Granted c.kind b g → ring_queue kind n words p (looked b 1 r g c) ≡ queue_after shown Do.See (answer_of b) []
+  see_after true r g h = subst (λ (z : Option Slot). ring_queue kind n words p (looked true 1 r z c) ≡ queue_after shown Do.See (answer_of true) []) (sym h.1) refl
+  see_after false r g h = subst (λ (z : Option Slot). ring_queue kind n words p (looked false 1 r z c) ≡ queue_after shown Do.See (answer_of false) []) (sym h) refl
+
+  room_after : (b : Bool) (r : ℕ) → ring_queue kind n words (looked b 0 r (empty_if b) p) c ≡ queue_after shown Do.Room (answer_of b) []
+  room_after true r = refl
+  room_after false r = refl
+
+  take_after : (x : Cargo) → ring_queue kind n (words_after words c Do.Take) p (took_one x c) ≡ queue_after shown Do.Take Done (x ∷ [])
+  take_after x = let more : length (c.entries ++ x ∷ []) ≡ suc (length c.entries) = length-append c.entries (x ∷ []) ∙ (let z : length c.entries + 1 ≡ suc (length c.entries) = omega arith in z) in
+      ap (λ (z : List Cargo). record (queue_after shown Do.Take Done (x ∷ [])) { entries = z }) (ap (λ (z : ℕ). drop z p.entries) more ∙ drop_next (length c.entries) p.entries)
+
+  put_after : (x : Cargo) → ring_queue kind n (words_after words p Do.Put) (sent_one x p) c ≡ queue_after shown Do.Put Done (x ∷ [])
+  put_after x = let k = counts in let within : length c.entries ≤ length p.entries = omega arith in ap (λ (z : List Cargo). record (queue_after shown Do.Put Done (x ∷ [])) { entries = z }) (drop_short (length c.entries) p.entries (x ∷ []) within)
+
+  wake_after : (b : Bool) → b ≡ pending → ring_queue kind n (words_after words c (Do.Wake Forward)) p (woken 3 (bit b) c) ≡ queue_after shown (Do.Wake Forward) (answer_of (nat_eq (bit b) 1)) []
+  wake_after true is = refl
+  wake_after false is = ap (λ (z : Bool). record (queue_after shown (Do.Wake Forward) (answer_of false) []) { bells = record shown.bells { forward = record shown.bells.forward { pending = nat_eq (bit z) 1 } } }) is
+
+  wake_back_after : (b : Bool) → b ≡ pending_back → ring_queue kind n (words_after words p (Do.Wake Backward)) (woken 5 (bit b) p) c ≡ queue_after shown (Do.Wake Backward) (answer_of (nat_eq (bit b) 1)) []
+  wake_back_after true is = refl
+  wake_back_after false is = ap (λ (z : Bool). record (queue_after shown (Do.Wake Backward) (answer_of false) []) { bells = record shown.bells { backward = record shown.bells.backward { pending = nat_eq (bit z) 1 } } }) is
+
+  wanted_after : (b : Bool) → ring_queue kind n words (wanted 2 (bit b) p) c ≡ queue_after shown (Do.Wanted Forward) (answer_of (nat_eq (bit b) 0)) []
+  wanted_after true = refl
+  wanted_after false = refl
+
+  wanted_back_after : (b : Bool) → ring_queue kind n words p (wanted 4 (bit b) c) ≡ queue_after shown (Do.Wanted Backward) (answer_of (nat_eq (bit b) 0)) []
+  wanted_back_after true = refl
+  wanted_back_after false = refl
+
+  flag_tells : (b : Bool) → nat_eq (bit b) 0 ≡ not (nat_eq (bit b) 1)
+  flag_tells true = refl
+  flag_tells false = refl
+
+  filled_by : (y : Slot) → c.grant ≡ Some y → (x : Cargo) × (y ≡ Some x) × (drop (length c.entries) p.entries ≡ x ∷ drop 1 (drop (length c.entries) p.entries))
+  filled_by y is = let o = l.slots.to_consumer y is in (o.0, o.1, subst (λ (z : List Cargo). z ≡ o.0 ∷ drop 1 z) (sym left_is) o.2)
+
+  roomed_by : is_some p.grant ≡ true → nat_lt (length (drop (length c.entries) p.entries)) n ≡ true
+  roomed_by is = let g = granted_some p.grant is in ap (λ (z : List Cargo). nat_lt (length z) n) left_is ∙ lt-ltb (length l.left) n ((l.slots.to_producer g.0 g.1).1)
+
+  some_is : (x y : Cargo) → Some x ≡ Some y → x ≡ y
+  some_is x y e = cc
+
+  event : (o : Op) (a : Answer) (cargo : List Cargo) (h : Half) → Condition (known_end (half_of (role_of o) p c)) o → CallDid n (half_of (role_of o) p c) o (read_by words o) a cargo h → IsEvent kind n words p c o a cargo h
+  event Do.See a cargo h may d = record {
+    tells = d.1 ∙ ap answer_of entry_answers;
+    carries = d.2;
+    after = subst (λ (z : Half × (Answer × List Cargo)). ring_queue kind n words p z.0 ≡ queue_after shown Do.See z.1.0 z.1.1) (λ i. (sym d.0 i, (sym d.1 i, sym d.2 i))) (see_after (tells_entry (length c.entries) (wrap (length p.entries))) (wrap (length p.entries)) h.grant d.3);
+  }
+  event Do.Room a cargo h may d = record {
+    tells = d.1 ∙ ap answer_of room_answers;
+    carries = d.2;
+    after = subst (λ (z : Half × (Answer × List Cargo)). ring_queue kind n words z.0 c ≡ queue_after shown Do.Room z.1.0 z.1.1) (λ i. (sym d.0 i, (sym d.1 i, sym d.2 i))) (room_after (tells_room n (length p.entries) (wrap (length c.entries))) (wrap (length c.entries)));
+  }
+  event Do.Take a cargo h may d = let x : Cargo = d.0 in let o = filled_by (Some x) d.2 in let same : x ≡ o.0 = some_is x o.0 o.1 in record {
+    tells = (d.4, ap (λ (z : List Cargo). nat_lt 0 (length z)) o.2 ∙ lt-ltb 0 (suc (length (drop 1 (drop (length c.entries) p.entries)))) (omega arith));
+    carries = (o.0, d.1 ∙ ap (λ (z : Cargo). z ∷ []) same, o.2);
+    after = subst (λ (z : Half × (Answer × List Cargo)). ring_queue kind n (words_after words c Do.Take) p z.0 ≡ queue_after shown Do.Take z.1.0 z.1.1) (λ i. (sym d.3 i, (sym d.4 i, sym d.1 i))) (take_after x);
+  }
+  event Do.Put a cargo h may d = let x : Cargo = d.0 in record {
+    tells = (d.3, roomed_by may.1);
+    carries = (x, d.1, d.4 ∙ l.producer_kind);
+    after = subst (λ (z : Half × (Answer × List Cargo)). ring_queue kind n (words_after words p Do.Put) z.0 c ≡ queue_after shown Do.Put z.1.0 z.1.1) (λ i. (sym d.2 i, (sym d.3 i, sym d.1 i))) (put_after x);
+  }
+  event (Do.Wake Forward) a cargo h may d = record {
+    tells = d.1;
+    carries = d.2;
+    after = subst (λ (z : Half × (Answer × List Cargo)). ring_queue kind n (words_after words c (Do.Wake Forward)) p z.0 ≡ queue_after shown (Do.Wake Forward) z.1.0 z.1.1) (λ i. (sym d.0 i, (sym d.1 i, sym d.2 i))) (wake_after pending refl);
+  }
+  event (Do.Wake Backward) a cargo h may d = record {
+    tells = d.1;
+    carries = d.2;
+    after = subst (λ (z : Half × (Answer × List Cargo)). ring_queue kind n (words_after words p (Do.Wake Backward)) z.0 c ≡ queue_after shown (Do.Wake Backward) z.1.0 z.1.1) (λ i. (sym d.0 i, (sym d.1 i, sym d.2 i))) (wake_back_after pending_back refl);
+  }
+  event (Do.Wanted Forward) a cargo h may d = record {
+    tells = d.1 ∙ ap answer_of (flag_tells flag);
+    carries = d.2;
+    after = subst (λ (z : Half × (Answer × List Cargo)). ring_queue kind n words z.0 c ≡ queue_after shown (Do.Wanted Forward) z.1.0 z.1.1) (λ i. (sym d.0 i, (sym d.1 i, sym d.2 i))) (wanted_after flag);
+  }
+  event (Do.Wanted Backward) a cargo h may d = record {
+    tells = d.1 ∙ ap answer_of (flag_tells flag_back);
+    carries = d.2;
+    after = subst (λ (z : Half × (Answer × List Cargo)). ring_queue kind n words p z.0 ≡ queue_after shown (Do.Wanted Backward) z.1.0 z.1.1) (λ i. (sym d.0 i, (sym d.1 i, sym d.2 i))) (wanted_back_after flag_back);
+  }
+  event (Do.Ask Forward) a cargo h may d = record {
+    tells = d.1;
+    carries = d.2;
+    after = subst (λ (z : Half × (Answer × List Cargo)). ring_queue kind n (words_after words c (Do.Ask Forward)) p z.0 ≡ queue_after shown (Do.Ask Forward) z.1.0 z.1.1) (λ i. (sym d.0 i, (sym d.1 i, sym d.2 i))) refl;
+  }
+  event (Do.Ask Backward) a cargo h may d = record {
+    tells = d.1;
+    carries = d.2;
+    after = subst (λ (z : Half × (Answer × List Cargo)). ring_queue kind n (words_after words p (Do.Ask Backward)) z.0 c ≡ queue_after shown (Do.Ask Backward) z.1.0 z.1.1) (λ i. (sym d.0 i, (sym d.1 i, sym d.2 i))) refl;
+  }
+  event (Do.Waive Forward) a cargo h may d = record {
+    tells = d.1;
+    carries = d.2;
+    after = subst (λ (z : Half × (Answer × List Cargo)). ring_queue kind n (words_after words c (Do.Waive Forward)) p z.0 ≡ queue_after shown (Do.Waive Forward) z.1.0 z.1.1) (λ i. (sym d.0 i, (sym d.1 i, sym d.2 i))) refl;
+  }
+  event (Do.Waive Backward) a cargo h may d = record {
+    tells = d.1;
+    carries = d.2;
+    after = subst (λ (z : Half × (Answer × List Cargo)). ring_queue kind n (words_after words p (Do.Waive Backward)) z.0 c ≡ queue_after shown (Do.Waive Backward) z.1.0 z.1.1) (λ i. (sym d.0 i, (sym d.1 i, sym d.2 i))) refl;
+  }
+  event (Do.Settle Forward) a cargo h may d = record {
+    tells = d.1;
+    carries = d.2;
+    after = subst (λ (z : Half × (Answer × List Cargo)). ring_queue kind n (words_after words p (Do.Settle Forward)) z.0 c ≡ queue_after shown (Do.Settle Forward) z.1.0 z.1.1) (λ i. (sym d.0 i, (sym d.1 i, sym d.2 i))) refl;
+  }
+  event (Do.Settle Backward) a cargo h may d = record {
+    tells = d.1;
+    carries = d.2;
+    after = subst (λ (z : Half × (Answer × List Cargo)). ring_queue kind n (words_after words c (Do.Settle Backward)) p z.0 ≡ queue_after shown (Do.Settle Backward) z.1.0 z.1.1) (λ i. (sym d.0 i, (sym d.1 i, sym d.2 i))) refl;
+  }
+  event (Do.Ring Forward) a cargo h may d = record {
+    tells = d.1;
+    carries = d.2;
+    after = subst (λ (z : Half × (Answer × List Cargo)). ring_queue kind n (words_after words p (Do.Ring Forward)) z.0 c ≡ queue_after shown (Do.Ring Forward) z.1.0 z.1.1) (λ i. (sym d.0 i, (sym d.1 i, sym d.2 i))) refl;
+  }
+  event (Do.Ring Backward) a cargo h may d = record {
+    tells = d.1;
+    carries = d.2;
+    after = subst (λ (z : Half × (Answer × List Cargo)). ring_queue kind n (words_after words c (Do.Ring Backward)) p z.0 ≡ queue_after shown (Do.Ring Backward) z.1.0 z.1.1) (λ i. (sym d.0 i, (sym d.1 i, sym d.2 i))) refl;
+  }
+
+-- the same on the words as they are
+pub is_event : (kind : QueueKind) (n : ℕ) (words : List ℕ) (hs : List (maybe.Option Slot)) (p c : Half) (o : Op) (a : Answer) (cargo : List Cargo) (h : Half) → EndsHold kind n words hs p c
+    → Condition (known_end (half_of (role_of o) p c)) o → CallDid n (half_of (role_of o) p c) o (read_by words o) a cargo h → IsEvent kind n words p c o a cargo h
+is_event kind n ws hs p c o a cargo h e may did = let s = e.shared in subst (λ (z : List ℕ). IsEvent kind n z p c o a cargo h) (sym s.words_are)
+    (event kind n hs p c e.lists s.flag s.pending s.flag_back s.pending_back o a cargo h may (subst (λ (z : List ℕ). CallDid n (half_of (role_of o) p c) o (read_by z o) a cargo h) s.words_are did))

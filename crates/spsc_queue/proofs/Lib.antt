@@ -1,0 +1,9 @@
+pub mod Places
+pub mod Looks
+pub mod Ends
+pub mod Views
+pub mod Calls
+pub mod Opening
+pub mod Emptying
+pub mod Closing
+pub mod Events

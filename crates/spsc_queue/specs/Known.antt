@@ -1,0 +1,70 @@
+pub mod Ends
+-- How what a caller sees of an end, a ring and an ended ring lies in their fields.
+use Rattle.std.specs.Prelude.{◌≡◌, ◌≢◌, ℕ, ◌%◌, ◌<◌, ◌≤◌, length, true, false, Option, Some, None, List, [], ◌∷◌}
+use Rattle.cargo_core.specs.declared.item.QueueKind.TheVariants as Kind
+use Rattle.wire_core.specs.declared.names.BellState.{BellState}
+use Rattle.wire_core.specs.declared.names.Side.{Side}
+use Rattle.wire_core.specs.declared.names.Side.TheVariants.{Forward, Backward}
+use Rattle.wire_core.specs.Deeds.{Cargo}
+use Rattle.spsc_queue.specs.declared.producer.Producer.TheInside as Make
+use Rattle.spsc_queue.specs.declared.consumer.Consumer.TheInside as Use
+use Rattle.spsc_queue.specs.declared.ring.Ring.TheInside as Lie
+use Rattle.spsc_queue.specs.declared.ended.Ended.TheInside as Rest
+use Rattle.spsc_queue.specs.declared.view.View.{View}
+use Rattle.spsc_queue.specs.Known.Ends.{EndIs, RingIs, EndedIs}
+use Rattle.spsc_queue.specs.Rule.{wrap, first_view}
+use Rattle.spsc_queue.specs.Steps.{held, GrantedKind}
+
+-- a producing end keeps the wrapped number of what it sent, and holds the slot that was granted to it
+pub record IsProducer (p : Make.Inside) : Type 0 where
+  pub produces : p.seat.me.0.produces ≡ true
+  pub consumes : p.seat.me.0.consumes ≡ false
+  pub index : p.tail ≡ wrap (length p.seat.me.0.producer.entries)
+  pub holding : p.seat.me.1 ≡ held p.seat.me.0.producer.grant (length p.seat.me.0.producer.entries % p.seat.table_id.slots)
+  pub waiter : p.waiter ≡ p.seat.me.0.producer.waiter
+  pub ringer : p.ringer ≡ p.seat.me.0.producer.ringer
+  pub granted : (x : Cargo) → p.seat.me.0.producer.grant ≢ Some (Some x)
+
+-- what a caller sees of a producing end
+abbrev pub producer_is : Make.Inside → EndIs
+producer_is p = record { ring = p.seat.table_id; knows = p.seat.me.0.producer }
+
+-- a consuming end keeps the wrapped number of what it took, and holds the slot that was granted to it
+pub record IsConsumer (p : Use.Inside) : Type 0 where
+  pub consumes : p.seat.me.0.consumes ≡ true
+  pub produces : p.seat.me.0.produces ≡ false
+  pub index : p.head ≡ wrap (length p.seat.me.0.consumer.entries)
+  pub holding : p.seat.me.1 ≡ held p.seat.me.0.consumer.grant (length p.seat.me.0.consumer.entries % p.seat.table_id.slots)
+  pub waiter : p.waiter ≡ p.seat.me.0.consumer.waiter
+  pub ringer : p.ringer ≡ p.seat.me.0.consumer.ringer
+  pub granted : GrantedKind p.seat.me.0.consumer.kind p.seat.me.0.consumer.grant
+
+-- what a caller sees of a consuming end
+abbrev pub consumer_is : Use.Inside → EndIs
+consumer_is p = record { ring = p.seat.table_id; knows = p.seat.me.0.consumer }
+
+-- a ring has six words, and its capacity divides the numbers of an index
+pub record IsRing (r : Lie.Inside) : Type 0 where
+  pub words : r.table.shared.table_id.words ≡ 6
+  pub slots : r.table.shared.table_id.slots ≡ r.capacity
+  pub some_place : 0 < r.capacity
+  pub few : r.capacity ≤ 32768
+  pub divides : 65536 % r.capacity ≡ 0
+
+-- what a caller sees of a ring
+abbrev pub ring_is : Lie.Inside → RingIs
+ring_is r = record { id = r.table.shared.table_id; kind = r.table.shared.key }
+
+-- the one view of a badge that has one
+abbrev pub only_view : List View → View
+only_view [] = first_view Kind.Byte
+only_view (v ∷ vs) = v
+
+-- what a caller sees of an ended ring
+abbrev pub ended_is : Rest.Inside → EndedIs
+ended_is e = record { capacity = e.badge.table_id.slots; producer = (only_view e.badge.views).producer; consumer = (only_view e.badge.views).consumer; left = e.left.items; forward = e.forward; backward = e.backward }
+
+-- one of its two bells
+abbrev pub ended_bell : EndedIs → Side → BellState
+ended_bell e Forward = e.forward
+ended_bell e Backward = e.backward

@@ -1,0 +1,5 @@
+pub mod Rule
+pub mod Known
+pub mod Steps
+pub mod Shown
+pub mod Left

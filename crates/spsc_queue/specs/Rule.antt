@@ -1,0 +1,99 @@
+-- The rule of a ring: its words, its slots and what its two ends know stand for one queue with its bells.
+use Rattle.std.specs.Prelude.{◌≡◌, ℕ, ◌+◌, ◌%◌, ◌^◌, ◌<◌, ◌≤◌, Bool, true, List, [], ◌∷◌, ◌++◌, length, drop, All, Option, Some, None, nat_lt}
+use mathlib.Core.Option.{some}
+use mathlib.Core.Option as maybe
+use lib.ListN.{get_elem?}
+use Rattle.atomic_table.specs.Table.{State}
+use Rattle.cargo_core.specs.declared.item.QueueKind.{QueueKind}
+use Rattle.cargo_core.specs.Items.{kind_of}
+use Rattle.wire_core.specs.declared.names.BellState.{BellState}
+use Rattle.wire_core.specs.declared.names.Waiter.TheVariants as Wait
+use Rattle.wire_core.specs.declared.names.Ringer.TheVariants as Rung
+use Rattle.wire_core.specs.Bells.{BellHolds, bit}
+use Rattle.wire_core.specs.Deeds.{Cargo}
+use Rattle.spsc_queue.specs.declared.view.Half.{Half}
+use Rattle.spsc_queue.specs.declared.view.View.{View}
+
+-- an empty place, or an entry
+abbrev pub Slot : Type 0
+Slot = Option Cargo
+
+-- a power of two from 1 to 32,768, as a description's rule of capacities has it
+abbrev pub IsCapacity : ℕ → Type 0
+IsCapacity n = (k : ℕ) × (k ≤ 15) × (n ≡ 2 ^ k)
+
+-- an index as a word holds it: free running, by 16 bits
+abbrev pub wrap : ℕ → ℕ
+wrap n = n % 65536
+
+-- The slots of a ring of n places, where t entries were taken and these are left.
+-- A slot that is granted to an end is away.
+pub record SlotsHold (n : ℕ) (homes : List (maybe.Option Slot)) (t : ℕ) (left : List Cargo) (producer consumer : Option Slot) : Type 0 where
+  pub size : length homes ≡ n
+  pub within : length left ≤ n
+  pub filled : (k : ℕ) (x : Cargo) → get_elem? left k ≡ some x → (k ≡ 0 → consumer ≡ None) → get_elem? homes ((t + k) % n) ≡ some (some (Some x))
+  pub empty : (k : ℕ) → length left ≤ k → k < n → (k ≡ length left → producer ≡ None) → get_elem? homes ((t + k) % n) ≡ some (some None)
+  pub to_producer : (y : Slot) → producer ≡ Some y → (y ≡ None) × (length left < n)
+  pub to_consumer : (y : Slot) → consumer ≡ Some y → (x : Cargo) × (y ≡ Some x) × (left ≡ x ∷ drop 1 left)
+
+-- the bell of entries: its waiter is the consumer, its ringer the producer
+abbrev pub forward_bell : Bool → Bool → Half → Half → BellState
+forward_bell flag pending p c = record { flag = flag; pending = pending; waiter = c.waiter; ringer = p.ringer }
+
+-- the bell of room: its waiter is the producer, its ringer the consumer
+abbrev pub backward_bell : Bool → Bool → Half → Half → BellState
+backward_bell flag pending p c = record { flag = flag; pending = pending; waiter = p.waiter; ringer = c.ringer }
+
+-- the lists and the slots: what was taken is a beginning of what was sent and at most n shorter, all of it is of the
+-- ring's kind, and the rest lies in the slots
+pub record ListsHold (kind : QueueKind) (n : ℕ) (homes : List (maybe.Option Slot)) (p c : Half) : Type 0 where
+  pub left : List Cargo
+  pub some_place : 0 < n
+  pub few : n ≤ 32768
+  pub divides : 65536 % n ≡ 0
+  pub sent : p.entries ≡ c.entries ++ left
+  pub kinds : All (λ x. kind_of x.0 ≡ kind) p.entries
+  pub producer_kind : p.kind ≡ kind
+  pub consumer_kind : c.kind ≡ kind
+  pub slots : SlotsHold n homes (length c.entries) left p.grant c.grant
+
+-- the words: the two indices, and the flag and pending word of each bell, which meet the bell law
+pub record WordsHold (n : ℕ) (words : List ℕ) (left : List Cargo) (p c : Half) : Type 0 where
+  pub flag : Bool
+  pub pending : Bool
+  pub flag_back : Bool
+  pub pending_back : Bool
+  pub words_are : words ≡ wrap (length c.entries) ∷ wrap (length p.entries) ∷ bit flag ∷ bit pending ∷ bit flag_back ∷ bit pending_back ∷ []
+  pub forward : BellHolds (forward_bell flag pending p c) (nat_lt 0 (length left)) (length p.entries)
+  pub backward : BellHolds (backward_bell flag_back pending_back p c) (nat_lt (length left) n) (length c.entries)
+
+-- what the two ends know, with the slots and the words
+pub record EndsHold (kind : QueueKind) (n : ℕ) (words : List ℕ) (homes : List (maybe.Option Slot)) (p c : Half) : Type 0 where
+  pub lists : ListsHold kind n homes p c
+  pub shared : WordsHold n words lists.left p c
+
+-- one seat produces, one consumes, and what these two know fits the words and slots
+pub record RingHolds (kind : QueueKind) (s : State Slot View) : Type 0 where
+  pub p : ℕ
+  pub c : ℕ
+  pub producing : View
+  pub consuming : View
+  pub at_p : get_elem? s.views p ≡ some producing
+  pub at_c : get_elem? s.views c ≡ some consuming
+  pub produces : producing.produces ≡ true
+  pub consumes : consuming.consumes ≡ true
+  pub one_producer : (j : ℕ) (v : View) → get_elem? s.views j ≡ some v → v.produces ≡ true → j ≡ p
+  pub one_consumer : (j : ℕ) (v : View) → get_elem? s.views j ≡ some v → v.consumes ≡ true → j ≡ c
+  pub ends : EndsHold kind (length s.homes) s.words s.homes producing.producer consuming.consumer
+
+-- what the producer of a new ring knows
+abbrev pub first_producer : QueueKind → Half
+first_producer k = record { entries = []; kind = k; waiter = Wait.Off; ringer = Rung.Free; grant = None; noes = 0; steps = 0; last_word = 0; last_value = 0 }
+
+-- what the consumer of a new ring knows
+abbrev pub first_consumer : QueueKind → Half
+first_consumer k = record { entries = []; kind = k; waiter = Wait.Busy; ringer = Rung.Free; grant = None; noes = 0; steps = 0; last_word = 0; last_value = 0 }
+
+-- what the one seat of a new ring knows, which has both roles
+abbrev pub first_view : QueueKind → View
+first_view k = record { produces = true; consumes = true; producer = first_producer k; consumer = first_consumer k }

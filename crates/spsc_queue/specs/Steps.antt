@@ -1,0 +1,187 @@
+-- What each step on a ring tells.
+use Rattle.std.specs.Prelude.{◌≡◌, ◌≢◌, ℕ, ◌+◌, ◌%◌, ◌<◌, Bool, true, false, not, List, [], ◌∷◌, ◌++◌, length, Option, Some, None, nat_eq, is_some}
+use Rattle.atomic_table.specs.Table.{Me, Step}
+use Rattle.cargo_core.specs.declared.item.QueueKind.{QueueKind}
+use Rattle.cargo_core.specs.Items.{kind_of}
+use Rattle.wire_core.specs.declared.names.Op.{Op}
+use Rattle.wire_core.specs.declared.names.Op.TheVariants as Do
+use Rattle.wire_core.specs.declared.names.Side.TheVariants.{Forward, Backward}
+use Rattle.wire_core.specs.declared.names.Answer.{Answer}
+use Rattle.wire_core.specs.declared.names.Answer.TheVariants.{Done}
+use Rattle.wire_core.specs.declared.names.Ringer.TheVariants as Rung
+use Rattle.wire_core.specs.declared.names.Waiter.TheVariants as Wait
+use Rattle.cargo_core.specs.declared.item.QueueKind.TheVariants as Kind
+use Rattle.wire_core.specs.Deeds.{Cargo, answer_of}
+use Rattle.wire_core.specs.Ends.{End, looked_waiter, woken_waiter, wanted_ringer}
+use Rattle.spsc_queue.specs.declared.view.Half.{Half}
+use Rattle.spsc_queue.specs.declared.view.View.{View}
+use Rattle.spsc_queue.specs.Rule.{Slot, wrap, first_view}
+
+-- what a seat knows, and the slots that it holds
+abbrev pub Seated : Type 0
+Seated = Me Slot View
+
+-- the slots that an end holds
+abbrev pub held : Option Slot → ℕ → List (ℕ × Slot)
+held None k = []
+held (Some y) k = (k, y) ∷ []
+
+-- What `room` answers where it reads this head. The queue is full where the tail is n ahead of it.
+abbrev pub tells_room : ℕ → ℕ → ℕ → Bool
+tells_room n sent head = not (nat_eq (wrap (head + n)) (wrap sent))
+
+-- what `see` answers where it reads this tail
+abbrev pub tells_entry : ℕ → ℕ → Bool
+tells_entry taken tail = not (nat_eq tail (wrap taken))
+
+-- a no is counted
+abbrev pub noes_more : Bool → ℕ → ℕ
+noes_more true n = n
+noes_more false n = n + 1
+
+-- the end after a look at the word w, which held r
+abbrev pub looked : Bool → ℕ → ℕ → Option Slot → Half → Half
+looked b w r g h = record h { waiter = looked_waiter h.waiter (answer_of b); grant = g; noes = noes_more b h.noes; steps = h.steps + 1; last_word = w; last_value = r }
+
+-- an empty slot is granted where the look answers yes
+abbrev pub empty_if : Bool → Option Slot
+empty_if true = Some None
+empty_if false = None
+
+-- what a seat knows, with the producer as it is now
+abbrev pub with_producer : View → Half → View
+with_producer v h = record v { producer = h }
+
+-- what a seat knows, with the consumer as it is now
+abbrev pub with_consumer : View → Half → View
+with_consumer v h = record v { consumer = h }
+
+-- the producer after a look for room that read r
+abbrev pub room_told : ℕ → Half → ℕ → Half
+room_told n h r = looked (tells_room n (length h.entries) r) 0 r (empty_if (tells_room n (length h.entries) r)) h
+
+-- the step of `room`: a load of the head, which grants the slot at the tail where it answers yes
+abbrev pub roomed : Step Slot → Seated → ℕ → Seated → Type 0
+roomed st m r m' = (r < 65536) × (m'.0 ≡ with_producer m.0 (room_told st.slots m.0.producer r)) × (m'.1 ≡ held m'.0.producer.grant (length m.0.producer.entries % st.slots))
+
+-- the producer after a put
+abbrev pub sent_one : Cargo → Half → Half
+sent_one x h = record h { entries = h.entries ++ x ∷ []; ringer = Rung.Put; grant = None; steps = h.steps + 1 }
+
+-- the step of `put`: a store to the tail, at which the granted slot goes home filled
+abbrev pub put_done : Step Slot → Seated → ℕ → Seated → Type 0
+put_done st m r m' = (x : Cargo) → m.1 ≡ (length m.0.producer.entries % st.slots, Some x) ∷ [] → (m'.0 ≡ with_producer m.0 (sent_one x m.0.producer)) × (m'.1 ≡ [])
+
+-- what `see` may grant: nothing where it answers no, and else an entry of the kind
+abbrev pub Granted : QueueKind → Bool → Option Slot → Type 0
+Granted kind true g = (x : Cargo) × (g ≡ Some (Some x)) × (kind_of x.0 ≡ kind)
+Granted kind false g = g ≡ None
+
+-- what the consumer was granted is an entry of the kind
+abbrev pub GrantedKind : QueueKind → Option Slot → Type 0
+GrantedKind kind g = (g ≢ Some None) × ((x : Cargo) → g ≡ Some (Some x) → kind_of x.0 ≡ kind)
+
+-- the consumer after a look for an entry that read r
+abbrev pub see_told : Option Slot → Half → ℕ → Half
+see_told g h r = looked (tells_entry (length h.entries) r) 1 r g h
+
+-- the step of `see`: a load of the tail, which grants the slot at the head where it answers yes
+abbrev pub seen : Step Slot → Seated → ℕ → Seated → Type 0
+seen st m r m' = (g : Option Slot) × Granted m.0.consumer.kind (tells_entry (length m.0.consumer.entries) r) g
+    × (m'.0 ≡ with_consumer m.0 (see_told g m.0.consumer r)) × (m'.1 ≡ held g (length m.0.consumer.entries % st.slots))
+
+-- the consumer after a take
+abbrev pub took_one : Cargo → Half → Half
+took_one x h = record h { entries = h.entries ++ x ∷ []; ringer = Rung.Put; grant = None; steps = h.steps + 1 }
+
+-- the step of `take`: a store to the head, at which the granted slot goes home empty
+abbrev pub take_done : Step Slot → Seated → ℕ → Seated → Type 0
+take_done st m r m' = (x : Cargo) → m.0.consumer.grant ≡ Some (Some x) → (m'.0 ≡ with_consumer m.0 (took_one x m.0.consumer)) × (m'.1 ≡ [])
+
+-- a step that leaves the slots alone
+abbrev pub producer_turned : (ℕ → Half → Half) → Step Slot → Seated → ℕ → Seated → Type 0
+producer_turned f st m r m' = (m'.0 ≡ with_producer m.0 (f r m.0.producer)) × (m'.1 ≡ m.1)
+
+-- the same of the consumer
+abbrev pub consumer_turned : (ℕ → Half → Half) → Step Slot → Seated → ℕ → Seated → Type 0
+consumer_turned f st m r m' = (m'.0 ≡ with_consumer m.0 (f r m.0.consumer)) × (m'.1 ≡ m.1)
+
+-- a store of 0 to the flag
+abbrev pub asked : ℕ → Half → Half
+asked r h = record h { waiter = Wait.Asked; steps = h.steps + 1 }
+
+-- a store of 1 to the flag, by the waiter
+abbrev pub waived : ℕ → Half → Half
+waived r h = record h { waiter = Wait.Off; steps = h.steps + 1 }
+
+-- a swap of the word w with 0
+abbrev pub woken : ℕ → ℕ → Half → Half
+woken w r h = record h { waiter = woken_waiter h.waiter (answer_of (nat_eq r 1)); steps = h.steps + 1; last_word = w; last_value = r }
+
+-- a load of the word w
+abbrev pub wanted : ℕ → ℕ → Half → Half
+wanted w r h = record h { ringer = wanted_ringer (answer_of (nat_eq r 0)); steps = h.steps + 1; last_word = w; last_value = r }
+
+-- a store of 1 to the flag, by the ringer
+abbrev pub settled : ℕ → Half → Half
+settled r h = record h { ringer = Rung.Ringing; steps = h.steps + 1 }
+
+-- a store of 1 to the pending word
+abbrev pub rung : ℕ → Half → Half
+rung r h = record h { ringer = Rung.Free; steps = h.steps + 1 }
+
+-- a granted slot goes home as it was
+abbrev pub sent_home : Half → Half
+sent_home h = record h { grant = None }
+
+-- the load at the end by which a granted slot of the producer goes home
+abbrev pub producer_home : Step Slot → Seated → ℕ → Seated → Type 0
+producer_home st m r m' = (m'.0 ≡ with_producer m.0 (sent_home m.0.producer)) × (m'.1 ≡ [])
+
+-- the same of the consumer
+abbrev pub consumer_home : Step Slot → Seated → ℕ → Seated → Type 0
+consumer_home st m r m' = (m'.0 ≡ with_consumer m.0 (sent_home m.0.consumer)) × (m'.1 ≡ [])
+
+-- how the first view is cut in two
+abbrev pub producing_part : View → View
+producing_part v = record v { consumes = false }
+
+-- the part that a second seat gets
+abbrev pub consuming_part : View → View
+consuming_part v = record v { produces = false }
+
+-- how the two are made one
+abbrev pub whole : View → View → View
+whole v w = record v { consumes = true; consumer = w.consumer }
+
+-- it knows what v knows, and neither produces nor consumes
+abbrev pub memory_of : View → View
+memory_of v = record v { produces = false; consumes = false }
+
+-- what is left of a seat that was joined
+abbrev pub spent : View
+spent = memory_of (first_view Kind.Byte)
+
+-- what its owner knows of an end
+abbrev pub known_end : Half → End
+known_end h = record { owned = true; kind = h.kind; waiter = h.waiter; ringer = h.ringer; looked = is_some h.grant }
+
+-- What one call makes of what an end knows, on a ring of n places, where its step read r: the answer, the entry that it
+-- moved, and what the end knows then. Each row counts one step, and a look that answers no counts one no.
+abbrev pub CallDid : ℕ → Half → Op → ℕ → Answer → List Cargo → Half → Type 0
+CallDid n h Do.See r a c h' = (h' ≡ see_told h'.grant h r) × (a ≡ answer_of (tells_entry (length h.entries) r)) × (c ≡ []) × Granted h.kind (tells_entry (length h.entries) r) h'.grant
+CallDid n h Do.Room r a c h' = (h' ≡ room_told n h r) × (a ≡ answer_of (tells_room n (length h.entries) r)) × (c ≡ [])
+CallDid n h Do.Take r a c h' = (x : Cargo) × (c ≡ x ∷ []) × (h.grant ≡ Some (Some x)) × (h' ≡ took_one x h) × (a ≡ Done)
+CallDid n h Do.Put r a c h' = (x : Cargo) × (c ≡ x ∷ []) × (h' ≡ sent_one x h) × (a ≡ Done) × (kind_of x.0 ≡ h.kind)
+CallDid n h (Do.Ask s) r a c h' = (h' ≡ asked 0 h) × (a ≡ Done) × (c ≡ [])
+CallDid n h (Do.Waive s) r a c h' = (h' ≡ waived 1 h) × (a ≡ Done) × (c ≡ [])
+CallDid n h (Do.Wake Forward) r a c h' = (h' ≡ woken 3 r h) × (a ≡ answer_of (nat_eq r 1)) × (c ≡ [])
+CallDid n h (Do.Wake Backward) r a c h' = (h' ≡ woken 5 r h) × (a ≡ answer_of (nat_eq r 1)) × (c ≡ [])
+CallDid n h (Do.Wanted Forward) r a c h' = (h' ≡ wanted 2 r h) × (a ≡ answer_of (nat_eq r 0)) × (c ≡ [])
+CallDid n h (Do.Wanted Backward) r a c h' = (h' ≡ wanted 4 r h) × (a ≡ answer_of (nat_eq r 0)) × (c ≡ [])
+CallDid n h (Do.Settle s) r a c h' = (h' ≡ settled 1 h) × (a ≡ Done) × (c ≡ [])
+CallDid n h (Do.Ring s) r a c h' = (h' ≡ rung 1 h) × (a ≡ Done) × (c ≡ [])
+
+-- the same, where what was read is what the end remembers as its last read
+abbrev pub EndDid : ℕ → Half → Op → Answer → List Cargo → Half → Type 0
+EndDid n h o a c h' = CallDid n h o h'.last_value a c h'

@@ -1,0 +1,21 @@
+//! The lock-free ring: a queue for one producer and one consumer, on words and slots that both share. It stands apart so
+//! that all that is concurrent about a queue is in one crate, in safe code over `atomic_table`.
+#![tactic(auto)]
+
+mod both;
+mod consumer;
+mod ended;
+mod laws;
+mod plays;
+mod producer;
+mod ring;
+mod rule;
+mod view;
+
+pub use both::both_look;
+pub use consumer::Consumer;
+pub use ended::{Ended, finish};
+pub use laws::ring_law;
+pub use producer::Producer;
+pub use ring::{Ring, open};
+pub use view::{Half, View};

@@ -1,0 +1,136 @@
+//! What each kind of step on a ring tells the end that makes it, and how the first seat is split and the last is joined.
+ghost use Rattle.spsc_queue.specs.Steps.{roomed, put_done, seen, take_done, producer_turned, consumer_turned, asked, waived, woken, wanted, settled, rung, producer_home, consumer_home, producing_part, consuming_part, whole, memory_of, spent};
+
+use crate::rule::Slot;
+use crate::view::View;
+use atomic_table::{Join, Play, Split};
+
+pub(crate) struct Room;
+
+impl Play<Slot, View> for Room {
+    ghost then = { roomed };
+}
+
+pub(crate) struct Put;
+
+impl Play<Slot, View> for Put {
+    ghost then = { put_done };
+}
+
+pub(crate) struct See;
+
+impl Play<Slot, View> for See {
+    ghost then = { seen };
+}
+
+pub(crate) struct Take;
+
+impl Play<Slot, View> for Take {
+    ghost then = { take_done };
+}
+
+pub(crate) struct Ask;
+
+impl Play<Slot, View> for Ask {
+    ghost then = { consumer_turned asked };
+}
+
+pub(crate) struct Waive;
+
+impl Play<Slot, View> for Waive {
+    ghost then = { consumer_turned waived };
+}
+
+pub(crate) struct Wake;
+
+impl Play<Slot, View> for Wake {
+    ghost then = { consumer_turned (woken 3) };
+}
+
+pub(crate) struct Wanted;
+
+impl Play<Slot, View> for Wanted {
+    ghost then = { producer_turned (wanted 2) };
+}
+
+pub(crate) struct Settle;
+
+impl Play<Slot, View> for Settle {
+    ghost then = { producer_turned settled };
+}
+
+pub(crate) struct Ring;
+
+impl Play<Slot, View> for Ring {
+    ghost then = { producer_turned rung };
+}
+
+pub(crate) struct AskBack;
+
+impl Play<Slot, View> for AskBack {
+    ghost then = { producer_turned asked };
+}
+
+pub(crate) struct WaiveBack;
+
+impl Play<Slot, View> for WaiveBack {
+    ghost then = { producer_turned waived };
+}
+
+pub(crate) struct WakeBack;
+
+impl Play<Slot, View> for WakeBack {
+    ghost then = { producer_turned (woken 5) };
+}
+
+pub(crate) struct WantedBack;
+
+impl Play<Slot, View> for WantedBack {
+    ghost then = { consumer_turned (wanted 4) };
+}
+
+pub(crate) struct SettleBack;
+
+impl Play<Slot, View> for SettleBack {
+    ghost then = { consumer_turned settled };
+}
+
+pub(crate) struct RingBack;
+
+impl Play<Slot, View> for RingBack {
+    ghost then = { consumer_turned rung };
+}
+
+pub(crate) struct ProducerHome;
+
+impl Play<Slot, View> for ProducerHome {
+    ghost then = { producer_home };
+}
+
+pub(crate) struct ConsumerHome;
+
+impl Play<Slot, View> for ConsumerHome {
+    ghost then = { consumer_home };
+}
+
+pub(crate) struct TwoEnds;
+
+impl Split<View> for TwoEnds {
+    ghost left = { producing_part };
+
+    ghost right = { consuming_part };
+}
+
+impl Join<View> for TwoEnds {
+    ghost both = { whole };
+
+    ghost spent = { spent };
+}
+
+pub(crate) struct Memory;
+
+impl Split<View> for Memory {
+    ghost left = { λ v. v };
+
+    ghost right = { memory_of };
+}

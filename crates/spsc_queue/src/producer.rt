@@ -1,0 +1,160 @@
+//! The producing end: each call is one step on one word of the ring, and the queue law's next event on its queue.
+ghost use Rattle.std.specs.Prelude.{◌≡◌, [], ◌∷◌};
+ghost use Rattle.cargo_core.specs.Items.{kind_of};
+ghost use Rattle.wire_core.specs.Deeds.{answer_of};
+ghost use Rattle.wire_core.specs.Ends.{Condition};
+ghost use Rattle.spsc_queue.specs.Steps.{EndDid, known_end};
+
+use crate::plays;
+use crate::ring::Ring;
+use crate::rule::{FLAG, FLAG_BACK, HEAD, PENDING, PENDING_BACK, Place, TAIL};
+use cargo_core::{Body, Item};
+use std::marker::Model;
+use wire_core::{Answer, Op, Ringer, Side, Waiter};
+
+/// The end that puts entries. It keeps its own index and what it is about on the two bells; its calls take no memory
+/// and wait for nobody.
+#[derive(Drop)]
+pub struct Producer {
+    pub(crate) seat: Place,
+    pub(crate) tail: u16,
+    pub(crate) waiter: Waiter,
+    pub(crate) ringer: Ringer,
+}
+
+impl Model for Producer {
+    ghost use Rattle.spsc_queue.specs.Known.Ends.{EndIs};
+
+    ghost Value = { EndIs };
+
+    ghost use Rattle.spsc_queue.specs.Known.{producer_is, IsProducer};
+
+    ghost view = { producer_is };
+
+    ghost invariant = { IsProducer };
+}
+
+impl Producer {
+    /// Whether the queue has room at this step. A no makes a waiter that asked clear.
+    pub fn room(&mut self, ring: &Ring) -> bool
+        requires own { self.old.ring ≡ ring.now.id }
+        requires condition { Condition (known_end self.old.knows) Op.Room }
+        ensures own { self.new.ring ≡ self.old.ring }
+        ensures did { EndDid self.old.ring.slots self.old.knows Op.Room (answer_of result) [] self.new.knows }
+    {
+        let head = ring.table.shared.load::<plays::Room>(&mut self.seat, HEAD);
+        let has_room = (head as u16).wrapping_add(ring.capacity) != self.tail;
+        if !has_room && self.waiter == Waiter::Asked {
+            self.waiter = Waiter::Clear;
+        }
+        has_room
+    }
+
+    /// Puts an entry of the ring's kind behind the others. The last look must have answered yes, and is then used.
+    pub fn put(&mut self, ring: &Ring, item: Item, body: Body)
+        requires own { self.old.ring ≡ ring.now.id }
+        requires condition { Condition (known_end self.old.knows) Op.Put }
+        requires kind { kind_of item ≡ self.old.knows.kind }
+        ensures own { self.new.ring ≡ self.old.ring }
+        ensures did { EndDid self.old.ring.slots self.old.knows Op.Put Answer.Done ((item, body) ∷ []) self.new.knows }
+    {
+        let slot = usize::from(self.tail % ring.capacity);
+        let next = self.tail.wrapping_add(1);
+        let old = ring
+            .table
+            .shared
+            .exchange(&mut self.seat, slot, Some((item, body)));
+        ring.table
+            .shared
+            .store::<plays::Put>(&mut self.seat, TAIL, u64::from(next));
+        self.tail = next;
+        self.ringer = Ringer::Put;
+        drop(old);
+    }
+
+    /// Whether the consumer wants a notification of entries, by the flag.
+    pub fn wanted(&mut self, ring: &Ring) -> bool
+        requires own { self.old.ring ≡ ring.now.id }
+        requires condition { Condition (known_end self.old.knows) (Op.Wanted Side.Forward) }
+        ensures own { self.new.ring ≡ self.old.ring }
+        ensures did { EndDid self.old.ring.slots self.old.knows (Op.Wanted Side.Forward) (answer_of result) [] self.new.knows }
+    {
+        let flag = ring
+            .table
+            .shared
+            .load::<plays::Wanted>(&mut self.seat, FLAG);
+        let is_wanted = flag == 0;
+        self.ringer = if is_wanted { Ringer::Hot } else { Ringer::Free };
+        is_wanted
+    }
+
+    /// Takes the consumer's wish back before it is met, so that it is met once: the flag is 1.
+    pub fn settle(&mut self, ring: &Ring)
+        requires own { self.old.ring ≡ ring.now.id }
+        requires condition { Condition (known_end self.old.knows) (Op.Settle Side.Forward) }
+        ensures own { self.new.ring ≡ self.old.ring }
+        ensures did { EndDid self.old.ring.slots self.old.knows (Op.Settle Side.Forward) Answer.Done [] self.new.knows }
+    {
+        ring.table
+            .shared
+            .store::<plays::Settle>(&mut self.seat, FLAG, 1);
+        self.ringer = Ringer::Ringing;
+    }
+
+    /// Notifies the consumer: a notification is pending.
+    pub fn ring(&mut self, ring: &Ring)
+        requires own { self.old.ring ≡ ring.now.id }
+        requires condition { Condition (known_end self.old.knows) (Op.Ring Side.Forward) }
+        ensures own { self.new.ring ≡ self.old.ring }
+        ensures did { EndDid self.old.ring.slots self.old.knows (Op.Ring Side.Forward) Answer.Done [] self.new.knows }
+    {
+        ring.table
+            .shared
+            .store::<plays::Ring>(&mut self.seat, PENDING, 1);
+        self.ringer = Ringer::Free;
+    }
+
+    /// Asks for a notification of room: the flag is 0.
+    pub fn ask(&mut self, ring: &Ring)
+        requires own { self.old.ring ≡ ring.now.id }
+        requires condition { Condition (known_end self.old.knows) (Op.Ask Side.Backward) }
+        ensures own { self.new.ring ≡ self.old.ring }
+        ensures did { EndDid self.old.ring.slots self.old.knows (Op.Ask Side.Backward) Answer.Done [] self.new.knows }
+    {
+        ring.table
+            .shared
+            .store::<plays::AskBack>(&mut self.seat, FLAG_BACK, 0);
+        self.waiter = Waiter::Asked;
+    }
+
+    /// Wants no notification of room: the flag is 1.
+    pub fn waive(&mut self, ring: &Ring)
+        requires own { self.old.ring ≡ ring.now.id }
+        requires condition { Condition (known_end self.old.knows) (Op.Waive Side.Backward) }
+        ensures own { self.new.ring ≡ self.old.ring }
+        ensures did { EndDid self.old.ring.slots self.old.knows (Op.Waive Side.Backward) Answer.Done [] self.new.knows }
+    {
+        ring.table
+            .shared
+            .store::<plays::WaiveBack>(&mut self.seat, FLAG_BACK, 1);
+        self.waiter = Waiter::Off;
+    }
+
+    /// Whether a notification of room was pending; it is taken, and the producer is busy.
+    pub fn wake(&mut self, ring: &Ring) -> bool
+        requires own { self.old.ring ≡ ring.now.id }
+        requires condition { Condition (known_end self.old.knows) (Op.Wake Side.Backward) }
+        ensures own { self.new.ring ≡ self.old.ring }
+        ensures did { EndDid self.old.ring.slots self.old.knows (Op.Wake Side.Backward) (answer_of result) [] self.new.knows }
+    {
+        let pending = ring
+            .table
+            .shared
+            .swap::<plays::WakeBack>(&mut self.seat, PENDING_BACK, 0);
+        let is_woken = pending == 1;
+        if is_woken {
+            self.waiter = Waiter::Busy;
+        }
+        is_woken
+    }
+}
