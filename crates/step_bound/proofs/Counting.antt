@@ -5,7 +5,7 @@ use Rattle.wire_core.specs.declared.names.Event.{Event}
 use Rattle.wire_core.specs.declared.names.QueueRow.{QueueRow}
 use Rattle.wire_core.specs.Bells.{bit}
 use Rattle.wire_core.specs.Ends.{Role, Consumer, Producer, role_of}
-use Rattle.wire_core.specs.Journal.{History, LegalEntry, EachFrom, nobody, owner_of}
+use Rattle.wire_core.specs.Journal.{History, LegalEntry, EachFrom, Hostiles, owner_of}
 use Rattle.wire_core.specs.Marks.{is_mark}
 use Rattle.wire_core.specs.Marks.{Drops, is_marked, dropped, is_role, calls_at, ends_of, sum_below}
 use Rattle.wire_core.proofs.Sinces.{eqb_refl}
@@ -30,9 +30,9 @@ pub marks_or_drops : (drops : Drops) (es : List Entry) → all_marks drops es �
 marks_or_drops drops [] = omega arith
 marks_or_drops drops (e ∷ es) = let h = marks_or_drops drops es in let b = either_bit (drops e) (is_mark e.event.op e.event.answer) in omega (arith, h, b)
 
-module _ (history : History) (rows : List QueueRow) where
+module _ (hostile : Hostiles) (history : History) (rows : List QueueRow) where
   -- each mark is on a queue
-  pub marks_within : (before es : List Entry) → EachFrom (LegalEntry nobody history rows) before es → plain_marks es ≤ sum_below (λ n. marks_on n es) (length rows)
+  pub marks_within : (before es : List Entry) → EachFrom (LegalEntry hostile history rows) before es → plain_marks es ≤ sum_below (λ n. marks_on n es) (length rows)
   marks_within before [] l = omega arith
   marks_within before (e ∷ es) l = go (is_mark e.event.op e.event.answer) (marks_within (before ++ e ∷ []) es l.1)
     where

@@ -6,10 +6,11 @@ use Rattle.std.proofs.lemmas.List.{append-nil}
 use Rattle.wire_core.specs.declared.names.Entry.{Entry}
 use Rattle.wire_core.specs.declared.names.QueueRow.{QueueRow}
 use Rattle.wire_core.specs.Bells.{bit}
-use Rattle.wire_core.specs.Journal.{History, nobody, track, LegalJournal, BellsHold, QueuesFlow}
+use Rattle.wire_core.specs.Journal.{History, Hostiles, track, LegalJournal, BellsHold, QueuesFlow}
 use Rattle.wire_core.proofs.BellTheorem.{queues_flow}
 use Rattle.wire_core.proofs.Tracks.{EachMoment-at}
 use Rattle.wire_core.specs.Marks.{Drops, is_marked, dropped, AreFew, Brisk, AreOwned, ends_of, all_sent, since, sum_below}
+use Rattle.step_bound.specs.Calm.{AreCalm}
 use Rattle.step_bound.proofs.Sums.{sum_le}
 use Rattle.step_bound.proofs.Paying.{marks_on, journal_pays}
 use Rattle.step_bound.proofs.Counting.{all_marks, plain_marks, marks_or_drops, marks_within}
@@ -48,21 +49,21 @@ few_queue marks s0 k0 d0 s1 k1 d1 a b c = omega (arith, a, b, c)
 prefix_short : (t : Type 0) (xs ys : List t) → IsPrefix xs ys → length xs ≤ length ys
 prefix_short t xs ys p = let h = ap length p.1 in let l = length-append xs p.0 in omega (arith, h, l)
 
-module _ (history : History) (rows : List QueueRow) (journal : List Entry) (hold : BellsHold nobody history rows []) (flow : QueuesFlow nobody history rows []) (legal : LegalJournal nobody history rows journal) where
+module _ (hostile : Hostiles) (history : History) (rows : List QueueRow) (journal : List Entry) (calm : AreCalm hostile rows) (hold : BellsHold hostile history rows []) (flow : QueuesFlow hostile history rows []) (legal : LegalJournal hostile history rows journal) where
   marks_queue : (n : ℕ) → n < length rows → marks_on n journal ≤ 4 * length (track history n journal).sent
   marks_queue n l =
       let r = row_at rows n l in
-      let pays = journal_pays history rows n r.0 r.1 [] journal legal in
-      let start = hold n r.0 r.1 refl in
+      let pays = journal_pays hostile history rows n r.0 r.1 (calm n r.0 r.1) [] journal legal in
+      let start = hold n r.0 r.1 (calm n r.0 r.1) in
       let cf = start.forward.counted in
       let cb = start.backward.counted in
-      let ends = EachMoment-at (QueuesFlow nobody history rows) journal journal (queues_flow nobody history rows journal flow legal) ([], append-nil journal) in
-      let short = prefix_short _ _ _ (ends n r.0 r.1 refl).begins in
+      let ends = EachMoment-at (QueuesFlow hostile history rows) journal journal (queues_flow hostile history rows journal flow legal) ([], append-nil journal) in
+      let short = prefix_short _ _ _ (ends n r.0 r.1 (calm n r.0 r.1)).begins in
       omega (arith, pays, cf, cb, short)
 
   pub few_marks : plain_marks journal ≤ 4 * all_sent history rows journal
   few_marks =
-      let a = marks_within history rows [] journal legal in
+      let a = marks_within hostile history rows [] journal legal in
       let b = sum_le (λ n. marks_on n journal) (λ n. 4 * length (track history n journal).sent) (length rows) marks_queue in
       let c = four_times (λ n. length (track history n journal).sent) (length rows) in
       omega (arith, a, b, c)
@@ -73,13 +74,13 @@ spread x a m = grind arith
 narrow : (x m : ℕ) → (8 * m + 1) * (4 * x) ≡ 32 * (m * x) + 4 * x
 narrow x m = grind arith
 
-pub bounded : (drops : Drops) (history : History) (rows : List QueueRow) (journal : List Entry) (hops actors most : ℕ) → BellsHold nobody history rows [] → QueuesFlow nobody history rows [] → LegalJournal nobody history rows journal → Brisk drops journal → AreOwned rows actors → ((a : ℕ) → ends_of a rows ≤ most) → all_sent history rows journal + dropped drops journal ≤ hops → length journal < 32 * (hops + actors + 1) * (most + 1)
-bounded drops history rows journal hops actors most hold flow legal brisk owned ends sent =
-    let w = walk drops history rows actors most owned ends [] journal legal (λ a. tt) brisk.0 brisk.1 in
+pub bounded : (hostile : Hostiles) (drops : Drops) (history : History) (rows : List QueueRow) (journal : List Entry) (hops actors most : ℕ) → AreCalm hostile rows → BellsHold hostile history rows [] → QueuesFlow hostile history rows [] → LegalJournal hostile history rows journal → Brisk drops journal → AreOwned rows actors → ((a : ℕ) → ends_of a rows ≤ most) → all_sent history rows journal + dropped drops journal ≤ hops → length journal < 32 * (hops + actors + 1) * (most + 1)
+bounded hostile drops history rows journal hops actors most calm hold flow legal brisk owned ends sent =
+    let w = walk drops hostile history rows actors most owned ends [] journal legal (λ a. tt) brisk.0 brisk.1 in
     let now = EachMoment-at (AreFew drops) journal journal brisk ([], append-nil journal) in
-    let top = sum_le (λ a. length (since drops a journal)) (λ a. 8 * most) actors (λ a l. few_now drops history rows actors most owned ends journal w.1 now a) in
+    let top = sum_le (λ a. length (since drops a journal)) (λ a. 8 * most) actors (λ a l. few_now drops hostile history rows actors most owned ends journal w.1 now a) in
     let tops = sum_times (8 * most) actors in
-    let marks = few_marks history rows journal hold flow legal in
+    let marks = few_marks hostile history rows journal calm hold flow legal in
     let either = marks_or_drops drops journal in
     let weight = weigh_is drops (8 * most + 1) journal in
     let heavy = mul-le (8 * most + 1) (all_marks drops journal) (8 * most + 1) (4 * hops) (omega arith) (omega (arith, marks, either, sent)) in

@@ -16,7 +16,7 @@ use Rattle.wire_core.specs.Bells.{bit, at_work}
 use Rattle.wire_core.specs.Deeds.{answer_of}
 use Rattle.wire_core.specs.Ends.{role_of, Condition, wanted_ringer}
 use Rattle.wire_core.specs.Queues.{Bells, bells_after, end_of, Tells, waked}
-use Rattle.wire_core.specs.Journal.{Track, History, track, history_at, track_after, sent_after, taken_after, if_on, CarriesItem, Legal, LegalEntry, EachFrom, is_sent, is_open, nobody}
+use Rattle.wire_core.specs.Journal.{Track, History, track, history_at, track_after, sent_after, taken_after, if_on, CarriesItem, Legal, LegalEntry, EachFrom, is_sent, is_open, Hostiles, is_calm}
 use Rattle.wire_core.proofs.Tracks.{track_from-append}
 use Rattle.wire_core.specs.Marks.{is_mark}
 
@@ -80,8 +80,8 @@ some_is : (a b : QueueRow) → Some a ≡ Some b → a ≡ b
 some_is a b h = cc
 
 -- what a legal journal shows of one queue
-module _ (history : History) (rows : List QueueRow) (n : ℕ) (row : QueueRow) (at : slice_get rows n ≡ Some row) where
-  entry_pays : (before : List Entry) (e : Entry) → LegalEntry nobody history rows before e → bit (e.event.queue.0 == n && is_mark e.event.op e.event.answer) + rich (track history n before).sent (track history n before).taken + debt (track history n (before ++ e ∷ [])).bells ≤ rich (track history n (before ++ e ∷ [])).sent (track history n (before ++ e ∷ [])).taken + debt (track history n before).bells
+module _ (hostile : Hostiles) (history : History) (rows : List QueueRow) (n : ℕ) (row : QueueRow) (at : slice_get rows n ≡ Some row) (calm : is_calm hostile row ≡ true) where
+  entry_pays : (before : List Entry) (e : Entry) → LegalEntry hostile history rows before e → bit (e.event.queue.0 == n && is_mark e.event.op e.event.answer) + rich (track history n before).sent (track history n before).taken + debt (track history n (before ++ e ∷ [])).bells ≤ rich (track history n (before ++ e ∷ [])).sent (track history n (before ++ e ∷ [])).taken + debt (track history n before).bells
   entry_pays before e l = rw (track_from-append (history_at history n) n before e) (go (e.event.queue.0 == n) refl)
     where
       go : (b : Bool) → (e.event.queue.0 == n) ≡ b → bit (b && is_mark e.event.op e.event.answer) + rich (track history n before).sent (track history n before).taken + debt (if_on b (track_after (track history n before) e.event) (track history n before)).bells ≤ rich (if_on b (track_after (track history n before) e.event) (track history n before)).sent (if_on b (track_after (track history n before) e.event) (track history n before)).taken + debt (track history n before).bells
@@ -89,10 +89,10 @@ module _ (history : History) (rows : List QueueRow) (n : ℕ) (row : QueueRow) (
       go true h =
           let same : e.event.queue.0 ≡ n = eqb-true e.event.queue.0 n h in
           let row_is : l.row ≡ row = some_is l.row row (sym l.there ∙ (ap (slice_get rows) same ∙ at)) in
-          let legal : Legal nobody row (track history n before) e = subst (λ m. Legal nobody row (track history m before) e) same (subst (λ r. Legal nobody r (track history e.event.queue.0 before) e) row_is l.legal) in
-          call_pays row (track history n before) e.event.op e.event.answer e.event.item legal.condition (legal.tells refl) (legal.carries refl)
+          let legal : Legal hostile row (track history n before) e = subst (λ m. Legal hostile row (track history m before) e) same (subst (λ r. Legal hostile r (track history e.event.queue.0 before) e) row_is l.legal) in
+          call_pays row (track history n before) e.event.op e.event.answer e.event.item legal.condition (legal.tells calm) (legal.carries calm)
 
-  pub journal_pays : (before es : List Entry) → EachFrom (LegalEntry nobody history rows) before es → marks_on n es + rich (track history n before).sent (track history n before).taken + debt (track history n (before ++ es)).bells ≤ rich (track history n (before ++ es)).sent (track history n (before ++ es)).taken + debt (track history n before).bells
+  pub journal_pays : (before es : List Entry) → EachFrom (LegalEntry hostile history rows) before es → marks_on n es + rich (track history n before).sent (track history n before).taken + debt (track history n (before ++ es)).bells ≤ rich (track history n (before ++ es)).sent (track history n (before ++ es)).taken + debt (track history n before).bells
   journal_pays before [] l = rw (append-nil before) omega arith
   journal_pays before (e ∷ es) l =
       let first = entry_pays before e l.0 in

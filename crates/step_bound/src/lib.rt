@@ -3,7 +3,8 @@
 #![tactic(auto)]
 
 ghost use Rattle.std.specs.Prelude.{◌≡◌, ◌+◌, ◌*◌, ◌<◌, ◌≤◌, ◌^◌, ℕ, List, [], length};
-ghost use Rattle.wire_core.specs.Journal.{History, nobody, LegalJournal, BellsHold, QueuesFlow};
+ghost use Rattle.wire_core.specs.Journal.{History, Hostiles, LegalJournal, BellsHold, QueuesFlow};
+ghost use Rattle.step_bound.specs.Calm.{AreCalm};
 ghost use Rattle.wire_core.specs.Marks.{Drops, Brisk, AreOwned, ends_of, all_sent, dropped};
 
 use wire_core::{Entry, QueueRow};
@@ -21,5 +22,5 @@ pub fn bound(hops: u64, actors: u64, ends: u64) -> u64
 /// A journal that is legal and brisk is shorter than the bound, where the bells and the queues hold before it begins: each
 /// put, drop, take and notification is a mark once, and between two marks an actor makes few calls.
 pub fn brisk_law()
-    ensures bounded { (drops : Drops) (history : History) (rows : List QueueRow) (journal : List Entry) (hops actors ends : ℕ) → BellsHold nobody history rows [] → QueuesFlow nobody history rows [] → LegalJournal nobody history rows journal → Brisk drops journal → AreOwned rows actors → ((a : ℕ) → ends_of a rows ≤ ends) → all_sent history rows journal + dropped drops journal ≤ hops → length journal < 32 * (hops + actors + 1) * (ends + 1) }
+    ensures bounded { (hostile : Hostiles) (drops : Drops) (history : History) (rows : List QueueRow) (journal : List Entry) (hops actors ends : ℕ) → AreCalm hostile rows → BellsHold hostile history rows [] → QueuesFlow hostile history rows [] → LegalJournal hostile history rows journal → Brisk drops journal → AreOwned rows actors → ((a : ℕ) → ends_of a rows ≤ ends) → all_sent history rows journal + dropped drops journal ≤ hops → length journal < 32 * (hops + actors + 1) * (ends + 1) }
 {}

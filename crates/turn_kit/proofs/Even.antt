@@ -1,11 +1,9 @@
-use Rattle.std.proofs.Common.{◌≡◌, ◌≢◌, ◌⊎◌, ◌==◌, ◌+◌, ◌<◌, ◌≤◌, ◌++◌, ℕ, zero, suc, Bool, true, false, Some, List, [], ◌∷◌, length, slice_get, inl, inr, refl, sym, ap, ◌∙◌, subst, arith}
-use Rattle.std.proofs.Math.Dec.{eqb}
+use Rattle.std.proofs.Common.{◌≡◌, ◌⊎◌, ◌==◌, ◌+◌, ◌≤◌, ℕ, Bool, true, false, Some, List, [], ◌∷◌, slice_get, inl, inr, sym, ap, ◌∙◌, subst, arith}
 use Rattle.std.proofs.lemmas.Bool.Decides.{eqb_tells}
 use Rattle.wire_core.specs.declared.names.Event.{Event}
-use Rattle.wire_core.specs.declared.names.Side.{Side}
 use Rattle.wire_core.specs.Bells.{bit}
 use Rattle.turn_kit.specs.Calls.{is_waking}
-use Rattle.turn_kit.specs.Turns.{Post, is_mark_at, Round, Turned, IsRound, is_at_rest, Unmarked, Unsettled, calls_on}
+use Rattle.turn_kit.specs.Turns.{Post, is_mark_at, Round, IsRound, is_at_rest, Unmarked, calls_on}
 use Rattle.turn_kit.proofs.Turning.{need_at, rest_chosen, moved_or, round_next, rest_at, bit_same, bit_other, queue_is, side_is, old_post}
 use Rattle.turn_kit.proofs.Waking.{between, next_nearer, bit_le, rest_next, then_waking, vainly}
 use Rattle.turn_kit.proofs.Marking.{new_post}

@@ -1,11 +1,9 @@
-use Rattle.std.proofs.Common.{◌≡◌, ◌≢◌, ◌⊎◌, ◌==◌, ◌&&◌, ◌+◌, ◌<◌, ◌≤◌, ◌++◌, ℕ, zero, suc, Bool, true, false, cond, Some, List, [], ◌∷◌, length, slice_get, inl, inr, refl, sym, ap, ◌∙◌, subst, arith, append_assoc}
+use Rattle.std.proofs.Common.{◌≡◌, ◌⊎◌, ◌==◌, ◌&&◌, ◌+◌, ◌≤◌, ◌++◌, ℕ, zero, suc, Bool, true, false, Some, List, [], ◌∷◌, length, slice_get, inl, inr, refl, sym, ap, ◌∙◌, subst, arith, append_assoc}
 use Rattle.std.proofs.lemmas.List.{append-nil}
 use Rattle.wire_core.specs.declared.names.Event.{Event}
 use Rattle.wire_core.specs.declared.names.Side.{Side}
-use Rattle.wire_core.specs.declared.names.Op.{Op}
 use Rattle.wire_core.specs.declared.names.Op.TheVariants as Do
-use Rattle.wire_core.specs.declared.names.Answer.{Answer}
-use Rattle.wire_core.specs.declared.names.Answer.TheVariants.{Done, Yes, No}
+use Rattle.wire_core.specs.declared.names.Answer.TheVariants.{Yes}
 use Rattle.wire_core.specs.Bells.{bit}
 use Rattle.wire_core.specs.Deeds.{answer_of}
 use Rattle.wire_core.specs.Ends.{Role, role_of}

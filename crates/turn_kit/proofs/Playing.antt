@@ -1,4 +1,4 @@
-use Rattle.std.proofs.Common.{◌≡◌, ◌≢◌, ◌||◌, ◌==◌, ◌⊎◌, ◌<◌, ◌≤◌, ◌+◌, ◌++◌, ℕ, Bool, true, false, cond, Some, List, [], ◌∷◌, length, slice_get, inl, inr, refl, sym, ap, ◌∙◌, subst, arith}
+use Rattle.std.proofs.Common.{◌≡◌, ◌||◌, ◌==◌, ◌≤◌, ◌++◌, ℕ, Bool, true, false, Some, List, [], ◌∷◌, slice_get, refl, sym, ap, ◌∙◌, subst, arith}
 use Rattle.std.proofs.lemmas.Bool.{eqb-true}
 use Rattle.wire_core.specs.declared.names.Event.{Event}
 use Rattle.wire_core.specs.declared.names.Entry.{Entry}
@@ -10,12 +10,12 @@ use Rattle.wire_core.specs.declared.names.Op.TheVariants as Do
 use Rattle.wire_core.specs.declared.names.Answer.{Answer}
 use Rattle.wire_core.specs.declared.names.Answer.TheVariants.{Done, Yes, No}
 use Rattle.wire_core.specs.Deeds.{answer_of}
-use Rattle.wire_core.specs.Ends.{Role, role_of, waiting_role}
+use Rattle.wire_core.specs.Ends.{Role, role_of}
 use Rattle.wire_core.specs.Queues.{Bells, bell_of, bells_after, Tells}
-use Rattle.wire_core.specs.Journal.{History, Track, track, history_at, track_after, if_on, Legal, LegalEntry, LegalJournal, EachFrom, EachMoment, is_calm, is_sent, is_open, nobody, owner_of}
+use Rattle.wire_core.specs.Journal.{History, Track, track, history_at, track_after, if_on, LegalEntry, is_calm, is_sent, is_open, Hostiles, owner_of}
 use Rattle.wire_core.proofs.Tracks.{track_from-append}
-use Rattle.turn_kit.specs.Turns.{Post, is_drop, is_mark_at, Round, Turned, IsRound, is_at_rest}
-use Rattle.wire_core.specs.Marks.{Drops, is_mark, is_marked, since, since_after, calls_after, calls_at}
+use Rattle.turn_kit.specs.Turns.{Post, is_drop, is_mark_at, Round, Turned, is_at_rest}
+use Rattle.wire_core.specs.Marks.{Drops, is_mark, is_marked, since, calls_after, calls_at}
 use Rattle.wire_core.proofs.Sinces.{eqb_refl, eqb_apart, since-append}
 use Rattle.turn_kit.specs.Pace.{Pendings, pendings, IsCalled, Paced, AreOwnPosts}
 use Rattle.turn_kit.proofs.Turning.{round_next, no_mark_at}
@@ -76,13 +76,13 @@ yes_marks o a s n h y = let no : is_mark (Do.Wake s) Yes ≡ false = subst (λ x
 some_row : (a b : QueueRow) → Some a ≡ Some b → a ≡ b
 some_row a b h = cc
 
-module _ (drops : Drops) (history : History) (rows : List QueueRow) (before : List Entry) (e : Entry) (legal : LegalEntry nobody history rows before e) where
+module _ (hostile : Hostiles) (drops : Drops) (history : History) (rows : List QueueRow) (before : List Entry) (e : Entry) (legal : LegalEntry hostile history rows before e) where
   abbrev After : ℕ → Round → Type 0
   After a now = Paced (pendings history (before ++ e ∷ [])) (since drops a (before ++ e ∷ [])) now
 
-  -- the actor's own entry, which is its turn; where it was at rest, it was called
-  pub pace_own : (old new : Round) → Paced (pendings history before) (since drops e.actor.0 before) old → (t : Turned old e.event new) → drops e ≡ is_drop t.posted.post e.event → (is_at_rest old ≡ true → IsCalled (pendings history before) old.posts) → After e.actor.0 new
-  pace_own old new p t d runs = subst (λ es. Paced (pendings history (before ++ e ∷ [])) es new) (sym (since-append drops e.actor.0 before e)) (rw (eqb_refl e.actor.0) (mine (is_marked drops e) refl))
+  -- the actor's own entry on a calm queue, which is its turn; where it was at rest, it was called
+  pub pace_own : is_calm hostile legal.row ≡ true → (old new : Round) → Paced (pendings history before) (since drops e.actor.0 before) old → (t : Turned old e.event new) → drops e ≡ is_drop t.posted.post e.event → (is_at_rest old ≡ true → IsCalled (pendings history before) old.posts) → After e.actor.0 new
+  pace_own calm old new p t d runs = subst (λ es. Paced (pendings history (before ++ e ∷ [])) es new) (sym (since-append drops e.actor.0 before e)) (rw (eqb_refl e.actor.0) (mine (is_marked drops e) refl))
     where
       same : is_marked drops e ≡ is_mark_at t.posted.post e.event
       same = ap (λ b. b || is_mark e.event.op e.event.answer) d
@@ -92,7 +92,7 @@ module _ (drops : Drops) (history : History) (rows : List QueueRow) (before : Li
       mine false h =
           let n : is_mark_at t.posted.post e.event ≡ false = sym same ∙ h in
           let plain = no_mark_at t.posted.post e.event n in
-          paced_next (pendings history before) (pendings history (before ++ e ∷ [])) (since drops e.actor.0 before) old new e.event p t n runs (λ s o. told_at (is_sent (track history e.event.queue.0 before)) (is_open legal.row (track history e.event.queue.0 before)) (track history e.event.queue.0 before).bells e.event.op e.event.answer s (legal.legal.tells refl) o) (λ m s p. pendings_after history before e m s p (λ q o y. yes_marks e.event.op e.event.answer s plain o y)) (is_at_rest old) refl
+          paced_next (pendings history before) (pendings history (before ++ e ∷ [])) (since drops e.actor.0 before) old new e.event p t n runs (λ s o. told_at (is_sent (track history e.event.queue.0 before)) (is_open legal.row (track history e.event.queue.0 before)) (track history e.event.queue.0 before).bells e.event.op e.event.answer s (legal.legal.tells calm) o) (λ m s p. pendings_after history before e m s p (λ q o y. yes_marks e.event.op e.event.answer s plain o y)) (is_at_rest old) refl
 
   -- another actor's entry
   pub pace_beside : (a : ℕ) (now : Round) → (e.actor.0 ≡ a → ⊥) → AreOwnPosts rows a now.posts → Paced (pendings history before) (since drops a before) now → After a now

@@ -1,6 +1,6 @@
 -- What an actor did since its last mark, where it is stepped at rest only while a notification is pending at one of its
 -- ends. It stands apart from its turns, since it says in addition how the queues stood.
-use Rattle.std.specs.Prelude.{◌≡◌, ◌⊎◌, ◌<◌, ℕ, Bool, true, Some, List, [], ◌∷◌, ◌++◌, slice_get}
+use Rattle.std.specs.Prelude.{◌≡◌, ◌⊎◌, ℕ, Bool, true, Some, List, [], ◌∷◌, ◌++◌, slice_get}
 use Rattle.wire_core.specs.declared.names.Event.{Event}
 use Rattle.wire_core.specs.declared.names.Entry.{Entry}
 use Rattle.wire_core.specs.declared.names.QueueRow.{QueueRow}
