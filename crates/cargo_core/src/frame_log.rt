@@ -1,8 +1,10 @@
-ghost use Rattle.std.specs.Prelude.{◌≡◌, ◌<◌, ◌==◌, [], ◌∷◌, ◌++◌, length, OnOk, OnErr, slice_get, Some};
+//! Lists of frames, as traces and reports have them.
+ghost use Rattle.std.specs.Prelude.{◌≡◌, ◌<◌, ◌==◌, [], ◌∷◌, ◌++◌, length, OnOk, OnErr, slice_get, Some, vec_capacity};
 
 use crate::{Bytes, Memory};
 use std::alloc::Global;
 use std::marker::Model;
+use std::mem;
 
 /// A list of frames.
 #[derive(Debug, Drop)]
@@ -38,6 +40,24 @@ impl FrameLog {
         let copy = Bytes::from_slice(self.alloc, frame)?;
         self.frames.push(copy)?;
         Ok(())
+    }
+
+    // Appends a frame. Where the list is full, its frames move to another one that has the place: it takes no memory.
+    pub(crate) fn push_with(&mut self, next: &mut Vec<Bytes>, frame: Bytes)
+        requires empty { next.old.items ≡ [] }
+        requires place { length self.old < vec_capacity next.old }
+        ensures frames { self.new ≡ self.old ++ frame ∷ [] }
+        ensures empty { next.new.items ≡ [] }
+    {
+        if self.frames.len() < self.frames.capacity() {
+            self.frames.push_reserved(frame);
+        } else {
+            match next.append(&mut self.frames) {
+                Ok(()) => mem::swap(next, &mut self.frames),
+                Err(_) => unreachable!(),
+            }
+            self.frames.push_reserved(frame);
+        }
     }
 
     /// How many frames there are.

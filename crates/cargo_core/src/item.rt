@@ -1,7 +1,7 @@
 ghost use Rattle.std.specs.Prelude.{◌≡◌};
 ghost use Rattle.cargo_core.specs.Items.{kind_of, code_number, status_number};
 
-use crate::Bytes;
+use crate::{Bytes, Lease, Page};
 
 /// A pool of buffers, by its place among the pools of a layout, counted from 0.
 #[derive(Clone, Copy, Debug, PartialEq, Eq)]
@@ -111,10 +111,13 @@ impl Item {
     }
 }
 
-/// What an entry of a queue carries. It can't be cloned, since what comes to stand in it is one value.
+/// What an entry of a queue carries: nothing, a buffer itself, or leave to read one. It can't be cloned, since a buffer
+/// is one value.
 #[derive(Debug, Drop)]
 pub enum Body {
     Empty,
+    Page(Page),
+    Lease(Lease),
 }
 
 /// A request that a trace gives a block client. `fill` is empty but for a write; `block` and `count` are 0 for a

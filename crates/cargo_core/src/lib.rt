@@ -3,18 +3,24 @@
 
 mod bytes;
 mod frame_log;
+mod frame_tape;
 mod item;
+mod lent;
 mod memory;
+mod page;
 mod series;
 mod tape;
 mod text;
 
 pub use bytes::Bytes;
 pub use frame_log::FrameLog;
+pub use frame_tape::FrameTape;
 pub use item::{
     Ask, BlkReq, BlkResp, BlkStatus, Body, Code, Item, NetDesc, PoolId, QueueKind, Reply,
 };
+pub use lent::Lent;
 pub use memory::Memory;
+pub use page::{Lease, Page};
 pub use series::Series;
 pub use tape::Tape;
 pub use text::Text;
@@ -48,6 +54,30 @@ mod tests {
         assert_eq!(rt; tape.as_slice(), b"a".as_slice());
         let text = Text::new(rt.alloc(), "uart")?;
         assert_eq!(rt; text.as_str(), "uart");
+        Ok(())
+    }
+
+    #[test]
+    fn frames_are_recorded_into_memory_taken_before(rt: HostRuntime) -> Result<(), Fail> {
+        let mut tape = FrameTape::new(rt.alloc());
+        tape.reserve(5)?;
+        tape.push(b"first");
+        tape.reserve(6)?;
+        tape.push(b"second");
+        assert_eq!(rt; tape.frames().get(0), b"first".as_slice());
+        assert_eq!(rt; tape.frames().get(1), b"second".as_slice());
+        Ok(())
+    }
+
+    #[test]
+    fn a_lease_reads_what_was_put_into_a_page(rt: HostRuntime) -> Result<(), Fail> {
+        let mut page = Page::new(rt.alloc(), PoolId(1), 2, 4)?;
+        page.fill(1, b"ab");
+        let lease = page.lease(3)?.again()?;
+        assert_eq!(rt; lease.bytes(), [0, 97, 98].as_slice());
+        let mut lent = Lent::new(rt.alloc(), 3)?;
+        lent.lend(page, 1);
+        assert_eq!(rt; lent.count(2), 1);
         Ok(())
     }
 }

@@ -40,7 +40,7 @@ fn answer(alloc: Global, text: &str, lays_out: bool) -> Result<String, Memory> {
     match judged(alloc, text) {
         Ok(plan) => accepted(alloc, &plan, lays_out),
         Err(SdfFault::Refused(refusal)) => write_refused(alloc, &refusal),
-        Err(SdfFault::Memory) => Err(Memory),
+        Err(SdfFault::Memory(memory)) => Err(memory),
     }
 }
 
@@ -90,7 +90,7 @@ fn row(rt: &HostRuntime, row: &str) -> io::Result<()> {
     };
     match answer(rt.alloc(), text.as_str(), lays_out) {
         Ok(lines) => rt.print(lines),
-        Err(Memory) => rt.println("no memory"),
+        Err(_) => rt.println("no memory"),
     }
 }
 

@@ -63,7 +63,7 @@ fn not_accepted(alloc: Global, fault: SdfFault) -> Result<Reply, ReadStop>
 {
     match fault {
         SdfFault::Refused(refusal) => refused(alloc, refusal),
-        SdfFault::Memory => Err(ReadStop::Memory),
+        SdfFault::Memory(_) => Err(ReadStop::Memory),
     }
 }
 
@@ -84,7 +84,7 @@ fn not_read(alloc: Global, fault: TraceFault) -> Result<Reply, ReadStop>
 {
     match fault {
         TraceFault::BadLine(line) => bad_trace(alloc, line),
-        TraceFault::Memory => Err(ReadStop::Memory),
+        TraceFault::Memory(_) => Err(ReadStop::Memory),
     }
 }
 

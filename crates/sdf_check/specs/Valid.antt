@@ -63,5 +63,5 @@ IsRefused plan refusal = IsRefusal (broken plan) (walk (outline_of plan)) first_
 -- this holds of the refusal, where the answer is one
 abbrev pub IfRefused : {T : Type 0} → Result T SdfFault → (Refusal → Type 0) → Type 0
 IfRefused (Ok answer) P = ⊤
-IfRefused (Err Fault.Memory) P = ⊤
+IfRefused (Err (Fault.Memory memory)) P = ⊤
 IfRefused (Err (Fault.Refused refusal)) P = P refusal

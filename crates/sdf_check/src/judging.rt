@@ -152,6 +152,6 @@ pub fn check(alloc: Global, plan: &Plan) -> Result<(), SdfFault>
     match refusal_of(alloc, plan) {
         Ok(None) => Ok(()),
         Ok(Some(refusal)) => Err(SdfFault::Refused(refusal)),
-        Err(Memory) => Err(SdfFault::Memory),
+        Err(memory) => Err(SdfFault::Memory(memory)),
     }
 }

@@ -6,7 +6,7 @@ ghost use Rattle.sdf_check.specs.Elements.{outline_of, domain_parts, channel_par
 ghost use Rattle.sdf_check.specs.Walks.{member};
 
 use cargo_core::Memory;
-use sdf_model::{Channel, Domain, Place, Plan};
+use sdf_model::{Channel, Domain, Place, Plan, number_of};
 use std::alloc::Global;
 
 /// A sort of elements that are told apart by a number.
@@ -36,49 +36,45 @@ fn member(sort: Sort, number: u32) -> Place
     }
 }
 
-// A place's number. A list of 2^32 elements, for which there is no number, counts as want of memory.
-fn number_of(at: usize) -> Result<u32, Memory>
-    ensures { IfOk result (λ number. number ≡ at) }
-{
-    match u32::try_from(at) {
-        Ok(number) => Ok(number),
-        Err(_) => Err(Memory),
-    }
-}
-
-fn push_members(places: &mut Vec<Place>, sort: Sort, count: usize) -> Result<(), Memory>
+fn push_members(
+    alloc: Global,
+    places: &mut Vec<Place>,
+    sort: Sort,
+    count: usize,
+) -> Result<(), Memory>
     ensures { OnOk result (places.new.items ≡ places.old.items ++ places_from (member sort) 0 count) }
 {
     for number in 0..count {
-        places.push(member(sort, number_of(number)?))?;
+        places.push(member(sort, number_of(alloc, number)?))?;
     }
     Ok(())
 }
 
-fn push_domains(places: &mut Vec<Place>, domains: &[Domain]) -> Result<(), Memory>
+fn push_domains(alloc: Global, places: &mut Vec<Place>, domains: &[Domain]) -> Result<(), Memory>
     ensures { OnOk result (places.new.items ≡ places.old.items ++ domain_places 0 (map domain_parts domains.now)) }
 {
     for (at, domain) in domains.iter().enumerate() {
-        let number = number_of(at)?;
+        let number = number_of(alloc, at)?;
         places.push(Place::Domain(number))?;
-        push_members(places, Sort::Map(number), domain.map.len())?;
-        push_members(places, Sort::Irq(number), domain.irq.len())?;
+        push_members(alloc, places, Sort::Map(number), domain.map.len())?;
+        push_members(alloc, places, Sort::Irq(number), domain.irq.len())?;
     }
     Ok(())
 }
 
-fn push_channels(places: &mut Vec<Place>, channels: &[Channel]) -> Result<(), Memory>
+fn push_channels(alloc: Global, places: &mut Vec<Place>, channels: &[Channel]) -> Result<(), Memory>
     ensures { OnOk result (places.new.items ≡ places.old.items ++ channel_places 0 (map channel_parts channels.now)) }
 {
     for (at, channel) in channels.iter().enumerate() {
-        let number = number_of(at)?;
+        let number = number_of(alloc, at)?;
         places.push(Place::Channel(number))?;
-        push_members(places, Sort::End(number), channel.end.len())?;
+        push_members(alloc, places, Sort::End(number), channel.end.len())?;
     }
     Ok(())
 }
 
 fn push_class(
+    alloc: Global,
     places: &mut Vec<Place>,
     class: Place,
     sort: Sort,
@@ -88,7 +84,7 @@ fn push_class(
 {
     if let Some(count) = clients {
         places.push(class)?;
-        push_members(places, sort, count)?;
+        push_members(alloc, places, sort, count)?;
     }
     Ok(())
 }
@@ -126,16 +122,17 @@ pub fn places_of(alloc: Global, plan: &Plan) -> Result<Vec<Place>, Memory>
 {
     let mut places = Vec::new(alloc);
     places.push(Place::System)?;
-    push_members(&mut places, Sort::Region, plan.memory_region.len())?;
-    push_domains(&mut places, plan.protection_domain.as_slice())?;
-    push_channels(&mut places, plan.channel.as_slice())?;
-    push_class(&mut places, Place::Net, Sort::NetClient, net_clients(plan))?;
+    push_members(alloc, &mut places, Sort::Region, plan.memory_region.len())?;
+    push_domains(alloc, &mut places, plan.protection_domain.as_slice())?;
+    push_channels(alloc, &mut places, plan.channel.as_slice())?;
+    push_class(alloc, &mut places, Place::Net, Sort::NetClient, net_clients(plan))?;
     push_class(
+        alloc,
         &mut places,
         Place::Serial,
         Sort::SerialClient,
         serial_clients(plan),
     )?;
-    push_class(&mut places, Place::Blk, Sort::BlkClient, blk_clients(plan))?;
+    push_class(alloc, &mut places, Place::Blk, Sort::BlkClient, blk_clients(plan))?;
     Ok(places)
 }

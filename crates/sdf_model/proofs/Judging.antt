@@ -168,4 +168,4 @@ pub refused-along : {T : Type 0} (P Q : Refusal → Type 0) → ((x : Refusal) �
     → IfErr r (λ fault. IfRefused fault P) → IfErr r (λ fault. IfRefused fault Q)
 refused-along P Q so (Ok x) h = tt
 refused-along P Q so (Err (Fault.Refused x)) h = so x h
-refused-along P Q so (Err Fault.Memory) h = tt
+refused-along P Q so (Err (Fault.Memory memory)) h = tt

@@ -84,4 +84,4 @@ BreaksText text rule place =
 -- of a fault that is no want of memory
 abbrev pub IfRefused : SdfFault → (Refusal → Type 0) → Type 0
 IfRefused (Fault.Refused refusal) P = P refusal
-IfRefused Fault.Memory P = Unit {0}
+IfRefused (Fault.Memory memory) P = Unit {0}

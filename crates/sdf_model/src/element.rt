@@ -72,7 +72,7 @@ fn add_domains<'a>(
     ensures { OnOk result (map seen elements.new.items ≡ map seen elements.old.items ++ domain_parts 0 (map (λ t. table_view t.now) domains.now)) }
 {
     for (at, domain) in domains.iter().enumerate() {
-        let d = number(at)?;
+        let d = number_of(alloc, at)?;
         elements.push(Element {
             place: Place::Domain(d),
             table: *domain,
@@ -92,7 +92,7 @@ fn add_channels<'a>(
     ensures { OnOk result (map seen elements.new.items ≡ map seen elements.old.items ++ channel_parts 0 (map (λ t. table_view t.now) channels.now)) }
 {
     for (at, channel) in channels.iter().enumerate() {
-        let c = number(at)?;
+        let c = number_of(alloc, at)?;
         elements.push(Element {
             place: Place::Channel(c),
             table: *channel,
@@ -129,11 +129,12 @@ fn add_list<'a>(
 ) -> Result<(), Memory>
     ensures { OnOk result (map seen elements.new.items ≡ map seen elements.old.items ++ parts first 0 (tables_at key.now (table_view table.now))) }
 {
-    add_parts(elements, &tables_at(alloc, table, key)?, first)
+    add_parts(alloc, elements, &tables_at(alloc, table, key)?, first)
 }
 
 /// Adds the elements of a list.
 fn add_parts<'a>(
+    alloc: Global,
     elements: &mut Vec<Element<'a>>,
     tables: &[&'a Table],
     first: Place,
@@ -142,18 +143,30 @@ fn add_parts<'a>(
 {
     for (at, table) in tables.iter().enumerate() {
         elements.push(Element {
-            place: nth(first, number(at)?),
+            place: nth(first, number_of(alloc, at)?),
             table: *table,
         })?;
     }
     Ok(())
 }
 
-/// The number of an element in its list. More than a place can number count as want of memory.
-fn number(at: usize) -> Result<u32, Memory>
+/// The number of an element in its list. Past 2^32 elements, which no text within the limit has, there is none, and
+/// memory is asked for that no allocator gives.
+pub fn number_of(alloc: Global, at: usize) -> Result<u32, Memory>
     ensures { IfOk result (λ n. n ≡ at) }
 {
-    u32::try_from(at).map_err(|_| Memory)
+    match u32::try_from(at) {
+        Ok(number) => Ok(number),
+        Err(_) => Err(past_all_memory(alloc)),
+    }
+}
+
+/// What the allocator answers when it is asked for more than there are addresses.
+fn past_all_memory(alloc: Global) -> Memory {
+    match Vec::<u8>::with_capacity(alloc, usize::MAX) {
+        Ok(_) => unreachable!(),
+        Err(refused) => Memory::from(refused),
+    }
 }
 
 /// The place of the element with a number, in the list in which the given place is.

@@ -12,6 +12,7 @@ mod read;
 mod rules;
 mod tree;
 
+pub use element::number_of;
 pub use place::{Place, Refusal, SdfFault};
 pub use plan::{
     Blk, BlkClient, Channel, Domain, End, Irq, Map, Net, NetClient, Plan, Region, Serial,

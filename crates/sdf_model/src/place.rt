@@ -32,13 +32,13 @@ pub struct Refusal {
 #[derive(Clone, Copy, Debug, PartialEq, Eq)]
 pub enum SdfFault {
     Refused(Refusal),
-    Memory,
+    Memory(Memory),
 }
 
 impl From<Memory> for SdfFault {
-    ghost from_gives = { λ _ fault. fault ≡ Fault.Memory };
+    ghost from_gives = { λ memory fault. fault ≡ Fault.Memory memory };
 
-    fn from(_: Memory) -> Self {
-        SdfFault::Memory
+    fn from(memory: Memory) -> Self {
+        SdfFault::Memory(memory)
     }
 }

@@ -11,6 +11,7 @@ use crate::field::Part;
 use crate::place::{Place, Refusal, SdfFault};
 use crate::plan::Plan;
 use crate::rules::judge;
+use cargo_core::Memory;
 use std::alloc::Global;
 use toml::Table;
 
@@ -26,16 +27,13 @@ pub fn read_description(alloc: Global, bytes: &[u8]) -> Result<Plan, SdfFault>
 {
     match toml::table_from_slice(alloc, bytes) {
         Ok(root) => read_root(alloc, &root),
-        Err(fault) => {
-            if fault.is_memory() {
-                Err(SdfFault::Memory)
-            } else {
-                Err(SdfFault::Refused(Refusal {
-                    rule: 1,
-                    place: Place::System,
-                }))
-            }
-        }
+        Err(fault) => match Memory::of_toml(&fault) {
+            Some(memory) => Err(SdfFault::Memory(memory)),
+            None => Err(SdfFault::Refused(Refusal {
+                rule: 1,
+                place: Place::System,
+            })),
+        },
     }
 }
 

@@ -139,7 +139,7 @@ fn play_lines(
     match read_trace(alloc, text.as_str().as_bytes(), plan) {
         Ok(trace) => play(alloc, plan, &trace, seed, steps),
         Err(TraceFault::BadLine(_)) => Ok(String::from_str(alloc, "bad trace\n")?),
-        Err(TraceFault::Memory) => Err(Memory),
+        Err(TraceFault::Memory(memory)) => Err(memory),
     }
 }
 
@@ -148,7 +148,7 @@ fn answer(alloc: Global, text: &str, seed: u64, steps: u64, lines: &str) -> Resu
     match judged(alloc, text) {
         Ok(plan) => play_lines(alloc, &plan, seed, steps, lines),
         Err(SdfFault::Refused(_)) => Ok(String::from_str(alloc, "refused\n")?),
-        Err(SdfFault::Memory) => Err(Memory),
+        Err(SdfFault::Memory(memory)) => Err(memory),
     }
 }
 
@@ -176,7 +176,7 @@ fn row(rt: &HostRuntime, row: &str) -> io::Result<()> {
     let steps = steps.parse::<u64>().unwrap_or(0);
     match answer(rt.alloc(), text.as_str(), seed, steps, lines) {
         Ok(line) => rt.print(line.as_str()),
-        Err(Memory) => rt.println("no memory"),
+        Err(_) => rt.println("no memory"),
     }
 }
 

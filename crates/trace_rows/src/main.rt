@@ -136,7 +136,7 @@ fn read(alloc: Global, plan: &Plan, text: &str) -> Result<String, Memory>
     match read_trace(alloc, text.as_bytes(), plan) {
         Ok(trace) => taken(alloc, plan, &trace),
         Err(TraceFault::BadLine(line)) => write_bad_trace(alloc, line),
-        Err(TraceFault::Memory) => Err(Memory),
+        Err(TraceFault::Memory(memory)) => Err(memory),
     }
 }
 
@@ -162,7 +162,7 @@ fn answer(alloc: Global, text: &str, lines: Option<&str>) -> Result<String, Memo
             }
         },
         Err(SdfFault::Refused(refusal)) => write_refused(alloc, &refusal),
-        Err(SdfFault::Memory) => Err(Memory),
+        Err(SdfFault::Memory(memory)) => Err(memory),
     }
 }
 
@@ -175,7 +175,7 @@ fn row(rt: &HostRuntime, row: &str) -> io::Result<()> {
     let text = fs::read_to_string(rt, name)?;
     match answer(rt.alloc(), text.as_str(), lines) {
         Ok(line) => rt.print(line.as_str()),
-        Err(Memory) => rt.println("no memory"),
+        Err(_) => rt.println("no memory"),
     }
 }
 

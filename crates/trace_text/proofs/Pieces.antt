@@ -2,9 +2,11 @@ use Rattle.std.proofs.Common.{◌≡◌, ℕ, suc, ◌+◌, ◌-◌, ◌*◌, �
 use Rattle.std.specs.Option.{option_map, option_and_then}
 use Rattle.std.specs.Result.{result_ok}
 use Rattle.std.specs.List.{slice_split, onto_first, position_or_len, position}
-use Rattle.std.proofs.lemmas.Bool.{ltb-true, ltb-false, leb-true, le-leb, eqb-true, cases_Bool}
+use Rattle.std.proofs.lemmas.Bool.{ltb-true, ltb-false, leb-true, le-leb, eqb-true, eq-eqb, cases_Bool}
 use Rattle.std.proofs.lemmas.List.{length-replicate}
 use Rattle.std.proofs.lemmas.List.Splits.{slice_split_first}
+use Rattle.std.specs.Result.{MatchResult}
+use Rattle.hex.specs.declared.error.FromHexError.{FromHexError}
 use Rattle.hex.specs.Hex.{decode_of, decode_sized}
 use Rattle.hex.proofs.HexLemmas.{decode_of-ok, decode_sized-twice, decode_sized-ok}
 use Rattle.trace_text.specs.Texts.{parts_of, number_of, digits_meaning, repeated, piece_of, piece_meaning}
@@ -160,6 +162,20 @@ with_rest_long «data» most (Some bytes) (Some more) long all h =
     let same : «data» ++ (bytes ++ more) ≡ all = cc in
     let lengths = ap length same in
     omega (arith, long bytes refl, length-append «data» (bytes ++ more), length-append bytes more)
+
+written_ok : (d : Result (List ℕ) FromHexError) (out : List ℕ) (r : Result (Unit {0}) FromHexError) (u : Unit {0}) → r ≡ Ok u
+    → MatchResult d (λ bytes. (r ≡ Ok tt) × (out ≡ bytes)) (λ e. r ≡ Err e) → d ≡ Ok out
+written_ok (Ok bytes) out r u is h = ap Ok (sym h.1)
+written_ok (Err e) out r u is h = cc (sym is ∙ h)
+
+-- what digits are, by their half
+pub half_sized : (digits : List ℕ) (n : ℕ) → n ≡ length digits / 2 → decode_sized digits n ≡ decode_of digits
+half_sized digits n h = rw (h, eq-eqb (length digits / 2) (length digits / 2) refl) refl
+
+-- what was written where reading into room for their half went well
+pub half_written : (digits out : List ℕ) (n : ℕ) (r : Result (Unit {0}) FromHexError) (u : Unit {0}) → n ≡ length digits / 2 → r ≡ Ok u
+    → MatchResult (decode_sized digits n) (λ bytes. (r ≡ Ok tt) × (out ≡ bytes)) (λ e. r ≡ Err e) → decode_of digits ≡ Ok out
+half_written digits out n r u h is w = sym (half_sized digits n h) ∙ written_ok (decode_sized digits n) out r u is w
 
 -- digits that are more than there is room for
 pub digits_too_long : (digits : List ℕ) (most sofar : ℕ) → most - sofar < length digits / 2 → sofar ≤ most

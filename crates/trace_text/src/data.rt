@@ -5,7 +5,7 @@ ghost use Rattle.trace_text.specs.Reading.{IsData, IsTaken};
 use crate::number::read_number;
 use crate::text::split_once;
 use cargo_core::{Bytes, Memory};
-use hex::{FromHex, FromHexError};
+use hex::FromHex;
 use std::alloc::Global;
 
 // The bytes that a word stands for; None where it stands for none, or for more than so many.
@@ -49,12 +49,13 @@ fn read_digits(alloc: Global, into: &mut Bytes, digits: &[u8], most: usize) -> R
     if digits.len() / 2 > most - into.len() {
         return Ok(false);
     }
-    match hex::decode(alloc, digits) {
-        Ok(bytes) => {
-            into.extend_from_slice(&bytes)?;
+    let mut bytes = vec![in alloc; 0u8; digits.len() / 2]?;
+    let room = bytes.as_mut_slice();
+    match hex::decode_to_slice(digits, room) {
+        Ok(()) => {
+            into.extend_from_slice(room)?;
             Ok(true)
         }
-        Err(FromHexError::OutOfMemory) => Err(Memory),
         Err(_) => Ok(false),
     }
 }

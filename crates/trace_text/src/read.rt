@@ -15,16 +15,16 @@ pub enum TraceFault {
     /// The first line that is bad, counted from 1; where only the disk is missing, the line after the last.
     BadLine(u64),
     /// Want of memory.
-    Memory,
+    Memory(Memory),
 }
 
 impl From<Memory> for TraceFault {
     ghost use Rattle.trace_text.specs.declared.read.TraceFault.TheVariants as Fault;
 
-    ghost from_gives = { λ _ fault. fault ≡ Fault.Memory };
+    ghost from_gives = { λ memory fault. fault ≡ Fault.Memory memory };
 
-    fn from(_: Memory) -> Self {
-        TraceFault::Memory
+    fn from(memory: Memory) -> Self {
+        TraceFault::Memory(memory)
     }
 }
 

@@ -4,13 +4,14 @@ ghost use Rattle.turn_kit.specs.Hands.{held_in};
 
 use cargo_core::{Body, Item, PoolId};
 
-/// How many buffers of a pool an actor holds that has at most this entry in its hand: none, as long as no entry carries
-/// a buffer.
+/// How many buffers of a pool an actor holds that has at most this entry in its hand: one, where the entry carries a
+/// buffer of that pool.
 pub fn held(pool: PoolId, load: &Option<(Item, Body)>) -> u32
     ensures held { result ≡ held_in pool (option_to_list load.now) }
     ensures one { result ≤ 1 }
 {
     match load {
-        None | Some((_, Body::Empty)) => 0,
+        Some((_, Body::Page(page))) if page.pool().0 == pool.0 => 1,
+        _ => 0,
     }
 }

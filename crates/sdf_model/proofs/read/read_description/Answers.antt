@@ -1,4 +1,3 @@
-use Rattle.std.proofs.lemmas.Bool.{false≢true}
 use Rattle.sdf_model.proofs.Judging.{kept-text, judged-text, no-document, ok-along, refused-along}
 use Rattle.sdf_model.proofs.read.read_description.Goals as goal
 
@@ -10,6 +9,6 @@ pub returns-in-Ok-clause-refused : goal.returns-in-Ok-clause-refused
 returns-in-Ok-clause-refused c =
     refused-along _ _ (judged-text c.args.bytes.now _ c.in-Ok.ensures.ok) c.read_root.result c.read_root.ensures.refused
 
-pub returns-else-is_memory-clause-refused : goal.returns-else-is_memory-clause-refused
-returns-else-is_memory-clause-refused c =
-    no-document c.args.bytes.now (λ root doc. cc (c.in-Err.ensures.refused (λ memory. false≢true (c.if-is_memory.ensures.1 memory)) doc.0, doc.1))
+pub returns-in-None-clause-refused : goal.returns-in-None-clause-refused
+returns-in-None-clause-refused c =
+    no-document c.args.bytes.now (λ root doc. cc (c.in-Err.ensures.refused c.in-None.ensures doc.0, doc.1))

@@ -1,0 +1,25 @@
+-- Pages that are lent, each to several receivers.
+use Rattle.std.specs.Prelude.{ℕ, List, ◌==◌, ◌-◌, if◌then◌else◌, Option, None, Some, slice_get}
+use Rattle.cargo_core.specs.Pages.{Paged}
+
+-- a page that is lent, and how many receivers have yet to return it
+abbrev pub Loan : Type 0
+Loan = Paged × ℕ
+
+-- how many receivers have yet to return a page: 0 where it isn't lent
+abbrev pub receivers : Option (Option Loan) → ℕ
+receivers (Some (Some loan)) = loan.1
+receivers (Some None) = 0
+receivers None = 0
+
+-- the same of the page of a number
+abbrev pub receivers_at : List (Option Loan) → ℕ → ℕ
+receivers_at loans n = receivers (slice_get loans n)
+
+-- what is left of a loan when one more receiver returned the page: nothing, where it was the last
+abbrev pub after_return : Loan → Option Loan
+after_return loan = if loan.1 == 1 then None else Some (loan.0, loan.1 - 1)
+
+-- the page that the return of a receiver gives back: the last one does
+abbrev pub page_back : Loan → Option Paged
+page_back loan = if loan.1 == 1 then Some loan.0 else None
