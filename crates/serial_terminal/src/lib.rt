@@ -143,6 +143,7 @@ impl Terminal {
     {
         let mut load = self.load();
         let event = self.output.step(wires, &mut load);
+        drop(load);
         if event.item.is_some() {
             self.next += 1;
         }
