@@ -8,3 +8,4 @@ pub mod Words
 pub mod Grown
 pub mod SoFar
 pub mod Limits
+pub mod Shapes

@@ -55,7 +55,7 @@ pub bad_line : (plan : Plan) (text : List ℕ) (k : ℕ) (line : List ℕ) → s
 unfolding is_bad
 bad_line plan text k line h = rw h refl
 
-bad_end : (plan : Plan) (text : List ℕ) (k : ℕ) → length (lines_of text) ≤ k
+pub bad_end : (plan : Plan) (text : List ℕ) (k : ℕ) → length (lines_of text) ≤ k
     → is_bad plan text k ≡ (eqb k (length (lines_of text)) && (is_some plan.blk && eqb (count_by is_disk_line (events_before plan text k)) 0))
 unfolding is_bad
 bad_end plan text k h = rw (slice_get_past (lines_of text) k h) refl

@@ -2,3 +2,4 @@ pub mod Texts
 pub mod Events
 pub mod Traces
 pub mod Reading
+pub mod Shapes

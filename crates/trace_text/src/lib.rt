@@ -13,6 +13,6 @@ mod text;
 mod trace;
 
 pub use cargo_core::Ask;
-pub use laws::limits_law;
+pub use laws::{limits_law, shapes_law};
 pub use read::{TraceFault, read_trace};
 pub use trace::Trace;

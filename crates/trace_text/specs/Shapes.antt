@@ -1,0 +1,41 @@
+-- What a trace that was read is made of, for those who play it and needn't know the lines.
+use Rattle.std.specs.Prelude.{◌≡◌, ℕ, ◌*◌, ◌≤◌, All, List, [], length, MatchOption}
+use Rattle.cargo_core.specs.declared.item.Ask.{Ask}
+use Rattle.cargo_core.specs.declared.item.Code.{Code}
+use Rattle.cargo_core.specs.declared.item.Code.TheVariants as Asked
+use Rattle.sdf_model.specs.declared.plan.Plan.{Plan}
+use Rattle.trace_text.specs.declared.trace.Trace.{Trace}
+
+-- the bytes of a frame: 14 to 1,514
+abbrev pub IsFrame : List ℕ → Type 0
+IsFrame frame = (14 ≤ length frame) × (length frame ≤ 1514)
+
+-- the bytes of a disk: one block of 4,096 bytes or more
+abbrev pub IsDisk : List ℕ → Type 0
+IsDisk image = (blocks : ℕ) × (1 ≤ blocks) × (length image ≡ blocks * 4096)
+
+-- a request for 1 to 8 blocks from one on, whose number has 32 bits
+abbrev pub NamesBlocks : Ask → Type 0
+NamesBlocks ask = (ask.block ≤ 4294967295) × (1 ≤ ask.count) × (ask.count ≤ 8)
+
+-- a request that names no block and has no bytes
+abbrev pub NamesNoBlock : Ask → Type 0
+NamesNoBlock ask = (ask.block ≡ 0) × (ask.count ≡ 0) × (ask.fill ≡ [])
+
+-- the form of a request of a code: a write alone has bytes of its own, those of its blocks
+abbrev pub HasForm : Code → Ask → Type 0
+HasForm Asked.Read ask = NamesBlocks ask × (ask.fill ≡ [])
+HasForm Asked.Write ask = NamesBlocks ask × (length ask.fill ≡ ask.count * 4096)
+HasForm Asked.Flush ask = NamesNoBlock ask
+HasForm Asked.Barrier ask = NamesNoBlock ask
+
+-- a request in the form of its code
+abbrev pub IsAsk : Ask → Type 0
+IsAsk ask = HasForm ask.code ask
+
+-- the frames, requests and disk of a trace are such, with a disk exactly where the plan has a block class
+pub record HasShapes (plan : Plan) (trace : Trace) : Type 0 where
+  pub frames : All IsFrame trace.frames
+  pub sends : All (All IsFrame) trace.sends
+  pub asks : All (All IsAsk) trace.asks
+  pub image : MatchOption plan.blk (trace.image ≡ []) (λ _. IsDisk trace.image)
