@@ -8,7 +8,7 @@ use Rattle.sdf_model.specs.declared.plan.Plan.{Plan}
 use Rattle.frame_core.specs.Frames.{is_frame_of}
 use Rattle.trace_text.specs.declared.reader.Reader.{Reader}
 use Rattle.trace_text.specs.Texts.{number_of, data_of}
-use Rattle.trace_text.specs.Events.{Event, net_clients, serial_clients, blk_clients, is_source, is_speaker, is_blk_client, is_reach, bare_ask, order_code, rx_line, in_line, send_line, say_line, disk_line, bytes_line, order_line, read_line, write_line}
+use Rattle.trace_text.specs.Events.{Event, net_clients, serial_clients, blk_clients, is_source, is_speaker, is_blk_client, is_reach, bare_ask, order_code, rx_line, in_line, send_line, say_line, disk_line, bytes_line, blk_order_line, blk_read_line, blk_write_line}
 use Rattle.trace_text.specs.Reading.{judged, is_refused, grown}
 use Rattle.trace_text.proofs.Judged.{Fails, judged_none, number_none, data_none, kept_none, kept_taken}
 
@@ -82,28 +82,28 @@ bytes_taken r plan place word at bytes n e holds taken = rw (n, e) (kept_taken r
 
 pub order_none : (r : Reader) (plan : Plan) (client order : List ℕ)
     → ((c : ℕ) (code : Code) → number_of client ≡ Some c → order_code order ≡ Some code → Fails r (is_blk_client plan c) (Event.Request c (bare_ask code 0 0)))
-    → judged r (order_line plan client order) ≡ None
-unfolding order_line
+    → judged r (blk_order_line plan client order) ≡ None
+unfolding blk_order_line
 order_none r plan client order h =
     number_none r client _ (λ c n. judged_none r (order_code order) _ (λ code e. kept_none r _ (Event.Request c (bare_ask code 0 0)) (h c code n e)))
 
 pub order_taken : (r : Reader) (plan : Plan) (client order : List ℕ) (c : ℕ) (code : Code) → number_of client ≡ Some c → order_code order ≡ Some code → is_blk_client plan c ≡ true
-    → is_refused r (Event.Request c (bare_ask code 0 0)) ≡ false → judged r (order_line plan client order) ≡ Some (grown r (Event.Request c (bare_ask code 0 0)))
-unfolding order_line
+    → is_refused r (Event.Request c (bare_ask code 0 0)) ≡ false → judged r (blk_order_line plan client order) ≡ Some (grown r (Event.Request c (bare_ask code 0 0)))
+unfolding blk_order_line
 order_taken r plan client order c code n e holds taken = rw (n, e) (kept_taken r _ (Event.Request c (bare_ask code 0 0)) holds taken)
 
 pub read_none : (r : Reader) (plan : Plan) (client first many : List ℕ)
     → ((c block count : ℕ) → number_of client ≡ Some c → number_of first ≡ Some block → number_of many ≡ Some count
     → Fails r (is_blk_client plan c && is_reach block count) (Event.Request c (bare_ask Asked.Read block count)))
-    → judged r (read_line plan client first many) ≡ None
-unfolding read_line
+    → judged r (blk_read_line plan client first many) ≡ None
+unfolding blk_read_line
 read_none r plan client first many h =
     number_none r client _ (λ c n. number_none r first _ (λ block b. number_none r many _ (λ count m. kept_none r _ (Event.Request c (bare_ask Asked.Read block count)) (h c block count n b m))))
 
 pub read_taken : (r : Reader) (plan : Plan) (client first many : List ℕ) (c block count : ℕ) → number_of client ≡ Some c → number_of first ≡ Some block → number_of many ≡ Some count
     → (is_blk_client plan c && is_reach block count) ≡ true → is_refused r (Event.Request c (bare_ask Asked.Read block count)) ≡ false
-    → judged r (read_line plan client first many) ≡ Some (grown r (Event.Request c (bare_ask Asked.Read block count)))
-unfolding read_line
+    → judged r (blk_read_line plan client first many) ≡ Some (grown r (Event.Request c (bare_ask Asked.Read block count)))
+unfolding blk_read_line
 read_taken r plan client first many c block count n b m holds taken = rw (n, b, m) (kept_taken r _ (Event.Request c (bare_ask Asked.Read block count)) holds taken)
 
 abbrev pub write_ask : ℕ → ℕ → List ℕ → Ask
@@ -112,15 +112,15 @@ write_ask block count bytes = record { code = Asked.Write; block = block; count 
 pub write_none : (r : Reader) (plan : Plan) (client first many word : List ℕ)
     → ((c block count : ℕ) (bytes : List ℕ) → number_of client ≡ Some c → number_of first ≡ Some block → number_of many ≡ Some count → data_of word ≡ Some bytes
     → Fails r (is_blk_client plan c && is_reach block count && eqb (length bytes) (count * 4096)) (Event.Request c (write_ask block count bytes)))
-    → judged r (write_line plan client first many word) ≡ None
-unfolding write_line
+    → judged r (blk_write_line plan client first many word) ≡ None
+unfolding blk_write_line
 write_none r plan client first many word h =
     number_none r client _ (λ c n. number_none r first _ (λ block b. number_none r many _ (λ count m. data_none r word _ (λ bytes e. kept_none r _ (Event.Request c (write_ask block count bytes)) (h c block count bytes n b m e)))))
 
 pub write_taken : (r : Reader) (plan : Plan) (client first many word : List ℕ) (c block count : ℕ) (bytes : List ℕ) → number_of client ≡ Some c → number_of first ≡ Some block
     → number_of many ≡ Some count → data_of word ≡ Some bytes → (is_blk_client plan c && is_reach block count && eqb (length bytes) (count * 4096)) ≡ true
-    → is_refused r (Event.Request c (write_ask block count bytes)) ≡ false → judged r (write_line plan client first many word) ≡ Some (grown r (Event.Request c (write_ask block count bytes)))
-unfolding write_line
+    → is_refused r (Event.Request c (write_ask block count bytes)) ≡ false → judged r (blk_write_line plan client first many word) ≡ Some (grown r (Event.Request c (write_ask block count bytes)))
+unfolding blk_write_line
 write_taken r plan client first many word c block count bytes n b m e holds taken = rw (n, b, m, e) (kept_taken r _ (Event.Request c (write_ask block count bytes)) holds taken)
 
 -- a number past the clients of a class

@@ -1,4 +1,4 @@
-use Rattle.std.proofs.Common.{◌≡◌, ℕ, zero, suc, ◌+◌, ◌-◌, ◌*◌, ◌/◌, ◌%◌, ◌≤◌, Bool, true, false, cond, eqb, leb, ltb, ◌&&◌, ◌||◌, List, [], ◌∷◌, ◌++◌, length, count_by, Option, Some, None, is_some, get_or, take, drop, refl, ap, sym, ◌∙◌, arith, add-one, codes, MatchOption, IfSome, All, length-append, length-take-le, length-drop}
+use Rattle.std.proofs.Common.{◌≡◌, ℕ, zero, suc, ◌+◌, ◌-◌, ◌*◌, ◌/◌, ◌%◌, ◌<◌, ◌≤◌, Bool, true, false, cond, eqb, leb, ltb, ◌&&◌, ◌||◌, List, [], ◌∷◌, ◌++◌, length, replicate, count_by, Option, Some, None, is_some, get_or, take, drop, refl, ap, sym, ◌∙◌, arith, add-one, codes, MatchOption, IfSome, All, length-append, length-take-le, length-drop}
 use Rattle.std.specs.List.{flat_map, filter_map, cons_option}
 use Rattle.std.specs.Option.{option_to_list, option_and_then}
 use Rattle.std.proofs.lemmas.Bool.{leb-true, ltb-false, eqb-true, and_parts}
@@ -7,6 +7,7 @@ use Rattle.std.proofs.lemmas.List.{length-replicate}
 use Rattle.std.proofs.lemmas.Nat.{div-add-mod'}
 use Rattle.std.proofs.lemmas.Option.{slice_get-get_or}
 use Rattle.cargo_core.specs.Lists.{replaced}
+use Rattle.cargo_core.specs.declared.item.Ask.{Ask}
 use Rattle.cargo_core.specs.declared.item.Code.{Code}
 use Rattle.cargo_core.specs.declared.item.Code.TheVariants as Asked
 use Rattle.frame_core.specs.Frames.{is_frame_of}
@@ -14,9 +15,9 @@ use Rattle.sdf_model.specs.declared.plan.Plan.{Plan}
 use Rattle.sdf_model.specs.declared.plan.Blk.{Blk}
 use Rattle.trace_text.specs.declared.trace.Trace.{Trace}
 use Rattle.trace_text.specs.Texts.{lines_of, words_of, number_of, data_of}
-use Rattle.trace_text.specs.Events.{Event, same_text, kept_if, is_source, is_blk_client, is_reach, bare_ask, rx_line, in_line, send_line, say_line, disk_line, bytes_line, order_line, read_line, write_line, words_say, is_skipped, meaning, net_clients, blk_clients}
+use Rattle.trace_text.specs.Events.{Event, same_text, kept_if, is_source, is_speaker, is_blk_client, is_reach, bare_ask, order_code, rx_line, in_line, send_line, say_line, disk_line, bytes_line, blk_order_line, blk_read_line, blk_write_line, words_say, is_skipped, meaning, net_clients, blk_clients}
 use Rattle.trace_text.specs.Traces.{per_client, frames_in, sends_in, asks_in, image_after, image_of, trace_from, trace_of, is_disk_line, is_out_of_place, is_bad_after, events_before, HasNoBadLine, IsReadFor}
-use Rattle.trace_text.specs.Shapes.{IsFrame, IsDisk, IsAsk, HasShapes}
+use Rattle.trace_text.specs.Shapes.{IsFrame, IsDisk, NamesBlocks, IsAsk, HasShapes}
 use Rattle.trace_text.proofs.Forms.{equal_length}
 use Rattle.trace_text.proofs.Grown.{sum_more, image_more}
 use Rattle.trace_text.proofs.SoFar.{events_more, bad_line, bad_end, no_events}
@@ -103,8 +104,8 @@ code-says P f true barrier h k = h
 code-says P f false true h k = k
 code-says P f false false h k = tt
 
-order-shape : (plan : Plan) (client order : List ℕ) → IfSome (order_line plan client order) (IsShaped plan)
-unfolding order_line
+order-shape : (plan : Plan) (client order : List ℕ) → IfSome (blk_order_line plan client order) (IsShaped plan)
+unfolding blk_order_line
 order-shape plan client order =
     then-says (IsShaped plan) _ (number_of client) (λ c _. code-says (IsShaped plan)
     (λ code. kept_if (is_blk_client plan c) (Some (Event.Request c (bare_ask code 0 0)))) (same_text order (codes "flush")) (same_text order (codes "barrier"))
@@ -116,14 +117,14 @@ reach-shape block count h =
     let one = and_parts (leb block 4294967295) (leb 1 count) two.0 in
     (leb-true block 4294967295 one.0, leb-true 1 count one.1, leb-true count 8 two.1)
 
-read-shape : (plan : Plan) (client first many : List ℕ) → IfSome (read_line plan client first many) (IsShaped plan)
-unfolding read_line
+read-shape : (plan : Plan) (client first many : List ℕ) → IfSome (blk_read_line plan client first many) (IsShaped plan)
+unfolding blk_read_line
 read-shape plan client first many =
     then-says (IsShaped plan) _ (number_of client) (λ c _. then-says (IsShaped plan) _ (number_of first) (λ block _. then-says (IsShaped plan) _ (number_of many) (λ count _.
     kept-says (IsShaped plan) _ (Event.Request c (bare_ask Asked.Read block count)) (λ h. (reach-shape block count (and_parts (is_blk_client plan c) (is_reach block count) h).1, refl)))))
 
-write-shape : (plan : Plan) (client first many word : List ℕ) → IfSome (write_line plan client first many word) (IsShaped plan)
-unfolding write_line
+write-shape : (plan : Plan) (client first many word : List ℕ) → IfSome (blk_write_line plan client first many word) (IsShaped plan)
+unfolding blk_write_line
 write-shape plan client first many word =
     then-says (IsShaped plan) _ (number_of client) (λ c _. then-says (IsShaped plan) _ (number_of first) (λ block _. then-says (IsShaped plan) _ (number_of many) (λ count _.
     then-says (IsShaped plan) _ (data_of word) (λ bytes _. kept-says (IsShaped plan) _ (Event.Request c (record { code = Asked.Write; block = block; count = count; fill = bytes })) (λ h.
@@ -146,15 +147,15 @@ two-words plan name a =
 
 three-words : (plan : Plan) (name a b : List ℕ)
     → IfSome (cond (same_text name (codes "send")) (send_line plan a b) (cond (same_text name (codes "say")) (say_line plan a b) (cond (same_text name (codes "bytes")) (bytes_line plan a b)
-    (cond (same_text name (codes "blk")) (order_line plan a b) None)))) (IsShaped plan)
+    (cond (same_text name (codes "blk")) (blk_order_line plan a b) None)))) (IsShaped plan)
 three-words plan name a b =
-    let fourth = named-says (IsShaped plan) name (codes "blk") (order_line plan a b) None (order-shape plan a b) (no-line (IsShaped plan)) in
-    let third = named-says (IsShaped plan) name (codes "bytes") (bytes_line plan a b) (cond (same_text name (codes "blk")) (order_line plan a b) None) (bytes-shape plan a b) fourth in
+    let fourth = named-says (IsShaped plan) name (codes "blk") (blk_order_line plan a b) None (order-shape plan a b) (no-line (IsShaped plan)) in
+    let third = named-says (IsShaped plan) name (codes "bytes") (bytes_line plan a b) (cond (same_text name (codes "blk")) (blk_order_line plan a b) None) (bytes-shape plan a b) fourth in
     let second =
-    named-says (IsShaped plan) name (codes "say") (say_line plan a b) (cond (same_text name (codes "bytes")) (bytes_line plan a b) (cond (same_text name (codes "blk")) (order_line plan a b) None))
+    named-says (IsShaped plan) name (codes "say") (say_line plan a b) (cond (same_text name (codes "bytes")) (bytes_line plan a b) (cond (same_text name (codes "blk")) (blk_order_line plan a b) None))
     (say-shape plan a b) third in
     named-says (IsShaped plan) name (codes "send") (send_line plan a b)
-    (cond (same_text name (codes "say")) (say_line plan a b) (cond (same_text name (codes "bytes")) (bytes_line plan a b) (cond (same_text name (codes "blk")) (order_line plan a b) None)))
+    (cond (same_text name (codes "say")) (say_line plan a b) (cond (same_text name (codes "bytes")) (bytes_line plan a b) (cond (same_text name (codes "blk")) (blk_order_line plan a b) None)))
     (send-shape plan a b) second
 
 line-shape : (plan : Plan) (words : List (List ℕ)) → IfSome (words_say plan words) (IsShaped plan)
@@ -165,9 +166,9 @@ line-shape plan (name ∷ a ∷ []) = two-words plan name a
 line-shape plan (name ∷ a ∷ b ∷ []) = three-words plan name a b
 line-shape plan (name ∷ a ∷ b ∷ c ∷ []) = no-line (IsShaped plan)
 line-shape plan (name ∷ a ∷ b ∷ c ∷ d ∷ []) =
-    if-says (IsShaped plan) (same_text name (codes "blk") && same_text b (codes "read")) (read_line plan a c d) None (read-shape plan a c d) (no-line (IsShaped plan))
+    if-says (IsShaped plan) (same_text name (codes "blk") && same_text b (codes "read")) (blk_read_line plan a c d) None (read-shape plan a c d) (no-line (IsShaped plan))
 line-shape plan (name ∷ a ∷ b ∷ c ∷ d ∷ e ∷ []) =
-    if-says (IsShaped plan) (same_text name (codes "blk") && same_text b (codes "write")) (write_line plan a c d e) None (write-shape plan a c d e) (no-line (IsShaped plan))
+    if-says (IsShaped plan) (same_text name (codes "blk") && same_text b (codes "write")) (blk_write_line plan a c d e) None (write-shape plan a c d e) (no-line (IsShaped plan))
 line-shape plan (name ∷ a ∷ b ∷ c ∷ d ∷ e ∷ f ∷ rest) = no-line (IsShaped plan)
 
 meaning-shape : (plan : Plan) (line : List ℕ) → IfSome (meaning plan line) (IsShaped plan)

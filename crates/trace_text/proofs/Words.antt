@@ -1,7 +1,7 @@
 use Rattle.std.proofs.Common.{◌≡◌, ℕ, true, false, eqb, List, [], ◌∷◌, length, Some, None, codes, refl}
 use Rattle.sdf_model.specs.declared.plan.Plan.{Plan}
 use Rattle.trace_text.specs.Texts.{parts_of, words_of, lines_of}
-use Rattle.trace_text.specs.Events.{Event, same_text, words_say, meaning, is_skipped, rx_line, in_line, send_line, say_line, disk_line, bytes_line, order_line, read_line, write_line}
+use Rattle.trace_text.specs.Events.{Event, same_text, words_say, meaning, is_skipped, rx_line, in_line, send_line, say_line, disk_line, bytes_line, blk_order_line, blk_read_line, blk_write_line}
 use Rattle.trace_text.proofs.Pieces.{parts_cons}
 use Rattle.trace_text.proofs.Forms.{not_equal}
 
@@ -63,7 +63,7 @@ unfolding words_say
 three_bytes plan name a b h i j = rw (h, i, j) refl
 
 pub three_blk : (plan : Plan) (name a b : List ℕ) → same_text name (codes "send") ≡ false → same_text name (codes "say") ≡ false → same_text name (codes "bytes") ≡ false
-    → same_text name (codes "blk") ≡ true → words_say plan (name ∷ a ∷ b ∷ []) ≡ order_line plan a b
+    → same_text name (codes "blk") ≡ true → words_say plan (name ∷ a ∷ b ∷ []) ≡ blk_order_line plan a b
 unfolding words_say
 three_blk plan name a b h i j k = rw (h, i, j, k) refl
 
@@ -73,7 +73,7 @@ unfolding words_say
 three_other plan name a b h i j k = rw (h, i, j, k) refl
 
 pub five_read : (plan : Plan) (name a b c d : List ℕ) → same_text name (codes "blk") ≡ true → same_text b (codes "read") ≡ true
-    → words_say plan (name ∷ a ∷ b ∷ c ∷ d ∷ []) ≡ read_line plan a c d
+    → words_say plan (name ∷ a ∷ b ∷ c ∷ d ∷ []) ≡ blk_read_line plan a c d
 unfolding words_say
 five_read plan name a b c d h i = rw (h, i) refl
 
@@ -82,7 +82,7 @@ unfolding words_say
 five_other plan name a b c d h i = rw (h, i) refl
 
 pub six_write : (plan : Plan) (name a b c d e : List ℕ) → same_text name (codes "blk") ≡ true → same_text b (codes "write") ≡ true
-    → words_say plan (name ∷ a ∷ b ∷ c ∷ d ∷ e ∷ []) ≡ write_line plan a c d e
+    → words_say plan (name ∷ a ∷ b ∷ c ∷ d ∷ e ∷ []) ≡ blk_write_line plan a c d e
 unfolding words_say
 six_write plan name a b c d e h i = rw (h, i) refl
 

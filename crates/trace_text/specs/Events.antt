@@ -1,3 +1,4 @@
+-- What each line of a trace says.
 use Rattle.std.specs.Prelude.{ℕ, ◌*◌, ◌%◌, ◌==◌, ◌&&◌, nat_eq, nat_le, Bool, true, false, if◌then◌else◌, List, [], ◌∷◌, length, slice_index, slice_get, codes, Option, Some, None, is_some}
 use Rattle.std.specs.Option.{option_and_then, option_map_or}
 use Rattle.std.specs.List.{find}
@@ -111,8 +112,8 @@ order_code order =
     else None
 
 -- `blk C flush`, `blk C barrier`
-unfoldable pub order_line : Plan → List ℕ → List ℕ → Option Event
-order_line plan client order =
+unfoldable pub blk_order_line : Plan → List ℕ → List ℕ → Option Event
+blk_order_line plan client order =
     with_number client (λ c. option_and_then (λ code. kept_if (is_blk_client plan c) (Some (Event.Request c (bare_ask code 0 0)))) (order_code order))
 
 -- whether these blocks can be asked for
@@ -120,14 +121,14 @@ abbrev pub is_reach : ℕ → ℕ → Bool
 is_reach block count = nat_le block 4294967295 && nat_le 1 count && nat_le count 8
 
 -- `blk C read B N`
-unfoldable pub read_line : Plan → List ℕ → List ℕ → List ℕ → Option Event
-read_line plan client first many =
+unfoldable pub blk_read_line : Plan → List ℕ → List ℕ → List ℕ → Option Event
+blk_read_line plan client first many =
     with_number client (λ c. with_number first (λ block. with_number many (λ count.
     kept_if (is_blk_client plan c && is_reach block count) (Some (Event.Request c (bare_ask Asked.Read block count))))))
 
 -- `blk C write B N DATA`
-unfoldable pub write_line : Plan → List ℕ → List ℕ → List ℕ → List ℕ → Option Event
-write_line plan client first many word =
+unfoldable pub blk_write_line : Plan → List ℕ → List ℕ → List ℕ → List ℕ → Option Event
+blk_write_line plan client first many word =
     with_number client (λ c. with_number first (λ block. with_number many (λ count. with_data word (λ bytes.
     kept_if (is_blk_client plan c && is_reach block count && length bytes == count * 4096)
     (Some (Event.Request c (record { code = Asked.Write; block = block; count = count; fill = bytes })))))))
@@ -143,10 +144,10 @@ words_say plan (name ∷ a ∷ b ∷ []) =
     if same_text name (codes "send") then send_line plan a b
     else if same_text name (codes "say") then say_line plan a b
     else if same_text name (codes "bytes") then bytes_line plan a b
-    else if same_text name (codes "blk") then order_line plan a b
+    else if same_text name (codes "blk") then blk_order_line plan a b
     else None
-words_say plan (name ∷ a ∷ b ∷ c ∷ d ∷ []) = if same_text name (codes "blk") && same_text b (codes "read") then read_line plan a c d else None
-words_say plan (name ∷ a ∷ b ∷ c ∷ d ∷ e ∷ []) = if same_text name (codes "blk") && same_text b (codes "write") then write_line plan a c d e else None
+words_say plan (name ∷ a ∷ b ∷ c ∷ d ∷ []) = if same_text name (codes "blk") && same_text b (codes "read") then blk_read_line plan a c d else None
+words_say plan (name ∷ a ∷ b ∷ c ∷ d ∷ e ∷ []) = if same_text name (codes "blk") && same_text b (codes "write") then blk_write_line plan a c d e else None
 words_say plan _ = None
 
 -- whether a line is skipped: it is empty, or begins with `#`

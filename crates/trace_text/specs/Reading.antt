@@ -1,3 +1,4 @@
+-- What the reader of lines keeps, for its own contracts alone.
 use Rattle.std.specs.Prelude.{◌≡◌, ℕ, zero, suc, ◌+◌, ◌*◌, ◌^◌, ◌<◌, ◌≤◌, ◌==◌, ◌||◌, nat_le, nat_lt, Bool, false, if◌then◌else◌, List, [], ◌∷◌, ◌++◌, length, count_by, sum_by, replicate, Option, Some, None, MatchBool}
 use Rattle.cargo_core.specs.Lists.{replaced}
 use Rattle.sdf_model.specs.declared.plan.Plan.{Plan}

@@ -1,3 +1,4 @@
+-- Which lines are bad, and the trace that the others give.
 use Rattle.std.specs.Prelude.{◌≡◌, ℕ, zero, suc, ◌+◌, ◌*◌, ◌<◌, ◌≤◌, ◌==◌, ◌&&◌, ◌||◌, nat_le, nat_lt, Bool, true, false, if◌then◌else◌, List, [], ◌∷◌, length, take, fold, sum_by, count_by, replicate, slice_get, Option, Some, None, is_some}
 use Rattle.std.specs.List.{flat_map, filter_map}
 use Rattle.cargo_core.specs.Lists.{replaced}

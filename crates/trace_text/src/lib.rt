@@ -3,12 +3,16 @@
 
 mod clients;
 mod data;
+mod disk_lines;
+mod frame_lines;
 mod laws;
 mod line;
 mod lists;
 mod number;
 mod read;
 mod reader;
+mod request_lines;
+mod stream_lines;
 mod text;
 mod trace;
 

@@ -1,3 +1,4 @@
+//! A line of a trace: its words, and which sort of line they make.
 ghost use Rattle.std.specs.Prelude.{◌≡◌, true, codes, [], ◌∷◌, IfOk};
 ghost use Rattle.trace_text.specs.Events.{same_text, words_say, meaning};
 ghost use Rattle.trace_text.specs.Reading.{IsRead, HasLists};

@@ -1,3 +1,4 @@
+//! The lists of a trace that have one entry for each client.
 ghost use Rattle.std.specs.Prelude.{◌≡◌, ◌<◌, [], ◌∷◌, length, OnOk, IfOk};
 ghost use Rattle.trace_text.specs.Traces.{per_client};
 ghost use Rattle.trace_text.specs.Reading.{grown_at};

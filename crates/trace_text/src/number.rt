@@ -1,3 +1,4 @@
+//! Numbers of a line: decimal digits without leading zeros.
 ghost use Rattle.std.specs.Prelude.{◌≡◌, IfSome, IfNone, Some, nat_le, ◌+◌, ◌-◌, ◌*◌, ◌<◌, ◌^◌, ◌&&◌};
 ghost use Rattle.std.specs.Option.{SomeIff};
 ghost use Rattle.std.specs.List.{list_all};

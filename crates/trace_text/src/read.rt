@@ -1,3 +1,4 @@
+//! The walk over the lines of a trace.
 ghost use Rattle.std.specs.Prelude.{◌≡◌, ◌<◌, ◌∷◌, ℕ, length, IfOk, Err};
 ghost use Rattle.trace_text.specs.Texts.{lines_of};
 ghost use Rattle.trace_text.specs.Traces.{HasNoBadLine, IsLeastBadLine, trace_of};

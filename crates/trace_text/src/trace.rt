@@ -1,3 +1,4 @@
+//! What a trace gives the devices and the clients.
 ghost use Rattle.std.specs.Prelude.{◌≡◌, ◌<◌, length, slice_get, Some};
 
 use cargo_core::{Ask, Bytes, FrameLog, Series};
