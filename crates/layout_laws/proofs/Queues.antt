@@ -20,7 +20,8 @@ use Rattle.sdf_check.specs.ClassRules.{SomeOf, IsSmaller, IsCapacity}
 use Rattle.sdf_check.specs.Shares.{round_up, net_queues_size, byte_queue_size, blk_queues_size, net_needs, net_client_needs, serial_needs, serial_client_needs, blk_needs, blk_client_needs}
 use Rattle.sdf_check.specs.Valid.{Valid}
 use Rattle.sdf_check.proofs.SoughtLemmas.{here-some}
-use Rattle.region_layout.specs.Rows.{entry_size, queue_span, queue_in, queue_pair, eth_rx_queues, eth_tx_queues, net_rx_queues, net_tx_queues, lease_queues, client_rx_queues, client_tx_queues, net_client_queues, net_queues, uart_queues, shared_serial_queues, serial_client_queues, serial_queues, disk_queues, shared_blk_queues, blk_client_queues, blk_queues, queues_of, each_client, client_name}
+use Rattle.wire_core.specs.declared.names.ActorId.{ActorId}
+use Rattle.region_layout.specs.Rows.{actor_named, eth_number, uart_number, disk_number, entry_size, queue_span, queue_in, queue_pair, eth_rx_queues, eth_tx_queues, net_rx_queues, net_tx_queues, lease_queues, client_rx_queues, client_tx_queues, net_client_queues, net_queues, uart_queues, shared_serial_queues, serial_client_queues, serial_queues, disk_queues, shared_blk_queues, blk_client_queues, blk_queues, queues_of, each_client, client_name}
 use Rattle.region_layout.proofs.WalkLemmas.{kept, net_walked, net_client_walked, serial_walked, serial_client_walked, blk_walked, blk_client_walked}
 use Rattle.region_layout.proofs.ValidLemmas.{not_of, not_of_part, net_capacities, net_client_capacities, serial_capacities, serial_client_capacities, blk_capacity, blk_client_capacity}
 use Rattle.layout_laws.specs.Sound.{IsSoundQueue}
@@ -28,12 +29,12 @@ use Rattle.layout_laws.proofs.Lists.{all-clients, all-class}
 use Rattle.layout_laws.proofs.Found.{large-region, no-need}
 
 -- a queue in no region
-free_queue : (plan : Plan) (name producer consumer : List ℕ) (kind : QueueKind) (capacity : ℕ) → IsCapacity capacity → IsSoundQueue plan (queue_in plan None 0 name kind producer consumer capacity)
+free_queue : (plan : Plan) (name : List ℕ) (producer consumer : ActorId) (kind : QueueKind) (capacity : ℕ) → IsCapacity capacity → IsSoundQueue plan (queue_in plan None 0 name kind producer consumer capacity)
 unfolding queue_in
 free_queue plan name producer consumer kind capacity is = record { capacity = is; lies = λ r at. absurd (none-some r at) }
 
 -- a queue in a region that is large enough
-held_queue : (plan : Plan) (key name producer consumer : List ℕ) (kind : QueueKind) (offset capacity need : ℕ) → IsCapacity capacity → IsMultiple offset 64
+held_queue : (plan : Plan) (key name : List ℕ) (producer consumer : ActorId) (kind : QueueKind) (offset capacity need : ℕ) → IsCapacity capacity → IsMultiple offset 64
     → offset + (64 + entry_size kind * capacity) ≤ need → (IsSmaller plan (key, need) → ⊥)
     → IsSoundQueue plan (queue_in plan (region_named plan key) offset name kind producer consumer capacity)
 unfolding queue_in
@@ -46,13 +47,13 @@ held_queue plan key name producer consumer kind offset capacity need is multiple
 }
 
 -- the one queue of a region
-only : (plan : Plan) (key name producer consumer : List ℕ) (capacity : ℕ) → IsCapacity capacity → (IsSmaller plan (key, byte_queue_size capacity) → ⊥)
+only : (plan : Plan) (key name : List ℕ) (producer consumer : ActorId) (capacity : ℕ) → IsCapacity capacity → (IsSmaller plan (key, byte_queue_size capacity) → ⊥)
     → IsSoundQueue plan (queue_in plan (region_named plan key) 0 name Kind.Byte producer consumer capacity)
 only plan key name producer consumer capacity is large =
     held_queue plan key name producer consumer Kind.Byte 0 capacity (byte_queue_size capacity) is (0, refl) (omega arith) large
 
 -- the two of a region
-pair : (plan : Plan) (key first second from to : List ℕ) (kind back : QueueKind) (capacity : ℕ) → IsCapacity capacity
+pair : (plan : Plan) (key first second : List ℕ) (from to : ActorId) (kind back : QueueKind) (capacity : ℕ) → IsCapacity capacity
     → (IsSmaller plan (key, round_up (64 + entry_size kind * capacity) + (64 + entry_size back * capacity)) → ⊥) → 64 + entry_size kind * capacity ≤ round_up (64 + entry_size kind * capacity) + (64 + entry_size back * capacity)
     → All (IsSoundQueue plan) (queue_pair plan key first kind second back from to capacity)
 unfolding queue_pair queue_span
@@ -67,12 +68,12 @@ pair plan key first second from to kind back capacity is large room =
 room_above : (size rest : ℕ) → size ≤ round_up size + rest
 room_above size rest = omega arith
 
-net_pair : (plan : Plan) (key first second from to : List ℕ) (capacity : ℕ) → IsCapacity capacity → (IsSmaller plan (key, net_queues_size capacity) → ⊥)
+net_pair : (plan : Plan) (key first second : List ℕ) (from to : ActorId) (capacity : ℕ) → IsCapacity capacity → (IsSmaller plan (key, net_queues_size capacity) → ⊥)
     → All (IsSoundQueue plan) (queue_pair plan key first Kind.Net second Kind.Net from to capacity)
 net_pair plan key first second from to capacity is large =
     pair plan key first second from to Kind.Net Kind.Net capacity is large (room_above (64 + 16 * capacity) (64 + 16 * capacity))
 
-blk_pair : (plan : Plan) (key first second from to : List ℕ) (capacity : ℕ) → IsCapacity capacity → (IsSmaller plan (key, blk_queues_size capacity) → ⊥)
+blk_pair : (plan : Plan) (key first second : List ℕ) (from to : ActorId) (capacity : ℕ) → IsCapacity capacity → (IsSmaller plan (key, blk_queues_size capacity) → ⊥)
     → All (IsSoundQueue plan) (queue_pair plan key first Kind.Req second Kind.Resp from to capacity)
 blk_pair plan key first second from to capacity is large =
     pair plan key first second from to Kind.Req Kind.Resp capacity is large (room_above (64 + 32 * capacity) (64 + 16 * capacity))
@@ -125,11 +126,11 @@ net_client_sound plan net valid is c client there =
     let needs = net_client_needs net client in
     both plan (lease_queues plan net c client ++ client_rx_queues plan c client) (client_tx_queues plan net c client)
     (both plan (lease_queues plan net c client) (client_rx_queues plan c client)
-    (net_pair plan client.lease_queues (client_name (codes "net.") c (codes ".lease.active")) (client_name (codes "net.") c (codes ".lease.free")) net.rx_virt client.copier net.rx_capacity caps.0
+    (net_pair plan client.lease_queues (client_name (codes "net.") c (codes ".lease.active")) (client_name (codes "net.") c (codes ".lease.free")) (actor_named plan net.rx_virt) (actor_named plan client.copier) net.rx_capacity caps.0
     (no-need plan needs 0 (client.lease_queues, net_queues_size net.rx_capacity) fine refl))
-    (net_pair plan client.rx_queues (client_name (codes "net.") c (codes ".rx.active")) (client_name (codes "net.") c (codes ".rx.free")) client.copier client.pd client.rx_capacity own.0
+    (net_pair plan client.rx_queues (client_name (codes "net.") c (codes ".rx.active")) (client_name (codes "net.") c (codes ".rx.free")) (actor_named plan client.copier) (actor_named plan client.pd) client.rx_capacity own.0
     (no-need plan needs 2 (client.rx_queues, net_queues_size client.rx_capacity) fine refl)))
-    (net_pair plan client.tx_queues (client_name (codes "net.") c (codes ".tx.active")) (client_name (codes "net.") c (codes ".tx.free")) client.pd net.tx_virt client.tx_capacity own.1
+    (net_pair plan client.tx_queues (client_name (codes "net.") c (codes ".tx.active")) (client_name (codes "net.") c (codes ".tx.free")) (actor_named plan client.pd) (actor_named plan net.tx_virt) client.tx_capacity own.1
     (no-need plan needs 4 (client.tx_queues, net_queues_size client.tx_capacity) fine refl))
 
 net_sound : (plan : Plan) → Valid plan → (net : Net) → plan.net ≡ Some net → All (IsSoundQueue plan) (net_queues plan net)
@@ -138,12 +139,12 @@ net_sound plan valid net is =
     let caps = net_capacities plan net valid is in
     let fine = net_fine plan net valid is in
     let needs = net_needs net in
-    let eth_rx = two_of plan (queue_in plan None 0 (codes "eth.rx.free") Kind.Net net.driver (codes "@eth") net.rx_capacity) (queue_in plan None 0 (codes "eth.rx.active") Kind.Net (codes "@eth") net.driver net.rx_capacity)
-    (free_queue plan (codes "eth.rx.free") net.driver (codes "@eth") Kind.Net net.rx_capacity caps.0) (free_queue plan (codes "eth.rx.active") (codes "@eth") net.driver Kind.Net net.rx_capacity caps.0) in
-    let eth_tx = two_of plan (queue_in plan None 0 (codes "eth.tx.active") Kind.Net net.driver (codes "@eth") net.tx_capacity) (queue_in plan None 0 (codes "eth.tx.free") Kind.Net (codes "@eth") net.driver net.tx_capacity)
-    (free_queue plan (codes "eth.tx.active") net.driver (codes "@eth") Kind.Net net.tx_capacity caps.1) (free_queue plan (codes "eth.tx.free") (codes "@eth") net.driver Kind.Net net.tx_capacity caps.1) in
-    let rx = net_pair plan net.rx_queues (codes "net.rx.active") (codes "net.rx.free") net.driver net.rx_virt net.rx_capacity caps.0 (no-need plan needs 1 (net.rx_queues, net_queues_size net.rx_capacity) fine refl) in
-    let tx = net_pair plan net.tx_queues (codes "net.tx.active") (codes "net.tx.free") net.tx_virt net.driver net.tx_capacity caps.1 (no-need plan needs 2 (net.tx_queues, net_queues_size net.tx_capacity) fine refl) in
+    let eth_rx = two_of plan (queue_in plan None 0 (codes "eth.rx.free") Kind.Net (actor_named plan net.driver) (eth_number plan) net.rx_capacity) (queue_in plan None 0 (codes "eth.rx.active") Kind.Net (eth_number plan) (actor_named plan net.driver) net.rx_capacity)
+    (free_queue plan (codes "eth.rx.free") (actor_named plan net.driver) (eth_number plan) Kind.Net net.rx_capacity caps.0) (free_queue plan (codes "eth.rx.active") (eth_number plan) (actor_named plan net.driver) Kind.Net net.rx_capacity caps.0) in
+    let eth_tx = two_of plan (queue_in plan None 0 (codes "eth.tx.active") Kind.Net (actor_named plan net.driver) (eth_number plan) net.tx_capacity) (queue_in plan None 0 (codes "eth.tx.free") Kind.Net (eth_number plan) (actor_named plan net.driver) net.tx_capacity)
+    (free_queue plan (codes "eth.tx.active") (actor_named plan net.driver) (eth_number plan) Kind.Net net.tx_capacity caps.1) (free_queue plan (codes "eth.tx.free") (eth_number plan) (actor_named plan net.driver) Kind.Net net.tx_capacity caps.1) in
+    let rx = net_pair plan net.rx_queues (codes "net.rx.active") (codes "net.rx.free") (actor_named plan net.driver) (actor_named plan net.rx_virt) net.rx_capacity caps.0 (no-need plan needs 1 (net.rx_queues, net_queues_size net.rx_capacity) fine refl) in
+    let tx = net_pair plan net.tx_queues (codes "net.tx.active") (codes "net.tx.free") (actor_named plan net.tx_virt) (actor_named plan net.driver) net.tx_capacity caps.1 (no-need plan needs 2 (net.tx_queues, net_queues_size net.tx_capacity) fine refl) in
     let clients = all-clients (IsSoundQueue plan) (net_client_queues plan net) 0 net.client
     (λ k (client : NetClient) there. subst (λ n. All (IsSoundQueue plan) (net_client_queues plan net n client)) (let e : k ≡ 0 + k = omega arith in e) (net_client_sound plan net valid is k client there)) in
     both plan (eth_rx_queues plan net ++ eth_tx_queues plan net ++ net_rx_queues plan net ++ net_tx_queues plan net) (each_client (net_client_queues plan net) 0 net.client)
@@ -157,11 +158,11 @@ unfolding serial_client_queues
 serial_client_sound plan serial valid is c client there =
     let own = serial_client_capacities plan serial c client valid is there in
     let fine = serial_client_fine plan serial c client valid is there in
-    two_of plan (queue_in plan (region_named plan client.rx_queues) 0 (client_name (codes "serial.") c (codes ".rx")) Kind.Byte serial.rx_virt client.pd client.rx_capacity)
-    (queue_in plan (region_named plan client.tx_queues) 0 (client_name (codes "serial.") c (codes ".tx")) Kind.Byte client.pd serial.tx_virt client.tx_capacity)
-    (only plan client.rx_queues (client_name (codes "serial.") c (codes ".rx")) serial.rx_virt client.pd client.rx_capacity own.0
+    two_of plan (queue_in plan (region_named plan client.rx_queues) 0 (client_name (codes "serial.") c (codes ".rx")) Kind.Byte (actor_named plan serial.rx_virt) (actor_named plan client.pd) client.rx_capacity)
+    (queue_in plan (region_named plan client.tx_queues) 0 (client_name (codes "serial.") c (codes ".tx")) Kind.Byte (actor_named plan client.pd) (actor_named plan serial.tx_virt) client.tx_capacity)
+    (only plan client.rx_queues (client_name (codes "serial.") c (codes ".rx")) (actor_named plan serial.rx_virt) (actor_named plan client.pd) client.rx_capacity own.0
     (no-need plan (serial_client_needs client) 0 (client.rx_queues, byte_queue_size client.rx_capacity) fine refl))
-    (only plan client.tx_queues (client_name (codes "serial.") c (codes ".tx")) client.pd serial.tx_virt client.tx_capacity own.1
+    (only plan client.tx_queues (client_name (codes "serial.") c (codes ".tx")) (actor_named plan client.pd) (actor_named plan serial.tx_virt) client.tx_capacity own.1
     (no-need plan (serial_client_needs client) 1 (client.tx_queues, byte_queue_size client.tx_capacity) fine refl))
 
 serial_sound : (plan : Plan) → Valid plan → (serial : Serial) → plan.serial ≡ Some serial → All (IsSoundQueue plan) (serial_queues plan serial)
@@ -169,13 +170,13 @@ unfolding serial_queues uart_queues shared_serial_queues
 serial_sound plan valid serial is =
     let caps = serial_capacities plan serial valid is in
     let fine = serial_fine plan serial valid is in
-    let uart = two_of plan (queue_in plan None 0 (codes "uart.rx") Kind.Byte (codes "@uart") serial.driver serial.rx_capacity) (queue_in plan None 0 (codes "uart.tx") Kind.Byte serial.driver (codes "@uart") serial.tx_capacity)
-    (free_queue plan (codes "uart.rx") (codes "@uart") serial.driver Kind.Byte serial.rx_capacity caps.0) (free_queue plan (codes "uart.tx") serial.driver (codes "@uart") Kind.Byte serial.tx_capacity caps.1) in
-    let shared = two_of plan (queue_in plan (region_named plan serial.rx_queues) 0 (codes "serial.rx") Kind.Byte serial.driver serial.rx_virt serial.rx_capacity)
-    (queue_in plan (region_named plan serial.tx_queues) 0 (codes "serial.tx") Kind.Byte serial.tx_virt serial.driver serial.tx_capacity)
-    (only plan serial.rx_queues (codes "serial.rx") serial.driver serial.rx_virt serial.rx_capacity caps.0
+    let uart = two_of plan (queue_in plan None 0 (codes "uart.rx") Kind.Byte (uart_number plan) (actor_named plan serial.driver) serial.rx_capacity) (queue_in plan None 0 (codes "uart.tx") Kind.Byte (actor_named plan serial.driver) (uart_number plan) serial.tx_capacity)
+    (free_queue plan (codes "uart.rx") (uart_number plan) (actor_named plan serial.driver) Kind.Byte serial.rx_capacity caps.0) (free_queue plan (codes "uart.tx") (actor_named plan serial.driver) (uart_number plan) Kind.Byte serial.tx_capacity caps.1) in
+    let shared = two_of plan (queue_in plan (region_named plan serial.rx_queues) 0 (codes "serial.rx") Kind.Byte (actor_named plan serial.driver) (actor_named plan serial.rx_virt) serial.rx_capacity)
+    (queue_in plan (region_named plan serial.tx_queues) 0 (codes "serial.tx") Kind.Byte (actor_named plan serial.tx_virt) (actor_named plan serial.driver) serial.tx_capacity)
+    (only plan serial.rx_queues (codes "serial.rx") (actor_named plan serial.driver) (actor_named plan serial.rx_virt) serial.rx_capacity caps.0
     (no-need plan (serial_needs serial) 0 (serial.rx_queues, byte_queue_size serial.rx_capacity) fine refl))
-    (only plan serial.tx_queues (codes "serial.tx") serial.tx_virt serial.driver serial.tx_capacity caps.1
+    (only plan serial.tx_queues (codes "serial.tx") (actor_named plan serial.tx_virt) (actor_named plan serial.driver) serial.tx_capacity caps.1
     (no-need plan (serial_needs serial) 1 (serial.tx_queues, byte_queue_size serial.tx_capacity) fine refl)) in
     let clients = all-clients (IsSoundQueue plan) (serial_client_queues plan serial) 0 serial.client
     (λ k (client : SerialClient) there. subst (λ n. All (IsSoundQueue plan) (serial_client_queues plan serial n client)) (let e : k ≡ 0 + k = omega arith in e) (serial_client_sound plan serial valid is k client there)) in
@@ -186,7 +187,7 @@ blk_client_sound : (plan : Plan) (blk : Blk) → Valid plan → plan.blk ≡ Som
     → All (IsSoundQueue plan) (blk_client_queues plan blk c client)
 unfolding blk_client_queues
 blk_client_sound plan blk valid is c client there =
-    blk_pair plan client.queues (client_name (codes "blk.") c (codes ".req")) (client_name (codes "blk.") c (codes ".resp")) client.pd blk.virt client.capacity
+    blk_pair plan client.queues (client_name (codes "blk.") c (codes ".req")) (client_name (codes "blk.") c (codes ".resp")) (actor_named plan client.pd) (actor_named plan blk.virt) client.capacity
     (blk_client_capacity plan blk c client valid is there)
     (no-need plan (blk_client_needs client) 1 (client.queues, blk_queues_size client.capacity) (blk_client_fine plan blk c client valid is there) refl)
 
@@ -194,9 +195,9 @@ blk_sound : (plan : Plan) → Valid plan → (blk : Blk) → plan.blk ≡ Some b
 unfolding blk_queues disk_queues shared_blk_queues
 blk_sound plan valid blk is =
     let cap = blk_capacity plan blk valid is in
-    let disk = two_of plan (queue_in plan None 0 (codes "disk.req") Kind.Req blk.driver (codes "@disk") blk.capacity) (queue_in plan None 0 (codes "disk.resp") Kind.Resp (codes "@disk") blk.driver blk.capacity)
-    (free_queue plan (codes "disk.req") blk.driver (codes "@disk") Kind.Req blk.capacity cap) (free_queue plan (codes "disk.resp") (codes "@disk") blk.driver Kind.Resp blk.capacity cap) in
-    let shared = blk_pair plan blk.queues (codes "blk.req") (codes "blk.resp") blk.virt blk.driver blk.capacity cap
+    let disk = two_of plan (queue_in plan None 0 (codes "disk.req") Kind.Req (actor_named plan blk.driver) (disk_number plan) blk.capacity) (queue_in plan None 0 (codes "disk.resp") Kind.Resp (disk_number plan) (actor_named plan blk.driver) blk.capacity)
+    (free_queue plan (codes "disk.req") (actor_named plan blk.driver) (disk_number plan) Kind.Req blk.capacity cap) (free_queue plan (codes "disk.resp") (disk_number plan) (actor_named plan blk.driver) Kind.Resp blk.capacity cap) in
+    let shared = blk_pair plan blk.queues (codes "blk.req") (codes "blk.resp") (actor_named plan blk.virt) (actor_named plan blk.driver) blk.capacity cap
     (no-need plan (blk_needs blk) 0 (blk.queues, blk_queues_size blk.capacity) (blk_fine plan blk valid is) refl) in
     let clients = all-clients (IsSoundQueue plan) (blk_client_queues plan blk) 0 blk.client
     (λ k (client : BlkClient) there. subst (λ n. All (IsSoundQueue plan) (blk_client_queues plan blk n client)) (let e : k ≡ 0 + k = omega arith in e) (blk_client_sound plan blk valid is k client there)) in

@@ -20,7 +20,8 @@ use Rattle.sdf_check.specs.Shares.{round_up, net_queues_size, byte_queue_size, b
 use Rattle.sdf_check.specs.Valid.{Valid}
 use Rattle.sdf_check.proofs.ListLemmas.{get-either}
 use Rattle.sdf_check.proofs.SweepLemmas.{some-inj, none-is-some}
-use Rattle.region_layout.specs.Rows.{entry_size, queue_span, queue_in, queue_pair, eth_rx_queues, eth_tx_queues, net_rx_queues, net_tx_queues, lease_queues, client_rx_queues, client_tx_queues, net_client_queues, net_queues, uart_queues, shared_serial_queues, serial_client_queues, serial_queues, disk_queues, shared_blk_queues, blk_client_queues, blk_queues, queues_of, pool_in, net_buffer, blk_buffer, net_client_pools, net_pools, blk_client_pools, blk_pools, pools_of, each_client, client_name}
+use Rattle.wire_core.specs.declared.names.ActorId.{ActorId}
+use Rattle.region_layout.specs.Rows.{actor_named, eth_number, uart_number, disk_number, entry_size, queue_span, queue_in, queue_pair, eth_rx_queues, eth_tx_queues, net_rx_queues, net_tx_queues, lease_queues, client_rx_queues, client_tx_queues, net_client_queues, net_queues, uart_queues, shared_serial_queues, serial_client_queues, serial_queues, disk_queues, shared_blk_queues, blk_client_queues, blk_queues, queues_of, pool_in, net_buffer, blk_buffer, net_client_pools, net_pools, blk_client_pools, blk_pools, pools_of, each_client, client_name}
 use Rattle.layout_laws.specs.Sound.{queue_range, pool_range, ranges_of}
 use Rattle.layout_laws.proofs.Found.{no-need}
 use Rattle.layout_laws.proofs.Queues.{net_fine, net_client_fine, serial_fine, serial_client_fine, blk_fine, blk_client_fine}
@@ -37,26 +38,26 @@ QueueSpread plan low high rows = Spread plan (queue_range plan) (NotPool plan) l
 abbrev PoolSpread : Plan → ℕ → ℕ → List PoolRow → Type 0
 PoolSpread plan low high rows = Spread plan pool_range (IsPool plan) low high rows
 
-device : (plan : Plan) (low high : ℕ) (first second from to other back : List ℕ) (kind more : QueueKind) (capacity : ℕ)
+device : (plan : Plan) (low high : ℕ) (first second : List ℕ) (from to other back : ActorId) (kind more : QueueKind) (capacity : ℕ)
     → QueueSpread plan low high (queue_in plan None 0 first kind from to capacity ∷ queue_in plan None 0 second more other back capacity ∷ [])
 unfolding queue_range queue_in
 device plan low high first second from to other back kind more capacity =
     spread-free plan (queue_range plan) (NotPool plan) low high (queue_in plan None 0 first kind from to capacity) (queue_in plan None 0 second more other back capacity) refl refl
 
-two-devices : (plan : Plan) (low high : ℕ) (first second from to other back : List ℕ) (capacity more : ℕ)
+two-devices : (plan : Plan) (low high : ℕ) (first second : List ℕ) (from to other back : ActorId) (capacity more : ℕ)
     → QueueSpread plan low high (queue_in plan None 0 first Kind.Byte from to capacity ∷ queue_in plan None 0 second Kind.Byte other back more ∷ [])
 unfolding queue_range queue_in
 two-devices plan low high first second from to other back capacity more =
     spread-free plan (queue_range plan) (NotPool plan) low high (queue_in plan None 0 first Kind.Byte from to capacity) (queue_in plan None 0 second Kind.Byte other back more) refl refl
 
-only : (plan : Plan) (key : ℕ) (region name from to : List ℕ) (capacity : ℕ) → NotPool plan key → slice_get (class_regions plan) key ≡ Some region → (IsSmaller plan (region, byte_queue_size capacity) → ⊥)
+only : (plan : Plan) (key : ℕ) (region name : List ℕ) (from to : ActorId) (capacity : ℕ) → NotPool plan key → slice_get (class_regions plan) key ≡ Some region → (IsSmaller plan (region, byte_queue_size capacity) → ⊥)
     → QueueSpread plan key (key + 1) (queue_in plan (region_named plan region) 0 name Kind.Byte from to capacity ∷ [])
 unfolding queue_range queue_in
 only plan key region name from to capacity queue at large =
     spread-one plan (queue_range plan) (NotPool plan) key (queue_in plan (region_named plan region) 0 name Kind.Byte from to capacity) queue
     (λ a is. part-held plan key region (byte_queue_size capacity) 0 (64 + 1 * capacity) a at large (omega arith) is)
 
-pair : (plan : Plan) (key : ℕ) (region first second from to : List ℕ) (kind back : QueueKind) (capacity : ℕ) → NotPool plan key → slice_get (class_regions plan) key ≡ Some region
+pair : (plan : Plan) (key : ℕ) (region first second : List ℕ) (from to : ActorId) (kind back : QueueKind) (capacity : ℕ) → NotPool plan key → slice_get (class_regions plan) key ≡ Some region
     → (IsSmaller plan (region, round_up (64 + entry_size kind * capacity) + (64 + entry_size back * capacity)) → ⊥)
     → QueueSpread plan key (key + 1) (queue_pair plan region first kind second back from to capacity)
 unfolding queue_range queue_in queue_pair queue_span
@@ -91,13 +92,13 @@ net-client-queues plan net valid is c client there =
     let third : start + 2 < serial_at plan = omega (arith, begins, inside) in
     let fifth : start + 4 < serial_at plan = omega (arith, begins, inside) in
     let zeroth : start + 0 ≡ start = add-zero start in
-    let lease = pair plan start client.lease_queues (client_name (codes "net.") c (codes ".lease.active")) (client_name (codes "net.") c (codes ".lease.free")) net.rx_virt client.copier Kind.Net Kind.Net net.rx_capacity
+    let lease = pair plan start client.lease_queues (client_name (codes "net.") c (codes ".lease.active")) (client_name (codes "net.") c (codes ".lease.free")) (actor_named plan net.rx_virt) (actor_named plan client.copier) Kind.Net Kind.Net net.rx_capacity
     (net-client-queue plan start c first (inl refl)) (subst (λ n. slice_get (class_regions plan) n ≡ Some client.lease_queues) zeroth (net-client-key plan net c 0 client client.lease_queues is there refl))
     (no-need plan needs 0 (client.lease_queues, net_queues_size net.rx_capacity) fine refl) in
-    let rx = pair plan (start + 2) client.rx_queues (client_name (codes "net.") c (codes ".rx.active")) (client_name (codes "net.") c (codes ".rx.free")) client.copier client.pd Kind.Net Kind.Net client.rx_capacity
+    let rx = pair plan (start + 2) client.rx_queues (client_name (codes "net.") c (codes ".rx.active")) (client_name (codes "net.") c (codes ".rx.free")) (actor_named plan client.copier) (actor_named plan client.pd) Kind.Net Kind.Net client.rx_capacity
     (net-client-queue plan (start + 2) c third (inr (inl refl))) (net-client-key plan net c 2 client client.rx_queues is there refl)
     (no-need plan needs 2 (client.rx_queues, net_queues_size client.rx_capacity) fine refl) in
-    let tx = pair plan (start + 4) client.tx_queues (client_name (codes "net.") c (codes ".tx.active")) (client_name (codes "net.") c (codes ".tx.free")) client.pd net.tx_virt Kind.Net Kind.Net client.tx_capacity
+    let tx = pair plan (start + 4) client.tx_queues (client_name (codes "net.") c (codes ".tx.active")) (client_name (codes "net.") c (codes ".tx.free")) (actor_named plan client.pd) (actor_named plan net.tx_virt) Kind.Net Kind.Net client.tx_capacity
     (net-client-queue plan (start + 4) c fifth (inr (inr refl))) (net-client-key plan net c 4 client client.tx_queues is there refl)
     (no-need plan needs 4 (client.tx_queues, net_queues_size client.tx_capacity) fine refl) in
     let ends : start + 4 + 1 ≡ 3 + 5 * suc c = omega arith in
@@ -118,11 +119,11 @@ net-spread plan valid net is =
     let begins = serial-begins plan net is in
     let one : 1 < serial_at plan = omega (arith, begins) in
     let two : 2 < serial_at plan = omega (arith, begins) in
-    let eth_rx = device plan 0 1 (codes "eth.rx.free") (codes "eth.rx.active") net.driver (codes "@eth") (codes "@eth") net.driver Kind.Net Kind.Net net.rx_capacity in
-    let eth_tx = device plan 1 1 (codes "eth.tx.active") (codes "eth.tx.free") net.driver (codes "@eth") (codes "@eth") net.driver Kind.Net Kind.Net net.tx_capacity in
-    let rx = pair plan 1 net.rx_queues (codes "net.rx.active") (codes "net.rx.free") net.driver net.rx_virt Kind.Net Kind.Net net.rx_capacity (net-queue plan 1 one (inl refl)) (net-key plan net 1 net.rx_queues is refl)
+    let eth_rx = device plan 0 1 (codes "eth.rx.free") (codes "eth.rx.active") (actor_named plan net.driver) (eth_number plan) (eth_number plan) (actor_named plan net.driver) Kind.Net Kind.Net net.rx_capacity in
+    let eth_tx = device plan 1 1 (codes "eth.tx.active") (codes "eth.tx.free") (actor_named plan net.driver) (eth_number plan) (eth_number plan) (actor_named plan net.driver) Kind.Net Kind.Net net.tx_capacity in
+    let rx = pair plan 1 net.rx_queues (codes "net.rx.active") (codes "net.rx.free") (actor_named plan net.driver) (actor_named plan net.rx_virt) Kind.Net Kind.Net net.rx_capacity (net-queue plan 1 one (inl refl)) (net-key plan net 1 net.rx_queues is refl)
     (no-need plan needs 1 (net.rx_queues, net_queues_size net.rx_capacity) fine refl) in
-    let tx = pair plan 2 net.tx_queues (codes "net.tx.active") (codes "net.tx.free") net.tx_virt net.driver Kind.Net Kind.Net net.tx_capacity (net-queue plan 2 two (inr refl)) (net-key plan net 2 net.tx_queues is refl)
+    let tx = pair plan 2 net.tx_queues (codes "net.tx.active") (codes "net.tx.free") (actor_named plan net.tx_virt) (actor_named plan net.driver) Kind.Net Kind.Net net.tx_capacity (net-queue plan 2 two (inr refl)) (net-key plan net 2 net.tx_queues is refl)
     (no-need plan needs 2 (net.tx_queues, net_queues_size net.tx_capacity) fine refl) in
     let clients = spread-clients plan (queue_range plan) (NotPool plan) (net_client_queues plan net) (λ k. 3 + 5 * k) 0 net.client valid (λ k. omega arith)
     (λ k (client : NetClient) there. subst (λ n. QueueSpread plan (3 + 5 * k) (3 + 5 * suc k) (net_client_queues plan net n client)) (sym (zero-add k)) (net-client-queues plan net valid is k client there)) in
@@ -145,12 +146,12 @@ serial-client-queues plan serial valid is c client there =
     let low' : serial_at plan ≤ start + 1 = omega arith in
     let high : start < blk_at plan = omega (arith, ends, inside) in
     let high' : start + 1 < blk_at plan = omega (arith, ends, inside) in
-    let first = queue_in plan (region_named plan client.rx_queues) 0 (client_name (codes "serial.") c (codes ".rx")) Kind.Byte serial.rx_virt client.pd client.rx_capacity in
-    let second = queue_in plan (region_named plan client.tx_queues) 0 (client_name (codes "serial.") c (codes ".tx")) Kind.Byte client.pd serial.tx_virt client.tx_capacity in
-    let rx = only plan start client.rx_queues (client_name (codes "serial.") c (codes ".rx")) serial.rx_virt client.pd client.rx_capacity (serial-queue plan start low high)
+    let first = queue_in plan (region_named plan client.rx_queues) 0 (client_name (codes "serial.") c (codes ".rx")) Kind.Byte (actor_named plan serial.rx_virt) (actor_named plan client.pd) client.rx_capacity in
+    let second = queue_in plan (region_named plan client.tx_queues) 0 (client_name (codes "serial.") c (codes ".tx")) Kind.Byte (actor_named plan client.pd) (actor_named plan serial.tx_virt) client.tx_capacity in
+    let rx = only plan start client.rx_queues (client_name (codes "serial.") c (codes ".rx")) (actor_named plan serial.rx_virt) (actor_named plan client.pd) client.rx_capacity (serial-queue plan start low high)
     (subst (λ n. slice_get (class_regions plan) n ≡ Some client.rx_queues) (add-zero start) (serial-client-key plan serial c 0 client client.rx_queues is there refl))
     (no-need plan needs 0 (client.rx_queues, byte_queue_size client.rx_capacity) fine refl) in
-    let tx = only plan (start + 1) client.tx_queues (client_name (codes "serial.") c (codes ".tx")) client.pd serial.tx_virt client.tx_capacity (serial-queue plan (start + 1) low' high')
+    let tx = only plan (start + 1) client.tx_queues (client_name (codes "serial.") c (codes ".tx")) (actor_named plan client.pd) (actor_named plan serial.tx_virt) client.tx_capacity (serial-queue plan (start + 1) low' high')
     (serial-client-key plan serial c 1 client client.tx_queues is there refl) (no-need plan needs 1 (client.tx_queues, byte_queue_size client.tx_capacity) fine refl) in
     let same : start + 1 + 1 ≡ serial_at plan + 2 + 2 * suc c = omega arith in
     subst (λ n. QueueSpread plan start n (first ∷ second ∷ [])) same
@@ -174,13 +175,13 @@ serial-spread plan valid serial is =
     let low' : from ≤ from + 1 = omega arith in
     let high : from < blk_at plan = omega (arith, ends) in
     let high' : from + 1 < blk_at plan = omega (arith, ends) in
-    let uart = two-devices plan from from (codes "uart.rx") (codes "uart.tx") (codes "@uart") serial.driver serial.driver (codes "@uart") serial.rx_capacity serial.tx_capacity in
-    let first = queue_in plan (region_named plan serial.rx_queues) 0 (codes "serial.rx") Kind.Byte serial.driver serial.rx_virt serial.rx_capacity in
-    let second = queue_in plan (region_named plan serial.tx_queues) 0 (codes "serial.tx") Kind.Byte serial.tx_virt serial.driver serial.tx_capacity in
-    let rx = only plan from serial.rx_queues (codes "serial.rx") serial.driver serial.rx_virt serial.rx_capacity (serial-queue plan from low high)
+    let uart = two-devices plan from from (codes "uart.rx") (codes "uart.tx") (uart_number plan) (actor_named plan serial.driver) (actor_named plan serial.driver) (uart_number plan) serial.rx_capacity serial.tx_capacity in
+    let first = queue_in plan (region_named plan serial.rx_queues) 0 (codes "serial.rx") Kind.Byte (actor_named plan serial.driver) (actor_named plan serial.rx_virt) serial.rx_capacity in
+    let second = queue_in plan (region_named plan serial.tx_queues) 0 (codes "serial.tx") Kind.Byte (actor_named plan serial.tx_virt) (actor_named plan serial.driver) serial.tx_capacity in
+    let rx = only plan from serial.rx_queues (codes "serial.rx") (actor_named plan serial.driver) (actor_named plan serial.rx_virt) serial.rx_capacity (serial-queue plan from low high)
     (subst (λ n. slice_get (class_regions plan) n ≡ Some serial.rx_queues) (add-zero from) (serial-key plan serial 0 serial.rx_queues is refl))
     (no-need plan needs 0 (serial.rx_queues, byte_queue_size serial.rx_capacity) fine refl) in
-    let tx = only plan (from + 1) serial.tx_queues (codes "serial.tx") serial.tx_virt serial.driver serial.tx_capacity (serial-queue plan (from + 1) low' high')
+    let tx = only plan (from + 1) serial.tx_queues (codes "serial.tx") (actor_named plan serial.tx_virt) (actor_named plan serial.driver) serial.tx_capacity (serial-queue plan (from + 1) low' high')
     (serial-key plan serial 1 serial.tx_queues is refl) (no-need plan needs 1 (serial.tx_queues, byte_queue_size serial.tx_capacity) fine refl) in
     let shared : QueueSpread plan from (from + 1 + 1) (first ∷ second ∷ []) = both plan from (from + 1) (from + 1 + 1) (first ∷ []) (second ∷ []) valid (omega arith) (omega arith) rx tx in
     let middle : from + 1 + 1 ≡ from + 2 + 2 * 0 = omega arith in
@@ -201,7 +202,7 @@ blk-client-queues : (plan : Plan) (blk : Blk) → Valid plan → plan.blk ≡ So
 unfolding blk_client_queues
 blk-client-queues plan blk valid is c client there =
     let start = blk_at plan + 2 + 2 * c in
-    let s = pair plan (start + 1) client.queues (client_name (codes "blk.") c (codes ".req")) (client_name (codes "blk.") c (codes ".resp")) client.pd blk.virt Kind.Req Kind.Resp client.capacity
+    let s = pair plan (start + 1) client.queues (client_name (codes "blk.") c (codes ".req")) (client_name (codes "blk.") c (codes ".resp")) (actor_named plan client.pd) (actor_named plan blk.virt) Kind.Req Kind.Resp client.capacity
     (blk-queue plan (start + 1) c (inr refl)) (blk-client-key plan blk c 1 client client.queues is there refl)
     (no-need plan (blk_client_needs client) 1 (client.queues, blk_queues_size client.capacity) (blk_client_fine plan blk c client valid is there) refl) in (
       λ i x a at e.
@@ -217,8 +218,8 @@ blk-spread : (plan : Plan) → Valid plan → (blk : Blk) → plan.blk ≡ Some 
 unfolding blk_queues disk_queues shared_blk_queues
 blk-spread plan valid blk is =
     let from = blk_at plan in
-    let disk = device plan from from (codes "disk.req") (codes "disk.resp") blk.driver (codes "@disk") (codes "@disk") blk.driver Kind.Req Kind.Resp blk.capacity in
-    let s = pair plan from blk.queues (codes "blk.req") (codes "blk.resp") blk.virt blk.driver Kind.Req Kind.Resp blk.capacity (blk-queue plan from 0 (inl refl))
+    let disk = device plan from from (codes "disk.req") (codes "disk.resp") (actor_named plan blk.driver) (disk_number plan) (disk_number plan) (actor_named plan blk.driver) Kind.Req Kind.Resp blk.capacity in
+    let s = pair plan from blk.queues (codes "blk.req") (codes "blk.resp") (actor_named plan blk.virt) (actor_named plan blk.driver) Kind.Req Kind.Resp blk.capacity (blk-queue plan from 0 (inl refl))
     (subst (λ n. slice_get (class_regions plan) n ≡ Some blk.queues) (add-zero from) (blk-key plan blk 0 blk.queues is refl))
     (no-need plan (blk_needs blk) 0 (blk.queues, blk_queues_size blk.capacity) (blk_fine plan blk valid is) refl) in
     let shared : QueueSpread plan from (from + 2 + 2 * 0) (shared_blk_queues plan blk) =

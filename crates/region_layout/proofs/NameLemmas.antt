@@ -7,7 +7,7 @@ use Rattle.sdf_model.specs.declared.plan.Plan.{Plan}
 use Rattle.sdf_model.specs.declared.plan.Domain.{Domain}
 use Rattle.sdf_model.specs.declared.plan.Region.{Region}
 use Rattle.sdf_check.specs.Names.{place_of, region_names_of}
-use Rattle.region_layout.specs.Rows.{acts, name_if, devices_of, actors_of}
+use Rattle.region_layout.specs.Rows.{acts, name_if, devices_of, actors_of, one_if, acting_count}
 
 at_first : {T : Type 0} (p : T → Bool) (xs : List T) (k : ℕ) (x : T) → slice_get xs k ≡ Some x → p x ≡ true
     → ((j : ℕ) (y : T) → j < k → slice_get xs j ≡ Some y → p y ≡ false) → position_or_len p xs ≡ k
@@ -84,4 +84,19 @@ few_actors plan few =
     let uart = one_name (is_some plan.serial) (codes "@uart") in
     let disk = one_name (is_some plan.blk) (codes "@disk") in
     rw (length-append (map (λ (d : Domain). d.name) (filter acts plan.protection_domain)) (devices_of plan), length-append (name_if (is_some plan.net) (codes "@eth") ++ name_if (is_some plan.serial) (codes "@uart")) (name_if (is_some plan.blk) (codes "@disk")), length-append (name_if (is_some plan.net) (codes "@eth")) (name_if (is_some plan.serial) (codes "@uart")))
+    (omega arith)
+
+name_count : (there : Bool) (name : List ℕ) → length (name_if there name) ≡ one_if there
+name_count true name = refl
+name_count false name = refl
+
+-- the domains that act, and the devices
+pub acting_and_devices : (plan : Plan) → length (actors_of plan) ≡ acting_count plan + one_if (is_some plan.net) + one_if (is_some plan.serial) + one_if (is_some plan.blk)
+unfolding actors_of
+acting_and_devices plan =
+    let names = length_map (λ (d : Domain). d.name) (filter acts plan.protection_domain) in
+    let eth = name_count (is_some plan.net) (codes "@eth") in
+    let uart = name_count (is_some plan.serial) (codes "@uart") in
+    let disk = name_count (is_some plan.blk) (codes "@disk") in
+    rw (length-append (map (λ (d : Domain). d.name) (filter acts plan.protection_domain)) (devices_of plan), length-append (name_if (is_some plan.net) (codes "@eth") ++ name_if (is_some plan.serial) (codes "@uart")) (name_if (is_some plan.blk) (codes "@disk")), length-append (name_if (is_some plan.net) (codes "@eth")) (name_if (is_some plan.serial) (codes "@uart")), names, eth, uart, disk)
     (omega arith)

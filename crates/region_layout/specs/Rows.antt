@@ -1,4 +1,4 @@
-use Rattle.std.specs.Prelude.{ℕ, ◌+◌, ◌*◌, not, Bool, if◌then◌else◌, List, [], ◌∷◌, ◌++◌, map, filter, codes, bytes_eq, slice_index, Option, None, is_some, unwrap_or}
+use Rattle.std.specs.Prelude.{ℕ, ◌+◌, ◌*◌, not, Bool, if◌then◌else◌, List, [], ◌∷◌, ◌++◌, length, map, filter, codes, bytes_eq, slice_index, Option, None, is_some, unwrap_or}
 use Rattle.std.specs.Option.{option_map_or}
 use Rattle.std.specs.Fmt.{decimal}
 use Rattle.cargo_core.specs.declared.item.QueueKind.{QueueKind}
@@ -33,9 +33,29 @@ devices_of plan = name_if (is_some plan.net) (codes "@eth") ++ name_if (is_some 
 unfoldable pub actors_of : Plan → List (List ℕ)
 actors_of plan = map (λ (d : Domain). d.name) (filter acts plan.protection_domain) ++ devices_of plan
 
--- the number of an actor, by its name
+-- the number of a domain that acts, by its name
 unfoldable pub actor_named : Plan → List ℕ → ActorId
 actor_named plan name = record { 0 = unwrap_or (place_of name (actors_of plan)) 0 }
+
+-- whether a class is there, as a number
+abbrev pub one_if : Bool → ℕ
+one_if there = if there then 1 else 0
+
+-- how many domains act: the devices are numbered behind them, each behind those of the classes before its own
+abbrev pub acting_count : Plan → ℕ
+acting_count plan = length (filter acts plan.protection_domain)
+
+-- the number of the Ethernet device
+unfoldable pub eth_number : Plan → ActorId
+eth_number plan = record { 0 = acting_count plan }
+
+-- the number of the UART
+unfoldable pub uart_number : Plan → ActorId
+uart_number plan = record { 0 = acting_count plan + one_if (is_some plan.net) }
+
+-- the number of the disk
+unfoldable pub disk_number : Plan → ActorId
+disk_number plan = record { 0 = acting_count plan + one_if (is_some plan.net) + one_if (is_some plan.serial) }
 
 -- the bytes of an entry
 abbrev pub entry_size : QueueKind → ℕ
@@ -49,27 +69,27 @@ unfoldable pub queue_span : QueueKind → ℕ → ℕ
 queue_span kind capacity = round_up (64 + entry_size kind * capacity) 64
 
 -- a queue between two actors, in a region from an offset on
-unfoldable pub queue_in : Plan → Option ℕ → ℕ → List ℕ → QueueKind → List ℕ → List ℕ → ℕ → QueueRow
+unfoldable pub queue_in : Plan → Option ℕ → ℕ → List ℕ → QueueKind → ActorId → ActorId → ℕ → QueueRow
 queue_in plan region offset name kind producer consumer capacity = record {
   name = name;
   kind = kind;
   capacity = capacity;
-  producer = actor_named plan producer;
-  consumer = actor_named plan consumer;
+  producer = producer;
+  consumer = consumer;
   region = region;
   offset = offset;
 }
 
 -- a queue that a device shares with its driver: it stands in no region
-abbrev pub device_queue : Plan → List ℕ → QueueKind → List ℕ → List ℕ → ℕ → QueueRow
+abbrev pub device_queue : Plan → List ℕ → QueueKind → ActorId → ActorId → ℕ → QueueRow
 device_queue plan name kind producer consumer capacity = queue_in plan None 0 name kind producer consumer capacity
 
 -- the only queue of a region
-abbrev pub only_queue : Plan → List ℕ → List ℕ → QueueKind → List ℕ → List ℕ → ℕ → QueueRow
+abbrev pub only_queue : Plan → List ℕ → List ℕ → QueueKind → ActorId → ActorId → ℕ → QueueRow
 only_queue plan key name kind producer consumer capacity = queue_in plan (region_named plan key) 0 name kind producer consumer capacity
 
 -- the two queues of a region between two actors: the first from one to the other, the second behind it and back
-unfoldable pub queue_pair : Plan → List ℕ → List ℕ → QueueKind → List ℕ → QueueKind → List ℕ → List ℕ → ℕ → List QueueRow
+unfoldable pub queue_pair : Plan → List ℕ → List ℕ → QueueKind → List ℕ → QueueKind → ActorId → ActorId → ℕ → List QueueRow
 queue_pair plan key first kind second kind_back from to capacity =
     queue_in plan (region_named plan key) 0 first kind from to capacity
     ∷ queue_in plan (region_named plan key) (queue_span kind capacity) second kind_back to from capacity ∷ []
@@ -86,33 +106,33 @@ each_client rows c (client ∷ rest) = rows c client ++ each_client rows (c + 1)
 -- the queues between the Ethernet device and its driver
 unfoldable pub eth_rx_queues : Plan → Net → List QueueRow
 eth_rx_queues plan net =
-    device_queue plan (codes "eth.rx.free") Kind.Net net.driver (codes "@eth") net.rx_capacity
-    ∷ device_queue plan (codes "eth.rx.active") Kind.Net (codes "@eth") net.driver net.rx_capacity ∷ []
+    device_queue plan (codes "eth.rx.free") Kind.Net (actor_named plan net.driver) (eth_number plan) net.rx_capacity
+    ∷ device_queue plan (codes "eth.rx.active") Kind.Net (eth_number plan) (actor_named plan net.driver) net.rx_capacity ∷ []
 
 unfoldable pub eth_tx_queues : Plan → Net → List QueueRow
 eth_tx_queues plan net =
-    device_queue plan (codes "eth.tx.active") Kind.Net net.driver (codes "@eth") net.tx_capacity
-    ∷ device_queue plan (codes "eth.tx.free") Kind.Net (codes "@eth") net.driver net.tx_capacity ∷ []
+    device_queue plan (codes "eth.tx.active") Kind.Net (actor_named plan net.driver) (eth_number plan) net.tx_capacity
+    ∷ device_queue plan (codes "eth.tx.free") Kind.Net (eth_number plan) (actor_named plan net.driver) net.tx_capacity ∷ []
 
 -- the queues between the driver and each virtualiser of the network class
 unfoldable pub net_rx_queues : Plan → Net → List QueueRow
-net_rx_queues plan net = queue_pair plan net.rx_queues (codes "net.rx.active") Kind.Net (codes "net.rx.free") Kind.Net net.driver net.rx_virt net.rx_capacity
+net_rx_queues plan net = queue_pair plan net.rx_queues (codes "net.rx.active") Kind.Net (codes "net.rx.free") Kind.Net (actor_named plan net.driver) (actor_named plan net.rx_virt) net.rx_capacity
 
 unfoldable pub net_tx_queues : Plan → Net → List QueueRow
-net_tx_queues plan net = queue_pair plan net.tx_queues (codes "net.tx.active") Kind.Net (codes "net.tx.free") Kind.Net net.tx_virt net.driver net.tx_capacity
+net_tx_queues plan net = queue_pair plan net.tx_queues (codes "net.tx.active") Kind.Net (codes "net.tx.free") Kind.Net (actor_named plan net.tx_virt) (actor_named plan net.driver) net.tx_capacity
 
 -- the queues of a network client: of its leases, of what it receives, and of what it sends
 unfoldable pub lease_queues : Plan → Net → ℕ → NetClient → List QueueRow
 lease_queues plan net c client =
-    queue_pair plan client.lease_queues (client_name (codes "net.") c (codes ".lease.active")) Kind.Net (client_name (codes "net.") c (codes ".lease.free")) Kind.Net net.rx_virt client.copier net.rx_capacity
+    queue_pair plan client.lease_queues (client_name (codes "net.") c (codes ".lease.active")) Kind.Net (client_name (codes "net.") c (codes ".lease.free")) Kind.Net (actor_named plan net.rx_virt) (actor_named plan client.copier) net.rx_capacity
 
 unfoldable pub client_rx_queues : Plan → ℕ → NetClient → List QueueRow
 client_rx_queues plan c client =
-    queue_pair plan client.rx_queues (client_name (codes "net.") c (codes ".rx.active")) Kind.Net (client_name (codes "net.") c (codes ".rx.free")) Kind.Net client.copier client.pd client.rx_capacity
+    queue_pair plan client.rx_queues (client_name (codes "net.") c (codes ".rx.active")) Kind.Net (client_name (codes "net.") c (codes ".rx.free")) Kind.Net (actor_named plan client.copier) (actor_named plan client.pd) client.rx_capacity
 
 unfoldable pub client_tx_queues : Plan → Net → ℕ → NetClient → List QueueRow
 client_tx_queues plan net c client =
-    queue_pair plan client.tx_queues (client_name (codes "net.") c (codes ".tx.active")) Kind.Net (client_name (codes "net.") c (codes ".tx.free")) Kind.Net client.pd net.tx_virt client.tx_capacity
+    queue_pair plan client.tx_queues (client_name (codes "net.") c (codes ".tx.active")) Kind.Net (client_name (codes "net.") c (codes ".tx.free")) Kind.Net (actor_named plan client.pd) (actor_named plan net.tx_virt) client.tx_capacity
 
 unfoldable pub net_client_queues : Plan → Net → ℕ → NetClient → List QueueRow
 net_client_queues plan net c client = lease_queues plan net c client ++ client_rx_queues plan c client ++ client_tx_queues plan net c client
@@ -125,20 +145,20 @@ net_queues plan net =
 -- the queues between the serial device and its driver
 unfoldable pub uart_queues : Plan → Serial → List QueueRow
 uart_queues plan serial =
-    device_queue plan (codes "uart.rx") Kind.Byte (codes "@uart") serial.driver serial.rx_capacity
-    ∷ device_queue plan (codes "uart.tx") Kind.Byte serial.driver (codes "@uart") serial.tx_capacity ∷ []
+    device_queue plan (codes "uart.rx") Kind.Byte (uart_number plan) (actor_named plan serial.driver) serial.rx_capacity
+    ∷ device_queue plan (codes "uart.tx") Kind.Byte (actor_named plan serial.driver) (uart_number plan) serial.tx_capacity ∷ []
 
 -- the queues between the driver and the virtualisers of the serial class
 unfoldable pub shared_serial_queues : Plan → Serial → List QueueRow
 shared_serial_queues plan serial =
-    only_queue plan serial.rx_queues (codes "serial.rx") Kind.Byte serial.driver serial.rx_virt serial.rx_capacity
-    ∷ only_queue plan serial.tx_queues (codes "serial.tx") Kind.Byte serial.tx_virt serial.driver serial.tx_capacity ∷ []
+    only_queue plan serial.rx_queues (codes "serial.rx") Kind.Byte (actor_named plan serial.driver) (actor_named plan serial.rx_virt) serial.rx_capacity
+    ∷ only_queue plan serial.tx_queues (codes "serial.tx") Kind.Byte (actor_named plan serial.tx_virt) (actor_named plan serial.driver) serial.tx_capacity ∷ []
 
 -- the queues of a serial client
 unfoldable pub serial_client_queues : Plan → Serial → ℕ → SerialClient → List QueueRow
 serial_client_queues plan serial c client =
-    only_queue plan client.rx_queues (client_name (codes "serial.") c (codes ".rx")) Kind.Byte serial.rx_virt client.pd client.rx_capacity
-    ∷ only_queue plan client.tx_queues (client_name (codes "serial.") c (codes ".tx")) Kind.Byte client.pd serial.tx_virt client.tx_capacity ∷ []
+    only_queue plan client.rx_queues (client_name (codes "serial.") c (codes ".rx")) Kind.Byte (actor_named plan serial.rx_virt) (actor_named plan client.pd) client.rx_capacity
+    ∷ only_queue plan client.tx_queues (client_name (codes "serial.") c (codes ".tx")) Kind.Byte (actor_named plan client.pd) (actor_named plan serial.tx_virt) client.tx_capacity ∷ []
 
 -- the queues of the serial class
 unfoldable pub serial_queues : Plan → Serial → List QueueRow
@@ -147,17 +167,17 @@ serial_queues plan serial = uart_queues plan serial ++ shared_serial_queues plan
 -- the queues between the disk and its driver
 unfoldable pub disk_queues : Plan → Blk → List QueueRow
 disk_queues plan blk =
-    device_queue plan (codes "disk.req") Kind.Req blk.driver (codes "@disk") blk.capacity
-    ∷ device_queue plan (codes "disk.resp") Kind.Resp (codes "@disk") blk.driver blk.capacity ∷ []
+    device_queue plan (codes "disk.req") Kind.Req (actor_named plan blk.driver) (disk_number plan) blk.capacity
+    ∷ device_queue plan (codes "disk.resp") Kind.Resp (disk_number plan) (actor_named plan blk.driver) blk.capacity ∷ []
 
 -- the queues between the driver and the virtualiser of the block class
 unfoldable pub shared_blk_queues : Plan → Blk → List QueueRow
-shared_blk_queues plan blk = queue_pair plan blk.queues (codes "blk.req") Kind.Req (codes "blk.resp") Kind.Resp blk.virt blk.driver blk.capacity
+shared_blk_queues plan blk = queue_pair plan blk.queues (codes "blk.req") Kind.Req (codes "blk.resp") Kind.Resp (actor_named plan blk.virt) (actor_named plan blk.driver) blk.capacity
 
 -- the queues of a block client
 unfoldable pub blk_client_queues : Plan → Blk → ℕ → BlkClient → List QueueRow
 blk_client_queues plan blk c client =
-    queue_pair plan client.queues (client_name (codes "blk.") c (codes ".req")) Kind.Req (client_name (codes "blk.") c (codes ".resp")) Kind.Resp client.pd blk.virt client.capacity
+    queue_pair plan client.queues (client_name (codes "blk.") c (codes ".req")) Kind.Req (client_name (codes "blk.") c (codes ".resp")) Kind.Resp (actor_named plan client.pd) (actor_named plan blk.virt) client.capacity
 
 -- the queues of the block class
 unfoldable pub blk_queues : Plan → Blk → List QueueRow

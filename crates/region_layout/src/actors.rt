@@ -1,7 +1,7 @@
 ghost use Rattle.std.specs.Prelude.{◌≡◌, ◌+◌, ◌<◌, ◌≤◌, ◌++◌, length, map, filter, codes, IfOk, OnOk, IfSome, slice_index};
 ghost use Rattle.sdf_check.specs.Names.{place_of, region_named, region_names_of};
 ghost use Rattle.region_layout.specs.Bases.{bases_of};
-ghost use Rattle.region_layout.specs.Rows.{acts, actors_of, devices_of, name_if, actor_named};
+ghost use Rattle.region_layout.specs.Rows.{acts, actors_of, devices_of, name_if, actor_named, acting_count, one_if, eth_number, uart_number, disk_number};
 
 use cargo_core::{Memory, Series, Text};
 use sdf_model::{Domain, Plan, Region};
@@ -21,7 +21,44 @@ pub struct Names<'a> {
 }
 
 impl Names<'_> {
-    // The number of an actor.
+    // How many domains act.
+    #[tactic(auto, using(crate::proofs::NameLemmas::acting_and_devices))]
+    fn acting(&self) -> usize
+        ensures count { result ≡ acting_count self.now.plan.now }
+        ensures few { result ≤ 66 }
+    {
+        let net = one_if(self.plan.net.is_some());
+        let serial = one_if(self.plan.serial.is_some());
+        let blk = one_if(self.plan.blk.is_some());
+        self.actors.len() - (net + serial + blk) as usize
+    }
+
+    // The number of the Ethernet device.
+    #[tactic(auto, unfolding(crate::specs::Rows::eth_number))]
+    pub fn eth(&self) -> ActorId
+        ensures { result ≡ eth_number self.now.plan.now }
+    {
+        ActorId(self.acting() as u16)
+    }
+
+    // The number of the UART.
+    #[tactic(auto, unfolding(crate::specs::Rows::uart_number))]
+    pub fn uart(&self) -> ActorId
+        ensures { result ≡ uart_number self.now.plan.now }
+    {
+        ActorId(self.acting() as u16 + one_if(self.plan.net.is_some()))
+    }
+
+    // The number of the disk.
+    #[tactic(auto, unfolding(crate::specs::Rows::disk_number))]
+    pub fn disk(&self) -> ActorId
+        ensures { result ≡ disk_number self.now.plan.now }
+    {
+        let before = one_if(self.plan.net.is_some()) + one_if(self.plan.serial.is_some());
+        ActorId(self.acting() as u16 + before)
+    }
+
+    // The number of a domain that acts.
     #[tactic(auto, unfolding(crate::specs::Rows::actor_named))]
     pub fn actor(&self, name: &str) -> ActorId
         ensures { result ≡ actor_named self.now.plan.now name.now }
@@ -48,6 +85,14 @@ impl Names<'_> {
             None => None,
         }
     }
+}
+
+// Whether a class is there, as a number.
+fn one_if(there: bool) -> u16
+    ensures value { result ≡ one_if there }
+    ensures few { result ≤ 1 }
+{
+    if there { 1 } else { 0 }
 }
 
 // The base of the region of a number; 0 where there is none.

@@ -9,7 +9,7 @@ use crate::bases::round_up;
 use cargo_core::{Memory, QueueKind, Series, Text};
 use sdf_model::{Blk, BlkClient, Net, NetClient, Serial, SerialClient};
 use std::alloc::Global;
-use wire_core::QueueRow;
+use wire_core::{ActorId, QueueRow};
 
 /// The bytes before the first entry of a queue, which are those between which queues begin, too.
 const HEADER: u64 = 64;
@@ -19,8 +19,8 @@ const HEADER: u64 = 64;
 pub struct Wanted<'a> {
     pub name: &'a str,
     pub kind: QueueKind,
-    pub producer: &'a str,
-    pub consumer: &'a str,
+    pub producer: ActorId,
+    pub consumer: ActorId,
     pub capacity: u64,
 }
 
@@ -56,14 +56,14 @@ fn add_queue(
     queue: Wanted<'_>,
 ) -> Result<(), Memory>
     requires { queue.capacity < 2 ^ 32 }
-    ensures { OnOk result (into.new ≡ into.old ++ queue_in names.now.plan.now region offset queue.entry.name.now queue.entry.kind queue.entry.producer.now queue.entry.consumer.now queue.entry.capacity ∷ []) }
+    ensures { OnOk result (into.new ≡ into.old ++ queue_in names.now.plan.now region offset queue.entry.name.now queue.entry.kind queue.entry.producer queue.entry.consumer queue.entry.capacity ∷ []) }
 {
     let row = QueueRow {
         name: Text::new(alloc, queue.name)?,
         kind: queue.kind,
         capacity: queue.capacity as u32,
-        producer: names.actor(queue.producer),
-        consumer: names.actor(queue.consumer),
+        producer: queue.producer,
+        consumer: queue.consumer,
         region,
         offset,
     };
@@ -88,7 +88,7 @@ fn add_pair(
     back: Back<'_>,
 ) -> Result<(), Memory>
     requires { first.capacity < 2 ^ 32 }
-    ensures { OnOk result (into.new ≡ into.old ++ queue_pair names.now.plan.now key.now first.entry.name.now first.entry.kind back.entry.name.now back.entry.kind first.entry.producer.now first.entry.consumer.now first.entry.capacity) }
+    ensures { OnOk result (into.new ≡ into.old ++ queue_pair names.now.plan.now key.now first.entry.name.now first.entry.kind back.entry.name.now back.entry.kind first.entry.producer first.entry.consumer first.entry.capacity) }
 {
     let region = names.region(key.as_str());
     let offset = queue_span(first.kind, first.capacity);
@@ -117,15 +117,15 @@ fn add_eth_rx(
     let free = Wanted {
         name: "eth.rx.free",
         kind: QueueKind::Net,
-        producer: net.driver.as_str(),
-        consumer: "@eth",
+        producer: names.actor(net.driver.as_str()),
+        consumer: names.eth(),
         capacity: net.rx_capacity,
     };
     let active = Wanted {
         name: "eth.rx.active",
         kind: QueueKind::Net,
-        producer: "@eth",
-        consumer: net.driver.as_str(),
+        producer: names.eth(),
+        consumer: names.actor(net.driver.as_str()),
         capacity: net.rx_capacity,
     };
     add_queue(alloc, names, into, None, 0, free)?;
@@ -147,15 +147,15 @@ fn add_eth_tx(
     let active = Wanted {
         name: "eth.tx.active",
         kind: QueueKind::Net,
-        producer: net.driver.as_str(),
-        consumer: "@eth",
+        producer: names.actor(net.driver.as_str()),
+        consumer: names.eth(),
         capacity: net.tx_capacity,
     };
     let free = Wanted {
         name: "eth.tx.free",
         kind: QueueKind::Net,
-        producer: "@eth",
-        consumer: net.driver.as_str(),
+        producer: names.eth(),
+        consumer: names.actor(net.driver.as_str()),
         capacity: net.tx_capacity,
     };
     add_queue(alloc, names, into, None, 0, active)?;
@@ -177,8 +177,8 @@ fn add_net_rx(
     let active = Wanted {
         name: "net.rx.active",
         kind: QueueKind::Net,
-        producer: net.driver.as_str(),
-        consumer: net.rx_virt.as_str(),
+        producer: names.actor(net.driver.as_str()),
+        consumer: names.actor(net.rx_virt.as_str()),
         capacity: net.rx_capacity,
     };
     let free = Back {
@@ -202,8 +202,8 @@ fn add_net_tx(
     let active = Wanted {
         name: "net.tx.active",
         kind: QueueKind::Net,
-        producer: net.tx_virt.as_str(),
-        consumer: net.driver.as_str(),
+        producer: names.actor(net.tx_virt.as_str()),
+        consumer: names.actor(net.driver.as_str()),
         capacity: net.tx_capacity,
     };
     let free = Back {
@@ -232,8 +232,8 @@ fn add_lease(
     let active = Wanted {
         name: first.as_str(),
         kind: QueueKind::Net,
-        producer: net.rx_virt.as_str(),
-        consumer: client.copier.as_str(),
+        producer: names.actor(net.rx_virt.as_str()),
+        consumer: names.actor(client.copier.as_str()),
         capacity: net.rx_capacity,
     };
     let free = Back {
@@ -260,8 +260,8 @@ fn add_client_rx(
     let active = Wanted {
         name: first.as_str(),
         kind: QueueKind::Net,
-        producer: client.copier.as_str(),
-        consumer: client.pd.as_str(),
+        producer: names.actor(client.copier.as_str()),
+        consumer: names.actor(client.pd.as_str()),
         capacity: client.rx_capacity,
     };
     let free = Back {
@@ -289,8 +289,8 @@ fn add_client_tx(
     let active = Wanted {
         name: first.as_str(),
         kind: QueueKind::Net,
-        producer: client.pd.as_str(),
-        consumer: net.tx_virt.as_str(),
+        producer: names.actor(client.pd.as_str()),
+        consumer: names.actor(net.tx_virt.as_str()),
         capacity: client.tx_capacity,
     };
     let free = Back {
@@ -385,15 +385,15 @@ fn add_uart(
     let rx = Wanted {
         name: "uart.rx",
         kind: QueueKind::Byte,
-        producer: "@uart",
-        consumer: serial.driver.as_str(),
+        producer: names.uart(),
+        consumer: names.actor(serial.driver.as_str()),
         capacity: serial.rx_capacity,
     };
     let tx = Wanted {
         name: "uart.tx",
         kind: QueueKind::Byte,
-        producer: serial.driver.as_str(),
-        consumer: "@uart",
+        producer: names.actor(serial.driver.as_str()),
+        consumer: names.uart(),
         capacity: serial.tx_capacity,
     };
     add_queue(alloc, names, into, None, 0, rx)?;
@@ -414,15 +414,15 @@ fn add_shared_serial(
     let rx = Wanted {
         name: "serial.rx",
         kind: QueueKind::Byte,
-        producer: serial.driver.as_str(),
-        consumer: serial.rx_virt.as_str(),
+        producer: names.actor(serial.driver.as_str()),
+        consumer: names.actor(serial.rx_virt.as_str()),
         capacity: serial.rx_capacity,
     };
     let tx = Wanted {
         name: "serial.tx",
         kind: QueueKind::Byte,
-        producer: serial.tx_virt.as_str(),
-        consumer: serial.driver.as_str(),
+        producer: names.actor(serial.tx_virt.as_str()),
+        consumer: names.actor(serial.driver.as_str()),
         capacity: serial.tx_capacity,
     };
     add_queue(
@@ -460,8 +460,8 @@ fn add_serial_client(
     let rx = Wanted {
         name: name.as_str(),
         kind: QueueKind::Byte,
-        producer: serial.rx_virt.as_str(),
-        consumer: client.pd.as_str(),
+        producer: names.actor(serial.rx_virt.as_str()),
+        consumer: names.actor(client.pd.as_str()),
         capacity: client.rx_capacity,
     };
     add_queue(
@@ -476,8 +476,8 @@ fn add_serial_client(
     let tx = Wanted {
         name: name.as_str(),
         kind: QueueKind::Byte,
-        producer: client.pd.as_str(),
-        consumer: serial.tx_virt.as_str(),
+        producer: names.actor(client.pd.as_str()),
+        consumer: names.actor(serial.tx_virt.as_str()),
         capacity: client.tx_capacity,
     };
     add_queue(
@@ -553,15 +553,15 @@ fn add_disk(
     let request = Wanted {
         name: "disk.req",
         kind: QueueKind::Req,
-        producer: blk.driver.as_str(),
-        consumer: "@disk",
+        producer: names.actor(blk.driver.as_str()),
+        consumer: names.disk(),
         capacity: blk.capacity,
     };
     let response = Wanted {
         name: "disk.resp",
         kind: QueueKind::Resp,
-        producer: "@disk",
-        consumer: blk.driver.as_str(),
+        producer: names.disk(),
+        consumer: names.actor(blk.driver.as_str()),
         capacity: blk.capacity,
     };
     add_queue(alloc, names, into, None, 0, request)?;
@@ -582,8 +582,8 @@ fn add_shared_blk(
     let request = Wanted {
         name: "blk.req",
         kind: QueueKind::Req,
-        producer: blk.virt.as_str(),
-        consumer: blk.driver.as_str(),
+        producer: names.actor(blk.virt.as_str()),
+        consumer: names.actor(blk.driver.as_str()),
         capacity: blk.capacity,
     };
     let response = Back {
@@ -611,8 +611,8 @@ fn add_blk_client(
     let request = Wanted {
         name: first.as_str(),
         kind: QueueKind::Req,
-        producer: client.pd.as_str(),
-        consumer: blk.virt.as_str(),
+        producer: names.actor(client.pd.as_str()),
+        consumer: names.actor(blk.virt.as_str()),
         capacity: client.capacity,
     };
     let response = Back {

@@ -11,7 +11,8 @@ use Rattle.command_words.specs.declared.command.Options.{Options}
 use Rattle.command_words.specs.Words.{IsCheck, IsLayout, IsPlay, IsBadWord}
 use Rattle.sddf_top.specs.declared.status.Status.{Status}
 use Rattle.sddf_top.specs.declared.status.Status.TheVariants as Ended
-use Rattle.sddf_top.specs.Judged.{IsAccepted, IsRefusedText, unplayed_class}
+use Rattle.system_core.specs.Builds.{unplayed}
+use Rattle.sddf_top.specs.Judged.{IsAccepted, IsRefusedText}
 
 -- what is decided before anything is played: the status and the text of the answer, or that a trace is played on a plan
 pub data Decision : Type 0 where
@@ -43,9 +44,9 @@ pub data PlanDecides (reads : List ℕ → List ℕ → Type 0) (words : List (L
   checked : (desc : List ℕ) → IsCheck words desc → PlanDecides reads words plan (Say Ended.Ok (accepted_text plan))
   laid_out : (desc : List ℕ) → IsLayout words desc → PlanDecides reads words plan (Say Ended.Ok (layout_text plan (layout_of plan)))
   not_played : (desc trace : List ℕ) (options : Options) (place : Place) → IsPlay words desc trace options
-      → unplayed_class plan.net plan.blk ≡ Some place → PlanDecides reads words plan (refuses (record { rule = 0; place = place }))
+      → unplayed plan ≡ Some place → PlanDecides reads words plan (refuses (record { rule = 0; place = place }))
   traced : (desc trace bytes : List ℕ) (options : Options) (decision : Decision) → IsPlay words desc trace options
-      → unplayed_class plan.net plan.blk ≡ None → reads trace bytes → TraceDecides plan options bytes decision → PlanDecides reads words plan decision
+      → unplayed plan ≡ None → reads trace bytes → TraceDecides plan options bytes decision → PlanDecides reads words plan decision
 
 -- what the words and the bytes of a description decide: it is too long, it is refused, or it is accepted
 pub data TextDecides (reads : List ℕ → List ℕ → Type 0) (words : List (List ℕ)) (bytes : List ℕ) : Decision → Type 0 where

@@ -1,11 +1,7 @@
-use Rattle.std.specs.Prelude.{◌≡◌, ◌⊎◌, ℕ, Option, Some, None, List}
+use Rattle.std.specs.Prelude.{◌≡◌, ◌⊎◌, ℕ, List}
 use Rattle.toml.specs.Data.{Members}
-use Rattle.sdf_model.specs.declared.place.Place.{Place}
-use Rattle.sdf_model.specs.declared.place.Place.TheVariants as At
 use Rattle.sdf_model.specs.declared.place.Refusal.{Refusal}
 use Rattle.sdf_model.specs.declared.plan.Plan.{Plan}
-use Rattle.sdf_model.specs.declared.plan.Net.{Net}
-use Rattle.sdf_model.specs.declared.plan.Blk.{Blk}
 use Rattle.sdf_model.specs.Places.{KeepsRules, IsRefusal}
 use Rattle.sdf_model.specs.Spelled.{plan_of}
 use Rattle.sdf_model.specs.Tree.{IsDocument, places_of, BreaksText}
@@ -31,9 +27,3 @@ IsAcceptedPlan plan = (text : List ℕ) × IsAccepted text plan
 -- or where it keeps these by a rule on plans
 abbrev pub IsRefusedText : List ℕ → Refusal → Type 0
 IsRefusedText text refusal = IsRefusal (BreaksText text) (places_of text) 1 4 refusal ⊎ ((plan : Plan) × IsSpelled text plan × IsRefused plan refusal)
-
--- the first class of a plan that can't be played yet, if it has one
-abbrev pub unplayed_class : Option Net → Option Blk → Option Place
-unplayed_class (Some n) b = Some At.Net
-unplayed_class None (Some b) = Some At.Blk
-unplayed_class None None = None

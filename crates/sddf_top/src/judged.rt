@@ -1,9 +1,9 @@
 ghost use Rattle.std.specs.Prelude.{◌≡◌, Err, IfOk};
 ghost use Rattle.sdf_model.specs.declared.place.Refusal.{Refusal};
-ghost use Rattle.sddf_top.specs.Judged.{IsAccepted, IsRefusedText, unplayed_class};
+ghost use Rattle.sddf_top.specs.Judged.{IsAccepted, IsRefusedText};
 
 use sdf_check::check;
-use sdf_model::{Place, Plan, SdfFault, read_description};
+use sdf_model::{Plan, SdfFault, read_description};
 use std::alloc::Global;
 
 /// The plan of a description that breaks no rule. `Refused` has the least rule that is broken and the first element
@@ -18,18 +18,5 @@ pub fn judge(alloc: Global, text: &[u8]) -> Result<Plan, SdfFault>
             Err(fault) => Err(fault),
         },
         Err(fault) => Err(fault),
-    }
-}
-
-/// The first class of a plan that can't be played yet, if it has one.
-pub fn unplayed_class(plan: &Plan) -> Option<Place>
-    ensures { result ≡ unplayed_class plan.now.net plan.now.blk }
-{
-    if plan.net.is_some() {
-        Some(Place::Net)
-    } else if plan.blk.is_some() {
-        Some(Place::Blk)
-    } else {
-        None
     }
 }

@@ -19,7 +19,7 @@ mod writing;
 
 pub use files::{FileShelf, OutSink};
 pub use gate::{Gate, OpenGate};
-pub use judged::{judge, unplayed_class};
+pub use judged::judge;
 pub use memory_shelf::{Kept, MemShelf};
 pub use memory_sink::MemSink;
 pub use played::Played;
@@ -28,5 +28,5 @@ pub use served::{serve, serve_alone};
 pub use shelf::{Failed, Shelf};
 pub use sink::Sink;
 pub use status::Status;
-pub use system_core::System;
+pub use system_core::{System, unplayed};
 pub use writing::write_text;

@@ -1,6 +1,7 @@
 ghost use Rattle.std.specs.Prelude.{◌≡◌, None, Err, IfOk, OnErr, string_bytes};
 ghost use Rattle.trace_text.specs.Traces.{IsReadFor};
-ghost use Rattle.sddf_top.specs.Judged.{IsAcceptedPlan, unplayed_class};
+ghost use Rattle.system_core.specs.Builds.{unplayed};
+ghost use Rattle.sddf_top.specs.Judged.{IsAcceptedPlan};
 ghost use Rattle.sddf_top.specs.Decisions.{Play};
 ghost use Rattle.sddf_top.specs.Shown.{limit_of, ending_of, shown_text};
 ghost use Rattle.sddf_top.specs.Answers.{Comes};
@@ -62,7 +63,7 @@ fn shown_text(
 /// Plays a trace on a plan, and makes the answer of what the system shows.
 pub fn play(alloc: Global, plan: &Plan, trace: &Trace, options: Options) -> Result<Reply, ReadStop>
     requires accepted { IsAcceptedPlan plan.now }
-    requires played { unplayed_class plan.now.net plan.now.blk ≡ None }
+    requires played { unplayed plan.now ≡ None }
     requires read { IsReadFor plan.now trace.now }
     ensures answer { IfOk result (λ r. Comes (Play plan.now trace.now options) r.status (string_bytes r.text) r.played) }
     ensures starved { OnErr result (result ≡ Err ReadStop.Memory) }

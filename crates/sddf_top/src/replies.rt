@@ -6,11 +6,12 @@ ghost use Rattle.report_text.specs.Layouts.{layout_text};
 ghost use Rattle.command_words.specs.Words.{texts_of, IsPlay, Spells, last_name};
 ghost use Rattle.command_words.specs.declared.command.Command.{Command};
 ghost use Rattle.sddf_top.specs.Outside.{Rose};
-ghost use Rattle.sddf_top.specs.Judged.{IsAcceptedPlan, unplayed_class};
+ghost use Rattle.system_core.specs.Builds.{unplayed};
+ghost use Rattle.sddf_top.specs.Judged.{IsAcceptedPlan};
 ghost use Rattle.sddf_top.specs.Decisions.{Say, TextDecides, PlanDecides, TraceDecides, refuses, too_long};
 ghost use Rattle.sddf_top.specs.Answers.{Answers, Comes, ComesBy, WasRead};
 
-use crate::judged::{judge, unplayed_class};
+use crate::judged::judge;
 use crate::plays::play;
 use crate::reading::{ReadStop, TEXT_MOST, read_text};
 use crate::{Played, Shelf, Status};
@@ -21,6 +22,7 @@ use report_text::{
 };
 use sdf_model::{Plan, Refusal, SdfFault};
 use std::alloc::Global;
+use system_core::unplayed;
 use trace_text::{TraceFault, read_trace};
 
 /// An answer as a whole, before any of it is written.
@@ -125,7 +127,7 @@ fn reply_to_trace(
     bytes: &[u8],
 ) -> Result<Reply, ReadStop>
     requires accepted { IsAcceptedPlan plan.now }
-    requires played { unplayed_class plan.now.net plan.now.blk ≡ None }
+    requires played { unplayed plan.now ≡ None }
     ensures answer { IfOk result (λ r. ComesBy (TraceDecides plan.now options bytes.now) r.status (string_bytes r.text) r.played) }
     ensures starved { OnErr result (result ≡ Err ReadStop.Memory) }
 {
@@ -154,7 +156,7 @@ fn reply_to_play<F: Shelf>(
     ensures failed { result ≡ Err ReadStop.Failed → Rose (F.faults shelf.old) (F.faults shelf.new) }
     ensures starved { result ≡ Err ReadStop.Memory → F.faults shelf.new ≡ F.faults shelf.old }
 {
-    if let Some(place) = unplayed_class(plan) {
+    if let Some(place) = unplayed(plan) {
         return refused(alloc, Refusal { rule: 0, place });
     }
     let bytes = read_text(alloc, shelf, trace)?;

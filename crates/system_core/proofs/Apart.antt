@@ -6,9 +6,11 @@ use Rattle.std.proofs.lemmas.List.Quantifiers.{position-Some}
 use Rattle.std.proofs.lemmas.Slice.Eq.{bytes_eq-Decides}
 use Rattle.sdf_model.specs.declared.plan.Domain.{Domain}
 use Rattle.sdf_check.specs.Names.{place_of}
+use Rattle.sdf_check.proofs.ListLemmas.{get-left}
 use Rattle.sdf_check.proofs.RuleLemmas.{position-None}
 use Rattle.region_layout.specs.Rows.{acts}
-use Rattle.system_core.proofs.Merges.{some_is}
+use Rattle.play_core.proofs.Lists.{some_is, map_from}
+use Rattle.play_core.proofs.Lists.{there_below}
 use Rattle.system_core.proofs.WalkPlaces.{Stands}
 
 pub option_cases : {T : Type 0} (o : Option T) → (o ≡ None) ⊎ ((x : T) × (o ≡ Some x))
@@ -140,9 +142,26 @@ place_found name names k h = elim (option_cases (place_of name names)) [
   | inr some ↦ some
 ]
 
--- and it is its place, where no name stands twice
-pub place_is : (name : List ℕ) (names : List (List ℕ)) (k : ℕ) → AreApart names → slice_get names k ≡ Some name → place_of name names ≡ Some k
-place_is name names k apart h =
-    let found = place_found name names k h in
-    let e : found.0 ≡ k = one_place names found.0 k name apart (place_there name names found.0 found.1) h in
-    found.1 ∙ ap Some e
+-- and it is its place, where no name stands twice, whatever name stands behind
+pub place_is : (name last : List ℕ) (names : List (List ℕ)) (k : ℕ) → AreApart names → slice_get names k ≡ Some name → place_of name (names ++ last ∷ []) ≡ Some k
+place_is name last names k apart h =
+    let all : List (List ℕ) = names ++ last ∷ [] in
+    let there : slice_get all k ≡ Some name = get-left names (last ∷ []) k name h in
+    let found = place_found name all k there in
+    elim (added_cases names last name found.0 (place_there name all found.0 found.1)) [
+      | inl front ↦ found.1 ∙ ap Some (one_place names found.0 k name apart front h)
+      | inr behind ↦
+          let front = there_below names k name h in
+          let lt : k < found.0 = omega (arith, front, behind.1) in
+          let no : bytes_eq (get_or all k name) name ≡ false = (position-Some (λ other. bytes_eq other name) all found.0 name found.1).2 k lt in
+          let is : get_or all k name ≡ name = some_is (sym (slice_get-get_or all k name (there_below all k name there)) ∙ there) in
+          let yes : bytes_eq name name ≡ true = (bytes_eq-Decides name name).1 refl in
+          absurd (let e : true ≡ false = sym yes ∙ (ap (λ n. bytes_eq n name) (sym is) ∙ no) in cc)
+    ]
+
+-- no value stands twice among options of them
+pub apart_some : {T : Type 0} (xs : List T) → AreApart xs → AreApart (map Some xs)
+apart_some xs h i j a lt p q =
+    let m = map_from Some xs i a p in
+    let n = map_from Some xs j a q in
+    h i j m.0 lt m.1 (n.1 ∙ ap Some (some_is (n.2 ∙ sym m.2)))

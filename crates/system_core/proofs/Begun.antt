@@ -1,76 +1,127 @@
-use Rattle.std.proofs.Common.{◌≡◌, ◌+◌, ◌*◌, ◌++◌, ℕ, Some, None, List, [], ◌∷◌, length, codes, slice_get, refl, sym, ap, ◌∙◌, subst}
+use Rattle.std.proofs.Common.{◌≡◌, ◌<◌, ◌≤◌, ◌+◌, ◌*◌, ◌^◌, ◌++◌, ℕ, Some, None, List, [], ◌∷◌, length, map, slice_get, refl, sym, ap, ◌∙◌, subst, arith}
+use Rattle.std.specs.Option.{option_map, option_map_or}
 use Rattle.std.proofs.lemmas.List.{length-map}
+use Rattle.std.proofs.lemmas.Nat.{pow_pos}
+use Rattle.cargo_core.specs.Lists.{IsPrefix}
 use Rattle.sdf_model.specs.declared.plan.Plan.{Plan}
 use Rattle.sdf_model.specs.declared.plan.Serial.{Serial}
-use Rattle.sdf_model.specs.declared.plan.SerialClient.{SerialClient}
+use Rattle.sdf_model.specs.declared.plan.SerialClient.{SerialClient as Client}
+use Rattle.wire_core.specs.declared.names.QueueRow.{QueueRow}
 use Rattle.wire_core.specs.Ends.{Role}
+use Rattle.serial_switch.specs.Switching.{input_of}
 use Rattle.sdf_check.specs.Valid.{Valid}
-use Rattle.sdf_check.specs.ClassRules.{class_domains}
+use Rattle.sdf_check.specs.ClassRules.{class_domains, IsCapacity}
 use Rattle.trace_text.specs.declared.trace.Trace.{Trace}
-use Rattle.region_layout.specs.Rows.{queues_of, actors_of}
-use Rattle.actor_set.specs.Parts.{UartPart, ClientPart}
-use Rattle.system_core.specs.Shows.{Shown}
+use Rattle.region_layout.specs.Rows.{queues_of, actors_of, uart_number}
+use Rattle.play_core.specs.Moved.{Moved}
+use Rattle.play_core.specs.Still.{Holds}
+use Rattle.play_core.proofs.Lists.{map_from, there_is, there_below}
+use Rattle.serial_law.specs.Parts.{SerialPart}
+use Rattle.serial_law.specs.Bytes.{bytes_in}
+use Rattle.serial_law.specs.Serial.{SerialClass, IsSerial, ArrivesInPart, ArrivesWhole}
+use Rattle.actor_set.specs.Parts.{ClientPart}
+use Rattle.system_core.specs.Kinds.{serial_part}
+use Rattle.system_core.specs.Shows.{Setting, Shown, hostile_in, moved_in}
+use Rattle.system_core.specs.Lawful.{heard_by, heard_at, IsTold}
 use Rattle.system_core.specs.Seats.{HasSeat}
-use Rattle.system_core.specs.Serial.{IsSerial, IsThere}
-use Rattle.system_core.specs.Builds.{number_named, every_second, HasSerial}
-use Rattle.system_core.proofs.Merges.{map_from}
-use Rattle.system_core.proofs.Prefixes.{there_is}
+use Rattle.system_core.specs.Builds.{number_named, serial_class, first_serial, HasSerial}
+use Rattle.system_core.specs.PlanPlays.{ShowsInPart, ShowsWhole}
+use Rattle.system_core.proofs.Calm.{calm_row}
 use Rattle.system_core.proofs.Apart.{acting_names, acting_from}
 use Rattle.system_core.proofs.Named.{has_role}
 use Rattle.system_core.proofs.SerialRows.{seats_0, seats_1, seats_2, seats_3, seats_rx, seats_tx}
-use Rattle.system_core.proofs.Seconds.{second_get, second_length}
+use Rattle.system_core.proofs.Seconds.{second_get, second_there, second_length}
 
-some_is : {X : Type 0} {a b : X} → Some a ≡ Some b → a ≡ b
-some_is h = cc
+-- the network's queues stand before those of the serial class, if there are any
+pub first_is : (plan : Plan) → plan.net ≡ None → first_serial plan ≡ 0
+first_is plan net = rw net refl
 
--- where the actors of the serial class begin, they are its actors
-module _ (plan : Plan) (serial : Serial) (net : plan.net ≡ None) (blk : plan.blk ≡ None) (has : plan.serial ≡ Some serial) (trace : Trace) (s : Shown)
-    (rows : s.rows ≡ queues_of plan) (h : HasSerial plan serial trace s) (says : length trace.says ≡ length serial.client) where
+-- an actor of the serial class is one of a cast
+abbrev pub There : Setting → SerialPart → Type 0
+There s p = (k : ℕ) × (slice_get s.cast k ≡ Some (serial_part p))
+
+-- the actors of the serial class are its actors
+module _ (plan : Plan) (serial : Serial) (net : plan.net ≡ None) (blk : plan.blk ≡ None) (has : plan.serial ≡ Some serial) (trace : Trace) (s : Setting)
+    (rows : s.rows ≡ queues_of plan) (places : (n : ℕ) (row : QueueRow) → slice_get s.rows n ≡ Some row → IsCapacity row.capacity) (h : HasSerial 0 plan serial trace s) (says : length trace.says ≡ length serial.client) where
   abbrev count : ℕ
   count = length serial.client
 
-  there : (n k : ℕ) (r : Role) → HasSeat (queues_of plan) k r n → IsThere s.rows n
-  there n k r seat = (seat.row, ap (λ rs. slice_get rs n) rows ∙ seat.there)
+  holds : (n k : ℕ) (r : Role) → HasSeat (queues_of plan) k r n → Holds (hostile_in s) s.rows n 1
+  holds n k r seat =
+      let there : slice_get s.rows n ≡ Some seat.row = ap (λ rs. slice_get rs n) rows ∙ seat.there in
+      let c = places n seat.row there in
+      record { row = seat.row; there = there; calm = calm_row s.cast seat.row; enough = subst (λ m. 1 ≤ m) (sym c.2) (some_power c.0) }
+    where
+      some_power : (k : ℕ) → 1 ≤ 2 ^ k
+      some_power k = let p : 0 < 2 ^ k = pow_pos k in omega (arith, p)
 
-  client_at : (c k : ℕ) → slice_get s.clients c ≡ Some k → (client : SerialClient) × (slice_get serial.client c ≡ Some client) × (number_named plan client.pd ≡ k)
-  client_at c k at = map_from (λ (x : SerialClient). number_named plan x.pd) serial.client c k (ap (λ ns. slice_get ns c) (sym h.clients_are) ∙ at)
-
-  clients_length : length s.clients ≡ count
-  clients_length = ap length h.clients_are ∙ length-map serial.client (λ (x : SerialClient). number_named plan x.pd)
-
-  pub begun : IsSerial s trace.input trace.says
-  begun = record {
-    device_rx = 0;
-    device_tx = 1;
-    rx = 2;
-    tx = 3;
-    client_rx = every_second 4 count;
-    client_tx = every_second 5 count;
-    device = λ k is. subst (λ n. slice_get s.cast n ≡ Some (UartPart 0 1 trace.input)) (some_is (sym h.device_is ∙ is)) h.device;
-    has_device = (number_named plan (codes "@uart"), h.device);
+  pub serial_there : IsSerial (There s) (hostile_in s) s.rows (serial_class 0 count trace)
+  serial_there = record {
+    device = ((uart_number plan).0, h.device);
     driver = (number_named plan serial.driver, h.driver);
     receiver = (number_named plan serial.rx_virt, h.receiver);
     sender = (number_named plan serial.tx_virt, h.sender);
-    rx_count = second_length 4 count ∙ sym clients_length;
-    tx_count = second_length 5 count ∙ sym clients_length;
-    scripts_count = says ∙ sym clients_length;
-    client = λ c k q p script at rx tx said.
-        let client = client_at c k at in
-        let q_is : q ≡ 4 + 2 * c = (second_get 4 count c q rx).1 in
+    client = λ c q p script rx tx said.
+        let g = second_get 4 count c q rx in
         let p_is : p ≡ 5 + 2 * c = (second_get 5 count c p tx).1 in
-        rw (q_is, p_is) (subst (λ n. slice_get s.cast n ≡ Some (ClientPart (4 + 2 * c) (5 + 2 * c) script)) client.2 (h.client c client.0 script client.1 said));
-    device_rx_there = there 0 _ _ (seats_0 plan serial net blk has).0;
-    device_tx_there = there 1 _ _ (seats_1 plan serial net blk has).0;
-    rx_there = there 2 _ _ (seats_2 plan serial net blk has).0;
-    tx_there = there 3 _ _ (seats_3 plan serial net blk has).0;
-    client_rx_there = λ c q at.
+        let client = there_is serial.client c g.0 in
+        let at : slice_get s.cast (number_named plan client.0.pd) ≡ Some (ClientPart (4 + 2 * c) (5 + 2 * c) script) = h.client c client.0 script client.1 said in
+        (number_named plan client.0.pd,
+        subst (λ n. slice_get s.cast (number_named plan client.0.pd) ≡ Some (ClientPart n p script)) (sym g.1)
+        (subst (λ n. slice_get s.cast (number_named plan client.0.pd) ≡ Some (ClientPart (4 + 2 * c) n script)) (sym p_is) at));
+    rx_count = second_length 4 count ∙ sym says;
+    tx_count = second_length 5 count ∙ sym says;
+    holds_device_rx = holds 0 _ _ (seats_0 plan serial net blk has).0;
+    holds_device_tx = holds 1 _ _ (seats_1 plan serial net blk has).0;
+    holds_rx = holds 2 _ _ (seats_2 plan serial net blk has).0;
+    holds_tx = holds 3 _ _ (seats_3 plan serial net blk has).0;
+    holds_client_rx = λ c q at.
         let g = second_get 4 count c q at in
         let client = there_is serial.client c g.0 in
-        subst (IsThere s.rows) (sym g.1) (there (4 + 2 * c) _ _ (seats_rx plan serial net blk has c client.0 client.1).0);
-    client_tx_there = λ c q at.
+        subst (λ n. Holds (hostile_in s) s.rows n 1) (sym g.1) (holds (4 + 2 * c) _ _ (seats_rx plan serial net blk has c client.0 client.1).0);
+    holds_client_tx = λ c q at.
         let g = second_get 5 count c q at in
         let client = there_is serial.client c g.0 in
-        subst (IsThere s.rows) (sym g.1) (there (5 + 2 * c) _ _ (seats_tx plan serial net blk has c client.0 client.1).0);
+        subst (λ n. Holds (hostile_in s) s.rows n 1) (sym g.1) (holds (5 + 2 * c) _ _ (seats_tx plan serial net blk has c client.0 client.1).0);
+  }
+
+-- what is seen of the class is what its actors took
+module _ (plan : Plan) (serial : Serial) (trace : Trace) (s : Shown) (h : HasSerial 0 plan serial trace s.setting) (says : length trace.says ≡ length serial.client) (told : IsTold s) where
+  abbrev clients : ℕ
+  clients = length serial.client
+
+  abbrev class : SerialClass
+  class = serial_class 0 clients trace
+
+  abbrev went : Moved
+  went = moved_in s.setting s.journal
+
+  record_is : (c : ℕ) (got : List ℕ) → slice_get s.state.serial c ≡ Some got → (slice_get class.client_rx c ≡ Some (4 + 2 * c)) × (bytes_in (went.taken (4 + 2 * c)) ≡ got)
+  record_is c got at =
+      let m = map_from (heard_at s) s.setting.serial.clients c got (ap (λ rs. slice_get rs c) (sym told.serial) ∙ at) in
+      let client = map_from (λ (x : Client). number_named plan x.pd) serial.client c m.0 (ap (λ ns. slice_get ns c) (sym h.clients_are) ∙ m.1) in
+      let lt = there_below serial.client c client.0 client.1 in
+      let script = there_is trace.says c (omega (arith, lt, says)) in
+      let is : slice_get s.setting.cast m.0 ≡ Some (ClientPart (4 + 2 * c) (5 + 2 * c) script.0) = subst (λ k. slice_get s.setting.cast k ≡ Some (ClientPart (4 + 2 * c) (5 + 2 * c) script.0)) client.2 (h.client c client.0 script.0 client.1 script.1) in
+      (second_there 4 clients c lt, sym (ap (λ o. option_map_or (heard_by went) o []) is) ∙ m.2)
+
+  line_is : s.state.line ≡ Some (bytes_in (went.taken 1))
+  line_is =
+      told.line ∙ (ap (option_map (heard_at s)) h.device_is ∙ ap Some (ap (λ o. option_map_or (heard_by went) o []) h.device))
+
+  pub shows_in_part : ArrivesInPart class went → ShowsInPart clients trace s.state
+  shows_in_part a = record {
+    count_is = ap length told.serial ∙ (length-map s.setting.serial.clients (heard_at s) ∙ (ap length h.clients_are ∙ length-map serial.client (λ (x : Client). number_named plan x.pd)));
+    records = λ c got at.
+        let r = record_is c got at in
+        subst (λ n. IsPrefix got (input_of n c trace.input)) (second_length 4 clients) (subst (λ x. IsPrefix x (input_of (length class.client_rx) c trace.input)) r.1 (a.records c (4 + 2 * c) r.0));
+    line = (bytes_in (went.taken 1), line_is, a.line);
+  }
+
+  pub shows_whole : ArrivesWhole class went → ShowsWhole clients trace s.state
+  shows_whole a = record {
+    records = λ c got at. let r = record_is c got at in sym r.1 ∙ (a.records c (4 + 2 * c) r.0 ∙ ap (λ n. input_of n c trace.input) (second_length 4 clients));
+    line = (bytes_in (went.taken 1), line_is, a.line);
   }
 
 -- without a class there is nobody, and no queue

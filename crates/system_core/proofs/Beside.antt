@@ -14,7 +14,7 @@ use Rattle.serial_virt.specs.Receiving.{FitsRx, RxStandsFor, RxEnd}
 use Rattle.serial_virt.specs.declared.rx.SerialVirtRx.{SerialVirtRx}
 use Rattle.serial_virt.specs.Sending.{FitsTx, TxStandsFor, TxEnd}
 use Rattle.serial_virt.specs.declared.tx.SerialVirtTx.{SerialVirtTx}
-use Rattle.system_core.proofs.Merges.{map_get, map_alike}
+use Rattle.play_core.proofs.Lists.{map_get, map_alike}
 use Rattle.actor_set.specs.Actors.{FitsActor, ActorStandsFor, ActorEnd}
 use Rattle.actor_set.specs.declared.actor.Actor.{Actor}
 use Rattle.actor_set.specs.declared.actor.Actor.TheVariants as Kinds

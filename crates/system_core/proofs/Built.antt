@@ -1,29 +1,32 @@
-use Rattle.std.proofs.Common.{◌≡◌, ◌+◌, ◌*◌, ◌<◌, ◌≤◌, ℕ, Some, None, List, [], length, map, get_or, refl, sym, ap, ◌∙◌, subst, arith}
+use Rattle.std.proofs.Common.{◌≡◌, ◌+◌, ◌*◌, ◌<◌, ◌≤◌, ℕ, Option, Some, None, is_some, List, [], length, map, get_or, refl, sym, ap, ◌∙◌, subst, arith}
 use Rattle.std.proofs.lemmas.List.{length-map}
 use Rattle.std.proofs.lemmas.Option.{slice_get_read}
 use Rattle.wire_core.specs.declared.names.QueueRow.{QueueRow}
 use Rattle.wire_core.specs.Ends.{Producer}
 use Rattle.sdf_model.specs.declared.plan.Plan.{Plan}
+use Rattle.sdf_model.specs.declared.plan.Net.{Net}
 use Rattle.sdf_model.specs.declared.plan.Serial.{Serial}
+use Rattle.sdf_model.specs.declared.plan.Blk.{Blk}
+use Rattle.sdf_model.specs.declared.place.Place.{Place}
+use Rattle.sdf_model.specs.declared.place.Place.TheVariants as At
+use Rattle.std.specs.Prelude.{if◌then◌else◌}
 use Rattle.sdf_check.specs.Valid.{Valid}
 use Rattle.trace_text.specs.declared.trace.Trace.{Trace}
-use Rattle.trace_text.specs.Traces.{IsReadFor}
 use Rattle.region_layout.specs.declared.layout.Layout.{Layout}
 use Rattle.region_layout.specs.Layouts.{layout_of}
 use Rattle.region_layout.specs.Rows.{queues_of, actors_of}
 use Rattle.region_layout.proofs.NameLemmas.{few_actors}
 use Rattle.actor_set.specs.Actors.{part_of}
 use Rattle.actor_set.specs.declared.actor.Actor.{Actor}
-use Rattle.system_core.specs.Shows.{Shown, started}
-use Rattle.system_core.specs.Serial.{IsSerial}
+use Rattle.system_core.specs.Shows.{Crew}
+use Rattle.system_core.specs.States.{begun, crew_of, started}
 use Rattle.system_core.specs.Seats.{AreSeated}
-use Rattle.system_core.specs.Builds.{IsSpelled, IsBuilt, HasSerial}
+use Rattle.system_core.specs.Builds.{unplayed, IsBuilt, HasSerial}
 use Rattle.system_core.specs.Jobs.{IsOwner, SomeJob, AreCast, AreClients}
 use Rattle.system_core.proofs.Named.{domains_few, client_count}
 use Rattle.system_core.proofs.SerialRows.{row_count}
 use Rattle.system_core.proofs.Building.{some_job, seated, has_serial}
-use Rattle.system_core.proofs.Spelling.{spelled_plain, scripts_length}
-use Rattle.system_core.proofs.Begun.{begun, no_queues, no_actors}
+use Rattle.system_core.proofs.Begun.{first_is, no_queues, no_actors}
 
 some_is : {X : Type 0} {a b : X} → Some a ≡ Some b → a ≡ b
 some_is h = cc
@@ -40,10 +43,26 @@ pub layout_actors : (plan : Plan) (layout : Layout) → layout ≡ layout_of pla
 unfolding layout_of
 layout_actors plan layout h = ap (λ (l : Layout). l.actors) h
 
+-- a plan that can be played has neither of these classes
+pub no_net : (plan : Plan) → unplayed plan ≡ None → plan.net ≡ None
+no_net plan h = go plan.net (if is_some plan.blk then Some At.Blk else None) h
+  where
+    go : (net : Option Net) (rest : Option Place) → (if is_some net then Some At.Net else rest) ≡ None → net ≡ None
+    go None rest h = refl
+    go (Some n) rest h = cc
+
+pub no_blk : (plan : Plan) → unplayed plan ≡ None → plan.blk ≡ None
+no_blk plan h = go plan.net plan.blk h
+  where
+    go : (net : Option Net) (blk : Option Blk) → (if is_some net then Some At.Net else (if is_some blk then Some At.Blk else None)) ≡ None → blk ≡ None
+    go None None h = refl
+    go None (Some b) h = cc
+    go (Some n) blk h = cc
+
 pub actors_few : (plan : Plan) → Valid plan → length (actors_of plan) ≤ 66
 actors_few plan valid = few_actors plan (domains_few plan valid)
 
-module _ (plan : Plan) (spelled : IsSpelled plan) (valid : Valid plan) (net : plan.net ≡ None) (blk : plan.blk ≡ None) where
+module _ (plan : Plan) (valid : Valid plan) (net : plan.net ≡ None) (blk : plan.blk ≡ None) where
   -- with the serial class
   module _ (serial : Serial) (has : plan.serial ≡ Some serial) where
     pub some_clients : 0 < length serial.client
@@ -56,7 +75,7 @@ module _ (plan : Plan) (spelled : IsSpelled plan) (valid : Valid plan) (net : pl
     rows_room = let n = row_count plan serial net blk has in omega (arith, n)
 
     pub jobs : (k : ℕ) → k < length (actors_of plan) → SomeJob (queues_of plan) (length serial.client) k
-    jobs = some_job plan valid serial net blk has (spelled_plain plan spelled)
+    jobs = some_job plan valid serial net blk has
 
     -- at rows, counts and numbers that are those of the plan
     module _ (trace : Trace) (rows : List QueueRow) (clients count : ℕ) (rows_are : rows ≡ queues_of plan) (clients_are : clients ≡ length serial.client) (count_is : count ≡ length (actors_of plan)) where
@@ -71,28 +90,27 @@ module _ (plan : Plan) (spelled : IsSpelled plan) (valid : Valid plan) (net : pl
         cast_of = rw (rows_are, clients_are, count_is) at cast
 
         pub are_seated : AreSeated rows actors
-        are_seated = rw rows_are (seated plan valid serial net blk has (spelled_plain plan spelled) trace actors cast_of
+        are_seated = rw rows_are (seated plan valid serial net blk has trace actors cast_of
             (let n : length actors ≡ length (actors_of plan) = cast_of.count_is in let few = actors_few plan valid in omega (arith, n, few)))
 
         module _ (device : ℕ) (numbers : List ℕ) (owner : (IsOwner rows) 0 Producer device) (owners : AreClients rows clients numbers) where
-          abbrev pub state : Shown
-          state = started rows (map part_of actors) (Some device) numbers
+          abbrev crew : Crew
+          crew = crew_of (Some device) numbers
 
-          serial_begun : HasSerial plan serial trace state
-          serial_begun = rw rows_are (has_serial plan valid serial net blk has (spelled_plain plan spelled) trace actors cast_of device numbers (rw rows_are at owner) (rw (rows_are, clients_are) at owners))
+          serial_begun : HasSerial 0 plan serial trace (begun rows actors crew)
+          serial_begun = rw rows_are (has_serial plan valid serial net blk has trace actors cast_of device numbers (rw rows_are at owner) (rw (rows_are, clients_are) at owners))
 
-          pub is_built : IsBuilt plan trace state
+          pub is_built : IsBuilt plan trace (started rows actors crew)
           is_built = record {
-            rows = rows_are;
-            count = length-map actors part_of ∙ cast_of.count_is;
-            history = refl;
+            cast = record {
+              rows = rows_are;
+              count = length-map actors part_of ∙ cast_of.count_is;
+              serial = λ s is. subst (λ n. HasSerial n plan s trace (begun rows actors crew)) (sym (first_is plan net)) (subst (λ (x : Serial). HasSerial 0 plan x trace (begun rows actors crew)) (some_is (sym has ∙ is)) serial_begun);
+              nobody = λ none. let no : None ≡ Some serial = sym none ∙ has in cc;
+            };
+            begins = refl;
             journal = refl;
-            serial = λ s is. subst (λ (x : Serial). HasSerial plan x trace state) (some_is (sym has ∙ is)) serial_begun;
-            nobody = λ none. let no : None ≡ Some serial = sym none ∙ has in cc;
           }
-
-          pub is_serial : IsReadFor plan trace → IsSerial state trace.input trace.says
-          is_serial t = begun plan serial net blk has trace state rows_are serial_begun (scripts_length plan serial trace has t)
 
   -- without a class
   module _ (none : plan.serial ≡ None) where
@@ -102,16 +120,21 @@ module _ (plan : Plan) (spelled : IsSpelled plan) (valid : Valid plan) (net : pl
         new = λ k x at. cc;
         apart = λ k x at. cc;
         seats = λ k x at. cc;
+        ends = λ k x at. cc;
+        split = λ k x at. cc;
+        places = λ n row at. cc;
         peers = λ n row at. cc;
         few = omega arith;
       })
 
-      pub none_built : (trace : Trace) → IsBuilt plan trace (started rows [] None [])
+      pub none_built : (trace : Trace) → IsBuilt plan trace (started rows [] (crew_of None []))
       none_built trace = record {
-        rows = rows_are;
-        count = ap length (sym (no_actors plan valid net none blk));
-        history = refl;
+        cast = record {
+          rows = rows_are;
+          count = ap length (sym (no_actors plan valid net none blk));
+          serial = λ s is. let no : None ≡ Some s = sym none ∙ is in cc;
+          nobody = λ h. record { cast = refl; device = refl; clients = refl };
+        };
+        begins = refl;
         journal = refl;
-        serial = λ s is. let no : None ≡ Some s = sym none ∙ is in cc;
-        nobody = λ h. record { cast = refl; device = refl; clients = refl };
       }

@@ -1,42 +1,64 @@
-use Rattle.std.proofs.Common.{◌≡◌, ◌<◌, ◌≤◌, ℕ, Some, None, List, [], ◌∷◌, length, map, slice_get, slice_index_or, refl, sym, ap, ◌∙◌, arith, zero, suc}
-use Rattle.std.proofs.lemmas.List.{length-map}
-use Rattle.std.proofs.lemmas.Option.{slice_get_read}
+use Rattle.std.proofs.Common.{◌≡◌, ℕ, Option, Some, None, List, [], map, slice_get, refl, sym, ap, ◌∙◌}
+use Rattle.std.specs.Option.{option_map, option_map_or}
+use Rattle.std.proofs.lemmas.Option.{slice_get-map}
+use Rattle.wire_core.specs.Queues.{Queue}
 use Rattle.wire_core.specs.declared.names.QueueRow.{QueueRow}
 use Rattle.wire_core.specs.declared.names.Entry.{Entry}
-use Rattle.wire_core.specs.Queues.{Queue}
 use Rattle.wire_core.specs.Journal.{History}
-use Rattle.actor_set.specs.Parts.{Part}
+use Rattle.wire_core.proofs.BellTheorem.{bells_hold, queues_flow, starts_hold, starts_flow}
+use Rattle.play_core.specs.Moved.{moved}
+use Rattle.play_core.proofs.Lists.{map_alike}
+use Rattle.serial_law.specs.Bytes.{bytes_in}
 use Rattle.actor_set.specs.Actors.{ActorStandsFor, part_of}
 use Rattle.actor_set.specs.declared.actor.Actor.{Actor}
 use Rattle.actor_set.specs.declared.actor.Actor.TheVariants as Kinds
-use Rattle.system_core.specs.Shows.{Shown}
-use Rattle.system_core.specs.Tracks.{bytes_in}
-use Rattle.system_core.specs.Reports.{heard_by, heard_at, heard_of}
+use Rattle.system_core.specs.Shows.{Shown, hostile_in}
+use Rattle.system_core.specs.States.{heard_of, heard_from}
+use Rattle.system_core.specs.Lawful.{heard_by, heard_at, IsTold, StandsLawful}
 use Rattle.system_core.specs.Systems.{Holds}
-use Rattle.system_core.specs.Inside.{shown_of, IsSystem}
+use Rattle.system_core.specs.Inside.{shown_of, setting_of, IsSystem}
 use Rattle.system_core.specs.declared.system.System.TheInside.{Inside}
-use Rattle.system_core.proofs.Merges.{map_get}
 use Rattle.system_core.proofs.RowsNow.{carried_in}
 
 module _ (history : History) (rows : List QueueRow) (w : List Queue) (actors : List Actor) (journal : List Entry) (h : Holds history rows w actors journal) where
   -- what an actor keeps is what the journal says of its part
-  heard_here : (x : Actor) → ActorStandsFor x h.taken h.sent → heard_of x ≡ heard_by (Some (part_of x)) history journal
+  heard_here : (x : Actor) → ActorStandsFor x h.taken h.sent → heard_of x ≡ heard_by (moved history journal) (part_of x)
   heard_here (Kinds.UartDevice x) st = st.heard_is ∙ (carried_in (h.taken x.terminal.input.queue.0) ∙ ap bytes_in (h.shows_taken x.terminal.input.queue.0))
   heard_here (Kinds.SerialClient x) st = st.heard_is ∙ (carried_in (h.taken x.terminal.input.queue.0) ∙ ap bytes_in (h.shows_taken x.terminal.input.queue.0))
   heard_here (Kinds.UartDriver x) st = refl
   heard_here (Kinds.SerialVirtRx x) st = refl
   heard_here (Kinds.SerialVirtTx x) st = refl
 
--- in a system
-pub heard_shown : (a : Inside) (v : Shown) → shown_of a ≡ v → IsSystem a → (k : ℕ) (x : Actor) → k < length a.actors.items → x ≡ slice_index_or a.actors.items k x → heard_of x ≡ heard_at v k
-heard_shown a v view i k x lt at =
-    let here : slice_get a.actors.items k ≡ Some x = slice_get_read a.actors.items _ k x refl lt at in
-    heard_here _ _ _ _ _ i.holds x (i.holds.stands k x here) ∙ (ap (λ p. heard_by p (shown_of a).history a.journal.items) (sym (map_get part_of a.actors.items k x here)) ∙ ap (λ s. heard_at s k) view)
+  pub same_heard : (k : ℕ) → heard_from actors k ≡ option_map_or (heard_by (moved history journal)) (slice_get (map part_of actors) k) []
+  same_heard k = go (slice_get actors k) refl ∙ ap (λ o. option_map_or (heard_by (moved history journal)) o []) (sym (slice_get-map part_of actors k))
+    where
+      go : (o : Option Actor) → slice_get actors k ≡ o → option_map_or heard_of o [] ≡ option_map_or (heard_by (moved history journal)) (option_map part_of o) []
+      go None at = refl
+      go (Some x) at = heard_here x (h.stands k x at)
 
-get_past : (ps : List Part) (k : ℕ) → length ps ≤ k → slice_get ps k ≡ None
-get_past [] k le = refl
-get_past (p ∷ ps) zero le = absurd (omega arith)
-get_past (p ∷ ps) (suc k) le = get_past ps k (omega arith)
+module _ (a : Inside) (i : IsSystem a) where
+  heard : (k : ℕ) → heard_from a.actors.items k ≡ heard_at (shown_of a) k
+  heard k = same_heard (setting_of a).history a.rows.items a.world a.actors.items a.journal.items i.holds k
 
-pub unheard_shown : (a : Inside) (v : Shown) → shown_of a ≡ v → (k : ℕ) → length a.actors.items ≤ k → [] ≡ heard_at v k
-unheard_shown a v view k le = ap (λ p. heard_by p (shown_of a).history a.journal.items) (sym (get_past (map part_of a.actors.items) k (simp length-map le))) ∙ ap (λ s. heard_at s k) view
+  told : IsTold (shown_of a)
+  told = record {
+    line = line a.device;
+    serial = map_alike (heard_from a.actors.items) (heard_at (shown_of a)) a.clients.items (λ c k at. heard k);
+  }
+    where
+      line : (device : Option ℕ) → option_map (heard_from a.actors.items) device ≡ option_map (heard_at (shown_of a)) device
+      line None = refl
+      line (Some k) = ap Some (heard k)
+
+  -- all that holds of a system
+  pub stands_lawful : StandsLawful (shown_of a)
+  stands_lawful = record {
+    fitted = i.fitted;
+    lawful = record {
+      legal = i.holds.legal;
+      bells_hold = bells_hold (hostile_in (setting_of a)) (setting_of a).history a.rows.items a.journal.items (starts_hold (hostile_in (setting_of a)) a.rows.items) i.holds.legal;
+      flows = queues_flow (hostile_in (setting_of a)) (setting_of a).history a.rows.items a.journal.items (starts_flow (hostile_in (setting_of a)) a.rows.items) i.holds.legal;
+      rows_hold = i.rows_hold;
+    };
+    told = told;
+  }

@@ -1,4 +1,4 @@
-use Rattle.std.proofs.Common.{◌≡◌, ◌≢◌, ◌⊎◌, ◌<◌, ◌≤◌, ◌++◌, ℕ, zero, suc, Bool, true, false, not, Some, None, Option, List, [], ◌∷◌, length, map, flat_map, codes, slice_get, refl, sym, ap, ◌∙◌, subst, arith, inl, inr, ⊎_elim, unwrap_or}
+use Rattle.std.proofs.Common.{◌≡◌, ◌⊎◌, ◌<◌, ◌≤◌, ◌++◌, ℕ, zero, suc, Bool, true, false, not, Some, None, Option, List, [], ◌∷◌, length, length-append, map, filter, flat_map, codes, slice_get, refl, sym, ap, ◌∙◌, subst, arith, inl, inr, ⊎_elim, unwrap_or}
 use Rattle.std.specs.Option.{IsSomeAnd, option_and_then, option_map}
 use Rattle.std.specs.Str.{bytes_eq}
 use Rattle.std.proofs.lemmas.Bool.{cases_lt}
@@ -19,12 +19,12 @@ use Rattle.sdf_check.specs.Roles.{IsProgramOf, serial_roles, serial_client_roles
 use Rattle.sdf_check.specs.ClassRules.{class_domains, the_domain, Plays, GivesWrongRole, IsClientCount}
 use Rattle.sdf_check.specs.Valid.{Valid, broken}
 use Rattle.sdf_check.proofs.NamedLemmas.{named-none}
-use Rattle.region_layout.specs.Rows.{acts, actors_of, actor_named}
+use Rattle.region_layout.specs.Rows.{acts, actors_of, actor_named, acting_count, uart_number}
 use Rattle.system_core.specs.Builds.{number_named}
-use Rattle.system_core.proofs.Merges.{some_is, map_get, map_from}
-use Rattle.system_core.proofs.Prefixes.{there_is, there_below}
+use Rattle.play_core.proofs.Lists.{some_is, map_get, map_from}
+use Rattle.play_core.proofs.Lists.{there_is, there_below}
 use Rattle.system_core.proofs.WalkPlaces.{Stands, stands_left, stands_right, walk_domain, walk_serial, walk_client}
-use Rattle.system_core.proofs.Apart.{option_cases, AreApart, added_cases, apart_added, name_of, acting_names, acting_apart, acting_there, acting_from, place_there, place_is}
+use Rattle.system_core.proofs.Apart.{option_cases, AreApart, added_cases, name_of, acting_names, acting_apart, acting_there, acting_from, place_there, place_is, apart_some}
 
 some_and : {T : Type 0} (o : Option T) (x : T) (P : T → Type 0) → o ≡ Some x → P x → IsSomeAnd o P
 some_and o x P is p = subst (λ z. IsSomeAnd z P) (sym is) p
@@ -51,6 +51,14 @@ idle_plays_nothing For.BlkClient h = cc
 
 abbrev pub pd_of : SerialClient → List ℕ
 pd_of c = c.pd
+
+-- an actor of a plan with the serial class alone: a domain of a name, or the device
+abbrev pub Peer : Type 0
+Peer = Option (List ℕ)
+
+abbrev pub peer_number : Plan → Peer → ℕ
+peer_number plan None = (uart_number plan).0
+peer_number plan (Some a) = number_named plan a
 
 -- in a valid plan
 module _ (plan : Plan) (valid : Valid plan) where
@@ -158,7 +166,7 @@ module _ (plan : Plan) (valid : Valid plan) where
     in_class i a h = ap (λ ns. slice_get ns i) names_are ∙ h
 
     -- no domain has two roles
-    pub roles_differ : AreApart role_names
+    roles_differ : AreApart role_names
     roles_differ i zero a lt p q = omega (arith, lt)
     roles_differ i (suc zero) a lt p q = wrong (inr (1, (i, omega (arith, lt), in_class i serial.rx_virt (p ∙ sym q))))
     roles_differ i (suc (suc zero)) a lt p q = wrong (inr (2, (i, omega (arith, lt), in_class i serial.tx_virt (p ∙ sym q))))
@@ -175,58 +183,88 @@ module _ (plan : Plan) (valid : Valid plan) where
         let m = map_from pd_of serial.client c a h in
         subst (λ n. Stands n (acting_names plan.protection_domain)) m.2 (role_acts m.0.pd For.SerialClient (λ n. wrong_client c m.0 m.1 (inl (0, n))))
 
-    abbrev pub uart : List ℕ
+    abbrev uart : List ℕ
     uart = codes "@uart"
 
     actors_are : actors_of plan ≡ acting_names plan.protection_domain ++ uart ∷ []
     unfolding actors_of
     actors_are = rw (net, has, blk) refl
 
-    -- where no domain has the name of a device
-    module _ (plain : (d : ℕ) (domain : Domain) → slice_get plan.protection_domain d ≡ Some domain → domain.name ≢ codes "@uart") where
-      not_acting : Stands uart (acting_names plan.protection_domain) → ⊥
-      not_acting s = let f = acting_from plan.protection_domain s.0 uart s.1 in plain f.0 f.1 f.2 f.4
+    -- who acts, by their numbers
+    abbrev pub peers : List Peer
+    peers = map Some (acting_names plan.protection_domain) ++ None ∷ []
 
-      actors_differ : AreApart (actors_of plan)
-      actors_differ = subst AreApart (sym actors_are) (apart_added (acting_names plan.protection_domain) uart acting_differ not_acting)
+    peers_count : length peers ≡ length (actors_of plan)
+    peers_count = rw (actors_are, length-append (map Some (acting_names plan.protection_domain)) (None ∷ []), length-append (acting_names plan.protection_domain) (uart ∷ []), length-map (acting_names plan.protection_domain) Some) refl
 
-      pub uart_acts : Stands uart (actors_of plan)
-      uart_acts = subst (Stands uart) (sym actors_are) (stands_right uart (acting_names plan.protection_domain) (uart ∷ []) (0, refl))
+    -- those that have a role
+    abbrev pub role_peers : List Peer
+    role_peers = map Some role_names
 
-      pub role_is_actor : (i : ℕ) (a : List ℕ) → slice_get role_names i ≡ Some a → Stands a (actors_of plan)
-      role_is_actor i a h = subst (Stands a) (sym actors_are) (stands_left a (acting_names plan.protection_domain) (uart ∷ []) (role_acting i a h))
+    pub peers_differ : AreApart role_peers
+    peers_differ = apart_some role_names roles_differ
 
-      pub not_role : (i : ℕ) → slice_get role_names i ≡ Some uart → ⊥
-      not_role i h = not_acting (role_acting i uart h)
+    pub device_acts : Stands None peers
+    device_acts = stands_right None (map Some (acting_names plan.protection_domain)) (None ∷ []) (0, refl)
 
-      number_at : (k : ℕ) (a : List ℕ) → slice_get (actors_of plan) k ≡ Some a → number_named plan a ≡ k
-      unfolding actor_named
-      number_at k a h = ap (λ o. unwrap_or o 0) (place_is a (actors_of plan) k actors_differ h)
+    pub role_is_actor : (i : ℕ) (a : Peer) → slice_get role_peers i ≡ Some a → Stands a peers
+    role_is_actor i a h =
+        let m = map_from Some role_names i a h in
+        let s = role_acting i m.0 m.1 in
+        let there : Stands (Some m.0) (map Some (acting_names plan.protection_domain)) = (s.0, map_get Some (acting_names plan.protection_domain) s.0 m.0 s.1) in
+        subst (λ b. Stands b peers) m.2 (stands_left (Some m.0) (map Some (acting_names plan.protection_domain)) (None ∷ []) there)
 
-      pub named_there : (a : List ℕ) → Stands a (actors_of plan) → slice_get (actors_of plan) (number_named plan a) ≡ Some a
-      named_there a s = ap (slice_get (actors_of plan)) (number_at s.0 a s.1) ∙ s.1
+    pub not_role : (i : ℕ) → slice_get role_peers i ≡ Some None → ⊥
+    not_role i h = let m = map_from Some role_names i None h in let e : Some m.0 ≡ None = m.2 in cc
 
-      -- names with one number are one name
-      pub one_name : (a b : List ℕ) → Stands a (actors_of plan) → Stands b (actors_of plan) → number_named plan a ≡ number_named plan b → a ≡ b
-      one_name a b s t e = some_is (sym (named_there a s) ∙ (ap (slice_get (actors_of plan)) e ∙ named_there b t))
+    number_at : (k : ℕ) (a : Peer) → slice_get peers k ≡ Some a → peer_number plan a ≡ k
+    unfolding actor_named uart_number
+    number_at k None h = elim (added_cases (map Some (acting_names plan.protection_domain)) None None k h) [
+      | inl acting ↦ let m = map_from Some (acting_names plan.protection_domain) k None acting in absurd (let e : Some m.0 ≡ None = m.2 in cc)
+      | inr device ↦
+          let names : length (map Some (acting_names plan.protection_domain)) ≡ length (acting_names plan.protection_domain) = length-map (acting_names plan.protection_domain) Some in
+          let count : length (acting_names plan.protection_domain) ≡ acting_count plan = length-map (filter acts plan.protection_domain) name_of in
+          rw net (omega (arith, names, count, device.1))
+    ]
+    number_at k (Some a) h = elim (added_cases (map Some (acting_names plan.protection_domain)) None (Some a) k h) [
+      | inl acting ↦
+          let m = map_from Some (acting_names plan.protection_domain) k (Some a) acting in
+          let at : slice_get (acting_names plan.protection_domain) k ≡ Some a = m.1 ∙ m.2 in
+          ap (λ o. unwrap_or o 0) (ap (place_of a) actors_are ∙ place_is a uart (acting_names plan.protection_domain) k acting_differ at)
+      | inr device ↦ absurd (let e : None ≡ Some a = device.0 in cc)
+    ]
 
-      pub number_below : (a : List ℕ) → number_named plan a < length (actors_of plan)
-      unfolding actor_named
-      number_below a = elim (option_cases (place_of a (actors_of plan))) [
-        | inl none ↦ let lt = there_below (actors_of plan) uart_acts.0 uart uart_acts.1 in rw none (omega (arith, lt))
-        | inr some ↦ rw some.1 (there_below (actors_of plan) some.0 a (place_there a (actors_of plan) some.0 some.1))
-      ]
+    named_there : (a : Peer) → Stands a peers → slice_get peers (peer_number plan a) ≡ Some a
+    named_there a s = ap (slice_get peers) (number_at s.0 a s.1) ∙ s.1
 
-      -- each actor is the device, or has a role
-      pub who : (k : ℕ) → k < length (actors_of plan) → (a : List ℕ) × (number_named plan a ≡ k) × ((a ≡ uart) ⊎ Stands a role_names)
-      who k lt =
-          let there = there_is (actors_of plan) k lt in (
-            there.0,
-            number_at k there.0 there.1,
-            elim (added_cases (acting_names plan.protection_domain) uart there.0 k (ap (λ ns. slice_get ns k) (sym actors_are) ∙ there.1)) [
-              | inl acting ↦
-                  let f = acting_from plan.protection_domain k there.0 acting in
-                  inr (subst (λ n. Stands n role_names) f.4 (subst (Stands f.1.name) names_are (has_role f.0 f.1 f.2 f.3)))
-              | inr device ↦ inl (sym device.0)
-            ],
-          )
+    -- two with one number are one
+    pub one_peer : (a b : Peer) → Stands a peers → Stands b peers → peer_number plan a ≡ peer_number plan b → a ≡ b
+    one_peer a b s t e = some_is (sym (named_there a s) ∙ (ap (slice_get peers) e ∙ named_there b t))
+
+    pub number_below : (a : Peer) → peer_number plan a < length (actors_of plan)
+    unfolding actor_named
+    number_below None =
+        let lt = there_below peers (peer_number plan None) None (named_there None device_acts) in
+        subst (λ n. peer_number plan None < n) peers_count lt
+    number_below (Some a) = elim (option_cases (place_of a (actors_of plan))) [
+      | inl none ↦
+          let lt = there_below peers (peer_number plan None) None (named_there None device_acts) in
+          rw none (omega (arith, lt, peers_count))
+      | inr some ↦ rw some.1 (there_below (actors_of plan) some.0 a (place_there a (actors_of plan) some.0 some.1))
+    ]
+
+    -- each actor is the device, or has a role
+    pub who : (k : ℕ) → k < length (actors_of plan) → (a : Peer) × (peer_number plan a ≡ k) × ((a ≡ None) ⊎ Stands a role_peers)
+    who k lt =
+        let there = there_is peers k (subst (λ n. k < n) (sym peers_count) lt) in (
+          there.0,
+          number_at k there.0 there.1,
+          elim (added_cases (map Some (acting_names plan.protection_domain)) None there.0 k there.1) [
+            | inl acting ↦
+                let m = map_from Some (acting_names plan.protection_domain) k there.0 acting in
+                let f = acting_from plan.protection_domain k m.0 m.1 in
+                let r : Stands m.0 role_names = subst (λ n. Stands n role_names) f.4 (subst (Stands f.1.name) names_are (has_role f.0 f.1 f.2 f.3)) in
+                inr (subst (λ b. Stands b role_peers) m.2 (r.0, map_get Some role_names r.0 m.0 r.1))
+            | inr device ↦ inl (sym device.0)
+          ],
+        )

@@ -16,7 +16,7 @@ use Rattle.actor_set.specs.Parts.{RxPart, TxPart}
 use Rattle.actor_set.specs.declared.actor.Actor.{Actor}
 use Rattle.system_core.specs.Builds.{every_second}
 use Rattle.system_core.specs.Jobs.{IsOwner, IsCast, AreCast}
-use Rattle.system_core.proofs.Merges.{some_is}
+use Rattle.play_core.proofs.Lists.{some_is}
 use Rattle.system_core.proofs.Apart.{added_cases}
 use Rattle.system_core.proofs.Seconds.{second_length}
 

@@ -1,4 +1,4 @@
-use Rattle.std.proofs.Common.{◌≡◌, ◌⊎◌, ℕ, Some, List, [], ◌∷◌, slice_get, subst, refl, sym, ap, ◌∙◌, zero, suc}
+use Rattle.std.proofs.Common.{◌≡◌, ◌⊎◌, ℕ, Some, List, [], ◌∷◌, slice_get, subst, refl, sym, ap, ◌∙◌, zero, suc, inl, inr}
 use Rattle.wire_core.specs.declared.names.QueueId.{QueueId}
 use Rattle.turn_kit.specs.ManyEnds.{intake_queues, outlet_queues}
 use Rattle.wire_core.specs.Ends.{Role, Consumer, Producer}
@@ -6,6 +6,11 @@ use Rattle.actor_set.specs.Parts.{Part, UartPart, DriverPart, RxPart, TxPart, Cl
 use Rattle.actor_set.specs.Actors.{ActorEnd, part_of, numbers}
 use Rattle.actor_set.specs.declared.actor.Actor.{Actor}
 use Rattle.actor_set.specs.declared.actor.Actor.TheVariants as Kinds
+use Rattle.play_core.specs.Moved.{Seat}
+use Rattle.play_core.specs.Wants.{intake, outlet}
+use Rattle.play_core.specs.Sheets.{Scene}
+use Rattle.play_core.proofs.Lists.{map_get, map_from}
+use Rattle.system_core.specs.Kinds.{sheet}
 
 some_same : {X : Type 0} {a b : X} → Some a ≡ Some b → a ≡ b
 some_same h = cc
@@ -46,7 +51,7 @@ to_part (Kinds.SerialClient x) Producer n h = h
 to_part (Kinds.UartDriver x) Consumer n h = h
 to_part (Kinds.UartDriver x) Producer n h = h
 
-from_part : (x : Actor) (r : Role) (n : ℕ) → PartEnd (part_of x) r n → ActorEnd x r n
+pub from_part : (x : Actor) (r : Role) (n : ℕ) → PartEnd (part_of x) r n → ActorEnd x r n
 from_part (Kinds.UartDevice x) Consumer n h = h
 from_part (Kinds.UartDevice x) Producer n h = h
 from_part (Kinds.SerialVirtRx x) Consumer n h = h
@@ -60,3 +65,38 @@ from_part (Kinds.UartDriver x) Producer n h = h
 
 pub same_part : (x y : Actor) (r : Role) (n : ℕ) → part_of y ≡ part_of x → ActorEnd y r n → ActorEnd x r n
 same_part x y r n e h = from_part x r n (subst (λ p. PartEnd p r n) e (to_part y r n h))
+
+-- a part's ends as its sheet has them
+pub end_seat : (scene : Scene) (p : Part) (r : Role) (n : ℕ) → PartEnd p r n → (i : ℕ) × (slice_get (sheet scene p).ends i ≡ Some (record { queue = n; role = r }))
+end_seat scene (UartPart rx tx input) Consumer n e = (0, ap (λ m. Some (intake m)) (sym e))
+end_seat scene (UartPart rx tx input) Producer n e = (1, ap (λ m. Some (outlet m)) (sym e))
+end_seat scene (DriverPart device_rx device_tx rx tx) Consumer n (inl e) = (0, ap (λ m. Some (intake m)) (sym e))
+end_seat scene (DriverPart device_rx device_tx rx tx) Consumer n (inr e) = (2, ap (λ m. Some (intake m)) (sym e))
+end_seat scene (DriverPart device_rx device_tx rx tx) Producer n (inl e) = (1, ap (λ m. Some (outlet m)) (sym e))
+end_seat scene (DriverPart device_rx device_tx rx tx) Producer n (inr e) = (3, ap (λ m. Some (outlet m)) (sym e))
+end_seat scene (RxPart rx clients) Consumer n e = (0, ap (λ m. Some (intake m)) (sym e))
+end_seat scene (RxPart rx clients) Producer n e = (suc e.0, map_get outlet clients e.0 n e.1)
+end_seat scene (TxPart tx clients) Consumer n e = (suc e.0, map_get intake clients e.0 n e.1)
+end_seat scene (TxPart tx clients) Producer n e = (0, ap (λ m. Some (outlet m)) (sym e))
+end_seat scene (ClientPart rx tx script) Consumer n e = (0, ap (λ m. Some (intake m)) (sym e))
+end_seat scene (ClientPart rx tx script) Producer n e = (1, ap (λ m. Some (outlet m)) (sym e))
+
+as_end : (p : Part) (a b : Seat) → a ≡ b → PartEnd p a.role a.queue → PartEnd p b.role b.queue
+as_end p a b e h = subst (λ (x : Seat). PartEnd p x.role x.queue) e h
+
+pub seat_end : (scene : Scene) (p : Part) (i : ℕ) (x : Seat) → slice_get (sheet scene p).ends i ≡ Some x → PartEnd p x.role x.queue
+seat_end scene (UartPart rx tx input) zero x at = as_end (UartPart rx tx input) (intake tx) x (some_same at) refl
+seat_end scene (UartPart rx tx input) (suc zero) x at = as_end (UartPart rx tx input) (outlet rx) x (some_same at) refl
+seat_end scene (UartPart rx tx input) (suc (suc i)) x at = cc
+seat_end scene (DriverPart device_rx device_tx rx tx) zero x at = as_end (DriverPart device_rx device_tx rx tx) (intake device_rx) x (some_same at) (inl refl)
+seat_end scene (DriverPart device_rx device_tx rx tx) (suc zero) x at = as_end (DriverPart device_rx device_tx rx tx) (outlet rx) x (some_same at) (inl refl)
+seat_end scene (DriverPart device_rx device_tx rx tx) (suc (suc zero)) x at = as_end (DriverPart device_rx device_tx rx tx) (intake tx) x (some_same at) (inr refl)
+seat_end scene (DriverPart device_rx device_tx rx tx) (suc (suc (suc zero))) x at = as_end (DriverPart device_rx device_tx rx tx) (outlet device_tx) x (some_same at) (inr refl)
+seat_end scene (DriverPart device_rx device_tx rx tx) (suc (suc (suc (suc i)))) x at = cc
+seat_end scene (RxPart rx clients) zero x at = as_end (RxPart rx clients) (intake rx) x (some_same at) refl
+seat_end scene (RxPart rx clients) (suc i) x at = let m = map_from outlet clients i x at in as_end (RxPart rx clients) (outlet m.0) x m.2 (i, m.1)
+seat_end scene (TxPart tx clients) zero x at = as_end (TxPart tx clients) (outlet tx) x (some_same at) refl
+seat_end scene (TxPart tx clients) (suc i) x at = let m = map_from intake clients i x at in as_end (TxPart tx clients) (intake m.0) x m.2 (i, m.1)
+seat_end scene (ClientPart rx tx script) zero x at = as_end (ClientPart rx tx script) (intake rx) x (some_same at) refl
+seat_end scene (ClientPart rx tx script) (suc zero) x at = as_end (ClientPart rx tx script) (outlet tx) x (some_same at) refl
+seat_end scene (ClientPart rx tx script) (suc (suc i)) x at = cc

@@ -2,7 +2,7 @@ use Rattle.std.proofs.Common.{◌≡◌, ◌+◌, ◌<◌, ◌≤◌, ℕ, Bool,
 use Rattle.std.specs.List.{remove}
 use Rattle.std.proofs.lemmas.Bool.{lt-ltb, le-ltb, eq-eqb}
 use Rattle.std.proofs.lemmas.Bool.Decides.{nat_tests}
-use Rattle.system_core.specs.Runs.{places_from}
+use Rattle.play_core.specs.Runs.{places_from}
 use Rattle.system_core.specs.Runnings.{with_number}
 
 -- all of them are at least k

@@ -3,25 +3,20 @@ use Rattle.std.proofs.lemmas.List.{append-nil}
 use Rattle.wire_core.specs.declared.names.Entry.{Entry}
 use Rattle.wire_core.specs.Picks.{PickedFrom, next_seed, place_of, drawn}
 use Rattle.wire_core.proofs.Tracks.{PickedFrom-append, drawn-append}
-use Rattle.system_core.specs.Shows.{Shown}
-use Rattle.system_core.specs.Runs.{runnable}
+use Rattle.system_core.specs.Shows.{Shown, runs}
 use Rattle.system_core.specs.Plays.{Played, StepsAt, runnable_now}
 
 -- a play under way: n steps were made, and the number drawn last is x
 pub record Playing (old new : Shown) (seed x n : ℕ) : Type 0 where
-  pub history : new.history ≡ old.history
-  pub rows : new.rows ≡ old.rows
-  pub cast : new.cast ≡ old.cast
-  pub device : new.device ≡ old.device
-  pub clients : new.clients ≡ old.clients
+  pub setting : new.setting ≡ old.setting
   pub more : List Entry
   pub journal : new.journal ≡ old.journal ++ more
-  pub picked : PickedFrom (runnable old.history old.rows old.cast) seed old.journal more
+  pub picked : PickedFrom (runs old.setting) seed old.journal more
   pub drawn_is : x ≡ drawn seed more
   pub count : length more ≡ n
 
 pub start_playing : (old : Shown) (seed : ℕ) → Playing old old seed seed 0
-start_playing old seed = record { history = refl; rows = refl; cast = refl; device = refl; clients = refl; more = []; journal = sym (append-nil old.journal); picked = tt; drawn_is = refl; count = refl }
+start_playing old seed = record { setting = refl; more = []; journal = sym (append-nil old.journal); picked = tt; drawn_is = refl; count = refl }
 
 -- one step more, of the actor that is picked
 pub play_step : (old mid new : Shown) (seed x n x' place count : ℕ) → Playing old mid seed x n → x' ≡ next_seed x → count ≡ length (runnable_now mid) → place ≡ place_of x' count → StepsAt place mid new → Playing old new seed x' (n + 1)
@@ -31,17 +26,13 @@ play_step old mid new seed x n x' place count p next many at s =
     let is : x' ≡ next_seed (drawn seed p.more) = next ∙ ap next_seed p.drawn_is in
     let there : slice_get (runnable_now mid) (place_of (next_seed (drawn seed p.more)) (length (runnable_now mid))) ≡ Some s.actor = rw (← is, ← many, ← at) s.there in
     record {
-      history = a.history ∙ p.history;
-      rows = a.rows ∙ p.rows;
-      cast = a.cast ∙ p.cast;
-      device = a.device ∙ p.device;
-      clients = a.clients ∙ p.clients;
+      setting = a.setting ∙ p.setting;
       more = p.more ++ e ∷ [];
       journal = a.journal ∙ (ap (λ j. j ++ e ∷ []) p.journal ∙ append_assoc old.journal p.more (e ∷ []));
-      picked = PickedFrom-append (runnable old.history old.rows old.cast) seed old.journal p.more e p.picked (rw (← p.journal, ← p.cast, ← p.rows, ← p.history) there);
+      picked = PickedFrom-append (runs old.setting) seed old.journal p.more e p.picked (rw (← p.journal, ← p.setting) there);
       drawn_is = is ∙ sym (drawn-append seed p.more e);
       count = length-append p.more (e ∷ []) ∙ ap (λ m. m + 1) p.count;
     }
 
 pub played : (old new : Shown) (seed x n limit : ℕ) → Playing old new seed x n → n ≤ limit → Played old new seed limit
-played old new seed x n limit p le = record { history = p.history; rows = p.rows; cast = p.cast; device = p.device; clients = p.clients; more = p.more; journal = p.journal; picked = p.picked; within = subst (λ m. m ≤ limit) (sym p.count) le }
+played old new seed x n limit p le = record { setting = p.setting; more = p.more; journal = p.journal; picked = p.picked; within = subst (λ m. m ≤ limit) (sym p.count) le }

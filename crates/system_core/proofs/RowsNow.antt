@@ -7,7 +7,7 @@ use Rattle.wire_core.specs.declared.names.QueueRow.{QueueRow}
 use Rattle.wire_core.specs.declared.names.Entry.{Entry}
 use Rattle.wire_core.specs.Deeds.{Cargo}
 use Rattle.wire_core.specs.Queues.{Queue, items_of}
-use Rattle.wire_core.specs.Journal.{History, track}
+use Rattle.wire_core.specs.Journal.{History, Hostiles, track}
 use Rattle.serial_switch.specs.Carried.{byte_cargo}
 use Rattle.serial_terminal.specs.Terminals.{TerminalStandsFor}
 use Rattle.serial_terminal.specs.declared.Terminal.{Terminal}
@@ -23,12 +23,14 @@ use Rattle.serial_virt.specs.Receiving.{RxStandsFor, owed_to, clients_of}
 use Rattle.serial_virt.specs.declared.rx.SerialVirtRx.{SerialVirtRx}
 use Rattle.serial_virt.specs.Sending.{TxStandsFor}
 use Rattle.serial_virt.specs.declared.tx.SerialVirtTx.{SerialVirtTx}
-use Rattle.system_core.specs.Tracks.{bytes_in}
+use Rattle.serial_law.specs.Bytes.{bytes_in, byte_items}
 use Rattle.system_core.proofs.PartEnds.{queue_there}
-use Rattle.system_core.proofs.Merges.{merge_map}
+use Rattle.play_core.proofs.Merges.{merge_map}
 use Rattle.system_core.proofs.SystemStep.{some_eq}
 use Rattle.actor_set.specs.Parts.{Part}
-use Rattle.system_core.specs.Rows.{PartRow, RowsHold, byte_items}
+use Rattle.play_core.specs.Moved.{moved}
+use Rattle.play_core.specs.Sheets.{Scene, RowsHold}
+use Rattle.system_core.specs.Kinds.{sheet}
 use Rattle.actor_set.specs.Actors.{ActorStandsFor, part_of, numbers}
 use Rattle.system_core.specs.Systems.{Holds}
 use Rattle.actor_set.specs.declared.actor.Actor.{Actor}
@@ -60,7 +62,7 @@ map_back f [] k p h = cc
 map_back f (a ∷ xs) zero p h = (a, refl, some_eq h)
 map_back f (a ∷ xs) (suc k) p h = map_back f xs k p h
 
-module _ (history : History) (rows : List QueueRow) (w : List Queue) (actors : List Actor) (journal : List Entry) (h : Holds history rows w actors journal) where
+module _ (scene : Scene) (history : History) (rows : List QueueRow) (w : List Queue) (actors : List Actor) (journal : List Entry) (h : Holds history rows w actors journal) where
   terminal_row : (t : Terminal) → TerminalStandsFor t h.taken h.sent → IsPrefix (track history t.output.queue.0 journal).sent (byte_items t.script)
   terminal_row t f = (byte_items (drop t.next t.script), rw (← h.shows_sent t.output.queue.0, f.sent_is, items_of_bytes (take t.next t.script)) (split_at t.next t.script))
 
@@ -68,7 +70,7 @@ module _ (history : History) (rows : List QueueRow) (w : List Queue) (actors : L
   pipe_row p f = (items_of (option_to_list p.load), rw (← h.shows_sent p.output.queue.0, ← h.shows_taken p.input.queue.0, f) (sym (map-append (λ (c : Cargo). c.0) (h.sent p.output.queue.0) (option_to_list p.load))))
 
   -- the bytes that entries carry are those of their items
-  rx_row : (v : SerialVirtRx) → RxStandsFor v h.taken h.sent → PartRow (part_of (Kinds.SerialVirtRx v)) history journal
+  rx_row : (v : SerialVirtRx) → RxStandsFor v h.taken h.sent → (sheet scene (part_of (Kinds.SerialVirtRx v))).row (moved history journal)
   rx_row v f = record {
     owner = v.to;
     owed = items_of (option_to_list v.load);
@@ -80,7 +82,7 @@ module _ (history : History) (rows : List QueueRow) (w : List Queue) (actors : L
         rw (← put, ← heard, ← if_items (v.to == c) (option_to_list v.load), length-map) (sym (map-append (λ (x : Cargo). x.0) (h.sent m.0.0) (owed_to v.load v.to c)) ∙ (ap items_of (f.given c m.0 m.1) ∙ items_of_bytes (input_of (clients_of v) c (bytes_carried (h.taken v.input.queue.0)))));
   }
 
-  tx_row : (v : SerialVirtTx) → TxStandsFor v h.taken h.sent → PartRow (part_of (Kinds.SerialVirtTx v)) history journal
+  tx_row : (v : SerialVirtTx) → TxStandsFor v h.taken h.sent → (sheet scene (part_of (Kinds.SerialVirtTx v))).row (moved history journal)
   tx_row v f = record {
     owed = items_of (option_to_list v.load);
     few = one_few v.load;
@@ -94,7 +96,7 @@ module _ (history : History) (rows : List QueueRow) (w : List Queue) (actors : L
       taken_alike [] = refl
       taken_alike (q ∷ qs) = ap (λ l. l ∷ map items_of (map (λ (q : QueueId). h.taken q.0) qs)) (h.shows_taken q.0) ∙ ap (λ ls. (track history q.0 journal).taken ∷ ls) (taken_alike qs)
 
-  actor_row : (x : Actor) → ActorStandsFor x h.taken h.sent → PartRow (part_of x) history journal
+  actor_row : (x : Actor) → ActorStandsFor x h.taken h.sent → (sheet scene (part_of x)).row (moved history journal)
   actor_row (Kinds.UartDevice x) f = terminal_row x.terminal f
   actor_row (Kinds.SerialClient x) f = terminal_row x.terminal f
   actor_row (Kinds.SerialVirtRx x) f = rx_row x f
@@ -102,5 +104,5 @@ module _ (history : History) (rows : List QueueRow) (w : List Queue) (actors : L
   actor_row (Kinds.UartDriver x) f = (pipe_row x.rx f.0, pipe_row x.tx f.1)
 
   -- each actor's row holds now
-  pub rows_now : RowsHold history (map part_of actors) journal
-  rows_now k p at = let m = map_back part_of actors k p at in subst (λ q. PartRow q history journal) m.2 (actor_row m.0 (h.stands k m.0 m.1))
+  pub rows_now : (hostile : Hostiles) → RowsHold (sheet scene) hostile (map part_of actors) (moved history journal)
+  rows_now hostile k p calm at = let m = map_back part_of actors k p at in subst (λ q. (sheet scene q).row (moved history journal)) m.2 (actor_row m.0 (h.stands k m.0 m.1))

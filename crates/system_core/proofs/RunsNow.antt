@@ -11,7 +11,7 @@ use Rattle.wire_core.specs.declared.names.Entry.{Entry}
 use Rattle.wire_core.specs.Deeds.{Cargo}
 use Rattle.wire_core.specs.Ends.{Role, Consumer, Producer, End}
 use Rattle.wire_core.specs.Queues.{Bells, Queue, items_of, queue_at, end_at, end_of, is_called, is_pending}
-use Rattle.wire_core.specs.Journal.{History, IsShown, track}
+use Rattle.wire_core.specs.Journal.{History, Hostiles, IsShown, track}
 use Rattle.wire_core.proofs.Moving.{there_if_owned}
 use Rattle.wire_core.proofs.Tracks.{shown_calls}
 use Rattle.turn_kit.specs.Table.{Agrees, is_settled}
@@ -33,14 +33,19 @@ use Rattle.turn_kit.specs.declared.ends.Outlet.{Outlet}
 use Rattle.serial_switch.specs.Carried.{byte_cargo, bytes_carried}
 use Rattle.serial_switch.specs.Switching.{input_of}
 use Rattle.system_core.proofs.RowsNow.{carried_in}
-use Rattle.system_core.proofs.Merges.{total, merge_total}
+use Rattle.play_core.proofs.Merges.{merge_total}
+use Rattle.play_core.specs.Totals.{total}
 use Rattle.serial_virt.specs.Receiving.{FitsRx, RxStandsFor, rx_round, owed_to, clients_of, place_loaded}
 use Rattle.serial_virt.specs.declared.rx.SerialVirtRx.{SerialVirtRx}
 use Rattle.serial_virt.specs.Sending.{FitsTx, TxStandsFor, tx_round}
 use Rattle.serial_virt.specs.declared.tx.SerialVirtTx.{SerialVirtTx}
-use Rattle.system_core.specs.Tracks.{bytes_in, Want, end_settled, want_settled, all_settled, sent, taken}
-use Rattle.system_core.specs.Rows.{wants, is_owed, some_owed, shares, taken_count, is_held}
-use Rattle.system_core.specs.Runs.{called_from, is_runnable}
+use Rattle.play_core.specs.Moved.{moved, sent, taken}
+use Rattle.play_core.specs.Wants.{Want, intake_want, end_settled, bells_settled, want_settled, all_settled}
+use Rattle.play_core.specs.Runs.{called_from, is_runnable}
+use Rattle.play_core.specs.Sheets.{Scene}
+use Rattle.serial_law.specs.Bytes.{bytes_in, is_owed}
+use Rattle.serial_law.specs.Table.{some_owed, shares, taken_count, is_held}
+use Rattle.system_core.specs.Kinds.{sheet}
 use Rattle.actor_set.specs.Actors.{FitsActor, ActorStandsFor, part_of, actor_round, numbers}
 use Rattle.system_core.specs.Systems.{Holds}
 use Rattle.actor_set.specs.declared.actor.Actor.{Actor}
@@ -53,10 +58,10 @@ both e f = cc
 pub either : {a b c d : Bool} → a ≡ b → c ≡ d → (a || c) ≡ (b || d)
 either e f = cc
 
-kept_settled : (e : End) (k : Kept) (need : Bool) → Agrees e k → is_settled k need ≡ end_settled e need
+kept_settled : (e : End) (k : Kept) (need : Bool) → Agrees e k → is_settled k need ≡ end_settled e.waiter e.ringer need
 kept_settled e k need a = rw (a.ringer, a.waiter) refl
 
-same_settled : (mine : Bool) (k : QueueKind) (b : Bells) (r : Role) (need : Bool) → end_settled (end_of mine k b r) need ≡ end_settled (end_of true Kind.Byte b r) need
+same_settled : (mine : Bool) (k : QueueKind) (b : Bells) (r : Role) (need : Bool) → end_settled (end_of mine k b r).waiter (end_of mine k b r).ringer need ≡ bells_settled b r need
 same_settled mine k b Consumer need = refl
 same_settled mine k b Producer need = refl
 
@@ -95,7 +100,7 @@ held_is (Some c) n m e = sym (lt-ltb n m (omega (arith, e)))
 index_moves : (c k : ℕ) → c + suc k ≡ (c + 1) + k
 index_moves c k = omega arith
 
-shares_meet : (ends : Role → ℕ → End) (place : Option ℕ) (all : ℕ) (bytes : List ℕ) (c : ℕ) (os : List Outlet) (history : History) (journal : List Entry) → ((k : ℕ) (o : Outlet) → slice_get os k ≡ Some o → Agrees (ends Producer o.queue.0) o.kept) → ((k : ℕ) (q : QueueId) → slice_get (map (λ (o : Outlet). o.queue) os) k ≡ Some q → is_here place (c + k) ≡ is_owed (sent history q.0 journal) (input_of all (c + k) bytes)) → Meet ends (map outlet_post os) (loads_from place c (map (λ (o : Outlet). o.queue) os)) (shares all bytes c (numbers (map (λ (o : Outlet). o.queue) os)) history journal)
+shares_meet : (ends : Role → ℕ → End) (place : Option ℕ) (all : ℕ) (bytes : List ℕ) (c : ℕ) (os : List Outlet) (history : History) (journal : List Entry) → ((k : ℕ) (o : Outlet) → slice_get os k ≡ Some o → Agrees (ends Producer o.queue.0) o.kept) → ((k : ℕ) (q : QueueId) → slice_get (map (λ (o : Outlet). o.queue) os) k ≡ Some q → is_here place (c + k) ≡ is_owed (sent history q.0 journal) (input_of all (c + k) bytes)) → Meet ends (map outlet_post os) (loads_from place c (map (λ (o : Outlet). o.queue) os)) (shares all bytes c (numbers (map (λ (o : Outlet). o.queue) os)) (moved history journal))
 shares_meet ends place all bytes c [] history journal agrees owed = tt
 shares_meet ends place all bytes c (o ∷ os) history journal agrees owed =
     let z : c + 0 ≡ c = omega arith in (
@@ -103,14 +108,14 @@ shares_meet ends place all bytes c (o ∷ os) history journal agrees owed =
       shares_meet ends place all bytes (c + 1) os history journal (λ k x at. agrees (suc k) x at) (λ k q at. subst (λ i. is_here place i ≡ is_owed (sent history q.0 journal) (input_of all i bytes)) (index_moves c k) (owed (suc k) q at)),
     )
 
-nobody_owed : (all : ℕ) (bytes : List ℕ) (c : ℕ) (qs : List QueueId) (history : History) (journal : List Entry) → ((k : ℕ) (q : QueueId) → slice_get qs k ≡ Some q → false ≡ is_owed (sent history q.0 journal) (input_of all (c + k) bytes)) → some_owed all bytes c (numbers qs) history journal ≡ false
+nobody_owed : (all : ℕ) (bytes : List ℕ) (c : ℕ) (qs : List QueueId) (history : History) (journal : List Entry) → ((k : ℕ) (q : QueueId) → slice_get qs k ≡ Some q → false ≡ is_owed (sent history q.0 journal) (input_of all (c + k) bytes)) → some_owed all bytes c (numbers qs) (moved history journal) ≡ false
 nobody_owed all bytes c [] history journal owed = refl
 nobody_owed all bytes c (q ∷ qs) history journal owed =
     let z : c + 0 ≡ c = omega arith in
     let e : is_owed (sent history q.0 journal) (input_of all c bytes) ≡ false = subst (λ i. is_owed (sent history q.0 journal) (input_of all i bytes) ≡ false) z (sym (owed 0 q refl)) in
     rw (e, nobody_owed all bytes (c + 1) qs history journal (λ k x at. subst (λ i. false ≡ is_owed (sent history x.0 journal) (input_of all i bytes)) (index_moves c k) (owed (suc k) x at))) refl
 
-one_owed : (to all : ℕ) (bytes : List ℕ) (c : ℕ) (qs : List QueueId) (history : History) (journal : List Entry) → c ≤ to → to < c + length qs → ((k : ℕ) (q : QueueId) → slice_get qs k ≡ Some q → nat_eq to (c + k) ≡ is_owed (sent history q.0 journal) (input_of all (c + k) bytes)) → ((eqb to c ≡ true) × (to ≡ c)) ⊎ ((eqb to c ≡ false) × (to ≢ c)) → some_owed all bytes c (numbers qs) history journal ≡ true
+one_owed : (to all : ℕ) (bytes : List ℕ) (c : ℕ) (qs : List QueueId) (history : History) (journal : List Entry) → c ≤ to → to < c + length qs → ((k : ℕ) (q : QueueId) → slice_get qs k ≡ Some q → nat_eq to (c + k) ≡ is_owed (sent history q.0 journal) (input_of all (c + k) bytes)) → ((eqb to c ≡ true) × (to ≡ c)) ⊎ ((eqb to c ≡ false) × (to ≢ c)) → some_owed all bytes c (numbers qs) (moved history journal) ≡ true
 one_owed to all bytes c [] history journal le lt owed t = absurd (omega arith)
 one_owed to all bytes c (q ∷ qs) history journal le lt owed (inl t) =
     let z : c + 0 ≡ c = omega arith in
@@ -123,11 +128,11 @@ one_owed to all bytes c (q ∷ qs) history journal le lt owed (inr t) =
     or_true true = refl
     or_true false = refl
 
-owed_some : (to : ℕ) (load : Option Cargo) (all : ℕ) (bytes : List ℕ) (c : ℕ) (qs : List QueueId) (history : History) (journal : List Entry) → (is_some load ≡ true → (c ≤ to) × (to < c + length qs)) → ((k : ℕ) (q : QueueId) → slice_get qs k ≡ Some q → is_here (option_map (λ x. to) load) (c + k) ≡ is_owed (sent history q.0 journal) (input_of all (c + k) bytes)) → some_owed all bytes c (numbers qs) history journal ≡ is_some load
+owed_some : (to : ℕ) (load : Option Cargo) (all : ℕ) (bytes : List ℕ) (c : ℕ) (qs : List QueueId) (history : History) (journal : List Entry) → (is_some load ≡ true → (c ≤ to) × (to < c + length qs)) → ((k : ℕ) (q : QueueId) → slice_get qs k ≡ Some q → is_here (option_map (λ x. to) load) (c + k) ≡ is_owed (sent history q.0 journal) (input_of all (c + k) bytes)) → some_owed all bytes c (numbers qs) (moved history journal) ≡ is_some load
 owed_some to None all bytes c qs history journal there owed = nobody_owed all bytes c qs history journal owed
 owed_some to (Some x) all bytes c qs history journal there owed = let t = there refl in one_owed to all bytes c qs history journal t.0 t.1 owed (eqb_tells to c)
 
-inputs_meet : (ends : Role → ℕ → End) (need need' : Bool) (is : List Intake) → need ≡ need' → ((k : ℕ) (i : Intake) → slice_get is k ≡ Some i → Agrees (ends Consumer i.queue.0) i.kept) → Meet ends (map intake_post is) (all_need need (map (λ (i : Intake). i.queue) is)) (map (λ q. record { queue = q; role = Consumer; need = need' }) (numbers (map (λ (i : Intake). i.queue) is)))
+inputs_meet : (ends : Role → ℕ → End) (need need' : Bool) (is : List Intake) → need ≡ need' → ((k : ℕ) (i : Intake) → slice_get is k ≡ Some i → Agrees (ends Consumer i.queue.0) i.kept) → Meet ends (map intake_post is) (all_need need (map (λ (i : Intake). i.queue) is)) (map (λ q. intake_want q need') (numbers (map (λ (i : Intake). i.queue) is)))
 inputs_meet ends need need' [] same agrees = tt
 inputs_meet ends need need' (i ∷ is) same agrees = (record { needs = same; agrees = agrees 0 i refl }, inputs_meet ends need need' is same (λ k x at. agrees (suc k) x at))
 
@@ -143,7 +148,7 @@ called_queues actor n history journal (row ∷ rows) (q ∷ qs) size shown =
     moved : (n m : ℕ) → n + suc m ≡ (n + 1) + m
     moved n m = omega arith
 
-module _ (history : History) (rows : List QueueRow) (w : List Queue) (actors : List Actor) (journal : List Entry) (h : Holds history rows w actors journal) where
+module _ (scene : Scene) (history : History) (rows : List QueueRow) (w : List Queue) (actors : List Actor) (journal : List Entry) (h : Holds history rows w actors journal) where
   bells_here : (n : ℕ) (r : Role) → (end_at w r n).owned ≡ true → (queue_at w n).bells ≡ (track history n journal).bells
   bells_here n r owned = (h.queues n (get_or rows n no_row) (slice_get-get_or rows n no_row (subst (λ m. n < m) h.size (there_if_owned w r n owned)))).bells
 
@@ -152,7 +157,7 @@ module _ (history : History) (rows : List QueueRow) (w : List Queue) (actors : L
       ap (is_settled p.kept) m.needs
       ∙ (kept_settled (end_at w x.role x.queue) p.kept x.need m.agrees
       ∙ (same_settled (nat_lt x.queue (length w)) (queue_at w x.queue).kind (queue_at w x.queue).bells x.role x.need
-      ∙ ap (λ b. end_settled (end_of true Kind.Byte b x.role) x.need) (bells_here x.queue x.role m.agrees.owned)))
+      ∙ ap (λ b. bells_settled b x.role x.need) (bells_here x.queue x.role m.agrees.owned)))
 
   all_here : (ps : List Post) (needs : List Bool) (ws : List Want) → Meet (end_at w) ps needs ws → settled_all ps needs ≡ all_settled history journal ws
   all_here [] [] [] m = refl
@@ -180,7 +185,7 @@ module _ (history : History) (rows : List QueueRow) (w : List Queue) (actors : L
       let all : length (h.sent q.0) + length (owed_to v.load v.to k) ≡ length (input_of (clients_of v) k (bytes_carried (h.taken v.input.queue.0))) = sym (length-append (h.sent q.0) (owed_to v.load v.to k)) ∙ (ap length (st.given k q at) ∙ length-map (input_of (clients_of v) k (bytes_carried (h.taken v.input.queue.0))) byte_cargo) in
       subst (λ i. is_here (place_loaded v) i ≡ nat_lt (length (track history q.0 journal).sent) (length (input_of (clients_of v) i (bytes_carried (h.taken v.input.queue.0))))) z (owed_here v.load v.to k (length (track history q.0 journal).sent) (length (input_of (clients_of v) k (bytes_carried (h.taken v.input.queue.0)))) (omega arith) (eqb_tells v.to k))
 
-  rx_meets : (v : SerialVirtRx) → FitsRx (end_at w) v → RxStandsFor v h.taken h.sent → Meet (end_at w) (rx_round v).posts (rx_round v).needs (wants (part_of (Kinds.SerialVirtRx v)) history journal)
+  rx_meets : (v : SerialVirtRx) → FitsRx (end_at w) v → RxStandsFor v h.taken h.sent → Meet (end_at w) (rx_round v).posts (rx_round v).needs ((sheet scene (part_of (Kinds.SerialVirtRx v))).wants (moved history journal))
   rx_meets v f st =
       let n : length (numbers (outlet_queues v.outputs)) ≡ clients_of v = simp length-map in
       let heard : bytes_in (taken history v.input.queue.0 journal) ≡ bytes_carried (h.taken v.input.queue.0) = sym (carried_in (h.taken v.input.queue.0) ∙ ap bytes_in (h.shows_taken v.input.queue.0)) in
@@ -189,24 +194,24 @@ module _ (history : History) (rows : List QueueRow) (w : List Queue) (actors : L
         shares_meet (end_at w) (place_loaded v) (clients_of v) (bytes_carried (h.taken v.input.queue.0)) 0 v.outputs.ends.items history journal f.outputs.agrees (rx_owed v st),
       )
 
-  tx_held : (v : SerialVirtTx) → TxStandsFor v h.taken h.sent → is_some v.load ≡ is_held v.output.queue.0 (numbers (intake_queues v.inputs)) history journal
+  tx_held : (v : SerialVirtTx) → TxStandsFor v h.taken h.sent → is_some v.load ≡ is_held v.output.queue.0 (numbers (intake_queues v.inputs)) (moved history journal)
   tx_held v st =
       let all : length (h.sent v.output.queue.0 ++ option_to_list v.load) ≡ total (map (λ (q : QueueId). h.taken q.0) (intake_queues v.inputs)) = merge_total _ _ st in
       let put : length (h.sent v.output.queue.0) ≡ length (track history v.output.queue.0 journal).sent = sym (length-map (h.sent v.output.queue.0) (λ (c : Cargo). c.0)) ∙ ap length (h.shows_sent v.output.queue.0) in
-      held_is v.load (length (track history v.output.queue.0 journal).sent) (taken_count (numbers (intake_queues v.inputs)) history journal) (let a = length-append (h.sent v.output.queue.0) (option_to_list v.load) in let b = took_count (intake_queues v.inputs) in omega arith)
+      held_is v.load (length (track history v.output.queue.0 journal).sent) (taken_count (numbers (intake_queues v.inputs)) (moved history journal)) (let a = length-append (h.sent v.output.queue.0) (option_to_list v.load) in let b = took_count (intake_queues v.inputs) in omega arith)
     where
-      took_count : (qs : List QueueId) → total (map (λ (q : QueueId). h.taken q.0) qs) ≡ taken_count (numbers qs) history journal
+      took_count : (qs : List QueueId) → total (map (λ (q : QueueId). h.taken q.0) qs) ≡ taken_count (numbers qs) (moved history journal)
       took_count [] = refl
       took_count (q ∷ qs) =
           let put : length (h.taken q.0) ≡ length (track history q.0 journal).taken = sym (length-map (h.taken q.0) (λ (c : Cargo). c.0)) ∙ ap length (h.shows_taken q.0) in
           ap (λ n. n + total (map (λ (q : QueueId). h.taken q.0) qs)) put ∙ ap (λ n. length (track history q.0 journal).taken + n) (took_count qs)
 
-  tx_meets : (v : SerialVirtTx) → FitsTx (end_at w) v → TxStandsFor v h.taken h.sent → Meet (end_at w) (tx_round v).posts (tx_round v).needs (wants (part_of (Kinds.SerialVirtTx v)) history journal)
+  tx_meets : (v : SerialVirtTx) → FitsTx (end_at w) v → TxStandsFor v h.taken h.sent → Meet (end_at w) (tx_round v).posts (tx_round v).needs ((sheet scene (part_of (Kinds.SerialVirtTx v))).wants (moved history journal))
   tx_meets v f st =
-      let held : is_some v.load ≡ is_held v.output.queue.0 (numbers (intake_queues v.inputs)) history journal = tx_held v st in
-      (record { needs = held; agrees = f.output }, inputs_meet (end_at w) (is_none v.load) (not (is_held v.output.queue.0 (numbers (intake_queues v.inputs)) history journal)) v.inputs.ends.items (none_is v.load ∙ ap not held) f.inputs.agrees)
+      let held : is_some v.load ≡ is_held v.output.queue.0 (numbers (intake_queues v.inputs)) (moved history journal) = tx_held v st in
+      (record { needs = held; agrees = f.output }, inputs_meet (end_at w) (is_none v.load) (not (is_held v.output.queue.0 (numbers (intake_queues v.inputs)) (moved history journal))) v.inputs.ends.items (none_is v.load ∙ ap not held) f.inputs.agrees)
 
-  meets : (x : Actor) → FitsActor (end_at w) x → ActorStandsFor x h.taken h.sent → Meet (end_at w) (actor_round x).posts (actor_round x).needs (wants (part_of x) history journal)
+  meets : (x : Actor) → FitsActor (end_at w) x → ActorStandsFor x h.taken h.sent → Meet (end_at w) (actor_round x).posts (actor_round x).needs ((sheet scene (part_of x)).wants (moved history journal))
   meets (Kinds.UartDevice x) f st = (record { needs = refl; agrees = f.input }, (record { needs = said x.terminal f st; agrees = f.output }, tt))
   meets (Kinds.SerialClient x) f st = (record { needs = refl; agrees = f.input }, (record { needs = said x.terminal f st; agrees = f.output }, tt))
   meets (Kinds.SerialVirtRx x) f st = rx_meets x f st
@@ -223,16 +228,17 @@ module _ (history : History) (rows : List QueueRow) (w : List Queue) (actors : L
   )
 
   -- an actor is at rest where its part is
-  pub rests_here : (k : ℕ) (x : Actor) → slice_get actors k ≡ Some x → is_at_rest (actor_round x) ≡ all_settled history journal (wants (part_of x) history journal)
-  rests_here k x at = all_here (actor_round x).posts (actor_round x).needs (wants (part_of x) history journal) (meets x (h.fits k x at) (h.stands k x at))
+  pub rests_here : (k : ℕ) (x : Actor) → slice_get actors k ≡ Some x → is_at_rest (actor_round x) ≡ all_settled history journal ((sheet scene (part_of x)).wants (moved history journal))
+  rests_here k x at = all_here (actor_round x).posts (actor_round x).needs ((sheet scene (part_of x)).wants (moved history journal)) (meets x (h.fits k x at) (h.stands k x at))
 
   pub called_here : (actor : ℕ) → is_pending actor w ≡ called_from actor 0 history rows journal
   called_here actor = called_queues actor 0 history journal rows w h.size (λ m row at. let e : m ≡ 0 + m = omega arith in subst (λ i. IsShown row (queue_at w m) (track history i journal)) e (h.queues m row at))
 
   -- whether an actor is idle is what the journal says of its part
-  pub idle_here : (k : ℕ) (x : Actor) → slice_get actors k ≡ Some x → (is_at_rest (actor_round x) && not (is_pending k w)) ≡ not (is_runnable k (part_of x) history rows journal)
-  idle_here k x at = both (rests_here k x at) (ap not (called_here k)) ∙ turned (all_settled history journal (wants (part_of x) history journal)) (called_from k 0 history rows journal)
+  pub idle_here : (hostile : Hostiles) (k : ℕ) (x : Actor) → hostile k ≡ false → slice_get actors k ≡ Some x → (is_at_rest (actor_round x) && not (is_pending k w)) ≡ not (is_runnable hostile k ((sheet scene (part_of x)).wants (moved history journal)) history rows journal)
+  idle_here hostile k x calm at = both (rests_here k x at) (ap not (called_here k)) ∙ turned (hostile k) (all_settled history journal ((sheet scene (part_of x)).wants (moved history journal))) (called_from k 0 history rows journal) calm
     where
-      turned : (a b : Bool) → (a && not b) ≡ not (not a || b)
-      turned true b = refl
-      turned false b = refl
+      turned : (h a b : Bool) → h ≡ false → (a && not b) ≡ not (not a || (not h && b))
+      turned true a b calm = cc
+      turned false true b calm = refl
+      turned false false b calm = refl

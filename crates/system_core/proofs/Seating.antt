@@ -32,7 +32,7 @@ use Rattle.actor_set.specs.declared.actor.Actor.TheVariants as Kinds
 use Rattle.system_core.specs.Seats.{IsNew, HasApartEnds, HasSeat, AreSeated}
 use Rattle.system_core.specs.Starts.{AreStarting}
 use Rattle.system_core.proofs.SystemStep.{some_eq}
-use Rattle.system_core.proofs.Merges.{map_get, map_from}
+use Rattle.play_core.proofs.Lists.{map_get, map_from}
 
 abbrev start_end : Role → End
 start_end Consumer = record { owned = true; kind = Kind.Byte; waiter = Wait.Busy; ringer = Rung.Free; looked = false }

@@ -2,7 +2,7 @@ use Rattle.std.proofs.Common.{◌≡◌, ◌+◌, ◌*◌, ◌<◌, ◌++◌, �
 use Rattle.wire_core.specs.declared.names.QueueId.{QueueId}
 use Rattle.actor_set.specs.Actors.{numbers}
 use Rattle.system_core.specs.Builds.{every_second}
-use Rattle.system_core.proofs.Merges.{some_is}
+use Rattle.play_core.proofs.Lists.{some_is}
 
 pub second_get : (first count k m : ℕ) → slice_get (every_second first count) k ≡ Some m → (k < count) × (m ≡ first + 2 * k)
 second_get first zero k m h = cc

@@ -1,17 +1,18 @@
 use Rattle.std.proofs.Common.{◌≡◌, ◌+◌, ◌*◌, ◌++◌, ℕ, zero, suc, Some, None, Option, List, [], ◌∷◌, length, codes, slice_get, refl, sym, ap, ◌∙◌, subst, arith}
 use Rattle.std.proofs.lemmas.List.{append-nil}
 use Rattle.cargo_core.specs.declared.item.QueueKind.TheVariants as Kind
+use Rattle.wire_core.specs.declared.names.ActorId.{ActorId}
 use Rattle.wire_core.specs.declared.names.QueueRow.{QueueRow}
 use Rattle.wire_core.specs.Ends.{Role, Consumer, Producer}
 use Rattle.wire_core.specs.Journal.{owner_of}
 use Rattle.sdf_model.specs.declared.plan.Plan.{Plan}
 use Rattle.sdf_model.specs.declared.plan.Serial.{Serial}
 use Rattle.sdf_model.specs.declared.plan.SerialClient.{SerialClient}
-use Rattle.region_layout.specs.Rows.{device_queue, only_queue, queue_in, client_name, each_client, uart_queues, shared_serial_queues, serial_client_queues, net_queues, serial_queues, blk_queues, queues_of}
+use Rattle.region_layout.specs.Rows.{actor_named, uart_number, device_queue, only_queue, queue_in, client_name, each_client, uart_queues, shared_serial_queues, serial_client_queues, net_queues, serial_queues, blk_queues, queues_of}
 use Rattle.std.specs.Option.{option_map_or}
-use Rattle.system_core.specs.Builds.{number_named}
 use Rattle.system_core.specs.Seats.{HasSeat}
-use Rattle.system_core.proofs.Merges.{some_is}
+use Rattle.play_core.proofs.Lists.{some_is}
+use Rattle.system_core.proofs.Named.{Peer, peer_number}
 
 -- the two rows of each client
 client_rows : {C T : Type 0} (rows : ℕ → C → List T) (first second : ℕ → C → T) → ((c : ℕ) (x : C) → rows c x ≡ first c x ∷ second c x ∷ []) → (from : ℕ) (clients : List C) (c : ℕ) (x : C) → slice_get clients c ≡ Some x
@@ -42,26 +43,29 @@ each_row P rows all from [] n row h = cc
 each_row P rows all from (y ∷ ys) n row h = row_in P (rows from y) (each_client rows (from + 1) ys) (all from y) (each_row P rows all (from + 1) ys) n row h
 
 module _ (plan : Plan) (serial : Serial) (net : plan.net ≡ None) (blk : plan.blk ≡ None) (has : plan.serial ≡ Some serial) where
-  abbrev uart : List ℕ
-  uart = codes "@uart"
+  abbrev uart : ActorId
+  uart = uart_number plan
+
+  abbrev named : List ℕ → ActorId
+  named a = actor_named plan a
 
   abbrev row_0 : QueueRow
-  row_0 = device_queue plan (codes "uart.rx") Kind.Byte uart serial.driver serial.rx_capacity
+  row_0 = device_queue plan (codes "uart.rx") Kind.Byte uart (named serial.driver) serial.rx_capacity
 
   abbrev row_1 : QueueRow
-  row_1 = device_queue plan (codes "uart.tx") Kind.Byte serial.driver uart serial.tx_capacity
+  row_1 = device_queue plan (codes "uart.tx") Kind.Byte (named serial.driver) uart serial.tx_capacity
 
   abbrev row_2 : QueueRow
-  row_2 = only_queue plan serial.rx_queues (codes "serial.rx") Kind.Byte serial.driver serial.rx_virt serial.rx_capacity
+  row_2 = only_queue plan serial.rx_queues (codes "serial.rx") Kind.Byte (named serial.driver) (named serial.rx_virt) serial.rx_capacity
 
   abbrev row_3 : QueueRow
-  row_3 = only_queue plan serial.tx_queues (codes "serial.tx") Kind.Byte serial.tx_virt serial.driver serial.tx_capacity
+  row_3 = only_queue plan serial.tx_queues (codes "serial.tx") Kind.Byte (named serial.tx_virt) (named serial.driver) serial.tx_capacity
 
   abbrev client_rx : ℕ → SerialClient → QueueRow
-  client_rx c client = only_queue plan client.rx_queues (client_name (codes "serial.") c (codes ".rx")) Kind.Byte serial.rx_virt client.pd client.rx_capacity
+  client_rx c client = only_queue plan client.rx_queues (client_name (codes "serial.") c (codes ".rx")) Kind.Byte (named serial.rx_virt) (named client.pd) client.rx_capacity
 
   abbrev client_tx : ℕ → SerialClient → QueueRow
-  client_tx c client = only_queue plan client.tx_queues (client_name (codes "serial.") c (codes ".tx")) Kind.Byte client.pd serial.tx_virt client.tx_capacity
+  client_tx c client = only_queue plan client.tx_queues (client_name (codes "serial.") c (codes ".tx")) Kind.Byte (named client.pd) (named serial.tx_virt) client.tx_capacity
 
   abbrev clients : List QueueRow
   clients = each_client (serial_client_queues plan serial) 0 serial.client
@@ -81,24 +85,24 @@ module _ (plan : Plan) (serial : Serial) (net : plan.net ≡ None) (blk : plan.b
   at_row n row h = ap (λ rs. slice_get rs n) rows_are ∙ h
 
   -- the two seats at a queue
-  seats_at : (n : ℕ) (region : Option ℕ) (offset : ℕ) (name from to : List ℕ) (capacity : ℕ) → slice_get (queues_of plan) n ≡ Some (queue_in plan region offset name Kind.Byte from to capacity)
-      → HasSeat (queues_of plan) (number_named plan from) Producer n × HasSeat (queues_of plan) (number_named plan to) Consumer n
+  seats_at : (n : ℕ) (region : Option ℕ) (offset : ℕ) (name : List ℕ) (from to : ActorId) (capacity : ℕ) → slice_get (queues_of plan) n ≡ Some (queue_in plan region offset name Kind.Byte from to capacity)
+      → HasSeat (queues_of plan) from.0 Producer n × HasSeat (queues_of plan) to.0 Consumer n
   unfolding queue_in
   seats_at n region offset name from to capacity there = (record { row = _; there = there; owner = refl; kind = refl }, record { row = _; there = there; owner = refl; kind = refl })
 
-  abbrev pub Seat : List ℕ → Role → ℕ → Type 0
-  Seat a r n = HasSeat (queues_of plan) (number_named plan a) r n
+  abbrev pub Seat : ActorId → Role → ℕ → Type 0
+  Seat a r n = HasSeat (queues_of plan) a.0 r n
 
-  pub seats_0 : Seat uart Producer 0 × Seat serial.driver Consumer 0
+  pub seats_0 : Seat uart Producer 0 × Seat (named serial.driver) Consumer 0
   seats_0 = seats_at 0 _ _ _ _ _ _ (at_row 0 row_0 refl)
 
-  pub seats_1 : Seat serial.driver Producer 1 × Seat uart Consumer 1
+  pub seats_1 : Seat (named serial.driver) Producer 1 × Seat uart Consumer 1
   seats_1 = seats_at 1 _ _ _ _ _ _ (at_row 1 row_1 refl)
 
-  pub seats_2 : Seat serial.driver Producer 2 × Seat serial.rx_virt Consumer 2
+  pub seats_2 : Seat (named serial.driver) Producer 2 × Seat (named serial.rx_virt) Consumer 2
   seats_2 = seats_at 2 _ _ _ _ _ _ (at_row 2 row_2 refl)
 
-  pub seats_3 : Seat serial.tx_virt Producer 3 × Seat serial.driver Consumer 3
+  pub seats_3 : Seat (named serial.tx_virt) Producer 3 × Seat (named serial.driver) Consumer 3
   seats_3 = seats_at 3 _ _ _ _ _ _ (at_row 3 row_3 refl)
 
   both_rows : (c : ℕ) (client : SerialClient) → slice_get serial.client c ≡ Some client → (slice_get clients (2 * c) ≡ Some (client_rx c client)) × (slice_get clients (suc (2 * c)) ≡ Some (client_tx c client))
@@ -110,17 +114,17 @@ module _ (plan : Plan) (serial : Serial) (net : plan.net ≡ None) (blk : plan.b
   at_client : (n m : ℕ) (row : QueueRow) → n ≡ suc (suc (suc (suc m))) → slice_get clients m ≡ Some row → slice_get (queues_of plan) n ≡ Some row
   at_client n m row e h = ap (slice_get (queues_of plan)) e ∙ at_row (suc (suc (suc (suc m)))) row h
 
-  pub seats_rx : (c : ℕ) (client : SerialClient) → slice_get serial.client c ≡ Some client → Seat serial.rx_virt Producer (4 + 2 * c) × Seat client.pd Consumer (4 + 2 * c)
+  pub seats_rx : (c : ℕ) (client : SerialClient) → slice_get serial.client c ≡ Some client → Seat (named serial.rx_virt) Producer (4 + 2 * c) × Seat (named client.pd) Consumer (4 + 2 * c)
   seats_rx c client h = seats_at (4 + 2 * c) _ _ _ _ _ _ (at_client (4 + 2 * c) (2 * c) (client_rx c client) (omega arith) (both_rows c client h).0)
 
-  pub seats_tx : (c : ℕ) (client : SerialClient) → slice_get serial.client c ≡ Some client → Seat client.pd Producer (5 + 2 * c) × Seat serial.tx_virt Consumer (5 + 2 * c)
+  pub seats_tx : (c : ℕ) (client : SerialClient) → slice_get serial.client c ≡ Some client → Seat (named client.pd) Producer (5 + 2 * c) × Seat (named serial.tx_virt) Consumer (5 + 2 * c)
   seats_tx c client h = seats_at (5 + 2 * c) _ _ _ _ _ _ (at_client (5 + 2 * c) (suc (2 * c)) (client_tx c client) (omega arith) (both_rows c client h).1)
 
-  -- each owner of a queue has a name
+  -- each owner of a queue is the device or a domain of a name
   abbrev IsNamed : QueueRow → Type 0
-  IsNamed row = (r : Role) → (a : List ℕ) × (owner_of row r ≡ number_named plan a)
+  IsNamed row = (r : Role) → (a : Peer) × (owner_of row r ≡ peer_number plan a)
 
-  named_queue : (region : Option ℕ) (offset : ℕ) (name from to : List ℕ) (capacity : ℕ) → IsNamed (queue_in plan region offset name Kind.Byte from to capacity)
+  named_queue : (region : Option ℕ) (offset : ℕ) (name : List ℕ) (from to : Peer) (capacity : ℕ) → IsNamed (queue_in plan region offset name Kind.Byte (record { 0 = peer_number plan from }) (record { 0 = peer_number plan to }) capacity)
   unfolding queue_in
   named_queue region offset name from to capacity Producer = (from, refl)
   named_queue region offset name from to capacity Consumer = (to, refl)
@@ -129,18 +133,18 @@ module _ (plan : Plan) (serial : Serial) (net : plan.net ≡ None) (blk : plan.b
   named_client c client n row h = go n (ap (λ rs. slice_get rs n) (sym (two_rows c client)) ∙ h)
     where
       go : (n : ℕ) → slice_get (client_rx c client ∷ client_tx c client ∷ []) n ≡ Some row → IsNamed row
-      go zero h = subst IsNamed (some_is h) (named_queue _ _ _ _ _ _)
-      go (suc zero) h = subst IsNamed (some_is h) (named_queue _ _ _ _ _ _)
+      go zero h = subst IsNamed (some_is h) (named_queue _ _ _ (Some serial.rx_virt) (Some client.pd) _)
+      go (suc zero) h = subst IsNamed (some_is h) (named_queue _ _ _ (Some client.pd) (Some serial.tx_virt) _)
       go (suc (suc n)) h = cc
 
   pub owner_named : (n : ℕ) (row : QueueRow) → slice_get (queues_of plan) n ≡ Some row → IsNamed row
   owner_named n row h = go n (ap (λ rs. slice_get rs n) (sym rows_are) ∙ h)
     where
       go : (n : ℕ) → slice_get (row_0 ∷ row_1 ∷ row_2 ∷ row_3 ∷ clients) n ≡ Some row → IsNamed row
-      go zero h = subst IsNamed (some_is h) (named_queue _ _ _ _ _ _)
-      go (suc zero) h = subst IsNamed (some_is h) (named_queue _ _ _ _ _ _)
-      go (suc (suc zero)) h = subst IsNamed (some_is h) (named_queue _ _ _ _ _ _)
-      go (suc (suc (suc zero))) h = subst IsNamed (some_is h) (named_queue _ _ _ _ _ _)
+      go zero h = subst IsNamed (some_is h) (named_queue _ _ _ None (Some serial.driver) _)
+      go (suc zero) h = subst IsNamed (some_is h) (named_queue _ _ _ (Some serial.driver) None _)
+      go (suc (suc zero)) h = subst IsNamed (some_is h) (named_queue _ _ _ (Some serial.driver) (Some serial.rx_virt) _)
+      go (suc (suc (suc zero))) h = subst IsNamed (some_is h) (named_queue _ _ _ (Some serial.tx_virt) (Some serial.driver) _)
       go (suc (suc (suc (suc n)))) h = each_row IsNamed (serial_client_queues plan serial) named_client 0 serial.client n row h
 
   each_length : (from : ℕ) (cs : List SerialClient) → length (each_client (serial_client_queues plan serial) from cs) ≡ 2 * length cs

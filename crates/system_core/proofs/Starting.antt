@@ -8,15 +8,21 @@ use Rattle.wire_core.proofs.BellTheorem.{start_is}
 use Rattle.turn_kit.specs.Turns.{is_at_rest}
 use Rattle.actor_set.specs.Actors.{actor_round, part_of}
 use Rattle.actor_set.specs.declared.actor.Actor.{Actor}
-use Rattle.system_core.specs.Runs.{is_runnable, flags_from, places_from, if_so}
+use Rattle.play_core.specs.Runs.{is_runnable, flags_from, places_from, if_so}
+use Rattle.play_core.specs.Moved.{moved}
+use Rattle.play_core.specs.Wants.{Needful}
+use Rattle.play_core.specs.Sheets.{Scene, needful}
+use Rattle.actor_set.specs.Parts.{Part}
+use Rattle.system_core.specs.Kinds.{sheet, hostiles}
+use Rattle.system_core.proofs.Calm.{calm_actor}
 use Rattle.system_core.specs.Runnings.{with_number}
 use Rattle.system_core.specs.Starts.{AreStarting}
 use Rattle.system_core.specs.Systems.{Holds}
 use Rattle.system_core.proofs.SystemStep.{some_eq}
-use Rattle.system_core.proofs.Merges.{map_get}
+use Rattle.play_core.proofs.Lists.{map_get}
 use Rattle.system_core.proofs.Rising.{with_above}
 use Rattle.system_core.proofs.Places.{places_few}
-use Rattle.system_core.proofs.Flags.{flag_at, flags_length}
+use Rattle.play_core.proofs.Flags.{flag_at, flags_length}
 use Rattle.system_core.proofs.RunsNow.{idle_here}
 
 starts_shown : (rows : List QueueRow) (n : ℕ) (row : QueueRow) → slice_get rows n ≡ Some row → IsShown row (queue_at (starts rows) n) start_track
@@ -24,11 +30,17 @@ starts_shown [] n row h = cc
 starts_shown (a ∷ rows) zero row h = let e : a ≡ row = some_eq h in record { kind = ap (λ (r : QueueRow). r.kind) e; capacity = ap (λ (r : QueueRow). r.capacity) e; producer = ap (λ (r : QueueRow). r.producer.0) e; consumer = ap (λ (r : QueueRow). r.consumer.0) e; lists = refl; bells = refl }
 starts_shown (a ∷ rows) (suc n) row h = starts_shown rows n row h
 
+nothing_there : (rows : List QueueRow) (n : ℕ) → (queue_at (starts rows) n).entries ≡ []
+nothing_there [] n = refl
+nothing_there (a ∷ rows) zero = refl
+nothing_there (a ∷ rows) (suc n) = nothing_there rows n
+
 -- a start state holds
 pub start_holds : (rows : List QueueRow) (actors : List Actor) → AreStarting rows actors → Holds (start_history rows) rows (starts rows) actors []
 start_holds rows actors s = record {
   taken = λ n. [];
   sent = λ n. [];
+  stands_there = λ n. sym (nothing_there rows n);
   shows_taken = λ n. ap (λ t. t.taken) (sym (start_is rows n));
   shows_sent = λ n. ap (λ t. t.sent) (sym (start_is rows n));
   size = simp length-map;
@@ -105,16 +117,28 @@ list_room bs k list room b at is le =
 pub list_whole : (bs : List Bool) (k : ℕ) (list : List ℕ) → length bs ≤ k → list ≡ places_from 0 (take k bs) → list ≡ places_from 0 bs
 list_whole bs k list le is = is ∙ ap (places_from 0) (take_all k bs le)
 
-pub flags_many : (rows : List QueueRow) (actors : List Actor) → length (flags_from 0 (start_history rows) rows (map part_of actors) []) ≡ length actors
-flags_many rows actors = flags_length 0 (start_history rows) rows (map part_of actors) [] ∙ simp length-map
+-- with what the actors want at the start
+module _ (rows : List QueueRow) (actors : List Actor) (scene : Scene) where
+  abbrev pub cast : List Part
+  cast = map part_of actors
 
--- whether an actor is runnable at the start
-pub flag_start : (rows : List QueueRow) (world : List Queue) (actors : List Actor) (k : ℕ) (x : Actor) (idle : Bool) → AreStarting rows actors → world ≡ starts rows → k < length actors → x ≡ slice_index_or actors k x → idle ≡ (is_at_rest (actor_round x) && not (is_pending k world)) → slice_get (flags_from 0 (start_history rows) rows (map part_of actors) []) k ≡ Some (not idle)
-flag_start rows world actors k x idle s w lt at is =
-    let here : slice_get actors k ≡ Some x = slice_get_read actors _ k x refl lt at in
-    let said : idle ≡ not (is_runnable k (part_of x) (start_history rows) rows []) = is ∙ (ap (λ v. is_at_rest (actor_round x) && not (is_pending k v)) w ∙ idle_here (start_history rows) rows (starts rows) actors [] (start_holds rows actors s) k x here) in
-    flag_at 0 (start_history rows) rows (map part_of actors) [] k k (part_of x) (omega arith) (map_get part_of actors k x here) ∙ ap Some (twice (is_runnable k (part_of x) (start_history rows) rows []) ∙ ap not (sym said))
-  where
-    twice : (b : Bool) → b ≡ not (not b)
-    twice true = refl
-    twice false = refl
+  abbrev pub wanted : Needful
+  wanted = needful (sheet scene) cast (moved (start_history rows) [])
+
+  abbrev pub flags : List Bool
+  flags = flags_from (hostiles cast) 0 (start_history rows) rows wanted []
+
+  pub flags_many : length flags ≡ length actors
+  flags_many = flags_length (hostiles cast) 0 (start_history rows) rows wanted [] ∙ simp length-map
+
+  -- whether an actor is runnable at the start
+  pub flag_start : (world : List Queue) (k : ℕ) (x : Actor) (idle : Bool) → AreStarting rows actors → world ≡ starts rows → k < length actors → x ≡ slice_index_or actors k x → idle ≡ (is_at_rest (actor_round x) && not (is_pending k world)) → slice_get flags k ≡ Some (not idle)
+  flag_start world k x idle s w lt at is =
+      let here : slice_get actors k ≡ Some x = slice_get_read actors _ k x refl lt at in
+      let runs : Bool = is_runnable (hostiles cast) k ((sheet scene (part_of x)).wants (moved (start_history rows) [])) (start_history rows) rows [] in
+      let said : idle ≡ not runs = is ∙ (ap (λ v. is_at_rest (actor_round x) && not (is_pending k v)) w ∙ idle_here scene (start_history rows) rows (starts rows) actors [] (start_holds rows actors s) (hostiles cast) k x (calm_actor cast k) here) in
+      flag_at (hostiles cast) 0 (start_history rows) rows wanted [] k k ((sheet scene (part_of x)).wants (moved (start_history rows) [])) (omega arith) (map_get (λ p. (sheet scene p).wants (moved (start_history rows) [])) cast k (part_of x) (map_get part_of actors k x here)) ∙ ap Some (twice runs ∙ ap not (sym said))
+    where
+      twice : (b : Bool) → b ≡ not (not b)
+      twice true = refl
+      twice false = refl

@@ -1,4 +1,4 @@
-use Rattle.std.proofs.Common.{◌≡◌, ◌≢◌, ◌⊎◌, ◌==◌, ◌<◌, ℕ, Bool, true, false, Some, None, List, [], ◌∷◌, ◌++◌, length, length-set, slice_get, slice_set, get_or, get_or-set_same, get_or-set_other, refl, sym, ◌∙◌, subst, ap, inl, inr, map, zero, suc}
+use Rattle.std.proofs.Common.{◌≡◌, ◌≢◌, ◌⊎◌, ◌==◌, ◌<◌, ℕ, Bool, true, false, Some, None, List, [], ◌∷◌, ◌++◌, length, length-set, slice_get, slice_set, get_or, get_or-set_same, get_or-set_other, drop, append_assoc, refl, sym, ◌∙◌, subst, ap, inl, inr, map, zero, suc}
 use Rattle.std.specs.Option.{option_to_list}
 use Rattle.std.proofs.lemmas.List.{append-nil, map-append}
 use Rattle.std.proofs.lemmas.Option.{slice_get-get_or}
@@ -14,14 +14,15 @@ use Rattle.wire_core.specs.declared.names.Op.TheVariants as Do
 use Rattle.wire_core.specs.Deeds.{Deed, Cargo, cargo_of}
 use Rattle.wire_core.specs.Ends.{Role, Consumer, Producer, Moves, role_of}
 use Rattle.wire_core.specs.Lists.{Lists, Stepped, with, taken_by, put_by, if_there, if_taken, if_put}
-use Rattle.wire_core.specs.Queues.{Queue, Happens, queue_at, no_queue, end_at, items_of, after}
-use Rattle.wire_core.specs.Journal.{Track, track, track_after, sent_after, taken_after, History, nobody, history_at, if_on, IsShown, LegalEntry, owner_of}
+use Rattle.wire_core.specs.Queues.{Queue, Happens, Carries, queue_at, no_queue, end_at, items_of, entries_after, after}
+use Rattle.wire_core.specs.Journal.{Track, track, track_after, sent_after, taken_after, History, Hostiles, history_at, if_on, IsShown, LegalEntry, LegalJournal, owner_of}
 use Rattle.wire_core.proofs.Moving.{moves}
 use Rattle.wire_core.proofs.Places.{slice_get_written, slice_get_beside}
 use Rattle.wire_core.proofs.Beside.{take_beside, put_beside}
 use Rattle.wire_core.proofs.Tracks.{EachFrom-append, track_from-append, shown_tells, shown_condition, shown_carries, shown_after}
 use Rattle.actor_set.specs.Actors.{FitsActor, ActorStandsFor, ActorEnd, part_of}
 use Rattle.actor_set.specs.Parts.{Part}
+use Rattle.system_core.specs.Kinds.{hostiles}
 use Rattle.system_core.specs.Systems.{Holds}
 use Rattle.actor_set.specs.declared.actor.Actor.{Actor}
 use Rattle.system_core.proofs.Beside.{fits_beside, stands_beside}
@@ -69,6 +70,29 @@ sent_shown : (b : Bool) (t : Track) (e : Event) (c xs : List Cargo) → option_t
 sent_shown false t e c xs item h = rw append-nil h
 sent_shown true t e c xs item h = sent_more e.op t.sent (option_to_list e.item) c xs item h
 
+-- where one actor's part stays, all parts stay
+pub map_same : (f : Actor → Part) (xs : List Actor) (k : ℕ) (x x' : Actor) → slice_get xs k ≡ Some x → f x' ≡ f x → map f (slice_set xs k x') ≡ map f xs
+map_same f [] k x x' at same = refl
+map_same f (a ∷ xs) zero x x' at same = let e : a ≡ x = some_eq at in ap (λ b. b ∷ map f xs) (same ∙ ap f (sym e))
+map_same f (a ∷ xs) (suc k) x x' at same = ap (λ bs. f a ∷ bs) (map_same f xs k x x' at same)
+
+still_there : (es ss ts : List Cargo) → ss ≡ ts ++ es → ss ++ [] ≡ (ts ++ []) ++ es
+still_there es ss ts h = append-nil ss ∙ (h ∙ ap (λ x. x ++ es) (sym (append-nil ts)))
+
+-- what stands in a queue after a call on it
+moved_there : (q : Queue) (o : Op) (c ss ts : List Cargo) → Carries q o c → ss ≡ ts ++ q.entries → ss ++ if_put o c ≡ (ts ++ if_taken o c) ++ entries_after q.entries o c
+moved_there q Do.Take c ss ts m h =
+    append-nil ss ∙ (h ∙ (ap (λ es. ts ++ es) m.2 ∙ (ap (λ x. ts ++ (x ++ drop 1 q.entries)) (sym m.1) ∙ sym (append_assoc ts c (drop 1 q.entries)))))
+moved_there q Do.Put c ss ts m h = ap (λ x. x ++ c) h ∙ (append_assoc ts q.entries c ∙ ap (λ x. x ++ (q.entries ++ c)) (sym (append-nil ts)))
+moved_there q Do.See c ss ts m h = still_there q.entries ss ts h
+moved_there q Do.Room c ss ts m h = still_there q.entries ss ts h
+moved_there q (Do.Ask s) c ss ts m h = still_there q.entries ss ts h
+moved_there q (Do.Waive s) c ss ts m h = still_there q.entries ss ts h
+moved_there q (Do.Wake s) c ss ts m h = still_there q.entries ss ts h
+moved_there q (Do.Wanted s) c ss ts m h = still_there q.entries ss ts h
+moved_there q (Do.Settle s) c ss ts m h = still_there q.entries ss ts h
+moved_there q (Do.Ring s) c ss ts m h = still_there q.entries ss ts h
+
 -- actor k, which is x, makes the call of event e, and is then x'
 module _ (history : History) (rows : List QueueRow) (w v : List Queue) (actors : List Actor) (journal : List Entry) (k : ℕ) (x x' : Actor) (e : Event) (here : slice_get actors k ≡ Some x) (old : Holds history rows w actors journal) (own : ActorEnd x (role_of e.op) e.queue.0) (st : Stepped ActorStandsFor Happens w v x x' e) where
   deed : Deed
@@ -112,6 +136,15 @@ module _ (history : History) (rows : List QueueRow) (w v : List Queue) (actors :
   queues' : (n : ℕ) (row : QueueRow) → slice_get rows n ≡ Some row → IsShown row (queue_at v n) (track history n (journal ++ entry_of k e ∷ []))
   queues' n row at = subst (IsShown row (queue_at v n)) (sym (more n)) (queue_after_here n row at (eqb_tells e.queue.0 n))
 
+  there_after : (n : ℕ) → ((eqb e.queue.0 n ≡ true) × (e.queue.0 ≡ n)) ⊎ ((eqb e.queue.0 n ≡ false) × (e.queue.0 ≢ n)) → sent' n ≡ taken' n ++ (queue_at v n).entries
+  unfolding taken' sent' deed
+  there_after n (inl same) =
+      rw (st.happened.after_is, same.0, ← same.1, get_or-set_same w e.queue.0 (after (queue_at w e.queue.0) deed) no_queue st.happened.there)
+      (moved_there (queue_at w e.queue.0) e.op (cargo_of deed) (old.sent e.queue.0) (old.taken e.queue.0) st.happened.may.carries (old.stands_there e.queue.0))
+  there_after n (inr away) =
+      rw (st.happened.after_is, away.0, get_or-set_other w e.queue.0 n (after (queue_at w e.queue.0) deed) no_queue (λ h. away.1 (sym h)))
+      (still_there (queue_at w n).entries (old.sent n) (old.taken n) (old.stands_there n))
+
   changes : Moves (end_at w) e (end_at v)
   unfolding deed
   changes = moves w deed v st.happened
@@ -136,7 +169,10 @@ module _ (history : History) (rows : List QueueRow) (w v : List Queue) (actors :
   owners' part j y at (inl same) r n theirs row rat = let e : y ≡ x' = some_eq (sym at ∙ (ap (slice_get (slice_set actors k x')) same.1 ∙ slice_get_written actors k x x' here)) in old.owners k x here r n (same_part x x' r n part (subst (λ a. ActorEnd a r n) e theirs)) row rat ∙ sym same.1
   owners' part j y at (inr away) r n theirs row rat = old.owners j y (sym (slice_get_beside actors k j x' away.1) ∙ at) r n theirs row rat
 
-  legal' : LegalEntry nobody history rows journal (entry_of k e)
+  abbrev hostile : Hostiles
+  hostile = hostiles (map part_of actors)
+
+  legal' : LegalEntry hostile history rows journal (entry_of k e)
   unfolding deed
   legal' =
       let row : slice_get rows e.queue.0 ≡ Some (get_or rows e.queue.0 no_row) = slice_get-get_or rows e.queue.0 no_row (subst (λ n. e.queue.0 < n) old.size st.happened.there) in
@@ -157,6 +193,7 @@ module _ (history : History) (rows : List QueueRow) (w v : List Queue) (actors :
   step_holds new part = record {
     taken = taken';
     sent = sent';
+    stands_there = λ n. there_after n (eqb_tells e.queue.0 n);
     shows_taken = shows_taken';
     shows_sent = shows_sent';
     size = size';
@@ -166,11 +203,5 @@ module _ (history : History) (rows : List QueueRow) (w v : List Queue) (actors :
     owners = λ j y at. owners' part j y at (eqb_tells j k);
     peers = λ n row at r. rw length-set (old.peers n row at r);
     few = rw length-set old.few;
-    legal = EachFrom-append (LegalEntry nobody history rows) [] journal (entry_of k e) old.legal legal';
+    legal = subst (λ cast. LegalJournal (hostiles cast) history rows (journal ++ entry_of k e ∷ [])) (sym (map_same part_of actors k x x' here part)) (EachFrom-append (LegalEntry hostile history rows) [] journal (entry_of k e) old.legal legal');
   }
-
--- where one actor's part stays, all parts stay
-pub map_same : (f : Actor → Part) (xs : List Actor) (k : ℕ) (x x' : Actor) → slice_get xs k ≡ Some x → f x' ≡ f x → map f (slice_set xs k x') ≡ map f xs
-map_same f [] k x x' at same = refl
-map_same f (a ∷ xs) zero x x' at same = let e : a ≡ x = some_eq at in ap (λ b. b ∷ map f xs) (same ∙ ap f (sym e))
-map_same f (a ∷ xs) (suc k) x x' at same = ap (λ bs. f a ∷ bs) (map_same f xs k x x' at same)

@@ -1,72 +1,124 @@
-use Rattle.std.proofs.Common.{◌≡◌, ◌≤◌, ◌++◌, ℕ, Some, List, [], length, sym, ap, ◌∙◌, subst}
+use Rattle.std.proofs.Common.{◌≡◌, ◌≤◌, ◌++◌, ℕ, Some, None, List, [], length, map, slice_get, sym, ap, ◌∙◌, subst, arith}
+use Rattle.std.proofs.lemmas.List.{length-map}
+use Rattle.wire_core.specs.declared.names.QueueRow.{QueueRow}
 use Rattle.wire_core.specs.declared.names.Entry.{Entry}
 use Rattle.wire_core.specs.Picks.{PickedFrom}
-use Rattle.wire_core.specs.Journal.{nobody, LegalJournal, EachMoment, BellsHold, QueuesFlow}
+use Rattle.wire_core.specs.Journal.{History, Hostiles, EachMoment, BellsHold, QueuesFlow}
+use Rattle.sdf_check.specs.Valid.{Valid}
 use Rattle.sdf_model.specs.declared.plan.Plan.{Plan}
 use Rattle.sdf_model.specs.declared.plan.Serial.{Serial}
 use Rattle.trace_text.specs.declared.trace.Trace.{Trace}
-use Rattle.system_core.specs.Shows.{Shown}
-use Rattle.system_core.specs.Rows.{RowsHold}
-use Rattle.system_core.specs.Runs.{runnable}
-use Rattle.system_core.specs.Plays.{Played}
-use Rattle.system_core.specs.Serial.{IsSerial, ArrivesInPart, at_moment}
-use Rattle.system_core.specs.Builds.{IsBuilt}
-use Rattle.system_core.specs.PlanPlays.{IsPlayed}
+use Rattle.trace_text.specs.Traces.{IsReadFor}
+use Rattle.play_core.specs.Moved.{Moved, moved}
+use Rattle.play_core.specs.Wants.{Needful}
+use Rattle.play_core.specs.Sheets.{needful}
+use Rattle.play_core.specs.Still.{IsStill, Plays}
+use Rattle.play_core.proofs.Moments.{last_moment, each_moment}
+use Rattle.play_core.proofs.Quieting.{quiet_still}
+use Rattle.play_core.proofs.Tables.{plays_there}
+use Rattle.serial_law.specs.Parts.{SerialPart, SerialDevice, SerialDriver, SerialReceiver, SerialSender, SerialClient}
+use Rattle.serial_law.specs.Table.{serial_sheet}
+use Rattle.serial_law.specs.Serial.{SerialClass, IsSerial, ArrivesInPart, ArrivesWhole}
+use Rattle.serial_law.proofs.Arrivals.{as_there, RowAt}
+use Rattle.system_core.specs.Kinds.{serial_part, sheet, scene_of}
+use Rattle.system_core.specs.Shows.{Setting, Shown, hostile_in, sheet_in, moved_in, runs, RowsStand}
+use Rattle.system_core.specs.Plays.{Played, runnable_now}
+use Rattle.system_core.specs.Lawful.{StandsLawful}
+use Rattle.system_core.specs.Builds.{IsBuilt, IsCastOf, BeginsAnew, HasSerial, serial_class, first_serial}
+use Rattle.system_core.specs.PlanPlays.{IsPlayed, ShowsWhole}
+use Rattle.system_core.proofs.Calm.{calm_actor}
+use Rattle.system_core.proofs.Scripts.{scripts_length}
+use Rattle.system_core.proofs.Begun.{There, first_is, serial_there, shows_in_part, shows_whole}
 
--- the serial class of a system at a moment is that of the system
-serial_later : (s : Shown) (j : List Entry) (input : List ℕ) (scripts : List (List ℕ)) → IsSerial (at_moment s j) input scripts → IsSerial s input scripts
-serial_later s j input scripts w = record {
-  device_rx = w.device_rx;
-  device_tx = w.device_tx;
-  rx = w.rx;
-  tx = w.tx;
-  client_rx = w.client_rx;
-  client_tx = w.client_tx;
-  device = w.device;
-  has_device = w.has_device;
-  driver = w.driver;
-  receiver = w.receiver;
-  sender = w.sender;
-  rx_count = w.rx_count;
-  tx_count = w.tx_count;
-  scripts_count = w.scripts_count;
-  client = w.client;
-  device_rx_there = w.device_rx_there;
-  device_tx_there = w.device_tx_there;
-  rx_there = w.rx_there;
-  tx_there = w.tx_there;
-  client_rx_there = w.client_rx_there;
-  client_tx_there = w.client_tx_there;
-}
+-- what is said of a part of the serial class, as one of all
+row_as : (s : Setting) (m : Moved) (p : SerialPart) → (sheet_in s (serial_part p)).row m → RowAt m p
+row_as s m (SerialDevice rx tx input) h = h
+row_as s m (SerialDriver device_rx device_tx rx tx) h = h
+row_as s m (SerialReceiver rx clients) h = h
+row_as s m (SerialSender tx clients) h = h
+row_as s m (SerialClient rx tx script) h = h
+
+plays_as : (s : Setting) (hostile : Hostiles) (actors : Needful) (m : Moved) (p : SerialPart) → Plays hostile actors m (sheet_in s (serial_part p)) → Plays hostile actors m (serial_sheet p)
+plays_as s hostile actors m (SerialDevice rx tx input) h = h
+plays_as s hostile actors m (SerialDriver device_rx device_tx rx tx) h = h
+plays_as s hostile actors m (SerialReceiver rx clients) h = h
+plays_as s hostile actors m (SerialSender tx clients) h = h
+plays_as s hostile actors m (SerialClient rx tx script) h = h
+
+-- the law of the serial class
+abbrev pub LawInPart : Type 0
+LawInPart =
+    (hostile : Hostiles) (history : History) (rows : List QueueRow) (journal : List Entry) (class : SerialClass) → QueuesFlow hostile history rows journal
+    → IsSerial (λ p. (serial_sheet p).row (moved history journal)) hostile rows class → ArrivesInPart class (moved history journal)
+
+abbrev pub LawWhole : Type 0
+LawWhole =
+    (hostile : Hostiles) (history : History) (rows : List QueueRow) (actors : Needful) (journal : List Entry) (class : SerialClass) → IsStill hostile history rows actors journal
+    → IsSerial (λ p. Plays hostile actors (moved history journal) (serial_sheet p)) hostile rows class → ArrivesWhole class (moved history journal)
+
+-- a system with the serial class
+module _ (s : Shown) (stands : StandsLawful s) (class : SerialClass) (there : IsSerial (There s.setting) (hostile_in s.setting) s.setting.rows class) where
+  arrives_at : LawInPart → (j : List Entry) → RowsStand s.setting j → QueuesFlow (hostile_in s.setting) s.setting.history s.setting.rows j → ArrivesInPart class (moved_in s.setting j)
+  arrives_at law j rows flows =
+      law (hostile_in s.setting) s.setting.history s.setting.rows j class flows
+      (as_there (There s.setting) (RowAt (moved_in s.setting j)) (λ p at. row_as s.setting (moved_in s.setting j) p (rows at.0 (serial_part p) (calm_actor s.setting.cast at.0) at.1)) (hostile_in s.setting) s.setting.rows class there)
+
+  arrives : LawInPart → EachMoment (λ j. ArrivesInPart class (moved_in s.setting j)) s.journal
+  arrives law = each_moment (RowsStand s.setting) (QueuesFlow (hostile_in s.setting) s.setting.history s.setting.rows) (λ j. ArrivesInPart class (moved_in s.setting j)) (arrives_at law) s.journal stands.lawful.rows_hold stands.lawful.flows
+
+  arrives_now : LawInPart → ArrivesInPart class (moved_in s.setting s.journal)
+  arrives_now law = last_moment (λ j. ArrivesInPart class (moved_in s.setting j)) s.journal (arrives law)
+
+  abbrev actors : Needful
+  actors = needful (sheet_in s.setting) s.setting.cast (moved_in s.setting s.journal)
+
+  still : runnable_now s ≡ [] → IsStill (hostile_in s.setting) s.setting.history s.setting.rows actors s.journal
+  still quiet = quiet_still (hostile_in s.setting) s.setting.history s.setting.rows actors s.journal (record {
+    bells_hold = last_moment (BellsHold (hostile_in s.setting) s.setting.history s.setting.rows) s.journal stands.lawful.bells_hold;
+    flows = last_moment (QueuesFlow (hostile_in s.setting) s.setting.history s.setting.rows) s.journal stands.lawful.flows;
+    peopled = λ n row at r. let lt = stands.fitted.peopled n row at r in let size = length-map s.setting.cast (λ p. (sheet_in s.setting p).wants (moved_in s.setting s.journal)) in omega (arith, lt, size);
+    quiet = quiet;
+  })
+
+  arrives_whole : LawWhole → runnable_now s ≡ [] → ArrivesWhole class (moved_in s.setting s.journal)
+  arrives_whole law quiet =
+      law (hostile_in s.setting) s.setting.history s.setting.rows actors s.journal class (still quiet)
+      (as_there (There s.setting) (λ p. Plays (hostile_in s.setting) actors (moved_in s.setting s.journal) (serial_sheet p))
+      (λ p at. plays_as s.setting (hostile_in s.setting) actors (moved_in s.setting s.journal) p (plays_there (sheet_in s.setting) (hostile_in s.setting) s.setting.cast (moved_in s.setting s.journal) (last_moment (RowsStand s.setting) s.journal stands.lawful.rows_hold) at.0 (serial_part p) (calm_actor s.setting.cast at.0) at.1))
+      (hostile_in s.setting) s.setting.rows class there)
 
 -- before it was played, a system was what it was built as
 module _ (old new : Shown) (seed limit : ℕ) (none : old.journal ≡ []) (played : Played old new seed limit) where
-  begun_as : old ≡ at_moment new []
-  begun_as =
-      ap (λ h. record { history = h; rows = old.rows; cast = old.cast; device = old.device; clients = old.clients; journal = old.journal }) (sym played.history)
-      ∙ (ap (λ x. record { history = new.history; rows = x; cast = old.cast; device = old.device; clients = old.clients; journal = old.journal }) (sym played.rows)
-      ∙ (ap (λ x. record { history = new.history; rows = new.rows; cast = x; device = old.device; clients = old.clients; journal = old.journal }) (sym played.cast)
-      ∙ (ap (λ x. record { history = new.history; rows = new.rows; cast = new.cast; device = x; clients = old.clients; journal = old.journal }) (sym played.device)
-      ∙ (ap (λ x. record { history = new.history; rows = new.rows; cast = new.cast; device = new.device; clients = x; journal = old.journal }) (sym played.clients)
-      ∙ ap (λ x. record { history = new.history; rows = new.rows; cast = new.cast; device = new.device; clients = new.clients; journal = x }) none))))
-
   more_is : played.more ≡ new.journal
   more_is = sym (played.journal ∙ ap (λ j. j ++ played.more) none)
 
-  picked_is : PickedFrom (runnable new.history new.rows new.cast) seed [] new.journal
-  picked_is = rw (played.history, played.rows, played.cast, ← more_is, ← none) played.picked
+  picked_is : PickedFrom (runs new.setting) seed [] new.journal
+  picked_is =
+      subst (λ z. PickedFrom (runs z) seed [] new.journal) (sym played.setting)
+      (subst (λ j. PickedFrom (runs old.setting) seed [] j) more_is (subst (λ j. PickedFrom (runs old.setting) seed j played.more) none played.picked))
 
-  pub together : (plan : Plan) (trace : Trace) → IsBuilt plan trace old → ((serial : Serial) → plan.serial ≡ Some serial → IsSerial old trace.input trace.says)
-      → LegalJournal nobody new.history new.rows new.journal → EachMoment (BellsHold nobody new.history new.rows) new.journal → EachMoment (QueuesFlow nobody new.history new.rows) new.journal
-      → EachMoment (RowsHold new.history new.cast) new.journal
-      → ((input : List ℕ) (scripts : List (List ℕ)) → IsSerial new input scripts → EachMoment (λ j. ArrivesInPart (at_moment new j) input scripts) new.journal) → IsPlayed plan trace seed limit new
-  together plan trace built serial legal bells flows rows arrives = record {
-    built = subst (IsBuilt plan trace) begun_as built;
-    picked = picked_is;
-    within = subst (λ j. length j ≤ limit) more_is played.within;
-    legal = legal;
-    bells_hold = bells;
-    flows = flows;
-    rows_hold = rows;
-    arrives = λ class has. arrives trace.input trace.says (serial_later new [] trace.input trace.says (subst (λ s. IsSerial s trace.input trace.says) begun_as (serial class has)));
-  }
+  module _ (plan : Plan) (trace : Trace) (net : plan.net ≡ None) (blk : plan.blk ≡ None) (read : IsReadFor plan trace) (built : IsBuilt plan trace old) (stands : StandsLawful new) (part : LawInPart) (whole : LawWhole) where
+    cast_is : IsCastOf plan trace new.setting
+    cast_is = subst (IsCastOf plan trace) (sym played.setting) built.cast
+
+    module _ (serial : Serial) (has : plan.serial ≡ Some serial) where
+      class_is : HasSerial 0 plan serial trace new.setting
+      class_is = subst (λ n. HasSerial n plan serial trace new.setting) (first_is plan net) (cast_is.serial serial has)
+
+      says : length trace.says ≡ length serial.client
+      says = scripts_length plan serial trace has read
+
+      there : IsSerial (There new.setting) (hostile_in new.setting) new.setting.rows (serial_class 0 (length serial.client) trace)
+      there = serial_there plan serial net blk has trace new.setting cast_is.rows stands.fitted.places class_is says
+
+    pub together : IsPlayed plan trace seed limit new
+    together = record {
+      cast = cast_is;
+      begins = subst BeginsAnew (sym played.setting) built.begins;
+      picked = picked_is;
+      within = subst (λ j. length j ≤ limit) more_is played.within;
+      stands = stands;
+      arrives = λ serial has. subst (λ n. EachMoment (λ j. ArrivesInPart (serial_class n (length serial.client) trace) (moved_in new.setting j)) new.journal) (sym (first_is plan net)) (arrives new stands (serial_class 0 (length serial.client) trace) (there serial has) part);
+      shows = λ serial has. shows_in_part plan serial trace new (class_is serial has) (says serial has) stands.told (arrives_now new stands (serial_class 0 (length serial.client) trace) (there serial has) part);
+      whole = λ quiet serial has. shows_whole plan serial trace new (class_is serial has) (says serial has) stands.told (arrives_whole new stands (serial_class 0 (length serial.client) trace) (there serial has) whole quiet);
+    }

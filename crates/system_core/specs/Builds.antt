@@ -1,22 +1,24 @@
-use Rattle.std.specs.Prelude.{◌≡◌, ◌+◌, ◌*◌, ℕ, zero, suc, Some, None, List, [], ◌∷◌, codes, length, map, slice_get}
-use Rattle.toml.specs.Data.{Members}
+-- The system of a plan and a trace: who acts at which queues, and that nothing happened yet.
+use Rattle.std.specs.Prelude.{◌≡◌, ◌+◌, ◌*◌, ℕ, zero, suc, if◌then◌else◌, Option, Some, None, is_some, List, [], ◌∷◌, length, map, slice_get}
+use Rattle.std.specs.Option.{option_map_or}
 use Rattle.wire_core.specs.Journal.{start_history}
-use Rattle.sdf_model.specs.Places.{KeepsRules}
-use Rattle.sdf_model.specs.Spelled.{plan_of}
-use Rattle.sdf_model.specs.Tree.{IsDocument, places_of, BreaksText}
+use Rattle.sdf_model.specs.declared.place.Place.{Place}
+use Rattle.sdf_model.specs.declared.place.Place.TheVariants as At
 use Rattle.sdf_model.specs.declared.plan.Plan.{Plan}
 use Rattle.sdf_model.specs.declared.plan.Serial.{Serial}
-use Rattle.sdf_model.specs.declared.plan.SerialClient.{SerialClient}
+use Rattle.sdf_model.specs.declared.plan.SerialClient.{SerialClient as Client}
 use Rattle.trace_text.specs.declared.trace.Trace.{Trace}
-use Rattle.region_layout.specs.Rows.{queues_of, actors_of, actor_named}
-use Rattle.actor_set.specs.Parts.{Part, UartPart, DriverPart, RxPart, TxPart, ClientPart}
-use Rattle.system_core.specs.Shows.{Shown}
+use Rattle.region_layout.specs.Rows.{net_queues, queues_of, actors_of, actor_named, uart_number}
+use Rattle.serial_law.specs.Parts.{SerialPart, SerialDevice, SerialDriver, SerialReceiver, SerialSender, SerialClient}
+use Rattle.serial_law.specs.Serial.{SerialClass}
+use Rattle.system_core.specs.Kinds.{serial_part}
+use Rattle.system_core.specs.Shows.{Setting, Shown}
 
--- a text spells the plan, and keeps the rules on texts
-abbrev pub IsSpelled : Plan → Type 0
-IsSpelled plan = (text : List ℕ) × (root : Members) × IsDocument text root × KeepsRules (BreaksText text) (places_of text) 1 4 × (plan ≡ plan_of root)
+-- the first class of a plan that can't be played yet, if it has one
+abbrev pub unplayed : Plan → Option Place
+unplayed plan = if is_some plan.net then Some At.Net else (if is_some plan.blk then Some At.Blk else None)
 
--- the number of the actor of a name
+-- the number of the domain of a name
 abbrev pub number_named : Plan → List ℕ → ℕ
 number_named plan name = (actor_named plan name).0
 
@@ -25,33 +27,58 @@ abbrev pub every_second : ℕ → ℕ → List ℕ
 every_second first zero = []
 every_second first (suc count) = first ∷ every_second (first + 2) count
 
--- the actor of this name is this part
-abbrev pub IsPart : Plan → Shown → List ℕ → Part → Type 0
-IsPart plan s name part = slice_get s.cast (number_named plan name) ≡ Some part
+-- the number of the first queue of the serial class: the network's stand before it
+abbrev pub first_serial : Plan → ℕ
+first_serial plan = length (option_map_or (net_queues plan) plan.net [])
 
--- the actors of the serial class, each at its queues: 0 and 1 between device and driver, 2 and 3 between driver and
--- virtualisers, and from 4 on two for each client
-pub record HasSerial (plan : Plan) (serial : Serial) (trace : Trace) (s : Shown) : Type 0 where
-  pub device_is : s.device ≡ Some (number_named plan (codes "@uart"))
-  pub clients_are : s.clients ≡ map (λ (c : SerialClient). number_named plan c.pd) serial.client
-  pub device : IsPart plan s (codes "@uart") (UartPart 0 1 trace.input)
-  pub driver : IsPart plan s serial.driver (DriverPart 0 1 2 3)
-  pub receiver : IsPart plan s serial.rx_virt (RxPart 2 (every_second 4 (length serial.client)))
-  pub sender : IsPart plan s serial.tx_virt (TxPart 3 (every_second 5 (length serial.client)))
-  pub client : (c : ℕ) (client : SerialClient) (script : List ℕ) → slice_get serial.client c ≡ Some client → slice_get trace.says c ≡ Some script
-      → IsPart plan s client.pd (ClientPart (4 + 2 * c) (5 + 2 * c) script)
+-- the serial class with so many clients, from its first queue on: two queues between device and driver, two between
+-- driver and virtualisers, and then two for each client; with what a trace gives it
+abbrev pub serial_class : ℕ → ℕ → Trace → SerialClass
+serial_class first count trace = record {
+  device_rx = first;
+  device_tx = first + 1;
+  rx = first + 2;
+  tx = first + 3;
+  client_rx = every_second (first + 4) count;
+  client_tx = every_second (first + 5) count;
+  input = trace.input;
+  scripts = trace.says;
+}
+
+-- the actor of this number is this one of the serial class
+abbrev pub IsPart : Setting → ℕ → SerialPart → Type 0
+IsPart s number part = slice_get s.cast number ≡ Some (serial_part part)
+
+-- the actors of the serial class, each at its queues
+pub record HasSerial (first : ℕ) (plan : Plan) (serial : Serial) (trace : Trace) (s : Setting) : Type 0 where
+  pub device_is : s.serial.device ≡ Some (uart_number plan).0
+  pub clients_are : s.serial.clients ≡ map (λ (c : Client). number_named plan c.pd) serial.client
+  pub device : IsPart s (uart_number plan).0 (SerialDevice first (first + 1) trace.input)
+  pub driver : IsPart s (number_named plan serial.driver) (SerialDriver first (first + 1) (first + 2) (first + 3))
+  pub receiver : IsPart s (number_named plan serial.rx_virt) (SerialReceiver (first + 2) (every_second (first + 4) (length serial.client)))
+  pub sender : IsPart s (number_named plan serial.tx_virt) (SerialSender (first + 3) (every_second (first + 5) (length serial.client)))
+  pub client : (c : ℕ) (client : Client) (script : List ℕ) → slice_get serial.client c ≡ Some client → slice_get trace.says c ≡ Some script
+      → IsPart s (number_named plan client.pd) (SerialClient (first + 4 + 2 * c) (first + 5 + 2 * c) script)
 
 -- nobody acts
-pub record HasNobody (s : Shown) : Type 0 where
+pub record HasNobody (s : Setting) : Type 0 where
   pub cast : s.cast ≡ []
-  pub device : s.device ≡ None
-  pub clients : s.clients ≡ []
+  pub device : s.serial.device ≡ None
+  pub clients : s.serial.clients ≡ []
 
--- the start state of a plan without the network class and the block class, with what a trace gives
-pub record IsBuilt (plan : Plan) (trace : Trace) (s : Shown) : Type 0 where
+-- the queues and the actors of a plan without the network class and the block class, with what a trace gives them
+pub record IsCastOf (plan : Plan) (trace : Trace) (s : Setting) : Type 0 where
   pub rows : s.rows ≡ queues_of plan
   pub count : length s.cast ≡ length (actors_of plan)
-  pub history : s.history ≡ start_history s.rows
-  pub journal : s.journal ≡ []
-  pub serial : (serial : Serial) → plan.serial ≡ Some serial → HasSerial plan serial trace s
+  pub serial : (serial : Serial) → plan.serial ≡ Some serial → HasSerial (first_serial plan) plan serial trace s
   pub nobody : plan.serial ≡ None → HasNobody s
+
+-- nothing happened before the journal begins
+abbrev pub BeginsAnew : Setting → Type 0
+BeginsAnew s = s.history ≡ start_history s.rows
+
+-- the start state of a plan, with what a trace gives it
+pub record IsBuilt (plan : Plan) (trace : Trace) (s : Shown) : Type 0 where
+  pub cast : IsCastOf plan trace s.setting
+  pub begins : BeginsAnew s.setting
+  pub journal : s.journal ≡ []

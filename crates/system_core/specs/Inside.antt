@@ -1,19 +1,25 @@
-use Rattle.std.specs.Prelude.{◌≡◌, ◌≤◌, length, map}
-use Rattle.wire_core.specs.Journal.{EachMoment, start_history}
-use Rattle.system_core.specs.Shows.{Shown}
-use Rattle.actor_set.specs.Actors.{part_of}
-use Rattle.system_core.specs.Rows.{RowsHold}
-use Rattle.system_core.specs.Runs.{runnable}
+-- What a system keeps: its view, and the invariant that each of its calls needs and keeps.
+use Rattle.std.specs.Prelude.{◌≡◌, ◌≤◌, length}
+use Rattle.wire_core.specs.Journal.{EachMoment}
+use Rattle.system_core.specs.Shows.{Setting, Shown, runs, RowsStand}
+use Rattle.system_core.specs.States.{state_of, begun, crew_of}
+use Rattle.system_core.specs.Lawful.{IsFitted}
 use Rattle.system_core.specs.Systems.{Holds}
 use Rattle.system_core.specs.declared.system.System.TheInside.{Inside}
 
--- what a system shows; nothing happened before its journal begins
-abbrev pub shown_of : Inside → Shown
-shown_of a = record { history = start_history a.rows.items; rows = a.rows.items; cast = map part_of a.actors.items; device = a.device; clients = a.clients.items; journal = a.journal.items }
+-- what stays the same: nothing happened before the journal begins
+abbrev pub setting_of : Inside → Setting
+setting_of a = begun a.rows.items a.actors.items (crew_of a.device a.clients.items)
 
+-- the view
+abbrev pub shown_of : Inside → Shown
+shown_of a = record { setting = setting_of a; journal = a.journal.items; state = state_of a.actors.items (crew_of a.device a.clients.items) }
+
+-- the parts of a system belong together, and which actors are runnable is kept
 pub record IsSystem (a : Inside) : Type 0 where
-  pub holds : Holds (start_history a.rows.items) a.rows.items a.world a.actors.items a.journal.items
-  pub rows_hold : EachMoment (RowsHold (start_history a.rows.items) (map part_of a.actors.items)) a.journal.items
+  pub fitted : IsFitted (setting_of a)
+  pub holds : Holds (setting_of a).history a.rows.items a.world a.actors.items a.journal.items
+  pub rows_hold : EachMoment (RowsStand (setting_of a)) a.journal.items
   -- the runnable actors are kept
-  pub running : a.running.list ≡ runnable (start_history a.rows.items) a.rows.items (map part_of a.actors.items) a.journal.items
+  pub running : a.running.list ≡ runs (setting_of a) a.journal.items
   pub room : length a.actors.items ≤ a.running.room

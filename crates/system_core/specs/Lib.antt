@@ -1,15 +1,16 @@
+-- The definitions of a system at play: what it shows (Kinds, Shows), what holds of it (Lawful), how it is built and
+-- played (Builds, Plays, PlanPlays), and inside, what it keeps (Runnings, Starts, Seats, Systems, Inside, Jobs).
+pub mod Kinds
 pub mod Shows
-pub mod Tracks
-pub mod Rows
-pub mod Runs
 pub mod Plays
+pub mod Reports
+pub mod Lawful
+pub mod Builds
+pub mod PlanPlays
 pub mod Runnings
+pub mod States
+pub mod Starts
+pub mod Seats
 pub mod Systems
 pub mod Inside
-pub mod Starts
-pub mod Reports
-pub mod Serial
-pub mod Seats
-pub mod Builds
 pub mod Jobs
-pub mod PlanPlays

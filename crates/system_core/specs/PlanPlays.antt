@@ -1,28 +1,43 @@
-use Rattle.std.specs.Prelude.{◌≡◌, ◌≤◌, ℕ, Some, [], length}
+-- What a play of a plan and a trace shows: all that a caller learns of the system that was played.
+use Rattle.std.specs.Prelude.{◌≡◌, ◌≤◌, ℕ, Some, List, [], length, slice_get}
+use Rattle.cargo_core.specs.Lists.{IsPrefix, Merge, PrefixMerge}
 use Rattle.wire_core.specs.Picks.{PickedFrom}
-use Rattle.wire_core.specs.Journal.{nobody, LegalJournal, EachMoment, BellsHold, QueuesFlow}
+use Rattle.wire_core.specs.Journal.{EachMoment}
+use Rattle.serial_switch.specs.Switching.{input_of}
+use Rattle.serial_law.specs.Serial.{ArrivesInPart}
 use Rattle.sdf_model.specs.declared.plan.Plan.{Plan}
 use Rattle.sdf_model.specs.declared.plan.Serial.{Serial}
 use Rattle.trace_text.specs.declared.trace.Trace.{Trace}
-use Rattle.system_core.specs.Shows.{Shown}
-use Rattle.system_core.specs.Rows.{RowsHold}
-use Rattle.system_core.specs.Runs.{runnable}
+use Rattle.system_core.specs.Shows.{State, Shown, runs, moved_in}
 use Rattle.system_core.specs.Plays.{runnable_now}
-use Rattle.system_core.specs.Serial.{ArrivesInPart, at_moment}
-use Rattle.system_core.specs.Builds.{IsBuilt}
+use Rattle.system_core.specs.Lawful.{StandsLawful}
+use Rattle.system_core.specs.Builds.{IsCastOf, BeginsAnew, serial_class, first_serial}
 use Rattle.system_core.specs.declared.system.Ending.{Ending}
 use Rattle.system_core.specs.declared.system.Ending.TheVariants as Ends
 
+-- each serial client recorded a beginning of its part of the input, and what was sent on the line is a merge of
+-- beginnings of the scripts
+pub record ShowsInPart (count : ℕ) (trace : Trace) (s : State) : Type 0 where
+  pub count_is : length s.serial ≡ count
+  pub records : (c : ℕ) (got : List ℕ) → slice_get s.serial c ≡ Some got → IsPrefix got (input_of count c trace.input)
+  pub line : (said : List ℕ) × (s.line ≡ Some said) × PrefixMerge trace.says said
+
+-- each serial client recorded its whole part of the input, and what was sent on the line is a merge of the whole scripts
+pub record ShowsWhole (count : ℕ) (trace : Trace) (s : State) : Type 0 where
+  pub records : (c : ℕ) (got : List ℕ) → slice_get s.serial c ≡ Some got → got ≡ input_of count c trace.input
+  pub line : (said : List ℕ) × (s.line ≡ Some said) × Merge trace.says said
+
 -- the system of a plan and a trace, after a seed picked its steps from the start state on, at most so many
 pub record IsPlayed (plan : Plan) (trace : Trace) (seed limit : ℕ) (s : Shown) : Type 0 where
-  pub built : IsBuilt plan trace (at_moment s [])
-  pub picked : PickedFrom (runnable s.history s.rows s.cast) seed [] s.journal
+  pub cast : IsCastOf plan trace s.setting
+  pub begins : BeginsAnew s.setting
+  pub picked : PickedFrom (runs s.setting) seed [] s.journal
   pub within : length s.journal ≤ limit
-  pub legal : LegalJournal nobody s.history s.rows s.journal
-  pub bells_hold : EachMoment (BellsHold nobody s.history s.rows) s.journal
-  pub flows : EachMoment (QueuesFlow nobody s.history s.rows) s.journal
-  pub rows_hold : EachMoment (RowsHold s.history s.cast) s.journal
-  pub arrives : (serial : Serial) → plan.serial ≡ Some serial → EachMoment (λ j. ArrivesInPart (at_moment s j) trace.input trace.says) s.journal
+  pub stands : StandsLawful s
+  pub arrives : (serial : Serial) → plan.serial ≡ Some serial → EachMoment (λ j. ArrivesInPart (serial_class (first_serial plan) (length serial.client) trace) (moved_in s.setting j)) s.journal
+  pub shows : (serial : Serial) → plan.serial ≡ Some serial → ShowsInPart (length serial.client) trace s.state
+  -- where nobody is runnable, all arrived
+  pub whole : runnable_now s ≡ [] → (serial : Serial) → plan.serial ≡ Some serial → ShowsWhole (length serial.client) trace s.state
 
 -- it is quiet, or so many steps were made and it isn't
 abbrev pub HasEnded : ℕ → Shown → Ending → Type 0

@@ -1,23 +1,19 @@
+-- What a play does to a system, by steps of runnable actors that a seed picks.
 use Rattle.std.specs.Prelude.{◌≡◌, ◌≤◌, ◌+◌, ◌++◌, ℕ, Some, List, [], length, slice_get}
 use Rattle.wire_core.specs.declared.names.Entry.{Entry}
 use Rattle.wire_core.specs.Picks.{PickedFrom}
-use Rattle.system_core.specs.Shows.{Shown, Appends}
-use Rattle.system_core.specs.Runs.{runnable}
+use Rattle.system_core.specs.Shows.{Shown, Appends, runs}
 
 -- the actors of a system that are runnable now
 abbrev pub runnable_now : Shown → List ℕ
-runnable_now s = runnable s.history s.rows s.cast s.journal
+runnable_now s = runs s.setting s.journal
 
 -- the system played on by steps that the seed picks, at most so many
 pub record Played (old new : Shown) (seed limit : ℕ) : Type 0 where
-  pub history : new.history ≡ old.history
-  pub rows : new.rows ≡ old.rows
-  pub cast : new.cast ≡ old.cast
-  pub device : new.device ≡ old.device
-  pub clients : new.clients ≡ old.clients
+  pub setting : new.setting ≡ old.setting
   pub more : List Entry
   pub journal : new.journal ≡ old.journal ++ more
-  pub picked : PickedFrom (runnable old.history old.rows old.cast) seed old.journal more
+  pub picked : PickedFrom (runs old.setting) seed old.journal more
   pub within : length more ≤ limit
 
 -- so many steps were made, and some actor is runnable

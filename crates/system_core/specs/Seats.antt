@@ -1,8 +1,9 @@
 use Rattle.std.specs.Prelude.{◌≡◌, ◌<◌, ◌≤◌, ℕ, Some, List, length, slice_get}
 use Rattle.cargo_core.specs.declared.item.QueueKind.TheVariants as Kind
 use Rattle.wire_core.specs.declared.names.QueueRow.{QueueRow}
-use Rattle.wire_core.specs.Ends.{Role}
+use Rattle.wire_core.specs.Ends.{Role, Consumer, Producer}
 use Rattle.wire_core.specs.Journal.{owner_of}
+use Rattle.sdf_check.specs.ClassRules.{IsCapacity}
 use Rattle.turn_kit.specs.ManyEnds.{AreApart, intake_queues, outlet_queues}
 use Rattle.turn_kit.specs.Pipes.{IsNewPipe}
 use Rattle.serial_terminal.specs.Terminals.{IsNewTerminal}
@@ -40,5 +41,11 @@ pub record AreSeated (rows : List QueueRow) (actors : List Actor) : Type 0 where
   pub new : (k : ℕ) (x : Actor) → slice_get actors k ≡ Some x → IsNew x
   pub apart : (k : ℕ) (x : Actor) → slice_get actors k ≡ Some x → HasApartEnds x
   pub seats : (k : ℕ) (x : Actor) → slice_get actors k ≡ Some x → (r : Role) (n : ℕ) → ActorEnd x r n → HasSeat rows k r n
+  -- and each seat that the rows give an actor is one of its ends
+  pub ends : (k : ℕ) (x : Actor) → slice_get actors k ≡ Some x → (n : ℕ) (row : QueueRow) → slice_get rows n ≡ Some row → (r : Role) → owner_of row r ≡ k → ActorEnd x r n
+  -- no actor has both ends of a queue
+  pub split : (k : ℕ) (x : Actor) → slice_get actors k ≡ Some x → (n : ℕ) → ActorEnd x Consumer n → ActorEnd x Producer n → ⊥
+  -- each queue can hold an entry: its capacity is a power of two up to 32,768
+  pub places : (n : ℕ) (row : QueueRow) → slice_get rows n ≡ Some row → IsCapacity row.capacity
   pub peers : (n : ℕ) (row : QueueRow) → slice_get rows n ≡ Some row → (r : Role) → owner_of row r < length actors
   pub few : length actors ≤ 65536

@@ -1,30 +1,68 @@
+-- What a system shows: what stays the same while it is played, its one journal, and what can be seen of it as it is.
 use Rattle.std.specs.Prelude.{◌≡◌, ℕ, Option, List, [], ◌∷◌, ◌++◌}
+use Rattle.cargo_core.specs.declared.item.Reply.{Reply}
 use Rattle.wire_core.specs.declared.names.QueueRow.{QueueRow}
 use Rattle.wire_core.specs.declared.names.Event.{Event}
 use Rattle.wire_core.specs.declared.names.Entry.{Entry}
-use Rattle.wire_core.specs.Journal.{History, start_history}
+use Rattle.wire_core.specs.Journal.{History, Hostiles}
+use Rattle.expect_core.specs.declared.report.Census.{Census}
+use Rattle.play_core.specs.Moved.{Moved, moved}
+use Rattle.play_core.specs.Sheets.{Sheet, needful, RowsHold}
+use Rattle.play_core.specs.Runs.{runnable}
 use Rattle.actor_set.specs.Parts.{Part}
+use Rattle.system_core.specs.Kinds.{sheet, scene_of, hostiles}
 
--- what a system shows: what its queues had before the journal begins, its queues, its actors' parts, which of the actors
--- is the serial device and which are the serial clients in their order, and the one journal
-pub record Shown : Type 0 where
+-- which of the actors are the device and the clients of a class, these in their order
+pub record Crew : Type 0 where
+  pub device : Option ℕ
+  pub clients : List ℕ
+
+-- what stays the same while a system is played: what its queues had before its journal begins, its queues, its actors'
+-- parts, and who is who in the serial class
+pub record Setting : Type 0 where
   pub history : History
   pub rows : List QueueRow
   pub cast : List Part
-  pub device : Option ℕ
-  pub clients : List ℕ
+  pub serial : Crew
+
+-- what can be seen of a system: the wire, the line, what each client of each class recorded, where the pages are, and
+-- what the virtualisers counted as bad; of a class that isn't there, nothing
+pub record State : Type 0 where
+  pub wire : Option (List (List ℕ))
+  pub net : List (List (List ℕ))
+  pub line : Option (List ℕ)
+  pub serial : List (List ℕ)
+  pub blk : List (List Reply)
+  pub pools : List Census
+  pub bad : ℕ
+
+pub record Shown : Type 0 where
+  pub setting : Setting
   pub journal : List Entry
+  pub state : State
+
+-- which of the actors are hostile
+abbrev pub hostile_in : Setting → Hostiles
+hostile_in s = hostiles s.cast
+
+-- what is said of each part there
+abbrev pub sheet_in : Setting → Part → Sheet
+sheet_in s = sheet (scene_of s.cast)
+
+-- what went through the queues, by a journal
+abbrev pub moved_in : Setting → List Entry → Moved
+moved_in s journal = moved s.history journal
+
+-- the actors that are runnable after a journal
+abbrev pub runs : Setting → List Entry → List ℕ
+runs s journal = runnable (hostile_in s) s.history s.rows (needful (sheet_in s) s.cast (moved_in s journal)) journal
+
+-- each actor's row holds after a journal
+abbrev pub RowsStand : Setting → List Entry → Type 0
+RowsStand s journal = RowsHold (sheet_in s) (hostile_in s) s.cast (moved_in s journal)
 
 -- actor k made one call more
 pub record Appends (k : ℕ) (old new : Shown) : Type 0 where
   pub event : Event
-  pub history : new.history ≡ old.history
-  pub rows : new.rows ≡ old.rows
-  pub cast : new.cast ≡ old.cast
-  pub device : new.device ≡ old.device
-  pub clients : new.clients ≡ old.clients
+  pub setting : new.setting ≡ old.setting
   pub journal : new.journal ≡ old.journal ++ record { actor = record { 0 = k }; event = event } ∷ []
-
--- a system in which nothing happened yet
-abbrev pub started : List QueueRow → List Part → Option ℕ → List ℕ → Shown
-started rows cast device clients = record { history = start_history rows; rows = rows; cast = cast; device = device; clients = clients; journal = [] }

@@ -1,11 +1,13 @@
-use Rattle.std.specs.Prelude.{◌≡◌, ◌<◌, ◌≤◌, ℕ, Some, List, length, slice_get}
+-- The invariant of a system at play: history, queues, actors and journal belong together.
+use Rattle.std.specs.Prelude.{◌≡◌, ◌<◌, ◌≤◌, ℕ, Some, List, ◌++◌, length, map, slice_get}
 use Rattle.wire_core.specs.declared.names.QueueRow.{QueueRow}
 use Rattle.wire_core.specs.declared.names.Entry.{Entry}
 use Rattle.wire_core.specs.Ends.{Role}
 use Rattle.wire_core.specs.Lists.{Lists}
 use Rattle.wire_core.specs.Queues.{Queue, queue_at, end_at, items_of}
-use Rattle.wire_core.specs.Journal.{History, nobody, track, IsShown, LegalJournal, owner_of}
-use Rattle.actor_set.specs.Actors.{FitsActor, ActorStandsFor, ActorEnd}
+use Rattle.wire_core.specs.Journal.{History, track, IsShown, LegalJournal, owner_of}
+use Rattle.actor_set.specs.Actors.{FitsActor, ActorStandsFor, ActorEnd, part_of}
+use Rattle.system_core.specs.Kinds.{hostiles}
 use Rattle.actor_set.specs.declared.actor.Actor.{Actor}
 
 -- the history, the queues, the actors and the journal belong together
@@ -13,6 +15,8 @@ pub record Holds (history : History) (rows : List QueueRow) (world : List Queue)
   -- the entries that the actors stand for, with their bodies; history and journal show their items
   pub taken : Lists
   pub sent : Lists
+  -- in each queue stands what was put there and wasn't taken
+  pub stands_there : (n : ℕ) → sent n ≡ taken n ++ (queue_at world n).entries
   pub shows_taken : (n : ℕ) → items_of (taken n) ≡ (track history n journal).taken
   pub shows_sent : (n : ℕ) → items_of (sent n) ≡ (track history n journal).sent
   pub size : length world ≡ length rows
@@ -22,4 +26,4 @@ pub record Holds (history : History) (rows : List QueueRow) (world : List Queue)
   pub owners : (k : ℕ) (x : Actor) → slice_get actors k ≡ Some x → (r : Role) (n : ℕ) → ActorEnd x r n → (row : QueueRow) → slice_get rows n ≡ Some row → owner_of row r ≡ k
   pub peers : (n : ℕ) (row : QueueRow) → slice_get rows n ≡ Some row → (r : Role) → owner_of row r < length actors
   pub few : length actors ≤ 65536
-  pub legal : LegalJournal nobody history rows journal
+  pub legal : LegalJournal (hostiles (map part_of actors)) history rows journal

@@ -6,4 +6,4 @@ mod running;
 mod system;
 
 pub use actor_set::Actor;
-pub use system::{Ending, System};
+pub use system::{Ending, System, unplayed};

@@ -1,24 +1,24 @@
+//! The system at play: the queues of a layout with the actors at them, its steps, and what is seen of it. It stands here,
+//! above actors and descriptions, since a plan and a trace say who acts.
 ghost use Rattle.std.specs.Prelude.{◌≡◌, ◌<◌, ◌≤◌, ◌&&◌, ℕ, List, not, length, map, OnOk, OnErr, IfOk, slice_get, Some, None, []};
 ghost use Rattle.std.specs.Option.{option_map};
 ghost use Rattle.wire_core.specs.Queues.{is_pending, starts};
-ghost use Rattle.wire_core.specs.Journal.{nobody, start_history, LegalJournal, EachMoment, BellsHold, QueuesFlow};
 ghost use Rattle.turn_kit.specs.Turns.{is_at_rest};
-ghost use Rattle.actor_set.specs.Actors.{actor_round, part_of};
-ghost use Rattle.system_core.specs.Rows.{RowsHold};
-ghost use Rattle.system_core.specs.Runs.{runnable, rung_at};
-ghost use Rattle.system_core.specs.Shows.{started};
-ghost use Rattle.system_core.specs.Starts.{AreStarting};
-ghost use Rattle.system_core.specs.Seats.{AreSeated};
-ghost use Rattle.system_core.specs.Reports.{heard_of, heard_at, report_of};
-ghost use Rattle.system_core.specs.Runnings.{removed_if, with_option};
-ghost use Rattle.system_core.specs.Serial.{IsSerial, ArrivesInPart, at_moment};
-ghost use Rattle.system_core.specs.Plays.{Played, IsSpent, StepsAt, runnable_now};
-ghost use Rattle.system_core.specs.Builds.{IsSpelled, IsBuilt};
+ghost use Rattle.play_core.specs.Runs.{rung_at};
+ghost use Rattle.actor_set.specs.Actors.{actor_round};
 ghost use Rattle.trace_text.specs.Traces.{IsReadFor};
-ghost use Rattle.system_core.specs.PlanPlays.{IsPlayed, HasEnded};
 ghost use Rattle.region_layout.specs.Layouts.{layout_of};
 ghost use Rattle.sdf_check.specs.Valid.{Valid};
-ghost use Rattle.sdf_model.specs.declared.plan.Serial.{Serial};
+ghost use Rattle.system_core.specs.Shows.{runs};
+ghost use Rattle.system_core.specs.States.{heard_of, heard_from, begun, crew_of, started};
+ghost use Rattle.system_core.specs.Starts.{AreStarting};
+ghost use Rattle.system_core.specs.Seats.{AreSeated};
+ghost use Rattle.system_core.specs.Lawful.{StandsLawful};
+ghost use Rattle.system_core.specs.Reports.{report_of};
+ghost use Rattle.system_core.specs.Runnings.{removed_if, with_option};
+ghost use Rattle.system_core.specs.Plays.{Played, IsSpent, StepsAt, runnable_now};
+ghost use Rattle.system_core.specs.Builds.{unplayed, IsBuilt};
+ghost use Rattle.system_core.specs.PlanPlays.{IsPlayed, HasEnded};
 
 use crate::build::{cast, client_numbers, copies};
 use crate::running::Running;
@@ -27,7 +27,8 @@ use cargo_core::{Bytes, Memory, Series};
 use expect_core::Report;
 use plain_wires::World;
 use region_layout::Layout;
-use sdf_model::Plan;
+use sdf_model::{Place, Plan};
+use serial_law::serial_law;
 use std::alloc::Global;
 use std::marker::Model;
 use trace_text::Trace;
@@ -64,6 +65,19 @@ impl Model for System {
     ghost view = { shown_of };
 
     ghost invariant = { IsSystem };
+}
+
+/// The first class of a plan that can't be played yet, if it has one.
+pub fn unplayed(plan: &Plan) -> Option<Place>
+    ensures { result ≡ unplayed plan.now }
+{
+    if plan.net.is_some() {
+        Some(Place::Net)
+    } else if plan.blk.is_some() {
+        Some(Place::Blk)
+    } else {
+        None
+    }
 }
 
 // Whether the actor at a place isn't runnable.
@@ -107,7 +121,7 @@ fn first_running(
 ) -> Result<Running, Memory>
     requires starting { AreStarting rows.now actors.now }
     requires world { world.now ≡ starts rows.now }
-    ensures list { IfOk result (λ r. r.list ≡ runnable (start_history rows.now) rows.now (map part_of actors.now) []) }
+    ensures list { IfOk result (λ r. r.list ≡ runs (begun rows.now actors.now (crew_of None [])) []) }
     ensures room { IfOk result (λ r. length actors.now ≤ r.room) }
 {
     let mut running = Running::with_room(alloc, actors.len())?;
@@ -131,6 +145,37 @@ fn heard_of(actor: &Actor) -> &[u8]
     }
 }
 
+// What the actor at a place sent on its line, or recorded.
+fn heard_from(actors: &[Actor], place: u16) -> &[u8]
+    ensures { result.now ≡ heard_from actors.now place }
+{
+    match actors.get(place as usize) {
+        Some(actor) => heard_of(actor),
+        None => &[],
+    }
+}
+
+// What was sent on the line of a device.
+fn line(alloc: Global, actors: &[Actor], device: Option<u16>) -> Result<Option<Bytes>, Memory>
+    ensures { IfOk result (λ l. l ≡ option_map (heard_from actors.now) device) }
+{
+    match device {
+        Some(place) => Ok(Some(Bytes::from_slice(alloc, heard_from(actors, place))?)),
+        None => Ok(None),
+    }
+}
+
+// What each of these actors recorded.
+fn records(alloc: Global, actors: &[Actor], clients: &[u16]) -> Result<Series<Bytes>, Memory>
+    ensures { IfOk result (λ rs. rs ≡ map (heard_from actors.now) clients.now) }
+{
+    let mut records = Series::new(alloc);
+    for client in clients {
+        records.push(Bytes::from_slice(alloc, heard_from(actors, *client))?)?;
+    }
+    Ok(records)
+}
+
 impl System {
     /// A system in its start state: actors in theirs, each with the ends that the rows give it. `device` is the place of the serial device among
     /// the actors, `clients` the places of the serial clients in their order.
@@ -142,11 +187,12 @@ impl System {
         clients: Vec<u16>,
     ) -> Result<System, Memory>
         requires { AreSeated rows.items actors.items }
-        ensures { IfOk result (λ s. s ≡ started rows.items (map part_of actors.items) device clients.items) }
+        ensures state { IfOk result (λ s. s ≡ started rows.items actors.items (crew_of device clients.items)) }
+        ensures stands { IfOk result StandsLawful }
     {
         let world = World::new(alloc, &rows)?;
         let running = first_running(alloc, &rows, &world, &actors)?;
-        Ok(System {
+        let system = System {
             alloc,
             rows,
             world,
@@ -155,25 +201,32 @@ impl System {
             clients,
             running,
             journal: Vec::new(alloc),
-        })
+        };
+        system.stand();
+        Ok(system)
+    }
+
+    // What holds of every system; nothing is done.
+    fn stand(&self)
+        ensures { StandsLawful self.now }
+    {
+        let _made = self.journal.len();
     }
 
     /// The system of a plan in its start state: the actors and queues of its layout, with what a trace gives them. The plan
-    /// is one without the network class and the block class.
+    /// is one that can be played.
     pub fn build(
         alloc: Global,
         plan: &Plan,
         layout: &Layout,
         trace: &Trace,
     ) -> Result<System, Memory>
-        requires spelled { IsSpelled plan.now }
         requires valid { Valid plan.now }
-        requires net { plan.now.net ≡ None }
-        requires blk { plan.now.blk ≡ None }
+        requires played { unplayed plan.now ≡ None }
         requires layout { layout.now ≡ layout_of plan.now }
         requires trace { IsReadFor plan.now trace.now }
         ensures built { IfOk result (IsBuilt plan.now trace.now) }
-        ensures serial { IfOk result (λ s. (serial : Serial) → plan.now.serial ≡ Some serial → IsSerial s trace.now.input trace.now.says) }
+        ensures stands { IfOk result StandsLawful }
     {
         let rows = copies(alloc, layout.queues())?;
         let Some(serial) = &plan.serial else {
@@ -187,39 +240,7 @@ impl System {
         System::start(alloc, rows, actors, Some(device), numbers)
     }
 
-    // What the actor at a place sent on its line, or recorded.
-    fn heard(&self, place: u16) -> &[u8]
-        ensures { result.now ≡ heard_at self.now place }
-    {
-        if place as usize >= self.actors.len() {
-            return &[];
-        }
-        let actor = &self.actors[place as usize];
-        heard_of(actor)
-    }
-
-    // What was sent on the serial line.
-    fn line(&self) -> Result<Option<Bytes>, Memory>
-        ensures { IfOk result (λ l. l ≡ option_map (heard_at self.now) self.now.device) }
-    {
-        match self.device {
-            Some(place) => Ok(Some(Bytes::from_slice(self.alloc, self.heard(place))?)),
-            None => Ok(None),
-        }
-    }
-
-    // What each serial client recorded.
-    fn records(&self) -> Result<Series<Bytes>, Memory>
-        ensures { IfOk result (λ rs. rs ≡ map (heard_at self.now) self.now.clients) }
-    {
-        let mut records = Series::new(self.alloc);
-        for client in &self.clients {
-            records.push(Bytes::from_slice(self.alloc, self.heard(*client))?)?;
-        }
-        Ok(records)
-    }
-
-    /// What the system shows as it is.
+    /// What is seen of the system as it is.
     pub fn report(&self) -> Result<Report, Memory>
         ensures { IfOk result (λ r. r ≡ report_of self.now) }
     {
@@ -228,8 +249,8 @@ impl System {
             steps: self.journal.len() as u64,
             wire: None,
             net: Series::new(self.alloc),
-            line: self.line()?,
-            serial: self.records()?,
+            line: line(self.alloc, &self.actors, self.device)?,
+            serial: records(self.alloc, &self.actors, &self.clients)?,
             blk: Series::new(self.alloc),
             pools: Series::new(self.alloc),
             bad: 0,
@@ -238,12 +259,7 @@ impl System {
 
     /// All calls that were made, since the system was built.
     pub fn journal(&self) -> &[Entry]
-        ensures value { result.now ≡ self.now.journal }
-        ensures legal { LegalJournal nobody self.now.history self.now.rows self.now.journal }
-        ensures bells_hold { EachMoment (BellsHold nobody self.now.history self.now.rows) self.now.journal }
-        ensures flows { EachMoment (QueuesFlow nobody self.now.history self.now.rows) self.now.journal }
-        ensures rows_hold { EachMoment (RowsHold self.now.history self.now.cast) self.now.journal }
-        ensures serial { (input : List ℕ) (scripts : List (List ℕ)) → IsSerial self.now input scripts → EachMoment (λ j. ArrivesInPart (at_moment self.now j) input scripts) self.now.journal }
+        ensures { result.now ≡ self.now.journal }
     {
         &self.journal
     }
@@ -280,6 +296,18 @@ impl System {
     /// journal holds the steps that were made.
     pub fn play(&mut self, seed: u64, limit: u64) -> Result<Ending, Memory>
         ensures played { Played self.old self.new seed limit }
+        ensures stands { StandsLawful self.new }
+        ensures quiet { IfOk result (λ e. e ≡ Ending.Quiet → runnable_now self.new ≡ []) }
+        ensures spent { IfOk result (λ e. e ≡ Ending.Spent → IsSpent self.old self.new limit) }
+    {
+        let ending = self.play_on(seed, limit);
+        self.stand();
+        ending
+    }
+
+    // Makes steps of actors that the seed picks, until none is runnable or so many were made.
+    fn play_on(&mut self, seed: u64, limit: u64) -> Result<Ending, Memory>
+        ensures played { Played self.old self.new seed limit }
         ensures quiet { IfOk result (λ e. e ≡ Ending.Quiet → runnable_now self.new ≡ []) }
         ensures spent { IfOk result (λ e. e ≡ Ending.Spent → IsSpent self.old self.new limit) }
     {
@@ -300,7 +328,7 @@ impl System {
     }
 
     /// Builds the system of a plan and plays it by a seed until it is quiet or so many steps were made. The plan is one
-    /// without the network class and the block class.
+    /// that can be played.
     pub fn played(
         alloc: Global,
         plan: &Plan,
@@ -309,18 +337,16 @@ impl System {
         seed: u64,
         limit: u64,
     ) -> Result<(System, Ending), Memory>
-        requires spelled { IsSpelled plan.now }
         requires valid { Valid plan.now }
-        requires net { plan.now.net ≡ None }
-        requires blk { plan.now.blk ≡ None }
+        requires played { unplayed plan.now ≡ None }
         requires layout { layout.now ≡ layout_of plan.now }
         requires trace { IsReadFor plan.now trace.now }
         ensures played { IfOk result (λ r. IsPlayed plan.now trace.now seed limit r.0) }
         ensures ended { IfOk result (λ r. HasEnded limit r.0 r.1) }
     {
+        serial_law();
         let mut system = System::build(alloc, plan, layout, trace)?;
         let ending = system.play(seed, limit)?;
-        let _ = system.journal();
         Ok((system, ending))
     }
 }

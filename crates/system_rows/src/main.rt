@@ -7,7 +7,7 @@
 
 ghost use Rattle.std.specs.Prelude.{◌≡◌, ◌<◌, IfOk, length, None};
 ghost use Rattle.sdf_check.specs.Valid.{Valid};
-ghost use Rattle.system_core.specs.Builds.{IsSpelled};
+ghost use Rattle.system_core.specs.Builds.{unplayed};
 ghost use Rattle.trace_text.specs.Traces.{IsReadFor};
 
 use cargo_core::Memory;
@@ -17,13 +17,12 @@ use sdf_check::check;
 use sdf_model::{Plan, SdfFault, read_description};
 use std::alloc::Global;
 use std::{fs, io};
-use system_core::{Ending, System};
+use system_core::{Ending, System, unplayed};
 use trace_text::{Trace, TraceFault, read_trace};
 
 // The plan that a text spells, where no rule is broken.
 fn judged(alloc: Global, text: &str) -> Result<Plan, SdfFault>
-    ensures spelled { IfOk result IsSpelled }
-    ensures valid { IfOk result Valid }
+    ensures { IfOk result Valid }
 {
     let plan = read_description(alloc, text.as_bytes())?;
     check(alloc, &plan)?;
@@ -109,10 +108,8 @@ fn told(alloc: Global, report: &Report, trace: &Trace, ending: Ending) -> Result
 
 // What a play of a plan comes to, with a trace that was read for it.
 fn play(alloc: Global, plan: &Plan, trace: &Trace, seed: u64, steps: u64) -> Result<String, Memory>
-    requires spelled { IsSpelled plan.now }
     requires valid { Valid plan.now }
-    requires net { plan.now.net ≡ None }
-    requires blk { plan.now.blk ≡ None }
+    requires played { unplayed plan.now ≡ None }
     requires trace { IsReadFor plan.now trace.now }
 {
     let layout = lay_out(alloc, plan)?;
@@ -129,10 +126,9 @@ fn play_lines(
     steps: u64,
     lines: &str,
 ) -> Result<String, Memory>
-    requires spelled { IsSpelled plan.now }
-    requires valid { Valid plan.now }
+    requires { Valid plan.now }
 {
-    if plan.net.is_some() || plan.blk.is_some() {
+    if unplayed(plan).is_some() {
         return Ok(String::from_str(alloc, "not played\n")?);
     }
     let text = trace_of(alloc, lines)?;

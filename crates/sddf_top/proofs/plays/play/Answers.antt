@@ -18,5 +18,5 @@ returns-clause-answer c = record {
   status_is = c.ending_of.ensures ∙ ap (λ (r : Report). ending_of r.quiet r.steps) c.in_ok-report.ensures;
   text_is = c.in_ok-text.ensures ∙ ap (λ (l : Layout). shown_text l c.args.options.journal c.in_ok-report.report c.journal.result.now) c.in_ok-layout.ensures.layout
       ∙ ap (λ (r : Report). shown_text (layout_of c.args.plan.now) c.args.options.journal r c.journal.result.now) c.in_ok-report.ensures
-      ∙ ap (λ (j : List Entry). shown_text (layout_of c.args.plan.now) c.args.options.journal (report_of c.in_ok-system.system) j) c.journal.ensures.value;
+      ∙ ap (λ (j : List Entry). shown_text (layout_of c.args.plan.now) c.args.options.journal (report_of c.in_ok-system.system) j) c.journal.ensures;
 }

@@ -6,14 +6,14 @@ use Rattle.sddf_top.proofs.replies.reply_to_play.Goals as goal
 pub returns-in-Some-clause-answer : goal.returns-in-Some-clause-answer
 returns-in-Some-clause-answer g c =
     map-ok c.refused.result _ _ (λ r h words desc p.
-    (refuses (record { rule = 0; place = c.in-Some.place }), not_played desc c.args.trace.now c.args.options c.in-Some.place p (sym c.unplayed_class.ensures ∙ c.in-Some.is), h))
+    (refuses (record { rule = 0; place = c.in-Some.place }), not_played desc c.args.trace.now c.args.options c.in-Some.place p (sym c.unplayed.ensures ∙ c.in-Some.is), h))
     c.refused.ensures.answer
 
 pub returns-clause-answer : goal.returns-clause-answer
 returns-clause-answer g c =
     map-ok c.reply_to_trace.result _ _ (λ r h words desc p. (
       h.0,
-      traced desc c.args.trace.now c.in_ok-bytes.bytes c.args.options h.0 p (sym c.unplayed_class.ensures ∙ c.in_default.is) c.in_ok-bytes.ensures.bytes
+      traced desc c.args.trace.now c.in_ok-bytes.bytes c.args.options h.0 p (sym c.unplayed.ensures ∙ c.in_default.is) c.in_ok-bytes.ensures.bytes
           (subst (λ x. TraceDecides c.args.plan.now c.args.options x h.0) c.as_slice.ensures h.1),
       h.2,
     ))

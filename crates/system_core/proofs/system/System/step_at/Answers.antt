@@ -1,58 +1,68 @@
-use Rattle.std.proofs.Common.{◌≡◌, refl, ap, ◌∙◌, length, slice_get, Some, subst, arith}
+use Rattle.std.proofs.Common.{◌≡◌, ◌<◌, ◌++◌, [], ◌∷◌, refl, sym, ap, ◌∙◌, length, map, slice_get, slice_set, Some, subst, arith}
+use Rattle.std.proofs.lemmas.List.{length-map}
 use Rattle.std.specs.Vec.{vec_len}
 use Rattle.std.proofs.lemmas.Option.{slice_get_read}
-use Rattle.wire_core.specs.Journal.{start_history}
-use Rattle.system_core.specs.Shows.{Shown}
+use Rattle.wire_core.specs.Journal.{start_history, EachMoment}
+use Rattle.actor_set.specs.Actors.{part_of}
+use Rattle.system_core.specs.Shows.{Shown, runs, RowsStand}
+use Rattle.system_core.specs.States.{begun, crew_of}
+use Rattle.system_core.specs.Lawful.{IsFitted}
+use Rattle.system_core.specs.Inside.{setting_of}
+use Rattle.system_core.proofs.SystemStep.{entry_of}
 use Rattle.system_core.specs.Plays.{runnable_now}
 use Rattle.system_core.proofs.Stepping.{runs_below, system_then}
 use Rattle.system_core.proofs.system.System.step_at.Goals as goal
 
 pub index_mut-actor-requires : goal.index_mut-actor-requires
 index_mut-actor-requires c =
-    let lt = runs_below (start_history c.self.inside.rows.items) c.self.inside.rows.items c.self.inside.actors.items c.self.inside.journal.items c.args.place c.at-number.result (rw c.self.invariant.running at c.at-number.ensures) in
+    let below = runs_below (start_history c.self.inside.rows.items) c.self.inside.rows.items (map part_of c.self.inside.actors.items) c.self.inside.journal.items c.args.place c.at-number.result (rw c.self.invariant.running at c.at-number.ensures) in
+    let size = length-map c.self.inside.actors.items part_of in
+    let lt : c.at-number.result < length c.self.inside.actors.items = omega (arith, below, size) in
     let v : vec_len c.self.inside.actors ≡ length c.self.inside.actors.items = c.self.inside.actors.ok.0 in
     omega arith
 
 pub step-requires : goal.step-requires
 step-requires c =
-    let lt = runs_below (start_history c.self.inside.rows.items) c.self.inside.rows.items c.self.inside.actors.items c.self.inside.journal.items c.args.place c.at-number.result (rw c.self.invariant.running at c.at-number.ensures) in
+    let below = runs_below (start_history c.self.inside.rows.items) c.self.inside.rows.items (map part_of c.self.inside.actors.items) c.self.inside.journal.items c.args.place c.at-number.result (rw c.self.invariant.running at c.at-number.ensures) in
+    let size = length-map c.self.inside.actors.items part_of in
+    let lt : c.at-number.result < length c.self.inside.actors.items = omega (arith, below, size) in
     c.self.invariant.holds.fits c.at-number.result c.index_mut-actor.result.now (slice_get_read c.self.inside.actors.items _ c.at-number.result c.index_mut-actor.result.now refl lt c.index_mut-actor.ensures.value)
 
 pub index-actor-requires : goal.index-actor-requires
 index-actor-requires c =
-    let lt = runs_below (start_history c.self.inside.rows.items) c.self.inside.rows.items c.self.inside.actors.items c.self.inside.journal.items c.args.place c.at-number.result (rw c.self.invariant.running at c.at-number.ensures) in
+    let below = runs_below (start_history c.self.inside.rows.items) c.self.inside.rows.items (map part_of c.self.inside.actors.items) c.self.inside.journal.items c.args.place c.at-number.result (rw c.self.invariant.running at c.at-number.ensures) in
+    let size = length-map c.self.inside.actors.items part_of in
+    let lt : c.at-number.result < length c.self.inside.actors.items = omega (arith, below, size) in
     let v : vec_len c.self.inside.actors ≡ length c.self.inside.actors.items = c.self.inside.actors.ok.0 in
     omega arith
 
 pub note-requires-clause-room : goal.note-requires-clause-room
-note-requires-clause-room c = (system_then (start_history c.self.inside.rows.items) c.self.inside.rows.items c.self.inside.world c.step.new.wires c.self.inside.actors.items c.self.inside.journal.items c.at-number.result c.index_mut-actor.result.now c.step.new.self c.index-actor.result.now c.in_ok-event.event c.index-row.result.now c.rung-rung.result c.is_idle-idle.result c.args.place c.self.inside.running.list c.self.inside.running.room
-    c.self.invariant.holds c.self.invariant.rows_hold c.self.invariant.running c.self.invariant.room c.at-number.ensures c.index_mut-actor.ensures.value c.in_ok-event.ensures.own c.in_ok-event.ensures.stepped c.step.ensures.fits c.step.ensures.part c.index-actor.ensures c.index-row.ensures c.is_idle-idle.ensures c.rung-rung.ensures).few
+note-requires-clause-room c = (system_then (start_history c.self.inside.rows.items) c.self.inside.rows.items (crew_of c.self.inside.device c.self.inside.clients.items) c.self.inside.world c.step.new.wires c.self.inside.actors.items c.self.inside.journal.items c.at-number.result c.index_mut-actor.result.now c.step.new.self c.index-actor.result.now c.in_ok-event.event c.index-row.result.now c.rung-rung.result c.is_idle-idle.result c.args.place c.self.inside.running.list c.self.inside.running.room
+    c.self.invariant.fitted c.self.invariant.holds c.self.invariant.rows_hold c.self.invariant.running c.self.invariant.room c.at-number.ensures c.index_mut-actor.ensures.value c.in_ok-event.ensures.own c.in_ok-event.ensures.stepped c.step.ensures.fits c.step.ensures.part c.index-actor.ensures c.index-row.ensures c.is_idle-idle.ensures c.rung-rung.ensures).few
 
 pub invariant_of-self-2 : goal.invariant_of-self-2
 invariant_of-self-2 c =
-    let s = system_then (start_history c.self.inside.rows.items) c.self.inside.rows.items c.self.inside.world c.step.new.wires c.self.inside.actors.items c.self.inside.journal.items c.at-number.result c.index_mut-actor.result.now c.step.new.self c.index-actor.result.now c.in_ok-event.event c.index-row.result.now c.rung-rung.result c.is_idle-idle.result c.args.place c.self.inside.running.list c.self.inside.running.room
-    c.self.invariant.holds c.self.invariant.rows_hold c.self.invariant.running c.self.invariant.room c.at-number.ensures c.index_mut-actor.ensures.value c.in_ok-event.ensures.own c.in_ok-event.ensures.stepped c.step.ensures.fits c.step.ensures.part c.index-actor.ensures c.index-row.ensures c.is_idle-idle.ensures c.rung-rung.ensures in
+    let s = system_then (start_history c.self.inside.rows.items) c.self.inside.rows.items (crew_of c.self.inside.device c.self.inside.clients.items) c.self.inside.world c.step.new.wires c.self.inside.actors.items c.self.inside.journal.items c.at-number.result c.index_mut-actor.result.now c.step.new.self c.index-actor.result.now c.in_ok-event.event c.index-row.result.now c.rung-rung.result c.is_idle-idle.result c.args.place c.self.inside.running.list c.self.inside.running.room
+    c.self.invariant.fitted c.self.invariant.holds c.self.invariant.rows_hold c.self.invariant.running c.self.invariant.room c.at-number.ensures c.index_mut-actor.ensures.value c.in_ok-event.ensures.own c.in_ok-event.ensures.stepped c.step.ensures.fits c.step.ensures.part c.index-actor.ensures c.index-row.ensures c.is_idle-idle.ensures c.rung-rung.ensures in
+    let same : begun c.self.inside.rows.items (slice_set c.self.inside.actors.items c.at-number.result c.step.new.self) (crew_of c.self.inside.device c.self.inside.clients.items) ≡ setting_of c.self.inside = ap (λ cast. record { history = start_history c.self.inside.rows.items; rows = c.self.inside.rows.items; cast = cast; serial = crew_of c.self.inside.device c.self.inside.clients.items }) s.cast_is in
     record {
+      fitted = subst IsFitted (sym same) c.self.invariant.fitted;
       holds = rw (c.push_reserved.ensures.items, c.in_ok-reserve.ensures.items) s.holds;
-      rows_hold = rw (c.push_reserved.ensures.items, c.in_ok-reserve.ensures.items) s.rows_hold;
-      running = rw (c.push_reserved.ensures.items, c.in_ok-reserve.ensures.items, c.note.ensures) s.running;
+      rows_hold = rw (c.push_reserved.ensures.items, c.in_ok-reserve.ensures.items) (subst (λ z. EachMoment (RowsStand z) (c.self.inside.journal.items ++ entry_of c.at-number.result c.in_ok-event.event ∷ [])) (sym same) s.rows_hold);
+      running = rw (c.push_reserved.ensures.items, c.in_ok-reserve.ensures.items, c.note.ensures) (s.running ∙ ap (λ z. runs z (c.self.inside.journal.items ++ entry_of c.at-number.result c.in_ok-event.event ∷ [])) (sym same));
       room = rw c.note.ensures s.room_is;
     }
 
 pub returns-clause-ok : goal.returns-clause-ok
 returns-clause-ok c =
-    let s = system_then (start_history c.self.inside.rows.items) c.self.inside.rows.items c.self.inside.world c.step.new.wires c.self.inside.actors.items c.self.inside.journal.items c.at-number.result c.index_mut-actor.result.now c.step.new.self c.index-actor.result.now c.in_ok-event.event c.index-row.result.now c.rung-rung.result c.is_idle-idle.result c.args.place c.self.inside.running.list c.self.inside.running.room
-    c.self.invariant.holds c.self.invariant.rows_hold c.self.invariant.running c.self.invariant.room c.at-number.ensures c.index_mut-actor.ensures.value c.in_ok-event.ensures.own c.in_ok-event.ensures.stepped c.step.ensures.fits c.step.ensures.part c.index-actor.ensures c.index-row.ensures c.is_idle-idle.ensures c.rung-rung.ensures in
+    let s = system_then (start_history c.self.inside.rows.items) c.self.inside.rows.items (crew_of c.self.inside.device c.self.inside.clients.items) c.self.inside.world c.step.new.wires c.self.inside.actors.items c.self.inside.journal.items c.at-number.result c.index_mut-actor.result.now c.step.new.self c.index-actor.result.now c.in_ok-event.event c.index-row.result.now c.rung-rung.result c.is_idle-idle.result c.args.place c.self.inside.running.list c.self.inside.running.room
+    c.self.invariant.fitted c.self.invariant.holds c.self.invariant.rows_hold c.self.invariant.running c.self.invariant.room c.at-number.ensures c.index_mut-actor.ensures.value c.in_ok-event.ensures.own c.in_ok-event.ensures.stepped c.step.ensures.fits c.step.ensures.part c.index-actor.ensures c.index-row.ensures c.is_idle-idle.ensures c.rung-rung.ensures in
     record {
       actor = c.at-number.result;
       there = subst (λ (s : Shown). slice_get (runnable_now s) c.args.place ≡ Some c.at-number.result) c.self.view_is (rw (← c.self.invariant.running) c.at-number.ensures);
       appends = record {
         event = c.in_ok-event.event;
-        history = ap (λ (s : Shown). s.history) c.self.view_is;
-        rows = ap (λ (s : Shown). s.rows) c.self.view_is;
-        cast = s.cast_is ∙ ap (λ (s : Shown). s.cast) c.self.view_is;
-        device = ap (λ (s : Shown). s.device) c.self.view_is;
-        clients = ap (λ (s : Shown). s.clients) c.self.view_is;
+        setting = ap (λ cast. record { history = start_history c.self.inside.rows.items; rows = c.self.inside.rows.items; cast = cast; serial = crew_of c.self.inside.device c.self.inside.clients.items }) s.cast_is ∙ ap (λ (s : Shown). s.setting) c.self.view_is;
         journal = c.push_reserved.ensures.items ∙ rw (c.in_ok-reserve.ensures.items, ap (λ (s : Shown). s.journal) c.self.view_is) refl;
       };
     }

@@ -1,0 +1,49 @@
+use Rattle.std.proofs.Common.{◌≡◌, ◌<◌, ℕ, Some, List, length, map, slice_get, refl, sym, subst}
+use Rattle.std.proofs.lemmas.List.{length-map}
+use Rattle.wire_core.specs.declared.names.QueueRow.{QueueRow}
+use Rattle.wire_core.specs.Ends.{Role, Consumer, Producer}
+use Rattle.wire_core.specs.Journal.{owner_of}
+use Rattle.play_core.specs.Moved.{Seat}
+use Rattle.play_core.specs.Sheets.{Scene, IsSeat}
+use Rattle.play_core.proofs.Lists.{map_from, there_is}
+use Rattle.actor_set.specs.Parts.{Part}
+use Rattle.actor_set.specs.Actors.{part_of}
+use Rattle.actor_set.specs.declared.actor.Actor.{Actor}
+use Rattle.system_core.specs.Kinds.{sheet, scene_of}
+use Rattle.system_core.specs.Shows.{Crew}
+use Rattle.system_core.specs.States.{begun}
+use Rattle.system_core.specs.Seats.{AreSeated}
+use Rattle.system_core.specs.Lawful.{IsFitted}
+use Rattle.system_core.proofs.PartEnds.{PartEnd, to_part, from_part, end_seat, seat_end}
+
+-- seated actors fit the rows
+module _ (rows : List QueueRow) (actors : List Actor) (serial : Crew) (s : AreSeated rows actors) where
+  abbrev scene : Scene
+  scene = scene_of (map part_of actors)
+
+  end_given : (k : ℕ) (p : Part) → slice_get (map part_of actors) k ≡ Some p → (i : ℕ) (x : Seat) → slice_get (sheet scene p).ends i ≡ Some x → IsSeat rows k x
+  end_given k p at i x end =
+      let y = map_from part_of actors k p at in
+      let own = from_part y.0 x.role x.queue (subst (λ q. PartEnd q x.role x.queue) (sym y.2) (seat_end scene p i x end)) in
+      let seat = s.seats k y.0 y.1 x.role x.queue own in
+      (seat.row, seat.there, seat.owner)
+
+  seat_given : (k : ℕ) (p : Part) → slice_get (map part_of actors) k ≡ Some p → (x : Seat) → IsSeat rows k x → (i : ℕ) × (slice_get (sheet scene p).ends i ≡ Some x)
+  seat_given k p at x seat =
+      let y = map_from part_of actors k p at in
+      let own = s.ends k y.0 y.1 x.queue seat.0 seat.1 x.role seat.2 in
+      end_seat scene p x.role x.queue (subst (λ q. PartEnd q x.role x.queue) y.2 (to_part y.0 x.role x.queue own))
+
+  two_owners : (n : ℕ) (row : QueueRow) → slice_get rows n ≡ Some row → row.producer.0 ≡ row.consumer.0 → ⊥
+  two_owners n row at same =
+      let y = there_is actors row.producer.0 (s.peers n row at Producer) in
+      s.split row.producer.0 y.0 y.1 n (s.ends row.producer.0 y.0 y.1 n row at Consumer (sym same)) (s.ends row.producer.0 y.0 y.1 n row at Producer refl)
+
+  pub seated_fit : IsFitted (begun rows actors serial)
+  seated_fit = record {
+    peopled = λ n row at r. subst (λ m. owner_of row r < m) (sym (length-map actors part_of)) (s.peers n row at r);
+    seated = end_given;
+    ends = seat_given;
+    split = two_owners;
+    places = s.places;
+  }

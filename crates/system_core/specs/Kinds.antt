@@ -1,0 +1,57 @@
+-- The table of the kinds of actor that a system has, of all its classes: what is said of each of them, which of them
+-- are hostile, and what a trace gives them beside what they say.
+use Rattle.std.specs.Prelude.{ℕ, Bool, false, List, [], flat_map, slice_get}
+use Rattle.std.specs.Option.{option_map_or}
+use Rattle.wire_core.specs.Journal.{Hostiles}
+use Rattle.play_core.specs.Sheets.{Scene, Sheet}
+use Rattle.serial_law.specs.Parts.{SerialPart, SerialDevice, SerialDriver, SerialReceiver, SerialSender, SerialClient}
+use Rattle.serial_law.specs.Table.{serial_sheet}
+use Rattle.actor_set.specs.Parts.{Part, UartPart, DriverPart, RxPart, TxPart, ClientPart}
+
+-- an actor of the serial class as one of all
+abbrev pub serial_part : SerialPart → Part
+serial_part (SerialDevice rx tx input) = UartPart rx tx input
+serial_part (SerialDriver device_rx device_tx rx tx) = DriverPart device_rx device_tx rx tx
+serial_part (SerialReceiver rx clients) = RxPart rx clients
+serial_part (SerialSender tx clients) = TxPart tx clients
+serial_part (SerialClient rx tx script) = ClientPart rx tx script
+
+-- the frames that a trace gives a part: none of these has any
+abbrev pub frames_of : Part → List (List ℕ)
+frames_of (UartPart rx tx input) = []
+frames_of (DriverPart device_rx device_tx rx tx) = []
+frames_of (RxPart rx clients) = []
+frames_of (TxPart tx clients) = []
+frames_of (ClientPart rx tx script) = []
+
+-- the image that a trace gives a part: none of these has one
+abbrev pub image_of : Part → List ℕ
+image_of (UartPart rx tx input) = []
+image_of (DriverPart device_rx device_tx rx tx) = []
+image_of (RxPart rx clients) = []
+image_of (TxPart tx clients) = []
+image_of (ClientPart rx tx script) = []
+
+-- what a trace gives a cast beside its parts
+abbrev pub scene_of : List Part → Scene
+scene_of cast = record { frames = flat_map frames_of cast; image = flat_map image_of cast }
+
+-- what is said of a part, in a scene
+abbrev pub sheet : Scene → Part → Sheet
+sheet scene (UartPart rx tx input) = serial_sheet (SerialDevice rx tx input)
+sheet scene (DriverPart device_rx device_tx rx tx) = serial_sheet (SerialDriver device_rx device_tx rx tx)
+sheet scene (RxPart rx clients) = serial_sheet (SerialReceiver rx clients)
+sheet scene (TxPart tx clients) = serial_sheet (SerialSender tx clients)
+sheet scene (ClientPart rx tx script) = serial_sheet (SerialClient rx tx script)
+
+-- which parts are hostile: none of these
+abbrev pub is_hostile : Part → Bool
+is_hostile (UartPart rx tx input) = false
+is_hostile (DriverPart device_rx device_tx rx tx) = false
+is_hostile (RxPart rx clients) = false
+is_hostile (TxPart tx clients) = false
+is_hostile (ClientPart rx tx script) = false
+
+-- which of the actors of a cast are hostile
+abbrev pub hostiles : List Part → Hostiles
+hostiles cast k = option_map_or is_hostile (slice_get cast k) false

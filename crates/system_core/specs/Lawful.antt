@@ -1,0 +1,59 @@
+-- What holds of every system, however it was built and played: its seats, its journal at each moment, and what is seen
+-- of it.
+use Rattle.std.specs.Prelude.{◌≡◌, ◌≤◌, ℕ, Option, Some, List, [], length, map, slice_get}
+use Rattle.std.specs.Option.{option_map, option_map_or}
+use Rattle.wire_core.specs.declared.names.QueueRow.{QueueRow}
+use Rattle.wire_core.specs.declared.names.Entry.{Entry}
+use Rattle.wire_core.specs.Ends.{Role}
+use Rattle.wire_core.specs.Journal.{LegalJournal, EachMoment, BellsHold, QueuesFlow}
+use Rattle.sdf_check.specs.ClassRules.{IsCapacity}
+use Rattle.play_core.specs.Moved.{Moved, Seat}
+use Rattle.play_core.specs.Sheets.{AreSeated, IsSeat}
+use Rattle.play_core.specs.Still.{IsPeopled}
+use Rattle.serial_law.specs.Bytes.{bytes_in}
+use Rattle.actor_set.specs.Parts.{Part, UartPart, DriverPart, RxPart, TxPart, ClientPart}
+use Rattle.system_core.specs.Shows.{Setting, Shown, hostile_in, sheet_in, moved_in, RowsStand}
+
+-- the rows and the actors fit one another
+pub record IsFitted (s : Setting) : Type 0 where
+  -- each queue's owners are among the actors
+  pub peopled : IsPeopled s.rows (length s.cast)
+  -- each end of an actor is one that the rows give it
+  pub seated : AreSeated (sheet_in s) s.rows s.cast
+  -- and each that they give it is one of its ends
+  pub ends : (k : ℕ) (p : Part) → slice_get s.cast k ≡ Some p → (x : Seat) → IsSeat s.rows k x → (i : ℕ) × (slice_get (sheet_in s p).ends i ≡ Some x)
+  -- no actor has both ends of a queue
+  pub split : (n : ℕ) (row : QueueRow) → slice_get s.rows n ≡ Some row → row.producer.0 ≡ row.consumer.0 → ⊥
+  -- each queue can hold an entry
+  pub places : (n : ℕ) (row : QueueRow) → slice_get s.rows n ≡ Some row → IsCapacity row.capacity
+
+-- each queue hands over what was put, once and in order, each call is in discipline, and at each moment bells, queues
+-- and rows hold
+pub record IsLawful (s : Setting) (journal : List Entry) : Type 0 where
+  pub legal : LegalJournal (hostile_in s) s.history s.rows journal
+  pub bells_hold : EachMoment (BellsHold (hostile_in s) s.history s.rows) journal
+  pub flows : EachMoment (QueuesFlow (hostile_in s) s.history s.rows) journal
+  pub rows_hold : EachMoment (RowsStand s) journal
+
+-- the bytes that a part heard: a device on its line and a client for its record what they took
+abbrev pub heard_by : Moved → Part → List ℕ
+heard_by m (UartPart rx tx input) = bytes_in (m.taken tx)
+heard_by m (ClientPart rx tx script) = bytes_in (m.taken rx)
+heard_by m (DriverPart device_rx device_tx rx tx) = []
+heard_by m (RxPart rx clients) = []
+heard_by m (TxPart tx clients) = []
+
+-- the bytes that the actor at a place heard
+abbrev pub heard_at : Shown → ℕ → List ℕ
+heard_at s k = option_map_or (heard_by (moved_in s.setting s.journal)) (slice_get s.setting.cast k) []
+
+-- line and records are what the journal says that device and clients took
+pub record IsTold (s : Shown) : Type 0 where
+  pub line : s.state.line ≡ option_map (heard_at s) s.setting.serial.device
+  pub serial : s.state.serial ≡ map (heard_at s) s.setting.serial.clients
+
+-- all that holds of every system
+pub record StandsLawful (s : Shown) : Type 0 where
+  pub fitted : IsFitted s.setting
+  pub lawful : IsLawful s.setting s.journal
+  pub told : IsTold s
