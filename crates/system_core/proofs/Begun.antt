@@ -65,10 +65,11 @@ module _ (plan : Plan) (serial : Serial) (net : plan.net ≡ None) (blk : plan.b
         let g = second_get 4 count c q rx in
         let p_is : p ≡ 5 + 2 * c = (second_get 5 count c p tx).1 in
         let client = there_is serial.client c g.0 in
-        let at : slice_get s.cast (number_named plan client.0.pd) ≡ Some (ClientPart (4 + 2 * c) (5 + 2 * c) script) = h.client c client.0 script client.1 said in
-        (number_named plan client.0.pd,
-        subst (λ n. slice_get s.cast (number_named plan client.0.pd) ≡ Some (ClientPart n p script)) (sym g.1)
-        (subst (λ n. slice_get s.cast (number_named plan client.0.pd) ≡ Some (ClientPart (4 + 2 * c) n script)) (sym p_is) at));
+        let at : slice_get s.cast (number_named plan client.0.pd) ≡ Some (ClientPart (4 + 2 * c) (5 + 2 * c) script) = h.client c client.0 script client.1 said in (
+          number_named plan client.0.pd,
+          subst (λ n. slice_get s.cast (number_named plan client.0.pd) ≡ Some (ClientPart n p script)) (sym g.1)
+              (subst (λ n. slice_get s.cast (number_named plan client.0.pd) ≡ Some (ClientPart (4 + 2 * c) n script)) (sym p_is) at),
+        );
     rx_count = second_length 4 count ∙ sym says;
     tx_count = second_length 5 count ∙ sym says;
     holds_device_rx = holds 0 _ _ (seats_0 plan serial net blk has).0;
