@@ -1,3 +1,4 @@
+//! How a field of a plan is read from the table of its element, by the kind of the field.
 ghost use Rattle.std.specs.Prelude.{◌≡◌, IfOk, map, option_map};
 ghost use Rattle.toml.specs.View.{table_view};
 ghost use Rattle.sdf_model.specs.Keys.{Row, row_of};
@@ -22,7 +23,7 @@ pub(crate) trait Part: Sized + Drop {
 }
 
 /// What a field of a plan holds, which is read from a table by its key.
-pub(crate) trait Field: Sized {
+pub(crate) trait Field: Sized + Drop {
     ghost use Rattle.toml.specs.Data.{Members};
 
     ghost held: { Row → Members → Self };
@@ -107,6 +108,56 @@ impl<T: Part> Field for Option<T> {
             None => Ok(None),
         }
     }
+}
+
+/// The fields that are read by two, three and four keys. A part is read by these, and not by one field after another,
+/// since each way out of a body drops what was read before it.
+pub(crate) fn two<A: Field, B: Field>(
+    alloc: Global,
+    table: &Table,
+    a: &Key,
+    b: &Key,
+) -> Result<(A, B), Memory>
+    ensures { IfOk result (λ read. (read.0 ≡ A.held (row_of a.now) (table_view table.now))
+        × (read.1 ≡ B.held (row_of b.now) (table_view table.now))) }
+{
+    let first = A::field(alloc, table, a)?;
+    let second = B::field(alloc, table, b)?;
+    Ok((first, second))
+}
+
+pub(crate) fn three<A: Field, B: Field, C: Field>(
+    alloc: Global,
+    table: &Table,
+    a: &Key,
+    b: &Key,
+    c: &Key,
+) -> Result<(A, B, C), Memory>
+    ensures { IfOk result (λ read. (read.0 ≡ A.held (row_of a.now) (table_view table.now))
+        × (read.1 ≡ B.held (row_of b.now) (table_view table.now))
+        × (read.2 ≡ C.held (row_of c.now) (table_view table.now))) }
+{
+    let (first, second) = two(alloc, table, a, b)?;
+    let third = C::field(alloc, table, c)?;
+    Ok((first, second, third))
+}
+
+pub(crate) fn four<A: Field, B: Field, C: Field, D: Field>(
+    alloc: Global,
+    table: &Table,
+    a: &Key,
+    b: &Key,
+    c: &Key,
+    d: &Key,
+) -> Result<(A, B, C, D), Memory>
+    ensures { IfOk result (λ read. (read.0 ≡ A.held (row_of a.now) (table_view table.now))
+        × (read.1 ≡ B.held (row_of b.now) (table_view table.now))
+        × (read.2 ≡ C.held (row_of c.now) (table_view table.now))
+        × (read.3 ≡ D.held (row_of d.now) (table_view table.now))) }
+{
+    let (first, second) = two(alloc, table, a, b)?;
+    let (third, fourth) = two(alloc, table, c, d)?;
+    Ok((first, second, third, fourth))
 }
 
 /// The parts that the tables of a list spell.

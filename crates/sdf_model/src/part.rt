@@ -1,6 +1,7 @@
+//! How each part of a plan is read from the table of its element.
 ghost use Rattle.sdf_model.specs.Spelled.{plan_of, region_of, domain_of, map_of, irq_of, channel_of, end_of, net_of, net_client_of, serial_of, serial_client_of, blk_of, blk_client_of};
 
-use crate::field::{Field, Part};
+use crate::field::{Field, Part, four, three, two};
 use crate::key;
 use crate::plan::{
     Blk, BlkClient, Channel, Domain, End, Irq, Map, Net, NetClient, Plan, Region, Serial,
@@ -11,13 +12,12 @@ use std::alloc::Global;
 use toml::Table;
 
 /// Reads a part of a plan from the table of its element: each field, in the order of the element's array of keys, by
-/// the key that stands there.
+/// the key that stands there; so many fields at once.
 macro_rules! reading {
-    ($part:ident by $keys:expr, $alloc:ident, $table:ident; $($field:ident),*) => {{
-        let [$($field),*] = &$keys;
-        Ok($part {
-            $($field: Field::field($alloc, $table, $field)?),*
-        })
+    ($part:ident by $keys:expr, $alloc:ident, $table:ident; $($many:ident($($field:ident),*))*) => {{
+        let [$($($field),*),*] = &$keys;
+        $(let ($($field),*) = $many($alloc, $table, $($field),*)?;)*
+        Ok($part { $($($field),*),* })
     }};
 }
 
@@ -25,7 +25,7 @@ impl Part for Plan {
     ghost spelled = { plan_of };
 
     fn read(alloc: Global, table: &Table) -> Result<Plan, Memory> {
-        reading!(Plan by key::SYSTEM, alloc, table; version, memory_region, protection_domain, channel, net, serial, blk)
+        reading!(Plan by key::SYSTEM, alloc, table; four(version, memory_region, protection_domain, channel) three(net, serial, blk))
     }
 }
 
@@ -33,7 +33,7 @@ impl Part for Region {
     ghost spelled = { region_of };
 
     fn read(alloc: Global, table: &Table) -> Result<Region, Memory> {
-        reading!(Region by key::REGION, alloc, table; name, size, page_size, phys_addr)
+        reading!(Region by key::REGION, alloc, table; four(name, size, page_size, phys_addr))
     }
 }
 
@@ -41,7 +41,7 @@ impl Part for Domain {
     ghost spelled = { domain_of };
 
     fn read(alloc: Global, table: &Table) -> Result<Domain, Memory> {
-        reading!(Domain by key::DOMAIN, alloc, table; name, priority, budget, period, program, map, irq)
+        reading!(Domain by key::DOMAIN, alloc, table; four(name, priority, budget, period) three(program, map, irq))
     }
 }
 
@@ -49,7 +49,7 @@ impl Part for Map {
     ghost spelled = { map_of };
 
     fn read(alloc: Global, table: &Table) -> Result<Map, Memory> {
-        reading!(Map by key::MAP, alloc, table; mr, vaddr, perms, cached, setvar_vaddr)
+        reading!(Map by key::MAP, alloc, table; three(mr, vaddr, perms) two(cached, setvar_vaddr))
     }
 }
 
@@ -57,7 +57,7 @@ impl Part for Irq {
     ghost spelled = { irq_of };
 
     fn read(alloc: Global, table: &Table) -> Result<Irq, Memory> {
-        reading!(Irq by key::IRQ, alloc, table; irq, id, trigger)
+        reading!(Irq by key::IRQ, alloc, table; three(irq, id, trigger))
     }
 }
 
@@ -65,7 +65,10 @@ impl Part for Channel {
     ghost spelled = { channel_of };
 
     fn read(alloc: Global, table: &Table) -> Result<Channel, Memory> {
-        reading!(Channel by key::CHANNEL, alloc, table; end)
+        let [end] = &key::CHANNEL;
+        Ok(Channel {
+            end: Field::field(alloc, table, end)?,
+        })
     }
 }
 
@@ -73,7 +76,7 @@ impl Part for End {
     ghost spelled = { end_of };
 
     fn read(alloc: Global, table: &Table) -> Result<End, Memory> {
-        reading!(End by key::END, alloc, table; pd, id)
+        reading!(End by key::END, alloc, table; two(pd, id))
     }
 }
 
@@ -81,7 +84,7 @@ impl Part for Net {
     ghost spelled = { net_of };
 
     fn read(alloc: Global, table: &Table) -> Result<Net, Memory> {
-        reading!(Net by key::NET, alloc, table; driver, rx_virt, tx_virt, rx_region, rx_queues, tx_queues, rx_buffers, rx_capacity, tx_capacity, client)
+        reading!(Net by key::NET, alloc, table; four(driver, rx_virt, tx_virt, rx_region) four(rx_queues, tx_queues, rx_buffers, rx_capacity) two(tx_capacity, client))
     }
 }
 
@@ -89,7 +92,7 @@ impl Part for NetClient {
     ghost spelled = { net_client_of };
 
     fn read(alloc: Global, table: &Table) -> Result<NetClient, Memory> {
-        reading!(NetClient by key::NET_CLIENT, alloc, table; pd, copier, mac, lease_queues, rx_region, rx_queues, tx_region, tx_queues, rx_buffers, rx_capacity, tx_buffers, tx_capacity)
+        reading!(NetClient by key::NET_CLIENT, alloc, table; four(pd, copier, mac, lease_queues) four(rx_region, rx_queues, tx_region, tx_queues) four(rx_buffers, rx_capacity, tx_buffers, tx_capacity))
     }
 }
 
@@ -97,7 +100,7 @@ impl Part for Serial {
     ghost spelled = { serial_of };
 
     fn read(alloc: Global, table: &Table) -> Result<Serial, Memory> {
-        reading!(Serial by key::SERIAL, alloc, table; driver, rx_virt, tx_virt, rx_queues, tx_queues, rx_capacity, tx_capacity, client)
+        reading!(Serial by key::SERIAL, alloc, table; four(driver, rx_virt, tx_virt, rx_queues) four(tx_queues, rx_capacity, tx_capacity, client))
     }
 }
 
@@ -105,7 +108,7 @@ impl Part for SerialClient {
     ghost spelled = { serial_client_of };
 
     fn read(alloc: Global, table: &Table) -> Result<SerialClient, Memory> {
-        reading!(SerialClient by key::SERIAL_CLIENT, alloc, table; pd, rx_queues, tx_queues, rx_capacity, tx_capacity)
+        reading!(SerialClient by key::SERIAL_CLIENT, alloc, table; three(pd, rx_queues, tx_queues) two(rx_capacity, tx_capacity))
     }
 }
 
@@ -113,7 +116,7 @@ impl Part for Blk {
     ghost spelled = { blk_of };
 
     fn read(alloc: Global, table: &Table) -> Result<Blk, Memory> {
-        reading!(Blk by key::BLK, alloc, table; driver, virt, queues, region, capacity, client)
+        reading!(Blk by key::BLK, alloc, table; three(driver, virt, queues) three(region, capacity, client))
     }
 }
 
@@ -121,6 +124,6 @@ impl Part for BlkClient {
     ghost spelled = { blk_client_of };
 
     fn read(alloc: Global, table: &Table) -> Result<BlkClient, Memory> {
-        reading!(BlkClient by key::BLK_CLIENT, alloc, table; pd, region, queues, partition, buffers, capacity)
+        reading!(BlkClient by key::BLK_CLIENT, alloc, table; three(pd, region, queues) three(partition, buffers, capacity))
     }
 }
