@@ -1,6 +1,6 @@
 use Rattle.std.proofs.Common.{◌≡◌, ◌≤◌, ◌+◌, ℕ, List, [], ◌++◌, length, take, drop, refl, sym, ap, ◌∙◌, arith, Option, Some, None}
 use Rattle.std.proofs.Math.Seq.{take-add}
-use Rattle.std.proofs.lemmas.List.{drop-drop, take_all, length-drop, length-append, length-take-le, append-nil}
+use Rattle.std.proofs.lemmas.List.{drop-drop, drop_all, take_all, length-drop, length-append, length-take-le, append-nil}
 use Rattle.std.specs.Option.{option_map, IfSome}
 use Rattle.sddf_top.specs.Readings.{ReadsOn}
 
@@ -40,6 +40,18 @@ HasRead-more None left left' old new n h r = record { begun = tt; inside = tt; r
 pub read-full : (most : ℕ) (told left : Option (List ℕ)) (bytes : List ℕ) → length bytes ≡ most → HasRead told left bytes → IfSome told (λ text. bytes ≡ take most text)
 read-full most (Some text) left bytes e h = h.begun ∙ ap (λ k. take k text) e
 read-full most None left bytes e h = tt
+
+-- what is left once as many were read as are read at most
+pub left-full : (most : ℕ) (told left : Option (List ℕ)) (bytes : List ℕ) → length bytes ≡ most → HasRead told left bytes → left ≡ option_map (drop most) told
+left-full most told left bytes e h = h.rest ∙ ap (λ k. option_map (drop k) told) e
+
+-- what is left once a piece of no bytes ended it
+pub left-ended : (most : ℕ) (told left left' : Option (List ℕ)) (old new : List ℕ) (n : ℕ) → n ≡ 0 → length old ≤ most → HasRead told left old → ReadsOn left old n left' new → left' ≡ option_map (drop most) told
+left-ended most (Some text) left left' old new n e w h r =
+    let none : drop (length old) text ≡ [] = rw h.rest at (r.none e) in
+    let short : length text ≤ length old = omega (arith, ap length none, length-drop (length old) text) in
+    r.rest ∙ ap (option_map (drop n)) h.rest ∙ ap Some (ap (λ xs. drop n xs) none ∙ ap (λ k. drop k []) e ∙ sym (drop_all most text (omega arith)))
+left-ended most None left left' old new n e w h r = r.rest ∙ ap (option_map (drop n)) h.rest
 
 -- a piece of no bytes ends it
 pub read-ended : (most : ℕ) (told left left' : Option (List ℕ)) (old new : List ℕ) (n : ℕ) → n ≡ 0 → length old ≤ most → HasRead told left old → ReadsOn left old n left' new → IfSome told (λ text. new ≡ take most text)

@@ -1,5 +1,7 @@
-use Rattle.std.specs.Prelude.{ℕ, Option, Some, None, List, [], drop, slice_get, position, nat_eq, unwrap_or}
+-- Texts in memory under their names, and what a call of a shelf of them does.
+use Rattle.std.specs.Prelude.{ℕ, ◌+◌, ◌-◌, ◌^◌, ◌==◌, min, max, Bool, Option, Some, None, List, [], length, drop, slice_get, position, nat_eq, unwrap_or}
 use Rattle.std.specs.Option.{option_map}
+use Rattle.std.specs.List.{list_any}
 use Rattle.std.specs.Cmp.Lexicographic.{pointwise}
 use Rattle.sddf_top.specs.declared.memory_shelf.Kept.{Kept}
 
@@ -28,3 +30,15 @@ pub record Shelved : Type 0 where
   pub failing : List ℕ
   pub piece : ℕ
   pub faults : ℕ
+
+-- a count of calls after one more: it stands still at the end of its type
+abbrev pub next_call : ℕ → ℕ
+next_call n = min (n + 1) (2 ^ 64 - 1)
+
+-- whether a call of this number is one of those that fail
+abbrev pub is_listed : List ℕ → ℕ → Bool
+is_listed failing call = list_any (λ n. n == call) failing
+
+-- how many bytes a call gives that has room for so many: as many as it can, but no more than a piece
+abbrev pub given : Shelved → ℕ → ℕ
+given s room = min (min (length (left_of s.kept s.opened s.at)) room) (max s.piece 1)

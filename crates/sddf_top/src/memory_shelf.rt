@@ -1,7 +1,6 @@
-ghost use Rattle.std.specs.Prelude.{◌≡◌, ◌≤◌, ◌<◌, ◌∷◌, ◌++◌, [], ℕ, None, length, min, OnOk, OnErr, IfSome, ◌==◌, ◌+◌, ◌^◌, drop};
-ghost use Rattle.std.specs.List.{list_any};
+ghost use Rattle.std.specs.Prelude.{◌≡◌, ◌≤◌, ◌<◌, ◌∷◌, ◌++◌, [], ℕ, None, length, min, OnOk, OnErr, ◌+◌, ◌-◌, ◌^◌, drop};
 ghost use Rattle.sddf_top.specs.Outside.{Rose};
-ghost use Rattle.sddf_top.specs.Names.{place_under, left_of};
+ghost use Rattle.sddf_top.specs.Names.{place_under, left_of, next_call, is_listed};
 
 use crate::faults::raised;
 use crate::{Failed, Shelf};
@@ -45,6 +44,8 @@ impl MemShelf {
         ensures failing { result.failing ≡ [] }
         ensures calls { result.calls ≡ 0 }
         ensures faults { result.faults ≡ 0 }
+        ensures opened { result.opened ≡ None }
+        ensures piece { result.piece ≡ 2 ^ 64 - 1 }
     {
         MemShelf {
             alloc,
@@ -64,6 +65,8 @@ impl MemShelf {
         ensures err { OnErr result (self.new.kept ≡ self.old.kept) }
         ensures closed { self.new.opened ≡ None }
         ensures calls { self.new.calls ≡ self.old.calls }
+        ensures failing { self.new.failing ≡ self.old.failing }
+        ensures piece { self.new.piece ≡ self.old.piece }
         ensures faults { self.new.faults ≡ self.old.faults }
     {
         self.opened = None;
@@ -94,8 +97,8 @@ impl MemShelf {
 
     /// Counts a call, and tells whether it fails.
     fn is_failing(&mut self) -> bool
-        ensures failing { result ≡ list_any (λ n. n == self.old.calls) self.old.failing }
-        ensures same { self.new ≡ record self.old { calls = self.new.calls } }
+        ensures failing { result ≡ is_listed self.old.failing self.old.calls }
+        ensures counted { self.new ≡ record self.old { calls = next_call self.old.calls } }
     {
         let fails = self.failing.contains(&self.calls);
         self.calls = self.calls.saturating_add(1);
@@ -105,6 +108,9 @@ impl MemShelf {
     /// The text that is open fails.
     fn fail(&mut self) -> Failed
         ensures kept { self.new.kept ≡ self.old.kept }
+        ensures calls { self.new.calls ≡ self.old.calls }
+        ensures failing { self.new.failing ≡ self.old.failing }
+        ensures piece { self.new.piece ≡ self.old.piece }
         ensures closed { self.new.opened ≡ None }
         ensures rose { Rose self.old.faults self.new.faults }
         ensures rising { self.old.faults ≤ self.new.faults }
@@ -144,6 +150,9 @@ impl MemShelf {
         requires { self.old.at + n < 2 ^ 64 }
         ensures left { left_of self.new.kept self.new.opened self.new.at ≡ drop n (left_of self.old.kept self.old.opened self.old.at) }
         ensures kept { self.new.kept ≡ self.old.kept }
+        ensures calls { self.new.calls ≡ self.old.calls }
+        ensures failing { self.new.failing ≡ self.old.failing }
+        ensures piece { self.new.piece ≡ self.old.piece }
         ensures faults { self.new.faults ≡ self.old.faults }
     {
         self.at += n;
@@ -151,8 +160,10 @@ impl MemShelf {
 }
 
 impl Shelf for MemShelf {
-    ghost use Rattle.std.specs.Prelude.{Some};
-    ghost use Rattle.sddf_top.specs.Names.{text_under, left_of};
+    ghost use Rattle.std.specs.Prelude.{Some, List, IfOk, IfSome, is_ok, is_some, not, ◌&&◌};
+    ghost use Rattle.sddf_top.specs.Names.{text_under, left_of, given};
+    ghost use Rattle.std.specs.Option.{option_map};
+    ghost use Rattle.sddf_top.specs.Outside.{GivesNext, IsAtEnd};
 
     ghost text = { λ s name. text_under s.kept name };
 
@@ -160,7 +171,19 @@ impl Shelf for MemShelf {
 
     ghost faults = { λ s. s.faults };
 
-    fn open(&mut self, name: &str) -> Result<(), Failed> {
+    /// It counts the call, and fails where the call is listed or the name isn't there.
+    fn open(&mut self, name: &str) -> Result<(), Failed>
+        ensures texts { (n : List ℕ) → text_under self.new.kept n ≡ text_under self.old.kept n }
+        ensures rising { self.old.faults ≤ self.new.faults }
+        ensures opened { OnOk result (Some (left_of self.new.kept self.new.opened self.new.at) ≡ text_under self.old.kept name.now) }
+        ensures calm { OnOk result (self.new.faults ≡ self.old.faults) }
+        ensures failed { OnErr result (Rose self.old.faults self.new.faults) }
+        ensures ended { OnErr result (IsAtEnd (Some (left_of self.new.kept self.new.opened self.new.at))) }
+        ensures counted { self.new.calls ≡ next_call self.old.calls }
+        ensures fails { is_ok result ≡ (not (is_listed self.old.failing self.old.calls) && is_some (place_under self.old.kept name.now)) }
+        ensures listed { self.new.failing ≡ self.old.failing }
+        ensures piece { self.new.piece ≡ self.old.piece }
+    {
         if self.is_failing() {
             return Err(self.fail());
         }
@@ -172,7 +195,24 @@ impl Shelf for MemShelf {
         Ok(())
     }
 
-    fn read(&mut self, into: &mut [u8]) -> Result<usize, Failed> {
+    /// It counts the call, and fails where the call is listed. Else it gives as many bytes as it can, but no more than a
+    /// piece.
+    fn read(&mut self, into: &mut [u8]) -> Result<usize, Failed>
+        ensures texts { (n : List ℕ) → text_under self.new.kept n ≡ text_under self.old.kept n }
+        ensures rising { self.old.faults ≤ self.new.faults }
+        ensures bound { IfOk result (λ n. n ≤ length into.new) }
+        ensures bytes { IfOk result (λ n. IfSome (Some (left_of self.old.kept self.old.opened self.old.at)) (λ l. GivesNext l n into.new)) }
+        ensures rest { IfOk result (λ n. Some (left_of self.new.kept self.new.opened self.new.at)
+            ≡ option_map (drop n) (Some (left_of self.old.kept self.old.opened self.old.at))) }
+        ensures calm { OnOk result (self.new.faults ≡ self.old.faults) }
+        ensures failed { OnErr result (Rose self.old.faults self.new.faults) }
+        ensures ended { OnErr result (IsAtEnd (Some (left_of self.new.kept self.new.opened self.new.at))) }
+        ensures counted { self.new.calls ≡ next_call self.old.calls }
+        ensures fails { is_ok result ≡ not (is_listed self.old.failing self.old.calls) }
+        ensures most { IfOk result (λ n. n ≡ given self.old (length into.old)) }
+        ensures listed { self.new.failing ≡ self.old.failing }
+        ensures piece { self.new.piece ≡ self.old.piece }
+    {
         if self.is_failing() {
             return Err(self.fail());
         }

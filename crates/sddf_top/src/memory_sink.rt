@@ -1,5 +1,6 @@
-ghost use Rattle.std.specs.Prelude.{◌≡◌, ◌≤◌, ◌∷◌, ◌++◌, [], length, OnOk, OnErr, IfOk};
+ghost use Rattle.std.specs.Prelude.{◌≡◌, ◌≤◌, ◌-◌, ◌^◌, ◌∷◌, ◌++◌, [], length, OnOk, OnErr, IfOk};
 ghost use Rattle.sddf_top.specs.Outside.{Rose};
+ghost use Rattle.sddf_top.specs.Sunk.{taken};
 
 use crate::faults::raised;
 use crate::{Failed, Sink};
@@ -20,11 +21,14 @@ pub struct MemSink {
 }
 
 impl Model for MemSink {
+    ghost use Rattle.std.specs.Prelude.{◌≤◌, vec_capacity};
     ghost use Rattle.sddf_top.specs.Sunk.{Sunk};
 
     ghost Value = { Sunk };
 
     ghost view = { λ s. record { written = s.written.items; room = s.room; calls = s.calls; failing = s.failing.items; piece = s.piece; faults = s.faults } };
+
+    ghost invariant = { λ s. s.room ≤ vec_capacity s.written };
 }
 
 impl MemSink {
@@ -35,6 +39,7 @@ impl MemSink {
         ensures failing { IfOk result (λ s. s.failing ≡ []) }
         ensures calls { IfOk result (λ s. s.calls ≡ 0) }
         ensures faults { IfOk result (λ s. s.faults ≡ 0) }
+        ensures piece { IfOk result (λ s. s.piece ≡ 2 ^ 64 - 1) }
     {
         Ok(MemSink {
             written: Vec::with_capacity(alloc, room)?,
@@ -72,7 +77,7 @@ impl MemSink {
 
     /// How many bytes of a piece are taken now.
     fn taken_of(&self, from: &[u8]) -> usize
-        ensures { result ≤ length from.now }
+        ensures { result ≡ taken self.now (length from.now) }
     {
         let room = self.room.saturating_sub(self.written.len());
         from.len().min(room).min(self.piece)
@@ -80,7 +85,7 @@ impl MemSink {
 
     /// The call fails.
     fn fail(&mut self) -> Failed
-        ensures written { self.new.written ≡ self.old.written }
+        ensures same { self.new ≡ record self.old { faults = self.new.faults } }
         ensures rose { Rose self.old.faults self.new.faults }
         ensures rising { self.old.faults ≤ self.new.faults }
     {
@@ -90,13 +95,32 @@ impl MemSink {
 }
 
 impl Sink for MemSink {
-    ghost use Rattle.std.specs.Prelude.{Some};
+    ghost use Rattle.std.specs.Prelude.{Some, is_ok, not, ◌&&◌, ◌||◌, ◌==◌, take};
+    ghost use Rattle.sddf_top.specs.Names.{next_call, is_listed};
+    ghost use Rattle.sddf_top.specs.Outside.{appended};
 
     ghost written = { λ s. Some s.written };
 
     ghost faults = { λ s. s.faults };
 
-    fn write(&mut self, from: &[u8]) -> Result<usize, Failed> {
+    /// It counts the call, and fails where the call is listed, or nothing can be taken of a piece that has bytes. Else it
+    /// takes as many bytes as it can, but no more than a piece.
+    fn write(&mut self, from: &[u8]) -> Result<usize, Failed>
+        ensures rising { self.old.faults ≤ self.new.faults }
+        ensures bound { IfOk result (λ n. n ≤ length from.now) }
+        ensures progress { IfOk result (λ n. n ≡ 0 → from.now ≡ []) }
+        ensures appends { IfOk result (λ n. Some self.new.written ≡ appended (Some self.old.written) (take n from.now)) }
+        ensures calm { OnOk result (self.new.faults ≡ self.old.faults) }
+        ensures failed { OnErr result (Rose self.old.faults self.new.faults) }
+        ensures unwritten { OnErr result (Some self.new.written ≡ Some self.old.written) }
+        ensures counted { self.new.calls ≡ next_call self.old.calls }
+        ensures fails { is_ok result ≡ not (is_listed self.old.failing self.old.calls
+            || (taken self.old (length from.now) == 0 && not (length from.now == 0))) }
+        ensures most { IfOk result (λ n. n ≡ taken self.old (length from.now)) }
+        ensures room { self.new.room ≡ self.old.room }
+        ensures listed { self.new.failing ≡ self.old.failing }
+        ensures piece { self.new.piece ≡ self.old.piece }
+    {
         let fails = self.failing.contains(&self.calls);
         self.calls = self.calls.saturating_add(1);
         let n = self.taken_of(from);
@@ -105,7 +129,7 @@ impl Sink for MemSink {
         }
         match self.written.extend_from_slice(&from[..n]) {
             Ok(()) => Ok(n),
-            Err(_) => Err(self.fail()),
+            Err(_) => unreachable!(),
         }
     }
 }

@@ -1,6 +1,6 @@
 ghost use Rattle.std.specs.Prelude.{◌≡◌, ◌+◌, ◌<◌, ◌≤◌, ℕ, List, Err, OnOk, IfOk, IfSome, length};
 ghost use Rattle.sddf_top.specs.Outside.{Rose, IsRead};
-ghost use Rattle.sddf_top.specs.Readings.{ReadsOn};
+ghost use Rattle.sddf_top.specs.Readings.{ReadsOn, Behind};
 
 use crate::{Failed, Shelf};
 use cargo_core::{Bytes, Memory};
@@ -66,6 +66,7 @@ pub fn read_text<F: Shelf>(alloc: Global, shelf: &mut F, name: &str) -> Result<B
     ensures calm { OnOk result (F.faults shelf.new ≡ F.faults shelf.old) }
     ensures bytes { IfOk result (IsRead (F.text shelf.old name.now)) }
     ensures within { IfOk result (λ bytes. length bytes ≤ 16777217) }
+    ensures left { OnOk result (Behind (F.text shelf.old) name.now (F.left shelf.new)) }
     ensures failed { result ≡ Err ReadStop.Failed → Rose (F.faults shelf.old) (F.faults shelf.new) }
     ensures starved { result ≡ Err ReadStop.Memory → F.faults shelf.new ≡ F.faults shelf.old }
 {

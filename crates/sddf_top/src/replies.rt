@@ -10,6 +10,7 @@ ghost use Rattle.system_core.specs.Builds.{unplayed};
 ghost use Rattle.sddf_top.specs.Judged.{IsAcceptedPlan};
 ghost use Rattle.sddf_top.specs.Decisions.{Say, TextDecides, PlanDecides, TraceDecides, refuses, too_long};
 ghost use Rattle.sddf_top.specs.Answers.{Answers, Comes, ComesBy, WasRead};
+ghost use Rattle.sddf_top.specs.Readings.{LeavesPlay, LeavesPlan, ReadLast};
 
 use crate::judged::judge;
 use crate::plays::play;
@@ -65,7 +66,7 @@ fn not_accepted(alloc: Global, fault: SdfFault) -> Result<Reply, ReadStop>
 {
     match fault {
         SdfFault::Refused(refusal) => refused(alloc, refusal),
-        SdfFault::Memory(_) => Err(ReadStop::Memory),
+        SdfFault::Memory(memory) => Err(ReadStop::from(memory)),
     }
 }
 
@@ -86,7 +87,7 @@ fn not_read(alloc: Global, fault: TraceFault) -> Result<Reply, ReadStop>
 {
     match fault {
         TraceFault::BadLine(line) => bad_trace(alloc, line),
-        TraceFault::Memory(_) => Err(ReadStop::Memory),
+        TraceFault::Memory(memory) => Err(ReadStop::from(memory)),
     }
 }
 
@@ -152,6 +153,7 @@ fn reply_to_play<F: Shelf>(
     ensures texts { (n : List ℕ) → F.text shelf.new n ≡ F.text shelf.old n }
     ensures answer { IfOk result (λ r. (words : List (List ℕ)) (desc : List ℕ) → IsPlay words desc trace.now options
         → ComesBy (PlanDecides (WasRead (F.text shelf.old)) words plan.now) r.status (string_bytes r.text) r.played) }
+    ensures last { IfOk result (λ r. LeavesPlay (F.text shelf.old) trace.now (F.left shelf.old) (F.left shelf.new) r.status) }
     ensures calm { OnOk result (F.faults shelf.new ≡ F.faults shelf.old) }
     ensures failed { result ≡ Err ReadStop.Failed → Rose (F.faults shelf.old) (F.faults shelf.new) }
     ensures starved { result ≡ Err ReadStop.Memory → F.faults shelf.new ≡ F.faults shelf.old }
@@ -176,6 +178,7 @@ fn reply_to_plan<F: Shelf>(
     ensures texts { (n : List ℕ) → F.text shelf.new n ≡ F.text shelf.old n }
     ensures answer { IfOk result (λ r.
         ComesBy (PlanDecides (WasRead (F.text shelf.old)) (texts_of words.now) plan.now) r.status (string_bytes r.text) r.played) }
+    ensures last { IfOk result (λ r. LeavesPlan (F.text shelf.old) (texts_of words.now) (F.left shelf.old) (F.left shelf.new) r.status) }
     ensures calm { OnOk result (F.faults shelf.new ≡ F.faults shelf.old) }
     ensures failed { result ≡ Err ReadStop.Failed → Rose (F.faults shelf.old) (F.faults shelf.new) }
     ensures starved { result ≡ Err ReadStop.Memory → F.faults shelf.new ≡ F.faults shelf.old }
@@ -199,6 +202,7 @@ fn reply_to_text<F: Shelf>(
     ensures texts { (n : List ℕ) → F.text shelf.new n ≡ F.text shelf.old n }
     ensures answer { IfOk result (λ r.
         ComesBy (TextDecides (WasRead (F.text shelf.old)) (texts_of words.now) text.now) r.status (string_bytes r.text) r.played) }
+    ensures last { IfOk result (λ r. LeavesPlan (F.text shelf.old) (texts_of words.now) (F.left shelf.old) (F.left shelf.new) r.status) }
     ensures calm { OnOk result (F.faults shelf.new ≡ F.faults shelf.old) }
     ensures failed { result ≡ Err ReadStop.Failed → Rose (F.faults shelf.old) (F.faults shelf.new) }
     ensures starved { result ≡ Err ReadStop.Memory → F.faults shelf.new ≡ F.faults shelf.old }
@@ -223,6 +227,7 @@ fn reply_to_command<F: Shelf>(
     ensures texts { (n : List ℕ) → F.text shelf.new n ≡ F.text shelf.old n }
     ensures answer { IfOk result (λ r.
         Answers (WasRead (F.text shelf.old)) (texts_of words.now) r.status (string_bytes r.text) r.played) }
+    ensures last { IfOk result (λ r. ReadLast (F.text shelf.old) (texts_of words.now) (F.left shelf.old) (F.left shelf.new) r.status) }
     ensures calm { OnOk result (F.faults shelf.new ≡ F.faults shelf.old) }
     ensures failed { result ≡ Err ReadStop.Failed → Rose (F.faults shelf.old) (F.faults shelf.new) }
     ensures starved { result ≡ Err ReadStop.Memory → F.faults shelf.new ≡ F.faults shelf.old }
@@ -236,6 +241,7 @@ pub fn reply_to<F: Shelf>(alloc: Global, words: &[String], shelf: &mut F) -> Res
     ensures texts { (n : List ℕ) → F.text shelf.new n ≡ F.text shelf.old n }
     ensures answer { IfOk result (λ r.
         Answers (WasRead (F.text shelf.old)) (texts_of words.now) r.status (string_bytes r.text) r.played) }
+    ensures last { IfOk result (λ r. ReadLast (F.text shelf.old) (texts_of words.now) (F.left shelf.old) (F.left shelf.new) r.status) }
     ensures calm { OnOk result (F.faults shelf.new ≡ F.faults shelf.old) }
     ensures failed { result ≡ Err ReadStop.Failed → Rose (F.faults shelf.old) (F.faults shelf.new) }
     ensures starved { result ≡ Err ReadStop.Memory → F.faults shelf.new ≡ F.faults shelf.old }

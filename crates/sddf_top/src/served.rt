@@ -3,6 +3,7 @@ ghost use Rattle.command_words.specs.Words.{texts_of, Spells};
 ghost use Rattle.command_words.specs.declared.command.Command.{Command};
 ghost use Rattle.sddf_top.specs.Outside.{Rose};
 ghost use Rattle.sddf_top.specs.Decisions.{Decision, Decides};
+ghost use Rattle.sddf_top.specs.Readings.{ReadLast};
 ghost use Rattle.sddf_top.specs.Answers.{Answers, IsStatusOf, Serves, WasRead, IsTold, IsFault};
 
 use crate::gate::Gate;
@@ -53,6 +54,9 @@ pub fn serve_alone<F: Shelf, K: Sink>(
     // Each status wherever its cause holds, but for faults and want of memory.
     ensures exactly { (decision : Decision) → Decides (IsTold (F.text shelf.old)) (texts_of words.now) decision
         → IsStatusOf decision result ⊎ IsFault result }
+    // What is read, in which order and how far: the text that was read last, and what is left of it.
+    ensures last { ReadLast (F.text shelf.old) (texts_of words.now) (F.left shelf.old) (F.left shelf.new) result
+        ⊎ IsFault result }
 
     // A fault of reading: only where words that are a command let a text be read. Nothing is written.
     ensures read_fault { result ≡ Status.ReadFault → Rose (F.faults shelf.old) (F.faults shelf.new) }
@@ -92,6 +96,9 @@ pub fn serve<R: Threads + Wait + Sync, F: Shelf, K: Sink, G: Gate + Sync>(
     // Each status wherever its cause holds, but for faults and want of memory.
     ensures exactly { (decision : Decision) → Decides (IsTold (F.text shelf.old)) (texts_of words.now) decision
         → IsStatusOf decision result ⊎ IsFault result }
+    // What is read, in which order and how far: the text that was read last, and what is left of it.
+    ensures last { ReadLast (F.text shelf.old) (texts_of words.now) (F.left shelf.old) (F.left shelf.new) result
+        ⊎ IsFault result }
 
     // A fault of reading: only where words that are a command let a text be read. Nothing is written.
     ensures read_fault { result ≡ Status.ReadFault → Rose (F.faults shelf.old) (F.faults shelf.new) }

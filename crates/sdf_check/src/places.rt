@@ -125,7 +125,13 @@ pub fn places_of(alloc: Global, plan: &Plan) -> Result<Vec<Place>, Memory>
     push_members(alloc, &mut places, Sort::Region, plan.memory_region.len())?;
     push_domains(alloc, &mut places, plan.protection_domain.as_slice())?;
     push_channels(alloc, &mut places, plan.channel.as_slice())?;
-    push_class(alloc, &mut places, Place::Net, Sort::NetClient, net_clients(plan))?;
+    push_class(
+        alloc,
+        &mut places,
+        Place::Net,
+        Sort::NetClient,
+        net_clients(plan),
+    )?;
     push_class(
         alloc,
         &mut places,
@@ -133,6 +139,12 @@ pub fn places_of(alloc: Global, plan: &Plan) -> Result<Vec<Place>, Memory>
         Sort::SerialClient,
         serial_clients(plan),
     )?;
-    push_class(alloc, &mut places, Place::Blk, Sort::BlkClient, blk_clients(plan))?;
+    push_class(
+        alloc,
+        &mut places,
+        Place::Blk,
+        Sort::BlkClient,
+        blk_clients(plan),
+    )?;
     Ok(places)
 }

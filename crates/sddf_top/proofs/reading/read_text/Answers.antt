@@ -1,5 +1,6 @@
 use Rattle.std.proofs.Common.{◌∙◌, arith}
-use Rattle.sddf_top.proofs.ReadLemmas.{HasRead-more, read-full, read-ended}
+use Rattle.sddf_top.specs.Readings.{Behind}
+use Rattle.sddf_top.proofs.ReadLemmas.{HasRead-more, read-full, read-ended, left-full, left-ended}
 use Rattle.sddf_top.proofs.reading.read_text.Goals as goal
 use Rattle.sddf_top.proofs.reading.read_text.Goals.{else-loop-text-test, then-loop-text-test+in_ok-read_piece+then-branch-eq0}
 
@@ -16,4 +17,12 @@ returns-clause-bytes g c =
     elim c.loop-text-test.branch [
       | else-loop-text-test w ↦ rw w.text-is (read-full 16777217 _ _ _ (omega (arith, c.loop-text.invariant.within, c.len.ensures)) c.loop-text.invariant.read)
       | then-loop-text-test+in_ok-read_piece+then-branch-eq0 w ↦ rw w.text-is (read-ended 16777217 _ _ _ _ _ _ w.if-branch-eq0.true c.loop-text.invariant.within c.loop-text.invariant.read w.in_ok-read_piece.ensures.on)
+    ]
+
+pub returns-clause-left : goal.returns-clause-left
+unfolding Behind
+returns-clause-left g c =
+    elim c.loop-text-test.branch [
+      | else-loop-text-test w ↦ rw w.shelf-is (left-full 16777217 _ _ _ (omega (arith, c.loop-text.invariant.within, c.len.ensures)) c.loop-text.invariant.read)
+      | then-loop-text-test+in_ok-read_piece+then-branch-eq0 w ↦ rw w.shelf-is (left-ended 16777217 _ _ _ _ _ _ w.if-branch-eq0.true c.loop-text.invariant.within c.loop-text.invariant.read w.in_ok-read_piece.ensures.on)
     ]

@@ -2,6 +2,7 @@ use Rattle.std.proofs.Common.{sym, subst}
 use Rattle.command_words.specs.Words.{texts_of}
 use Rattle.sddf_top.specs.Answers.{WasRead}
 use Rattle.sddf_top.specs.Decisions.{NamesDescription, TextDecides, described}
+use Rattle.sddf_top.proofs.LastLemmas.{last-read}
 use Rattle.sddf_top.proofs.WordLemmas.{second-named}
 use Rattle.sddf_top.proofs.AnswerLemmas.{map-ok, text-before}
 use Rattle.sddf_top.proofs.replies.reply_to_command.Goals as goal
@@ -18,3 +19,11 @@ returns-clause-answer g c =
       h.2,
     ))
     c.reply_to_text.ensures.answer
+
+pub returns-clause-last : goal.returns-clause-last
+returns-clause-last g c =
+    let named : NamesDescription (texts_of c.args.words.now) c.as_str.result.now
+    = subst (λ x. NamesDescription (texts_of c.args.words.now) x) (sym c.as_str.ensures.value) (second-named c.args.words.now c.args.command c.index-words-1.result c.requires c.index-words-1.is) in
+    map-ok c.reply_to_text.result _ _ (λ r h. last-read (g.F.Shelf.text c.args.shelf.now) (g.F.Shelf.text c.read_text.new.shelf) c.in_ok-text.ensures.texts (texts_of c.args.words.now) c.as_str.result.now _ _ _ r.status
+    named c.in_ok-text.ensures.left h)
+    c.reply_to_text.ensures.last

@@ -1,5 +1,7 @@
 use Rattle.std.proofs.Common.{sym, ◌∙◌, subst}
 use Rattle.sddf_top.specs.Decisions.{TraceDecides, refuses, not_played, traced}
+use Rattle.std.proofs.Common.{inl, inr, refl}
+use Rattle.sddf_top.proofs.LastLemmas.{trace-status}
 use Rattle.sddf_top.proofs.AnswerLemmas.{map-ok}
 use Rattle.sddf_top.proofs.replies.reply_to_play.Goals as goal
 
@@ -18,3 +20,10 @@ returns-clause-answer g c =
       h.2,
     ))
     c.reply_to_trace.ensures.answer
+
+pub returns-in-Some-clause-last : goal.returns-in-Some-clause-last
+returns-in-Some-clause-last g c = map-ok c.refused.result _ _ (λ r h. inl (0, h.0, refl)) c.refused.ensures.answer
+
+pub returns-clause-last : goal.returns-clause-last
+returns-clause-last g c =
+    map-ok c.reply_to_trace.result _ _ (λ r h. inr (c.in_ok-bytes.ensures.left, trace-status _ _ _ _ _ _ h)) c.reply_to_trace.ensures.answer

@@ -1,6 +1,7 @@
 use Rattle.std.proofs.Common.{inr}
 use Rattle.command_words.specs.Words.{texts_of}
 use Rattle.sddf_top.specs.Answers.{WasRead, no_reading, no_writing, no_memory}
+use Rattle.sddf_top.proofs.LastLemmas.{last-written}
 use Rattle.sddf_top.proofs.AnswerLemmas.{served-status, answer-not, not-instead}
 use Rattle.sddf_top.proofs.served.serve_alone.Goals as goal
 
@@ -34,3 +35,12 @@ returns-in-Ok-clause-write_fault g c e =
 pub returns-in-Ok-clause-memory_unwritten : goal.returns-in-Ok-clause-memory_unwritten
 returns-in-Ok-clause-memory_unwritten g c e =
     absurd (not-instead (WasRead (g.F.Shelf.text c.args.shelf.now)) (texts_of c.args.words.now) _ _ _ _ _ c.in-Ok.ensures.answer c.write_reply.ensures.other no_memory (λ f. cc) e)
+
+pub returns-in-Ok-clause-last : goal.returns-in-Ok-clause-last
+returns-in-Ok-clause-last g c = last-written (g.F.Shelf.text c.args.shelf.now) (texts_of c.args.words.now) _ _ _ _ c.in-Ok.ensures.last c.write_reply.ensures.other
+
+pub returns-in-Err-Failed-clause-last : goal.returns-in-Err-Failed-clause-last
+returns-in-Err-Failed-clause-last g c = inr no_reading
+
+pub returns-in-Err-Memory-clause-last : goal.returns-in-Err-Memory-clause-last
+returns-in-Err-Memory-clause-last g c = inr no_memory
