@@ -2,14 +2,43 @@ use Rattle.std.proofs.Common.{Result, Ok, Err, IfOk}
 use Rattle.cargo_core.specs.declared.memory.Memory.{Memory}
 use Rattle.wire_core.specs.declared.names.Event.{Event}
 use Rattle.wire_core.specs.Deeds.{Deed}
-use Rattle.wire_core.specs.Lists.{Lists, Stepped}
-use Rattle.actor_set.specs.Actors.{ActorStandsFor}
+use Rattle.wire_core.specs.Lists.{Passed, Stepped}
+use Rattle.device_model.specs.Devices.{UartStandsFor, UartRow, UartBalances}
+use Rattle.device_model.specs.declared.UartDevice.{UartDevice}
+use Rattle.uart_driver.specs.Driver.{DriverStandsFor, DriverRow, DriverBalances}
+use Rattle.uart_driver.specs.declared.UartDriver.{UartDriver}
+use Rattle.serial_virt.specs.Receiving.{RxStandsFor, RxRow, RxBalances}
+use Rattle.serial_virt.specs.declared.rx.SerialVirtRx.{SerialVirtRx}
+use Rattle.serial_virt.specs.Sending.{TxStandsFor, TxRow, TxBalances}
+use Rattle.serial_virt.specs.declared.tx.SerialVirtTx.{SerialVirtTx}
+use Rattle.client_programs.specs.Clients.{SerialStandsFor, SerialRow, SerialBalances}
+use Rattle.client_programs.specs.declared.SerialClient.{SerialClient}
+use Rattle.actor_set.specs.Actors.{ActorStandsFor, ActorRow, ActorBalances}
 use Rattle.actor_set.specs.declared.actor.Actor.{Actor}
+use Rattle.actor_set.specs.declared.actor.Actor.TheVariants as Kinds
 
 -- a step of one kind is one of an actor
-pub as_actor : {A W : Type 0} (S : A → Lists → Lists → Type 0) (did : W → Deed → W → Type 0) (w v : W) (old new : Actor) (a a' : A) (e : Event) → ((taken sent : Lists) → ActorStandsFor old taken sent → S a taken sent) → ((taken sent : Lists) → S a' taken sent → ActorStandsFor new taken sent) → Stepped S did w v a a' e → Stepped ActorStandsFor did w v old new e
-as_actor S did w v old new a a' e was is st = record { body = st.body; happened = st.happened; kept = λ taken sent h. is _ _ (st.kept taken sent (was taken sent h)) }
+pub as_actor : {A W : Type 0} (S : A → Passed → Type 0) (did : W → Deed → W → Type 0) (w v : W) (old new : Actor) (a a' : A) (e : Event) → ((passed : Passed) → ActorStandsFor old passed → S a passed) → ((passed : Passed) → S a' passed → ActorStandsFor new passed) → Stepped S did w v a a' e → Stepped ActorStandsFor did w v old new e
+as_actor S did w v old new a a' e was is st = record { body = st.body; happened = st.happened; kept = λ passed h. is _ (st.kept passed (was passed h)) }
 
-pub ok_actor : {A W : Type 0} (S : A → Lists → Lists → Type 0) (did : W → Deed → W → Type 0) (w v : W) (old new : Actor) (a a' : A) (r : Result Event Memory) → ((taken sent : Lists) → ActorStandsFor old taken sent → S a taken sent) → ((taken sent : Lists) → S a' taken sent → ActorStandsFor new taken sent) → IfOk r (λ e. Stepped S did w v a a' e) → IfOk r (λ e. Stepped ActorStandsFor did w v old new e)
+pub ok_actor : {A W : Type 0} (S : A → Passed → Type 0) (did : W → Deed → W → Type 0) (w v : W) (old new : Actor) (a a' : A) (r : Result Event Memory) → ((passed : Passed) → ActorStandsFor old passed → S a passed) → ((passed : Passed) → S a' passed → ActorStandsFor new passed) → IfOk r (λ e. Stepped S did w v a a' e) → IfOk r (λ e. Stepped ActorStandsFor did w v old new e)
 ok_actor S did w v old new a a' (Ok e) was is st = as_actor S did w v old new a a' e was is st
 ok_actor S did w v old new a a' (Err m) was is st = st
+
+-- the row of each kind is that of an actor
+pub rows : ((x : UartDevice) (p : Passed) → UartStandsFor x p → UartRow x p) → ((x : UartDriver) (p : Passed) → DriverStandsFor x p → DriverRow x p) → ((x : SerialVirtRx) (p : Passed) → RxStandsFor x p → RxRow x p) → ((x : SerialVirtTx) (p : Passed) → TxStandsFor x p → TxRow x p) → ((x : SerialClient) (p : Passed) → SerialStandsFor x p → SerialRow x p)
+    → (a : Actor) (p : Passed) → ActorStandsFor a p → ActorRow a p
+rows device driver rx tx client (Kinds.UartDevice x) p h = device x p h
+rows device driver rx tx client (Kinds.UartDriver x) p h = driver x p h
+rows device driver rx tx client (Kinds.SerialVirtRx x) p h = rx x p h
+rows device driver rx tx client (Kinds.SerialVirtTx x) p h = tx x p h
+rows device driver rx tx client (Kinds.SerialClient x) p h = client x p h
+
+-- and so is its balance
+pub balances : ((x : UartDevice) (p : Passed) → UartStandsFor x p → UartBalances x p) → ((x : UartDriver) (p : Passed) → DriverStandsFor x p → DriverBalances x p) → ((x : SerialVirtRx) (p : Passed) → RxStandsFor x p → RxBalances x p) → ((x : SerialVirtTx) (p : Passed) → TxStandsFor x p → TxBalances x p) → ((x : SerialClient) (p : Passed) → SerialStandsFor x p → SerialBalances x p)
+    → (a : Actor) (p : Passed) → ActorStandsFor a p → ActorBalances a p
+balances device driver rx tx client (Kinds.UartDevice x) p h = device x p h
+balances device driver rx tx client (Kinds.UartDriver x) p h = driver x p h
+balances device driver rx tx client (Kinds.SerialVirtRx x) p h = rx x p h
+balances device driver rx tx client (Kinds.SerialVirtTx x) p h = tx x p h
+balances device driver rx tx client (Kinds.SerialClient x) p h = client x p h

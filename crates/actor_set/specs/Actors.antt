@@ -1,16 +1,17 @@
-use Rattle.std.specs.Prelude.{ℕ, List, length, map}
-use Rattle.wire_core.specs.Deeds.{Cargo}
-use Rattle.wire_core.specs.Lists.{Lists}
+-- What is said of an actor of any kind: one case for each kind.
+use Rattle.std.specs.Prelude.{◌≡◌, ℕ, List, length, map}
+use Rattle.cargo_core.specs.declared.item.Body.{Body}
+use Rattle.wire_core.specs.Lists.{Passed}
 use Rattle.wire_core.specs.Ends.{Role, End}
 use Rattle.turn_kit.specs.Turns.{Round}
-use Rattle.serial_terminal.specs.Terminals.{terminal_round, terminal_hand}
-use Rattle.device_model.specs.Devices.{FitsUart, UartStandsFor, UartRow, UartEnd}
-use Rattle.serial_virt.specs.Receiving.{FitsRx, RxStandsFor, RxRow, RxEnd, rx_round, rx_hand}
-use Rattle.serial_virt.specs.Sending.{FitsTx, TxStandsFor, TxRow, TxEnd, tx_round, tx_hand}
+use Rattle.serial_terminal.specs.Terminals.{terminal_round, terminal_hand, terminal_forgotten}
+use Rattle.device_model.specs.Devices.{FitsUart, UartStandsFor, UartRow, UartBalances, UartEnd}
+use Rattle.serial_virt.specs.Receiving.{FitsRx, RxStandsFor, RxRow, RxBalances, RxEnd, RxForgot, rx_round, rx_hand}
+use Rattle.serial_virt.specs.Sending.{FitsTx, TxStandsFor, TxRow, TxBalances, TxEnd, TxForgot, tx_round, tx_hand}
 use Rattle.turn_kit.specs.ManyEnds.{intake_queues, outlet_queues}
 use Rattle.wire_core.specs.declared.names.QueueId.{QueueId}
-use Rattle.uart_driver.specs.Driver.{FitsDriver, DriverStandsFor, DriverRow, DriverEnd, driver_round, driver_hand}
-use Rattle.client_programs.specs.Clients.{FitsSerial, SerialStandsFor, SerialRow, SerialEnd}
+use Rattle.uart_driver.specs.Driver.{FitsDriver, DriverStandsFor, DriverRow, DriverBalances, DriverEnd, driver_round, driver_hand, driver_forgotten}
+use Rattle.client_programs.specs.Clients.{FitsSerial, SerialStandsFor, SerialRow, SerialBalances, SerialEnd}
 use Rattle.actor_set.specs.Parts.{Part, UartPart, DriverPart, RxPart, TxPart, ClientPart}
 use Rattle.actor_set.specs.declared.actor.Actor.{Actor}
 use Rattle.actor_set.specs.declared.actor.Actor.TheVariants as Kinds
@@ -24,20 +25,28 @@ FitsActor ends (Kinds.SerialVirtTx x) = FitsTx ends x
 FitsActor ends (Kinds.SerialClient x) = FitsSerial ends x
 
 -- what it keeps, by what it took and what it put
-abbrev pub ActorStandsFor : Actor → Lists → Lists → Type 0
-ActorStandsFor (Kinds.UartDevice x) taken sent = UartStandsFor x taken sent
-ActorStandsFor (Kinds.UartDriver x) taken sent = DriverStandsFor x taken sent
-ActorStandsFor (Kinds.SerialVirtRx x) taken sent = RxStandsFor x taken sent
-ActorStandsFor (Kinds.SerialVirtTx x) taken sent = TxStandsFor x taken sent
-ActorStandsFor (Kinds.SerialClient x) taken sent = SerialStandsFor x taken sent
+abbrev pub ActorStandsFor : Actor → Passed → Type 0
+ActorStandsFor (Kinds.UartDevice x) passed = UartStandsFor x passed
+ActorStandsFor (Kinds.UartDriver x) passed = DriverStandsFor x passed
+ActorStandsFor (Kinds.SerialVirtRx x) passed = RxStandsFor x passed
+ActorStandsFor (Kinds.SerialVirtTx x) passed = TxStandsFor x passed
+ActorStandsFor (Kinds.SerialClient x) passed = SerialStandsFor x passed
 
 -- what it may have put and recorded, for what it took
-abbrev pub ActorRow : Actor → Lists → Lists → Type 0
-ActorRow (Kinds.UartDevice x) taken sent = UartRow x taken sent
-ActorRow (Kinds.UartDriver x) taken sent = DriverRow x taken sent
-ActorRow (Kinds.SerialVirtRx x) taken sent = RxRow x taken sent
-ActorRow (Kinds.SerialVirtTx x) taken sent = TxRow x taken sent
-ActorRow (Kinds.SerialClient x) taken sent = SerialRow x taken sent
+abbrev pub ActorRow : Actor → Passed → Type 0
+ActorRow (Kinds.UartDevice x) passed = UartRow x passed
+ActorRow (Kinds.UartDriver x) passed = DriverRow x passed
+ActorRow (Kinds.SerialVirtRx x) passed = RxRow x passed
+ActorRow (Kinds.SerialVirtTx x) passed = TxRow x passed
+ActorRow (Kinds.SerialClient x) passed = SerialRow x passed
+
+-- what it had at the start and what came is what went, what is in its hand, and what it keeps for good or lends
+abbrev pub ActorBalances : Actor → Passed → Type 0
+ActorBalances (Kinds.UartDevice x) passed = UartBalances x passed
+ActorBalances (Kinds.UartDriver x) passed = DriverBalances x passed
+ActorBalances (Kinds.SerialVirtRx x) passed = RxBalances x passed
+ActorBalances (Kinds.SerialVirtTx x) passed = TxBalances x passed
+ActorBalances (Kinds.SerialClient x) passed = SerialBalances x passed
 
 -- one of its ends
 abbrev pub ActorEnd : Actor → Role → ℕ → Type 0
@@ -55,8 +64,8 @@ actor_round (Kinds.SerialVirtRx x) = rx_round x
 actor_round (Kinds.SerialVirtTx x) = tx_round x
 actor_round (Kinds.SerialClient x) = terminal_round x.terminal
 
--- the entries in its hand
-abbrev pub actor_hand : Actor → List Cargo
+-- the bodies in its hand
+abbrev pub actor_hand : Actor → List Body
 actor_hand (Kinds.UartDevice x) = terminal_hand x.terminal
 actor_hand (Kinds.UartDriver x) = driver_hand x
 actor_hand (Kinds.SerialVirtRx x) = rx_hand x
@@ -82,3 +91,12 @@ record_length (Kinds.UartDriver x) = 0
 record_length (Kinds.SerialVirtRx x) = 0
 record_length (Kinds.SerialVirtTx x) = 0
 record_length (Kinds.SerialClient x) = length x.terminal.heard.shown
+
+-- the same actor without the last looks
+abbrev pub Forgot : Actor → Actor → Type 0
+Forgot (Kinds.UartDevice x) (Kinds.UartDevice y) = y.terminal ≡ terminal_forgotten x.terminal
+Forgot (Kinds.UartDriver x) (Kinds.UartDriver y) = y ≡ driver_forgotten x
+Forgot (Kinds.SerialVirtRx x) (Kinds.SerialVirtRx y) = RxForgot x y
+Forgot (Kinds.SerialVirtTx x) (Kinds.SerialVirtTx y) = TxForgot x y
+Forgot (Kinds.SerialClient x) (Kinds.SerialClient y) = y.terminal ≡ terminal_forgotten x.terminal
+Forgot x y = ⊥

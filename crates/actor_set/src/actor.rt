@@ -1,9 +1,10 @@
+// One actor of any kind, so that a system can keep a list of them.
 ghost use Rattle.std.specs.Prelude.{◌≡◌, ℕ, IfOk, OnErr};
 ghost use Rattle.wire_core.specs.Ends.{role_of, Role, End};
-ghost use Rattle.wire_core.specs.Lists.{Lists, Stepped};
+ghost use Rattle.wire_core.specs.Lists.{Passed, Stepped};
 ghost use Rattle.turn_kit.specs.Turns.{Turned, is_at_rest};
-ghost use Rattle.turn_kit.specs.Hands.{held_in};
-ghost use Rattle.actor_set.specs.Actors.{FitsActor, ActorStandsFor, ActorRow, ActorEnd, actor_round, actor_hand, part_of, record_length};
+ghost use Rattle.cargo_core.specs.Bodies.{buffers_of};
+ghost use Rattle.actor_set.specs.Actors.{FitsActor, ActorStandsFor, ActorRow, ActorBalances, ActorEnd, Forgot, actor_round, actor_hand, part_of, record_length};
 
 use cargo_core::{Memory, PoolId};
 use client_programs::SerialClient;
@@ -48,7 +49,7 @@ impl Actor {
 
     /// How many buffers of a pool are in its hand; one that it lent isn't.
     pub fn held(&self, pool: PoolId) -> u32
-        ensures { result ≡ held_in pool (actor_hand self.now) }
+        ensures { result ≡ buffers_of pool (actor_hand self.now) }
     {
         match self {
             Actor::UartDevice(device) => device.held(pool),
@@ -66,7 +67,6 @@ impl Actor {
         ensures own { IfOk result (λ e. ActorEnd self.old (role_of e.op) e.queue.0) }
         ensures part { part_of self.new ≡ part_of self.old }
         ensures stepped { IfOk result (λ e. Stepped ActorStandsFor W.did wires.old wires.new self.old self.new e) }
-        ensures row { (taken sent : Lists) → ActorStandsFor self.new taken sent → ActorRow self.new taken sent }
         ensures turned { IfOk result (λ e. Turned (actor_round self.old) e (actor_round self.new)) }
         ensures no_call { OnErr result (wires.new ≡ wires.old) }
         ensures unchanged { OnErr result (self.new ≡ self.old) }
@@ -82,10 +82,11 @@ impl Actor {
 
     /// Discards the last look of each end, and nothing else.
     pub fn forget(&mut self)
+        ensures after { Forgot self.old self.new }
         ensures part { part_of self.new ≡ part_of self.old }
         ensures recorded { record_length self.new ≡ record_length self.old }
         ensures fits { (ends : Role → ℕ → End) → FitsActor ends self.old → FitsActor ends self.new }
-        ensures lists { (taken sent : Lists) → ActorStandsFor self.old taken sent → ActorStandsFor self.new taken sent }
+        ensures lists { (passed : Passed) → ActorStandsFor self.old passed → ActorStandsFor self.new passed }
     {
         match self {
             Actor::UartDevice(device) => device.forget(),
@@ -95,4 +96,27 @@ impl Actor {
             Actor::SerialClient(client) => client.forget(),
         }
     }
+}
+
+/// Whatever it stands for meets its row.
+pub fn row_law()
+    ensures { (a : Actor) (passed : Passed) → ActorStandsFor a passed → ActorRow a passed }
+{
+    device_model::row_law();
+    uart_driver::row_law();
+    serial_virt::rx_row_law();
+    serial_virt::tx_row_law();
+    client_programs::row_law();
+}
+
+/// For each pool, what an actor had at the start and what came is what went, what is in its hand, and what it keeps for
+/// good or lends.
+pub fn hand_law()
+    ensures { (a : Actor) (passed : Passed) → ActorStandsFor a passed → ActorBalances a passed }
+{
+    device_model::hand_law();
+    uart_driver::hand_law();
+    serial_virt::rx_hand_law();
+    serial_virt::tx_hand_law();
+    client_programs::hand_law();
 }

@@ -3,7 +3,7 @@
 
 mod actor;
 
-pub use actor::Actor;
+pub use actor::{Actor, hand_law, row_law};
 
 #[cfg(test)]
 mod tests;

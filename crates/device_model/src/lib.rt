@@ -4,11 +4,11 @@
 
 ghost use Rattle.std.specs.Prelude.{◌≡◌, [], ℕ, IfOk, OnErr};
 ghost use Rattle.wire_core.specs.Ends.{role_of, Role, End};
-ghost use Rattle.wire_core.specs.Lists.{Lists, Stepped};
+ghost use Rattle.wire_core.specs.Lists.{Passed, Stepped, nothing_passed};
 ghost use Rattle.turn_kit.specs.Turns.{Turned, is_at_rest};
-ghost use Rattle.turn_kit.specs.Hands.{held_in};
+ghost use Rattle.cargo_core.specs.Bodies.{buffers_of};
 ghost use Rattle.serial_terminal.specs.Terminals.{SameTerminal, IsNewTerminal, terminal_round, terminal_hand, terminal_forgotten};
-ghost use Rattle.device_model.specs.Devices.{FitsUart, UartStandsFor, UartRow, UartEnd};
+ghost use Rattle.device_model.specs.Devices.{FitsUart, UartStandsFor, UartRow, UartBalances, UartEnd};
 
 use cargo_core::{Bytes, Memory, PoolId};
 use serial_terminal::Terminal;
@@ -25,7 +25,7 @@ impl UartDevice {
     /// A device in its start state: it puts the bytes of `input` to `rx`, and takes those of its line from `tx`.
     pub fn new(alloc: Global, rx: QueueId, tx: QueueId, input: Bytes) -> UartDevice
         ensures new { IsNewTerminal tx rx input result.terminal }
-        ensures stands { UartStandsFor result (λ n. []) (λ n. []) }
+        ensures stands { UartStandsFor result nothing_passed }
     {
         UartDevice {
             terminal: Terminal::new(alloc, tx, rx, input),
@@ -48,7 +48,7 @@ impl UartDevice {
 
     /// How many buffers of a pool are in its hand: none, since a byte has no buffer.
     pub fn held(&self, pool: PoolId) -> u32
-        ensures { result ≡ held_in pool (terminal_hand self.now.terminal) }
+        ensures { result ≡ buffers_of pool (terminal_hand self.now.terminal) }
     {
         self.terminal.held(pool)
     }
@@ -61,7 +61,6 @@ impl UartDevice {
         ensures own { IfOk result (λ e. UartEnd self.old (role_of e.op) e.queue.0) }
         ensures same { SameTerminal self.old.terminal self.new.terminal }
         ensures stepped { IfOk result (λ e. Stepped UartStandsFor W.did wires.old wires.new self.old self.new e) }
-        ensures row { (taken sent : Lists) → UartStandsFor self.new taken sent → UartRow self.new taken sent }
         ensures turned { IfOk result (λ e. Turned (terminal_round self.old.terminal) e (terminal_round self.new.terminal)) }
         ensures no_call { OnErr result (wires.new ≡ wires.old) }
         ensures unchanged { OnErr result (self.new ≡ self.old) }
@@ -74,8 +73,22 @@ impl UartDevice {
         ensures after { self.new ≡ record { terminal = terminal_forgotten self.old.terminal } }
         ensures same { SameTerminal self.old.terminal self.new.terminal }
         ensures fits { (ends : Role → ℕ → End) → FitsUart ends self.old → FitsUart ends self.new }
-        ensures lists { (taken sent : Lists) → UartStandsFor self.old taken sent → UartStandsFor self.new taken sent }
+        ensures lists { (passed : Passed) → UartStandsFor self.old passed → UartStandsFor self.new passed }
     {
         self.terminal.forget();
     }
+}
+
+/// Whatever it stands for meets its row.
+pub fn row_law()
+    ensures { (d : UartDevice) (passed : Passed) → UartStandsFor d passed → UartRow d passed }
+{
+    serial_terminal::row_law();
+}
+
+/// What came and did not go out is kept for good.
+pub fn hand_law()
+    ensures { (d : UartDevice) (passed : Passed) → UartStandsFor d passed → UartBalances d passed }
+{
+    serial_terminal::hand_law();
 }

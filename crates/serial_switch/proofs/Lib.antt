@@ -1,3 +1,4 @@
 pub mod Steps
 pub mod Splits
 pub mod Finds
+pub mod Carrying

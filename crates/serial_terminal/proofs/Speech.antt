@@ -4,7 +4,7 @@ use Rattle.std.proofs.lemmas.List.{take_more, map-append, take-append-drop}
 use Rattle.std.proofs.lemmas.Option.{slice_get_within, get_or_from_slice_get}
 use Rattle.cargo_core.specs.declared.item.Item.{Item}
 use Rattle.wire_core.specs.Deeds.{Cargo, given}
-use Rattle.wire_core.specs.Lists.{Lists}
+use Rattle.wire_core.specs.Lists.{Passed}
 use Rattle.serial_switch.specs.Carried.{byte_cargo}
 use Rattle.serial_terminal.specs.declared.Terminal.{Terminal}
 use Rattle.serial_terminal.specs.Terminals.{TerminalStandsFor, TerminalRow}
@@ -20,8 +20,8 @@ spoken_put script n None (Some i) load put at is same = let e : Some i ≡ optio
 spoken_put script n (Some b) (Some i) load put at is same = rw is (sym (spoken_more script n b at))
 
 -- what was put, and what is left, make the script
-pub row_of : (t : Terminal) (taken sent : Lists) → TerminalStandsFor t taken sent → TerminalRow t taken sent
-row_of t taken sent h = record {
+pub row_of : (t : Terminal) (passed : Passed) → TerminalStandsFor t passed → TerminalRow t passed
+row_of t passed h = record {
   says = (map byte_cargo (drop t.next t.script), rw h.sent_is (sym (map-append byte_cargo (take t.next t.script) (drop t.next t.script)) ∙ ap (map byte_cargo) (take-append-drop t.next t.script)));
   hears = h.heard_is;
 }

@@ -1,14 +1,16 @@
+-- A terminal: what it must fit, what it stands for, and its row.
 use Rattle.std.specs.Prelude.{◌≡◌, ◌≤◌, ℕ, true, None, nat_lt, List, [], ◌∷◌, length, map, take}
 use Rattle.cargo_core.specs.declared.item.QueueKind.TheVariants as Kind
+use Rattle.cargo_core.specs.declared.item.Body.{Body}
 use Rattle.cargo_core.specs.Lists.{IsPrefix}
 use Rattle.wire_core.specs.declared.names.QueueId.{QueueId}
 use Rattle.wire_core.specs.declared.names.Side.TheVariants.{Forward, Backward}
-use Rattle.wire_core.specs.Deeds.{Cargo}
-use Rattle.wire_core.specs.Lists.{Lists}
+use Rattle.wire_core.specs.Lists.{Passed}
 use Rattle.wire_core.specs.Ends.{Role, Consumer, Producer, End}
 use Rattle.turn_kit.specs.Table.{Agrees, start_kept}
 use Rattle.turn_kit.specs.Turns.{Round}
 use Rattle.turn_kit.specs.Posts.{intake_post, outlet_post}
+use Rattle.turn_kit.specs.Hands.{Balances, bodies_at}
 use Rattle.serial_switch.specs.Carried.{byte_cargo, bytes_carried}
 use Rattle.serial_terminal.specs.declared.Terminal.{Terminal}
 
@@ -21,14 +23,14 @@ pub record FitsTerminal (ends : Role → ℕ → End) (t : Terminal) : Type 0 wh
   pub next : t.next ≤ length t.script
 
 -- it put its script as far as it has come, and recorded the bytes that it took
-pub record TerminalStandsFor (t : Terminal) (taken sent : Lists) : Type 0 where
-  pub sent_is : sent t.output.queue.0 ≡ map byte_cargo (take t.next t.script)
-  pub heard_is : t.heard.shown ≡ bytes_carried (taken t.input.queue.0)
+pub record TerminalStandsFor (t : Terminal) (passed : Passed) : Type 0 where
+  pub sent_is : passed.sent t.output.queue.0 ≡ map byte_cargo (take t.next t.script)
+  pub heard_is : t.heard.shown ≡ bytes_carried (passed.taken t.input.queue.0)
 
 -- what it put is a prefix of its script, and its record is what it took
-pub record TerminalRow (t : Terminal) (taken sent : Lists) : Type 0 where
-  pub says : IsPrefix (sent t.output.queue.0) (map byte_cargo t.script)
-  pub hears : t.heard.shown ≡ bytes_carried (taken t.input.queue.0)
+pub record TerminalRow (t : Terminal) (passed : Passed) : Type 0 where
+  pub says : IsPrefix (passed.sent t.output.queue.0) (map byte_cargo t.script)
+  pub hears : t.heard.shown ≡ bytes_carried (passed.taken t.input.queue.0)
 
 -- one of its ends
 abbrev pub TerminalEnd : Terminal → Role → ℕ → Type 0
@@ -59,9 +61,13 @@ terminal_round t = record {
   last = t.turn.last;
 }
 
--- the entries in its hand: none, since it records what it takes, and makes what it puts in the same step
-abbrev pub terminal_hand : Terminal → List Cargo
+-- the bodies in its hand: none, since it records what it takes, and makes what it puts in the same step
+abbrev pub terminal_hand : Terminal → List Body
 terminal_hand t = []
+
+-- it keeps what it took for good
+abbrev pub TerminalBalances : Terminal → Passed → Type 0
+TerminalBalances t passed = Balances [] (bodies_at passed.taken (t.input.queue.0 ∷ [])) (bodies_at passed.sent (t.output.queue.0 ∷ [])) (terminal_hand t) (bodies_at passed.taken (t.input.queue.0 ∷ []))
 
 -- the same without the last looks
 abbrev pub terminal_forgotten : Terminal → Terminal

@@ -5,14 +5,14 @@
 ghost use Rattle.std.specs.Prelude.{◌≡◌, ◌<◌, ◌≤◌, ◌+◌, ◌^◌, ℕ, [], ◌++◌, OnErr, IfOk, OnOk, slice_get, length, nat_lt, is_some, true, false};
 ghost use Rattle.std.specs.Option.{option_map, option_to_list};
 ghost use Rattle.wire_core.specs.Ends.{role_of, Role, End};
-ghost use Rattle.wire_core.specs.Lists.{Lists, Stepped};
+ghost use Rattle.wire_core.specs.Lists.{Passed, Stepped, nothing_passed};
 ghost use Rattle.turn_kit.specs.Table.{start_kept};
 ghost use Rattle.wire_core.specs.Marks.{is_mark};
 ghost use Rattle.turn_kit.specs.Turns.{Turned, Posted, choice_of, chosen, last_after, is_at_rest};
-ghost use Rattle.turn_kit.specs.Hands.{held_in};
+ghost use Rattle.cargo_core.specs.Bodies.{buffers_of};
 ghost use Rattle.turn_kit.specs.Posts.{intake_post, outlet_post};
 ghost use Rattle.serial_switch.specs.Carried.{byte_cargo, bytes_carried};
-ghost use Rattle.serial_terminal.specs.Terminals.{FitsTerminal, TerminalStandsFor, TerminalRow, TerminalEnd, SameTerminal, terminal_round, terminal_hand, terminal_forgotten, IsNewTerminal};
+ghost use Rattle.serial_terminal.specs.Terminals.{FitsTerminal, TerminalStandsFor, TerminalRow, TerminalBalances, TerminalEnd, SameTerminal, terminal_round, terminal_hand, terminal_forgotten, IsNewTerminal};
 
 use cargo_core::{Body, Bytes, Item, Memory, PoolId, Tape};
 use std::alloc::Global;
@@ -44,7 +44,7 @@ impl Terminal {
     /// A terminal in its start state, which hears at `from` and says its script at `to`.
     pub fn new(alloc: Global, from: QueueId, to: QueueId, script: Bytes) -> Terminal
         ensures new { IsNewTerminal from to script result }
-        ensures stands { TerminalStandsFor result (λ n. []) (λ n. []) }
+        ensures stands { TerminalStandsFor result nothing_passed }
     {
         Terminal {
             input: Intake::new(from),
@@ -79,7 +79,7 @@ impl Terminal {
 
     /// How many buffers of a pool are in its hand: none, since a byte has no buffer.
     pub fn held(&self, pool: PoolId) -> u32
-        ensures { result ≡ held_in pool (terminal_hand self.now) }
+        ensures { result ≡ buffers_of pool (terminal_hand self.now) }
     {
         held(pool, &None)
     }
@@ -158,7 +158,6 @@ impl Terminal {
         ensures own { IfOk result (λ e. TerminalEnd self.old (role_of e.op) e.queue.0) }
         ensures same { SameTerminal self.old self.new }
         ensures stepped { IfOk result (λ e. Stepped TerminalStandsFor W.did wires.old wires.new self.old self.new e) }
-        ensures row { (taken sent : Lists) → TerminalStandsFor self.new taken sent → TerminalRow self.new taken sent }
         ensures turned { IfOk result (λ e. Turned (terminal_round self.old) e (terminal_round self.new)) }
         ensures no_call { OnErr result (wires.new ≡ wires.old) }
         ensures unchanged { OnErr result (self.new ≡ self.old) }
@@ -176,9 +175,19 @@ impl Terminal {
         ensures after { self.new ≡ terminal_forgotten self.old }
         ensures same { SameTerminal self.old self.new }
         ensures fits { (ends : Role → ℕ → End) → FitsTerminal ends self.old → FitsTerminal ends self.new }
-        ensures lists { (taken sent : Lists) → TerminalStandsFor self.old taken sent → TerminalStandsFor self.new taken sent }
+        ensures lists { (passed : Passed) → TerminalStandsFor self.old passed → TerminalStandsFor self.new passed }
     {
         self.input.forget();
         self.output.forget();
     }
 }
+
+/// Whatever it stands for meets its row.
+pub fn row_law()
+    ensures { (t : Terminal) (passed : Passed) → TerminalStandsFor t passed → TerminalRow t passed }
+{}
+
+/// What came and did not go out is kept for good.
+pub fn hand_law()
+    ensures { (t : Terminal) (passed : Passed) → TerminalStandsFor t passed → TerminalBalances t passed }
+{}

@@ -5,3 +5,4 @@ pub mod Places
 pub mod Forgets
 pub mod Sharing
 pub mod Sizes
+pub mod Holding

@@ -6,8 +6,8 @@ use Rattle.turn_kit.specs.declared.turns.Turn.{Turn}
 use Rattle.wire_core.specs.Marks.{is_mark}
 use Rattle.turn_kit.specs.Posts.{outlet_post, intake_post}
 use Rattle.turn_kit.specs.Turns.{Turned, Posted, PostedAt, choice_of, chosen, last_after}
-use Rattle.turn_kit.specs.ManyEnds.{intake_queues, intake_posts, outlet_queues, outlet_posts, loads_from, is_here}
-use Rattle.turn_kit.proofs.Offers.{first, later, get_need, get_load}
+use Rattle.turn_kit.specs.ManyEnds.{intake_queues, intake_posts, outlet_queues, outlet_posts, needs_from, is_here}
+use Rattle.turn_kit.proofs.Offers.{first, later, get_need}
 use Rattle.turn_kit.proofs.Turning.{no_mark_at}
 use Rattle.serial_virt.proofs.Sizes.{rx_size, tx_size}
 use Rattle.serial_virt.specs.declared.tx.SerialVirtTx.{SerialVirtTx}
@@ -36,7 +36,7 @@ tx_turned old mid new t e place k after is place_is there posted output still qu
       place = place;
       need = is_none old.load;
       is_chosen = is;
-      needed = rw place_is (get_need (is_none old.load) (intake_queues old.inputs) k (slice_index_or (intake_queues old.inputs) k no_queue) (slice_get-get_or (intake_queues old.inputs) k no_queue there));
+      needed = rw place_is (get_need (λ place. is_none old.load) 0 (intake_queues old.inputs) k (slice_index_or (intake_queues old.inputs) k no_queue) (slice_get-get_or (intake_queues old.inputs) k no_queue there));
       posted = posted'';
       needs = λ m. rw (same, still (no_mark_at posted''.post e m), load) refl;
       size = tx_size new;
@@ -59,8 +59,8 @@ owed_here : (load : Option Cargo) (to k : ℕ) → is_here (option_map (λ c. to
 owed_here None to k = sym (and_none (k == to))
 owed_here (Some c) to k = same_test to k (eqb_tells to k) ∙ sym (and_true (k == to))
 
-owed_at_place : (v : SerialVirtRx) (k : ℕ) → k < length (outlet_queues v.outputs) → slice_get (loads_from (place_loaded v) 0 (outlet_queues v.outputs)) k ≡ Some (is_owed_at v k)
-owed_at_place v k there = get_load (place_loaded v) 0 (outlet_queues v.outputs) k (slice_index_or (outlet_queues v.outputs) k no_queue) (slice_get-get_or (outlet_queues v.outputs) k no_queue there) ∙ (ap (λ n. Some (is_here (place_loaded v) n)) (zero-add k) ∙ ap (λ b. Some b) (owed_here v.load v.to k))
+owed_at_place : (v : SerialVirtRx) (k : ℕ) → k < length (outlet_queues v.outputs) → slice_get (needs_from (is_here (place_loaded v)) 0 (outlet_queues v.outputs)) k ≡ Some (is_owed_at v k)
+owed_at_place v k there = get_need (is_here (place_loaded v)) 0 (outlet_queues v.outputs) k (slice_index_or (outlet_queues v.outputs) k no_queue) (slice_get-get_or (outlet_queues v.outputs) k no_queue there) ∙ (ap (λ n. Some (is_here (place_loaded v) n)) (zero-add k) ∙ ap (λ b. Some b) (owed_here v.load v.to k))
 
 -- a client's end of the receiving virtualiser had its turn
 pub rx_turned : (old mid new : SerialVirtRx) (t : Turn) (e : Event) (place k : ℕ) → mid ≡ record old { turn = t } → place ≡ chosen (choice_of (rx_round old)) → place ≡ suc k → k < length (outlet_queues old.outputs)
@@ -100,5 +100,24 @@ rx_input_turned old mid new t e place after is place_is posted outputs still to 
       posted = posted'';
       needs = λ m. rw (out, still (no_mark_at posted''.post e m), to (no_mark_at posted''.post e m), load, to') refl;
       size = rx_size new;
+      last = ap (λ t. t.last) (turn ∙ ap (λ v. v.turn) after) ∙ last;
+    }
+
+-- the output of the sending virtualiser had its turn
+pub tx_output_turned : (old mid new : SerialVirtTx) (t : Turn) (e : Event) (place : ℕ) → mid ≡ record old { turn = t } → place ≡ chosen (choice_of (tx_round old)) → place ≡ 0
+    → Posted (outlet_post mid.output) (is_some mid.load) e (outlet_post new.output) → new.inputs ≡ mid.inputs → (is_mark e.op e.answer ≡ false → new.load ≡ mid.load) → new.turn ≡ mid.turn → t.last ≡ last_after (choice_of (tx_round old)) → Turned (tx_round old) e (tx_round new)
+tx_output_turned old mid new t e place after is place_is posted inputs still turn last =
+    let posted' : Posted (outlet_post old.output) (is_some old.load) e (outlet_post new.output) = subst (λ v. Posted (outlet_post v.output) (is_some v.load) e (outlet_post new.output)) after posted in
+    let ins : new.inputs ≡ old.inputs = inputs ∙ ap (λ v. v.inputs) after in
+    let load : mid.load ≡ old.load = ap (λ v. v.load) after in
+    let posted'' : PostedAt (tx_round old).posts place (is_some old.load) e (tx_round new).posts = rw (place_is, ins) (first (outlet_post old.output) (outlet_post new.output) (intake_posts old.inputs) (is_some old.load) e posted') in
+    record {
+      place = place;
+      need = is_some old.load;
+      is_chosen = is;
+      needed = rw place_is refl;
+      posted = posted'';
+      needs = λ m. rw (ins, still (no_mark_at posted''.post e m), load) refl;
+      size = tx_size new;
       last = ap (λ t. t.last) (turn ∙ ap (λ v. v.turn) after) ∙ last;
     }

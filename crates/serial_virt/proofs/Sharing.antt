@@ -6,7 +6,7 @@ use Rattle.std.proofs.lemmas.List.{append-nil, map-append}
 use Rattle.std.proofs.lemmas.Grind.{flat_map-append}
 use Rattle.wire_core.specs.declared.names.QueueId.{QueueId}
 use Rattle.wire_core.specs.Deeds.{Cargo}
-use Rattle.wire_core.specs.Lists.{Lists, with, if_there}
+use Rattle.wire_core.specs.Lists.{Lists, Passed, with, if_there}
 use Rattle.wire_core.proofs.Places.{if_there_here}
 use Rattle.turn_kit.specs.ManyEnds.{AreApart, outlet_queues}
 use Rattle.turn_kit.specs.declared.outlets.Outlets.{Outlets}
@@ -77,58 +77,58 @@ still_owed None None (Some c) parts some = cc
 still_owed None (Some x) (Some c) parts some = cc
 
 -- a step of the input
-module _ (old new : SerialVirtRx) (taken sent took put : Lists) (got : Option Cargo) (given : Option (ℕ × ℕ))
+module _ (old new : SerialVirtRx) (passed : Passed) (took put : Lists) (got : Option Cargo) (given : Option (ℕ × ℕ))
     (outputs : new.outputs ≡ old.outputs) (input : new.input.queue ≡ old.input.queue) (load : new.load ≡ loaded_with old.load given) (to : new.to ≡ owner_of old.to given)
     (after : (clients : ℕ) (bytes : List ℕ) → StandsAfter clients bytes old.switch → StandsAfter clients (bytes ++ bytes_carried (option_to_list got)) new.switch)
     (gives : (clients : ℕ) (bytes : List ℕ) → StandsAfter clients bytes old.switch → (client : ℕ) → input_of clients client (bytes ++ bytes_carried (option_to_list got)) ≡ input_of clients client bytes ++ given_to client given)
     (known : (clients : ℕ) (bytes : List ℕ) → StandsAfter clients bytes old.switch → IfSome given (λ g. g.0 < clients))
     (free : (g : ℕ × ℕ) → given ≡ Some g → old.load ≡ None)
-    (takes : (n : ℕ) → took n ≡ if_there (old.input.queue.0 == n) (option_to_list got)) (puts : (n : ℕ) → put n ≡ []) (h : RxStandsFor old taken sent) where
-  bytes_now : bytes_carried (with taken took new.input.queue.0) ≡ bytes_carried (taken old.input.queue.0) ++ bytes_carried (option_to_list got)
-  bytes_now = ap (λ (q : QueueId). bytes_carried (with taken took q.0)) input ∙ (bytes_carried-append (taken old.input.queue.0) (took old.input.queue.0) ∙ ap (λ c. bytes_carried (taken old.input.queue.0) ++ bytes_carried c) (takes old.input.queue.0 ∙ if_there_here old.input.queue.0 (option_to_list got)))
+    (takes : (n : ℕ) → took n ≡ if_there (old.input.queue.0 == n) (option_to_list got)) (puts : (n : ℕ) → put n ≡ []) (h : RxStandsFor old passed) where
+  bytes_now : bytes_carried (with passed.taken took new.input.queue.0) ≡ bytes_carried (passed.taken old.input.queue.0) ++ bytes_carried (option_to_list got)
+  bytes_now = ap (λ (q : QueueId). bytes_carried (with passed.taken took q.0)) input ∙ (bytes_carried-append (passed.taken old.input.queue.0) (took old.input.queue.0) ∙ ap (λ c. bytes_carried (passed.taken old.input.queue.0) ++ bytes_carried c) (takes old.input.queue.0 ∙ if_there_here old.input.queue.0 (option_to_list got)))
 
   clients_now : clients_of new ≡ clients_of old
   clients_now = ap (λ (o : Outlets). length (outlet_queues o)) outputs
 
-  given_now : (k : ℕ) (q : QueueId) → slice_get (outlet_queues new.outputs) k ≡ Some q → with sent put q.0 ++ owed_to new.load new.to k ≡ map byte_cargo (input_of (clients_of new) k (bytes_carried (with taken took new.input.queue.0)))
+  given_now : (k : ℕ) (q : QueueId) → slice_get (outlet_queues new.outputs) k ≡ Some q → with passed.sent put q.0 ++ owed_to new.load new.to k ≡ map byte_cargo (input_of (clients_of new) k (bytes_carried (with passed.taken took new.input.queue.0)))
   given_now k q at =
-      ap (λ c. (sent q.0 ++ c) ++ owed_to new.load new.to k) (puts q.0) ∙ (ap (λ c. c ++ owed_to new.load new.to k) (append-nil (sent q.0)) ∙ (ap (λ l. sent q.0 ++ owed_to l new.to k) load ∙ (ap (λ t. sent q.0 ++ owed_to (loaded_with old.load given) t k) to
-      ∙ (shared (clients_of old) k (bytes_carried (taken old.input.queue.0)) (bytes_carried (option_to_list got)) (sent q.0) old.load old.to given free (gives (clients_of old) (bytes_carried (taken old.input.queue.0)) h.switched k) (h.given k q (ap (λ (o : Outlets). slice_get (outlet_queues o) k) (sym outputs) ∙ at))
-      ∙ (ap (λ n. map byte_cargo (input_of n k (bytes_carried (taken old.input.queue.0) ++ bytes_carried (option_to_list got)))) (sym clients_now) ∙ ap (λ bs. map byte_cargo (input_of (clients_of new) k bs)) (sym bytes_now))))))
+      ap (λ c. (passed.sent q.0 ++ c) ++ owed_to new.load new.to k) (puts q.0) ∙ (ap (λ c. c ++ owed_to new.load new.to k) (append-nil (passed.sent q.0)) ∙ (ap (λ l. passed.sent q.0 ++ owed_to l new.to k) load ∙ (ap (λ t. passed.sent q.0 ++ owed_to (loaded_with old.load given) t k) to
+      ∙ (shared (clients_of old) k (bytes_carried (passed.taken old.input.queue.0)) (bytes_carried (option_to_list got)) (passed.sent q.0) old.load old.to given free (gives (clients_of old) (bytes_carried (passed.taken old.input.queue.0)) h.switched k) (h.given k q (ap (λ (o : Outlets). slice_get (outlet_queues o) k) (sym outputs) ∙ at))
+      ∙ (ap (λ n. map byte_cargo (input_of n k (bytes_carried (passed.taken old.input.queue.0) ++ bytes_carried (option_to_list got)))) (sym clients_now) ∙ ap (λ bs. map byte_cargo (input_of (clients_of new) k bs)) (sym bytes_now))))))
 
-  switched_now : StandsAfter (clients_of new) (bytes_carried (with taken took new.input.queue.0)) new.switch
-  switched_now = subst (λ n. StandsAfter n (bytes_carried (with taken took new.input.queue.0)) new.switch) (sym clients_now) (subst (λ bs. StandsAfter (clients_of old) bs new.switch) (sym bytes_now) (after (clients_of old) (bytes_carried (taken old.input.queue.0)) h.switched))
+  switched_now : StandsAfter (clients_of new) (bytes_carried (with passed.taken took new.input.queue.0)) new.switch
+  switched_now = subst (λ n. StandsAfter n (bytes_carried (with passed.taken took new.input.queue.0)) new.switch) (sym clients_now) (subst (λ bs. StandsAfter (clients_of old) bs new.switch) (sym bytes_now) (after (clients_of old) (bytes_carried (passed.taken old.input.queue.0)) h.switched))
 
-  pub rx_takes : RxStandsFor new (with taken took) (with sent put)
-  rx_takes = record { switched = switched_now; to = λ some. rw (clients_now, to) (owner_there (clients_of old) old.to old.load given h.to (known (clients_of old) (bytes_carried (taken old.input.queue.0)) h.switched) (sym (ap is_some load) ∙ some)); given = given_now }
+  pub rx_takes : RxStandsFor new (record { taken = with passed.taken took; sent = with passed.sent put; dropped = passed.dropped })
+  rx_takes = record { switched = switched_now; to = λ some. rw (clients_now, to) (owner_there (clients_of old) old.to old.load given h.to (known (clients_of old) (bytes_carried (passed.taken old.input.queue.0)) h.switched) (sym (ap is_some load) ∙ some)); given = given_now }
 
 -- a step of an output
-module _ (old new : SerialVirtRx) (taken sent took put : Lists) (k : ℕ) (q : QueueId) (p : Option Cargo)
+module _ (old new : SerialVirtRx) (passed : Passed) (took put : Lists) (k : ℕ) (q : QueueId) (p : Option Cargo)
     (queues : outlet_queues new.outputs ≡ outlet_queues old.outputs) (input : new.input ≡ old.input) (switch : new.switch ≡ old.switch) (to : new.to ≡ old.to) (is : k ≡ old.to)
     (at : slice_get (outlet_queues old.outputs) k ≡ Some q) (apart : AreApart (outlet_queues old.outputs)) (parts : option_to_list old.load ≡ option_to_list p ++ option_to_list new.load)
-    (takes : (n : ℕ) → took n ≡ []) (puts : (n : ℕ) → put n ≡ if_there (q.0 == n) (option_to_list p)) (h : RxStandsFor old taken sent) where
-  same_bytes : bytes_carried (with taken took new.input.queue.0) ≡ bytes_carried (taken old.input.queue.0)
-  same_bytes = ap (λ c. bytes_carried (taken new.input.queue.0 ++ c)) (takes new.input.queue.0) ∙ (ap bytes_carried (append-nil (taken new.input.queue.0)) ∙ ap (λ (i : Intake). bytes_carried (taken i.queue.0)) input)
+    (takes : (n : ℕ) → took n ≡ []) (puts : (n : ℕ) → put n ≡ if_there (q.0 == n) (option_to_list p)) (h : RxStandsFor old passed) where
+  same_bytes : bytes_carried (with passed.taken took new.input.queue.0) ≡ bytes_carried (passed.taken old.input.queue.0)
+  same_bytes = ap (λ c. bytes_carried (passed.taken new.input.queue.0 ++ c)) (takes new.input.queue.0) ∙ (ap bytes_carried (append-nil (passed.taken new.input.queue.0)) ∙ ap (λ (i : Intake). bytes_carried (passed.taken i.queue.0)) input)
 
   same_clients : clients_of new ≡ clients_of old
   same_clients = ap length queues
 
-  given_then : (j : ℕ) (q' : QueueId) → slice_get (outlet_queues new.outputs) j ≡ Some q' → with sent put q'.0 ++ owed_to new.load new.to j ≡ map byte_cargo (input_of (clients_of new) j (bytes_carried (with taken took new.input.queue.0)))
+  given_then : (j : ℕ) (q' : QueueId) → slice_get (outlet_queues new.outputs) j ≡ Some q' → with passed.sent put q'.0 ++ owed_to new.load new.to j ≡ map byte_cargo (input_of (clients_of new) j (bytes_carried (with passed.taken took new.input.queue.0)))
   given_then j q' there =
       let there' : slice_get (outlet_queues old.outputs) j ≡ Some q' = ap (λ qs. slice_get qs j) (sym queues) ∙ there in
-      ap (λ t. (sent q'.0 ++ put q'.0) ++ owed_to new.load t j) (to ∙ sym is) ∙ (owed_after (outlet_queues old.outputs) k q at apart put old.load new.load p puts parts j q' (sent q'.0) there' (eqb_tells k j)
-      ∙ (ap (λ t. sent q'.0 ++ owed_to old.load t j) is ∙ (h.given j q' there'
-      ∙ (ap (λ n. map byte_cargo (input_of n j (bytes_carried (taken old.input.queue.0)))) (sym same_clients) ∙ ap (λ bs. map byte_cargo (input_of (clients_of new) j bs)) (sym same_bytes)))))
+      ap (λ t. (passed.sent q'.0 ++ put q'.0) ++ owed_to new.load t j) (to ∙ sym is) ∙ (owed_after (outlet_queues old.outputs) k q at apart put old.load new.load p puts parts j q' (passed.sent q'.0) there' (eqb_tells k j)
+      ∙ (ap (λ t. passed.sent q'.0 ++ owed_to old.load t j) is ∙ (h.given j q' there'
+      ∙ (ap (λ n. map byte_cargo (input_of n j (bytes_carried (passed.taken old.input.queue.0)))) (sym same_clients) ∙ ap (λ bs. map byte_cargo (input_of (clients_of new) j bs)) (sym same_bytes)))))
 
-  switched_then : StandsAfter (clients_of new) (bytes_carried (with taken took new.input.queue.0)) new.switch
-  switched_then = subst (StandsAfter (clients_of new) (bytes_carried (with taken took new.input.queue.0))) (sym switch) (subst (λ n. StandsAfter n (bytes_carried (with taken took new.input.queue.0)) old.switch) (sym same_clients) (subst (λ bs. StandsAfter (clients_of old) bs old.switch) (sym same_bytes) h.switched))
+  switched_then : StandsAfter (clients_of new) (bytes_carried (with passed.taken took new.input.queue.0)) new.switch
+  switched_then = subst (StandsAfter (clients_of new) (bytes_carried (with passed.taken took new.input.queue.0))) (sym switch) (subst (λ n. StandsAfter n (bytes_carried (with passed.taken took new.input.queue.0)) old.switch) (sym same_clients) (subst (λ bs. StandsAfter (clients_of old) bs old.switch) (sym same_bytes) h.switched))
 
-  pub rx_puts : RxStandsFor new (with taken took) (with sent put)
+  pub rx_puts : RxStandsFor new (record { taken = with passed.taken took; sent = with passed.sent put; dropped = passed.dropped })
   rx_puts = record { switched = switched_then; to = λ some. rw (same_clients, to) (h.to (still_owed old.load p new.load parts some)); given = given_then }
 
-few_load : (load : Option Cargo) → length (option_to_list load) ≤ 1
+pub few_load : (load : Option Cargo) → length (option_to_list load) ≤ 1
 few_load None = omega arith
 few_load (Some c) = omega arith
 
-pub rx_row : (v : SerialVirtRx) (taken sent : Lists) → RxStandsFor v taken sent → RxRow v taken sent
-rx_row v taken sent h = record { owner = v.to; owed = option_to_list v.load; few = few_load v.load; given = h.given }
+pub rx_row : (v : SerialVirtRx) (passed : Passed) → RxStandsFor v passed → RxRow v passed
+rx_row v passed h = record { owner = v.to; owed = option_to_list v.load; few = few_load v.load; given = h.given }

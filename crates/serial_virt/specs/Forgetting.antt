@@ -1,3 +1,4 @@
+-- Ends without their last look.
 use Rattle.std.specs.Prelude.{None}
 use Rattle.turn_kit.specs.declared.ends.Intake.{Intake}
 use Rattle.turn_kit.specs.declared.ends.Outlet.{Outlet}

@@ -1,17 +1,21 @@
+-- The receiving virtualiser: what it must fit, what it stands for, and its row.
 use Rattle.std.specs.Prelude.{◌≡◌, ◌==◌, ◌<◌, ◌≤◌, ℕ, Bool, true, ◌&&◌, Option, Some, None, is_some, is_none, List, [], ◌∷◌, ◌++◌, map, length, option_to_list, slice_get, if◌then◌else◌}
 use Rattle.std.specs.Option.{ForSome, option_map}
+use Rattle.cargo_core.specs.declared.item.Body.{Body}
 use Rattle.cargo_core.specs.Items.{kind_of}
 use Rattle.cargo_core.specs.declared.item.QueueKind.TheVariants as Kind
 use Rattle.wire_core.specs.declared.names.QueueId.{QueueId}
 use Rattle.wire_core.specs.declared.names.Side.TheVariants.{Forward, Backward}
 use Rattle.wire_core.specs.Deeds.{Cargo}
-use Rattle.wire_core.specs.Lists.{Lists}
+use Rattle.wire_core.specs.Lists.{Passed}
 use Rattle.wire_core.specs.Ends.{Role, Consumer, Producer, End}
 use Rattle.turn_kit.specs.Table.{Agrees, start_kept}
 use Rattle.turn_kit.specs.Turns.{Round}
 use Rattle.turn_kit.specs.Posts.{intake_post}
-use Rattle.turn_kit.specs.ManyEnds.{FitsOutlets, outlet_queues, outlet_posts, loads_from}
+use Rattle.turn_kit.specs.Hands.{Balances, bodies_of, bodies_at}
+use Rattle.turn_kit.specs.ManyEnds.{FitsOutlets, outlet_queues, outlet_posts, needs_from, is_here}
 use Rattle.turn_kit.specs.declared.ends.Outlet.{Outlet}
+use Rattle.serial_virt.specs.Forgetting.{intake_forgotten, outlet_forgotten}
 use Rattle.serial_switch.specs.Carried.{byte_cargo, bytes_carried}
 use Rattle.serial_switch.specs.Switching.{input_of}
 use Rattle.serial_switch.specs.Standing.{StandsAfter}
@@ -34,17 +38,17 @@ clients_of v = length (outlet_queues v.outputs)
 
 -- the switch has read all that was taken; each client was given its part of it, but for what is owed to it, and who is
 -- owed a byte is there
-pub record RxStandsFor (v : SerialVirtRx) (taken sent : Lists) : Type 0 where
-  pub switched : StandsAfter (clients_of v) (bytes_carried (taken v.input.queue.0)) v.switch
+pub record RxStandsFor (v : SerialVirtRx) (passed : Passed) : Type 0 where
+  pub switched : StandsAfter (clients_of v) (bytes_carried (passed.taken v.input.queue.0)) v.switch
   pub to : is_some v.load ≡ true → v.to < clients_of v
-  pub given : (k : ℕ) (q : QueueId) → slice_get (outlet_queues v.outputs) k ≡ Some q → sent q.0 ++ owed_to v.load v.to k ≡ map byte_cargo (input_of (clients_of v) k (bytes_carried (taken v.input.queue.0)))
+  pub given : (k : ℕ) (q : QueueId) → slice_get (outlet_queues v.outputs) k ≡ Some q → passed.sent q.0 ++ owed_to v.load v.to k ≡ map byte_cargo (input_of (clients_of v) k (bytes_carried (passed.taken v.input.queue.0)))
 
 -- each client was given its part of what was taken, but that over all clients at most one byte is owed
-pub record RxRow (v : SerialVirtRx) (taken sent : Lists) : Type 0 where
+pub record RxRow (v : SerialVirtRx) (passed : Passed) : Type 0 where
   pub owner : ℕ
   pub owed : List Cargo
   pub few : length owed ≤ 1
-  pub given : (k : ℕ) (q : QueueId) → slice_get (outlet_queues v.outputs) k ≡ Some q → sent q.0 ++ (if owner == k then owed else []) ≡ map byte_cargo (input_of (clients_of v) k (bytes_carried (taken v.input.queue.0)))
+  pub given : (k : ℕ) (q : QueueId) → slice_get (outlet_queues v.outputs) k ≡ Some q → passed.sent q.0 ++ (if owner == k then owed else []) ≡ map byte_cargo (input_of (clients_of v) k (bytes_carried (passed.taken v.input.queue.0)))
 
 -- one of its ends
 abbrev pub RxEnd : SerialVirtRx → Role → ℕ → Type 0
@@ -78,13 +82,17 @@ is_owed_at v k = (k == v.to) && is_some v.load
 abbrev pub rx_round : SerialVirtRx → Round
 rx_round v = record {
   posts = intake_post v.input ∷ outlet_posts v.outputs;
-  needs = is_none v.load ∷ loads_from (place_loaded v) 0 (outlet_queues v.outputs);
+  needs = is_none v.load ∷ needs_from (is_here (place_loaded v)) 0 (outlet_queues v.outputs);
   last = v.turn.last;
 }
 
--- the entries in its hand: the byte that it owes
-abbrev pub rx_hand : SerialVirtRx → List Cargo
-rx_hand v = option_to_list v.load
+-- the bodies in its hand: that of the byte that it owes
+abbrev pub rx_hand : SerialVirtRx → List Body
+rx_hand v = bodies_of (option_to_list v.load)
+
+-- what it took it read, and keeps for good: the bytes that it gives are new entries
+abbrev pub RxBalances : SerialVirtRx → Passed → Type 0
+RxBalances v passed = Balances [] (bodies_at passed.taken (v.input.queue.0 ∷ [])) (bodies_at passed.sent (map (λ q. q.0) (outlet_queues v.outputs))) (rx_hand v) (bodies_at passed.taken (v.input.queue.0 ∷ []))
 
 -- what is loaded, and for whom, where a client was given a byte or none was
 abbrev pub loaded_with : Option Cargo → Option (ℕ × ℕ) → Option Cargo
@@ -94,3 +102,9 @@ loaded_with load (Some g) = Some (byte_cargo g.1)
 abbrev pub owner_of : ℕ → Option (ℕ × ℕ) → ℕ
 owner_of to None = to
 owner_of to (Some g) = g.0
+
+-- the same without the last looks
+pub record RxForgot (old new : SerialVirtRx) : Type 0 where
+  pub input : new.input ≡ intake_forgotten old.input
+  pub outputs : new.outputs.ends.items ≡ map outlet_forgotten old.outputs.ends.items
+  pub rest : new ≡ record old { input = new.input; outputs = new.outputs }

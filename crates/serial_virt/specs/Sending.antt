@@ -1,18 +1,22 @@
-use Rattle.std.specs.Prelude.{◌≡◌, ◌≤◌, ℕ, Some, None, is_some, is_none, List, ◌∷◌, ◌++◌, map, length, option_to_list, slice_get}
+-- The sending virtualiser: what it must fit, what it stands for, and its row.
+use Rattle.std.specs.Prelude.{◌≡◌, ◌≤◌, ℕ, Some, None, is_some, is_none, List, [], ◌∷◌, ◌++◌, map, length, option_to_list, slice_get}
 use Rattle.std.specs.Option.{ForSome}
+use Rattle.cargo_core.specs.declared.item.Body.{Body}
 use Rattle.cargo_core.specs.Items.{kind_of}
 use Rattle.cargo_core.specs.Lists.{Merge}
 use Rattle.cargo_core.specs.declared.item.QueueKind.TheVariants as Kind
 use Rattle.wire_core.specs.declared.names.QueueId.{QueueId}
 use Rattle.wire_core.specs.declared.names.Side.TheVariants.{Forward, Backward}
 use Rattle.wire_core.specs.Deeds.{Cargo}
-use Rattle.wire_core.specs.Lists.{Lists}
+use Rattle.wire_core.specs.Lists.{Lists, Passed}
 use Rattle.wire_core.specs.Ends.{Role, Consumer, Producer, End}
 use Rattle.turn_kit.specs.Table.{Agrees, start_kept}
 use Rattle.turn_kit.specs.Turns.{Round}
 use Rattle.turn_kit.specs.Posts.{outlet_post}
-use Rattle.turn_kit.specs.ManyEnds.{FitsIntakes, intake_queues, intake_posts, all_need}
+use Rattle.turn_kit.specs.Hands.{Balances, bodies_of, bodies_at}
+use Rattle.turn_kit.specs.ManyEnds.{FitsIntakes, intake_queues, intake_posts, needs_from}
 use Rattle.turn_kit.specs.declared.ends.Intake.{Intake}
+use Rattle.serial_virt.specs.Forgetting.{intake_forgotten, outlet_forgotten}
 use Rattle.serial_virt.specs.declared.tx.SerialVirtTx.{SerialVirtTx}
 
 -- the virtualiser's ends are its own, and as it keeps them; all are queues of bytes
@@ -28,14 +32,14 @@ abbrev pub taken_from : List QueueId → Lists → List (List Cargo)
 taken_from qs taken = map (λ q. taken q.0) qs
 
 -- what it put, and what is loaded, is a merge of all that it took
-abbrev pub TxStandsFor : SerialVirtTx → Lists → Lists → Type 0
-TxStandsFor v taken sent = Merge (taken_from (intake_queues v.inputs) taken) (sent v.output.queue.0 ++ option_to_list v.load)
+abbrev pub TxStandsFor : SerialVirtTx → Passed → Type 0
+TxStandsFor v passed = Merge (taken_from (intake_queues v.inputs) passed.taken) (passed.sent v.output.queue.0 ++ option_to_list v.load)
 
 -- what it put, with at most one entry after it, is a merge of all that it took
-pub record TxRow (v : SerialVirtTx) (taken sent : Lists) : Type 0 where
+pub record TxRow (v : SerialVirtTx) (passed : Passed) : Type 0 where
   pub owed : List Cargo
   pub few : length owed ≤ 1
-  pub merged : Merge (taken_from (intake_queues v.inputs) taken) (sent v.output.queue.0 ++ owed)
+  pub merged : Merge (taken_from (intake_queues v.inputs) passed.taken) (passed.sent v.output.queue.0 ++ owed)
 
 -- one of its ends
 abbrev pub TxEnd : SerialVirtTx → Role → ℕ → Type 0
@@ -61,10 +65,20 @@ pub record IsNewTx (to : QueueId) (clients : List QueueId) (v : SerialVirtTx) : 
 abbrev pub tx_round : SerialVirtTx → Round
 tx_round v = record {
   posts = outlet_post v.output ∷ intake_posts v.inputs;
-  needs = is_some v.load ∷ all_need (is_none v.load) (intake_queues v.inputs);
+  needs = is_some v.load ∷ needs_from (λ place. is_none v.load) 0 (intake_queues v.inputs);
   last = v.turn.last;
 }
 
--- the entries in its hand: what it took and has yet to put
-abbrev pub tx_hand : SerialVirtTx → List Cargo
-tx_hand v = option_to_list v.load
+-- the bodies in its hand: that of what it took and has yet to put
+abbrev pub tx_hand : SerialVirtTx → List Body
+tx_hand v = bodies_of (option_to_list v.load)
+
+-- it keeps nothing
+abbrev pub TxBalances : SerialVirtTx → Passed → Type 0
+TxBalances v passed = Balances [] (bodies_at passed.taken (map (λ q. q.0) (intake_queues v.inputs))) (bodies_at passed.sent (v.output.queue.0 ∷ [])) (tx_hand v) []
+
+-- the same without the last looks
+pub record TxForgot (old new : SerialVirtTx) : Type 0 where
+  pub output : new.output ≡ outlet_forgotten old.output
+  pub inputs : new.inputs.ends.items ≡ map intake_forgotten old.inputs.ends.items
+  pub rest : new ≡ record old { output = new.output; inputs = new.inputs }

@@ -1,18 +1,19 @@
+// The virtualiser that shares out what was received.
 ghost use Rattle.std.specs.Prelude.{◌≡◌, ◌==◌, ◌<◌, ◌+◌, ◌^◌, ℕ, List, [], ◌++◌, None, IfOk, IfSome, length, map, is_none, is_some, false, if◌then◌else◌};
 ghost use Rattle.std.specs.Option.{ForSome, option_to_list};
 ghost use Rattle.cargo_core.specs.Items.{kind_of};
 ghost use Rattle.wire_core.specs.Ends.{role_of, Role, End, Producer, Consumer};
-ghost use Rattle.wire_core.specs.Lists.{Lists, Stepped};
+ghost use Rattle.wire_core.specs.Lists.{Passed, Stepped, nothing_passed};
 ghost use Rattle.wire_core.specs.Marks.{is_mark};
 ghost use Rattle.turn_kit.specs.Turns.{Turned, Posted, PostedAt, choice_of, chosen, last_after, is_at_rest};
 ghost use Rattle.turn_kit.specs.Posts.{intake_post};
-ghost use Rattle.turn_kit.specs.Hands.{held_in};
+ghost use Rattle.cargo_core.specs.Bodies.{buffers_of};
 ghost use Rattle.turn_kit.specs.ManyEnds.{outlet_queues, outlet_posts};
 ghost use Rattle.serial_switch.specs.Carried.{bytes_carried, byte_cargo};
 ghost use Rattle.serial_switch.specs.Standing.{StandsAfter};
 ghost use Rattle.serial_switch.specs.Switching.{input_of, given_to};
-ghost use Rattle.serial_virt.specs.Forgetting.{intake_forgotten, outlet_forgotten};
-ghost use Rattle.serial_virt.specs.Receiving.{FitsRx, RxStandsFor, RxRow, RxEnd, IsNewRx, new_outlet, rx_queues, rx_round, rx_hand, loaded_with, owner_of, is_owed_at, place_loaded};
+ghost use Rattle.serial_virt.specs.Forgetting.{outlet_forgotten};
+ghost use Rattle.serial_virt.specs.Receiving.{FitsRx, RxStandsFor, RxRow, RxBalances, RxEnd, IsNewRx, RxForgot, new_outlet, rx_queues, rx_round, rx_hand, loaded_with, owner_of, is_owed_at, place_loaded};
 
 use cargo_core::{Body, Item, Memory, PoolId};
 use serial_switch::Switch;
@@ -74,7 +75,7 @@ impl SerialVirtRx {
         requires some { 0 < length clients.items }
         requires few { length clients.items < 2 ^ 32 }
         ensures new { IfOk result (λ v. IsNewRx rx clients.items v) }
-        ensures stands { IfOk result (λ v. RxStandsFor v (λ n. []) (λ n. [])) }
+        ensures stands { IfOk result (λ v. RxStandsFor v nothing_passed) }
     {
         Ok(SerialVirtRx {
             input: Intake::new(rx),
@@ -101,12 +102,12 @@ impl SerialVirtRx {
     pub fn at_rest(&self) -> bool
         ensures { result ≡ is_at_rest (rx_round self.now) }
     {
-        self.input.settled(self.load.is_none()) && self.outputs.settled(self.owner())
+        self.input.settled(self.load.is_none()) && self.outputs.settled(&self.owner())
     }
 
     /// How many buffers of a pool are in its hand: none, since a byte has no buffer.
     pub fn held(&self, pool: PoolId) -> u32
-        ensures { result ≡ held_in pool (rx_hand self.now) }
+        ensures { result ≡ buffers_of pool (rx_hand self.now) }
     {
         held(pool, &self.load)
     }
@@ -123,7 +124,7 @@ impl SerialVirtRx {
             self.input.settled(self.load.is_none()),
         );
         let owner = self.owner();
-        let choice = self.outputs.offer(choice, 1, owner);
+        let choice = self.outputs.offer(choice, 1, &owner);
         self.turn.pass(choice)
     }
 
@@ -187,7 +188,6 @@ impl SerialVirtRx {
         ensures own { RxEnd self.old (role_of result.op) result.queue.0 }
         ensures queues { rx_queues self.new ≡ rx_queues self.old }
         ensures stepped { Stepped RxStandsFor W.did wires.old wires.new self.old self.new result }
-        ensures row { (taken sent : Lists) → RxStandsFor self.new taken sent → RxRow self.new taken sent }
         ensures turned { Turned (rx_round self.old) result (rx_round self.new) }
     {
         let place = self.choose();
@@ -200,14 +200,22 @@ impl SerialVirtRx {
 
     /// Discards the last look of each end, and nothing else.
     pub fn forget(&mut self)
-        ensures input { self.new.input ≡ intake_forgotten self.old.input }
-        ensures outputs { self.new.outputs.ends.items ≡ map outlet_forgotten self.old.outputs.ends.items }
-        ensures rest { self.new ≡ record self.old { input = self.new.input; outputs = self.new.outputs } }
+        ensures after { RxForgot self.old self.new }
         ensures queues { rx_queues self.new ≡ rx_queues self.old }
         ensures fits { (ends : Role → ℕ → End) → FitsRx ends self.old → FitsRx ends self.new }
-        ensures lists { (taken sent : Lists) → RxStandsFor self.old taken sent → RxStandsFor self.new taken sent }
+        ensures lists { (passed : Passed) → RxStandsFor self.old passed → RxStandsFor self.new passed }
     {
         self.input.forget();
         forget_outputs(&mut self.outputs);
     }
 }
+
+/// Whatever it stands for meets its row.
+pub fn rx_row_law()
+    ensures { (v : SerialVirtRx) (passed : Passed) → RxStandsFor v passed → RxRow v passed }
+{}
+
+/// What came and did not go out is kept for good, and its hand is new bytes.
+pub fn rx_hand_law()
+    ensures { (v : SerialVirtRx) (passed : Passed) → RxStandsFor v passed → RxBalances v passed }
+{}

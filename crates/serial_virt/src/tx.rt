@@ -1,13 +1,14 @@
+// The virtualiser that merges what the clients send.
 ghost use Rattle.std.specs.Prelude.{◌≡◌, ◌<◌, ◌+◌, ℕ, [], None, IfOk, length, is_none, is_some, false, map};
 ghost use Rattle.wire_core.specs.Ends.{role_of, Role, End, Producer, Consumer};
-ghost use Rattle.wire_core.specs.Lists.{Lists, Stepped};
+ghost use Rattle.wire_core.specs.Lists.{Passed, Stepped, nothing_passed};
 ghost use Rattle.wire_core.specs.Marks.{is_mark};
 ghost use Rattle.turn_kit.specs.Turns.{Turned, Posted, PostedAt, choice_of, chosen, last_after, is_at_rest};
 ghost use Rattle.turn_kit.specs.Posts.{outlet_post};
-ghost use Rattle.turn_kit.specs.Hands.{held_in};
+ghost use Rattle.cargo_core.specs.Bodies.{buffers_of};
 ghost use Rattle.turn_kit.specs.ManyEnds.{intake_queues, intake_posts};
-ghost use Rattle.serial_virt.specs.Forgetting.{intake_forgotten, outlet_forgotten};
-ghost use Rattle.serial_virt.specs.Sending.{FitsTx, TxStandsFor, TxRow, TxEnd, IsNewTx, new_intake, tx_queues, tx_round, tx_hand};
+ghost use Rattle.serial_virt.specs.Forgetting.{intake_forgotten};
+ghost use Rattle.serial_virt.specs.Sending.{FitsTx, TxStandsFor, TxRow, TxBalances, TxEnd, IsNewTx, TxForgot, new_intake, tx_queues, tx_round, tx_hand};
 
 use cargo_core::{Body, Item, Memory, PoolId};
 use std::alloc::Global;
@@ -49,7 +50,7 @@ impl SerialVirtTx {
     pub fn new(alloc: Global, tx: QueueId, clients: Vec<QueueId>) -> Result<SerialVirtTx, Memory>
         requires { 0 < length clients.items }
         ensures new { IfOk result (λ v. IsNewTx tx clients.items v) }
-        ensures stands { IfOk result (λ v. TxStandsFor v (λ n. []) (λ n. [])) }
+        ensures stands { IfOk result (λ v. TxStandsFor v nothing_passed) }
     {
         Ok(SerialVirtTx {
             output: Outlet::new(tx),
@@ -63,12 +64,12 @@ impl SerialVirtTx {
     pub fn at_rest(&self) -> bool
         ensures { result ≡ is_at_rest (tx_round self.now) }
     {
-        self.output.settled(self.load.is_some()) && self.inputs.settled(self.load.is_none())
+        self.output.settled(self.load.is_some()) && self.inputs.settled(&self.load.is_none())
     }
 
     /// How many buffers of a pool are in its hand: none, since a byte has no buffer.
     pub fn held(&self, pool: PoolId) -> u32
-        ensures { result ≡ held_in pool (tx_hand self.now) }
+        ensures { result ≡ buffers_of pool (tx_hand self.now) }
     {
         held(pool, &self.load)
     }
@@ -84,7 +85,8 @@ impl SerialVirtTx {
             self.output.queue,
             self.output.settled(self.load.is_some()),
         );
-        let choice = self.inputs.offer(choice, 1, self.load.is_none());
+        let free = self.load.is_none();
+        let choice = self.inputs.offer(choice, 1, &free);
         self.turn.pass(choice)
     }
 
@@ -131,7 +133,6 @@ impl SerialVirtTx {
         ensures own { TxEnd self.old (role_of result.op) result.queue.0 }
         ensures queues { tx_queues self.new ≡ tx_queues self.old }
         ensures stepped { Stepped TxStandsFor W.did wires.old wires.new self.old self.new result }
-        ensures row { (taken sent : Lists) → TxStandsFor self.new taken sent → TxRow self.new taken sent }
         ensures turned { Turned (tx_round self.old) result (tx_round self.new) }
     {
         let place = self.choose();
@@ -144,15 +145,22 @@ impl SerialVirtTx {
 
     /// Discards the last look of each end, and nothing else.
     pub fn forget(&mut self)
-        ensures output { self.new.output ≡ outlet_forgotten self.old.output }
-        ensures inputs { self.new.inputs.ends.items ≡ map intake_forgotten self.old.inputs.ends.items }
-        ensures load { self.new.load ≡ self.old.load }
-        ensures turn { self.new.turn ≡ self.old.turn }
+        ensures after { TxForgot self.old self.new }
         ensures queues { tx_queues self.new ≡ tx_queues self.old }
         ensures fits { (ends : Role → ℕ → End) → FitsTx ends self.old → FitsTx ends self.new }
-        ensures lists { (taken sent : Lists) → TxStandsFor self.old taken sent → TxStandsFor self.new taken sent }
+        ensures lists { (passed : Passed) → TxStandsFor self.old passed → TxStandsFor self.new passed }
     {
         self.output.forget();
         forget_inputs(&mut self.inputs);
     }
 }
+
+/// Whatever it stands for meets its row.
+pub fn tx_row_law()
+    ensures { (v : SerialVirtTx) (passed : Passed) → TxStandsFor v passed → TxRow v passed }
+{}
+
+/// What came and did not go out is in its hand.
+pub fn tx_hand_law()
+    ensures { (v : SerialVirtTx) (passed : Passed) → TxStandsFor v passed → TxBalances v passed }
+{}

@@ -1,6 +1,6 @@
 use Rattle.std.proofs.Common.{◌≡◌, ℕ, refl, sym, ◌∙◌, subst, inl, inr}
 use Rattle.wire_core.specs.Ends.{Role, Consumer, Producer, End}
-use Rattle.wire_core.specs.Lists.{Lists}
+use Rattle.wire_core.specs.Lists.{Passed}
 use Rattle.turn_kit.specs.Table.{Agrees}
 use Rattle.turn_kit.specs.Pipes.{FitsPipe, PipeStandsFor}
 use Rattle.turn_kit.specs.declared.pipe.Pipe.{Pipe}
@@ -75,24 +75,24 @@ module _ (ends ends' : Role → ℕ → End) (kinds : (r : Role) (n : ℕ) → (
   }
 
 -- where nothing moved at an actor's ends, it stands for the same lists
-module _ (taken sent taken' sent' : Lists) where
-  stands_terminal : (t : Terminal) → taken' t.input.queue.0 ≡ taken t.input.queue.0 → sent' t.output.queue.0 ≡ sent t.output.queue.0 → TerminalStandsFor t taken sent → TerminalStandsFor t taken' sent'
+module _ (passed passed' : Passed) where
+  stands_terminal : (t : Terminal) → passed'.taken t.input.queue.0 ≡ passed.taken t.input.queue.0 → passed'.sent t.output.queue.0 ≡ passed.sent t.output.queue.0 → TerminalStandsFor t passed → TerminalStandsFor t passed'
   stands_terminal t i o f = record { sent_is = o ∙ f.sent_is; heard_is = rw i f.heard_is }
 
-  stands_pipe : (p : Pipe) → taken' p.input.queue.0 ≡ taken p.input.queue.0 → sent' p.output.queue.0 ≡ sent p.output.queue.0 → PipeStandsFor p taken sent → PipeStandsFor p taken' sent'
+  stands_pipe : (p : Pipe) → passed'.taken p.input.queue.0 ≡ passed.taken p.input.queue.0 → passed'.sent p.output.queue.0 ≡ passed.sent p.output.queue.0 → PipeStandsFor p passed → PipeStandsFor p passed'
   stands_pipe p i o f = rw (i, o) f
 
-  stands_rx : (v : SerialVirtRx) → ((n : ℕ) → RxEnd v Consumer n → taken' n ≡ taken n) → ((n : ℕ) → RxEnd v Producer n → sent' n ≡ sent n) → RxStandsFor v taken sent → RxStandsFor v taken' sent'
+  stands_rx : (v : SerialVirtRx) → ((n : ℕ) → RxEnd v Consumer n → passed'.taken n ≡ passed.taken n) → ((n : ℕ) → RxEnd v Producer n → passed'.sent n ≡ passed.sent n) → RxStandsFor v passed → RxStandsFor v passed'
   stands_rx v ins outs f = record {
     switched = rw (ins v.input.queue.0 refl) f.switched;
     to = f.to;
     given = λ k q at. rw (ins v.input.queue.0 refl, outs q.0 (k, q, at, refl)) (f.given k q at);
   }
 
-  stands_tx : (v : SerialVirtTx) → ((n : ℕ) → TxEnd v Consumer n → taken' n ≡ taken n) → ((n : ℕ) → TxEnd v Producer n → sent' n ≡ sent n) → TxStandsFor v taken sent → TxStandsFor v taken' sent'
-  stands_tx v ins outs f = rw (outs v.output.queue.0 refl, map_alike (λ (q : QueueId). taken' q.0) (λ (q : QueueId). taken q.0) (intake_queues v.inputs) (λ k q at. ins q.0 (k, q, at, refl))) f
+  stands_tx : (v : SerialVirtTx) → ((n : ℕ) → TxEnd v Consumer n → passed'.taken n ≡ passed.taken n) → ((n : ℕ) → TxEnd v Producer n → passed'.sent n ≡ passed.sent n) → TxStandsFor v passed → TxStandsFor v passed'
+  stands_tx v ins outs f = rw (outs v.output.queue.0 refl, map_alike (λ (q : QueueId). passed'.taken q.0) (λ (q : QueueId). passed.taken q.0) (intake_queues v.inputs) (λ k q at. ins q.0 (k, q, at, refl))) f
 
-  pub stands_beside : (x : Actor) → ((n : ℕ) → ActorEnd x Consumer n → taken' n ≡ taken n) → ((n : ℕ) → ActorEnd x Producer n → sent' n ≡ sent n) → ActorStandsFor x taken sent → ActorStandsFor x taken' sent'
+  pub stands_beside : (x : Actor) → ((n : ℕ) → ActorEnd x Consumer n → passed'.taken n ≡ passed.taken n) → ((n : ℕ) → ActorEnd x Producer n → passed'.sent n ≡ passed.sent n) → ActorStandsFor x passed → ActorStandsFor x passed'
   stands_beside (Kinds.UartDevice x) ins outs f = stands_terminal x.terminal (ins x.terminal.input.queue.0 refl) (outs x.terminal.output.queue.0 refl) f
   stands_beside (Kinds.SerialClient x) ins outs f = stands_terminal x.terminal (ins x.terminal.input.queue.0 refl) (outs x.terminal.output.queue.0 refl) f
   stands_beside (Kinds.SerialVirtRx x) ins outs f = stands_rx x ins outs f

@@ -22,9 +22,9 @@ use Rattle.system_core.proofs.RowsNow.{carried_in}
 
 module _ (history : History) (rows : List QueueRow) (w : List Queue) (actors : List Actor) (journal : List Entry) (h : Holds history rows w actors journal) where
   -- what an actor keeps is what the journal says of its part
-  heard_here : (x : Actor) → ActorStandsFor x h.taken h.sent → heard_of x ≡ heard_by (moved history journal) (part_of x)
-  heard_here (Kinds.UartDevice x) st = st.heard_is ∙ (carried_in (h.taken x.terminal.input.queue.0) ∙ ap bytes_in (h.shows_taken x.terminal.input.queue.0))
-  heard_here (Kinds.SerialClient x) st = st.heard_is ∙ (carried_in (h.taken x.terminal.input.queue.0) ∙ ap bytes_in (h.shows_taken x.terminal.input.queue.0))
+  heard_here : (x : Actor) → ActorStandsFor x h.passed → heard_of x ≡ heard_by (moved history journal) (part_of x)
+  heard_here (Kinds.UartDevice x) st = st.heard_is ∙ (carried_in (h.passed.taken x.terminal.input.queue.0) ∙ ap bytes_in (h.shows_taken x.terminal.input.queue.0))
+  heard_here (Kinds.SerialClient x) st = st.heard_is ∙ (carried_in (h.passed.taken x.terminal.input.queue.0) ∙ ap bytes_in (h.shows_taken x.terminal.input.queue.0))
   heard_here (Kinds.UartDriver x) st = refl
   heard_here (Kinds.SerialVirtRx x) st = refl
   heard_here (Kinds.SerialVirtTx x) st = refl

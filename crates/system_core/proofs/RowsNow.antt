@@ -63,40 +63,40 @@ map_back f (a ∷ xs) zero p h = (a, refl, some_eq h)
 map_back f (a ∷ xs) (suc k) p h = map_back f xs k p h
 
 module _ (scene : Scene) (history : History) (rows : List QueueRow) (w : List Queue) (actors : List Actor) (journal : List Entry) (h : Holds history rows w actors journal) where
-  terminal_row : (t : Terminal) → TerminalStandsFor t h.taken h.sent → IsPrefix (track history t.output.queue.0 journal).sent (byte_items t.script)
+  terminal_row : (t : Terminal) → TerminalStandsFor t h.passed → IsPrefix (track history t.output.queue.0 journal).sent (byte_items t.script)
   terminal_row t f = (byte_items (drop t.next t.script), rw (← h.shows_sent t.output.queue.0, f.sent_is, items_of_bytes (take t.next t.script)) (split_at t.next t.script))
 
-  pipe_row : (p : Pipe) → PipeStandsFor p h.taken h.sent → IsPrefix (track history p.output.queue.0 journal).sent (track history p.input.queue.0 journal).taken
-  pipe_row p f = (items_of (option_to_list p.load), rw (← h.shows_sent p.output.queue.0, ← h.shows_taken p.input.queue.0, f) (sym (map-append (λ (c : Cargo). c.0) (h.sent p.output.queue.0) (option_to_list p.load))))
+  pipe_row : (p : Pipe) → PipeStandsFor p h.passed → IsPrefix (track history p.output.queue.0 journal).sent (track history p.input.queue.0 journal).taken
+  pipe_row p f = (items_of (option_to_list p.load), rw (← h.shows_sent p.output.queue.0, ← h.shows_taken p.input.queue.0, f) (sym (map-append (λ (c : Cargo). c.0) (h.passed.sent p.output.queue.0) (option_to_list p.load))))
 
   -- the bytes that entries carry are those of their items
-  rx_row : (v : SerialVirtRx) → RxStandsFor v h.taken h.sent → (sheet scene (part_of (Kinds.SerialVirtRx v))).row (moved history journal)
+  rx_row : (v : SerialVirtRx) → RxStandsFor v h.passed → (sheet scene (part_of (Kinds.SerialVirtRx v))).row (moved history journal)
   rx_row v f = record {
     owner = v.to;
     owed = items_of (option_to_list v.load);
     few = one_few v.load;
     given = λ c q at.
         let m = queue_there (outlet_queues v.outputs) c q at in
-        let heard : bytes_carried (h.taken v.input.queue.0) ≡ bytes_in (track history v.input.queue.0 journal).taken = carried_in (h.taken v.input.queue.0) ∙ ap bytes_in (h.shows_taken v.input.queue.0) in
-        let put : items_of (h.sent m.0.0) ≡ (track history q journal).sent = h.shows_sent m.0.0 ∙ ap (λ n. (track history n journal).sent) (sym m.2) in
-        rw (← put, ← heard, ← if_items (v.to == c) (option_to_list v.load), length-map) (sym (map-append (λ (x : Cargo). x.0) (h.sent m.0.0) (owed_to v.load v.to c)) ∙ (ap items_of (f.given c m.0 m.1) ∙ items_of_bytes (input_of (clients_of v) c (bytes_carried (h.taken v.input.queue.0)))));
+        let heard : bytes_carried (h.passed.taken v.input.queue.0) ≡ bytes_in (track history v.input.queue.0 journal).taken = carried_in (h.passed.taken v.input.queue.0) ∙ ap bytes_in (h.shows_taken v.input.queue.0) in
+        let put : items_of (h.passed.sent m.0.0) ≡ (track history q journal).sent = h.shows_sent m.0.0 ∙ ap (λ n. (track history n journal).sent) (sym m.2) in
+        rw (← put, ← heard, ← if_items (v.to == c) (option_to_list v.load), length-map) (sym (map-append (λ (x : Cargo). x.0) (h.passed.sent m.0.0) (owed_to v.load v.to c)) ∙ (ap items_of (f.given c m.0 m.1) ∙ items_of_bytes (input_of (clients_of v) c (bytes_carried (h.passed.taken v.input.queue.0)))));
   }
 
-  tx_row : (v : SerialVirtTx) → TxStandsFor v h.taken h.sent → (sheet scene (part_of (Kinds.SerialVirtTx v))).row (moved history journal)
+  tx_row : (v : SerialVirtTx) → TxStandsFor v h.passed → (sheet scene (part_of (Kinds.SerialVirtTx v))).row (moved history journal)
   tx_row v f = record {
     owed = items_of (option_to_list v.load);
     few = one_few v.load;
     merged =
-        let all : map items_of (map (λ (q : QueueId). h.taken q.0) (intake_queues v.inputs)) ≡ map (λ n. (track history n journal).taken) (numbers (intake_queues v.inputs)) = taken_alike (intake_queues v.inputs) in
-        let put : items_of (h.sent v.output.queue.0 ++ option_to_list v.load) ≡ (track history v.output.queue.0 journal).sent ++ items_of (option_to_list v.load) = map-append (λ (x : Cargo). x.0) (h.sent v.output.queue.0) (option_to_list v.load) ∙ ap (λ s. s ++ items_of (option_to_list v.load)) (h.shows_sent v.output.queue.0) in
-        rw (← all, ← put) (merge_map (λ (x : Cargo). x.0) (map (λ (q : QueueId). h.taken q.0) (intake_queues v.inputs)) (h.sent v.output.queue.0 ++ option_to_list v.load) f);
+        let all : map items_of (map (λ (q : QueueId). h.passed.taken q.0) (intake_queues v.inputs)) ≡ map (λ n. (track history n journal).taken) (numbers (intake_queues v.inputs)) = taken_alike (intake_queues v.inputs) in
+        let put : items_of (h.passed.sent v.output.queue.0 ++ option_to_list v.load) ≡ (track history v.output.queue.0 journal).sent ++ items_of (option_to_list v.load) = map-append (λ (x : Cargo). x.0) (h.passed.sent v.output.queue.0) (option_to_list v.load) ∙ ap (λ s. s ++ items_of (option_to_list v.load)) (h.shows_sent v.output.queue.0) in
+        rw (← all, ← put) (merge_map (λ (x : Cargo). x.0) (map (λ (q : QueueId). h.passed.taken q.0) (intake_queues v.inputs)) (h.passed.sent v.output.queue.0 ++ option_to_list v.load) f);
   }
     where
-      taken_alike : (qs : List QueueId) → map items_of (map (λ (q : QueueId). h.taken q.0) qs) ≡ map (λ n. (track history n journal).taken) (numbers qs)
+      taken_alike : (qs : List QueueId) → map items_of (map (λ (q : QueueId). h.passed.taken q.0) qs) ≡ map (λ n. (track history n journal).taken) (numbers qs)
       taken_alike [] = refl
-      taken_alike (q ∷ qs) = ap (λ l. l ∷ map items_of (map (λ (q : QueueId). h.taken q.0) qs)) (h.shows_taken q.0) ∙ ap (λ ls. (track history q.0 journal).taken ∷ ls) (taken_alike qs)
+      taken_alike (q ∷ qs) = ap (λ l. l ∷ map items_of (map (λ (q : QueueId). h.passed.taken q.0) qs)) (h.shows_taken q.0) ∙ ap (λ ls. (track history q.0 journal).taken ∷ ls) (taken_alike qs)
 
-  actor_row : (x : Actor) → ActorStandsFor x h.taken h.sent → (sheet scene (part_of x)).row (moved history journal)
+  actor_row : (x : Actor) → ActorStandsFor x h.passed → (sheet scene (part_of x)).row (moved history journal)
   actor_row (Kinds.UartDevice x) f = terminal_row x.terminal f
   actor_row (Kinds.SerialClient x) f = terminal_row x.terminal f
   actor_row (Kinds.SerialVirtRx x) f = rx_row x f

@@ -26,7 +26,7 @@ use Rattle.std.specs.Option.{option_map}
 use Rattle.std.proofs.Math.Dec.{eqb}
 use Rattle.std.proofs.lemmas.Bool.Decides.{eqb_tells}
 use Rattle.wire_core.specs.declared.names.QueueId.{QueueId}
-use Rattle.turn_kit.specs.ManyEnds.{intake_queues, outlet_queues, is_here, loads_from, all_need}
+use Rattle.turn_kit.specs.ManyEnds.{intake_queues, outlet_queues, is_here, needs_from}
 use Rattle.turn_kit.specs.Posts.{intake_post, outlet_post}
 use Rattle.turn_kit.specs.declared.ends.Intake.{Intake}
 use Rattle.turn_kit.specs.declared.ends.Outlet.{Outlet}
@@ -100,7 +100,7 @@ held_is (Some c) n m e = sym (lt-ltb n m (omega (arith, e)))
 index_moves : (c k : ℕ) → c + suc k ≡ (c + 1) + k
 index_moves c k = omega arith
 
-shares_meet : (ends : Role → ℕ → End) (place : Option ℕ) (all : ℕ) (bytes : List ℕ) (c : ℕ) (os : List Outlet) (history : History) (journal : List Entry) → ((k : ℕ) (o : Outlet) → slice_get os k ≡ Some o → Agrees (ends Producer o.queue.0) o.kept) → ((k : ℕ) (q : QueueId) → slice_get (map (λ (o : Outlet). o.queue) os) k ≡ Some q → is_here place (c + k) ≡ is_owed (sent history q.0 journal) (input_of all (c + k) bytes)) → Meet ends (map outlet_post os) (loads_from place c (map (λ (o : Outlet). o.queue) os)) (shares all bytes c (numbers (map (λ (o : Outlet). o.queue) os)) (moved history journal))
+shares_meet : (ends : Role → ℕ → End) (place : Option ℕ) (all : ℕ) (bytes : List ℕ) (c : ℕ) (os : List Outlet) (history : History) (journal : List Entry) → ((k : ℕ) (o : Outlet) → slice_get os k ≡ Some o → Agrees (ends Producer o.queue.0) o.kept) → ((k : ℕ) (q : QueueId) → slice_get (map (λ (o : Outlet). o.queue) os) k ≡ Some q → is_here place (c + k) ≡ is_owed (sent history q.0 journal) (input_of all (c + k) bytes)) → Meet ends (map outlet_post os) (needs_from (is_here place) c (map (λ (o : Outlet). o.queue) os)) (shares all bytes c (numbers (map (λ (o : Outlet). o.queue) os)) (moved history journal))
 shares_meet ends place all bytes c [] history journal agrees owed = tt
 shares_meet ends place all bytes c (o ∷ os) history journal agrees owed =
     let z : c + 0 ≡ c = omega arith in (
@@ -132,9 +132,9 @@ owed_some : (to : ℕ) (load : Option Cargo) (all : ℕ) (bytes : List ℕ) (c :
 owed_some to None all bytes c qs history journal there owed = nobody_owed all bytes c qs history journal owed
 owed_some to (Some x) all bytes c qs history journal there owed = let t = there refl in one_owed to all bytes c qs history journal t.0 t.1 owed (eqb_tells to c)
 
-inputs_meet : (ends : Role → ℕ → End) (need need' : Bool) (is : List Intake) → need ≡ need' → ((k : ℕ) (i : Intake) → slice_get is k ≡ Some i → Agrees (ends Consumer i.queue.0) i.kept) → Meet ends (map intake_post is) (all_need need (map (λ (i : Intake). i.queue) is)) (map (λ q. intake_want q need') (numbers (map (λ (i : Intake). i.queue) is)))
-inputs_meet ends need need' [] same agrees = tt
-inputs_meet ends need need' (i ∷ is) same agrees = (record { needs = same; agrees = agrees 0 i refl }, inputs_meet ends need need' is same (λ k x at. agrees (suc k) x at))
+inputs_meet : (ends : Role → ℕ → End) (need need' : Bool) (c : ℕ) (is : List Intake) → need ≡ need' → ((k : ℕ) (i : Intake) → slice_get is k ≡ Some i → Agrees (ends Consumer i.queue.0) i.kept) → Meet ends (map intake_post is) (needs_from (λ place. need) c (map (λ (i : Intake). i.queue) is)) (map (λ q. intake_want q need') (numbers (map (λ (i : Intake). i.queue) is)))
+inputs_meet ends need need' c [] same agrees = tt
+inputs_meet ends need need' c (i ∷ is) same agrees = (record { needs = same; agrees = agrees 0 i refl }, inputs_meet ends need need' (c + 1) is same (λ k x at. agrees (suc k) x at))
 
 -- whose waiters the queues call, as their tracks tell it
 called_queues : (actor n : ℕ) (history : History) (journal : List Entry) (rows : List QueueRow) (world : List Queue) → length world ≡ length rows → ((m : ℕ) (row : QueueRow) → slice_get rows m ≡ Some row → IsShown row (queue_at world m) (track history (n + m) journal)) → list_any (is_called actor) world ≡ called_from actor n history rows journal
@@ -167,51 +167,51 @@ module _ (scene : Scene) (history : History) (rows : List QueueRow) (w : List Qu
   all_here (p ∷ ps) (n ∷ ns) [] m = absurd m
   all_here (p ∷ ps) (n ∷ ns) (x ∷ ws) m = both (settled_here p n x m.0) (all_here ps ns ws m.1)
 
-  said : (t : Terminal) → FitsTerminal (end_at w) t → TerminalStandsFor t h.taken h.sent → nat_lt t.next (length t.script) ≡ is_owed (sent history t.output.queue.0 journal) t.script
+  said : (t : Terminal) → FitsTerminal (end_at w) t → TerminalStandsFor t h.passed → nat_lt t.next (length t.script) ≡ is_owed (sent history t.output.queue.0 journal) t.script
   said t f st =
       let n : length (track history t.output.queue.0 journal).sent ≡ t.next = rw (← h.shows_sent t.output.queue.0, st.sent_is) (simp (length-map, length-take) (omega (arith, f.next))) in
       ap (λ m. nat_lt m (length t.script)) (sym n)
 
-  loaded : (p : Pipe) → PipeStandsFor p h.taken h.sent → is_some p.load ≡ is_owed (sent history p.output.queue.0 journal) (taken history p.input.queue.0 journal)
-  loaded p st = rw (← h.shows_sent p.output.queue.0, ← h.shows_taken p.input.queue.0) (some_is (h.sent p.output.queue.0) (h.taken p.input.queue.0) p.load st)
+  loaded : (p : Pipe) → PipeStandsFor p h.passed → is_some p.load ≡ is_owed (sent history p.output.queue.0 journal) (taken history p.input.queue.0 journal)
+  loaded p st = rw (← h.shows_sent p.output.queue.0, ← h.shows_taken p.input.queue.0) (some_is (h.passed.sent p.output.queue.0) (h.passed.taken p.input.queue.0) p.load st)
 
-  free : (p : Pipe) → PipeStandsFor p h.taken h.sent → is_none p.load ≡ not (is_owed (sent history p.output.queue.0 journal) (taken history p.input.queue.0 journal))
+  free : (p : Pipe) → PipeStandsFor p h.passed → is_none p.load ≡ not (is_owed (sent history p.output.queue.0 journal) (taken history p.input.queue.0 journal))
   free p st = none_is p.load ∙ ap not (loaded p st)
 
-  rx_owed : (v : SerialVirtRx) → RxStandsFor v h.taken h.sent → (k : ℕ) (q : QueueId) → slice_get (outlet_queues v.outputs) k ≡ Some q → is_here (place_loaded v) (0 + k) ≡ is_owed (sent history q.0 journal) (input_of (clients_of v) (0 + k) (bytes_carried (h.taken v.input.queue.0)))
+  rx_owed : (v : SerialVirtRx) → RxStandsFor v h.passed → (k : ℕ) (q : QueueId) → slice_get (outlet_queues v.outputs) k ≡ Some q → is_here (place_loaded v) (0 + k) ≡ is_owed (sent history q.0 journal) (input_of (clients_of v) (0 + k) (bytes_carried (h.passed.taken v.input.queue.0)))
   rx_owed v st k q at =
       let z : k ≡ 0 + k = omega arith in
-      let put : length (h.sent q.0) ≡ length (track history q.0 journal).sent = sym (length-map (h.sent q.0) (λ (c : Cargo). c.0)) ∙ ap length (h.shows_sent q.0) in
-      let all : length (h.sent q.0) + length (owed_to v.load v.to k) ≡ length (input_of (clients_of v) k (bytes_carried (h.taken v.input.queue.0))) = sym (length-append (h.sent q.0) (owed_to v.load v.to k)) ∙ (ap length (st.given k q at) ∙ length-map (input_of (clients_of v) k (bytes_carried (h.taken v.input.queue.0))) byte_cargo) in
-      subst (λ i. is_here (place_loaded v) i ≡ nat_lt (length (track history q.0 journal).sent) (length (input_of (clients_of v) i (bytes_carried (h.taken v.input.queue.0))))) z (owed_here v.load v.to k (length (track history q.0 journal).sent) (length (input_of (clients_of v) k (bytes_carried (h.taken v.input.queue.0)))) (omega arith) (eqb_tells v.to k))
+      let put : length (h.passed.sent q.0) ≡ length (track history q.0 journal).sent = sym (length-map (h.passed.sent q.0) (λ (c : Cargo). c.0)) ∙ ap length (h.shows_sent q.0) in
+      let all : length (h.passed.sent q.0) + length (owed_to v.load v.to k) ≡ length (input_of (clients_of v) k (bytes_carried (h.passed.taken v.input.queue.0))) = sym (length-append (h.passed.sent q.0) (owed_to v.load v.to k)) ∙ (ap length (st.given k q at) ∙ length-map (input_of (clients_of v) k (bytes_carried (h.passed.taken v.input.queue.0))) byte_cargo) in
+      subst (λ i. is_here (place_loaded v) i ≡ nat_lt (length (track history q.0 journal).sent) (length (input_of (clients_of v) i (bytes_carried (h.passed.taken v.input.queue.0))))) z (owed_here v.load v.to k (length (track history q.0 journal).sent) (length (input_of (clients_of v) k (bytes_carried (h.passed.taken v.input.queue.0)))) (omega arith) (eqb_tells v.to k))
 
-  rx_meets : (v : SerialVirtRx) → FitsRx (end_at w) v → RxStandsFor v h.taken h.sent → Meet (end_at w) (rx_round v).posts (rx_round v).needs ((sheet scene (part_of (Kinds.SerialVirtRx v))).wants (moved history journal))
+  rx_meets : (v : SerialVirtRx) → FitsRx (end_at w) v → RxStandsFor v h.passed → Meet (end_at w) (rx_round v).posts (rx_round v).needs ((sheet scene (part_of (Kinds.SerialVirtRx v))).wants (moved history journal))
   rx_meets v f st =
       let n : length (numbers (outlet_queues v.outputs)) ≡ clients_of v = simp length-map in
-      let heard : bytes_in (taken history v.input.queue.0 journal) ≡ bytes_carried (h.taken v.input.queue.0) = sym (carried_in (h.taken v.input.queue.0) ∙ ap bytes_in (h.shows_taken v.input.queue.0)) in
+      let heard : bytes_in (taken history v.input.queue.0 journal) ≡ bytes_carried (h.passed.taken v.input.queue.0) = sym (carried_in (h.passed.taken v.input.queue.0) ∙ ap bytes_in (h.shows_taken v.input.queue.0)) in
       rw (n, heard) (
-        record { needs = none_is v.load ∙ ap not (sym (owed_some v.to v.load (clients_of v) (bytes_carried (h.taken v.input.queue.0)) 0 (outlet_queues v.outputs) history journal (λ some. (omega arith, let lt = st.to some in omega arith)) (rx_owed v st))); agrees = f.input },
-        shares_meet (end_at w) (place_loaded v) (clients_of v) (bytes_carried (h.taken v.input.queue.0)) 0 v.outputs.ends.items history journal f.outputs.agrees (rx_owed v st),
+        record { needs = none_is v.load ∙ ap not (sym (owed_some v.to v.load (clients_of v) (bytes_carried (h.passed.taken v.input.queue.0)) 0 (outlet_queues v.outputs) history journal (λ some. (omega arith, let lt = st.to some in omega arith)) (rx_owed v st))); agrees = f.input },
+        shares_meet (end_at w) (place_loaded v) (clients_of v) (bytes_carried (h.passed.taken v.input.queue.0)) 0 v.outputs.ends.items history journal f.outputs.agrees (rx_owed v st),
       )
 
-  tx_held : (v : SerialVirtTx) → TxStandsFor v h.taken h.sent → is_some v.load ≡ is_held v.output.queue.0 (numbers (intake_queues v.inputs)) (moved history journal)
+  tx_held : (v : SerialVirtTx) → TxStandsFor v h.passed → is_some v.load ≡ is_held v.output.queue.0 (numbers (intake_queues v.inputs)) (moved history journal)
   tx_held v st =
-      let all : length (h.sent v.output.queue.0 ++ option_to_list v.load) ≡ total (map (λ (q : QueueId). h.taken q.0) (intake_queues v.inputs)) = merge_total _ _ st in
-      let put : length (h.sent v.output.queue.0) ≡ length (track history v.output.queue.0 journal).sent = sym (length-map (h.sent v.output.queue.0) (λ (c : Cargo). c.0)) ∙ ap length (h.shows_sent v.output.queue.0) in
-      held_is v.load (length (track history v.output.queue.0 journal).sent) (taken_count (numbers (intake_queues v.inputs)) (moved history journal)) (let a = length-append (h.sent v.output.queue.0) (option_to_list v.load) in let b = took_count (intake_queues v.inputs) in omega arith)
+      let all : length (h.passed.sent v.output.queue.0 ++ option_to_list v.load) ≡ total (map (λ (q : QueueId). h.passed.taken q.0) (intake_queues v.inputs)) = merge_total _ _ st in
+      let put : length (h.passed.sent v.output.queue.0) ≡ length (track history v.output.queue.0 journal).sent = sym (length-map (h.passed.sent v.output.queue.0) (λ (c : Cargo). c.0)) ∙ ap length (h.shows_sent v.output.queue.0) in
+      held_is v.load (length (track history v.output.queue.0 journal).sent) (taken_count (numbers (intake_queues v.inputs)) (moved history journal)) (let a = length-append (h.passed.sent v.output.queue.0) (option_to_list v.load) in let b = took_count (intake_queues v.inputs) in omega arith)
     where
-      took_count : (qs : List QueueId) → total (map (λ (q : QueueId). h.taken q.0) qs) ≡ taken_count (numbers qs) (moved history journal)
+      took_count : (qs : List QueueId) → total (map (λ (q : QueueId). h.passed.taken q.0) qs) ≡ taken_count (numbers qs) (moved history journal)
       took_count [] = refl
       took_count (q ∷ qs) =
-          let put : length (h.taken q.0) ≡ length (track history q.0 journal).taken = sym (length-map (h.taken q.0) (λ (c : Cargo). c.0)) ∙ ap length (h.shows_taken q.0) in
-          ap (λ n. n + total (map (λ (q : QueueId). h.taken q.0) qs)) put ∙ ap (λ n. length (track history q.0 journal).taken + n) (took_count qs)
+          let put : length (h.passed.taken q.0) ≡ length (track history q.0 journal).taken = sym (length-map (h.passed.taken q.0) (λ (c : Cargo). c.0)) ∙ ap length (h.shows_taken q.0) in
+          ap (λ n. n + total (map (λ (q : QueueId). h.passed.taken q.0) qs)) put ∙ ap (λ n. length (track history q.0 journal).taken + n) (took_count qs)
 
-  tx_meets : (v : SerialVirtTx) → FitsTx (end_at w) v → TxStandsFor v h.taken h.sent → Meet (end_at w) (tx_round v).posts (tx_round v).needs ((sheet scene (part_of (Kinds.SerialVirtTx v))).wants (moved history journal))
+  tx_meets : (v : SerialVirtTx) → FitsTx (end_at w) v → TxStandsFor v h.passed → Meet (end_at w) (tx_round v).posts (tx_round v).needs ((sheet scene (part_of (Kinds.SerialVirtTx v))).wants (moved history journal))
   tx_meets v f st =
       let held : is_some v.load ≡ is_held v.output.queue.0 (numbers (intake_queues v.inputs)) (moved history journal) = tx_held v st in
-      (record { needs = held; agrees = f.output }, inputs_meet (end_at w) (is_none v.load) (not (is_held v.output.queue.0 (numbers (intake_queues v.inputs)) (moved history journal))) v.inputs.ends.items (none_is v.load ∙ ap not held) f.inputs.agrees)
+      (record { needs = held; agrees = f.output }, inputs_meet (end_at w) (is_none v.load) (not (is_held v.output.queue.0 (numbers (intake_queues v.inputs)) (moved history journal))) 0 v.inputs.ends.items (none_is v.load ∙ ap not held) f.inputs.agrees)
 
-  meets : (x : Actor) → FitsActor (end_at w) x → ActorStandsFor x h.taken h.sent → Meet (end_at w) (actor_round x).posts (actor_round x).needs ((sheet scene (part_of x)).wants (moved history journal))
+  meets : (x : Actor) → FitsActor (end_at w) x → ActorStandsFor x h.passed → Meet (end_at w) (actor_round x).posts (actor_round x).needs ((sheet scene (part_of x)).wants (moved history journal))
   meets (Kinds.UartDevice x) f st = (record { needs = refl; agrees = f.input }, (record { needs = said x.terminal f st; agrees = f.output }, tt))
   meets (Kinds.SerialClient x) f st = (record { needs = refl; agrees = f.input }, (record { needs = said x.terminal f st; agrees = f.output }, tt))
   meets (Kinds.SerialVirtRx x) f st = rx_meets x f st

@@ -11,6 +11,7 @@ use Rattle.wire_core.specs.declared.names.Waiter.TheVariants as Wait
 use Rattle.wire_core.specs.declared.names.Ringer.TheVariants as Rung
 use Rattle.wire_core.specs.Deeds.{Cargo}
 use Rattle.wire_core.specs.Ends.{Role, Consumer, Producer, End}
+use Rattle.wire_core.specs.Lists.{nothing_passed}
 use Rattle.wire_core.specs.Queues.{starts, start_queue, start_bells, queue_at, end_at, end_of}
 use Rattle.wire_core.specs.Journal.{owner_of}
 use Rattle.turn_kit.specs.Table.{Agrees, start_kept}
@@ -129,10 +130,10 @@ module _ (rows : List QueueRow) (k : ℕ) where
   new_fits (Kinds.SerialVirtRx x) new apart seats = rx_fits x new apart seats
   new_fits (Kinds.SerialVirtTx x) new apart seats = tx_fits x new apart seats
 
-terminal_stands : (t : Terminal) → IsNewTerminal t.input.queue t.output.queue t.script t → TerminalStandsFor t (λ n. []) (λ n. [])
+terminal_stands : (t : Terminal) → IsNewTerminal t.input.queue t.output.queue t.script t → TerminalStandsFor t nothing_passed
 terminal_stands t new = record { sent_is = rw new.next refl; heard_is = new.heard }
 
-pipe_stands : (p : Pipe) → IsNewPipe p.input.queue p.output.queue p → PipeStandsFor p (λ n. []) (λ n. [])
+pipe_stands : (p : Pipe) → IsNewPipe p.input.queue p.output.queue p → PipeStandsFor p nothing_passed
 pipe_stands p new = ap option_to_list (sym new.load)
 
 nothing_owed : (b : Bool) (c : List Cargo) → c ≡ [] → (if b then c else []) ≡ []
@@ -144,7 +145,7 @@ none_taken [] k l h = cc
 none_taken (q ∷ qs) zero l h = sym (some_eq h)
 none_taken (q ∷ qs) (suc k) l h = none_taken qs k l h
 
-new_stands : (x : Actor) → IsNew x → ActorStandsFor x (λ n. []) (λ n. [])
+new_stands : (x : Actor) → IsNew x → ActorStandsFor x nothing_passed
 new_stands (Kinds.UartDevice x) new = terminal_stands x.terminal new
 new_stands (Kinds.SerialClient x) new = terminal_stands x.terminal new
 new_stands (Kinds.UartDriver x) new = (pipe_stands x.rx new.0, pipe_stands x.tx new.1)

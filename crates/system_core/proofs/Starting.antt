@@ -2,6 +2,7 @@ use Rattle.std.proofs.Common.{◌≡◌, ◌<◌, ◌≤◌, ◌+◌, ℕ, Bool,
 use Rattle.std.proofs.lemmas.List.{take_more, length-map, append-nil}
 use Rattle.std.proofs.lemmas.Option.{slice_get_read}
 use Rattle.wire_core.specs.declared.names.QueueRow.{QueueRow}
+use Rattle.wire_core.specs.Lists.{nothing_passed}
 use Rattle.wire_core.specs.Queues.{Queue, starts, queue_at, is_pending}
 use Rattle.wire_core.specs.Journal.{start_track, start_history, IsShown}
 use Rattle.wire_core.proofs.BellTheorem.{start_is}
@@ -38,8 +39,7 @@ nothing_there (a ∷ rows) (suc n) = nothing_there rows n
 -- a start state holds
 pub start_holds : (rows : List QueueRow) (actors : List Actor) → AreStarting rows actors → Holds (start_history rows) rows (starts rows) actors []
 start_holds rows actors s = record {
-  taken = λ n. [];
-  sent = λ n. [];
+  passed = nothing_passed;
   stands_there = λ n. sym (nothing_there rows n);
   shows_taken = λ n. ap (λ t. t.taken) (sym (start_is rows n));
   shows_sent = λ n. ap (λ t. t.sent) (sym (start_is rows n));

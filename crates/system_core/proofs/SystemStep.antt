@@ -13,7 +13,7 @@ use Rattle.wire_core.specs.declared.names.Op.{Op}
 use Rattle.wire_core.specs.declared.names.Op.TheVariants as Do
 use Rattle.wire_core.specs.Deeds.{Deed, Cargo, cargo_of}
 use Rattle.wire_core.specs.Ends.{Role, Consumer, Producer, Moves, role_of}
-use Rattle.wire_core.specs.Lists.{Lists, Stepped, with, taken_by, put_by, if_there, if_taken, if_put}
+use Rattle.wire_core.specs.Lists.{Passed, Stepped, with_deed, taken_by, put_by, if_there, if_taken, if_put}
 use Rattle.wire_core.specs.Queues.{Queue, Happens, Carries, queue_at, no_queue, end_at, items_of, entries_after, after}
 use Rattle.wire_core.specs.Journal.{Track, track, track_after, sent_after, taken_after, History, Hostiles, history_at, if_on, IsShown, LegalEntry, LegalJournal, owner_of}
 use Rattle.wire_core.proofs.Moving.{moves}
@@ -104,22 +104,19 @@ module _ (history : History) (rows : List QueueRow) (w v : List Queue) (actors :
       let row = slice_get-get_or rows e.queue.0 no_row (subst (λ n. e.queue.0 < n) old.size st.happened.there) in
       away (sym (old.owners j y at (role_of e.op) e.queue.0 theirs _ row) ∙ old.owners k x here (role_of e.op) e.queue.0 own _ row)
 
-  taken' : Lists
-  taken' = with old.taken (taken_by deed)
-
-  sent' : Lists
-  sent' = with old.sent (put_by deed)
+  passed' : Passed
+  passed' = with_deed old.passed deed
 
   more : (n : ℕ) → track history n (journal ++ entry_of k e ∷ []) ≡ if_on (e.queue.0 == n) (track_after (track history n journal) e) (track history n journal)
   more n = track_from-append (history_at history n) n journal (entry_of k e)
 
-  shows_taken' : (n : ℕ) → items_of (taken' n) ≡ (track history n (journal ++ entry_of k e ∷ [])).taken
-  unfolding taken' deed
-  shows_taken' n = taken_shown (e.queue.0 == n) (track history n journal) e (cargo_of deed) (old.taken n) st.happened.may.item (old.shows_taken n) ∙ ap (λ t. t.taken) (sym (more n))
+  shows_taken' : (n : ℕ) → items_of (passed'.taken n) ≡ (track history n (journal ++ entry_of k e ∷ [])).taken
+  unfolding passed' deed
+  shows_taken' n = taken_shown (e.queue.0 == n) (track history n journal) e (cargo_of deed) (old.passed.taken n) st.happened.may.item (old.shows_taken n) ∙ ap (λ t. t.taken) (sym (more n))
 
-  shows_sent' : (n : ℕ) → items_of (sent' n) ≡ (track history n (journal ++ entry_of k e ∷ [])).sent
-  unfolding sent' deed
-  shows_sent' n = sent_shown (e.queue.0 == n) (track history n journal) e (cargo_of deed) (old.sent n) st.happened.may.item (old.shows_sent n) ∙ ap (λ t. t.sent) (sym (more n))
+  shows_sent' : (n : ℕ) → items_of (passed'.sent n) ≡ (track history n (journal ++ entry_of k e ∷ [])).sent
+  unfolding passed' deed
+  shows_sent' n = sent_shown (e.queue.0 == n) (track history n journal) e (cargo_of deed) (old.passed.sent n) st.happened.may.item (old.shows_sent n) ∙ ap (λ t. t.sent) (sym (more n))
 
   size' : length v ≡ length rows
   size' = ap length st.happened.after_is ∙ (length-set w e.queue.0 _ ∙ old.size)
@@ -136,14 +133,14 @@ module _ (history : History) (rows : List QueueRow) (w v : List Queue) (actors :
   queues' : (n : ℕ) (row : QueueRow) → slice_get rows n ≡ Some row → IsShown row (queue_at v n) (track history n (journal ++ entry_of k e ∷ []))
   queues' n row at = subst (IsShown row (queue_at v n)) (sym (more n)) (queue_after_here n row at (eqb_tells e.queue.0 n))
 
-  there_after : (n : ℕ) → ((eqb e.queue.0 n ≡ true) × (e.queue.0 ≡ n)) ⊎ ((eqb e.queue.0 n ≡ false) × (e.queue.0 ≢ n)) → sent' n ≡ taken' n ++ (queue_at v n).entries
-  unfolding taken' sent' deed
+  there_after : (n : ℕ) → ((eqb e.queue.0 n ≡ true) × (e.queue.0 ≡ n)) ⊎ ((eqb e.queue.0 n ≡ false) × (e.queue.0 ≢ n)) → passed'.sent n ≡ passed'.taken n ++ (queue_at v n).entries
+  unfolding passed' deed
   there_after n (inl same) =
       rw (st.happened.after_is, same.0, ← same.1, get_or-set_same w e.queue.0 (after (queue_at w e.queue.0) deed) no_queue st.happened.there)
-      (moved_there (queue_at w e.queue.0) e.op (cargo_of deed) (old.sent e.queue.0) (old.taken e.queue.0) st.happened.may.carries (old.stands_there e.queue.0))
+      (moved_there (queue_at w e.queue.0) e.op (cargo_of deed) (old.passed.sent e.queue.0) (old.passed.taken e.queue.0) st.happened.may.carries (old.stands_there e.queue.0))
   there_after n (inr away) =
       rw (st.happened.after_is, away.0, get_or-set_other w e.queue.0 n (after (queue_at w e.queue.0) deed) no_queue (λ h. away.1 (sym h)))
-      (still_there (queue_at w n).entries (old.sent n) (old.taken n) (old.stands_there n))
+      (still_there (queue_at w n).entries (old.passed.sent n) (old.passed.taken n) (old.stands_there n))
 
   changes : Moves (end_at w) e (end_at v)
   unfolding deed
@@ -155,14 +152,14 @@ module _ (history : History) (rows : List QueueRow) (w v : List Queue) (actors :
       let was : slice_get actors j ≡ Some y = sym (slice_get_beside actors k j x' away.1) ∙ at in
       fits_beside (end_at w) (end_at v) changes.kinds y (λ r n theirs. changes.others r n (λ a b. apart j y was away.1 (subst (λ r'. ActorEnd y r' e.queue.0) a (subst (ActorEnd y r) b theirs)))) (old.fits j y was)
 
-  stands' : (j : ℕ) (y : Actor) → slice_get (slice_set actors k x') j ≡ Some y → ((eqb j k ≡ true) × (j ≡ k)) ⊎ ((eqb j k ≡ false) × (j ≢ k)) → ActorStandsFor y taken' sent'
-  unfolding taken' sent' deed
-  stands' j y at (inl same) = let e : x' ≡ y = some_eq (sym (slice_get_written actors k x x' here) ∙ (ap (slice_get (slice_set actors k x')) (sym same.1) ∙ at)) in subst (λ a. ActorStandsFor a taken' sent') e (st.kept old.taken old.sent (old.stands k x here))
+  stands' : (j : ℕ) (y : Actor) → slice_get (slice_set actors k x') j ≡ Some y → ((eqb j k ≡ true) × (j ≡ k)) ⊎ ((eqb j k ≡ false) × (j ≢ k)) → ActorStandsFor y passed'
+  unfolding passed' deed
+  stands' j y at (inl same) = let e : x' ≡ y = some_eq (sym (slice_get_written actors k x x' here) ∙ (ap (slice_get (slice_set actors k x')) (sym same.1) ∙ at)) in subst (λ a. ActorStandsFor a passed') e (st.kept old.passed (old.stands k x here))
   stands' j y at (inr away) =
       let was : slice_get actors j ≡ Some y = sym (slice_get_beside actors k j x' away.1) ∙ at in
-      stands_beside old.taken old.sent taken' sent' y
-      (λ n theirs. ap (λ c. old.taken n ++ c) (take_beside deed n (λ a b. apart j y was away.1 (subst (λ r. ActorEnd y r e.queue.0) (sym a) (subst (ActorEnd y Consumer) (sym b) theirs)))) ∙ append-nil (old.taken n))
-      (λ n theirs. ap (λ c. old.sent n ++ c) (put_beside deed n (λ a b. apart j y was away.1 (subst (λ r. ActorEnd y r e.queue.0) (sym a) (subst (ActorEnd y Producer) (sym b) theirs)))) ∙ append-nil (old.sent n))
+      stands_beside old.passed passed' y
+      (λ n theirs. ap (λ c. old.passed.taken n ++ c) (take_beside deed n (λ a b. apart j y was away.1 (subst (λ r. ActorEnd y r e.queue.0) (sym a) (subst (ActorEnd y Consumer) (sym b) theirs)))) ∙ append-nil (old.passed.taken n))
+      (λ n theirs. ap (λ c. old.passed.sent n ++ c) (put_beside deed n (λ a b. apart j y was away.1 (subst (λ r. ActorEnd y r e.queue.0) (sym a) (subst (ActorEnd y Producer) (sym b) theirs)))) ∙ append-nil (old.passed.sent n))
       (old.stands j y was)
 
   owners' : part_of x' ≡ part_of x → (j : ℕ) (y : Actor) → slice_get (slice_set actors k x') j ≡ Some y → ((eqb j k ≡ true) × (j ≡ k)) ⊎ ((eqb j k ≡ false) × (j ≢ k)) → (r : Role) (n : ℕ) → ActorEnd y r n → (row : QueueRow) → slice_get rows n ≡ Some row → owner_of row r ≡ j
@@ -191,8 +188,7 @@ module _ (history : History) (rows : List QueueRow) (w v : List Queue) (actors :
   -- all goes on to hold
   pub step_holds : FitsActor (end_at v) x' → part_of x' ≡ part_of x → Holds history rows v (slice_set actors k x') (journal ++ entry_of k e ∷ [])
   step_holds new part = record {
-    taken = taken';
-    sent = sent';
+    passed = passed';
     stands_there = λ n. there_after n (eqb_tells e.queue.0 n);
     shows_taken = shows_taken';
     shows_sent = shows_sent';

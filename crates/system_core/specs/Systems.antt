@@ -3,7 +3,7 @@ use Rattle.std.specs.Prelude.{◌≡◌, ◌<◌, ◌≤◌, ℕ, Some, List, �
 use Rattle.wire_core.specs.declared.names.QueueRow.{QueueRow}
 use Rattle.wire_core.specs.declared.names.Entry.{Entry}
 use Rattle.wire_core.specs.Ends.{Role}
-use Rattle.wire_core.specs.Lists.{Lists}
+use Rattle.wire_core.specs.Lists.{Passed}
 use Rattle.wire_core.specs.Queues.{Queue, queue_at, end_at, items_of}
 use Rattle.wire_core.specs.Journal.{History, track, IsShown, LegalJournal, owner_of}
 use Rattle.actor_set.specs.Actors.{FitsActor, ActorStandsFor, ActorEnd, part_of}
@@ -13,16 +13,15 @@ use Rattle.actor_set.specs.declared.actor.Actor.{Actor}
 -- the history, the queues, the actors and the journal belong together
 pub record Holds (history : History) (rows : List QueueRow) (world : List Queue) (actors : List Actor) (journal : List Entry) : Type 0 where
   -- the entries that the actors stand for, with their bodies; history and journal show their items
-  pub taken : Lists
-  pub sent : Lists
+  pub passed : Passed
   -- in each queue stands what was put there and wasn't taken
-  pub stands_there : (n : ℕ) → sent n ≡ taken n ++ (queue_at world n).entries
-  pub shows_taken : (n : ℕ) → items_of (taken n) ≡ (track history n journal).taken
-  pub shows_sent : (n : ℕ) → items_of (sent n) ≡ (track history n journal).sent
+  pub stands_there : (n : ℕ) → passed.sent n ≡ passed.taken n ++ (queue_at world n).entries
+  pub shows_taken : (n : ℕ) → items_of (passed.taken n) ≡ (track history n journal).taken
+  pub shows_sent : (n : ℕ) → items_of (passed.sent n) ≡ (track history n journal).sent
   pub size : length world ≡ length rows
   pub queues : (n : ℕ) (row : QueueRow) → slice_get rows n ≡ Some row → IsShown row (queue_at world n) (track history n journal)
   pub fits : (k : ℕ) (x : Actor) → slice_get actors k ≡ Some x → FitsActor (end_at world) x
-  pub stands : (k : ℕ) (x : Actor) → slice_get actors k ≡ Some x → ActorStandsFor x taken sent
+  pub stands : (k : ℕ) (x : Actor) → slice_get actors k ≡ Some x → ActorStandsFor x passed
   pub owners : (k : ℕ) (x : Actor) → slice_get actors k ≡ Some x → (r : Role) (n : ℕ) → ActorEnd x r n → (row : QueueRow) → slice_get rows n ≡ Some row → owner_of row r ≡ k
   pub peers : (n : ℕ) (row : QueueRow) → slice_get rows n ≡ Some row → (r : Role) → owner_of row r < length actors
   pub few : length actors ≤ 65536

@@ -13,3 +13,4 @@ pub mod Marking
 pub mod Even
 pub mod Pacing
 pub mod Playing
+pub mod Holding

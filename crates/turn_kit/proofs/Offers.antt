@@ -1,15 +1,10 @@
-use Rattle.std.proofs.Common.{◌≡◌, ◌+◌, ◌<◌, ◌&&◌, ℕ, zero, suc, Bool, true, false, Option, Some, None, List, [], ◌∷◌, drop, map, length, slice_get, slice_set, refl, sym, ap, ◌∙◌, subst, arith, add-one, add-zero, zero-add, add_assoc, slice_index_or}
-use Rattle.turn_kit.specs.Posts.{intake_post, outlet_post}
-use Rattle.turn_kit.specs.declared.ends.Intake.{Intake}
-use Rattle.turn_kit.specs.declared.ends.Outlet.{Outlet}
+use Rattle.std.proofs.Common.{◌≡◌, ◌+◌, ◌<◌, ◌&&◌, ℕ, zero, suc, Bool, true, false, Some, List, [], ◌∷◌, drop, map, length, slice_get, slice_set, refl, sym, ap, ◌∙◌, subst, arith, add-one, add-zero, zero-add, add_assoc, slice_index_or}
 use Rattle.std.proofs.lemmas.Option.{slice_get-get_or}
-use Rattle.std.proofs.Math.Dec.{eqb}
-use Rattle.std.specs.Option.{option_eq}
 use Rattle.wire_core.specs.declared.names.QueueId.{QueueId}
 use Rattle.wire_core.specs.declared.names.Event.{Event}
 use Rattle.turn_kit.specs.Table.{is_settled}
 use Rattle.turn_kit.specs.Turns.{Post, Posted, PostedAt, Choosing, offered, offered_from, settled_all}
-use Rattle.turn_kit.specs.ManyEnds.{all_need, loads_from, is_here}
+use Rattle.turn_kit.specs.ManyEnds.{needs_from}
 
 -- so many ends were offered, and the others are left
 pub record OffersOn (c now : Choosing) (base k : ℕ) (posts : List Post) (needs : List Bool) : Type 0 where
@@ -49,16 +44,13 @@ map_set f (y ∷ xs) (suc k) x = ap (λ zs. f y ∷ zs) (map_set f xs k x)
 pub posted_at : {X : Type 0} → (f : X → Post) (xs : List X) (k : ℕ) (x moved : X) (need : Bool) (e : Event) → slice_get xs k ≡ Some x → Posted (f x) need e (f moved) → PostedAt (map f xs) k need e (map f (slice_set xs k moved))
 posted_at f xs k x moved need e at p = record { post = f x; moved = f moved; there = get_map f xs k x at; posted = p; after = map_set f xs k moved }
 
-pub get_need : (need : Bool) (qs : List QueueId) (k : ℕ) (q : QueueId) → slice_get qs k ≡ Some q → slice_get (all_need need qs) k ≡ Some need
-get_need need qs k q h = get_map (λ _. need) qs k q h
-
 plus_suc : (m k : ℕ) → m + 1 + k ≡ m + suc k
 plus_suc m k = rw (← add-one k) omega arith
 
-pub get_load : (l : Option ℕ) (from : ℕ) (qs : List QueueId) (k : ℕ) (q : QueueId) → slice_get qs k ≡ Some q → slice_get (loads_from l from qs) k ≡ Some (is_here l (from + k))
-get_load l from [] k q h = cc
-get_load l from (y ∷ qs) zero q h = ap (λ n. Some (is_here l n)) (sym (add-zero from))
-get_load l from (y ∷ qs) (suc k) q h = get_load l (from + 1) qs k q h ∙ ap (λ n. Some (is_here l n)) (plus_suc from k)
+pub get_need : (need : ℕ → Bool) (from : ℕ) (qs : List QueueId) (k : ℕ) (q : QueueId) → slice_get qs k ≡ Some q → slice_get (needs_from need from qs) k ≡ Some (need (from + k))
+get_need need from [] k q h = cc
+get_need need from (y ∷ qs) zero q h = ap (λ n. Some (need n)) (sym (add-zero from))
+get_need need from (y ∷ qs) (suc k) q h = get_need need (from + 1) qs k q h ∙ ap (λ n. Some (need n)) (plus_suc from k)
 
 -- the first of the ends moved, or a later one
 pub first : (p moved : Post) (ps : List Post) (need : Bool) (e : Event) → Posted p need e moved → PostedAt (p ∷ ps) 0 need e (moved ∷ ps)
@@ -70,49 +62,32 @@ later p ps ps' k need e h = record { post = h.post; moved = h.moved; there = h.t
 at_index : {X : Type 0} → (xs : List X) (k : ℕ) (d : X) → k < length xs → slice_get xs k ≡ Some (slice_index_or xs k d)
 at_index xs k d h = slice_get-get_or xs k d h
 
-pub is_here_told : (loaded : Option ℕ) (k : ℕ) → option_eq eqb loaded (Some k) ≡ is_here loaded k
-is_here_told None k = refl
-is_here_told (Some j) k = refl
+-- an end that is there, and its need
+module _ {X : Type 0} (f : X → Post) (g : X → QueueId) (items ends : List X) (k : ℕ) (d : X) (need : ℕ → Bool) (same : items ≡ ends) (h : k < length items) where
+  here : slice_get ends k ≡ Some (slice_index_or items k d)
+  here = subst (λ xs. slice_get xs k ≡ Some (slice_index_or items k d)) same (at_index items k d h)
+
+  post_here : slice_get (map f ends) k ≡ Some (f (slice_index_or items k d))
+  post_here = get_map f ends k (slice_index_or items k d) here
+
+  need_here : slice_get (needs_from need 0 (map g ends)) k ≡ Some (need k)
+  need_here = get_need need 0 (map g ends) k (g (slice_index_or items k d)) (get_map g ends k (slice_index_or items k d) here) ∙ ap (λ n. Some (need n)) (zero-add k)
 
 -- one end of a list more was offered
-pub intake_next : (c now v : Choosing) (base k : ℕ) (items ends : List Intake) (d : Intake) (need s : Bool) → items ≡ ends → k < length items → v ≡ offered now (record { queue = (slice_index_or items k d).queue.0; place = base + k }) s → s ≡ is_settled (slice_index_or items k d).kept need → OffersOn c now base k (map intake_post ends) (all_need need (map (λ i. i.queue) ends)) → OffersOn c v base (k + 1) (map intake_post ends) (all_need need (map (λ i. i.queue) ends))
-intake_next c now v base k items ends d need s same h e t on = rw (e, t) (offers_next c now base k (map intake_post ends) (all_need need (map (λ i. i.queue) ends)) (intake_post (slice_index_or items k d)) need (get_map intake_post ends k (slice_index_or items k d) here) (get_need need (map (λ i. i.queue) ends) k (slice_index_or items k d).queue (get_map (λ i. i.queue) ends k (slice_index_or items k d) here)) on)
-  where
-    here : slice_get ends k ≡ Some (slice_index_or items k d)
-    here = subst (λ xs. slice_get xs k ≡ Some (slice_index_or items k d)) same (at_index items k d h)
-
-pub outlet_next : (c now v : Choosing) (base k : ℕ) (items ends : List Outlet) (d : Outlet) (loaded : Option ℕ) (s b : Bool) → items ≡ ends → k < length items → v ≡ offered now (record { queue = (slice_index_or items k d).queue.0; place = base + k }) s → s ≡ is_settled (slice_index_or items k d).kept b → b ≡ option_eq eqb loaded (Some k) → OffersOn c now base k (map outlet_post ends) (loads_from loaded 0 (map (λ i. i.queue) ends)) → OffersOn c v base (k + 1) (map outlet_post ends) (loads_from loaded 0 (map (λ i. i.queue) ends))
-outlet_next c now v base k items ends d loaded s b same h e t u on = rw (e, t, u, is_here_told loaded k) (offers_next c now base k (map outlet_post ends) (loads_from loaded 0 (map (λ i. i.queue) ends)) (outlet_post (slice_index_or items k d)) (is_here loaded k) (get_map outlet_post ends k (slice_index_or items k d) here) (get_load loaded 0 (map (λ i. i.queue) ends) k (slice_index_or items k d).queue (get_map (λ i. i.queue) ends k (slice_index_or items k d) here) ∙ ap (λ n. Some (is_here loaded n)) (zero-add k)) on)
-  where
-    here : slice_get ends k ≡ Some (slice_index_or items k d)
-    here = subst (λ xs. slice_get xs k ≡ Some (slice_index_or items k d)) same (at_index items k d h)
+pub end_next : {X : Type 0} (f : X → Post) (g : X → QueueId) (c now v : Choosing) (base k : ℕ) (items ends : List X) (d : X) (need : ℕ → Bool) (s b : Bool) → items ≡ ends → k < length items → v ≡ offered now (record { queue = (f (slice_index_or items k d)).queue; place = base + k }) s → s ≡ is_settled (f (slice_index_or items k d)).kept b → b ≡ need k
+    → OffersOn c now base k (map f ends) (needs_from need 0 (map g ends)) → OffersOn c v base (k + 1) (map f ends) (needs_from need 0 (map g ends))
+end_next f g c now v base k items ends d need s b same h e t u on = rw (e, t, u) (offers_next c now base k (map f ends) (needs_from need 0 (map g ends)) (f (slice_index_or items k d)) (need k) (post_here f g items ends k d need same h) (need_here f g items ends k d need same h) on)
 
 here_settled : (posts : List Post) (needs : List Bool) (k : ℕ) (p : Post) (need : Bool) → slice_get posts k ≡ Some p → slice_get needs k ≡ Some need → settled_all (drop k posts) (drop k needs) ≡ (is_settled p.kept need && settled_all (drop (k + 1) posts) (drop (k + 1) needs))
 here_settled posts needs k p need at n = rw (drop_here posts k p at, drop_here needs k need n, add-one k) refl
 
 -- the ends from a place on are settled where this one is and the others are
-pub intake_settled : (k : ℕ) (items ends : List Intake) (d : Intake) (need s : Bool) → items ≡ ends → k < length items → s ≡ is_settled (slice_index_or items k d).kept need → settled_all (drop k (map intake_post ends)) (drop k (all_need need (map (λ i. i.queue) ends))) ≡ (s && settled_all (drop (k + 1) (map intake_post ends)) (drop (k + 1) (all_need need (map (λ i. i.queue) ends))))
-intake_settled k items ends d need s same h t = rw t (here_settled (map intake_post ends) (all_need need (map (λ i. i.queue) ends)) k (intake_post (slice_index_or items k d)) need (get_map intake_post ends k (slice_index_or items k d) here) (get_need need (map (λ i. i.queue) ends) k (slice_index_or items k d).queue (get_map (λ i. i.queue) ends k (slice_index_or items k d) here)))
-  where
-    here : slice_get ends k ≡ Some (slice_index_or items k d)
-    here = subst (λ xs. slice_get xs k ≡ Some (slice_index_or items k d)) same (at_index items k d h)
+module _ {X : Type 0} (f : X → Post) (g : X → QueueId) (k : ℕ) (items ends : List X) (d : X) (need : ℕ → Bool) (s b : Bool) (same : items ≡ ends) (h : k < length items) (t : s ≡ is_settled (f (slice_index_or items k d)).kept b) (u : b ≡ need k) where
+  settled_now : settled_all (drop k (map f ends)) (drop k (needs_from need 0 (map g ends))) ≡ (s && settled_all (drop (k + 1) (map f ends)) (drop (k + 1) (needs_from need 0 (map g ends))))
+  settled_now = rw (t, u) (here_settled (map f ends) (needs_from need 0 (map g ends)) k (f (slice_index_or items k d)) (need k) (post_here f g items ends k d need same h) (need_here f g items ends k d need same h))
 
-module _ (k : ℕ) (items ends : List Outlet) (d : Outlet) (loaded : Option ℕ) (s b : Bool) (same : items ≡ ends) (h : k < length items) (t : s ≡ is_settled (slice_index_or items k d).kept b) (u : b ≡ option_eq eqb loaded (Some k)) where
-  outlet_here : slice_get ends k ≡ Some (slice_index_or items k d)
-  outlet_here = subst (λ xs. slice_get xs k ≡ Some (slice_index_or items k d)) same (at_index items k d h)
+  pub end_stop : (all : Bool) → s ≡ false → all ≡ settled_all (drop k (map f ends)) (drop k (needs_from need 0 (map g ends))) → false ≡ all
+  end_stop all e o = sym (o ∙ (settled_now ∙ ap (λ x. x && settled_all (drop (k + 1) (map f ends)) (drop (k + 1) (needs_from need 0 (map g ends)))) e))
 
-  outlet_now : settled_all (drop k (map outlet_post ends)) (drop k (loads_from loaded 0 (map (λ i. i.queue) ends))) ≡ (s && settled_all (drop (k + 1) (map outlet_post ends)) (drop (k + 1) (loads_from loaded 0 (map (λ i. i.queue) ends))))
-  outlet_now = rw (t, u, is_here_told loaded k) (here_settled (map outlet_post ends) (loads_from loaded 0 (map (λ i. i.queue) ends)) k (outlet_post (slice_index_or items k d)) (is_here loaded k) (get_map outlet_post ends k (slice_index_or items k d) outlet_here) (get_load loaded 0 (map (λ i. i.queue) ends) k (slice_index_or items k d).queue (get_map (λ i. i.queue) ends k (slice_index_or items k d) outlet_here) ∙ ap (λ n. Some (is_here loaded n)) (zero-add k)))
-
-  pub outlet_stop : (all : Bool) → s ≡ false → all ≡ settled_all (drop k (map outlet_post ends)) (drop k (loads_from loaded 0 (map (λ i. i.queue) ends))) → false ≡ all
-  outlet_stop all e g = sym (g ∙ (outlet_now ∙ ap (λ x. x && settled_all (drop (k + 1) (map outlet_post ends)) (drop (k + 1) (loads_from loaded 0 (map (λ i. i.queue) ends)))) e))
-
-  pub outlet_go : (all : Bool) → s ≡ true → all ≡ settled_all (drop k (map outlet_post ends)) (drop k (loads_from loaded 0 (map (λ i. i.queue) ends))) → all ≡ settled_all (drop (k + 1) (map outlet_post ends)) (drop (k + 1) (loads_from loaded 0 (map (λ i. i.queue) ends)))
-  outlet_go all e g = g ∙ (outlet_now ∙ ap (λ x. x && settled_all (drop (k + 1) (map outlet_post ends)) (drop (k + 1) (loads_from loaded 0 (map (λ i. i.queue) ends)))) e)
-
-module _ (k : ℕ) (items ends : List Intake) (d : Intake) (need s : Bool) (same : items ≡ ends) (h : k < length items) (t : s ≡ is_settled (slice_index_or items k d).kept need) where
-  pub intake_stop : (all : Bool) → s ≡ false → all ≡ settled_all (drop k (map intake_post ends)) (drop k (all_need need (map (λ i. i.queue) ends))) → false ≡ all
-  intake_stop all e g = sym (g ∙ (intake_settled k items ends d need s same h t ∙ ap (λ x. x && settled_all (drop (k + 1) (map intake_post ends)) (drop (k + 1) (all_need need (map (λ i. i.queue) ends)))) e))
-
-  pub intake_go : (all : Bool) → s ≡ true → all ≡ settled_all (drop k (map intake_post ends)) (drop k (all_need need (map (λ i. i.queue) ends))) → all ≡ settled_all (drop (k + 1) (map intake_post ends)) (drop (k + 1) (all_need need (map (λ i. i.queue) ends)))
-  intake_go all e g = g ∙ (intake_settled k items ends d need s same h t ∙ ap (λ x. x && settled_all (drop (k + 1) (map intake_post ends)) (drop (k + 1) (all_need need (map (λ i. i.queue) ends)))) e)
+  pub end_go : (all : Bool) → s ≡ true → all ≡ settled_all (drop k (map f ends)) (drop k (needs_from need 0 (map g ends))) → all ≡ settled_all (drop (k + 1) (map f ends)) (drop (k + 1) (needs_from need 0 (map g ends)))
+  end_go all e o = o ∙ (settled_now ∙ ap (λ x. x && settled_all (drop (k + 1) (map f ends)) (drop (k + 1) (needs_from need 0 (map g ends)))) e)

@@ -1,3 +1,4 @@
+-- Lists of ends: their queues, what they must fit, and which of them are needed or loaded.
 use Rattle.std.specs.Prelude.{◌≡◌, ◌+◌, ℕ, Bool, false, nat_eq, Option, Some, None, List, [], ◌∷◌, map, slice_get}
 use Rattle.wire_core.specs.declared.names.QueueId.{QueueId}
 use Rattle.wire_core.specs.Ends.{Role, Consumer, Producer, End}
@@ -35,15 +36,12 @@ pub record FitsOutlets (ends : Role → ℕ → End) (xs : Outlets) : Type 0 whe
   pub agrees : (k : ℕ) (i : Outlet) → slice_get xs.ends.items k ≡ Some i → Agrees (ends Producer i.queue.0) i.kept
   pub apart : AreApart (outlet_queues xs)
 
--- each end is needed, or none is
-abbrev pub all_need : Bool → List QueueId → List Bool
-all_need need qs = map (λ q. need) qs
-
+-- a place is this one
 abbrev pub is_here : Option ℕ → ℕ → Bool
 is_here (Some k) place = nat_eq k place
 is_here None place = false
 
--- the one end at a place is loaded, or none is
-abbrev pub loads_from : Option ℕ → ℕ → List QueueId → List Bool
-loads_from k place [] = []
-loads_from k place (q ∷ qs) = is_here k place ∷ loads_from k (place + 1) qs
+-- which of the ends are needed, or loaded: each by its place
+abbrev pub needs_from : (ℕ → Bool) → ℕ → List QueueId → List Bool
+needs_from need place [] = []
+needs_from need place (q ∷ qs) = need place ∷ needs_from need (place + 1) qs

@@ -1,8 +1,9 @@
+-- A pipe: what it must fit, and what it stands for.
 use Rattle.std.specs.Prelude.{◌≡◌, ℕ, Option, Some, None, ◌++◌, option_to_list}
 use Rattle.std.specs.Option.{ForSome}
 use Rattle.cargo_core.specs.Items.{kind_of}
 use Rattle.wire_core.specs.Deeds.{Cargo}
-use Rattle.wire_core.specs.Lists.{Lists}
+use Rattle.wire_core.specs.Lists.{Passed}
 use Rattle.wire_core.specs.Ends.{Role, Consumer, Producer, End}
 use Rattle.wire_core.specs.declared.names.QueueId.{QueueId}
 use Rattle.wire_core.specs.declared.names.Side.TheVariants.{Forward, Backward}
@@ -17,8 +18,8 @@ pub record FitsPipe (ends : Role → ℕ → End) (p : Pipe) : Type 0 where
   pub load : ForSome p.load (λ c. kind_of c.0 ≡ (ends Producer p.output.queue.0).kind)
 
 -- what it took is what it put and what is loaded
-abbrev pub PipeStandsFor : Pipe → Lists → Lists → Type 0
-PipeStandsFor p taken sent = taken p.input.queue.0 ≡ sent p.output.queue.0 ++ option_to_list p.load
+abbrev pub PipeStandsFor : Pipe → Passed → Type 0
+PipeStandsFor p passed = passed.taken p.input.queue.0 ≡ passed.sent p.output.queue.0 ++ option_to_list p.load
 
 -- what came in where nothing was loaded
 abbrev pub came : Option Cargo → Option Cargo → Option Cargo

@@ -1,18 +1,19 @@
+// Several consuming ends of one actor.
 ghost use Rattle.std.specs.Prelude.{◌≡◌, ◌==◌, ◌↔◌, ◌<◌, ◌≤◌, ◌+◌, ◌^◌, ℕ, [], Some, None, true, false, IsSome, IfSome, IfNone, length, map, slice_get};
 ghost use Rattle.std.specs.Option.{option_map, option_to_list};
 ghost use Rattle.cargo_core.specs.Items.{kind_of};
 ghost use Rattle.wire_core.specs.Deeds.{deed_of};
 ghost use Rattle.wire_core.specs.Lists.{taken_by, put_by, if_there};
 ghost use Rattle.wire_core.specs.Ends.{Moves, Consumer, role_of};
-ghost use Rattle.turn_kit.specs.ManyEnds.{FitsIntakes, intake_queues, intake_posts, all_need};
+ghost use Rattle.turn_kit.specs.ManyEnds.{FitsIntakes, intake_queues, intake_posts, needs_from};
 ghost use Rattle.wire_core.specs.Marks.{is_mark};
 ghost use Rattle.turn_kit.specs.Turns.{PostedAt, offered_from, settled_all};
 
-use crate::{Choice, Intake};
+use crate::{Choice, Intake, Needs};
 use cargo_core::{Body, Item};
 use wire_core::{Event, Op, Wires};
 
-/// Consuming ends of different queues, which all are needed or none.
+/// Consuming ends of different queues, of which some are needed.
 #[derive(Drop)]
 pub struct Intakes {
     pub ends: Vec<Intake>,
@@ -55,23 +56,24 @@ impl Intakes {
         end.step(wires, need)
     }
 
-    /// Offers each end, the first of them at the place `base`.
-    pub fn offer(&self, mut choice: Choice, base: usize, need: bool) -> Choice
+    /// Offers each end, the first of them at the place `base`; `needs` tells which are needed, by their places among
+    /// these ends.
+    pub fn offer<N: Needs>(&self, mut choice: Choice, base: usize, needs: &N) -> Choice
         requires { base + length (intake_queues self.now) ≤ choice.count }
-        ensures { result ≡ offered_from choice base (intake_posts self.now) (all_need need (intake_queues self.now)) }
+        ensures { result ≡ offered_from choice base (intake_posts self.now) (needs_from (N.need needs.now) 0 (intake_queues self.now)) }
     {
         for (k, end) in self.ends.iter().enumerate() {
-            choice = choice.offer(base + k, end.queue, end.settled(need));
+            choice = choice.offer(base + k, end.queue, end.settled(needs.at(k)));
         }
         choice
     }
 
     /// Whether all ends are settled.
-    pub fn settled(&self, need: bool) -> bool
-        ensures { result ≡ settled_all (intake_posts self.now) (all_need need (intake_queues self.now)) }
+    pub fn settled<N: Needs>(&self, needs: &N) -> bool
+        ensures { result ≡ settled_all (intake_posts self.now) (needs_from (N.need needs.now) 0 (intake_queues self.now)) }
     {
-        for end in &self.ends {
-            if !end.settled(need) {
+        for (k, end) in self.ends.iter().enumerate() {
+            if !end.settled(needs.at(k)) {
                 return false;
             }
         }

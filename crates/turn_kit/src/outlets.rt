@@ -1,18 +1,19 @@
+// Several producing ends of one actor.
 ghost use Rattle.std.specs.Prelude.{◌≡◌, ◌==◌, ◌↔◌, ◌<◌, ◌≤◌, ◌+◌, ◌++◌, ◌^◌, ℕ, [], Some, None, true, false, IsSome, length, is_some, slice_get};
 ghost use Rattle.std.specs.Option.{ForSome, option_map, option_to_list};
 ghost use Rattle.cargo_core.specs.Items.{kind_of};
 ghost use Rattle.wire_core.specs.Deeds.{deed_of, put_of};
 ghost use Rattle.wire_core.specs.Lists.{taken_by, put_by, if_there};
 ghost use Rattle.wire_core.specs.Ends.{Moves, Producer, role_of};
-ghost use Rattle.turn_kit.specs.ManyEnds.{FitsOutlets, outlet_queues, outlet_posts, loads_from};
+ghost use Rattle.turn_kit.specs.ManyEnds.{FitsOutlets, outlet_queues, outlet_posts, needs_from};
 ghost use Rattle.wire_core.specs.Marks.{is_mark};
 ghost use Rattle.turn_kit.specs.Turns.{PostedAt, offered_from, settled_all};
 
-use crate::{Choice, Outlet};
+use crate::{Choice, Needs, Outlet};
 use cargo_core::{Body, Item};
 use wire_core::{Event, Op, QueueId, Wires};
 
-/// Producing ends of different queues, of which one at most is loaded.
+/// Producing ends of different queues, of which some are loaded.
 #[derive(Drop)]
 pub struct Outlets {
     pub ends: Vec<Outlet>,
@@ -27,7 +28,7 @@ impl Outlets {
         self.ends.len()
     }
 
-    /// Makes the next call of the end at place `k`, which puts the load.
+    /// Makes the next call of the end at place `k`, which puts its load.
     pub fn step<W: Wires>(
         &mut self,
         wires: &mut W,
@@ -55,24 +56,24 @@ impl Outlets {
         end.step(wires, load)
     }
 
-    /// Offers each end, the first of them at the place `base`; `loaded` is the place among these ends of the one that
-    /// is loaded.
-    pub fn offer(&self, mut choice: Choice, base: usize, loaded: Option<usize>) -> Choice
+    /// Offers each end, the first of them at the place `base`; `loads` tells which are loaded, by their places among
+    /// these ends.
+    pub fn offer<N: Needs>(&self, mut choice: Choice, base: usize, loads: &N) -> Choice
         requires { base + length (outlet_queues self.now) ≤ choice.count }
-        ensures { result ≡ offered_from choice base (outlet_posts self.now) (loads_from loaded 0 (outlet_queues self.now)) }
+        ensures { result ≡ offered_from choice base (outlet_posts self.now) (needs_from (N.need loads.now) 0 (outlet_queues self.now)) }
     {
         for (k, end) in self.ends.iter().enumerate() {
-            choice = choice.offer(base + k, end.queue, end.settled(loaded == Some(k)));
+            choice = choice.offer(base + k, end.queue, end.settled(loads.at(k)));
         }
         choice
     }
 
     /// Whether all ends are settled.
-    pub fn settled(&self, loaded: Option<usize>) -> bool
-        ensures { result ≡ settled_all (outlet_posts self.now) (loads_from loaded 0 (outlet_queues self.now)) }
+    pub fn settled<N: Needs>(&self, loads: &N) -> bool
+        ensures { result ≡ settled_all (outlet_posts self.now) (needs_from (N.need loads.now) 0 (outlet_queues self.now)) }
     {
         for (k, end) in self.ends.iter().enumerate() {
-            if !end.settled(loaded == Some(k)) {
+            if !end.settled(loads.at(k)) {
                 return false;
             }
         }

@@ -1,6 +1,7 @@
+// One input, one output and what is under way between them: what drivers are made of.
 ghost use Rattle.std.specs.Prelude.{◌≡◌, ℕ, [], None, IsSome, is_some, is_none, false};
 ghost use Rattle.wire_core.specs.Deeds.{deed_of, put_of};
-ghost use Rattle.wire_core.specs.Lists.{Lists, taken_by, put_by, with};
+ghost use Rattle.wire_core.specs.Lists.{Passed, taken_by, put_by, with_deed};
 ghost use Rattle.wire_core.specs.Ends.{Moves, Consumer, Producer, role_of};
 ghost use Rattle.wire_core.specs.Marks.{is_mark};
 ghost use Rattle.turn_kit.specs.Turns.{Posted};
@@ -46,7 +47,7 @@ impl Pipe {
         ensures did { W.did wires.old (deed_of result (came self.old.load self.new.load)) wires.new }
         ensures moves { Moves (W.ends wires.old) result (W.ends wires.new) }
         ensures fits { FitsPipe (W.ends wires.new) self.new }
-        ensures kept { (taken sent : Lists) → PipeStandsFor self.old taken sent → PipeStandsFor self.new (with taken (taken_by (deed_of result (came self.old.load self.new.load)))) (with sent (put_by (deed_of result (came self.old.load self.new.load)))) }
+        ensures kept { (passed : Passed) → PipeStandsFor self.old passed → PipeStandsFor self.new (with_deed passed (deed_of result (came self.old.load self.new.load))) }
         ensures takes { (n : ℕ) → (n ≡ self.old.input.queue.0 → ⊥) → taken_by (deed_of result (came self.old.load self.new.load)) n ≡ [] }
         ensures puts { (n : ℕ) → put_by (deed_of result (came self.old.load self.new.load)) n ≡ [] }
         ensures posted { Posted (intake_post self.old.input) (is_none self.old.load) result (intake_post self.new.input) }
@@ -70,7 +71,7 @@ impl Pipe {
         ensures did { W.did wires.old (deed_of result (put_of result self.old.load)) wires.new }
         ensures moves { Moves (W.ends wires.old) result (W.ends wires.new) }
         ensures fits { FitsPipe (W.ends wires.new) self.new }
-        ensures kept { (taken sent : Lists) → PipeStandsFor self.old taken sent → PipeStandsFor self.new (with taken (taken_by (deed_of result (put_of result self.old.load)))) (with sent (put_by (deed_of result (put_of result self.old.load)))) }
+        ensures kept { (passed : Passed) → PipeStandsFor self.old passed → PipeStandsFor self.new (with_deed passed (deed_of result (put_of result self.old.load))) }
         ensures takes { (n : ℕ) → taken_by (deed_of result (put_of result self.old.load)) n ≡ [] }
         ensures puts { (n : ℕ) → (n ≡ self.old.output.queue.0 → ⊥) → put_by (deed_of result (put_of result self.old.load)) n ≡ [] }
         ensures posted { Posted (outlet_post self.old.output) (is_some self.old.load) result (outlet_post self.new.output) }

@@ -1,10 +1,12 @@
+-- The driver of a serial device: what it must fit, what it stands for, and its row.
 use Rattle.std.specs.Prelude.{◌≡◌, ◌⊎◌, ℕ, is_some, is_none, None, List, [], ◌∷◌, ◌++◌, option_to_list}
+use Rattle.cargo_core.specs.declared.item.Body.{Body}
 use Rattle.cargo_core.specs.Lists.{IsPrefix}
-use Rattle.wire_core.specs.Deeds.{Cargo}
-use Rattle.wire_core.specs.Lists.{Lists}
+use Rattle.wire_core.specs.Lists.{Passed}
 use Rattle.wire_core.specs.Ends.{Role, Consumer, Producer, End}
 use Rattle.turn_kit.specs.Turns.{Round}
 use Rattle.turn_kit.specs.Posts.{intake_post, outlet_post}
+use Rattle.turn_kit.specs.Hands.{Balances, bodies_of, bodies_at}
 use Rattle.turn_kit.specs.declared.pipe.Pipe.{Pipe}
 use Rattle.turn_kit.specs.Pipes.{FitsPipe, PipeStandsFor}
 use Rattle.uart_driver.specs.declared.UartDriver.{UartDriver}
@@ -17,12 +19,12 @@ pub record FitsDriver (ends : Role → ℕ → End) (d : UartDriver) : Type 0 wh
   pub outputs : d.rx.output.queue.0 ≡ d.tx.output.queue.0 → ⊥
 
 -- what came in at each side is what went out there, and what is loaded
-abbrev pub DriverStandsFor : UartDriver → Lists → Lists → Type 0
-DriverStandsFor d taken sent = PipeStandsFor d.rx taken sent × PipeStandsFor d.tx taken sent
+abbrev pub DriverStandsFor : UartDriver → Passed → Type 0
+DriverStandsFor d passed = PipeStandsFor d.rx passed × PipeStandsFor d.tx passed
 
 -- each output copies its input
-abbrev pub DriverRow : UartDriver → Lists → Lists → Type 0
-DriverRow d taken sent = IsPrefix (sent d.rx.output.queue.0) (taken d.rx.input.queue.0) × IsPrefix (sent d.tx.output.queue.0) (taken d.tx.input.queue.0)
+abbrev pub DriverRow : UartDriver → Passed → Type 0
+DriverRow d passed = IsPrefix (passed.sent d.rx.output.queue.0) (passed.taken d.rx.input.queue.0) × IsPrefix (passed.sent d.tx.output.queue.0) (passed.taken d.tx.input.queue.0)
 
 -- one of the driver's ends
 abbrev pub DriverEnd : UartDriver → Role → ℕ → Type 0
@@ -43,9 +45,13 @@ driver_round d = record {
   last = d.turn.last;
 }
 
--- the entries in its hand: what it took and has yet to put
-abbrev pub driver_hand : UartDriver → List Cargo
-driver_hand d = option_to_list d.rx.load ++ option_to_list d.tx.load
+-- the bodies in its hand: those of what it took and has yet to put
+abbrev pub driver_hand : UartDriver → List Body
+driver_hand d = bodies_of (option_to_list d.rx.load) ++ bodies_of (option_to_list d.tx.load)
+
+-- it keeps nothing
+abbrev pub DriverBalances : UartDriver → Passed → Type 0
+DriverBalances d passed = Balances [] (bodies_at passed.taken (d.rx.input.queue.0 ∷ d.tx.input.queue.0 ∷ [])) (bodies_at passed.sent (d.rx.output.queue.0 ∷ d.tx.output.queue.0 ∷ [])) (driver_hand d) []
 
 -- the same without the last looks
 abbrev pub pipe_forgotten : Pipe → Pipe

@@ -4,11 +4,11 @@
 
 ghost use Rattle.std.specs.Prelude.{◌≡◌, ◌≢◌, ◌<◌, ℕ, []};
 ghost use Rattle.wire_core.specs.Ends.{role_of, Role, End};
-ghost use Rattle.wire_core.specs.Lists.{Lists, Stepped};
+ghost use Rattle.wire_core.specs.Lists.{Passed, Stepped, nothing_passed};
 ghost use Rattle.turn_kit.specs.Turns.{Turned, choice_of, chosen, last_after, is_at_rest};
-ghost use Rattle.turn_kit.specs.Hands.{held_in};
+ghost use Rattle.cargo_core.specs.Bodies.{buffers_of};
 ghost use Rattle.turn_kit.specs.Pipes.{IsNewPipe};
-ghost use Rattle.uart_driver.specs.Driver.{FitsDriver, DriverStandsFor, DriverRow, DriverEnd, SameEnds, driver_round, driver_hand, driver_forgotten};
+ghost use Rattle.uart_driver.specs.Driver.{FitsDriver, DriverStandsFor, DriverRow, DriverBalances, DriverEnd, SameEnds, driver_round, driver_hand, driver_forgotten};
 
 use cargo_core::PoolId;
 use turn_kit::{Pipe, Turn, held};
@@ -29,7 +29,7 @@ impl UartDriver {
         ensures rx { IsNewPipe device_rx rx result.rx }
         ensures tx { IsNewPipe tx device_tx result.tx }
         ensures turn { result.turn.last ≡ 65535 }
-        ensures stands { DriverStandsFor result (λ n. []) (λ n. []) }
+        ensures stands { DriverStandsFor result nothing_passed }
     {
         UartDriver {
             rx: Pipe::new(device_rx, rx),
@@ -50,7 +50,7 @@ impl UartDriver {
 
     /// How many buffers of a pool are in its hand: none, since a byte has no buffer.
     pub fn held(&self, pool: PoolId) -> u32
-        ensures { result ≡ held_in pool (driver_hand self.now) }
+        ensures { result ≡ buffers_of pool (driver_hand self.now) }
     {
         held(pool, &self.rx.load) + held(pool, &self.tx.load)
     }
@@ -78,7 +78,6 @@ impl UartDriver {
         ensures own { DriverEnd self.old (role_of result.op) result.queue.0 }
         ensures ends { SameEnds self.old self.new }
         ensures stepped { Stepped DriverStandsFor W.did wires.old wires.new self.old self.new result }
-        ensures row { (taken sent : Lists) → DriverStandsFor self.new taken sent → DriverRow self.new taken sent }
         ensures turned { Turned (driver_round self.old) result (driver_round self.new) }
     {
         match self.choose() {
@@ -95,9 +94,19 @@ impl UartDriver {
         ensures after { self.new ≡ driver_forgotten self.old }
         ensures ends { SameEnds self.old self.new }
         ensures fits { (ends : Role → ℕ → End) → FitsDriver ends self.old → FitsDriver ends self.new }
-        ensures lists { (taken sent : Lists) → DriverStandsFor self.old taken sent → DriverStandsFor self.new taken sent }
+        ensures lists { (passed : Passed) → DriverStandsFor self.old passed → DriverStandsFor self.new passed }
     {
         self.rx.forget();
         self.tx.forget();
     }
 }
+
+/// Whatever it stands for meets its row.
+pub fn row_law()
+    ensures { (d : UartDriver) (passed : Passed) → DriverStandsFor d passed → DriverRow d passed }
+{}
+
+/// What came and did not go out is in its hand.
+pub fn hand_law()
+    ensures { (d : UartDriver) (passed : Passed) → DriverStandsFor d passed → DriverBalances d passed }
+{}

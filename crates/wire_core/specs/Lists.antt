@@ -1,3 +1,4 @@
+-- What an actor moved, queue by queue, and what one step of it adds: the words in which each actor's contract speaks.
 use Rattle.std.specs.Prelude.{◌==◌, ℕ, Bool, true, false, Option, List, [], ◌++◌}
 use Rattle.cargo_core.specs.declared.item.Body.{Body}
 use Rattle.wire_core.specs.declared.names.Event.{Event}
@@ -47,9 +48,24 @@ put_by d n = if_there (d.event.queue.0 == n) (if_put d.event.op (cargo_of d))
 abbrev pub with : Lists → Lists → Lists
 with old more n = old n ++ more n
 
--- one step of an actor that stands for the lists of its ends, what it took and what it put:
--- one call happened, and whatever lists it stood for, it now stands for those lists with this event's entry added
-pub record Stepped {A W : Type 0} (StandsFor : A → Lists → Lists → Type 0) (did : W → Deed → W → Type 0) (wires wires' : W) (old new : A) (event : Event) : Type 0 where
+-- what passed at the ends of an actor: for each queue the entries that it took there, those that it put there, and
+-- those that it let go where a look there told that it can't put them
+pub record Passed : Type 0 where
+  pub taken : Lists
+  pub sent : Lists
+  pub dropped : Lists
+
+-- nothing passed yet
+abbrev pub nothing_passed : Passed
+nothing_passed = record { taken = λ n. []; sent = λ n. []; dropped = λ n. [] }
+
+-- what this deed took and put is added, and nothing was dropped
+abbrev pub with_deed : Passed → Deed → Passed
+with_deed p d = record { taken = with p.taken (taken_by d); sent = with p.sent (put_by d); dropped = p.dropped }
+
+-- one step of an actor that stands for what passed at its ends:
+-- one call happened, and whatever it stood for, it now stands for that with this event's entry added
+pub record Stepped {A W : Type 0} (StandsFor : A → Passed → Type 0) (did : W → Deed → W → Type 0) (wires wires' : W) (old new : A) (event : Event) : Type 0 where
   pub body : Option Body
   pub happened : did wires (record { event = event; body = body }) wires'
-  pub kept : (taken sent : Lists) → StandsFor old taken sent → StandsFor new (with taken (taken_by (record { event = event; body = body }))) (with sent (put_by (record { event = event; body = body })))
+  pub kept : (p : Passed) → StandsFor old p → StandsFor new (with_deed p (record { event = event; body = body }))

@@ -9,16 +9,16 @@ use Rattle.actor_set.proofs.Casting.{ok_actor, as_actor}
 use Rattle.actor_set.proofs.actor.Actor.step.Goals as goal
 
 pub returns-in-UartDevice-clause-stepped : goal.returns-in-UartDevice-clause-stepped
-returns-in-UartDevice-clause-stepped g c = ok_actor UartStandsFor _ _ _ _ _ _ _ c.step.result (λ taken sent h. subst (λ a. ActorStandsFor a taken sent) c.in-UartDevice.is h) (λ taken sent h. h) c.step.ensures.stepped
+returns-in-UartDevice-clause-stepped g c = ok_actor UartStandsFor _ _ _ _ _ _ _ c.step.result (λ passed h. subst (λ a. ActorStandsFor a passed) c.in-UartDevice.is h) (λ passed h. h) c.step.ensures.stepped
 
 pub returns-in-UartDriver-clause-stepped : goal.returns-in-UartDriver-clause-stepped
-returns-in-UartDriver-clause-stepped g c = as_actor DriverStandsFor _ _ _ _ _ _ _ _ (λ taken sent h. subst (λ a. ActorStandsFor a taken sent) c.in-UartDriver.is h) (λ taken sent h. h) c.step-in-UartDriver.ensures.stepped
+returns-in-UartDriver-clause-stepped g c = as_actor DriverStandsFor _ _ _ _ _ _ _ _ (λ passed h. subst (λ a. ActorStandsFor a passed) c.in-UartDriver.is h) (λ passed h. h) c.step-in-UartDriver.ensures.stepped
 
 pub returns-in-SerialClient-clause-stepped : goal.returns-in-SerialClient-clause-stepped
-returns-in-SerialClient-clause-stepped g c = ok_actor SerialStandsFor _ _ _ _ _ _ _ c.step-in-SerialClient.result (λ taken sent h. subst (λ a. ActorStandsFor a taken sent) c.in-SerialClient.is h) (λ taken sent h. h) c.step-in-SerialClient.ensures.stepped
+returns-in-SerialClient-clause-stepped g c = ok_actor SerialStandsFor _ _ _ _ _ _ _ c.step-in-SerialClient.result (λ passed h. subst (λ a. ActorStandsFor a passed) c.in-SerialClient.is h) (λ passed h. h) c.step-in-SerialClient.ensures.stepped
 
 pub returns-in-SerialVirtRx-clause-stepped : goal.returns-in-SerialVirtRx-clause-stepped
-returns-in-SerialVirtRx-clause-stepped g c = as_actor RxStandsFor _ _ _ _ _ _ _ _ (λ taken sent h. subst (λ a. ActorStandsFor a taken sent) c.in-SerialVirtRx.is h) (λ taken sent h. h) c.step-in-SerialVirtRx.ensures.stepped
+returns-in-SerialVirtRx-clause-stepped g c = as_actor RxStandsFor _ _ _ _ _ _ _ _ (λ passed h. subst (λ a. ActorStandsFor a passed) c.in-SerialVirtRx.is h) (λ passed h. h) c.step-in-SerialVirtRx.ensures.stepped
 
 pub returns-in-SerialVirtTx-clause-stepped : goal.returns-in-SerialVirtTx-clause-stepped
-returns-in-SerialVirtTx-clause-stepped g c = as_actor TxStandsFor _ _ _ _ _ _ _ _ (λ taken sent h. subst (λ a. ActorStandsFor a taken sent) c.in-SerialVirtTx.is h) (λ taken sent h. h) c.step-in-SerialVirtTx.ensures.stepped
+returns-in-SerialVirtTx-clause-stepped g c = as_actor TxStandsFor _ _ _ _ _ _ _ _ (λ passed h. subst (λ a. ActorStandsFor a passed) c.in-SerialVirtTx.is h) (λ passed h. h) c.step-in-SerialVirtTx.ensures.stepped

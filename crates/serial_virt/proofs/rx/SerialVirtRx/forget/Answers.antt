@@ -20,7 +20,7 @@ returns-clause-fits c = λ ends h.
     }
 
 pub returns-clause-lists : goal.returns-clause-lists
-returns-clause-lists c = λ taken sent h.
+returns-clause-lists c = λ passed h.
     let stay = outlets_stay c.args.self.now.outputs.ends.items c.forget_outputs.new.outputs.ends.items c.forget_outputs.ensures in
     record {
       switched = rw (c.forget.ensures, stay) h.switched;

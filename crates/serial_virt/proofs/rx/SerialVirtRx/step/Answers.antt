@@ -1,7 +1,6 @@
 use Rattle.std.proofs.Common.{◌-◌, arith, refl, sym, subst}
 use Rattle.serial_virt.specs.Receiving.{RxStandsFor}
 use Rattle.serial_virt.proofs.Rounds.{rx_turned, rx_input_turned}
-use Rattle.serial_virt.proofs.Sharing.{rx_row}
 use Rattle.serial_virt.proofs.rx.SerialVirtRx.step.Goals as goal
 
 pub returns-then-place-eq0-clause-turned : goal.returns-then-place-eq0-clause-turned
@@ -10,19 +9,13 @@ returns-then-place-eq0-clause-turned g c = rx_input_turned c.args.self.now c.cho
 pub returns-else-place-eq0-clause-turned : goal.returns-else-place-eq0-clause-turned
 returns-else-place-eq0-clause-turned g c = rx_turned c.args.self.now c.choose-place.new.self c.step_output.new.self _ c.step_output.result c.choose-place.result (c.choose-place.result - 1) c.choose-place.ensures.after c.choose-place.ensures.place (omega arith) (omega (arith, c.choose-place.ensures.within)) c.step_output.ensures.posted c.step_output.ensures.input c.step_output.ensures.still c.step_output.ensures.to c.step_output.ensures.queues c.step_output.ensures.turn refl
 
-pub returns-then-place-eq0-clause-row : goal.returns-then-place-eq0-clause-row
-returns-then-place-eq0-clause-row g c = rx_row _
-
-pub returns-else-place-eq0-clause-row : goal.returns-else-place-eq0-clause-row
-returns-else-place-eq0-clause-row g c = rx_row _
-
 pub returns-then-place-eq0-clause-stepped : goal.returns-then-place-eq0-clause-stepped
 returns-then-place-eq0-clause-stepped g c =
     let s = c.step_input.ensures.stepped in
     record {
       body = s.body;
       happened = s.happened;
-      kept = λ taken sent h. s.kept taken sent (subst (λ v. RxStandsFor v taken sent) (sym c.choose-place.ensures.after) (record { switched = h.switched; to = h.to; given = h.given }));
+      kept = λ passed h. s.kept passed (subst (λ v. RxStandsFor v passed) (sym c.choose-place.ensures.after) (record { switched = h.switched; to = h.to; given = h.given }));
     }
 
 pub returns-else-place-eq0-clause-stepped : goal.returns-else-place-eq0-clause-stepped
@@ -31,5 +24,5 @@ returns-else-place-eq0-clause-stepped g c =
     record {
       body = s.body;
       happened = s.happened;
-      kept = λ taken sent h. s.kept taken sent (subst (λ v. RxStandsFor v taken sent) (sym c.choose-place.ensures.after) (record { switched = h.switched; to = h.to; given = h.given }));
+      kept = λ passed h. s.kept passed (subst (λ v. RxStandsFor v passed) (sym c.choose-place.ensures.after) (record { switched = h.switched; to = h.to; given = h.given }));
     }

@@ -20,4 +20,4 @@ returns-clause-fits c = λ ends h.
     }
 
 pub returns-clause-lists : goal.returns-clause-lists
-returns-clause-lists c = λ taken sent h. rw (c.forget.ensures, intakes_stay c.args.self.now.inputs.ends.items c.forget_inputs.new.inputs.ends.items c.forget_inputs.ensures) h
+returns-clause-lists c = λ passed h. rw (c.forget.ensures, intakes_stay c.args.self.now.inputs.ends.items c.forget_inputs.new.inputs.ends.items c.forget_inputs.ensures) h

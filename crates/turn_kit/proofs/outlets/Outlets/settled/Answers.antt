@@ -1,8 +1,10 @@
-use Rattle.turn_kit.proofs.Offers.{outlet_stop, outlet_go}
+use Rattle.turn_kit.specs.Posts.{outlet_post}
+use Rattle.turn_kit.specs.declared.ends.Outlet.{Outlet}
+use Rattle.turn_kit.proofs.Offers.{end_stop, end_go}
 use Rattle.turn_kit.proofs.outlets.Outlets.settled.Goals as goal
 
 pub returns-then-not-settled : goal.returns-then-not-settled
-returns-then-not-settled c = outlet_stop c.loop-k.k _ c.args.self.now.ends.items _ c.args.loaded c.settled.result c.eq.result c.deref-end-items.ensures.value c.loop-k-test.true c.settled.ensures c.eq.ensures _ c.if-not-settled.true c.loop-k.invariant
+returns-then-not-settled g c = end_stop outlet_post (λ (x : Outlet). x.queue) c.loop-k.k _ c.args.self.now.ends.items _ (g.N.Needs.need c.args.loads.now) c.settled.result c.at.result c.deref-end-items.ensures.value c.loop-k-test.true c.settled.ensures c.at.ensures _ c.if-not-settled.true c.loop-k.invariant
 
 pub loop-k-preserved : goal.loop-k-preserved
-loop-k-preserved c = outlet_go c.loop-k.k _ c.args.self.now.ends.items _ c.args.loaded c.settled.result c.eq.result c.deref-end-items.ensures.value c.loop-k-test.true c.settled.ensures c.eq.ensures _ c.if-not-settled.false c.loop-k.invariant
+loop-k-preserved g c = end_go outlet_post (λ (x : Outlet). x.queue) c.loop-k.k _ c.args.self.now.ends.items _ (g.N.Needs.need c.args.loads.now) c.settled.result c.at.result c.deref-end-items.ensures.value c.loop-k-test.true c.settled.ensures c.at.ensures _ c.if-not-settled.false c.loop-k.invariant
