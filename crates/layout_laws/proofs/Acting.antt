@@ -1,4 +1,4 @@
-use Rattle.std.proofs.Common.{◌≡◌, ℕ, zero, suc, inl, inr, Bool, true, false, cond, not, List, [], ◌∷◌, ◌++◌, map, filter, flat_map, Some, slice_get, codes, refl, ap, sym, ◌∙◌, subst, arith}
+use Rattle.std.proofs.Common.{◌≡◌, ◌<◌, ◌≤◌, ℕ, zero, suc, inl, inr, Bool, true, false, cond, not, List, [], ◌∷◌, ◌++◌, map, filter, flat_map, Some, slice_get, codes, refl, ap, sym, ◌∙◌, subst, arith}
 use Rattle.std.specs.List.{All}
 use Rattle.std.specs.Option.{option_and_then}
 use Rattle.std.specs.Str.{bytes_eq}
@@ -25,12 +25,13 @@ use Rattle.sdf_check.proofs.ListLemmas.{get-left}
 use Rattle.sdf_check.proofs.NamedLemmas.{named-none}
 use Rattle.sdf_check.proofs.SoughtLemmas.{here-some, some-here, none-here}
 use Rattle.sdf_check.proofs.SweepLemmas.{some-inj}
-use Rattle.region_layout.specs.Rows.{acts, devices_of, actors_of, actor_named}
+use Rattle.region_layout.specs.Rows.{acts, devices_of, actors_of, actor_named, acting_count}
 use Rattle.region_layout.proofs.WalkLemmas.{IsIn, kept, net_walked, net_client_walked, serial_walked, serial_client_walked, blk_walked, blk_client_walked}
 use Rattle.region_layout.proofs.ValidLemmas.{not_of, not_of_part}
 use Rattle.layout_laws.specs.Sound.{IsActor}
-use Rattle.layout_laws.proofs.Lists.{option_cases, all-names, all-class}
-use Rattle.layout_laws.proofs.Found.{found-at}
+use Rattle.std.proofs.lemmas.List.{length-map}
+use Rattle.layout_laws.proofs.Lists.{option_cases, get-below, all-names, all-class}
+use Rattle.layout_laws.proofs.Found.{found-at, found-first}
 
 abbrev acting_names : List Domain → List (List ℕ)
 acting_names domains = map (λ (d : Domain). d.name) (filter acts domains)
@@ -69,17 +70,18 @@ acting-there (x ∷ xs) zero domain at acting =
     here (acts x) x (filter acts xs) domain runs same
 acting-there (x ∷ xs) (suc d) domain at acting = after (acts x) x (filter acts xs) domain.name (acting-there xs d domain at acting)
 
--- a name that stands among those of the actors is that of the actor of its number
-number-there : (plan : Plan) (name : List ℕ) → IsIn name (actors_of plan) → IsActor plan name
-unfolding actor_named
-number-there plan name there = elim (option_cases (place_of name (actors_of plan))) [
-  | inl none ↦ absurd (named-none name (actors_of plan) none (there.0, here-some (slice_get (actors_of plan) there.0) name (λ other. other ≡ name) there.1 refl))
-  | inr some ↦ rw some.1 (found-at name (actors_of plan) some.0 some.1).1
-]
-
-from-acting : (plan : Plan) (name : List ℕ) → IsIn name (acting_names plan.protection_domain) → IsIn name (actors_of plan)
-unfolding actors_of
-from-acting plan name there = (there.0, get-left (acting_names plan.protection_domain) (devices_of plan) there.0 name there.1)
+-- a name that stands among those of the domains that act is that of the actor of its number, which is none of the devices
+number-there : (plan : Plan) (name : List ℕ) → IsIn name (acting_names plan.protection_domain) → IsActor plan name
+unfolding actor_named actors_of
+number-there plan name there =
+    let among : slice_get (actors_of plan) there.0 ≡ Some name = get-left (acting_names plan.protection_domain) (devices_of plan) there.0 name there.1 in
+    let below : there.0 < acting_count plan = rw (← length-map (filter acts plan.protection_domain) (λ (d : Domain). d.name)) (get-below (acting_names plan.protection_domain) there.0 name there.1) in
+    elim (option_cases (place_of name (actors_of plan))) [
+      | inl none ↦ absurd (named-none name (actors_of plan) none (there.0, here-some (slice_get (actors_of plan) there.0) name (λ other. other ≡ name) among refl))
+      | inr some ↦
+          let first : some.0 ≤ there.0 = found-first name (actors_of plan) some.0 there.0 some.1 among in
+          rw some.1 ((found-at name (actors_of plan) some.0 some.1).1, let less : some.0 < acting_count plan = omega (arith, first, below) in less)
+    ]
 
 not-false : (b : Bool) → not b ≡ false → b ≡ true
 not-false true h = refl
@@ -103,7 +105,7 @@ role-acts plan name role plays = elim (option_cases (domain_named plan name)) [
   | inl none ↦ absurd (plays (λ p. none-here (the_domain plan name) (λ (x : Domain). IsProgramOf role x.program) (ap (option_and_then (λ d. slice_get plan.protection_domain d)) none) p))
   | inr some ↦ elim (option_cases (slice_get plan.protection_domain some.0)) [
     | inl none ↦ absurd (plays (λ p. none-here (the_domain plan name) (λ (x : Domain). IsProgramOf role x.program) (ap (option_and_then (λ d. slice_get plan.protection_domain d)) some.1 ∙ none) p))
-    | inr domain ↦ number-there plan name (from-acting plan name (acts-or-plays-nothing plan name role some.0 domain.0 some.1 domain.1 plays (acts domain.0) refl))
+    | inr domain ↦ number-there plan name (acts-or-plays-nothing plan name role some.0 domain.0 some.1 domain.1 plays (acts domain.0) refl)
   ]
 ]
 

@@ -1,4 +1,4 @@
-use Rattle.std.proofs.Common.{◌≡◌, ℕ, ◌<◌, ◌≤◌, ⊎_elim, List, length, get_or, Some, slice_get, ap, ◌∙◌, true, false}
+use Rattle.std.proofs.Common.{◌≡◌, ℕ, ◌<◌, ◌≤◌, ⊎_elim, List, length, get_or, Some, slice_get, sym, ap, ◌∙◌, true, false, arith}
 use Rattle.std.specs.Option.{option_and_then}
 use Rattle.std.proofs.lemmas.Bool.{cases_lt}
 use Rattle.std.proofs.lemmas.Option.{slice_get-get_or}
@@ -20,6 +20,22 @@ found-at name names at is =
     let found : (at < length names) × (bytes_eq (get_or names at name) name ≡ true) × ((k : ℕ) → k < at → bytes_eq (get_or names k name) name ≡ false)
     = position-Some (λ other. bytes_eq other name) names at name is in
     (found.0, slice_get-get_or names at name found.0 ∙ ap Some ((bytes_eq-Decides (get_or names at name) name).0 found.1))
+
+-- and nowhere before it
+pub found-first : (name : List ℕ) (names : List (List ℕ)) (at j : ℕ) → place_of name names ≡ Some at → slice_get names j ≡ Some name → at ≤ j
+found-first name names at j is there = ⊎_elim (λ (before : j < at). absurd (differs before)) (λ (behind : at ≤ j). behind) (cases_lt j at)
+  where
+    found : (at < length names) × (bytes_eq (get_or names at name) name ≡ true) × ((k : ℕ) → k < at → bytes_eq (get_or names k name) name ≡ false)
+    found = position-Some (λ other. bytes_eq other name) names at name is
+
+    differs : j < at → ⊥
+    differs before =
+        let inside = found.0 in
+        let within : j < length names = omega (arith, before, inside) in
+        let same : get_or names j name ≡ name = let e : Some (get_or names j name) ≡ Some name = sym (slice_get-get_or names j name within) ∙ there in cc in
+        let no : bytes_eq (get_or names j name) name ≡ false = found.2 j before in
+        let yes : bytes_eq (get_or names j name) name ≡ true = (bytes_eq-Decides (get_or names j name) name).1 same in
+        let e : true ≡ false = sym yes ∙ no in cc
 
 -- the region of a name, which is as large as it has to be
 pub large-region : (plan : Plan) (key : List ℕ) (need r : ℕ) → (IsSmaller plan (key, need) → ⊥) → region_named plan key ≡ Some r

@@ -11,7 +11,7 @@ use Rattle.sdf_check.specs.ClassRules.{class_regions, net_names, serial_names, b
 use Rattle.sdf_check.proofs.ListLemmas.{get-left, get-right}
 
 -- a name of a client among those of all clients, of which each has as many
-flat-at : {C : Type 0} (names : C → List (List ℕ)) (many : ℕ) (times : ℕ → ℕ) (clients : List C) (c i : ℕ) (client : C) (name : List ℕ) → ((x : C) → length (names x) ≡ many)
+pub flat-at : {C : Type 0} (names : C → List (List ℕ)) (many : ℕ) (times : ℕ → ℕ) (clients : List C) (c i : ℕ) (client : C) (name : List ℕ) → ((x : C) → length (names x) ≡ many)
     → times 0 ≡ 0 → ((k : ℕ) → times (suc k) ≡ many + times k) → slice_get clients c ≡ Some client → slice_get (names client) i ≡ Some name
     → slice_get (flat_map names clients) (times c + i) ≡ Some name
 flat-at names many times [] c i client name counts none steps there at = cc

@@ -7,3 +7,5 @@ pub mod Once
 pub mod Ranges
 pub mod Keys
 pub mod Spreads
+pub mod Owners
+pub mod Rooms

@@ -3,6 +3,8 @@ use Rattle.layout_laws.proofs.Pools.{pools_sound}
 use Rattle.layout_laws.proofs.Acting.{class_acts}
 use Rattle.layout_laws.proofs.Once.{regions_once, domains_once}
 use Rattle.layout_laws.proofs.Spreads.{rows_apart}
+use Rattle.layout_laws.proofs.Owners.{queues_owned}
+use Rattle.layout_laws.proofs.Rooms.{has_rooms}
 use Rattle.layout_laws.proofs.layout_law.Goals as goal
 
 pub returns-clause-queues : goal.returns-clause-queues
@@ -22,3 +24,9 @@ returns-clause-regions c = regions_once
 
 pub returns-clause-apart : goal.returns-clause-apart
 returns-clause-apart c = rows_apart
+
+pub returns-clause-owners : goal.returns-clause-owners
+returns-clause-owners c = queues_owned
+
+pub returns-clause-rooms : goal.returns-clause-rooms
+returns-clause-rooms c = has_rooms

@@ -1,0 +1,5 @@
+pub mod Places
+pub mod Actors
+pub mod Weights
+pub mod Counts
+pub mod Most
