@@ -7,4 +7,4 @@ mod rows;
 mod tests;
 
 pub use hand::{get, give};
-pub use rows::queues;
+pub use rows::{one_or_two, queues};

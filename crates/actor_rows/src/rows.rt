@@ -1,6 +1,7 @@
 //! Rows of queues of bytes for one actor, as a layout would give them.
 
 ghost use Rattle.std.specs.Prelude.{◌≡◌, IfOk};
+ghost use Rattle.wire_core.specs.Sizes.{IsCapacity};
 ghost use Rattle.actor_rows.specs.Hands.{AreByteQueues};
 
 use cargo_core::{Memory, QueueKind, Text};
@@ -9,7 +10,8 @@ use std::alloc::Global;
 use wire_core::{ActorId, QueueRow};
 
 fn row(alloc: Global, capacity: u32) -> Result<QueueRow, Memory>
-    ensures { IfOk result (λ r. r.kind ≡ QueueKind.Byte) }
+    ensures kind { IfOk result (λ r. r.kind ≡ QueueKind.Byte) }
+    ensures capacity { IfOk result (λ r. r.capacity ≡ capacity) }
 {
     Ok(QueueRow {
         name: Text::new(alloc, "queue")?,
@@ -22,9 +24,17 @@ fn row(alloc: Global, capacity: u32) -> Result<QueueRow, Memory>
     })
 }
 
+/// One or two entries, the smallest capacities.
+pub fn one_or_two(two: bool) -> u32
+    ensures { IsCapacity result }
+{
+    if two { 2 } else { 1 }
+}
+
 /// So many queues of bytes in their start state, each of which holds up to `capacity` of them.
 #[tactic(auto, using(crate::proofs::Started::byte_queues))]
 pub fn queues(alloc: Global, count: u16, capacity: u32) -> Result<World, Memory>
+    requires { IsCapacity capacity }
     ensures { IfOk result (λ w. AreByteQueues count w) }
 {
     let mut rows = Vec::new(alloc);

@@ -5,7 +5,7 @@ ghost use Rattle.serial_virt.specs.Receiving.{IsNewRx};
 ghost use Rattle.serial_virt.specs.Sending.{IsNewTx};
 ghost use Rattle.actor_rows.specs.Standings.{DriverStands, RxStands, TxStands, eight, queue};
 
-use crate::{get, give, queues};
+use crate::{get, give, one_or_two, queues};
 use cargo_core::{Item, Memory};
 use plain_wires::World;
 use serial_virt::{SerialVirtRx, SerialVirtTx};
@@ -71,7 +71,7 @@ fn hear(virt: &mut SerialVirtRx, world: &mut World, client: u16) -> Option<Item>
 #[test]
 fn each_of_eight_clients_gets_its_byte(rt: HostRuntime) -> Result<(), Memory> {
     let alloc = rt.alloc();
-    let mut wires = queues(alloc, 9, 1)?;
+    let mut wires = queues(alloc, 9, one_or_two(false))?;
     let mut virt = sharer(alloc)?;
     for client in 0..8u8 {
         for byte in [28, b'0' + client, 13, b'a' + client] {
@@ -93,7 +93,7 @@ fn each_of_eight_clients_gets_its_byte(rt: HostRuntime) -> Result<(), Memory> {
 #[test]
 fn a_byte_waits_until_its_client_has_room(rt: HostRuntime) -> Result<(), Memory> {
     let alloc = rt.alloc();
-    let mut wires = queues(alloc, 9, 1)?;
+    let mut wires = queues(alloc, 9, one_or_two(false))?;
     let mut virt = sharer(alloc)?;
     for byte in b"\x1c1\rh\x1c\x1ci" {
         assert!(rt; say(&mut virt, &mut wires, *byte));
@@ -139,7 +139,7 @@ fn collect(virt: &mut SerialVirtTx, world: &mut World) -> Option<Item>
 #[test]
 fn the_bytes_of_eight_clients_all_come_out(rt: HostRuntime) -> Result<(), Memory> {
     let alloc = rt.alloc();
-    let mut wires = queues(alloc, 9, 1)?;
+    let mut wires = queues(alloc, 9, one_or_two(false))?;
     let mut virt = merger(alloc)?;
     for client in 0..8u8 {
         assert!(rt; offer(&mut virt, &mut wires, client as u16, b'a' + client));
@@ -184,8 +184,9 @@ fn drain(driver: &mut UartDriver, world: &mut World) -> Option<Item>
 #[test]
 fn bytes_pass_the_driver_in_order(rt: HostRuntime) -> Result<(), Memory> {
     let alloc = rt.alloc();
-    for (capacity, fit) in [(1, 3), (2, 5)] {
-        let mut wires = queues(alloc, 4, capacity)?;
+    for two in [false, true] {
+        let mut wires = queues(alloc, 4, one_or_two(two))?;
+        let fit = if two { 5 } else { 3 };
         let mut driver = UartDriver::new(QueueId(0), QueueId(1), QueueId(2), QueueId(3));
         for byte in 0..8u8 {
             assert!(rt; feed(&mut driver, &mut wires, byte) == (byte < fit));

@@ -2,6 +2,7 @@
 ghost use Rattle.std.specs.Prelude.{◌≡◌, ◌<◌, length, IfOk};
 ghost use Rattle.wire_core.specs.Ends.{Producer};
 ghost use Rattle.wire_core.specs.Queues.{end_at};
+ghost use Rattle.wire_core.specs.Sizes.{IsCapacity};
 
 use crate::World;
 use cargo_core::{Body, Item, QueueKind, Text};
@@ -12,7 +13,8 @@ use wire_core::{ActorId, QueueId, QueueRow, Ringer, Side, Waiter, Wires};
 const Q: QueueId = QueueId(0);
 
 fn row(alloc: Global, capacity: u32) -> Result<QueueRow, Fail>
-    ensures { IfOk result (λ r. r.kind ≡ QueueKind.Byte) }
+    ensures kind { IfOk result (λ r. r.kind ≡ QueueKind.Byte) }
+    ensures capacity { IfOk result (λ r. r.capacity ≡ capacity) }
 {
     Ok(QueueRow {
         name: Text::new(alloc, "uart.tx")?,
@@ -125,18 +127,29 @@ fn wake(world: &mut World, side: Side) -> bool
     world.wake(Q, side)
 }
 
-fn one_queue(alloc: Global, capacity: u32) -> Result<World, Fail>
+// 1, 2, and the largest capacity.
+fn capacity(size: u8) -> u32
+    ensures { IsCapacity result }
+{
+    match size {
+        0 => 1,
+        1 => 2,
+        _ => 32_768,
+    }
+}
+
+fn one_queue(alloc: Global, size: u8) -> Result<World, Fail>
     ensures len { IfOk result (λ w. length w ≡ 1) }
     ensures kind { IfOk result (λ w. (end_at w Producer 0).kind ≡ QueueKind.Byte) }
 {
-    let rows = [row(alloc, capacity)?];
+    let rows = [row(alloc, capacity(size))?];
     Ok(World::new(alloc, &rows)?)
 }
 
 #[test]
 fn a_consumer_that_asked_is_notified_once(rt: HostRuntime) -> Result<(), Fail> {
-    for capacity in [1, 2] {
-        let mut world = one_queue(rt.alloc(), capacity)?;
+    for size in [0, 1] {
+        let mut world = one_queue(rt.alloc(), size)?;
         assert_eq!(rt; see(&mut world), Some(false));
         assert_eq!(rt; ask(&mut world, Side::Forward), Some(()));
         assert_eq!(rt; see(&mut world), Some(false));
@@ -151,7 +164,7 @@ fn a_consumer_that_asked_is_notified_once(rt: HostRuntime) -> Result<(), Fail> {
         assert_eq!(rt; take(&mut world), Some(Item::Byte(97)));
         assert_eq!(rt; put(&mut world, 98), Some(true));
         assert_eq!(rt; signal(&mut world, Side::Forward), Some(false));
-        assert_eq!(rt; put(&mut world, 99), Some(capacity == 2));
+        assert_eq!(rt; put(&mut world, 99), Some(size == 1));
         assert_eq!(rt; take(&mut world), Some(Item::Byte(98)));
     }
     Ok(())
@@ -159,7 +172,7 @@ fn a_consumer_that_asked_is_notified_once(rt: HostRuntime) -> Result<(), Fail> {
 
 #[test]
 fn a_producer_that_asked_for_room_is_notified(rt: HostRuntime) -> Result<(), Fail> {
-    let mut world = one_queue(rt.alloc(), 1)?;
+    let mut world = one_queue(rt.alloc(), 0)?;
     assert_eq!(rt; put(&mut world, 1), Some(true));
     assert_eq!(rt; room(&mut world), Some(false));
     assert_eq!(rt; ask(&mut world, Side::Backward), Some(()));
@@ -176,7 +189,7 @@ fn a_producer_that_asked_for_room_is_notified(rt: HostRuntime) -> Result<(), Fai
 
 #[test]
 fn the_largest_queue_is_filled_and_emptied(rt: HostRuntime) -> Result<(), Fail> {
-    let mut world = one_queue(rt.alloc(), 32_768)?;
+    let mut world = one_queue(rt.alloc(), 2)?;
     let mut byte = 0u8;
     for _ in 0..32_768 {
         assert_eq!(rt; put(&mut world, byte), Some(true));

@@ -1,4 +1,5 @@
 ghost use Rattle.std.specs.Prelude.{◌≡◌, ◌<◌, ◌≤◌, ◌^◌, length, map, All, IfOk, IfSome, OnOk, slice_get, Some};
+ghost use Rattle.wire_core.specs.Sizes.{AreSized};
 ghost use Rattle.wire_core.specs.Queues.{Happens, bell_of, queue_at, end_at, starts, is_pending};
 ghost use Rattle.plain_wires.specs.Pendings.{IsCounted};
 
@@ -56,6 +57,7 @@ fn none_pending(alloc: Global, rows: &[QueueRow]) -> Result<Vec<u64>, Memory>
 impl World {
     /// Every queue in its start state, with its room taken. Memory is the answer for want of memory alone.
     pub fn new(alloc: Global, rows: &[QueueRow]) -> Result<World, Memory>
+        requires { AreSized rows.now }
         ensures { IfOk result (λ w. w ≡ starts rows.now) }
     {
         let mut lines = Vec::with_capacity(alloc, rows.len())?;

@@ -27,7 +27,7 @@ use Rattle.system_core.proofs.PartEnds.{PartEnd, to_part, from_part, number_ther
 use Rattle.system_core.proofs.WalkPlaces.{Stands}
 use Rattle.system_core.proofs.Apart.{one_place}
 use Rattle.system_core.proofs.QueuePlaces.{has_places}
-use Rattle.system_core.proofs.Named.{Peer, peer_number, peers, role_peers, pd_of, peers_differ, device_acts, role_is_actor, not_role, one_peer, number_below, who}
+use Rattle.system_core.proofs.Named.{client_count, Peer, peer_number, peers, role_peers, pd_of, peers_differ, device_acts, role_is_actor, not_role, one_peer, number_below, who}
 use Rattle.system_core.proofs.Seconds.{second_get, second_apart, second_there}
 use Rattle.system_core.proofs.SerialRows.{seats_0, seats_1, seats_2, seats_3, seats_rx, seats_tx, owner_named, row_count}
 
@@ -291,6 +291,7 @@ module _ (plan : Plan) (valid : Valid plan) (serial : Serial) (net : plan.net �
       ends = λ k x at n row there r own. let c = cast.each k x at in from_part x r n (subst (λ p. PartEnd p r n) (sym c.part) (row_end n k r row c.job there own c.has));
       split = λ k x at n a b. let c = cast.each k x at in job_split count trace c.job n (subst (λ p. PartEnd p Consumer n) c.part (to_part x Consumer n a)) (subst (λ p. PartEnd p Producer n) c.part (to_part x Producer n b));
       places = has_places plan valid;
+      numbered = let size : length rows ≡ 4 + 2 * count = row_count plan serial net blk has in let c = client_count plan valid serial net blk has in let most : count ≤ 8 = c.1 in omega (arith, size, most);
       peers = λ m row at r. let o = owner_named plan serial net blk has m row at r in
           let e : owner_of row r ≡ number o.0 = o.1 in
           let lt = number_below plan valid serial net blk has o.0 in

@@ -123,6 +123,7 @@ module _ (plan : Plan) (valid : Valid plan) (net : plan.net ≡ None) (blk : pla
         ends = λ k x at. cc;
         split = λ k x at. cc;
         places = λ n row at. cc;
+        numbered = omega arith;
         peers = λ n row at. cc;
         few = omega arith;
       })

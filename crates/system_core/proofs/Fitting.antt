@@ -1,8 +1,10 @@
-use Rattle.std.proofs.Common.{◌≡◌, ◌<◌, ℕ, Some, List, length, map, slice_get, refl, sym, subst}
+use Rattle.std.proofs.Common.{◌≡◌, ◌<◌, ◌≤◌, ℕ, Some, List, All, get_or, length, map, slice_get, refl, sym, subst}
 use Rattle.std.proofs.lemmas.List.{length-map}
+use Rattle.std.proofs.lemmas.Option.{slice_get-get_or}
 use Rattle.wire_core.specs.declared.names.QueueRow.{QueueRow}
-use Rattle.wire_core.specs.Ends.{Role, Consumer, Producer}
+use Rattle.wire_core.specs.Ends.{Consumer, Producer}
 use Rattle.wire_core.specs.Journal.{owner_of}
+use Rattle.wire_core.specs.Sizes.{IsCapacity, AreSized}
 use Rattle.play_core.specs.Moved.{Seat}
 use Rattle.play_core.specs.Sheets.{Scene, IsSeat}
 use Rattle.play_core.proofs.Lists.{map_from, there_is}
@@ -15,6 +17,13 @@ use Rattle.system_core.specs.States.{begun}
 use Rattle.system_core.specs.Seats.{AreSeated}
 use Rattle.system_core.specs.Lawful.{IsFitted}
 use Rattle.system_core.proofs.PartEnds.{PartEnd, to_part, from_part, end_seat, seat_end}
+
+-- the queues have sizes that wires take
+capacities : (rows : List QueueRow) → ((n : ℕ) (row : QueueRow) → slice_get rows n ≡ Some row → IsCapacity row.capacity) → All (λ row. IsCapacity row.capacity) rows
+capacities rows places = λ k d lt. places k (get_or rows k d) (slice_get-get_or rows k d lt)
+
+pub are_sized : (rows : List QueueRow) → length rows ≤ 65536 → ((n : ℕ) (row : QueueRow) → slice_get rows n ≡ Some row → IsCapacity row.capacity) → AreSized rows
+are_sized rows few places = record { few = few; capacities = capacities rows places }
 
 -- seated actors fit the rows
 module _ (rows : List QueueRow) (actors : List Actor) (serial : Crew) (s : AreSeated rows actors) where

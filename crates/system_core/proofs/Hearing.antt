@@ -59,6 +59,7 @@ module _ (a : Inside) (i : IsSystem a) where
       bells_hold = bells_hold (hostile_in (setting_of a)) (setting_of a).history a.rows.items a.journal.items (starts_hold (hostile_in (setting_of a)) a.rows.items) i.holds.legal;
       flows = queues_flow (hostile_in (setting_of a)) (setting_of a).history a.rows.items a.journal.items (starts_flow (hostile_in (setting_of a)) a.rows.items) i.holds.legal;
       rows_hold = i.rows_hold;
+      brisk = i.brisk;
     };
     told = told;
   }

@@ -3,6 +3,7 @@ pub mod Places
 pub mod Rising
 pub mod Beside
 pub mod PartEnds
+pub mod Paces
 pub mod SystemStep
 pub mod Playing
 pub mod RowsNow

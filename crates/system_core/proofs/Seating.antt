@@ -33,6 +33,7 @@ use Rattle.actor_set.specs.declared.actor.Actor.TheVariants as Kinds
 use Rattle.system_core.specs.Seats.{IsNew, HasApartEnds, HasSeat, AreSeated}
 use Rattle.system_core.specs.Starts.{AreStarting}
 use Rattle.system_core.proofs.SystemStep.{some_eq}
+use Rattle.system_core.proofs.Paces.{start_round}
 use Rattle.play_core.proofs.Lists.{map_get, map_from}
 
 abbrev start_end : Role → End
@@ -162,6 +163,7 @@ seated_start rows actors s = record {
   fits = λ k x at. new_fits rows k x (s.new k x at) (s.apart k x at) (s.seats k x at);
   stands = λ k x at. new_stands x (s.new k x at);
   owners = λ k x at r n own row there. let seat = s.seats k x at r n own in ap (λ q. owner_of q r) (some_eq (sym there ∙ seat.there)) ∙ seat.owner;
+  rounds = λ k x at. start_round x (s.apart k x at) (s.split k x at);
   peers = s.peers;
   few = s.few;
 }

@@ -7,6 +7,8 @@ use Rattle.wire_core.specs.Queues.{Queue, starts, queue_at, is_pending}
 use Rattle.wire_core.specs.Journal.{start_track, start_history, IsShown}
 use Rattle.wire_core.proofs.BellTheorem.{start_is}
 use Rattle.turn_kit.specs.Turns.{is_at_rest}
+use Rattle.turn_kit.specs.Pace.{pendings}
+use Rattle.turn_kit.proofs.Pacing.{paced_anew}
 use Rattle.actor_set.specs.Actors.{actor_round, part_of}
 use Rattle.actor_set.specs.declared.actor.Actor.{Actor}
 use Rattle.play_core.specs.Runs.{is_runnable, flags_from, places_from, if_so}
@@ -48,6 +50,7 @@ start_holds rows actors s = record {
   fits = s.fits;
   stands = s.stands;
   owners = s.owners;
+  paced = λ k x at. paced_anew (pendings (start_history rows) []) (actor_round x) (s.rounds k x at);
   peers = s.peers;
   few = s.few;
   legal = tt;

@@ -1,4 +1,4 @@
-use Rattle.std.proofs.Common.{◌≡◌, ◌≢◌, ◌⊎◌, ◌<◌, ◌≤◌, ◌+◌, ℕ, Bool, true, false, not, ◌&&◌, Option, Some, None, List, [], ◌∷◌, ◌++◌, length, length-set, slice_get, slice_set, slice_index_or, map, subst, refl, sym, ap, ◌∙◌, arith, inl, inr, zero, suc}
+use Rattle.std.proofs.Common.{◌≡◌, ◌≢◌, ◌⊎◌, ◌<◌, ◌≤◌, ◌+◌, ℕ, Bool, true, false, not, ◌&&◌, ◌||◌, Option, Some, None, List, [], ◌∷◌, ◌++◌, length, length-set, slice_get, slice_set, slice_index_or, map, subst, refl, sym, ap, ◌∙◌, arith, inl, inr, zero, suc}
 use Rattle.std.proofs.lemmas.List.{length-map}
 use Rattle.std.proofs.lemmas.Option.{slice_get_read}
 use Rattle.wire_core.specs.declared.names.QueueRow.{QueueRow}
@@ -10,11 +10,14 @@ use Rattle.wire_core.specs.Queues.{Queue, Happens, end_at, is_pending}
 use Rattle.wire_core.specs.Journal.{History, Hostiles, EachMoment, owner_of}
 use Rattle.wire_core.proofs.Tracks.{EachFrom-append}
 use Rattle.wire_core.proofs.Places.{slice_get_written}
-use Rattle.turn_kit.specs.Turns.{is_at_rest}
+use Rattle.wire_core.specs.Marks.{no_drops, since, calls_at, AreFew, Brisk}
+use Rattle.turn_kit.specs.Turns.{Turned, is_at_rest}
+use Rattle.turn_kit.specs.Pace.{pendings, IsCalled}
+use Rattle.turn_kit.proofs.Playing.{pace_few}
 use Rattle.play_core.specs.Moved.{moved}
-use Rattle.play_core.specs.Wants.{Want, Needful}
+use Rattle.play_core.specs.Wants.{Want, Needful, all_settled}
 use Rattle.play_core.specs.Sheets.{Scene, AreSeated, needful, RowsHold}
-use Rattle.play_core.specs.Runs.{is_runnable, flags_from, places_from, runnable, rung_at}
+use Rattle.play_core.specs.Runs.{called_from, is_runnable, flags_from, places_from, runnable, rung_at}
 use Rattle.play_core.proofs.Lists.{map_get, there_is}
 use Rattle.play_core.proofs.Flags.{differs_at, differs_twice, flag_at, flags_length, runnable_rung, rung_owns}
 use Rattle.play_core.proofs.Tables.{others_run}
@@ -29,7 +32,9 @@ use Rattle.system_core.specs.Systems.{Holds}
 use Rattle.system_core.proofs.Calm.{calm_actor, sheet_own}
 use Rattle.system_core.proofs.RowsNow.{rows_now}
 use Rattle.system_core.proofs.SystemStep.{step_holds, map_same, entry_of, some_eq}
-use Rattle.system_core.proofs.RunsNow.{idle_here}
+use Rattle.system_core.proofs.RunsNow.{idle_here, rests_here}
+use Rattle.system_core.proofs.PartEnds.{from_part, seat_end}
+use Rattle.system_core.proofs.Paces.{called_end, nobody_since}
 use Rattle.system_core.proofs.Places.{places_set, places_clear, places_so, places_below, places_few}
 
 set_same : (xs : List Bool) (k : ℕ) (b : Bool) → slice_get xs k ≡ Some b → slice_set xs k b ≡ xs
@@ -92,7 +97,7 @@ module _ (history : History) (rows : List QueueRow) (cast : List Part) where
   running_few room le j = let f : length (places_from 0 (flags j)) ≤ length (flags j) = places_few 0 (flags j) in let g : length (flags j) ≡ length cast = flags_count j in omega arith
 
 -- actor k, which is x, makes the call of event e on a queue of this row, and is then x'
-module _ (history : History) (rows : List QueueRow) (w v : List Queue) (actors : List Actor) (journal : List Entry) (k : ℕ) (x x' : Actor) (e : Event) (row : QueueRow) (here : slice_get actors k ≡ Some x) (old : Holds history rows w actors journal) (seated : AreSeated (sheet (scene_of (map part_of actors))) rows (map part_of actors)) (own : ActorEnd x (role_of e.op) e.queue.0) (st : Stepped ActorStandsFor Happens w v x x' e) (fits : FitsActor (end_at v) x') (part : part_of x' ≡ part_of x) (there : slice_get rows e.queue.0 ≡ Some row) where
+module _ (history : History) (rows : List QueueRow) (w v : List Queue) (actors : List Actor) (journal : List Entry) (k : ℕ) (x x' : Actor) (e : Event) (row : QueueRow) (here : slice_get actors k ≡ Some x) (old : Holds history rows w actors journal) (seated : AreSeated (sheet (scene_of (map part_of actors))) rows (map part_of actors)) (own : ActorEnd x (role_of e.op) e.queue.0) (st : Stepped ActorStandsFor Happens w v x x' e) (turned : Turned (actor_round x) e (actor_round x')) (pressed : is_at_rest (actor_round x) ≡ true → IsCalled (pendings history journal) (actor_round x).posts) (fits : FitsActor (end_at v) x') (part : part_of x' ≡ part_of x) (there : slice_get rows e.queue.0 ≡ Some row) where
   abbrev cast : List Part
   cast = map part_of actors
 
@@ -103,7 +108,7 @@ module _ (history : History) (rows : List QueueRow) (w v : List Queue) (actors :
   flag j = flags history rows cast j
 
   then_holds : Holds history rows v (slice_set actors k x') after_
-  then_holds = step_holds history rows w v actors journal k x x' e here old own st fits part
+  then_holds = step_holds history rows w v actors journal k x x' e here old own st turned pressed fits part
 
   owner : owner_of row (role_of e.op) ≡ k
   owner = old.owners k x here (role_of e.op) e.queue.0 own row there
@@ -158,11 +163,39 @@ module _ (history : History) (rows : List QueueRow) (w v : List Queue) (actors :
       ∙ (places_set 0 m m (slice_set (flag journal) k (not idle)) (omega arith) (omega arith)
       ∙ ap (with_number m) (cleared (flag journal) k place idle at))
 
+called_so : (h a b : Bool) → a ≡ true → (not a || (not h && b)) ≡ true → b ≡ true
+called_so false true b e g = g
+called_so true true b e g = cc
+called_so h false b e g = cc
+
+-- an actor that is runnable at rest has an end where a notification is pending
+module _ (history : History) (rows : List QueueRow) (serial : Crew) (w : List Queue) (actors : List Actor) (journal : List Entry) (k : ℕ) (x : Actor) (place : ℕ) where
+  abbrev now_set : Setting
+  now_set = record { history = history; rows = rows; cast = map part_of actors; serial = serial }
+
+  runs_called : IsFitted now_set → Holds history rows w actors journal → slice_get actors k ≡ Some x → slice_get (runs now_set journal) place ≡ Some k → is_at_rest (actor_round x) ≡ true → IsCalled (pendings history journal) (actor_round x).posts
+  runs_called fitted old here at rest =
+      let part : slice_get (map part_of actors) k ≡ Some (part_of x) = map_get part_of actors k x here in
+      let so = places_so 0 k k place (flags history rows (map part_of actors) journal) (omega arith) at in
+      let flag : is_runnable (hostiles (map part_of actors)) k (wanted history rows (map part_of actors) (part_of x) journal) history rows journal ≡ true = some_eq (sym (flag_of history rows (map part_of actors) journal k (part_of x) part) ∙ so) in
+      let settled : all_settled history journal (wanted history rows (map part_of actors) (part_of x) journal) ≡ true = sym (rests_here (scene_of (map part_of actors)) history rows w actors journal old k x here) ∙ rest in
+      called_end k x history rows journal
+      (λ n row there r owner. let g = fitted.ends k (part_of x) part (record { queue = n; role = r }) (row, there, owner) in from_part x r n (seat_end (scene_of (map part_of actors)) (part_of x) g.0 (record { queue = n; role = r }) g.1))
+      (called_so (hostiles (map part_of actors) k) (all_settled history journal (wanted history rows (map part_of actors) (part_of x) journal)) (called_from k 0 history rows journal) settled flag)
+
+-- each actor made few calls since its last mark
+few_holds : (history : History) (rows : List QueueRow) (w : List Queue) (actors : List Actor) (journal : List Entry) → Holds history rows w actors journal → AreFew no_drops journal
+few_holds history rows w actors journal h a r n = elim (get_case actors a) [
+  | inl y ↦ pace_few (pendings history journal) (since no_drops a journal) (actor_round y.0) (h.paced a y.0 y.1) r n
+  | inr past ↦ let none : since no_drops a journal ≡ [] = nobody_since (hostiles (map part_of actors)) history rows (length actors) a [] journal h.peers past h.legal in subst (λ es. calls_at r n es ≤ 8) (sym none) (omega arith)
+]
+
 -- a system after a step: all goes on to hold, and the runnable actors are those of this list
 pub record StepThen (setting : Setting) (v : List Queue) (actors : List Actor) (journal : List Entry) (list : List ℕ) (room : ℕ) : Type 0 where
   pub holds : Holds setting.history setting.rows v actors journal
   pub cast_is : map part_of actors ≡ setting.cast
   pub rows_hold : EachMoment (RowsStand setting) journal
+  pub brisk : Brisk no_drops journal
   pub running : list ≡ runs setting journal
   pub room_is : length actors ≤ room
   pub few : length list ≤ room
@@ -171,26 +204,28 @@ module _ (history : History) (rows : List QueueRow) (serial : Crew) (w v : List 
   abbrev setting : Setting
   setting = record { history = history; rows = rows; cast = map part_of actors; serial = serial }
 
-  pub system_then : IsFitted setting → Holds history rows w actors journal → EachMoment (RowsStand setting) journal → list ≡ runs setting journal → length actors ≤ room
-      → slice_get list place ≡ Some k → x ≡ slice_index_or actors k x → ActorEnd x (role_of e.op) e.queue.0 → Stepped ActorStandsFor Happens w v x x' e → FitsActor (end_at v) x' → part_of x' ≡ part_of x
+  pub system_then : IsFitted setting → Holds history rows w actors journal → EachMoment (RowsStand setting) journal → list ≡ runs setting journal → length actors ≤ room → Brisk no_drops journal
+      → slice_get list place ≡ Some k → x ≡ slice_index_or actors k x → ActorEnd x (role_of e.op) e.queue.0 → Stepped ActorStandsFor Happens w v x x' e → Turned (actor_round x) e (actor_round x') → FitsActor (end_at v) x' → part_of x' ≡ part_of x
       → y ≡ slice_index_or (slice_set actors k x') k y → row ≡ slice_index_or rows e.queue.0 row → idle ≡ (is_at_rest (actor_round y) && not (is_pending k v)) → rung ≡ rung_at e.op row
       → StepThen setting v (slice_set actors k x') (journal ++ entry_of k e ∷ []) (with_option rung (removed_if idle list place)) room
-  system_then fitted old rows_old running le at x_is own st fits part y_is row_is idle_is rung_is =
+  system_then fitted old rows_old running le brisk at x_is own st turned fits part y_is row_is idle_is rung_is =
       let at' : slice_get (runs setting journal) place ≡ Some k = rw (← running) at in
       let size : length (map part_of actors) ≡ length actors = length-map actors part_of in
       let below : k < length (map part_of actors) = runs_below history rows (map part_of actors) journal place k at' in
       let lt : k < length actors = omega (arith, below, size) in
       let here : slice_get actors k ≡ Some x = slice_get_read actors _ k x refl lt x_is in
       let there : slice_get rows e.queue.0 ≡ Some row = slice_get_read rows _ e.queue.0 row refl (subst (λ n. e.queue.0 < n) old.size st.happened.there) row_is in
-      let new = step_holds history rows w v actors journal k x x' e here old own st fits part in
+      let pressed = runs_called history rows serial w actors journal k x place fitted old here at' in
+      let new = step_holds history rows w v actors journal k x x' e here old own st turned pressed fits part in
       let cast_is = map_same part_of actors k x x' here part in
       let y_same : y ≡ x' = some_eq (sym (slice_get_read (slice_set actors k x') _ k y refl (subst (λ n. k < n) (sym (length-set actors k x')) lt) y_is) ∙ slice_get_written actors k x x' here) in
-      let then_is = running_then history rows w v actors journal k x x' e row here old fitted.seated own st fits part there rung idle place (sym rung_is) (idle_is ∙ ap (λ a. is_at_rest (actor_round a) && not (is_pending k v)) y_same) at' in
+      let then_is = running_then history rows w v actors journal k x x' e row here old fitted.seated own st turned pressed fits part there rung idle place (sym rung_is) (idle_is ∙ ap (λ a. is_at_rest (actor_round a) && not (is_pending k v)) y_same) at' in
       let list_is : with_option rung (removed_if idle list place) ≡ runs setting (journal ++ entry_of k e ∷ []) = ap (λ l. with_option rung (removed_if idle l place)) running ∙ sym then_is in
       record {
         holds = new;
         cast_is = cast_is;
         rows_hold = (rows_old.0, EachFrom-append _ [] journal _ rows_old.1 (subst (λ cast. RowsHold (sheet (scene_of (map part_of actors))) (hostiles (map part_of actors)) cast (moved history (journal ++ entry_of k e ∷ []))) cast_is (rows_now (scene_of (map part_of actors)) history rows v (slice_set actors k x') (journal ++ entry_of k e ∷ []) new (hostiles (map part_of actors)))));
+        brisk = (brisk.0, EachFrom-append (λ b d. AreFew no_drops (b ++ d ∷ [])) [] journal (entry_of k e) brisk.1 (few_holds history rows v (slice_set actors k x') (journal ++ entry_of k e ∷ []) new));
         running = list_is;
         room_is = rw length-set le;
         few = rw list_is (running_few history rows (map part_of actors) room (omega (arith, le, size)) (journal ++ entry_of k e ∷ []));

@@ -20,7 +20,14 @@ use Rattle.wire_core.proofs.Moving.{moves}
 use Rattle.wire_core.proofs.Places.{slice_get_written, slice_get_beside}
 use Rattle.wire_core.proofs.Beside.{take_beside, put_beside}
 use Rattle.wire_core.proofs.Tracks.{EachFrom-append, track_from-append, shown_tells, shown_condition, shown_carries, shown_after}
-use Rattle.actor_set.specs.Actors.{FitsActor, ActorStandsFor, ActorEnd, part_of}
+use Rattle.wire_core.specs.Ends.{waiting_role}
+use Rattle.wire_core.specs.Marks.{no_drops, since}
+use Rattle.turn_kit.specs.Turns.{Turned, is_at_rest}
+use Rattle.turn_kit.specs.Pace.{Paced, pendings, IsCalled}
+use Rattle.turn_kit.proofs.Playing.{pace_own, pace_beside}
+use Rattle.system_core.proofs.Calm.{calm_row}
+use Rattle.system_core.proofs.Paces.{post_end, post_waits}
+use Rattle.actor_set.specs.Actors.{FitsActor, ActorStandsFor, ActorEnd, part_of, actor_round}
 use Rattle.actor_set.specs.Parts.{Part}
 use Rattle.system_core.specs.Kinds.{hostiles}
 use Rattle.system_core.specs.Systems.{Holds}
@@ -94,7 +101,7 @@ moved_there q (Do.Settle s) c ss ts m h = still_there q.entries ss ts h
 moved_there q (Do.Ring s) c ss ts m h = still_there q.entries ss ts h
 
 -- actor k, which is x, makes the call of event e, and is then x'
-module _ (history : History) (rows : List QueueRow) (w v : List Queue) (actors : List Actor) (journal : List Entry) (k : ℕ) (x x' : Actor) (e : Event) (here : slice_get actors k ≡ Some x) (old : Holds history rows w actors journal) (own : ActorEnd x (role_of e.op) e.queue.0) (st : Stepped ActorStandsFor Happens w v x x' e) where
+module _ (history : History) (rows : List QueueRow) (w v : List Queue) (actors : List Actor) (journal : List Entry) (k : ℕ) (x x' : Actor) (e : Event) (here : slice_get actors k ≡ Some x) (old : Holds history rows w actors journal) (own : ActorEnd x (role_of e.op) e.queue.0) (st : Stepped ActorStandsFor Happens w v x x' e) (turned : Turned (actor_round x) e (actor_round x')) (runs : is_at_rest (actor_round x) ≡ true → IsCalled (pendings history journal) (actor_round x).posts) where
   deed : Deed
   deed = record { event = e; body = st.body }
 
@@ -185,6 +192,16 @@ module _ (history : History) (rows : List QueueRow) (w v : List Queue) (actors :
         };
       }
 
+  paced' : (j : ℕ) (y : Actor) → slice_get (slice_set actors k x') j ≡ Some y → ((eqb j k ≡ true) × (j ≡ k)) ⊎ ((eqb j k ≡ false) × (j ≢ k)) → Paced (pendings history (journal ++ entry_of k e ∷ [])) (since no_drops j (journal ++ entry_of k e ∷ [])) (actor_round y)
+  paced' j y at (inl same) =
+      let is : x' ≡ y = some_eq (sym (slice_get_written actors k x x' here) ∙ (ap (slice_get (slice_set actors k x')) (sym same.1) ∙ at)) in
+      let was = old.paced k x here in
+      let now = pace_own hostile no_drops history rows journal (entry_of k e) legal' (calm_row (map part_of actors) legal'.row) (actor_round x) (actor_round x') was turned (post_waits x e turned.place turned.posted.post turned.posted.there) runs in
+      subst (λ i. Paced (pendings history (journal ++ entry_of k e ∷ [])) (since no_drops i (journal ++ entry_of k e ∷ [])) (actor_round y)) (sym same.1) (subst (λ a. Paced (pendings history (journal ++ entry_of k e ∷ [])) (since no_drops k (journal ++ entry_of k e ∷ [])) (actor_round a)) is now)
+  paced' j y at (inr away) =
+      let was : slice_get actors j ≡ Some y = sym (slice_get_beside actors k j x' away.1) ∙ at in
+      pace_beside hostile no_drops history rows journal (entry_of k e) legal' j (actor_round y) (λ h. away.1 (sym h)) (λ i p pat row rat. old.owners j y was (waiting_role p.side) p.queue (post_end y i p pat) row rat) (old.paced j y was)
+
   -- all goes on to hold
   pub step_holds : FitsActor (end_at v) x' → part_of x' ≡ part_of x → Holds history rows v (slice_set actors k x') (journal ++ entry_of k e ∷ [])
   step_holds new part = record {
@@ -197,6 +214,7 @@ module _ (history : History) (rows : List QueueRow) (w v : List Queue) (actors :
     fits = λ j y at. fits' new j y at (eqb_tells j k);
     stands = λ j y at. stands' j y at (eqb_tells j k);
     owners = λ j y at. owners' part j y at (eqb_tells j k);
+    paced = λ j y at. paced' j y at (eqb_tells j k);
     peers = λ n row at r. rw length-set (old.peers n row at r);
     few = rw length-set old.few;
     legal = subst (λ cast. LegalJournal (hostiles cast) history rows (journal ++ entry_of k e ∷ [])) (sym (map_same part_of actors k x x' here part)) (EachFrom-append (LegalEntry hostile history rows) [] journal (entry_of k e) old.legal legal');

@@ -1,11 +1,11 @@
 -- What holds of every system, however it was built and played: its seats, its journal at each moment, and what is seen
 -- of it.
-use Rattle.std.specs.Prelude.{◌≡◌, ◌≤◌, ℕ, Option, Some, List, [], length, map, slice_get}
+use Rattle.std.specs.Prelude.{◌≡◌, ℕ, Some, List, [], length, map, slice_get}
 use Rattle.std.specs.Option.{option_map, option_map_or}
 use Rattle.wire_core.specs.declared.names.QueueRow.{QueueRow}
 use Rattle.wire_core.specs.declared.names.Entry.{Entry}
-use Rattle.wire_core.specs.Ends.{Role}
 use Rattle.wire_core.specs.Journal.{LegalJournal, EachMoment, BellsHold, QueuesFlow}
+use Rattle.wire_core.specs.Marks.{no_drops, Brisk}
 use Rattle.sdf_check.specs.ClassRules.{IsCapacity}
 use Rattle.play_core.specs.Moved.{Moved, Seat}
 use Rattle.play_core.specs.Sheets.{AreSeated, IsSeat}
@@ -27,13 +27,14 @@ pub record IsFitted (s : Setting) : Type 0 where
   -- each queue can hold an entry
   pub places : (n : ℕ) (row : QueueRow) → slice_get s.rows n ≡ Some row → IsCapacity row.capacity
 
--- each queue hands over what was put, once and in order, each call is in discipline, and at each moment bells, queues
--- and rows hold
+-- each queue hands over what was put, once and in order, each call is in discipline, at each moment bells, queues and
+-- rows hold, and between two marks no actor makes more than 8 calls on an end
 pub record IsLawful (s : Setting) (journal : List Entry) : Type 0 where
   pub legal : LegalJournal (hostile_in s) s.history s.rows journal
   pub bells_hold : EachMoment (BellsHold (hostile_in s) s.history s.rows) journal
   pub flows : EachMoment (QueuesFlow (hostile_in s) s.history s.rows) journal
   pub rows_hold : EachMoment (RowsStand s) journal
+  pub brisk : Brisk no_drops journal
 
 -- the bytes that a part heard: a device on its line and a client for its record what they took
 abbrev pub heard_by : Moved → Part → List ℕ

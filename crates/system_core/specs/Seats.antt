@@ -47,5 +47,7 @@ pub record AreSeated (rows : List QueueRow) (actors : List Actor) : Type 0 where
   pub split : (k : ℕ) (x : Actor) → slice_get actors k ≡ Some x → (n : ℕ) → ActorEnd x Consumer n → ActorEnd x Producer n → ⊥
   -- each queue can hold an entry: its capacity is a power of two up to 32,768
   pub places : (n : ℕ) (row : QueueRow) → slice_get rows n ≡ Some row → IsCapacity row.capacity
+  -- and each has a number of 16 bits
+  pub numbered : length rows ≤ 65536
   pub peers : (n : ℕ) (row : QueueRow) → slice_get rows n ≡ Some row → (r : Role) → owner_of row r < length actors
   pub few : length actors ≤ 65536

@@ -6,7 +6,9 @@ use Rattle.wire_core.specs.Ends.{Role}
 use Rattle.wire_core.specs.Lists.{Passed}
 use Rattle.wire_core.specs.Queues.{Queue, queue_at, end_at, items_of}
 use Rattle.wire_core.specs.Journal.{History, track, IsShown, LegalJournal, owner_of}
-use Rattle.actor_set.specs.Actors.{FitsActor, ActorStandsFor, ActorEnd, part_of}
+use Rattle.wire_core.specs.Marks.{no_drops, since}
+use Rattle.turn_kit.specs.Pace.{Paced, pendings}
+use Rattle.actor_set.specs.Actors.{FitsActor, ActorStandsFor, ActorEnd, part_of, actor_round}
 use Rattle.system_core.specs.Kinds.{hostiles}
 use Rattle.actor_set.specs.declared.actor.Actor.{Actor}
 
@@ -23,6 +25,8 @@ pub record Holds (history : History) (rows : List QueueRow) (world : List Queue)
   pub fits : (k : ℕ) (x : Actor) → slice_get actors k ≡ Some x → FitsActor (end_at world) x
   pub stands : (k : ℕ) (x : Actor) → slice_get actors k ≡ Some x → ActorStandsFor x passed
   pub owners : (k : ℕ) (x : Actor) → slice_get actors k ≡ Some x → (r : Role) (n : ℕ) → ActorEnd x r n → (row : QueueRow) → slice_get rows n ≡ Some row → owner_of row r ≡ k
+  -- what each actor did since its last mark
+  pub paced : (k : ℕ) (x : Actor) → slice_get actors k ≡ Some x → Paced (pendings history journal) (since no_drops k journal) (actor_round x)
   pub peers : (n : ℕ) (row : QueueRow) → slice_get rows n ≡ Some row → (r : Role) → owner_of row r < length actors
   pub few : length actors ≤ 65536
   pub legal : LegalJournal (hostiles (map part_of actors)) history rows journal

@@ -1,6 +1,7 @@
 use Rattle.std.proofs.Common.{◌≡◌, length, All}
 use Rattle.cargo_core.specs.declared.item.QueueKind.TheVariants as Kind
+use Rattle.wire_core.specs.Sizes.{IsCapacity}
 use Rattle.actor_rows.proofs.rows.queues.Given as goal
 
 abbrev pub invariant-loop-place : goal.invariant-loop-place
-invariant-loop-place l = (length l.rows.items ≡ l._place) × All (λ r. r.kind ≡ Kind.Byte) l.rows.items
+invariant-loop-place l = (length l.rows.items ≡ l._place) × All (λ r. r.kind ≡ Kind.Byte) l.rows.items × All (λ r. IsCapacity r.capacity) l.rows.items

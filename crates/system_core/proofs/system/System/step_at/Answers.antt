@@ -38,17 +38,18 @@ index-actor-requires c =
 
 pub note-requires-clause-room : goal.note-requires-clause-room
 note-requires-clause-room c = (system_then (start_history c.self.inside.rows.items) c.self.inside.rows.items (crew_of c.self.inside.device c.self.inside.clients.items) c.self.inside.world c.step.new.wires c.self.inside.actors.items c.self.inside.journal.items c.at-number.result c.index_mut-actor.result.now c.step.new.self c.index-actor.result.now c.in_ok-event.event c.index-row.result.now c.rung-rung.result c.is_idle-idle.result c.args.place c.self.inside.running.list c.self.inside.running.room
-    c.self.invariant.fitted c.self.invariant.holds c.self.invariant.rows_hold c.self.invariant.running c.self.invariant.room c.at-number.ensures c.index_mut-actor.ensures.value c.in_ok-event.ensures.own c.in_ok-event.ensures.stepped c.step.ensures.fits c.step.ensures.part c.index-actor.ensures c.index-row.ensures c.is_idle-idle.ensures c.rung-rung.ensures).few
+    c.self.invariant.fitted c.self.invariant.holds c.self.invariant.rows_hold c.self.invariant.running c.self.invariant.room c.self.invariant.brisk c.at-number.ensures c.index_mut-actor.ensures.value c.in_ok-event.ensures.own c.in_ok-event.ensures.stepped c.in_ok-event.ensures.turned c.step.ensures.fits c.step.ensures.part c.index-actor.ensures c.index-row.ensures c.is_idle-idle.ensures c.rung-rung.ensures).few
 
 pub invariant_of-self-2 : goal.invariant_of-self-2
 invariant_of-self-2 c =
     let s = system_then (start_history c.self.inside.rows.items) c.self.inside.rows.items (crew_of c.self.inside.device c.self.inside.clients.items) c.self.inside.world c.step.new.wires c.self.inside.actors.items c.self.inside.journal.items c.at-number.result c.index_mut-actor.result.now c.step.new.self c.index-actor.result.now c.in_ok-event.event c.index-row.result.now c.rung-rung.result c.is_idle-idle.result c.args.place c.self.inside.running.list c.self.inside.running.room
-    c.self.invariant.fitted c.self.invariant.holds c.self.invariant.rows_hold c.self.invariant.running c.self.invariant.room c.at-number.ensures c.index_mut-actor.ensures.value c.in_ok-event.ensures.own c.in_ok-event.ensures.stepped c.step.ensures.fits c.step.ensures.part c.index-actor.ensures c.index-row.ensures c.is_idle-idle.ensures c.rung-rung.ensures in
+    c.self.invariant.fitted c.self.invariant.holds c.self.invariant.rows_hold c.self.invariant.running c.self.invariant.room c.self.invariant.brisk c.at-number.ensures c.index_mut-actor.ensures.value c.in_ok-event.ensures.own c.in_ok-event.ensures.stepped c.in_ok-event.ensures.turned c.step.ensures.fits c.step.ensures.part c.index-actor.ensures c.index-row.ensures c.is_idle-idle.ensures c.rung-rung.ensures in
     let same : begun c.self.inside.rows.items (slice_set c.self.inside.actors.items c.at-number.result c.step.new.self) (crew_of c.self.inside.device c.self.inside.clients.items) ≡ setting_of c.self.inside = ap (λ cast. record { history = start_history c.self.inside.rows.items; rows = c.self.inside.rows.items; cast = cast; serial = crew_of c.self.inside.device c.self.inside.clients.items }) s.cast_is in
     record {
       fitted = subst IsFitted (sym same) c.self.invariant.fitted;
       holds = rw (c.push_reserved.ensures.items, c.in_ok-reserve.ensures.items) s.holds;
       rows_hold = rw (c.push_reserved.ensures.items, c.in_ok-reserve.ensures.items) (subst (λ z. EachMoment (RowsStand z) (c.self.inside.journal.items ++ entry_of c.at-number.result c.in_ok-event.event ∷ [])) (sym same) s.rows_hold);
+      brisk = rw (c.push_reserved.ensures.items, c.in_ok-reserve.ensures.items) s.brisk;
       running = rw (c.push_reserved.ensures.items, c.in_ok-reserve.ensures.items, c.note.ensures) (s.running ∙ ap (λ z. runs z (c.self.inside.journal.items ++ entry_of c.at-number.result c.in_ok-event.event ∷ [])) (sym same));
       room = rw c.note.ensures s.room_is;
     }
@@ -56,7 +57,7 @@ invariant_of-self-2 c =
 pub returns-clause-ok : goal.returns-clause-ok
 returns-clause-ok c =
     let s = system_then (start_history c.self.inside.rows.items) c.self.inside.rows.items (crew_of c.self.inside.device c.self.inside.clients.items) c.self.inside.world c.step.new.wires c.self.inside.actors.items c.self.inside.journal.items c.at-number.result c.index_mut-actor.result.now c.step.new.self c.index-actor.result.now c.in_ok-event.event c.index-row.result.now c.rung-rung.result c.is_idle-idle.result c.args.place c.self.inside.running.list c.self.inside.running.room
-    c.self.invariant.fitted c.self.invariant.holds c.self.invariant.rows_hold c.self.invariant.running c.self.invariant.room c.at-number.ensures c.index_mut-actor.ensures.value c.in_ok-event.ensures.own c.in_ok-event.ensures.stepped c.step.ensures.fits c.step.ensures.part c.index-actor.ensures c.index-row.ensures c.is_idle-idle.ensures c.rung-rung.ensures in
+    c.self.invariant.fitted c.self.invariant.holds c.self.invariant.rows_hold c.self.invariant.running c.self.invariant.room c.self.invariant.brisk c.at-number.ensures c.index_mut-actor.ensures.value c.in_ok-event.ensures.own c.in_ok-event.ensures.stepped c.in_ok-event.ensures.turned c.step.ensures.fits c.step.ensures.part c.index-actor.ensures c.index-row.ensures c.is_idle-idle.ensures c.rung-rung.ensures in
     record {
       actor = c.at-number.result;
       there = subst (λ (s : Shown). slice_get (runnable_now s) c.args.place ≡ Some c.at-number.result) c.self.view_is (rw (← c.self.invariant.running) c.at-number.ensures);

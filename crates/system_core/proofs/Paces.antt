@@ -1,0 +1,215 @@
+use Rattle.std.proofs.Common.{◌≡◌, ◌⊎◌, ◌==◌, ◌<◌, ◌≤◌, ◌+◌, ◌++◌, ◌&&◌, ◌||◌, ℕ, zero, suc, Bool, true, false, Some, List, [], ◌∷◌, length, slice_get, refl, sym, ap, ◌∙◌, subst, arith, inl, inr}
+use Rattle.std.proofs.lemmas.Bool.{eqb-true}
+use Rattle.wire_core.specs.declared.names.QueueRow.{QueueRow}
+use Rattle.wire_core.specs.declared.names.Entry.{Entry}
+use Rattle.wire_core.specs.declared.names.Event.{Event}
+use Rattle.wire_core.specs.declared.names.QueueId.{QueueId}
+use Rattle.wire_core.specs.declared.names.Side.{Side}
+use Rattle.wire_core.specs.declared.names.Side.TheVariants.{Forward, Backward}
+use Rattle.wire_core.specs.Ends.{Role, Consumer, Producer, role_of, waiting_role}
+use Rattle.wire_core.specs.Queues.{calls}
+use Rattle.wire_core.specs.Journal.{History, track, owner_of, Hostiles, LegalEntry, EachFrom}
+use Rattle.turn_kit.specs.declared.ends.Intake.{Intake}
+use Rattle.turn_kit.specs.declared.ends.Outlet.{Outlet}
+use Rattle.turn_kit.specs.Posts.{intake_post, outlet_post}
+use Rattle.wire_core.specs.Marks.{is_vain_look}
+use Rattle.turn_kit.specs.Turns.{Post, is_drop, IsRound}
+use Rattle.actor_set.specs.Actors.{ActorEnd, actor_round}
+use Rattle.actor_set.specs.declared.actor.Actor.{Actor}
+use Rattle.actor_set.specs.declared.actor.Actor.TheVariants as Kinds
+use Rattle.serial_terminal.specs.declared.Terminal.{Terminal}
+use Rattle.serial_terminal.specs.Terminals.{terminal_round}
+use Rattle.serial_virt.proofs.Sizes.{rx_size, tx_size}
+use Rattle.system_core.specs.Seats.{HasApartEnds}
+use Rattle.play_core.specs.Runs.{called_from}
+use Rattle.wire_core.specs.Marks.{no_drops, since_from}
+use Rattle.turn_kit.specs.Pace.{pendings, IsCalled}
+use Rattle.wire_core.proofs.Sinces.{eqb_apart}
+use Rattle.play_core.proofs.Lists.{map_get, map_from}
+
+-- Each actor's round is its ends, and an actor that is called has a notification pending at one of them.
+
+some_is : {X : Type 0} {a b : X} → Some a ≡ Some b → a ≡ b
+some_is h = cc
+
+-- an end of the actor, at which it doesn't drop
+abbrev IsPostOf : Actor → Post → Type 0
+IsPostOf x p = ActorEnd x (waiting_role p.side) p.queue × (p.drops ≡ false)
+
+post_stands : (x : Actor) (k : ℕ) (p : Post) → slice_get (actor_round x).posts k ≡ Some p → IsPostOf x p
+post_stands (Kinds.UartDevice x) zero p at = subst (IsPostOf (Kinds.UartDevice x)) (some_is at) (refl, refl)
+post_stands (Kinds.UartDevice x) (suc zero) p at = subst (IsPostOf (Kinds.UartDevice x)) (some_is at) (refl, refl)
+post_stands (Kinds.UartDevice x) (suc (suc k)) p at = cc
+post_stands (Kinds.SerialClient x) zero p at = subst (IsPostOf (Kinds.SerialClient x)) (some_is at) (refl, refl)
+post_stands (Kinds.SerialClient x) (suc zero) p at = subst (IsPostOf (Kinds.SerialClient x)) (some_is at) (refl, refl)
+post_stands (Kinds.SerialClient x) (suc (suc k)) p at = cc
+post_stands (Kinds.UartDriver x) zero p at = subst (IsPostOf (Kinds.UartDriver x)) (some_is at) (inl refl, refl)
+post_stands (Kinds.UartDriver x) (suc zero) p at = subst (IsPostOf (Kinds.UartDriver x)) (some_is at) (inl refl, refl)
+post_stands (Kinds.UartDriver x) (suc (suc zero)) p at = subst (IsPostOf (Kinds.UartDriver x)) (some_is at) (inr refl, refl)
+post_stands (Kinds.UartDriver x) (suc (suc (suc zero))) p at = subst (IsPostOf (Kinds.UartDriver x)) (some_is at) (inr refl, refl)
+post_stands (Kinds.UartDriver x) (suc (suc (suc (suc k)))) p at = cc
+post_stands (Kinds.SerialVirtRx x) zero p at = subst (IsPostOf (Kinds.SerialVirtRx x)) (some_is at) (refl, refl)
+post_stands (Kinds.SerialVirtRx x) (suc k) p at = let m = map_from outlet_post x.outputs.ends.items k p at in subst (IsPostOf (Kinds.SerialVirtRx x)) m.2 ((k, m.0.queue, map_get (λ (o : Outlet). o.queue) x.outputs.ends.items k m.0 m.1, refl), refl)
+post_stands (Kinds.SerialVirtTx x) zero p at = subst (IsPostOf (Kinds.SerialVirtTx x)) (some_is at) (refl, refl)
+post_stands (Kinds.SerialVirtTx x) (suc k) p at = let m = map_from intake_post x.inputs.ends.items k p at in subst (IsPostOf (Kinds.SerialVirtTx x)) m.2 ((k, m.0.queue, map_get (λ (i : Intake). i.queue) x.inputs.ends.items k m.0 m.1, refl), refl)
+
+pub post_end : (x : Actor) (k : ℕ) (p : Post) → slice_get (actor_round x).posts k ≡ Some p → ActorEnd x (waiting_role p.side) p.queue
+post_end x k p at = (post_stands x k p at).0
+
+-- no call of a turn is a drop
+pub post_waits : (x : Actor) (e : Event) (k : ℕ) (p : Post) → slice_get (actor_round x).posts k ≡ Some p → false ≡ is_drop p e
+post_waits x e k p at = sym (ap (λ d. d && is_vain_look e.op e.answer) (post_stands x k p at).1)
+
+abbrev EndPost : Actor → Side → ℕ → Type 0
+EndPost x s n = (k : ℕ) × (p : Post) × (slice_get (actor_round x).posts k ≡ Some p) × (p.queue ≡ n) × (p.side ≡ s)
+
+end_post : (x : Actor) (s : Side) (n : ℕ) → ActorEnd x (waiting_role s) n → EndPost x s n
+end_post (Kinds.UartDevice x) Forward n h = (0, intake_post x.terminal.input, refl, sym h, refl)
+end_post (Kinds.UartDevice x) Backward n h = (1, outlet_post x.terminal.output, refl, sym h, refl)
+end_post (Kinds.SerialClient x) Forward n h = (0, intake_post x.terminal.input, refl, sym h, refl)
+end_post (Kinds.SerialClient x) Backward n h = (1, outlet_post x.terminal.output, refl, sym h, refl)
+end_post (Kinds.UartDriver x) Forward n (inl h) = (0, intake_post x.rx.input, refl, sym h, refl)
+end_post (Kinds.UartDriver x) Forward n (inr h) = (2, intake_post x.tx.input, refl, sym h, refl)
+end_post (Kinds.UartDriver x) Backward n (inl h) = (1, outlet_post x.rx.output, refl, sym h, refl)
+end_post (Kinds.UartDriver x) Backward n (inr h) = (3, outlet_post x.tx.output, refl, sym h, refl)
+end_post (Kinds.SerialVirtRx x) Forward n h = (0, intake_post x.input, refl, sym h, refl)
+end_post (Kinds.SerialVirtRx x) Backward n h = let m = map_from (λ (o : Outlet). o.queue) x.outputs.ends.items h.0 h.1 h.2 in (suc h.0, outlet_post m.0, map_get outlet_post x.outputs.ends.items h.0 m.0 m.1, ap (λ (q : QueueId). q.0) m.2 ∙ sym h.3, refl)
+end_post (Kinds.SerialVirtTx x) Forward n h = let m = map_from (λ (i : Intake). i.queue) x.inputs.ends.items h.0 h.1 h.2 in (suc h.0, intake_post m.0, map_get intake_post x.inputs.ends.items h.0 m.0 m.1, ap (λ (q : QueueId). q.0) m.2 ∙ sym h.3, refl)
+end_post (Kinds.SerialVirtTx x) Backward n h = (0, outlet_post x.output, refl, sym h, refl)
+
+-- each end has its need
+sizes : (x : Actor) → length (actor_round x).needs ≡ length (actor_round x).posts
+sizes (Kinds.UartDevice x) = refl
+sizes (Kinds.SerialClient x) = refl
+sizes (Kinds.UartDriver x) = refl
+sizes (Kinds.SerialVirtRx x) = rx_size x
+sizes (Kinds.SerialVirtTx x) = tx_size x
+
+some_ends : (x : Actor) → 0 < length (actor_round x).posts
+some_ends (Kinds.UartDevice x) = omega arith
+some_ends (Kinds.SerialClient x) = omega arith
+some_ends (Kinds.UartDriver x) = omega arith
+some_ends (Kinds.SerialVirtRx x) = omega arith
+some_ends (Kinds.SerialVirtTx x) = omega arith
+
+abbrev Apart : Actor → Type 0
+Apart x = (k j : ℕ) (p q : Post) → slice_get (actor_round x).posts k ≡ Some p → slice_get (actor_round x).posts j ≡ Some q → p.queue ≡ q.queue → k ≡ j
+
+terminal_apart : (t : Terminal) → (t.input.queue.0 ≡ t.output.queue.0 → ⊥) → (k j : ℕ) (p q : Post) → slice_get (terminal_round t).posts k ≡ Some p → slice_get (terminal_round t).posts j ≡ Some q → p.queue ≡ q.queue → k ≡ j
+terminal_apart t d zero zero p q a b e = refl
+terminal_apart t d (suc zero) (suc zero) p q a b e = refl
+terminal_apart t d zero (suc zero) p q a b e = absurd (d (ap (λ (x : Post). x.queue) (some_is a) ∙ (e ∙ sym (ap (λ (x : Post). x.queue) (some_is b)))))
+terminal_apart t d (suc zero) zero p q a b e = absurd (d (ap (λ (x : Post). x.queue) (some_is b) ∙ (sym e ∙ sym (ap (λ (x : Post). x.queue) (some_is a)))))
+terminal_apart t d (suc (suc k)) j p q a b e = cc
+terminal_apart t d zero (suc (suc j)) p q a b e = cc
+terminal_apart t d (suc zero) (suc (suc j)) p q a b e = cc
+
+-- four queues of which no two are one
+four_apart : (a b c d : Post) → (a.queue ≡ b.queue → ⊥) → (a.queue ≡ c.queue → ⊥) → (a.queue ≡ d.queue → ⊥) → (b.queue ≡ c.queue → ⊥) → (b.queue ≡ d.queue → ⊥) → (c.queue ≡ d.queue → ⊥) → (k j : ℕ) (p q : Post) → slice_get (a ∷ b ∷ c ∷ d ∷ []) k ≡ Some p → slice_get (a ∷ b ∷ c ∷ d ∷ []) j ≡ Some q → p.queue ≡ q.queue → k ≡ j
+four_apart a b c d ab ac ad bc bd cd k j p q pk qj e = go k j pk qj
+  where
+    no : (x y : Post) → (x.queue ≡ y.queue → ⊥) → Some x ≡ Some p → Some y ≡ Some q → ⊥
+    no x y h f g = h (ap (λ (z : Post). z.queue) (some_is f) ∙ (e ∙ sym (ap (λ (z : Post). z.queue) (some_is g))))
+
+    on : (x y : Post) → (y.queue ≡ x.queue → ⊥) → Some x ≡ Some p → Some y ≡ Some q → ⊥
+    on x y h f g = h (ap (λ (z : Post). z.queue) (some_is g) ∙ (sym e ∙ sym (ap (λ (z : Post). z.queue) (some_is f))))
+
+    go : (k j : ℕ) → slice_get (a ∷ b ∷ c ∷ d ∷ []) k ≡ Some p → slice_get (a ∷ b ∷ c ∷ d ∷ []) j ≡ Some q → k ≡ j
+    go zero zero f g = refl
+    go zero (suc zero) f g = absurd (no a b ab f g)
+    go zero (suc (suc zero)) f g = absurd (no a c ac f g)
+    go zero (suc (suc (suc zero))) f g = absurd (no a d ad f g)
+    go (suc zero) zero f g = absurd (on b a ab f g)
+    go (suc zero) (suc zero) f g = refl
+    go (suc zero) (suc (suc zero)) f g = absurd (no b c bc f g)
+    go (suc zero) (suc (suc (suc zero))) f g = absurd (no b d bd f g)
+    go (suc (suc zero)) zero f g = absurd (on c a ac f g)
+    go (suc (suc zero)) (suc zero) f g = absurd (on c b bc f g)
+    go (suc (suc zero)) (suc (suc zero)) f g = refl
+    go (suc (suc zero)) (suc (suc (suc zero))) f g = absurd (no c d cd f g)
+    go (suc (suc (suc zero))) zero f g = absurd (on d a ad f g)
+    go (suc (suc (suc zero))) (suc zero) f g = absurd (on d b bd f g)
+    go (suc (suc (suc zero))) (suc (suc zero)) f g = absurd (on d c cd f g)
+    go (suc (suc (suc zero))) (suc (suc (suc zero))) f g = refl
+    go (suc (suc (suc (suc k)))) j f g = cc
+    go zero (suc (suc (suc (suc j)))) f g = cc
+    go (suc zero) (suc (suc (suc (suc j)))) f g = cc
+    go (suc (suc zero)) (suc (suc (suc (suc j)))) f g = cc
+    go (suc (suc (suc zero))) (suc (suc (suc (suc j)))) f g = cc
+
+apart_posts : (x : Actor) → HasApartEnds x → ((n : ℕ) → ActorEnd x Consumer n → ActorEnd x Producer n → ⊥) → Apart x
+apart_posts (Kinds.UartDevice x) h d k j p q a b e = terminal_apart x.terminal (λ e. d x.terminal.input.queue.0 refl e) k j p q a b e
+apart_posts (Kinds.SerialClient x) h d k j p q a b e = terminal_apart x.terminal (λ e. d x.terminal.input.queue.0 refl e) k j p q a b e
+apart_posts (Kinds.UartDriver x) h d k j p q a b e = four_apart (intake_post x.rx.input) (outlet_post x.rx.output) (intake_post x.tx.input) (outlet_post x.tx.output) (λ e. d x.rx.input.queue.0 (inl refl) (inl e)) h.0 (λ e. d x.rx.input.queue.0 (inl refl) (inr e)) (λ e. d x.tx.input.queue.0 (inr refl) (inl (sym e))) h.1 (λ e. d x.tx.input.queue.0 (inr refl) (inr e)) k j p q a b e
+apart_posts (Kinds.SerialVirtRx x) h d zero zero p q a b e = refl
+apart_posts (Kinds.SerialVirtRx x) h d zero (suc j) p q a b e =
+    let m = post_end (Kinds.SerialVirtRx x) (suc j) q b in
+    let o = map_from outlet_post x.outputs.ends.items j q b in
+    absurd (d p.queue (subst (λ (z : Post). z.queue ≡ x.input.queue.0) (some_is a) refl) (j, o.0.queue, map_get (λ (y : Outlet). y.queue) x.outputs.ends.items j o.0 o.1, e ∙ sym (ap (λ (z : Post). z.queue) o.2)))
+apart_posts (Kinds.SerialVirtRx x) h d (suc k) zero p q a b e =
+    let o = map_from outlet_post x.outputs.ends.items k p a in
+    absurd (d q.queue (subst (λ (z : Post). z.queue ≡ x.input.queue.0) (some_is b) refl) (k, o.0.queue, map_get (λ (y : Outlet). y.queue) x.outputs.ends.items k o.0 o.1, sym e ∙ sym (ap (λ (z : Post). z.queue) o.2)))
+apart_posts (Kinds.SerialVirtRx x) h d (suc k) (suc j) p q a b e =
+    let o = map_from outlet_post x.outputs.ends.items k p a in
+    let r = map_from outlet_post x.outputs.ends.items j q b in
+    ap suc (h k j o.0.queue r.0.queue (map_get (λ (y : Outlet). y.queue) x.outputs.ends.items k o.0 o.1) (map_get (λ (y : Outlet). y.queue) x.outputs.ends.items j r.0 r.1) (ap (λ (z : Post). z.queue) o.2 ∙ (e ∙ sym (ap (λ (z : Post). z.queue) r.2))))
+apart_posts (Kinds.SerialVirtTx x) h d zero zero p q a b e = refl
+apart_posts (Kinds.SerialVirtTx x) h d zero (suc j) p q a b e =
+    let o = map_from intake_post x.inputs.ends.items j q b in
+    absurd (d p.queue (j, o.0.queue, map_get (λ (y : Intake). y.queue) x.inputs.ends.items j o.0 o.1, e ∙ sym (ap (λ (z : Post). z.queue) o.2)) (subst (λ (z : Post). z.queue ≡ x.output.queue.0) (some_is a) refl))
+apart_posts (Kinds.SerialVirtTx x) h d (suc k) zero p q a b e =
+    let o = map_from intake_post x.inputs.ends.items k p a in
+    absurd (d q.queue (k, o.0.queue, map_get (λ (y : Intake). y.queue) x.inputs.ends.items k o.0 o.1, sym e ∙ sym (ap (λ (z : Post). z.queue) o.2)) (subst (λ (z : Post). z.queue ≡ x.output.queue.0) (some_is b) refl))
+apart_posts (Kinds.SerialVirtTx x) h d (suc k) (suc j) p q a b e =
+    let o = map_from intake_post x.inputs.ends.items k p a in
+    let r = map_from intake_post x.inputs.ends.items j q b in
+    ap suc (h k j o.0.queue r.0.queue (map_get (λ (y : Intake). y.queue) x.inputs.ends.items k o.0 o.1) (map_get (λ (y : Intake). y.queue) x.inputs.ends.items j r.0 r.1) (ap (λ (z : Post). z.queue) o.2 ∙ (e ∙ sym (ap (λ (z : Post). z.queue) r.2))))
+
+pub start_round : (x : Actor) → HasApartEnds x → ((n : ℕ) → ActorEnd x Consumer n → ActorEnd x Producer n → ⊥) → IsRound (actor_round x)
+start_round x h d = record { some = some_ends x; needs = sizes x; apart = apart_posts x h d }
+
+-- an actor that is called has a pending end
+
+pub record Calling (k : ℕ) (history : History) (rows : List QueueRow) (journal : List Entry) : Type 0 where
+  pub queue : ℕ
+  pub row : QueueRow
+  pub there : slice_get rows queue ≡ Some row
+  pub side : Side
+  pub owner : owner_of row (waiting_role side) ≡ k
+  pub pends : pendings history journal queue side ≡ true
+
+and_parts : (a b : Bool) → (a && b) ≡ true → (a ≡ true) × (b ≡ true)
+and_parts true true h = (refl, refl)
+and_parts true false h = cc
+and_parts false b h = cc
+
+or_parts : (a b : Bool) → (a || b) ≡ true → (a ≡ true) ⊎ (b ≡ true)
+or_parts true b h = inl refl
+or_parts false b h = inr h
+
+called_case : (k n : ℕ) (history : History) (all rows : List QueueRow) (journal : List Entry) → ((m : ℕ) (row : QueueRow) → slice_get rows m ≡ Some row → slice_get all (n + m) ≡ Some row) → called_from k n history rows journal ≡ true → Calling k history all journal
+called_case k n history all [] journal there h = cc
+called_case k n history all (row ∷ rows) journal there h = elim (or_parts (calls k row.producer.0 row.consumer.0 (track history n journal).bells) (called_from k (n + 1) history rows journal) h) [
+  | inl here ↦
+      let z : n + 0 ≡ n = omega arith in
+      let at = subst (λ m. slice_get all m ≡ Some row) z (there 0 row refl) in
+      elim (or_parts ((row.consumer.0 == k) && (track history n journal).bells.forward.pending) ((row.producer.0 == k) && (track history n journal).bells.backward.pending) here) [
+        | inl f ↦ let a = and_parts (row.consumer.0 == k) (track history n journal).bells.forward.pending f in record { queue = n; row = row; there = at; side = Forward; owner = eqb-true row.consumer.0 k a.0; pends = a.1 }
+        | inr b ↦ let a = and_parts (row.producer.0 == k) (track history n journal).bells.backward.pending b in record { queue = n; row = row; there = at; side = Backward; owner = eqb-true row.producer.0 k a.0; pends = a.1 }
+      ]
+  | inr later ↦ called_case k (n + 1) history all rows journal (λ m r at. let z : n + suc m ≡ (n + 1) + m = omega arith in subst (λ i. slice_get all i ≡ Some r) z (there (suc m) r at)) later
+]
+
+pub called_end : (k : ℕ) (x : Actor) (history : History) (rows : List QueueRow) (journal : List Entry) → ((n : ℕ) (row : QueueRow) → slice_get rows n ≡ Some row → (r : Role) → owner_of row r ≡ k → ActorEnd x r n) → called_from k 0 history rows journal ≡ true → IsCalled (pendings history journal) (actor_round x).posts
+called_end k x history rows journal ends h =
+    let c = called_case k 0 history rows rows journal (λ m row at. let z : m ≡ 0 + m = omega arith in subst (λ i. slice_get rows i ≡ Some row) z at) h in
+    let p = end_post x c.side c.queue (ends c.queue c.row c.there (waiting_role c.side) c.owner) in
+    record { place = p.0; post = p.1; there = p.2; pends = subst (λ s. pendings history journal p.1.queue s ≡ true) (sym p.4) (subst (λ n. pendings history journal n c.side ≡ true) (sym p.3) c.pends) }
+
+-- who isn't there made no calls
+pub nobody_since : (hostile : Hostiles) (history : History) (rows : List QueueRow) (actors a : ℕ) (before es : List Entry) → ((n : ℕ) (row : QueueRow) → slice_get rows n ≡ Some row → (r : Role) → owner_of row r < actors) → actors ≤ a → EachFrom (LegalEntry hostile history rows) before es → since_from no_drops a [] es ≡ []
+nobody_since hostile history rows actors a before [] peers le l = refl
+nobody_since hostile history rows actors a before (e ∷ es) peers le l =
+    let lt : e.actor.0 < actors = subst (λ n. n < actors) (sym l.0.legal.owner) (peers e.event.queue.0 l.0.row l.0.there (role_of e.event.op)) in
+    let off : (e.actor.0 == a) ≡ false = eqb_apart e.actor.0 a (λ h. absurd (omega (arith, lt, le, h))) in
+    rw off (nobody_since hostile history rows actors a (before ++ e ∷ []) es peers le l.1)
