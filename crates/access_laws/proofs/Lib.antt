@@ -1,0 +1,5 @@
+pub mod Decide
+pub mod Words
+pub mod Kept
+pub mod Links
+pub mod Interrupts
