@@ -1,0 +1,4 @@
+pub mod Seating
+pub mod Listing
+pub mod Going
+pub mod Popping

@@ -1,0 +1,43 @@
+-- How far the ends of one actor went, between two moments.
+use Rattle.std.specs.Prelude.{◌≡◌, ℕ, ◌+◌, List, [], ◌∷◌, ◌++◌, slice_get, Option, Some, None}
+use Rattle.atomic_table.specs.Seated.{TableId}
+use Rattle.wire_core.specs.Deeds.{Cargo}
+use Rattle.wire_core.specs.Ends.{Role}
+use Rattle.spsc_queue.specs.Known.Ends.{EndIs}
+use Rattle.seat_wires.specs.Places.Are.{SeatsAre}
+use Rattle.seat_wires.specs.Places.{joined_get, ends_of, seats_taken, seats_sent}
+
+-- the second list begins with the first
+abbrev pub Begins : List Cargo → List Cargo → Type 0
+Begins xs ys = (rest : List Cargo) × (ys ≡ xs ++ rest)
+
+-- the word steps that the calls of an end made
+abbrev pub end_steps : Option EndIs → ℕ
+end_steps None = 0
+end_steps (Some e) = e.knows.steps
+
+-- the word steps of these ends
+abbrev pub steps_of : List (Option EndIs) → ℕ
+steps_of [] = 0
+steps_of (e ∷ es) = end_steps e + steps_of es
+
+-- the word steps of all ends of the actor
+abbrev pub seats_steps : SeatsAre → ℕ
+seats_steps s = steps_of s.producers + steps_of s.consumers
+
+-- the ring of an end, if it is there
+abbrev pub ring_known : Option EndIs → Option TableId
+ring_known None = None
+ring_known (Some e) = Some e.ring
+
+-- the ring of an end that stands at a place, if it does
+abbrev pub ring_at : Option (Option EndIs) → Option TableId
+ring_at x = ring_known (joined_get x)
+
+-- its ends stayed, their lists grew, and they made n word steps
+pub record Went (s : SeatsAre) (n : ℕ) (t : SeatsAre) : Type 0 where
+  pub rings : t.rings ≡ s.rings
+  pub ends : (r : Role) (k : ℕ) → ring_at (slice_get (ends_of t r) k) ≡ ring_at (slice_get (ends_of s r) k)
+  pub taken : (k : ℕ) → Begins (seats_taken s k) (seats_taken t k)
+  pub sent : (k : ℕ) → Begins (seats_sent s k) (seats_sent t k)
+  pub steps : seats_steps t ≡ seats_steps s + n

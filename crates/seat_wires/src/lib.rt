@@ -1,0 +1,9 @@
+//! The ends of one actor over rings. It stands between the ring and the actors, so that no actor names a ring.
+#![tactic(auto)]
+
+mod laws;
+mod places;
+mod seats;
+
+pub use laws::seats_law;
+pub use seats::Seats;
