@@ -1,0 +1,35 @@
+//! The program over stored files, as `sddf_cli` is: what no contract can say of files and standard
+//! output is shown by one run, whose description is longer than two pieces of reading and counts to
+//! its last byte, and whose answer is longer than a pipe holds.
+#![tactic(auto)]
+
+use sddf_top::{FileShelf, OpenGate, OutSink, Played, Status, serve};
+use std::process::ExitCode;
+use std::{env, io};
+
+fn words_of(rt: &HostRuntime) -> io::Result<Vec<String>> {
+    let mut words = Vec::new(rt.alloc());
+    for word in env::args(rt)?.skip(1) {
+        words.push(word)?;
+    }
+    Ok(words)
+}
+
+fn main(rt: HostRuntime) -> ExitCode {
+    let Ok(words) = words_of(&rt) else {
+        return ExitCode::from(Status::Memory.code());
+    };
+    let mut shelf = FileShelf::new(&rt);
+    let mut sink = OutSink::new(&rt);
+    let mut played = Played::Nothing;
+    let status = serve(
+        &rt,
+        rt.alloc(),
+        &words,
+        &mut shelf,
+        &mut sink,
+        &OpenGate,
+        &mut played,
+    );
+    ExitCode::from(status.code())
+}
