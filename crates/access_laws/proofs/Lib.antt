@@ -3,3 +3,5 @@ pub mod Words
 pub mod Kept
 pub mod Links
 pub mod Interrupts
+pub mod Reached
+pub mod Placed

@@ -1,9 +1,17 @@
 use Rattle.access_laws.proofs.Links.{queues_linked}
+use Rattle.access_laws.proofs.Reached.{pools_reached}
 use Rattle.access_laws.proofs.Interrupts.{drivers_interrupted}
+use Rattle.access_laws.proofs.Placed.{regions_placed}
 use Rattle.access_laws.proofs.access_law.Goals as goal
 
 pub returns-clause-links : goal.returns-clause-links
 returns-clause-links c = queues_linked
 
+pub returns-clause-pools : goal.returns-clause-pools
+returns-clause-pools c = pools_reached
+
 pub returns-clause-drivers : goal.returns-clause-drivers
 returns-clause-drivers c = drivers_interrupted
+
+pub returns-clause-bases : goal.returns-clause-bases
+returns-clause-bases c = regions_placed
