@@ -5,3 +5,4 @@ pub mod Links
 pub mod Interrupts
 pub mod Reached
 pub mod Placed
+pub mod Stacked

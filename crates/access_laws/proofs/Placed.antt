@@ -1,15 +1,14 @@
-use Rattle.std.proofs.Common.{◌≡◌, ℕ, zero, suc, ◌+◌, ◌-◌, ◌*◌, ◌/◌, ◌<◌, ◌≤◌, ◌⊎◌, inl, inr, ⊎_elim, max, List, [], ◌∷◌, fold, Option, Some, None, slice_get, refl, sym, ap, ◌∙◌, arith}
+use Rattle.std.proofs.Common.{◌≡◌, ℕ, zero, suc, ◌+◌, ◌-◌, ◌*◌, ◌/◌, ◌<◌, ◌≤◌, ◌⊎◌, inl, inr, ⊎_elim, max, List, [], ◌∷◌, fold, Some, None, slice_get, refl, ap, ◌∙◌, arith}
 use Rattle.std.proofs.lemmas.Bool.{cases_lt}
 use Rattle.std.proofs.lemmas.Nat.{mul-le, div-add-mod'}
 use Rattle.sdf_model.specs.declared.plan.Plan.{Plan}
 use Rattle.sdf_model.specs.declared.plan.Region.{Region}
-use Rattle.sdf_check.specs.Rules.{IsMultiple}
 use Rattle.sdf_check.specs.Valid.{Valid}
 use Rattle.sdf_check.proofs.SweepLemmas.{some-inj}
 use Rattle.region_layout.specs.Bases.{given_end, floor_of, round_up, base_at, free_after, bases_from, bases_of}
 use Rattle.region_layout.proofs.ValidLemmas.{small_numbers}
 use Rattle.layout_laws.proofs.Lists.{option_cases}
-use Rattle.access_laws.specs.Placing.{IsFreeFor, IsLeastBase, IsPlaced, ArePlaced}
+use Rattle.access_laws.specs.Placing.{IsLeastBase, ArePlaced}
 
 abbrev Pages : List Region → Type 0
 Pages regions = (j : ℕ) (x : Region) → slice_get regions j ≡ Some x → 1 ≤ x.page_size

@@ -1,7 +1,9 @@
 -- Where regions and queues are placed: each at the least place that is free when its turn comes.
-use Rattle.std.specs.Prelude.{◌≡◌, ℕ, ◌+◌, ◌<◌, ◌≤◌, List, Some, None, slice_get}
+use Rattle.std.specs.Prelude.{◌≡◌, ℕ, ◌+◌, ◌*◌, ◌<◌, ◌≤◌, ◌⊎◌, List, Some, None, slice_get}
+use Rattle.wire_core.specs.declared.names.QueueRow.{QueueRow}
 use Rattle.sdf_model.specs.declared.plan.Region.{Region}
 use Rattle.sdf_check.specs.Rules.{IsMultiple}
+use Rattle.region_layout.specs.Rows.{entry_size}
 
 -- an address from which on a region may be placed: it isn't below 0x40000000, nor the end of a range
 -- that is given, nor that of a region that was placed before
@@ -28,3 +30,27 @@ pub record IsPlaced (regions : List Region) (bases : List ℕ) (r : ℕ) (region
 -- so has each region
 abbrev pub ArePlaced : List Region → List ℕ → Type 0
 ArePlaced regions bases = (r : ℕ) (region : Region) → slice_get regions r ≡ Some region → IsPlaced regions bases r region
+
+-- a queue, by its number, stands behind the one before it, in the same region: at the least multiple
+-- of 64 that isn't below the end of that one's header and entries
+pub record IsBehind (rows : List QueueRow) (k : ℕ) (row : QueueRow) : Type 0 where
+  pub place : ℕ
+  pub before : QueueRow
+  pub next : k ≡ place + 1
+  pub there : slice_get rows place ≡ Some before
+  pub same : before.region ≡ row.region
+  pub multiple : IsMultiple row.offset 64
+  pub behind : before.offset + (64 + entry_size before.kind * before.capacity) ≤ row.offset
+  pub least : (other : ℕ) → IsMultiple other 64
+      → before.offset + (64 + entry_size before.kind * before.capacity) ≤ other → row.offset ≤ other
+
+-- no queue before this number stands in a region
+abbrev pub IsFirst : List QueueRow → ℕ → ℕ → Type 0
+IsFirst rows k r =
+    (j : ℕ) (other : QueueRow) → j < k → slice_get rows j ≡ Some other → other.region ≡ Some r → ⊥
+
+-- the first queue of a region stands at its front, and each other one behind the one before
+abbrev pub AreStacked : List QueueRow → Type 0
+AreStacked rows =
+    (k : ℕ) (row : QueueRow) (r : ℕ) → slice_get rows k ≡ Some row → row.region ≡ Some r
+    → ((row.offset ≡ 0) × IsFirst rows k r) ⊎ IsBehind rows k row

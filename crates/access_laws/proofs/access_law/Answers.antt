@@ -2,6 +2,7 @@ use Rattle.access_laws.proofs.Links.{queues_linked}
 use Rattle.access_laws.proofs.Reached.{pools_reached}
 use Rattle.access_laws.proofs.Interrupts.{drivers_interrupted}
 use Rattle.access_laws.proofs.Placed.{regions_placed}
+use Rattle.access_laws.proofs.Stacked.{queues_stacked}
 use Rattle.access_laws.proofs.access_law.Goals as goal
 
 pub returns-clause-links : goal.returns-clause-links
@@ -15,3 +16,6 @@ returns-clause-drivers c = drivers_interrupted
 
 pub returns-clause-bases : goal.returns-clause-bases
 returns-clause-bases c = regions_placed
+
+pub returns-clause-offsets : goal.returns-clause-offsets
+returns-clause-offsets c = queues_stacked
