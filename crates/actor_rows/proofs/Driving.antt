@@ -1,4 +1,4 @@
-use Rattle.std.proofs.Common.{◌≡◌, ◌<◌, ℕ, List, length, length-set, refl, sym, ap, ◌∙◌, subst, arith}
+use Rattle.std.proofs.Common.{◌≡◌, ◌<◌, ℕ, List, [], ◌∷◌, length, length-set, refl, sym, ap, ◌∙◌, subst, arith}
 use Rattle.std.specs.Option.{ForSome}
 use Rattle.cargo_core.specs.Items.{kind_of}
 use Rattle.wire_core.specs.declared.names.QueueId.{QueueId}
@@ -10,10 +10,21 @@ use Rattle.wire_core.proofs.Moving.{moves}
 use Rattle.turn_kit.specs.Table.{Agrees}
 use Rattle.turn_kit.specs.Pipes.{FitsPipe, IsNewPipe}
 use Rattle.turn_kit.specs.declared.pipe.Pipe.{Pipe}
-use Rattle.uart_driver.specs.Driver.{FitsDriver, DriverStandsFor, SameEnds}
-use Rattle.uart_driver.specs.declared.UartDriver.{UartDriver}
+use Rattle.pipe_driver.specs.Drivers.{FitsPipes, PipesStandFor, inputs_of, outputs_of}
+use Rattle.pipe_driver.specs.Lengths.{two_pipes}
+use Rattle.pipe_driver.specs.declared.pipes.Pipes.{Pipes}
+use Rattle.pipe_driver.specs.declared.driver.PipeDriver.{PipeDriver}
 use Rattle.actor_rows.specs.Hands.{OnlyAt, AreByteQueues}
 use Rattle.actor_rows.specs.Standings.{DriverStands, queue}
+
+both : {a b m n : ℕ} → a ≡ m → b ≡ n → (a ∷ b ∷ []) ≡ (m ∷ n ∷ [])
+both e f = cc
+
+first_is : {a b m n : ℕ} → (a ∷ b ∷ []) ≡ (m ∷ n ∷ []) → a ≡ m
+first_is e = cc
+
+second_is : {a b m n : ℕ} → (a ∷ b ∷ []) ≡ (m ∷ n ∷ []) → b ≡ n
+second_is e = cc
 
 -- a pipe in its start state fits queues in their start state
 new_pipe : (w : List Queue) (count : ℕ) (p : Pipe) (from to : ℕ) → AreByteQueues count w → from < count → to < count → IsNewPipe (queue from) (queue to) p → FitsPipe (end_at w) p
@@ -24,21 +35,23 @@ new_pipe w count p from to b f t new = record {
   load = rw new.load (λ x h. cc);
 }
 
-pub new_driver : (w : List Queue) (d : UartDriver) → AreByteQueues 4 w → IsNewPipe (queue 0) (queue 2) d.rx → IsNewPipe (queue 3) (queue 1) d.tx → DriverStands w d
-new_driver w d b rx tx = record {
-  fits = record {
-    rx = new_pipe w 4 d.rx 0 2 b (omega arith) (omega arith) rx;
-    tx = new_pipe w 4 d.tx 3 1 b (omega arith) (omega arith) tx;
-    inputs = λ h. let x : d.rx.input.queue.0 ≡ 0 = ap (λ (q : QueueId). q.0) rx.input in let y : d.tx.input.queue.0 ≡ 3 = ap (λ (q : QueueId). q.0) tx.input in omega (arith, h, x, y);
-    outputs = λ h. let x : d.rx.output.queue.0 ≡ 2 = ap (λ (q : QueueId). q.0) rx.output in let y : d.tx.output.queue.0 ≡ 1 = ap (λ (q : QueueId). q.0) tx.output in omega (arith, h, x, y);
-  };
-  long = b.long;
-  kind = ap (λ e. e.kind) (b.start Producer 0 (omega arith));
-  rx_input = ap (λ (q : QueueId). q.0) rx.input;
-  rx_output = ap (λ (q : QueueId). q.0) rx.output;
-  tx_input = ap (λ (q : QueueId). q.0) tx.input;
-  tx_output = ap (λ (q : QueueId). q.0) tx.output;
-}
+pub new_driver : (w : List Queue) (d : PipeDriver (Pipes Pipe)) → AreByteQueues 4 w → IsNewPipe (queue 0) (queue 2) d.pipes.first → IsNewPipe (queue 3) (queue 1) d.pipes.rest → DriverStands w d
+new_driver w d b rx tx =
+    let rx_input : d.pipes.first.input.queue.0 ≡ 0 = ap (λ (q : QueueId). q.0) rx.input in
+    let tx_input : d.pipes.rest.input.queue.0 ≡ 3 = ap (λ (q : QueueId). q.0) tx.input in
+    let rx_output : d.pipes.first.output.queue.0 ≡ 2 = ap (λ (q : QueueId). q.0) rx.output in
+    let tx_output : d.pipes.rest.output.queue.0 ≡ 1 = ap (λ (q : QueueId). q.0) tx.output in
+    record {
+      fits = record {
+        each = (new_pipe w 4 d.pipes.first 0 2 b (omega arith) (omega arith) rx, (new_pipe w 4 d.pipes.rest 3 1 b (omega arith) (omega arith) tx, tt));
+        inputs = ((λ h. omega (arith, h, rx_input, tx_input), tt), (tt, tt));
+        outputs = ((λ h. omega (arith, h, rx_output, tx_output), tt), (tt, tt));
+      };
+      long = b.long;
+      kind = ap (λ e. e.kind) (b.start Producer 0 (omega arith));
+      inputs = both rx_input tx_input;
+      outputs = both rx_output tx_output;
+    }
 
 -- what the hand does at an end that isn't the pipe's leaves it
 pipe_beside : (w u : List Queue) (p : Pipe) (role : Role) (place : ℕ) → OnlyAt role place w u → (Consumer ≡ role → p.input.queue.0 ≡ place → ⊥) → (Producer ≡ role → p.output.queue.0 ≡ place → ⊥) → FitsPipe (end_at w) p → FitsPipe (end_at u) p
@@ -52,42 +65,42 @@ pipe_beside w u p role place only i o f =
       load = subst (λ e. ForSome p.load (λ c. kind_of c.0 ≡ e.kind)) (sym output) f.load;
     }
 
-still : (w u : List Queue) (d : UartDriver) (role : Role) (place : ℕ) → OnlyAt role place w u → DriverStands w d → FitsDriver (end_at u) d → DriverStands u d
+still : (w u : List Queue) (d : PipeDriver (Pipes Pipe)) (role : Role) (place : ℕ) → OnlyAt role place w u → DriverStands w d → FitsPipes (end_at u) (two_pipes d.pipes) → DriverStands u d
 still w u d role place only s fits = record {
   fits = fits;
   long = only.long ∙ s.long;
   kind = only.kinds Producer 0 ∙ s.kind;
-  rx_input = s.rx_input;
-  rx_output = s.rx_output;
-  tx_input = s.tx_input;
-  tx_output = s.tx_output;
+  inputs = s.inputs;
+  outputs = s.outputs;
 }
 
 -- queue 0 is filled by hand, and queue 2 is emptied
-pub after_feed : (w u : List Queue) (d : UartDriver) → DriverStands w d → OnlyAt Producer 0 w u → DriverStands u d
+pub after_feed : (w u : List Queue) (d : PipeDriver (Pipes Pipe)) → DriverStands w d → OnlyAt Producer 0 w u → DriverStands u d
 after_feed w u d s only = still w u d Producer 0 only s (record {
-  rx = pipe_beside w u d.rx Producer 0 only (λ r. cc) (λ r h. let x = s.rx_output in omega (arith, h, x)) s.fits.rx;
-  tx = pipe_beside w u d.tx Producer 0 only (λ r. cc) (λ r h. let x = s.tx_output in omega (arith, h, x)) s.fits.tx;
+  each = (
+    pipe_beside w u d.pipes.first Producer 0 only (λ r. cc) (λ r h. let x = first_is s.outputs in omega (arith, h, x)) s.fits.each.0,
+    (pipe_beside w u d.pipes.rest Producer 0 only (λ r. cc) (λ r h. let x = second_is s.outputs in omega (arith, h, x)) s.fits.each.1.0, tt),
+  );
   inputs = s.fits.inputs;
   outputs = s.fits.outputs;
 })
 
-pub after_drain : (w u : List Queue) (d : UartDriver) → DriverStands w d → OnlyAt Consumer 2 w u → DriverStands u d
+pub after_drain : (w u : List Queue) (d : PipeDriver (Pipes Pipe)) → DriverStands w d → OnlyAt Consumer 2 w u → DriverStands u d
 after_drain w u d s only = still w u d Consumer 2 only s (record {
-  rx = pipe_beside w u d.rx Consumer 2 only (λ r h. let x = s.rx_input in omega (arith, h, x)) (λ r. cc) s.fits.rx;
-  tx = pipe_beside w u d.tx Consumer 2 only (λ r h. let x = s.tx_input in omega (arith, h, x)) (λ r. cc) s.fits.tx;
+  each = (
+    pipe_beside w u d.pipes.first Consumer 2 only (λ r h. let x = first_is s.inputs in omega (arith, h, x)) (λ r. cc) s.fits.each.0,
+    (pipe_beside w u d.pipes.rest Consumer 2 only (λ r h. let x = second_is s.inputs in omega (arith, h, x)) (λ r. cc) s.fits.each.1.0, tt),
+  );
   inputs = s.fits.inputs;
   outputs = s.fits.outputs;
 })
 
 -- a step of the driver
-pub after_turn : (w u : List Queue) (d d' : UartDriver) (e : Event) → DriverStands w d → FitsDriver (end_at u) d' → Stepped DriverStandsFor (λ old x new. Happens old x new) w u d d' e → SameEnds d d' → DriverStands u d'
-after_turn w u d d' e s fits st same = record {
+pub after_turn : (w u : List Queue) (d d' : PipeDriver (Pipes Pipe)) (e : Event) → DriverStands w d → FitsPipes (end_at u) (two_pipes d'.pipes) → Stepped PipesStandFor (λ old x new. Happens old x new) w u (two_pipes d.pipes) (two_pipes d'.pipes) e → inputs_of (two_pipes d'.pipes) ≡ inputs_of (two_pipes d.pipes) → outputs_of (two_pipes d'.pipes) ≡ outputs_of (two_pipes d.pipes) → DriverStands u d'
+after_turn w u d d' e s fits st ins outs = record {
   fits = fits;
   long = ap length st.happened.after_is ∙ (length-set w e.queue.0 _ ∙ s.long);
   kind = (moves w _ u st.happened).kinds Producer 0 ∙ s.kind;
-  rx_input = ap (λ (q : QueueId). q.0) same.rx_input ∙ s.rx_input;
-  rx_output = ap (λ (q : QueueId). q.0) same.rx_output ∙ s.rx_output;
-  tx_input = ap (λ (q : QueueId). q.0) same.tx_input ∙ s.tx_input;
-  tx_output = ap (λ (q : QueueId). q.0) same.tx_output ∙ s.tx_output;
+  inputs = ins ∙ s.inputs;
+  outputs = outs ∙ s.outputs;
 }

@@ -1,12 +1,13 @@
-use Rattle.std.proofs.Common.{Result, Ok, Err, IfOk}
+use Rattle.std.proofs.Common.{Result, Ok, Err, IfOk, List}
 use Rattle.cargo_core.specs.declared.memory.Memory.{Memory}
 use Rattle.wire_core.specs.declared.names.Event.{Event}
 use Rattle.wire_core.specs.Deeds.{Deed}
 use Rattle.wire_core.specs.Lists.{Passed, Stepped}
 use Rattle.device_model.specs.Devices.{UartStandsFor, UartRow, UartBalances}
 use Rattle.device_model.specs.declared.UartDevice.{UartDevice}
-use Rattle.uart_driver.specs.Driver.{DriverStandsFor, DriverRow, DriverBalances}
-use Rattle.uart_driver.specs.declared.UartDriver.{UartDriver}
+use Rattle.turn_kit.specs.declared.pipe.Pipe.{Pipe}
+use Rattle.pipe_driver.specs.Drivers.{PipesStandFor, PipesRow, PipesBalance}
+use Rattle.pipe_driver.specs.Lengths.{two_pipes}
 use Rattle.serial_virt.specs.Receiving.{RxStandsFor, RxRow, RxBalances}
 use Rattle.serial_virt.specs.declared.rx.SerialVirtRx.{SerialVirtRx}
 use Rattle.serial_virt.specs.Sending.{TxStandsFor, TxRow, TxBalances}
@@ -26,19 +27,19 @@ ok_actor S did w v old new a a' (Ok e) was is st = as_actor S did w v old new a 
 ok_actor S did w v old new a a' (Err m) was is st = st
 
 -- the row of each kind is that of an actor
-pub rows : ((x : UartDevice) (p : Passed) → UartStandsFor x p → UartRow x p) → ((x : UartDriver) (p : Passed) → DriverStandsFor x p → DriverRow x p) → ((x : SerialVirtRx) (p : Passed) → RxStandsFor x p → RxRow x p) → ((x : SerialVirtTx) (p : Passed) → TxStandsFor x p → TxRow x p) → ((x : SerialClient) (p : Passed) → SerialStandsFor x p → SerialRow x p)
+pub rows : ((x : UartDevice) (p : Passed) → UartStandsFor x p → UartRow x p) → ((ps : List Pipe) (p : Passed) → PipesStandFor ps p → PipesRow ps p) → ((x : SerialVirtRx) (p : Passed) → RxStandsFor x p → RxRow x p) → ((x : SerialVirtTx) (p : Passed) → TxStandsFor x p → TxRow x p) → ((x : SerialClient) (p : Passed) → SerialStandsFor x p → SerialRow x p)
     → (a : Actor) (p : Passed) → ActorStandsFor a p → ActorRow a p
 rows device driver rx tx client (Kinds.UartDevice x) p h = device x p h
-rows device driver rx tx client (Kinds.UartDriver x) p h = driver x p h
+rows device driver rx tx client (Kinds.UartDriver x) p h = driver (two_pipes x.pipes) p h
 rows device driver rx tx client (Kinds.SerialVirtRx x) p h = rx x p h
 rows device driver rx tx client (Kinds.SerialVirtTx x) p h = tx x p h
 rows device driver rx tx client (Kinds.SerialClient x) p h = client x p h
 
 -- and so is its balance
-pub balances : ((x : UartDevice) (p : Passed) → UartStandsFor x p → UartBalances x p) → ((x : UartDriver) (p : Passed) → DriverStandsFor x p → DriverBalances x p) → ((x : SerialVirtRx) (p : Passed) → RxStandsFor x p → RxBalances x p) → ((x : SerialVirtTx) (p : Passed) → TxStandsFor x p → TxBalances x p) → ((x : SerialClient) (p : Passed) → SerialStandsFor x p → SerialBalances x p)
+pub balances : ((x : UartDevice) (p : Passed) → UartStandsFor x p → UartBalances x p) → ((ps : List Pipe) (p : Passed) → PipesStandFor ps p → PipesBalance ps p) → ((x : SerialVirtRx) (p : Passed) → RxStandsFor x p → RxBalances x p) → ((x : SerialVirtTx) (p : Passed) → TxStandsFor x p → TxBalances x p) → ((x : SerialClient) (p : Passed) → SerialStandsFor x p → SerialBalances x p)
     → (a : Actor) (p : Passed) → ActorStandsFor a p → ActorBalances a p
 balances device driver rx tx client (Kinds.UartDevice x) p h = device x p h
-balances device driver rx tx client (Kinds.UartDriver x) p h = driver x p h
+balances device driver rx tx client (Kinds.UartDriver x) p h = driver (two_pipes x.pipes) p h
 balances device driver rx tx client (Kinds.SerialVirtRx x) p h = rx x p h
 balances device driver rx tx client (Kinds.SerialVirtTx x) p h = tx x p h
 balances device driver rx tx client (Kinds.SerialClient x) p h = client x p h

@@ -103,7 +103,7 @@ pub fn row_law()
     ensures { (a : Actor) (passed : Passed) → ActorStandsFor a passed → ActorRow a passed }
 {
     device_model::row_law();
-    uart_driver::row_law();
+    pipe_driver::row_law();
     serial_virt::rx_row_law();
     serial_virt::tx_row_law();
     client_programs::row_law();
@@ -115,7 +115,7 @@ pub fn hand_law()
     ensures { (a : Actor) (passed : Passed) → ActorStandsFor a passed → ActorBalances a passed }
 {
     device_model::hand_law();
-    uart_driver::hand_law();
+    pipe_driver::hand_law();
     serial_virt::rx_hand_law();
     serial_virt::tx_hand_law();
     client_programs::hand_law();

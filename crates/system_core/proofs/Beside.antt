@@ -68,8 +68,10 @@ module _ (ends ends' : Role → ℕ → End) (kinds : (r : Role) (n : ℕ) → (
   fits_beside (Kinds.SerialVirtRx x) same f = fits_rx x same f
   fits_beside (Kinds.SerialVirtTx x) same f = fits_tx x same f
   fits_beside (Kinds.UartDriver x) same f = record {
-    rx = fits_pipe x.rx (same Consumer x.rx.input.queue.0 (inl refl)) (same Producer x.rx.output.queue.0 (inl refl)) f.rx;
-    tx = fits_pipe x.tx (same Consumer x.tx.input.queue.0 (inr refl)) (same Producer x.tx.output.queue.0 (inr refl)) f.tx;
+    each = (
+      fits_pipe x.pipes.first (same Consumer x.pipes.first.input.queue.0 (inl refl)) (same Producer x.pipes.first.output.queue.0 (inl refl)) f.each.0,
+      (fits_pipe x.pipes.rest (same Consumer x.pipes.rest.input.queue.0 (inr (inl refl))) (same Producer x.pipes.rest.output.queue.0 (inr (inl refl))) f.each.1.0, tt),
+    );
     inputs = f.inputs;
     outputs = f.outputs;
   }
@@ -97,4 +99,7 @@ module _ (passed passed' : Passed) where
   stands_beside (Kinds.SerialClient x) ins outs f = stands_terminal x.terminal (ins x.terminal.input.queue.0 refl) (outs x.terminal.output.queue.0 refl) f
   stands_beside (Kinds.SerialVirtRx x) ins outs f = stands_rx x ins outs f
   stands_beside (Kinds.SerialVirtTx x) ins outs f = stands_tx x ins outs f
-  stands_beside (Kinds.UartDriver x) ins outs f = (stands_pipe x.rx (ins x.rx.input.queue.0 (inl refl)) (outs x.rx.output.queue.0 (inl refl)) f.0, stands_pipe x.tx (ins x.tx.input.queue.0 (inr refl)) (outs x.tx.output.queue.0 (inr refl)) f.1)
+  stands_beside (Kinds.UartDriver x) ins outs f = (
+    stands_pipe x.pipes.first (ins x.pipes.first.input.queue.0 (inl refl)) (outs x.pipes.first.output.queue.0 (inl refl)) f.0,
+    (stands_pipe x.pipes.rest (ins x.pipes.rest.input.queue.0 (inr (inl refl))) (outs x.pipes.rest.output.queue.0 (inr (inl refl))) f.1.0, tt),
+  )

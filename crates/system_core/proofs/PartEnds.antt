@@ -48,8 +48,12 @@ to_part (Kinds.SerialVirtTx x) Consumer n h = (h.0, number_there (intake_queues 
 to_part (Kinds.SerialVirtTx x) Producer n h = h
 to_part (Kinds.SerialClient x) Consumer n h = h
 to_part (Kinds.SerialClient x) Producer n h = h
-to_part (Kinds.UartDriver x) Consumer n h = h
-to_part (Kinds.UartDriver x) Producer n h = h
+to_part (Kinds.UartDriver x) Consumer n (inl h) = inl h
+to_part (Kinds.UartDriver x) Consumer n (inr (inl h)) = inr h
+to_part (Kinds.UartDriver x) Consumer n (inr (inr h)) = absurd h
+to_part (Kinds.UartDriver x) Producer n (inl h) = inl h
+to_part (Kinds.UartDriver x) Producer n (inr (inl h)) = inr h
+to_part (Kinds.UartDriver x) Producer n (inr (inr h)) = absurd h
 
 pub from_part : (x : Actor) (r : Role) (n : ℕ) → PartEnd (part_of x) r n → ActorEnd x r n
 from_part (Kinds.UartDevice x) Consumer n h = h
@@ -60,8 +64,10 @@ from_part (Kinds.SerialVirtTx x) Consumer n h = let q = queue_there (intake_queu
 from_part (Kinds.SerialVirtTx x) Producer n h = h
 from_part (Kinds.SerialClient x) Consumer n h = h
 from_part (Kinds.SerialClient x) Producer n h = h
-from_part (Kinds.UartDriver x) Consumer n h = h
-from_part (Kinds.UartDriver x) Producer n h = h
+from_part (Kinds.UartDriver x) Consumer n (inl h) = inl h
+from_part (Kinds.UartDriver x) Consumer n (inr h) = inr (inl h)
+from_part (Kinds.UartDriver x) Producer n (inl h) = inl h
+from_part (Kinds.UartDriver x) Producer n (inr h) = inr (inl h)
 
 pub same_part : (x y : Actor) (r : Role) (n : ℕ) → part_of y ≡ part_of x → ActorEnd y r n → ActorEnd x r n
 same_part x y r n e h = from_part x r n (subst (λ p. PartEnd p r n) e (to_part y r n h))

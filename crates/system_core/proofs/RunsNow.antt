@@ -217,12 +217,12 @@ module _ (scene : Scene) (history : History) (rows : List QueueRow) (w : List Qu
   meets (Kinds.SerialVirtRx x) f st = rx_meets x f st
   meets (Kinds.SerialVirtTx x) f st = tx_meets x f st
   meets (Kinds.UartDriver x) f st = (
-    record { needs = free x.rx st.0; agrees = f.rx.input },
+    record { needs = free x.pipes.first st.0; agrees = f.each.0.input },
     (
-      record { needs = loaded x.rx st.0; agrees = f.rx.output },
+      record { needs = loaded x.pipes.first st.0; agrees = f.each.0.output },
       (
-        record { needs = free x.tx st.1; agrees = f.tx.input },
-        (record { needs = loaded x.tx st.1; agrees = f.tx.output }, tt),
+        record { needs = free x.pipes.rest st.1.0; agrees = f.each.1.0.input },
+        (record { needs = loaded x.pipes.rest st.1.0; agrees = f.each.1.0.output }, tt),
       ),
     ),
   )

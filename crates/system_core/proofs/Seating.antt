@@ -123,10 +123,12 @@ module _ (rows : List QueueRow) (k : ℕ) where
   new_fits (Kinds.UartDevice x) new apart seats = terminal_fits x.terminal new (seats Consumer x.terminal.input.queue.0 refl) (seats Producer x.terminal.output.queue.0 refl)
   new_fits (Kinds.SerialClient x) new apart seats = terminal_fits x.terminal new (seats Consumer x.terminal.input.queue.0 refl) (seats Producer x.terminal.output.queue.0 refl)
   new_fits (Kinds.UartDriver x) new apart seats = record {
-    rx = pipe_fits x.rx new.0 (seats Consumer x.rx.input.queue.0 (inl refl)) (seats Producer x.rx.output.queue.0 (inl refl));
-    tx = pipe_fits x.tx new.1 (seats Consumer x.tx.input.queue.0 (inr refl)) (seats Producer x.tx.output.queue.0 (inr refl));
-    inputs = apart.0;
-    outputs = apart.1;
+    each = (
+      pipe_fits x.pipes.first new.0 (seats Consumer x.pipes.first.input.queue.0 (inl refl)) (seats Producer x.pipes.first.output.queue.0 (inl refl)),
+      (pipe_fits x.pipes.rest new.1 (seats Consumer x.pipes.rest.input.queue.0 (inr (inl refl))) (seats Producer x.pipes.rest.output.queue.0 (inr (inl refl))), tt),
+    );
+    inputs = ((apart.0, tt), (tt, tt));
+    outputs = ((apart.1, tt), (tt, tt));
   }
   new_fits (Kinds.SerialVirtRx x) new apart seats = rx_fits x new apart seats
   new_fits (Kinds.SerialVirtTx x) new apart seats = tx_fits x new apart seats
@@ -149,7 +151,7 @@ none_taken (q ∷ qs) (suc k) l h = none_taken qs k l h
 new_stands : (x : Actor) → IsNew x → ActorStandsFor x nothing_passed
 new_stands (Kinds.UartDevice x) new = terminal_stands x.terminal new
 new_stands (Kinds.SerialClient x) new = terminal_stands x.terminal new
-new_stands (Kinds.UartDriver x) new = (pipe_stands x.rx new.0, pipe_stands x.tx new.1)
+new_stands (Kinds.UartDriver x) new = (pipe_stands x.pipes.first new.0, (pipe_stands x.pipes.rest new.1, tt))
 new_stands (Kinds.SerialVirtRx x) new = record {
   switched = new.switched;
   to = λ some. let no : true ≡ false = sym some ∙ ap is_some new.load in cc;

@@ -15,7 +15,7 @@ pub returns-in-UartDevice-clause-after : goal.returns-in-UartDevice-clause-after
 returns-in-UartDevice-clause-after c = subst (λ a. Forgot a (Kinds.UartDevice c.forget.new.self)) (sym c.in-UartDevice.is) (ap (λ (d : UartDevice). d.terminal) c.forget.ensures.after)
 
 pub returns-in-UartDriver-clause-after : goal.returns-in-UartDriver-clause-after
-returns-in-UartDriver-clause-after c = subst (λ a. Forgot a (Kinds.UartDriver c.forget-in-UartDriver.new.self)) (sym c.in-UartDriver.is) c.forget-in-UartDriver.ensures.after
+returns-in-UartDriver-clause-after c = subst (λ a. Forgot a (Kinds.UartDriver c.forget-in-UartDriver.new.self)) (sym c.in-UartDriver.is) (c.forget-in-UartDriver.ensures.pipes, c.forget-in-UartDriver.ensures.turn)
 
 pub returns-in-SerialVirtRx-clause-after : goal.returns-in-SerialVirtRx-clause-after
 returns-in-SerialVirtRx-clause-after c = subst (λ a. Forgot a (Kinds.SerialVirtRx c.forget-in-SerialVirtRx.new.self)) (sym c.in-SerialVirtRx.is) c.forget-in-SerialVirtRx.ensures.after

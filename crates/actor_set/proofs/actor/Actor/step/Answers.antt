@@ -1,6 +1,6 @@
 use Rattle.std.proofs.Common.{subst}
 use Rattle.device_model.specs.Devices.{UartStandsFor}
-use Rattle.uart_driver.specs.Driver.{DriverStandsFor}
+use Rattle.pipe_driver.specs.Drivers.{PipesStandFor}
 use Rattle.client_programs.specs.Clients.{SerialStandsFor}
 use Rattle.serial_virt.specs.Receiving.{RxStandsFor}
 use Rattle.serial_virt.specs.Sending.{TxStandsFor}
@@ -12,7 +12,7 @@ pub returns-in-UartDevice-clause-stepped : goal.returns-in-UartDevice-clause-ste
 returns-in-UartDevice-clause-stepped g c = ok_actor UartStandsFor _ _ _ _ _ _ _ c.step.result (λ passed h. subst (λ a. ActorStandsFor a passed) c.in-UartDevice.is h) (λ passed h. h) c.step.ensures.stepped
 
 pub returns-in-UartDriver-clause-stepped : goal.returns-in-UartDriver-clause-stepped
-returns-in-UartDriver-clause-stepped g c = as_actor DriverStandsFor _ _ _ _ _ _ _ _ (λ passed h. subst (λ a. ActorStandsFor a passed) c.in-UartDriver.is h) (λ passed h. h) c.step-in-UartDriver.ensures.stepped
+returns-in-UartDriver-clause-stepped g c = as_actor PipesStandFor _ _ _ _ _ _ _ _ (λ passed h. subst (λ a. ActorStandsFor a passed) c.in-UartDriver.is h) (λ passed h. h) c.step-in-UartDriver.ensures.stepped
 
 pub returns-in-SerialClient-clause-stepped : goal.returns-in-SerialClient-clause-stepped
 returns-in-SerialClient-clause-stepped g c = ok_actor SerialStandsFor _ _ _ _ _ _ _ c.step-in-SerialClient.result (λ passed h. subst (λ a. ActorStandsFor a passed) c.in-SerialClient.is h) (λ passed h. h) c.step-in-SerialClient.ensures.stepped
