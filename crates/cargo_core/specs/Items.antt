@@ -1,3 +1,4 @@
+-- Which queue an item is for, and the numbers of codes and statuses.
 use Rattle.std.specs.Prelude.{ℕ}
 use Rattle.cargo_core.specs.declared.item.Item.{Item}
 use Rattle.cargo_core.specs.declared.item.Item.TheVariants as Carried

@@ -1,3 +1,4 @@
+//! A list of bytes, which contracts see as that list and as nothing beside it.
 ghost use Rattle.std.specs.Prelude.{◌≡◌, ◌≤◌, ◌+◌, ◌==◌, [], ◌∷◌, ◌++◌, length, OnOk, OnErr, IfOk};
 ghost use Rattle.cargo_core.specs.Lists.{replaced};
 

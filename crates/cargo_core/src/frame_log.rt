@@ -42,7 +42,8 @@ impl FrameLog {
         Ok(())
     }
 
-    // Appends a frame. Where the list is full, its frames move to another one that has the place: it takes no memory.
+    // Appends a frame. Where the list is full, its frames move to another one that has the place:
+    // it takes no memory.
     pub(crate) fn push_with(&mut self, next: &mut Vec<Bytes>, frame: Bytes)
         requires empty { next.old.items ≡ [] }
         requires place { length self.old < vec_capacity next.old }

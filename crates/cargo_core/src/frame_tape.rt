@@ -1,4 +1,5 @@
-//! Frames that an actor records, with the memory of the next one taken before its step knows the frame.
+//! Frames that an actor records, with the memory of the next one taken before its step knows the
+//! frame.
 ghost use Rattle.std.specs.Prelude.{◌≡◌, ◌<◌, ◌≤◌, [], ◌∷◌, ◌++◌, length, OnOk, OnErr};
 
 use crate::{Bytes, FrameLog, Memory};
@@ -6,8 +7,8 @@ use std::alloc::Global;
 use std::marker::Model;
 use std::mem;
 
-/// Frames that are recorded one by one. The memory of the next one can be taken beforehand, so that a step which
-/// records can do first what may fail.
+/// Frames that are recorded one by one. The memory of the next one can be taken beforehand, so that
+/// a step which records can do first what may fail.
 #[derive(Debug, Drop)]
 pub struct FrameTape {
     alloc: Global,
@@ -24,7 +25,11 @@ impl Model for FrameTape {
 
     ghost Value = { FramesTaped };
 
-    ghost view = { λ t. record { shown = t.log; places = vec_capacity t.next - length t.log; bytes = vec_capacity t.blank } };
+    ghost view = { λ t. record {
+      shown = t.log;
+      places = vec_capacity t.next - length t.log;
+      bytes = vec_capacity t.blank;
+    } };
 
     ghost invariant = { λ t. (t.next.items ≡ []) × (t.blank.items ≡ []) };
 }
@@ -49,7 +54,8 @@ impl FrameTape {
         &self.log
     }
 
-    /// Takes the memory of one more frame of at most `len` bytes. After want of memory nothing changed.
+    /// Takes the memory of one more frame of at most `len` bytes. After want of memory nothing
+    /// changed.
     pub fn reserve(&mut self, len: usize) -> Result<(), Memory>
         ensures ok { OnOk result (self.new.shown ≡ self.old.shown) }
         ensures place { OnOk result (0 < self.new.places) }
@@ -69,7 +75,8 @@ impl FrameTape {
 
     // Takes the memory of the next frame's bytes.
     fn reserve_bytes(&mut self, len: usize) -> Result<(), Memory>
-        ensures ok { OnOk result ((self.new.shown ≡ self.old.shown) × (self.new.places ≡ self.old.places)) }
+        ensures ok { OnOk result
+            ((self.new.shown ≡ self.old.shown) × (self.new.places ≡ self.old.places)) }
         ensures bytes { OnOk result (len ≤ self.new.bytes) }
         ensures err { OnErr result (self.new ≡ self.old) }
     {

@@ -1,3 +1,4 @@
+//! What the entries of queues say and carry: the descriptors of the three classes, and bodies.
 ghost use Rattle.std.specs.Prelude.{◌≡◌};
 ghost use Rattle.cargo_core.specs.Items.{kind_of, code_number, status_number};
 
@@ -7,8 +8,9 @@ use crate::{Bytes, Lease, Page};
 #[derive(Clone, Copy, Debug, PartialEq, Eq)]
 pub struct PoolId(pub u16);
 
-/// A descriptor of a network buffer: where it begins (a device address, or an offset into the client's region,
-/// by the queue), and how many bytes of it are a frame. From sDDF's net queue header.
+/// A descriptor of a network buffer: where it begins (a device address, or an offset into the
+/// client's region, by the queue), and how many bytes of it are a frame. From sDDF's net queue
+/// header.
 #[derive(Clone, Copy, Debug, PartialEq, Eq)]
 pub struct NetDesc {
     pub addr: u64,
@@ -38,8 +40,8 @@ impl Code {
     }
 }
 
-/// How a block request ended. The numbers 0 to 2, in this order, are this project's own; the other statuses of
-/// sDDF's block queue header are left out, since the modelled disk never errs.
+/// How a block request ended. The numbers 0 to 2, in this order, are this project's own; the other
+/// statuses of sDDF's block queue header are left out, since the modelled disk never errs.
 #[derive(Clone, Copy, Debug, PartialEq, Eq)]
 pub enum BlkStatus {
     Ok,
@@ -60,8 +62,9 @@ impl BlkStatus {
     }
 }
 
-/// A block request: `block` and `count` are in blocks of 4,096 bytes, `addr` names the buffer. From sDDF's block
-/// queue header. The widest fields come first, since fields lie in memory in this order.
+/// A block request: `block` and `count` are in blocks of 4,096 bytes, `addr` names the buffer. From
+/// sDDF's block queue header. The widest fields come first, since fields lie in memory in this
+/// order.
 #[derive(Clone, Copy, Debug, PartialEq, Eq)]
 pub struct BlkReq {
     pub addr: u64,
@@ -111,8 +114,8 @@ impl Item {
     }
 }
 
-/// What an entry of a queue carries: nothing, a buffer itself, or leave to read one. It can't be cloned, since a buffer
-/// is one value.
+/// What an entry of a queue carries: nothing, a buffer itself, or leave to read one. It can't be
+/// cloned, since a buffer is one value.
 #[derive(Debug, Drop)]
 pub enum Body {
     Empty,
@@ -120,8 +123,8 @@ pub enum Body {
     Lease(Lease),
 }
 
-/// A request that a trace gives a block client. `fill` is empty but for a write; `block` and `count` are 0 for a
-/// flush or a barrier.
+/// A request that a trace gives a block client. `fill` is empty but for a write; `block` and
+/// `count` are 0 for a flush or a barrier.
 #[derive(Debug, Drop)]
 pub struct Ask {
     pub code: Code,

@@ -1,12 +1,13 @@
-//! Want of memory, which is made here alone, from what the allocator answered: so each such answer comes from an
-//! allocation that was refused.
+//! Want of memory, which is made here alone, from what the allocator answered: so each such answer
+//! comes from an allocation that was refused.
 
 ghost use Rattle.std.specs.Prelude.{MatchOption};
 ghost use Rattle.toml.specs.Errors.{IsMemory};
 
 use std::alloc::{AllocError, AllocFailed};
 
-/// Want of memory: an allocation was refused. It is made from an error of the allocator and of nothing else.
+/// Want of memory: an allocation was refused. It is made from an error of the allocator and of
+/// nothing else.
 #[derive(Clone, Copy, Debug, PartialEq, Eq)]
 pub struct Memory(());
 
@@ -23,7 +24,8 @@ impl<T: Drop> From<AllocFailed<T>> for Memory {
 }
 
 impl Memory {
-    /// The want of memory that a reader of TOML met. It is there exactly where an allocation of its was refused.
+    /// The want of memory that a reader of TOML met. It is there exactly where an allocation of its
+    /// was refused.
     pub fn of_toml(fault: &toml::de::Error) -> Option<Memory>
         ensures { MatchOption result (¬ IsMemory fault.now) (λ _. IsMemory fault.now) }
     {

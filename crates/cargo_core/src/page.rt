@@ -62,7 +62,7 @@ impl Page {
     /// Replaces the bytes from `at` on. It takes no memory.
     pub fn fill(&mut self, at: usize, from: &[u8])
         requires { at + length from.now ≤ length self.old.bytes }
-        ensures { self.new ≡ record { pool = self.old.pool; no = self.old.no; bytes = replaced self.old.bytes at from.now } }
+        ensures { self.new ≡ record self.old { bytes = replaced self.old.bytes at from.now } }
     {
         self.bytes.replace(at, from);
     }
@@ -70,7 +70,8 @@ impl Page {
     /// A lease of the first `len` bytes.
     pub fn lease(&self, len: usize) -> Result<Lease, Memory>
         requires { len ≤ length self.now.bytes }
-        ensures { IfOk result (λ l. l ≡ record { no = self.now.no; bytes = take len self.now.bytes }) }
+        ensures { IfOk result
+            (λ l. l ≡ record { no = self.now.no; bytes = take len self.now.bytes }) }
     {
         Lease::new(self.alloc, self.no, &self.bytes.as_slice()[..len])
     }

@@ -1,11 +1,13 @@
+//! A list of values of any type, which contracts see as that list.
 ghost use Rattle.std.specs.Prelude.{◌≡◌, ◌<◌, ◌==◌, [], ◌∷◌, ◌++◌, length, OnOk, OnErr, slice_get, Some};
 
 use crate::Memory;
 use std::alloc::Global;
 use std::marker::Model;
 
-/// A list of values, which contracts see as that list: where a struct is compared with what a definition
-/// gives, its lists are of this type, since a `Vec` shows its room and its place in memory too.
+/// A list of values, which contracts see as that list: where a struct is compared with what a
+/// definition gives, its lists are of this type, since a `Vec` shows its room and its place in
+/// memory too.
 #[derive(Debug, Drop)]
 pub struct Series<T> {
     items: Vec<T>,

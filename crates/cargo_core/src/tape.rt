@@ -1,11 +1,12 @@
+//! Bytes that an actor records, with the memory of the next one taken before its step knows it.
 ghost use Rattle.std.specs.Prelude.{◌≡◌, ◌<◌, [], ◌∷◌, ◌++◌, OnOk, OnErr};
 
 use crate::Memory;
 use std::alloc::Global;
 use std::marker::Model;
 
-/// Bytes that are recorded one by one. The memory of the next one can be taken beforehand, so that a step which
-/// records can do first what may fail.
+/// Bytes that are recorded one by one. The memory of the next one can be taken beforehand, so that
+/// a step which records can do first what may fail.
 #[derive(Debug, Drop)]
 pub struct Tape {
     bytes: Vec<u8>,
@@ -17,7 +18,10 @@ impl Model for Tape {
 
     ghost Value = { Taped };
 
-    ghost view = { λ t. record { shown = t.bytes.items; spare = vec_capacity t.bytes - vec_len t.bytes } };
+    ghost view = { λ t. record {
+      shown = t.bytes.items;
+      spare = vec_capacity t.bytes - vec_len t.bytes;
+    } };
 }
 
 impl Tape {

@@ -1,3 +1,4 @@
+//! Names and other texts, which contracts see as bytes.
 ghost use Rattle.std.specs.Prelude.{◌≡◌, IfOk};
 
 use crate::Memory;
