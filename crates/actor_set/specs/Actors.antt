@@ -1,9 +1,10 @@
 -- What is said of an actor of any kind: one case for each kind.
-use Rattle.std.specs.Prelude.{◌≡◌, ℕ, List, length, map}
+use Rattle.std.specs.Prelude.{◌≡◌, ℕ, Bool, List, length, map}
 use Rattle.cargo_core.specs.declared.item.Body.{Body}
 use Rattle.wire_core.specs.Lists.{Passed}
 use Rattle.wire_core.specs.Ends.{Role, End}
-use Rattle.turn_kit.specs.Turns.{Round}
+use Rattle.wire_core.specs.declared.names.Event.{Event}
+use Rattle.turn_kit.specs.Turns.{Round, Turned, is_at_rest}
 use Rattle.serial_terminal.specs.Terminals.{terminal_round, terminal_hand, terminal_forgotten}
 use Rattle.device_model.specs.Devices.{FitsUart, UartStandsFor, UartRow, UartBalances, UartEnd}
 use Rattle.serial_virt.specs.Receiving.{FitsRx, RxStandsFor, RxRow, RxBalances, RxEnd, RxForgot, rx_round, rx_hand}
@@ -64,6 +65,23 @@ actor_round (Kinds.UartDriver x) = pipes_round (two_pipes x.pipes) x.turn.last
 actor_round (Kinds.SerialVirtRx x) = rx_round x
 actor_round (Kinds.SerialVirtTx x) = tx_round x
 actor_round (Kinds.SerialClient x) = terminal_round x.terminal
+
+-- nothing is to be done before a notification comes: each of these kinds says it of its ends, and a kind without such ends
+-- would say it otherwise
+abbrev pub actor_rests : Actor → Bool
+actor_rests (Kinds.UartDevice x) = is_at_rest (terminal_round x.terminal)
+actor_rests (Kinds.UartDriver x) = is_at_rest (pipes_round (two_pipes x.pipes) x.turn.last)
+actor_rests (Kinds.SerialVirtRx x) = is_at_rest (rx_round x)
+actor_rests (Kinds.SerialVirtTx x) = is_at_rest (tx_round x)
+actor_rests (Kinds.SerialClient x) = is_at_rest (terminal_round x.terminal)
+
+-- a call is its turn: each of these kinds takes its ends in turn
+abbrev pub ActorTurned : Actor → Event → Actor → Type 0
+ActorTurned (Kinds.UartDevice x) e y = Turned (terminal_round x.terminal) e (actor_round y)
+ActorTurned (Kinds.UartDriver x) e y = Turned (pipes_round (two_pipes x.pipes) x.turn.last) e (actor_round y)
+ActorTurned (Kinds.SerialVirtRx x) e y = Turned (rx_round x) e (actor_round y)
+ActorTurned (Kinds.SerialVirtTx x) e y = Turned (tx_round x) e (actor_round y)
+ActorTurned (Kinds.SerialClient x) e y = Turned (terminal_round x.terminal) e (actor_round y)
 
 -- the bodies in its hand
 abbrev pub actor_hand : Actor → List Body

@@ -2,9 +2,8 @@
 ghost use Rattle.std.specs.Prelude.{◌≡◌, ℕ, IfOk, OnErr};
 ghost use Rattle.wire_core.specs.Ends.{role_of, Role, End};
 ghost use Rattle.wire_core.specs.Lists.{Passed, Stepped};
-ghost use Rattle.turn_kit.specs.Turns.{Turned, is_at_rest};
 ghost use Rattle.cargo_core.specs.Bodies.{buffers_of};
-ghost use Rattle.actor_set.specs.Actors.{FitsActor, ActorStandsFor, ActorRow, ActorBalances, ActorEnd, Forgot, actor_round, actor_hand, part_of, record_length};
+ghost use Rattle.actor_set.specs.Actors.{FitsActor, ActorStandsFor, ActorRow, ActorBalances, ActorEnd, ActorTurned, Forgot, actor_rests, actor_hand, part_of, record_length};
 
 use cargo_core::{Memory, PoolId};
 use client_programs::SerialClient;
@@ -26,7 +25,7 @@ pub enum Actor {
 impl Actor {
     /// Whether nothing is to be done before a notification comes.
     pub fn at_rest(&self) -> bool
-        ensures { result ≡ is_at_rest (actor_round self.now) }
+        ensures { result ≡ actor_rests self.now }
     {
         match self {
             Actor::UartDevice(device) => device.at_rest(),
@@ -67,7 +66,7 @@ impl Actor {
         ensures own { IfOk result (λ e. ActorEnd self.old (role_of e.op) e.queue.0) }
         ensures part { part_of self.new ≡ part_of self.old }
         ensures stepped { IfOk result (λ e. Stepped ActorStandsFor W.did wires.old wires.new self.old self.new e) }
-        ensures turned { IfOk result (λ e. Turned (actor_round self.old) e (actor_round self.new)) }
+        ensures turned { IfOk result (λ e. ActorTurned self.old e self.new) }
         ensures no_call { OnErr result (wires.new ≡ wires.old) }
         ensures unchanged { OnErr result (self.new ≡ self.old) }
     {

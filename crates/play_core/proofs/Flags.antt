@@ -1,4 +1,4 @@
-use Rattle.std.proofs.Common.{◌≡◌, ◌≢◌, ◌⊎◌, ◌==◌, ◌+◌, ℕ, Bool, true, false, not, ◌&&◌, ◌||◌, Some, List, [], ◌∷◌, ◌++◌, length, length-set, slice_get, slice_set, subst, refl, sym, ap, ◌∙◌, arith, inl, inr, zero, suc}
+use Rattle.std.proofs.Common.{◌≡◌, ◌≢◌, ◌⊎◌, ◌==◌, ◌+◌, ℕ, Bool, true, false, not, cond, ◌&&◌, ◌||◌, Some, List, [], ◌∷◌, ◌++◌, length, length-set, slice_get, slice_set, subst, refl, sym, ap, ◌∙◌, arith, inl, inr, zero, suc}
 use Rattle.std.proofs.Math.Dec.{eqb}
 use Rattle.std.proofs.lemmas.Bool.{eq-eqb}
 use Rattle.std.proofs.lemmas.Bool.Decides.{eqb_tells}
@@ -12,10 +12,12 @@ use Rattle.wire_core.specs.declared.names.Answer.{Answer}
 use Rattle.wire_core.specs.declared.names.Answer.TheVariants.{Done, Yes, No}
 use Rattle.wire_core.specs.Ends.{Role, Consumer, Producer, role_of}
 use Rattle.wire_core.specs.Queues.{Bells, calls, bells_after}
-use Rattle.wire_core.specs.Journal.{History, Hostiles, track, track_after, history_at, if_on, owner_of}
+use Rattle.wire_core.specs.Journal.{History, MayCall, track, track_after, history_at, if_on, owner_of}
 use Rattle.wire_core.proofs.Tracks.{track_from-append}
 use Rattle.wire_core.proofs.Places.{slice_get_written, slice_get_beside}
 use Rattle.play_core.specs.Wants.{Want, Needful, bells_settled, want_settled, all_settled}
+use Rattle.wire_core.proofs.Sinces.{eqb_apart}
+use Rattle.play_core.specs.Manners.{Manner, Calm, Hostile, Manners, calls_of, is_hostile, hostile_by}
 use Rattle.play_core.specs.Runs.{called_from, is_runnable, flags_from, rung_at}
 use Rattle.play_core.proofs.Lists.{some_is}
 
@@ -48,14 +50,19 @@ differs_twice xs ys k m b c d e n was was' at at' others =
     rest i away (inr e) = others i e.1 away ∙ sym (slice_get_beside xs k i b e.1)
 
 -- what is said of the actor at a place
-pub flag_at : (hostile : Hostiles) (k : ℕ) (history : History) (rows : List QueueRow) (actors : Needful) (journal : List Entry) (i m : ℕ) (ws : List Want) → m ≡ k + i → slice_get actors i ≡ Some ws → slice_get (flags_from hostile k history rows actors journal) i ≡ Some (is_runnable hostile m ws history rows journal)
-flag_at hostile k history rows [] journal i m ws e at = cc
-flag_at hostile k history rows (q ∷ actors) journal zero m ws e at = let f : k ≡ m = omega arith in let g : q ≡ ws = some_is at in rw (f, g) refl
-flag_at hostile k history rows (q ∷ actors) journal (suc i) m ws e at = flag_at hostile (k + 1) history rows actors journal i m ws (omega arith) at
+pub flag_at : (manner : Manners) (k : ℕ) (history : History) (rows : List QueueRow) (actors : Needful) (journal : List Entry) (i m : ℕ) (ws : List Want) → m ≡ k + i → slice_get actors i ≡ Some ws → slice_get (flags_from manner k history rows actors journal) i ≡ Some (is_runnable (manner m) m ws history rows journal)
+flag_at manner k history rows [] journal i m ws e at = cc
+flag_at manner k history rows (q ∷ actors) journal zero m ws e at = let f : k ≡ m = omega arith in let g : q ≡ ws = some_is at in rw (f, g) refl
+flag_at manner k history rows (q ∷ actors) journal (suc i) m ws e at = flag_at manner (k + 1) history rows actors journal i m ws (omega arith) at
 
-pub flags_length : (hostile : Hostiles) (k : ℕ) (history : History) (rows : List QueueRow) (actors : Needful) (journal : List Entry) → length (flags_from hostile k history rows actors journal) ≡ length actors
-flags_length hostile k history rows [] journal = refl
-flags_length hostile k history rows (ws ∷ actors) journal = ap suc (flags_length hostile (k + 1) history rows actors journal)
+pub flags_length : (manner : Manners) (k : ℕ) (history : History) (rows : List QueueRow) (actors : Needful) (journal : List Entry) → length (flags_from manner k history rows actors journal) ≡ length actors
+flags_length manner k history rows [] journal = refl
+flags_length manner k history rows (ws ∷ actors) journal = ap suc (flags_length manner (k + 1) history rows actors journal)
+
+-- another's entry is none of an actor's calls
+calls_beside : (i : ℕ) (journal : List Entry) (e : Entry) → (e.actor.0 == i) ≡ false → calls_of i (journal ++ e ∷ []) ≡ calls_of i journal
+calls_beside i [] e off = rw off refl
+calls_beside i (x ∷ journal) e off = ap (λ es. cond (x.actor.0 == i) (x.event ∷ es) es) (calls_beside i journal e off)
 
 not_here : (x i : ℕ) → i ≢ x → ((eqb x i ≡ true) × (x ≡ i)) ⊎ ((eqb x i ≡ false) × (x ≢ i)) → (x == i) ≡ false
 not_here x i away (inl e) = absurd (away (sym e.1))
@@ -179,22 +186,26 @@ called_one actor n (suc m) i history j (r ∷ rows) row e at h = rw (called_one 
 abbrev pub entry_of : ℕ → Event → Entry
 entry_of k e = record { actor = record { 0 = k }; event = e }
 
--- a call of actor k on a queue of this row
-module _ (hostile : Hostiles) (history : History) (rows : List QueueRow) (journal : List Entry) (k : ℕ) (e : Event) (row : QueueRow) (there : slice_get rows e.queue.0 ≡ Some row) (own : owner_of row (role_of e.op) ≡ k) where
+-- a call of actor k, which may make it, on a queue of this row
+module _ (manner : Manners) (history : History) (rows : List QueueRow) (journal : List Entry) (k : ℕ) (e : Event) (row : QueueRow) (there : slice_get rows e.queue.0 ≡ Some row) (may : MayCall (hostile_by manner) row (role_of e.op) k) where
   abbrev then_ : List Entry
   then_ = journal ++ entry_of k e ∷ []
+
+  -- it is made at an end of this actor
+  abbrev pub IsAt : ℕ → Type 0
+  IsAt actor = owner_of row (role_of e.op) ≡ actor
 
   track_then : (n : ℕ) → track history n then_ ≡ if_on (e.queue.0 == n) (track_after (track history n journal) e) (track history n journal)
   track_then n = track_from-append (history_at history n) n journal (entry_of k e)
 
-  goes_at : (actor n : ℕ) (r : QueueRow) → actor ≢ k → (rung_at e.op row ≡ Some actor → ⊥) → slice_get rows n ≡ Some r → ((eqb e.queue.0 n ≡ true) × (e.queue.0 ≡ n)) ⊎ ((eqb e.queue.0 n ≡ false) × (e.queue.0 ≢ n)) → calls actor r.producer.0 r.consumer.0 (track history n then_).bells ≡ calls actor r.producer.0 r.consumer.0 (track history n journal).bells
+  goes_at : (actor n : ℕ) (r : QueueRow) → (IsAt actor → ⊥) → (rung_at e.op row ≡ Some actor → ⊥) → slice_get rows n ≡ Some r → ((eqb e.queue.0 n ≡ true) × (e.queue.0 ≡ n)) ⊎ ((eqb e.queue.0 n ≡ false) × (e.queue.0 ≢ n)) → calls actor r.producer.0 r.consumer.0 (track history n then_).bells ≡ calls actor r.producer.0 r.consumer.0 (track history n journal).bells
   goes_at actor n r away quiet at (inl on) =
       let same : row ≡ r = some_is (sym there ∙ (ap (slice_get rows) on.1 ∙ at)) in
-      rw (track_then n, on.0) (calls_same r (track history n journal).bells e.op e.answer actor (λ h. away (h ∙ rw (← same) own)) (λ h. quiet (rw same h)))
+      rw (track_then n, on.0) (calls_same r (track history n journal).bells e.op e.answer actor (λ h. away (rw same (sym h))) (λ h. quiet (rw same h)))
   goes_at actor n r away quiet at (inr off) = rw (track_then n, off.0) refl
 
-  -- who isn't the caller and isn't rung is called as before
-  pub called_still : (actor : ℕ) → actor ≢ k → (rung_at e.op row ≡ Some actor → ⊥) → called_from actor 0 history rows then_ ≡ called_from actor 0 history rows journal
+  -- who isn't called at, and isn't rung, is called as before
+  pub called_still : (actor : ℕ) → (IsAt actor → ⊥) → (rung_at e.op row ≡ Some actor → ⊥) → called_from actor 0 history rows then_ ≡ called_from actor 0 history rows journal
   called_still actor away quiet = called_goes actor 0 history journal then_ rows (λ m r at. let z : m ≡ 0 + m = omega arith in subst (λ i. calls actor r.producer.0 r.consumer.0 (track history i then_).bells ≡ calls actor r.producer.0 r.consumer.0 (track history i journal).bells) z (goes_at actor m r away quiet at (eqb_tells e.queue.0 m)))
 
   -- who is rung is called
@@ -205,7 +216,7 @@ module _ (hostile : Hostiles) (history : History) (rows : List QueueRow) (journa
   settled_at w off (inl on) = rw (track_then w.queue, on.0) (other_settled (track history w.queue journal).bells e.op e.answer w.role w.need (λ same. off (sym on.1) same))
   settled_at w off (inr away) = rw (track_then w.queue, away.0) refl
 
-  -- an end that isn't the caller's stays as settled as it was
+  -- an end at which the call isn't made stays as settled as it was
   pub want_still : (w : Want) → (w.queue ≡ e.queue.0 → w.role ≡ role_of e.op → ⊥) → want_settled history then_ w ≡ want_settled history journal w
   want_still w off = settled_at w off (eqb_tells e.queue.0 w.queue)
 
@@ -216,18 +227,33 @@ module _ (hostile : Hostiles) (history : History) (rows : List QueueRow) (journa
       let rest = all_still ws (λ i x at. off (suc i) x at) in
       rw (here, rest) refl
 
-  -- an actor that isn't the caller and isn't rung, and has no end of the caller's, stays runnable or not
-  pub runnable_still : (i : ℕ) (ws : List Want) → i ≢ k → (rung_at e.op row ≡ Some i → ⊥) → ((p : ℕ) (w : Want) → slice_get ws p ≡ Some w → w.queue ≡ e.queue.0 → w.role ≡ role_of e.op → ⊥) → is_runnable hostile i ws history rows then_ ≡ is_runnable hostile i ws history rows journal
-  runnable_still i ws away quiet off =
-      let settled = all_still ws off in
-      let called = called_still i away quiet in
-      rw (settled, called) refl
+  -- an actor at whose ends the call isn't made, which isn't rung, and if it is hostile isn't the caller, stays runnable
+  -- or not
+  pub runnable_still : (i : ℕ) (ws : List Want) → (IsAt i → ⊥) → (rung_at e.op row ≡ Some i → ⊥) → (hostile_by manner i ≡ true → k ≡ i → ⊥) → ((p : ℕ) (w : Want) → slice_get ws p ≡ Some w → w.queue ≡ e.queue.0 → w.role ≡ role_of e.op → ⊥) → is_runnable (manner i) i ws history rows then_ ≡ is_runnable (manner i) i ws history rows journal
+  runnable_still i ws away quiet apart off = go (manner i) apart
+    where
+      go : (m : Manner) → (is_hostile m ≡ true → k ≡ i → ⊥) → is_runnable m i ws history rows then_ ≡ is_runnable m i ws history rows journal
+      go Calm other =
+          let settled = all_still ws off in
+          let called = called_still i away quiet in
+          rw (settled, called) refl
+      go (Hostile done) other = ap (λ es. not (done es)) (calls_beside i journal (entry_of k e) (eqb_apart k i (other refl)))
 
-  -- one that is rung is runnable
-  pub runnable_rung : (i : ℕ) (ws : List Want) → hostile i ≡ false → rung_at e.op row ≡ Some i → is_runnable hostile i ws history rows then_ ≡ true
-  runnable_rung i ws calm rung = let called = called_now i rung in rw (called, calm) (true_after (not (all_settled history then_ ws)))
+  -- one that is rung is runnable, unless it is hostile
+  pub runnable_rung : (i : ℕ) (ws : List Want) → hostile_by manner i ≡ false → rung_at e.op row ≡ Some i → is_runnable (manner i) i ws history rows then_ ≡ true
+  runnable_rung i ws calm rung = go (manner i) calm
+    where
+      go : (m : Manner) → is_hostile m ≡ false → is_runnable m i ws history rows then_ ≡ true
+      go Calm c = let called = called_now i rung in rw called (true_after (not (all_settled history then_ ws)))
+      go (Hostile done) c = cc
 
-  -- an actor that owns neither end of the queue stays runnable or not
-  pub runnable_beside : (i : ℕ) (ws : List Want) → ((r : Role) → owner_of row r ≡ i → ⊥) → ((p : ℕ) (w : Want) → slice_get ws p ≡ Some w → w.queue ≡ e.queue.0 → ⊥) → is_runnable hostile i ws history rows then_ ≡ is_runnable hostile i ws history rows journal
-  runnable_beside i ws stranger off =
-      runnable_still i ws (λ same. stranger (role_of e.op) (own ∙ sym same)) (λ rung. let o = rung_owns e.op row i rung in stranger o.0 o.1) (λ p w at q r. off p w at q)
+  -- an actor that owns neither end of the queue isn't the caller
+  pub strangers_apart : (i : ℕ) → ((r : Role) → owner_of row r ≡ i → ⊥) → k ≡ i → ⊥
+  strangers_apart i stranger same = stranger may.some.0 (may.some.1 ∙ same)
+
+  pub strangers_unrung : (i : ℕ) → ((r : Role) → owner_of row r ≡ i → ⊥) → rung_at e.op row ≡ Some i → ⊥
+  strangers_unrung i stranger rung = let o = rung_owns e.op row i rung in stranger o.0 o.1
+
+  -- so it stays runnable or not
+  pub runnable_beside : (i : ℕ) (ws : List Want) → ((r : Role) → owner_of row r ≡ i → ⊥) → ((p : ℕ) (w : Want) → slice_get ws p ≡ Some w → w.queue ≡ e.queue.0 → ⊥) → is_runnable (manner i) i ws history rows then_ ≡ is_runnable (manner i) i ws history rows journal
+  runnable_beside i ws stranger off = runnable_still i ws (stranger (role_of e.op)) (strangers_unrung i stranger) (λ h same. strangers_apart i stranger same) (λ p w at q r. off p w at q)

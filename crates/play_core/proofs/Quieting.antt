@@ -1,9 +1,10 @@
-use Rattle.std.proofs.Common.{◌≡◌, ◌+◌, ◌&&◌, ℕ, zero, suc, Bool, true, false, not, Some, List, [], ◌∷◌, slice_get, refl, arith}
+use Rattle.std.proofs.Common.{◌≡◌, ◌+◌, ℕ, zero, suc, Bool, true, false, not, Some, List, [], ◌∷◌, slice_get, refl, arith}
 use Rattle.wire_core.specs.declared.names.QueueRow.{QueueRow}
 use Rattle.wire_core.specs.declared.names.Entry.{Entry}
-use Rattle.wire_core.specs.Journal.{History, Hostiles}
-use Rattle.play_core.specs.Wants.{Want, Needful}
-use Rattle.play_core.specs.Runs.{is_runnable, flags_from, places_from}
+use Rattle.wire_core.specs.Journal.{History}
+use Rattle.play_core.specs.Wants.{Want, Needful, all_settled}
+use Rattle.play_core.specs.Manners.{Manner, Calm, Hostile, Manners, is_hostile, hostile_by}
+use Rattle.play_core.specs.Runs.{called_from, is_runnable, flags_from, places_from}
 use Rattle.play_core.specs.Still.{IsQuiet, IsStill}
 use Rattle.play_core.proofs.Lists.{there_is}
 use Rattle.play_core.proofs.Flags.{flag_at}
@@ -20,19 +21,20 @@ not_false : (b : Bool) → not b ≡ false → b ≡ true
 not_false true h = refl
 not_false false h = cc
 
-calm_called : (h c : Bool) → (not h && c) ≡ false → h ≡ false → c ≡ false
-calm_called true c none calm = cc
-calm_called false c none calm = none
+-- a calm actor that isn't runnable is settled, and isn't called
+idle_calm : (m : Manner) (k : ℕ) (ws : List Want) (history : History) (rows : List QueueRow) (journal : List Entry) → is_hostile m ≡ false → is_runnable m k ws history rows journal ≡ false → (all_settled history journal ws ≡ true) × (called_from k 0 history rows journal ≡ false)
+idle_calm Calm k ws history rows journal calm idle = (not_false _ (neither_left _ _ idle), neither_right _ _ idle)
+idle_calm (Hostile done) k ws history rows journal calm idle = cc
 
 -- where nobody is runnable, all ends are settled and nobody is called
-pub quiet_still : (hostile : Hostiles) (history : History) (rows : List QueueRow) (actors : Needful) (journal : List Entry) → IsQuiet hostile history rows actors journal → IsStill hostile history rows actors journal
-quiet_still hostile history rows actors journal q = record {
+pub quiet_still : (manner : Manners) (history : History) (rows : List QueueRow) (actors : Needful) (journal : List Entry) → IsQuiet manner history rows actors journal → IsStill (hostile_by manner) history rows actors journal
+quiet_still manner history rows actors journal q = record {
   bells_hold = q.bells_hold;
   flows = q.flows;
   peopled = q.peopled;
-  settled = λ k ws calm at. not_false _ (neither_left _ _ (idle k ws at));
-  uncalled = λ k calm lt. let x = there_is actors k lt in calm_called (hostile k) _ (neither_right _ _ (idle k x.0 x.1)) calm;
+  settled = λ k ws calm at. (idle_calm (manner k) k ws history rows journal calm (idle k ws at)).0;
+  uncalled = λ k calm lt. let x = there_is actors k lt in (idle_calm (manner k) k x.0 history rows journal calm (idle k x.0 x.1)).1;
 }
   where
-    idle : (k : ℕ) (ws : List Want) → slice_get actors k ≡ Some ws → is_runnable hostile k ws history rows journal ≡ false
-    idle k ws at = none_so 0 (flags_from hostile 0 history rows actors journal) q.quiet k _ (flag_at hostile 0 history rows actors journal k k ws (omega arith) at)
+    idle : (k : ℕ) (ws : List Want) → slice_get actors k ≡ Some ws → is_runnable (manner k) k ws history rows journal ≡ false
+    idle k ws at = none_so 0 (flags_from manner 0 history rows actors journal) q.quiet k _ (flag_at manner 0 history rows actors journal k k ws (omega arith) at)

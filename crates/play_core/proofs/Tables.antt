@@ -8,15 +8,16 @@ use Rattle.wire_core.specs.declared.names.Event.{Event}
 use Rattle.wire_core.specs.declared.names.Op.{Op}
 use Rattle.wire_core.specs.declared.names.Op.TheVariants as Do
 use Rattle.wire_core.specs.Ends.{Role, Consumer, Producer, role_of}
-use Rattle.wire_core.specs.Journal.{History, Hostiles, Track, track, track_after, history_at, owner_of}
+use Rattle.wire_core.specs.Journal.{History, Hostiles, MayCall, Track, track, track_after, history_at, owner_of}
 use Rattle.wire_core.proofs.Tracks.{track_from-append}
 use Rattle.play_core.specs.Moved.{Moved, Seat, moved, went, AreAlike}
 use Rattle.play_core.specs.Wants.{Want, seat_of}
+use Rattle.play_core.specs.Manners.{Manners, hostile_by}
 use Rattle.play_core.specs.Runs.{is_runnable, flags_from, rung_at}
 use Rattle.play_core.specs.Sheets.{Sheet, IsOwn, AreSeated, needful, RowsHold}
 use Rattle.play_core.specs.Still.{Plays}
 use Rattle.play_core.proofs.Lists.{some_is, map_get}
-use Rattle.play_core.proofs.Flags.{entry_of, flag_at, runnable_still, runnable_beside}
+use Rattle.play_core.proofs.Flags.{entry_of, flag_at, runnable_still, strangers_apart, strangers_unrung}
 
 -- what went through an end of a queue with this track
 abbrev tracked : Track → Role → List Item
@@ -81,9 +82,14 @@ module _ (history : History) (journal : List Entry) (k : ℕ) (e : Event) where
 pub want_seat : (s : Sheet) → IsOwn s → (m : Moved) (i : ℕ) (w : Want) → slice_get (s.wants m) i ≡ Some w → slice_get s.ends i ≡ Some (seat_of w)
 want_seat s own m i w at = subst (λ seats. slice_get seats i ≡ Some (seat_of w)) (own.ends m) (map_get seat_of (s.wants m) i w at)
 
-module _ {P : Type 0} (sheet : P → Sheet) (own : (p : P) → IsOwn (sheet p)) (hostile : Hostiles) (history : History) (rows : List QueueRow) (cast : List P) (seated : AreSeated sheet rows cast) (journal : List Entry) (k : ℕ) (e : Event) (row : QueueRow) (there : slice_get rows e.queue.0 ≡ Some row) (by : owner_of row (role_of e.op) ≡ k) where
+-- after a call of actor k, which may make it
+module _ {P : Type 0} (sheet : P → Sheet) (own : (p : P) → IsOwn (sheet p)) (manner : Manners) (history : History) (rows : List QueueRow) (cast : List P) (seated : AreSeated sheet rows cast) (journal : List Entry) (k : ℕ) (e : Event) (row : QueueRow) (there : slice_get rows e.queue.0 ≡ Some row) (may : MayCall (hostile_by manner) row (role_of e.op) k) where
   abbrev after_ : List Entry
   after_ = journal ++ entry_of k e ∷ []
+
+  -- it is made at an end of this actor
+  abbrev pub IsHere : ℕ → Type 0
+  IsHere i = owner_of row (role_of e.op) ≡ i
 
   owner_at : (i : ℕ) (p : P) → slice_get cast i ≡ Some p → (a : ℕ) (x : Seat) → slice_get (sheet p).ends a ≡ Some x → x.queue ≡ e.queue.0 → owner_of row x.role ≡ i
   owner_at i p at a x end q =
@@ -91,44 +97,40 @@ module _ {P : Type 0} (sheet : P → Sheet) (own : (p : P) → IsOwn (sheet p)) 
       let same : seat.0 ≡ row = some_is (sym seat.1 ∙ (ap (slice_get rows) q ∙ there)) in
       subst (λ (r : QueueRow). owner_of r x.role ≡ i) same seat.2
 
-  untouched : (i : ℕ) (p : P) → slice_get cast i ≡ Some p → i ≢ k → Touches history journal k e (sheet p) → ⊥
-  untouched i p at away t = away (sym (owner_at i p at t.0 t.1 t.2 t.3) ∙ (ap (owner_of row) t.4 ∙ by))
+  untouched : (i : ℕ) (p : P) → slice_get cast i ≡ Some p → (IsHere i → ⊥) → Touches history journal k e (sheet p) → ⊥
+  untouched i p at away t = away (sym (ap (owner_of row) t.4) ∙ owner_at i p at t.0 t.1 t.2 t.3)
 
   abbrev wants_at : P → List Entry → List Want
   wants_at p j = (sheet p).wants (moved history j)
 
-  -- what another actor wants stays
-  pub others_want : (i : ℕ) (p : P) → slice_get cast i ≡ Some p → i ≢ k → wants_at p after_ ≡ wants_at p journal
+  -- what an actor wants, at whose ends the call isn't made, stays
+  pub others_want : (i : ℕ) (p : P) → slice_get cast i ≡ Some p → (IsHere i → ⊥) → wants_at p after_ ≡ wants_at p journal
   others_want i p at away = wants_still history journal k e (sheet p) (own p) (untouched i p at away)
 
-  -- another actor's row goes on to hold
-  pub others_hold : (i : ℕ) (p : P) → slice_get cast i ≡ Some p → i ≢ k → (sheet p).row (moved history journal) → (sheet p).row (moved history after_)
+  -- and its row goes on to hold
+  pub others_hold : (i : ℕ) (p : P) → slice_get cast i ≡ Some p → (IsHere i → ⊥) → (sheet p).row (moved history journal) → (sheet p).row (moved history after_)
   others_hold i p at away holds = row_still history journal k e (sheet p) (own p) (untouched i p at away) holds
 
-  -- another actor, that isn't rung, stays runnable or not
-  pub others_run : (i : ℕ) (p : P) → slice_get cast i ≡ Some p → i ≢ k → (rung_at e.op row ≡ Some i → ⊥) → is_runnable hostile i (wants_at p after_) history rows after_ ≡ is_runnable hostile i (wants_at p journal) history rows journal
-  others_run i p at away quiet =
-      ap (λ ws. is_runnable hostile i ws history rows after_) (others_want i p at away)
-      ∙ runnable_still hostile history rows journal k e row there by i (wants_at p journal) away quiet
+  -- where it isn't rung, and if it is hostile isn't the caller, it stays runnable or not
+  pub others_run : (i : ℕ) (p : P) → slice_get cast i ≡ Some p → (IsHere i → ⊥) → (rung_at e.op row ≡ Some i → ⊥) → (hostile_by manner i ≡ true → k ≡ i → ⊥) → is_runnable (manner i) i (wants_at p after_) history rows after_ ≡ is_runnable (manner i) i (wants_at p journal) history rows journal
+  others_run i p at away quiet apart =
+      ap (λ ws. is_runnable (manner i) i ws history rows after_) (others_want i p at away)
+      ∙ runnable_still manner history rows journal k e row there may i (wants_at p journal) away quiet apart
       (λ a w is q r. untouched i p at away (a, seat_of w, want_seat (sheet p) (own p) (moved history journal) a w is, q, r))
 
   -- so does an actor that owns neither end of the queue
-  pub strangers_run : (i : ℕ) (p : P) → slice_get cast i ≡ Some p → ((r : Role) → owner_of row r ≡ i → ⊥) → is_runnable hostile i (wants_at p after_) history rows after_ ≡ is_runnable hostile i (wants_at p journal) history rows journal
-  strangers_run i p at stranger =
-      let away : i ≢ k = λ same. stranger (role_of e.op) (by ∙ sym same) in
-      ap (λ ws. is_runnable hostile i ws history rows after_) (others_want i p at away)
-      ∙ runnable_beside hostile history rows journal k e row there by i (wants_at p journal) stranger
-      (λ a w is q. stranger w.role (owner_at i p at a (seat_of w) (want_seat (sheet p) (own p) (moved history journal) a w is) q))
+  pub strangers_run : (i : ℕ) (p : P) → slice_get cast i ≡ Some p → ((r : Role) → owner_of row r ≡ i → ⊥) → is_runnable (manner i) i (wants_at p after_) history rows after_ ≡ is_runnable (manner i) i (wants_at p journal) history rows journal
+  strangers_run i p at stranger = others_run i p at (stranger (role_of e.op)) (strangers_unrung manner history rows journal k e row there may i stranger) (λ h same. strangers_apart manner history rows journal k e row there may i stranger same)
 
   abbrev flags_at : List Entry → List Bool
-  flags_at j = flags_from hostile 0 history rows (needful sheet cast (moved history j)) j
+  flags_at j = flags_from manner 0 history rows (needful sheet cast (moved history j)) j
 
   -- and in the list of all
   pub strangers_flag : (i : ℕ) (p : P) → slice_get cast i ≡ Some p → ((r : Role) → owner_of row r ≡ i → ⊥) → slice_get (flags_at after_) i ≡ slice_get (flags_at journal) i
   strangers_flag i p at stranger =
-      flag_at hostile 0 history rows (needful sheet cast (moved history after_)) after_ i i (wants_at p after_) (omega arith) (map_get (λ p. wants_at p after_) cast i p at)
+      flag_at manner 0 history rows (needful sheet cast (moved history after_)) after_ i i (wants_at p after_) (omega arith) (map_get (λ p. wants_at p after_) cast i p at)
       ∙ (ap Some (strangers_run i p at stranger)
-      ∙ sym (flag_at hostile 0 history rows (needful sheet cast (moved history journal)) journal i i (wants_at p journal) (omega arith) (map_get (λ p. wants_at p journal) cast i p at)))
+      ∙ sym (flag_at manner 0 history rows (needful sheet cast (moved history journal)) journal i i (wants_at p journal) (omega arith) (map_get (λ p. wants_at p journal) cast i p at)))
 
 -- one of the cast, which isn't hostile, plays its sheet
 pub plays_there : {P : Type 0} (sheet : P → Sheet) (hostile : Hostiles) (cast : List P) (m : Moved) → RowsHold sheet hostile cast m → (k : ℕ) (p : P) → hostile k ≡ false → slice_get cast k ≡ Some p → Plays hostile (needful sheet cast m) m (sheet p)

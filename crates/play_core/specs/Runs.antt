@@ -1,28 +1,32 @@
 -- Which actors may be picked to make the next call, by what each of them wants.
-use Rattle.std.specs.Prelude.{◌+◌, ◌&&◌, ◌||◌, ℕ, Bool, true, false, not, Option, Some, None, List, [], ◌∷◌}
+use Rattle.std.specs.Prelude.{◌+◌, ◌||◌, ℕ, Bool, true, false, not, Option, Some, None, List, [], ◌∷◌}
 use Rattle.wire_core.specs.declared.names.QueueRow.{QueueRow}
 use Rattle.wire_core.specs.declared.names.Entry.{Entry}
 use Rattle.wire_core.specs.declared.names.Op.{Op}
 use Rattle.wire_core.specs.declared.names.Op.TheVariants as Do
 use Rattle.wire_core.specs.Ends.{waiting_role}
 use Rattle.wire_core.specs.Queues.{calls}
-use Rattle.wire_core.specs.Journal.{History, Hostiles, track, owner_of}
+use Rattle.wire_core.specs.Journal.{History, track, owner_of}
 use Rattle.play_core.specs.Wants.{Want, Needful, all_settled}
+use Rattle.play_core.specs.Manners.{Manner, Calm, Hostile, Manners, calls_of}
 
 -- a pending word of one of this actor's waiters is 1, at a queue from number n on
 abbrev pub called_from : ℕ → ℕ → History → List QueueRow → List Entry → Bool
 called_from actor n history [] journal = false
 called_from actor n history (row ∷ rows) journal = calls actor row.producer.0 row.consumer.0 (track history n journal).bells || called_from actor (n + 1) history rows journal
 
--- actor k, which wants this, is runnable: it isn't at rest, or a pending word of one of its waiters
--- is 1; a hostile actor isn't runnable for a pending word
-abbrev pub is_runnable : Hostiles → ℕ → List Want → History → List QueueRow → List Entry → Bool
-is_runnable hostile k ws history rows journal = not (all_settled history journal ws) || (not (hostile k) && called_from k 0 history rows journal)
+-- actor k, which wants this, is runnable: a calm one where it isn't at rest, or a pending word of
+-- one of its waiters is 1; a hostile one where it isn't done
+abbrev pub is_runnable : Manner → ℕ → List Want → History → List QueueRow → List Entry → Bool
+is_runnable Calm k ws history rows journal =
+    not (all_settled history journal ws) || called_from k 0 history rows journal
+is_runnable (Hostile done) k ws history rows journal = not (done (calls_of k journal))
 
 -- whether each actor is runnable, from number k on
-abbrev pub flags_from : Hostiles → ℕ → History → List QueueRow → Needful → List Entry → List Bool
-flags_from hostile k history rows [] journal = []
-flags_from hostile k history rows (ws ∷ actors) journal = is_runnable hostile k ws history rows journal ∷ flags_from hostile (k + 1) history rows actors journal
+abbrev pub flags_from : Manners → ℕ → History → List QueueRow → Needful → List Entry → List Bool
+flags_from manner k history rows [] journal = []
+flags_from manner k history rows (ws ∷ actors) journal =
+    is_runnable (manner k) k ws history rows journal ∷ flags_from manner (k + 1) history rows actors journal
 
 abbrev pub if_so : Bool → ℕ → List ℕ → List ℕ
 if_so true k ks = k ∷ ks
@@ -34,8 +38,9 @@ places_from k [] = []
 places_from k (b ∷ bs) = if_so b k (places_from (k + 1) bs)
 
 -- the runnable actors, in their order
-abbrev pub runnable : Hostiles → History → List QueueRow → Needful → List Entry → List ℕ
-runnable hostile history rows actors journal = places_from 0 (flags_from hostile 0 history rows actors journal)
+abbrev pub runnable : Manners → History → List QueueRow → Needful → List Entry → List ℕ
+runnable manner history rows actors journal =
+    places_from 0 (flags_from manner 0 history rows actors journal)
 
 -- the actor whose pending word a call on a queue of this row sets, if it sets one
 abbrev pub rung_at : Op → QueueRow → Option ℕ

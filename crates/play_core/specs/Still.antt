@@ -7,6 +7,7 @@ use Rattle.wire_core.specs.Ends.{Role}
 use Rattle.wire_core.specs.Journal.{History, Hostiles, is_calm, BellsHold, QueuesFlow, owner_of}
 use Rattle.play_core.specs.Moved.{Moved}
 use Rattle.play_core.specs.Wants.{Want, Needful, all_settled, intake_want, outlet_want}
+use Rattle.play_core.specs.Manners.{Manners, hostile_by}
 use Rattle.play_core.specs.Runs.{called_from, runnable}
 use Rattle.play_core.specs.Sheets.{Sheet}
 
@@ -19,11 +20,11 @@ abbrev pub HasPlaces : List QueueRow → Type 0
 HasPlaces rows = (n : ℕ) (row : QueueRow) → slice_get rows n ≡ Some row → 0 < row.capacity
 
 -- a system in which nobody is runnable
-pub record IsQuiet (hostile : Hostiles) (history : History) (rows : List QueueRow) (actors : Needful) (journal : List Entry) : Type 0 where
-  pub bells_hold : BellsHold hostile history rows journal
-  pub flows : QueuesFlow hostile history rows journal
+pub record IsQuiet (manner : Manners) (history : History) (rows : List QueueRow) (actors : Needful) (journal : List Entry) : Type 0 where
+  pub bells_hold : BellsHold (hostile_by manner) history rows journal
+  pub flows : QueuesFlow (hostile_by manner) history rows journal
   pub peopled : IsPeopled rows (length actors)
-  pub quiet : runnable hostile history rows actors journal ≡ []
+  pub quiet : runnable manner history rows actors journal ≡ []
 
 -- a moment at which no actor is runnable, but perhaps a hostile one: all ends are settled, and
 -- nobody is called

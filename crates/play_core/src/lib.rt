@@ -9,8 +9,9 @@ ghost use Rattle.wire_core.specs.declared.names.QueueRow.{QueueRow};
 ghost use Rattle.wire_core.specs.declared.names.Entry.{Entry};
 ghost use Rattle.wire_core.specs.declared.names.Event.{Event};
 ghost use Rattle.wire_core.specs.Ends.{Role, role_of};
-ghost use Rattle.wire_core.specs.Journal.{History, Hostiles, is_calm, track, owner_of};
+ghost use Rattle.wire_core.specs.Journal.{History, Hostiles, MayCall, is_calm, track, owner_of};
 ghost use Rattle.play_core.specs.Wants.{Want, Needful};
+ghost use Rattle.play_core.specs.Manners.{Manners, hostile_by};
 ghost use Rattle.play_core.specs.Runs.{is_runnable, rung_at};
 ghost use Rattle.play_core.specs.Resting.{QueueRests, QueuePays, is_due};
 ghost use Rattle.play_core.specs.Totals.{total};
@@ -20,8 +21,8 @@ ghost use Rattle.play_core.specs.Still.{IsQuiet, IsStill, Needs, Owes};
 /// with no hostile end: no entry stands in it where its consumer needs one, and an entry is owed to
 /// it only where it is full.
 pub fn quiet_law()
-    ensures still { (hostile : Hostiles) (history : History) (rows : List QueueRow) (actors : Needful) (journal : List Entry)
-        → IsQuiet hostile history rows actors journal → IsStill hostile history rows actors journal }
+    ensures still { (manner : Manners) (history : History) (rows : List QueueRow) (actors : Needful) (journal : List Entry)
+        → IsQuiet manner history rows actors journal → IsStill (hostile_by manner) history rows actors journal }
     ensures rests { (hostile : Hostiles) (history : History) (rows : List QueueRow) (actors : Needful) (journal : List Entry)
         → IsStill hostile history rows actors journal
         → (n : ℕ) (row : QueueRow) (needed owed : Bool) → slice_get rows n ≡ Some row
@@ -35,19 +36,19 @@ pub fn quiet_law()
         → QueuePays row (track history n journal) needed due }
 {}
 
-/// A call on a queue changes who is runnable only among the two owners of its row: an actor that
-/// owns neither end, and of whose ends none is at that queue, stays runnable or not; one that is
-/// rung is runnable, unless it is hostile.
+/// A call on a queue, whoever may make it, changes who is runnable only among the two owners of its
+/// row: an actor that owns neither end, and of whose ends none is at that queue, stays runnable or
+/// not; one that is rung is runnable, unless it is hostile.
 pub fn step_law()
-    ensures strangers { (hostile : Hostiles) (history : History) (rows : List QueueRow) (journal : List Entry) (k : ℕ) (e : Event) (row : QueueRow)
-        → slice_get rows e.queue.0 ≡ Some row → owner_of row (role_of e.op) ≡ k
+    ensures strangers { (manner : Manners) (history : History) (rows : List QueueRow) (journal : List Entry) (k : ℕ) (e : Event) (row : QueueRow)
+        → slice_get rows e.queue.0 ≡ Some row → MayCall (hostile_by manner) row (role_of e.op) k
         → (i : ℕ) (wants : List Want) → ((r : Role) → owner_of row r ≡ i → ⊥)
         → ((p : ℕ) (w : Want) → slice_get wants p ≡ Some w → w.queue ≡ e.queue.0 → ⊥)
-        → is_runnable hostile i wants history rows (journal ++ record { actor = record { 0 = k }; event = e } ∷ []) ≡ is_runnable hostile i wants history rows journal }
-    ensures rung { (hostile : Hostiles) (history : History) (rows : List QueueRow) (journal : List Entry) (k : ℕ) (e : Event) (row : QueueRow)
-        → slice_get rows e.queue.0 ≡ Some row → owner_of row (role_of e.op) ≡ k
-        → (i : ℕ) (wants : List Want) → hostile i ≡ false → rung_at e.op row ≡ Some i
-        → is_runnable hostile i wants history rows (journal ++ record { actor = record { 0 = k }; event = e } ∷ []) ≡ true }
+        → is_runnable (manner i) i wants history rows (journal ++ record { actor = record { 0 = k }; event = e } ∷ []) ≡ is_runnable (manner i) i wants history rows journal }
+    ensures rung { (manner : Manners) (history : History) (rows : List QueueRow) (journal : List Entry) (k : ℕ) (e : Event) (row : QueueRow)
+        → slice_get rows e.queue.0 ≡ Some row → MayCall (hostile_by manner) row (role_of e.op) k
+        → (i : ℕ) (wants : List Want) → hostile_by manner i ≡ false → rung_at e.op row ≡ Some i
+        → is_runnable (manner i) i wants history rows (journal ++ record { actor = record { 0 = k }; event = e } ∷ []) ≡ true }
 {}
 
 /// A merge of beginnings that has as many elements as the lists have together is a merge of the

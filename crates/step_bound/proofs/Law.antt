@@ -74,11 +74,11 @@ spread x a m = grind arith
 narrow : (x m : ℕ) → (8 * m + 1) * (4 * x) ≡ 32 * (m * x) + 4 * x
 narrow x m = grind arith
 
-pub bounded : (hostile : Hostiles) (drops : Drops) (history : History) (rows : List QueueRow) (journal : List Entry) (hops actors most : ℕ) → AreCalm hostile rows → BellsHold hostile history rows [] → QueuesFlow hostile history rows [] → LegalJournal hostile history rows journal → Brisk drops journal → AreOwned rows actors → ((a : ℕ) → ends_of a rows ≤ most) → all_sent history rows journal + dropped drops journal ≤ hops → length journal < 32 * (hops + actors + 1) * (most + 1)
+pub bounded : (hostile : Hostiles) (drops : Drops) (history : History) (rows : List QueueRow) (journal : List Entry) (hops actors most : ℕ) → AreCalm hostile rows → BellsHold hostile history rows [] → QueuesFlow hostile history rows [] → LegalJournal hostile history rows journal → Brisk hostile drops journal → AreOwned rows actors → ((a : ℕ) → ends_of a rows ≤ most) → all_sent history rows journal + dropped drops journal ≤ hops → length journal < 32 * (hops + actors + 1) * (most + 1)
 bounded hostile drops history rows journal hops actors most calm hold flow legal brisk owned ends sent =
-    let w = walk drops hostile history rows actors most owned ends [] journal legal (λ a. tt) brisk.0 brisk.1 in
-    let now = EachMoment-at (AreFew drops) journal journal brisk ([], append-nil journal) in
-    let top = sum_le (λ a. length (since drops a journal)) (λ a. 8 * most) actors (λ a l. few_now drops hostile history rows actors most owned ends journal w.1 now a) in
+    let w = walk drops hostile history rows actors most owned ends calm [] journal legal (λ a. tt) brisk.0 brisk.1 in
+    let now = EachMoment-at (AreFew hostile drops) journal journal brisk ([], append-nil journal) in
+    let top = sum_le (λ a. length (since drops a journal)) (λ a. 8 * most) actors (λ a l. few_now drops hostile history rows actors most owned ends calm journal w.1 now a) in
     let tops = sum_times (8 * most) actors in
     let marks = few_marks hostile history rows journal calm hold flow legal in
     let either = marks_or_drops drops journal in

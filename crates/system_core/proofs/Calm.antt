@@ -1,28 +1,37 @@
-use Rattle.std.proofs.Common.{◌≡◌, ℕ, true, false, Some, None, Option, List, slice_get, refl}
+use Rattle.std.proofs.Common.{◌≡◌, ℕ, true, false, Some, None, Option, List, slice_get, refl, ap}
 use Rattle.std.specs.Option.{option_map_or}
 use Rattle.wire_core.specs.declared.names.QueueRow.{QueueRow}
 use Rattle.wire_core.specs.Journal.{is_calm}
+use Rattle.play_core.specs.Manners.{Calm, is_hostile}
 use Rattle.play_core.specs.Sheets.{Scene, IsOwn}
 use Rattle.serial_law.specs.Parts.{SerialPart, SerialDevice, SerialDriver, SerialReceiver, SerialSender, SerialClient}
 use Rattle.serial_law.specs.Table.{serial_sheet}
 use Rattle.serial_law.proofs.Own.{serial_own}
 use Rattle.actor_set.specs.Parts.{Part, UartPart, DriverPart, RxPart, TxPart, ClientPart}
-use Rattle.system_core.specs.Kinds.{serial_part, sheet, is_hostile, hostiles}
+use Rattle.system_core.specs.Kinds.{serial_part, sheet, manner_of, manners, hostiles}
 
-calm_part : (p : Part) → is_hostile p ≡ false
+-- all kinds are calm
+pub calm_part : (p : Part) → manner_of p ≡ Calm
 calm_part (UartPart rx tx input) = refl
 calm_part (DriverPart device_rx device_tx rx tx) = refl
 calm_part (RxPart rx clients) = refl
 calm_part (TxPart tx clients) = refl
 calm_part (ClientPart rx tx script) = refl
 
--- nobody is hostile
-pub calm_actor : (cast : List Part) (k : ℕ) → hostiles cast k ≡ false
-calm_actor cast k = go (slice_get cast k)
+pub calm_manner : (cast : List Part) (k : ℕ) → manners cast k ≡ Calm
+calm_manner cast k = go (slice_get cast k)
   where
-    go : (o : Option Part) → option_map_or is_hostile o false ≡ false
+    go : (o : Option Part) → option_map_or manner_of o Calm ≡ Calm
     go None = refl
     go (Some p) = calm_part p
+
+-- nobody is hostile
+pub calm_actor : (cast : List Part) (k : ℕ) → hostiles cast k ≡ false
+calm_actor cast k = ap is_hostile (calm_manner cast k)
+
+-- how an actor goes about is told by its part
+pub manner_at : (cast : List Part) (k : ℕ) (p : Part) → slice_get cast k ≡ Some p → manners cast k ≡ manner_of p
+manner_at cast k p at = ap (λ o. option_map_or manner_of o Calm) at
 
 pub calm_row : (cast : List Part) (row : QueueRow) → is_calm (hostiles cast) row ≡ true
 calm_row cast row = rw (calm_actor cast row.producer.0, calm_actor cast row.consumer.0) refl

@@ -1,4 +1,5 @@
 pub mod Calm
+pub mod Rounds
 pub mod Places
 pub mod Rising
 pub mod Beside

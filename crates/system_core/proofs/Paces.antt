@@ -6,7 +6,7 @@ use Rattle.wire_core.specs.declared.names.Event.{Event}
 use Rattle.wire_core.specs.declared.names.QueueId.{QueueId}
 use Rattle.wire_core.specs.declared.names.Side.{Side}
 use Rattle.wire_core.specs.declared.names.Side.TheVariants.{Forward, Backward}
-use Rattle.wire_core.specs.Ends.{Role, Consumer, Producer, role_of, waiting_role}
+use Rattle.wire_core.specs.Ends.{Role, Consumer, Producer, waiting_role}
 use Rattle.wire_core.specs.Queues.{calls}
 use Rattle.wire_core.specs.Journal.{History, track, owner_of, Hostiles, LegalEntry, EachFrom}
 use Rattle.turn_kit.specs.declared.ends.Intake.{Intake}
@@ -212,6 +212,6 @@ called_end k x history rows journal ends h =
 pub nobody_since : (hostile : Hostiles) (history : History) (rows : List QueueRow) (actors a : ℕ) (before es : List Entry) → ((n : ℕ) (row : QueueRow) → slice_get rows n ≡ Some row → (r : Role) → owner_of row r < actors) → actors ≤ a → EachFrom (LegalEntry hostile history rows) before es → since_from no_drops a [] es ≡ []
 nobody_since hostile history rows actors a before [] peers le l = refl
 nobody_since hostile history rows actors a before (e ∷ es) peers le l =
-    let lt : e.actor.0 < actors = subst (λ n. n < actors) (sym l.0.legal.owner) (peers e.event.queue.0 l.0.row l.0.there (role_of e.event.op)) in
+    let lt : e.actor.0 < actors = subst (λ n. n < actors) l.0.legal.caller.some.1 (peers e.event.queue.0 l.0.row l.0.there l.0.legal.caller.some.0) in
     let off : (e.actor.0 == a) ≡ false = eqb_apart e.actor.0 a (λ h. absurd (omega (arith, lt, le, h))) in
     rw off (nobody_since hostile history rows actors a (before ++ e ∷ []) es peers le l.1)

@@ -11,7 +11,7 @@ use Rattle.wire_core.specs.declared.names.Entry.{Entry}
 use Rattle.wire_core.specs.Deeds.{Cargo}
 use Rattle.wire_core.specs.Ends.{Role, Consumer, Producer, End}
 use Rattle.wire_core.specs.Queues.{Bells, Queue, items_of, queue_at, end_at, end_of, is_called, is_pending}
-use Rattle.wire_core.specs.Journal.{History, Hostiles, IsShown, track}
+use Rattle.wire_core.specs.Journal.{History, IsShown, track}
 use Rattle.wire_core.proofs.Moving.{there_if_owned}
 use Rattle.wire_core.proofs.Tracks.{shown_calls}
 use Rattle.turn_kit.specs.Table.{Agrees, is_settled}
@@ -45,8 +45,10 @@ use Rattle.play_core.specs.Runs.{called_from, is_runnable}
 use Rattle.play_core.specs.Sheets.{Scene}
 use Rattle.serial_law.specs.Bytes.{bytes_in, is_owed}
 use Rattle.serial_law.specs.Table.{some_owed, shares, taken_count, is_held}
-use Rattle.system_core.specs.Kinds.{sheet}
-use Rattle.actor_set.specs.Actors.{FitsActor, ActorStandsFor, part_of, actor_round, numbers}
+use Rattle.system_core.specs.Kinds.{sheet, manner_of, idles}
+use Rattle.system_core.proofs.Calm.{calm_part}
+use Rattle.system_core.proofs.Rounds.{rests_is}
+use Rattle.actor_set.specs.Actors.{FitsActor, ActorStandsFor, part_of, actor_round, actor_rests, numbers}
 use Rattle.system_core.specs.Systems.{Holds}
 use Rattle.actor_set.specs.declared.actor.Actor.{Actor}
 use Rattle.actor_set.specs.declared.actor.Actor.TheVariants as Kinds
@@ -235,10 +237,9 @@ module _ (scene : Scene) (history : History) (rows : List QueueRow) (w : List Qu
   called_here actor = called_queues actor 0 history journal rows w h.size (λ m row at. let e : m ≡ 0 + m = omega arith in subst (λ i. IsShown row (queue_at w m) (track history i journal)) e (h.queues m row at))
 
   -- whether an actor is idle is what the journal says of its part
-  pub idle_here : (hostile : Hostiles) (k : ℕ) (x : Actor) → hostile k ≡ false → slice_get actors k ≡ Some x → (is_at_rest (actor_round x) && not (is_pending k w)) ≡ not (is_runnable hostile k ((sheet scene (part_of x)).wants (moved history journal)) history rows journal)
-  idle_here hostile k x calm at = both (rests_here k x at) (ap not (called_here k)) ∙ turned (hostile k) (all_settled history journal ((sheet scene (part_of x)).wants (moved history journal))) (called_from k 0 history rows journal) calm
+  pub idle_here : (k : ℕ) (x : Actor) → slice_get actors k ≡ Some x → idles (manner_of (part_of x)) (actor_rests x) (is_pending k w) ≡ not (is_runnable (manner_of (part_of x)) k ((sheet scene (part_of x)).wants (moved history journal)) history rows journal)
+  idle_here k x at = rw (calm_part (part_of x)) (both (rests_is x ∙ rests_here k x at) (ap not (called_here k)) ∙ turned (all_settled history journal ((sheet scene (part_of x)).wants (moved history journal))) (called_from k 0 history rows journal))
     where
-      turned : (h a b : Bool) → h ≡ false → (a && not b) ≡ not (not a || (not h && b))
-      turned true a b calm = cc
-      turned false true b calm = refl
-      turned false false b calm = refl
+      turned : (a b : Bool) → (a && not b) ≡ not (not a || b)
+      turned true b = refl
+      turned false b = refl

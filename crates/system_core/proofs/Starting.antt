@@ -1,4 +1,4 @@
-use Rattle.std.proofs.Common.{◌≡◌, ◌<◌, ◌≤◌, ◌+◌, ℕ, Bool, true, false, not, ◌&&◌, Some, List, [], ◌∷◌, ◌++◌, length, map, take, slice_get, slice_index_or, get_or, length-append, length-take, refl, sym, ap, ◌∙◌, subst, arith, zero, suc, min}
+use Rattle.std.proofs.Common.{◌≡◌, ◌<◌, ◌≤◌, ◌+◌, ℕ, Bool, true, false, not, Some, List, [], ◌∷◌, ◌++◌, length, map, take, slice_get, slice_index_or, get_or, length-append, length-take, refl, sym, ap, ◌∙◌, subst, arith, zero, suc, min}
 use Rattle.std.proofs.lemmas.List.{take_more, length-map, append-nil}
 use Rattle.std.proofs.lemmas.Option.{slice_get_read}
 use Rattle.wire_core.specs.declared.names.QueueRow.{QueueRow}
@@ -6,18 +6,18 @@ use Rattle.wire_core.specs.Lists.{nothing_passed}
 use Rattle.wire_core.specs.Queues.{Queue, starts, queue_at, is_pending}
 use Rattle.wire_core.specs.Journal.{start_track, start_history, IsShown}
 use Rattle.wire_core.proofs.BellTheorem.{start_is}
-use Rattle.turn_kit.specs.Turns.{is_at_rest}
 use Rattle.turn_kit.specs.Pace.{pendings}
 use Rattle.turn_kit.proofs.Pacing.{paced_anew}
-use Rattle.actor_set.specs.Actors.{actor_round, part_of}
+use Rattle.actor_set.specs.Actors.{actor_round, actor_rests, part_of}
 use Rattle.actor_set.specs.declared.actor.Actor.{Actor}
 use Rattle.play_core.specs.Runs.{is_runnable, flags_from, places_from, if_so}
 use Rattle.play_core.specs.Moved.{moved}
 use Rattle.play_core.specs.Wants.{Needful}
 use Rattle.play_core.specs.Sheets.{Scene, needful}
 use Rattle.actor_set.specs.Parts.{Part}
-use Rattle.system_core.specs.Kinds.{sheet, hostiles}
-use Rattle.system_core.proofs.Calm.{calm_actor}
+use Rattle.play_core.specs.Manners.{Manner}
+use Rattle.system_core.specs.Kinds.{sheet, manner_of, manners, idles}
+use Rattle.system_core.proofs.Calm.{manner_at}
 use Rattle.system_core.specs.Runnings.{with_number}
 use Rattle.system_core.specs.Starts.{AreStarting}
 use Rattle.system_core.specs.Systems.{Holds}
@@ -50,7 +50,7 @@ start_holds rows actors s = record {
   fits = s.fits;
   stands = s.stands;
   owners = s.owners;
-  paced = λ k x at. paced_anew (pendings (start_history rows) []) (actor_round x) (s.rounds k x at);
+  paced = λ k x at calm. paced_anew (pendings (start_history rows) []) (actor_round x) (s.rounds k x at);
   peers = s.peers;
   few = s.few;
   legal = tt;
@@ -129,18 +129,18 @@ module _ (rows : List QueueRow) (actors : List Actor) (scene : Scene) where
   wanted = needful (sheet scene) cast (moved (start_history rows) [])
 
   abbrev pub flags : List Bool
-  flags = flags_from (hostiles cast) 0 (start_history rows) rows wanted []
+  flags = flags_from (manners cast) 0 (start_history rows) rows wanted []
 
   pub flags_many : length flags ≡ length actors
-  flags_many = flags_length (hostiles cast) 0 (start_history rows) rows wanted [] ∙ simp length-map
+  flags_many = flags_length (manners cast) 0 (start_history rows) rows wanted [] ∙ simp length-map
 
   -- whether an actor is runnable at the start
-  pub flag_start : (world : List Queue) (k : ℕ) (x : Actor) (idle : Bool) → AreStarting rows actors → world ≡ starts rows → k < length actors → x ≡ slice_index_or actors k x → idle ≡ (is_at_rest (actor_round x) && not (is_pending k world)) → slice_get flags k ≡ Some (not idle)
+  pub flag_start : (world : List Queue) (k : ℕ) (x : Actor) (idle : Bool) → AreStarting rows actors → world ≡ starts rows → k < length actors → x ≡ slice_index_or actors k x → idle ≡ idles (manner_of (part_of x)) (actor_rests x) (is_pending k world) → slice_get flags k ≡ Some (not idle)
   flag_start world k x idle s w lt at is =
       let here : slice_get actors k ≡ Some x = slice_get_read actors _ k x refl lt at in
-      let runs : Bool = is_runnable (hostiles cast) k ((sheet scene (part_of x)).wants (moved (start_history rows) [])) (start_history rows) rows [] in
-      let said : idle ≡ not runs = is ∙ (ap (λ v. is_at_rest (actor_round x) && not (is_pending k v)) w ∙ idle_here scene (start_history rows) rows (starts rows) actors [] (start_holds rows actors s) (hostiles cast) k x (calm_actor cast k) here) in
-      flag_at (hostiles cast) 0 (start_history rows) rows wanted [] k k ((sheet scene (part_of x)).wants (moved (start_history rows) [])) (omega arith) (map_get (λ p. (sheet scene p).wants (moved (start_history rows) [])) cast k (part_of x) (map_get part_of actors k x here)) ∙ ap Some (twice runs ∙ ap not (sym said))
+      let runs : Manner → Bool = λ m. is_runnable m k ((sheet scene (part_of x)).wants (moved (start_history rows) [])) (start_history rows) rows [] in
+      let said : idle ≡ not (runs (manner_of (part_of x))) = is ∙ (ap (λ v. idles (manner_of (part_of x)) (actor_rests x) (is_pending k v)) w ∙ idle_here scene (start_history rows) rows (starts rows) actors [] (start_holds rows actors s) k x here) in
+      flag_at (manners cast) 0 (start_history rows) rows wanted [] k k ((sheet scene (part_of x)).wants (moved (start_history rows) [])) (omega arith) (map_get (λ p. (sheet scene p).wants (moved (start_history rows) [])) cast k (part_of x) (map_get part_of actors k x here)) ∙ ap Some (ap runs (manner_at cast k (part_of x) (map_get part_of actors k x here)) ∙ (twice (runs (manner_of (part_of x))) ∙ ap not (sym said)))
     where
       twice : (b : Bool) → b ≡ not (not b)
       twice true = refl

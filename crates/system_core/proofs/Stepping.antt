@@ -7,11 +7,11 @@ use Rattle.wire_core.specs.declared.names.Event.{Event}
 use Rattle.wire_core.specs.Ends.{role_of}
 use Rattle.wire_core.specs.Lists.{Stepped}
 use Rattle.wire_core.specs.Queues.{Queue, Happens, end_at, is_pending}
-use Rattle.wire_core.specs.Journal.{History, Hostiles, EachMoment, owner_of}
+use Rattle.wire_core.specs.Journal.{History, MayCall, EachMoment, owner_of}
 use Rattle.wire_core.proofs.Tracks.{EachFrom-append}
 use Rattle.wire_core.proofs.Places.{slice_get_written}
 use Rattle.wire_core.specs.Marks.{no_drops, since, calls_at, AreFew, Brisk}
-use Rattle.turn_kit.specs.Turns.{Turned, is_at_rest}
+use Rattle.turn_kit.specs.Turns.{is_at_rest}
 use Rattle.turn_kit.specs.Pace.{pendings, IsCalled}
 use Rattle.turn_kit.proofs.Playing.{pace_few}
 use Rattle.play_core.specs.Moved.{moved}
@@ -22,14 +22,15 @@ use Rattle.play_core.proofs.Lists.{map_get, there_is}
 use Rattle.play_core.proofs.Flags.{differs_at, differs_twice, flag_at, flags_length, runnable_rung, rung_owns}
 use Rattle.play_core.proofs.Tables.{others_run}
 use Rattle.actor_set.specs.Parts.{Part}
-use Rattle.actor_set.specs.Actors.{FitsActor, ActorStandsFor, ActorEnd, actor_round, part_of}
+use Rattle.actor_set.specs.Actors.{FitsActor, ActorStandsFor, ActorEnd, ActorTurned, actor_round, actor_rests, part_of}
 use Rattle.actor_set.specs.declared.actor.Actor.{Actor}
-use Rattle.system_core.specs.Kinds.{scene_of, sheet, hostiles}
-use Rattle.system_core.specs.Shows.{Crew, Setting, runs, RowsStand}
+use Rattle.play_core.specs.Manners.{Manners, Calm}
+use Rattle.system_core.specs.Kinds.{scene_of, sheet, manner_of, manners, hostiles, idles}
+use Rattle.system_core.specs.Shows.{Crew, Setting, hostile_in, runs, RowsStand}
 use Rattle.system_core.specs.Lawful.{IsFitted}
 use Rattle.system_core.specs.Runnings.{removed_if, with_option, with_number}
 use Rattle.system_core.specs.Systems.{Holds}
-use Rattle.system_core.proofs.Calm.{calm_actor, sheet_own}
+use Rattle.system_core.proofs.Calm.{calm_actor, calm_manner, manner_at, sheet_own}
 use Rattle.system_core.proofs.RowsNow.{rows_now}
 use Rattle.system_core.proofs.SystemStep.{step_holds, map_same, entry_of, some_eq}
 use Rattle.system_core.proofs.RunsNow.{idle_here, rests_here}
@@ -66,8 +67,8 @@ module _ (history : History) (rows : List QueueRow) (cast : List Part) where
   abbrev scene : Scene
   scene = scene_of cast
 
-  abbrev hostile : Hostiles
-  hostile = hostiles cast
+  abbrev manner : Manners
+  manner = manners cast
 
   abbrev wanted : Part → List Entry → List Want
   wanted p j = (sheet scene p).wants (moved history j)
@@ -76,28 +77,28 @@ module _ (history : History) (rows : List QueueRow) (cast : List Part) where
   all_wanted j = needful (sheet scene) cast (moved history j)
 
   abbrev pub flags : List Entry → List Bool
-  flags j = flags_from hostile 0 history rows (all_wanted j) j
+  flags j = flags_from manner 0 history rows (all_wanted j) j
 
   pub flags_count : (j : List Entry) → length (flags j) ≡ length cast
-  flags_count j = flags_length hostile 0 history rows (all_wanted j) j ∙ length-map cast (λ p. wanted p j)
+  flags_count j = flags_length manner 0 history rows (all_wanted j) j ∙ length-map cast (λ p. wanted p j)
 
   -- a runnable actor is there
-  pub runs_below : (j : List Entry) (place k : ℕ) → slice_get (runnable hostile history rows (all_wanted j) j) place ≡ Some k → k < length cast
+  pub runs_below : (j : List Entry) (place k : ℕ) → slice_get (runnable manner history rows (all_wanted j) j) place ≡ Some k → k < length cast
   runs_below j place k at =
       let h = places_below 0 place k (flags j) at in
       let lt : k < 0 + length (flags j) = h.1 in
       let n : length (flags j) ≡ length cast = flags_count j in
       omega arith
 
-  flag_of : (j : List Entry) (k : ℕ) (p : Part) → slice_get cast k ≡ Some p → slice_get (flags j) k ≡ Some (is_runnable hostile k (wanted p j) history rows j)
-  flag_of j k p at = flag_at hostile 0 history rows (all_wanted j) j k k (wanted p j) (omega arith) (map_get (λ p. wanted p j) cast k p at)
+  flag_of : (j : List Entry) (k : ℕ) (p : Part) → slice_get cast k ≡ Some p → slice_get (flags j) k ≡ Some (is_runnable (manner k) k (wanted p j) history rows j)
+  flag_of j k p at = flag_at manner 0 history rows (all_wanted j) j k k (wanted p j) (omega arith) (map_get (λ p. wanted p j) cast k p at)
 
   -- there is room for them
-  pub running_few : (room : ℕ) → length cast ≤ room → (j : List Entry) → length (runnable hostile history rows (all_wanted j) j) ≤ room
+  pub running_few : (room : ℕ) → length cast ≤ room → (j : List Entry) → length (runnable manner history rows (all_wanted j) j) ≤ room
   running_few room le j = let f : length (places_from 0 (flags j)) ≤ length (flags j) = places_few 0 (flags j) in let g : length (flags j) ≡ length cast = flags_count j in omega arith
 
 -- actor k, which is x, makes the call of event e on a queue of this row, and is then x'
-module _ (history : History) (rows : List QueueRow) (w v : List Queue) (actors : List Actor) (journal : List Entry) (k : ℕ) (x x' : Actor) (e : Event) (row : QueueRow) (here : slice_get actors k ≡ Some x) (old : Holds history rows w actors journal) (seated : AreSeated (sheet (scene_of (map part_of actors))) rows (map part_of actors)) (own : ActorEnd x (role_of e.op) e.queue.0) (st : Stepped ActorStandsFor Happens w v x x' e) (turned : Turned (actor_round x) e (actor_round x')) (pressed : is_at_rest (actor_round x) ≡ true → IsCalled (pendings history journal) (actor_round x).posts) (fits : FitsActor (end_at v) x') (part : part_of x' ≡ part_of x) (there : slice_get rows e.queue.0 ≡ Some row) where
+module _ (history : History) (rows : List QueueRow) (w v : List Queue) (actors : List Actor) (journal : List Entry) (k : ℕ) (x x' : Actor) (e : Event) (row : QueueRow) (here : slice_get actors k ≡ Some x) (old : Holds history rows w actors journal) (seated : AreSeated (sheet (scene_of (map part_of actors))) rows (map part_of actors)) (own : ActorEnd x (role_of e.op) e.queue.0) (st : Stepped ActorStandsFor Happens w v x x' e) (turned : ActorTurned x e x') (pressed : is_at_rest (actor_round x) ≡ true → IsCalled (pendings history journal) (actor_round x).posts) (fits : FitsActor (end_at v) x') (part : part_of x' ≡ part_of x) (there : slice_get rows e.queue.0 ≡ Some row) where
   abbrev cast : List Part
   cast = map part_of actors
 
@@ -113,6 +114,9 @@ module _ (history : History) (rows : List QueueRow) (w v : List Queue) (actors :
   owner : owner_of row (role_of e.op) ≡ k
   owner = old.owners k x here (role_of e.op) e.queue.0 own row there
 
+  may : MayCall (hostiles cast) row (role_of e.op) k
+  may = record { some = (role_of e.op, owner); own = λ calm. owner }
+
   cast_here : slice_get cast k ≡ Some (part_of x)
   cast_here = map_get part_of actors k x here
 
@@ -122,7 +126,7 @@ module _ (history : History) (rows : List QueueRow) (w v : List Queue) (actors :
       others_case : ((p : Part) × (slice_get cast i ≡ Some p)) ⊎ (length cast ≤ i) → slice_get (flag after_) i ≡ slice_get (flag journal) i
       others_case (inl p) =
           flag_of history rows cast after_ i p.0 p.1
-          ∙ (ap Some (others_run (sheet (scene_of cast)) (sheet_own (scene_of cast)) (hostiles cast) history rows cast seated journal k e row there owner i p.0 p.1 away quiet)
+          ∙ (ap Some (others_run (sheet (scene_of cast)) (sheet_own (scene_of cast)) (manners cast) history rows cast seated journal k e row there may i p.0 p.1 (λ is. away (sym is ∙ owner)) quiet (λ h same. away (sym same)))
           ∙ sym (flag_of history rows cast journal i p.0 p.1))
       others_case (inr past) =
           get_past (flag after_) i (let n = flags_count history rows cast after_ in omega arith)
@@ -131,17 +135,17 @@ module _ (history : History) (rows : List QueueRow) (w v : List Queue) (actors :
   lengths : length (flag after_) ≡ length (flag journal)
   lengths = flags_count history rows cast after_ ∙ sym (flags_count history rows cast journal)
 
-  caller_then : (idle : Bool) → idle ≡ (is_at_rest (actor_round x') && not (is_pending k v)) → slice_get (flag after_) k ≡ Some (not idle)
+  caller_then : (idle : Bool) → idle ≡ idles (manner_of (part_of x')) (actor_rests x') (is_pending k v) → slice_get (flag after_) k ≡ Some (not idle)
   caller_then idle is =
-      let runs : Part → Bool = λ p. is_runnable (hostiles cast) k (wanted history rows cast p after_) history rows after_ in
-      let said : idle ≡ not (runs (part_of x')) = is ∙ idle_here (scene_of cast) history rows v (slice_set actors k x') after_ then_holds (hostiles cast) k x' (calm_actor cast k) (slice_get_written actors k x x' here) in
-      flag_of history rows cast after_ k (part_of x) cast_here ∙ ap Some (not_not (runs (part_of x)) ∙ ap not (ap (λ p. not (runs p)) (sym part) ∙ sym said))
+      let runs : Part → Bool = λ p. is_runnable (manner_of p) k (wanted history rows cast p after_) history rows after_ in
+      let said : idle ≡ not (runs (part_of x')) = is ∙ idle_here (scene_of cast) history rows v (slice_set actors k x') after_ then_holds k x' (slice_get_written actors k x x' here) in
+      flag_of history rows cast after_ k (part_of x) cast_here ∙ ap Some (ap (λ m. is_runnable m k (wanted history rows cast (part_of x) after_) history rows after_) (manner_at cast k (part_of x) cast_here) ∙ (not_not (runs (part_of x)) ∙ ap not (ap (λ p. not (runs p)) (sym part) ∙ sym said)))
 
   rung_then : (m : ℕ) → rung_at e.op row ≡ Some m → m < length cast → slice_get (flag after_) m ≡ Some true
   rung_then m rung lt =
       let p = there_is cast m lt in
       flag_of history rows cast after_ m p.0 p.1
-      ∙ ap Some (runnable_rung (hostiles cast) history rows journal k e row there owner m (wanted history rows cast p.0 after_) (calm_actor cast m) rung)
+      ∙ ap Some (runnable_rung (manners cast) history rows journal k e row there may m (wanted history rows cast p.0 after_) (calm_actor cast m) rung)
 
   rung_below : (m : ℕ) → rung_at e.op row ≡ Some m → m < length cast
   rung_below m rung =
@@ -150,7 +154,7 @@ module _ (history : History) (rows : List QueueRow) (w v : List Queue) (actors :
       subst (λ n. m < n) (sym (length-map actors part_of)) lt
 
   -- the runnable actors after the call
-  pub running_then : (rung : Option ℕ) (idle : Bool) (place : ℕ) → rung_at e.op row ≡ rung → idle ≡ (is_at_rest (actor_round x') && not (is_pending k v)) → slice_get (places_from 0 (flag journal)) place ≡ Some k → places_from 0 (flag after_) ≡ with_option rung (removed_if idle (places_from 0 (flag journal)) place)
+  pub running_then : (rung : Option ℕ) (idle : Bool) (place : ℕ) → rung_at e.op row ≡ rung → idle ≡ idles (manner_of (part_of x')) (actor_rests x') (is_pending k v) → slice_get (places_from 0 (flag journal)) place ≡ Some k → places_from 0 (flag after_) ≡ with_option rung (removed_if idle (places_from 0 (flag journal)) place)
   running_then None idle place rung is at =
       ap (places_from 0) (differs_at (flag journal) (flag after_) k (not idle) _ lengths (flag_of history rows cast journal k (part_of x) cast_here) (caller_then idle is) (λ i away. others i away (λ h. let no : None ≡ Some i = sym rung ∙ h in cc)))
       ∙ cleared (flag journal) k place idle at
@@ -163,10 +167,9 @@ module _ (history : History) (rows : List QueueRow) (w v : List Queue) (actors :
       ∙ (places_set 0 m m (slice_set (flag journal) k (not idle)) (omega arith) (omega arith)
       ∙ ap (with_number m) (cleared (flag journal) k place idle at))
 
-called_so : (h a b : Bool) → a ≡ true → (not a || (not h && b)) ≡ true → b ≡ true
-called_so false true b e g = g
-called_so true true b e g = cc
-called_so h false b e g = cc
+called_so : (a b : Bool) → a ≡ true → (not a || b) ≡ true → b ≡ true
+called_so true b e g = g
+called_so false b e g = cc
 
 -- an actor that is runnable at rest has an end where a notification is pending
 module _ (history : History) (rows : List QueueRow) (serial : Crew) (w : List Queue) (actors : List Actor) (journal : List Entry) (k : ℕ) (x : Actor) (place : ℕ) where
@@ -177,16 +180,16 @@ module _ (history : History) (rows : List QueueRow) (serial : Crew) (w : List Qu
   runs_called fitted old here at rest =
       let part : slice_get (map part_of actors) k ≡ Some (part_of x) = map_get part_of actors k x here in
       let so = places_so 0 k k place (flags history rows (map part_of actors) journal) (omega arith) at in
-      let flag : is_runnable (hostiles (map part_of actors)) k (wanted history rows (map part_of actors) (part_of x) journal) history rows journal ≡ true = some_eq (sym (flag_of history rows (map part_of actors) journal k (part_of x) part) ∙ so) in
+      let flag : is_runnable Calm k (wanted history rows (map part_of actors) (part_of x) journal) history rows journal ≡ true = subst (λ m. is_runnable m k (wanted history rows (map part_of actors) (part_of x) journal) history rows journal ≡ true) (calm_manner (map part_of actors) k) (some_eq (sym (flag_of history rows (map part_of actors) journal k (part_of x) part) ∙ so)) in
       let settled : all_settled history journal (wanted history rows (map part_of actors) (part_of x) journal) ≡ true = sym (rests_here (scene_of (map part_of actors)) history rows w actors journal old k x here) ∙ rest in
       called_end k x history rows journal
       (λ n row there r owner. let g = fitted.ends k (part_of x) part (record { queue = n; role = r }) (row, there, owner) in from_part x r n (seat_end (scene_of (map part_of actors)) (part_of x) g.0 (record { queue = n; role = r }) g.1))
-      (called_so (hostiles (map part_of actors) k) (all_settled history journal (wanted history rows (map part_of actors) (part_of x) journal)) (called_from k 0 history rows journal) settled flag)
+      (called_so (all_settled history journal (wanted history rows (map part_of actors) (part_of x) journal)) (called_from k 0 history rows journal) settled flag)
 
 -- each actor made few calls since its last mark
-few_holds : (history : History) (rows : List QueueRow) (w : List Queue) (actors : List Actor) (journal : List Entry) → Holds history rows w actors journal → AreFew no_drops journal
-few_holds history rows w actors journal h a r n = elim (get_case actors a) [
-  | inl y ↦ pace_few (pendings history journal) (since no_drops a journal) (actor_round y.0) (h.paced a y.0 y.1) r n
+few_holds : (history : History) (rows : List QueueRow) (w : List Queue) (actors : List Actor) (journal : List Entry) → Holds history rows w actors journal → AreFew (hostiles (map part_of actors)) no_drops journal
+few_holds history rows w actors journal h a calm r n = elim (get_case actors a) [
+  | inl y ↦ pace_few (pendings history journal) (since no_drops a journal) (actor_round y.0) (h.paced a y.0 y.1 calm) r n
   | inr past ↦ let none : since no_drops a journal ≡ [] = nobody_since (hostiles (map part_of actors)) history rows (length actors) a [] journal h.peers past h.legal in subst (λ es. calls_at r n es ≤ 8) (sym none) (omega arith)
 ]
 
@@ -195,7 +198,7 @@ pub record StepThen (setting : Setting) (v : List Queue) (actors : List Actor) (
   pub holds : Holds setting.history setting.rows v actors journal
   pub cast_is : map part_of actors ≡ setting.cast
   pub rows_hold : EachMoment (RowsStand setting) journal
-  pub brisk : Brisk no_drops journal
+  pub brisk : Brisk (hostile_in setting) no_drops journal
   pub running : list ≡ runs setting journal
   pub room_is : length actors ≤ room
   pub few : length list ≤ room
@@ -204,9 +207,9 @@ module _ (history : History) (rows : List QueueRow) (serial : Crew) (w v : List 
   abbrev setting : Setting
   setting = record { history = history; rows = rows; cast = map part_of actors; serial = serial }
 
-  pub system_then : IsFitted setting → Holds history rows w actors journal → EachMoment (RowsStand setting) journal → list ≡ runs setting journal → length actors ≤ room → Brisk no_drops journal
-      → slice_get list place ≡ Some k → x ≡ slice_index_or actors k x → ActorEnd x (role_of e.op) e.queue.0 → Stepped ActorStandsFor Happens w v x x' e → Turned (actor_round x) e (actor_round x') → FitsActor (end_at v) x' → part_of x' ≡ part_of x
-      → y ≡ slice_index_or (slice_set actors k x') k y → row ≡ slice_index_or rows e.queue.0 row → idle ≡ (is_at_rest (actor_round y) && not (is_pending k v)) → rung ≡ rung_at e.op row
+  pub system_then : IsFitted setting → Holds history rows w actors journal → EachMoment (RowsStand setting) journal → list ≡ runs setting journal → length actors ≤ room → Brisk (hostile_in setting) no_drops journal
+      → slice_get list place ≡ Some k → x ≡ slice_index_or actors k x → ActorEnd x (role_of e.op) e.queue.0 → Stepped ActorStandsFor Happens w v x x' e → ActorTurned x e x' → FitsActor (end_at v) x' → part_of x' ≡ part_of x
+      → y ≡ slice_index_or (slice_set actors k x') k y → row ≡ slice_index_or rows e.queue.0 row → idle ≡ idles (manner_of (part_of y)) (actor_rests y) (is_pending k v) → rung ≡ rung_at e.op row
       → StepThen setting v (slice_set actors k x') (journal ++ entry_of k e ∷ []) (with_option rung (removed_if idle list place)) room
   system_then fitted old rows_old running le brisk at x_is own st turned fits part y_is row_is idle_is rung_is =
       let at' : slice_get (runs setting journal) place ≡ Some k = rw (← running) at in
@@ -219,13 +222,13 @@ module _ (history : History) (rows : List QueueRow) (serial : Crew) (w v : List 
       let new = step_holds history rows w v actors journal k x x' e here old own st turned pressed fits part in
       let cast_is = map_same part_of actors k x x' here part in
       let y_same : y ≡ x' = some_eq (sym (slice_get_read (slice_set actors k x') _ k y refl (subst (λ n. k < n) (sym (length-set actors k x')) lt) y_is) ∙ slice_get_written actors k x x' here) in
-      let then_is = running_then history rows w v actors journal k x x' e row here old fitted.seated own st turned pressed fits part there rung idle place (sym rung_is) (idle_is ∙ ap (λ a. is_at_rest (actor_round a) && not (is_pending k v)) y_same) at' in
+      let then_is = running_then history rows w v actors journal k x x' e row here old fitted.seated own st turned pressed fits part there rung idle place (sym rung_is) (idle_is ∙ ap (λ a. idles (manner_of (part_of a)) (actor_rests a) (is_pending k v)) y_same) at' in
       let list_is : with_option rung (removed_if idle list place) ≡ runs setting (journal ++ entry_of k e ∷ []) = ap (λ l. with_option rung (removed_if idle l place)) running ∙ sym then_is in
       record {
         holds = new;
         cast_is = cast_is;
         rows_hold = (rows_old.0, EachFrom-append _ [] journal _ rows_old.1 (subst (λ cast. RowsHold (sheet (scene_of (map part_of actors))) (hostiles (map part_of actors)) cast (moved history (journal ++ entry_of k e ∷ []))) cast_is (rows_now (scene_of (map part_of actors)) history rows v (slice_set actors k x') (journal ++ entry_of k e ∷ []) new (hostiles (map part_of actors)))));
-        brisk = (brisk.0, EachFrom-append (λ b d. AreFew no_drops (b ++ d ∷ [])) [] journal (entry_of k e) brisk.1 (few_holds history rows v (slice_set actors k x') (journal ++ entry_of k e ∷ []) new));
+        brisk = (brisk.0, EachFrom-append (λ b d. AreFew (hostile_in setting) no_drops (b ++ d ∷ [])) [] journal (entry_of k e) brisk.1 (subst (λ cast. AreFew (hostiles cast) no_drops (journal ++ entry_of k e ∷ [])) cast_is (few_holds history rows v (slice_set actors k x') (journal ++ entry_of k e ∷ []) new)));
         running = list_is;
         room_is = rw length-set le;
         few = rw list_is (running_few history rows (map part_of actors) room (omega (arith, le, size)) (journal ++ entry_of k e ∷ []));

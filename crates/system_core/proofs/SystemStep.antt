@@ -27,7 +27,8 @@ use Rattle.turn_kit.specs.Pace.{Paced, pendings, IsCalled}
 use Rattle.turn_kit.proofs.Playing.{pace_own, pace_beside}
 use Rattle.system_core.proofs.Calm.{calm_row}
 use Rattle.system_core.proofs.Paces.{post_end, post_waits}
-use Rattle.actor_set.specs.Actors.{FitsActor, ActorStandsFor, ActorEnd, part_of, actor_round}
+use Rattle.actor_set.specs.Actors.{FitsActor, ActorStandsFor, ActorEnd, ActorTurned, part_of, actor_round}
+use Rattle.system_core.proofs.Rounds.{turned_is}
 use Rattle.actor_set.specs.Parts.{Part}
 use Rattle.system_core.specs.Kinds.{hostiles}
 use Rattle.system_core.specs.Systems.{Holds}
@@ -101,7 +102,7 @@ moved_there q (Do.Settle s) c ss ts m h = still_there q.entries ss ts h
 moved_there q (Do.Ring s) c ss ts m h = still_there q.entries ss ts h
 
 -- actor k, which is x, makes the call of event e, and is then x'
-module _ (history : History) (rows : List QueueRow) (w v : List Queue) (actors : List Actor) (journal : List Entry) (k : ℕ) (x x' : Actor) (e : Event) (here : slice_get actors k ≡ Some x) (old : Holds history rows w actors journal) (own : ActorEnd x (role_of e.op) e.queue.0) (st : Stepped ActorStandsFor Happens w v x x' e) (turned : Turned (actor_round x) e (actor_round x')) (runs : is_at_rest (actor_round x) ≡ true → IsCalled (pendings history journal) (actor_round x).posts) where
+module _ (history : History) (rows : List QueueRow) (w v : List Queue) (actors : List Actor) (journal : List Entry) (k : ℕ) (x x' : Actor) (e : Event) (here : slice_get actors k ≡ Some x) (old : Holds history rows w actors journal) (own : ActorEnd x (role_of e.op) e.queue.0) (st : Stepped ActorStandsFor Happens w v x x' e) (turned : ActorTurned x e x') (runs : is_at_rest (actor_round x) ≡ true → IsCalled (pendings history journal) (actor_round x).posts) where
   deed : Deed
   deed = record { event = e; body = st.body }
 
@@ -188,19 +189,22 @@ module _ (history : History) (rows : List QueueRow) (w v : List Queue) (actors :
           condition = shown_condition (get_or rows e.queue.0 no_row) (queue_at w e.queue.0) (track history e.queue.0 journal) shown e.op st.happened.may.condition;
           tells = λ calm. shown_tells (get_or rows e.queue.0 no_row) (queue_at w e.queue.0) (track history e.queue.0 journal) shown e.op e.answer st.happened.may.tells;
           carries = λ calm. shown_carries (get_or rows e.queue.0 no_row) (queue_at w e.queue.0) (track history e.queue.0 journal) shown e.op (cargo_of deed) e.item st.happened.may.carries st.happened.may.item;
-          owner = sym (old.owners k x here (role_of e.op) e.queue.0 own (get_or rows e.queue.0 no_row) row);
+          caller = let is = old.owners k x here (role_of e.op) e.queue.0 own (get_or rows e.queue.0 no_row) row in record { some = (role_of e.op, is); own = λ calm. is };
         };
       }
 
-  paced' : (j : ℕ) (y : Actor) → slice_get (slice_set actors k x') j ≡ Some y → ((eqb j k ≡ true) × (j ≡ k)) ⊎ ((eqb j k ≡ false) × (j ≢ k)) → Paced (pendings history (journal ++ entry_of k e ∷ [])) (since no_drops j (journal ++ entry_of k e ∷ [])) (actor_round y)
-  paced' j y at (inl same) =
+  turn : Turned (actor_round x) e (actor_round x')
+  turn = turned_is x x' e turned
+
+  paced' : (j : ℕ) (y : Actor) → slice_get (slice_set actors k x') j ≡ Some y → hostile j ≡ false → ((eqb j k ≡ true) × (j ≡ k)) ⊎ ((eqb j k ≡ false) × (j ≢ k)) → Paced (pendings history (journal ++ entry_of k e ∷ [])) (since no_drops j (journal ++ entry_of k e ∷ [])) (actor_round y)
+  paced' j y at calm (inl same) =
       let is : x' ≡ y = some_eq (sym (slice_get_written actors k x x' here) ∙ (ap (slice_get (slice_set actors k x')) (sym same.1) ∙ at)) in
-      let was = old.paced k x here in
-      let now = pace_own hostile no_drops history rows journal (entry_of k e) legal' (calm_row (map part_of actors) legal'.row) (actor_round x) (actor_round x') was turned (post_waits x e turned.place turned.posted.post turned.posted.there) runs in
+      let was = old.paced k x here (subst (λ i. hostile i ≡ false) same.1 calm) in
+      let now = pace_own hostile no_drops history rows journal (entry_of k e) legal' (calm_row (map part_of actors) legal'.row) (actor_round x) (actor_round x') was turn (post_waits x e turn.place turn.posted.post turn.posted.there) runs in
       subst (λ i. Paced (pendings history (journal ++ entry_of k e ∷ [])) (since no_drops i (journal ++ entry_of k e ∷ [])) (actor_round y)) (sym same.1) (subst (λ a. Paced (pendings history (journal ++ entry_of k e ∷ [])) (since no_drops k (journal ++ entry_of k e ∷ [])) (actor_round a)) is now)
-  paced' j y at (inr away) =
+  paced' j y at calm (inr away) =
       let was : slice_get actors j ≡ Some y = sym (slice_get_beside actors k j x' away.1) ∙ at in
-      pace_beside hostile no_drops history rows journal (entry_of k e) legal' j (actor_round y) (λ h. away.1 (sym h)) (λ i p pat row rat. old.owners j y was (waiting_role p.side) p.queue (post_end y i p pat) row rat) (old.paced j y was)
+      pace_beside hostile no_drops history rows journal (entry_of k e) legal' (calm_row (map part_of actors) legal'.row) j (actor_round y) (λ h. away.1 (sym h)) (λ i p pat row rat. old.owners j y was (waiting_role p.side) p.queue (post_end y i p pat) row rat) (old.paced j y was calm)
 
   -- all goes on to hold
   pub step_holds : FitsActor (end_at v) x' → part_of x' ≡ part_of x → Holds history rows v (slice_set actors k x') (journal ++ entry_of k e ∷ [])
@@ -214,7 +218,7 @@ module _ (history : History) (rows : List QueueRow) (w v : List Queue) (actors :
     fits = λ j y at. fits' new j y at (eqb_tells j k);
     stands = λ j y at. stands' j y at (eqb_tells j k);
     owners = λ j y at. owners' part j y at (eqb_tells j k);
-    paced = λ j y at. paced' j y at (eqb_tells j k);
+    paced = λ j y at calm. paced' j y at (subst (λ cast. hostiles cast j ≡ false) (map_same part_of actors k x x' here part) calm) (eqb_tells j k);
     peers = λ n row at r. rw length-set (old.peers n row at r);
     few = rw length-set old.few;
     legal = subst (λ cast. LegalJournal (hostiles cast) history rows (journal ++ entry_of k e ∷ [])) (sym (map_same part_of actors k x x' here part)) (EachFrom-append (LegalEntry hostile history rows) [] journal (entry_of k e) old.legal legal');

@@ -21,7 +21,7 @@ use Rattle.serial_law.specs.Table.{serial_sheet}
 use Rattle.serial_law.specs.Serial.{SerialClass, IsSerial, ArrivesInPart, ArrivesWhole}
 use Rattle.serial_law.proofs.Arrivals.{as_there, RowAt}
 use Rattle.system_core.specs.Kinds.{serial_part, sheet, scene_of}
-use Rattle.system_core.specs.Shows.{Setting, Shown, hostile_in, sheet_in, moved_in, runs, RowsStand}
+use Rattle.system_core.specs.Shows.{Setting, Shown, manner_in, hostile_in, sheet_in, moved_in, runs, RowsStand}
 use Rattle.system_core.specs.Plays.{Played, runnable_now}
 use Rattle.system_core.specs.Lawful.{StandsLawful}
 use Rattle.system_core.specs.Builds.{IsBuilt, IsCastOf, BeginsAnew, HasSerial, serial_class, first_serial}
@@ -73,7 +73,7 @@ module _ (s : Shown) (stands : StandsLawful s) (class : SerialClass) (there : Is
   actors = needful (sheet_in s.setting) s.setting.cast (moved_in s.setting s.journal)
 
   still : runnable_now s ≡ [] → IsStill (hostile_in s.setting) s.setting.history s.setting.rows actors s.journal
-  still quiet = quiet_still (hostile_in s.setting) s.setting.history s.setting.rows actors s.journal (record {
+  still quiet = quiet_still (manner_in s.setting) s.setting.history s.setting.rows actors s.journal (record {
     bells_hold = last_moment (BellsHold (hostile_in s.setting) s.setting.history s.setting.rows) s.journal stands.lawful.bells_hold;
     flows = last_moment (QueuesFlow (hostile_in s.setting) s.setting.history s.setting.rows) s.journal stands.lawful.flows;
     peopled = λ n row at r. let lt = stands.fitted.peopled n row at r in let size = length-map s.setting.cast (λ p. (sheet_in s.setting p).wants (moved_in s.setting s.journal)) in omega (arith, lt, size);

@@ -2,7 +2,7 @@
 use Rattle.std.specs.Prelude.{◌≡◌, ◌≤◌, length}
 use Rattle.wire_core.specs.Journal.{EachMoment}
 use Rattle.wire_core.specs.Marks.{no_drops, Brisk}
-use Rattle.system_core.specs.Shows.{Setting, Shown, runs, RowsStand}
+use Rattle.system_core.specs.Shows.{Setting, Shown, hostile_in, runs, RowsStand}
 use Rattle.system_core.specs.States.{state_of, begun, crew_of}
 use Rattle.system_core.specs.Lawful.{IsFitted}
 use Rattle.system_core.specs.Systems.{Holds}
@@ -21,7 +21,7 @@ pub record IsSystem (a : Inside) : Type 0 where
   pub fitted : IsFitted (setting_of a)
   pub holds : Holds (setting_of a).history a.rows.items a.world a.actors.items a.journal.items
   pub rows_hold : EachMoment (RowsStand (setting_of a)) a.journal.items
-  pub brisk : Brisk no_drops a.journal.items
+  pub brisk : Brisk (hostile_in (setting_of a)) no_drops a.journal.items
   -- the runnable actors are kept
   pub running : a.running.list ≡ runs (setting_of a) a.journal.items
   pub room : length a.actors.items ≤ a.running.room

@@ -1,8 +1,9 @@
--- The table of the kinds of actor that a system has, of all its classes: what is said of each of them, which of them
--- are hostile, and what a trace gives them beside what they say.
-use Rattle.std.specs.Prelude.{ℕ, Bool, false, List, [], flat_map, slice_get}
+-- The table of the kinds of actor that a system has, of all its classes: what is said of each of
+-- them, how it goes about, and what a trace gives them beside what they say.
+use Rattle.std.specs.Prelude.{ℕ, Bool, not, ◌&&◌, List, [], flat_map, slice_get}
 use Rattle.std.specs.Option.{option_map_or}
 use Rattle.wire_core.specs.Journal.{Hostiles}
+use Rattle.play_core.specs.Manners.{Manner, Calm, Hostile, Manners, hostile_by}
 use Rattle.play_core.specs.Sheets.{Scene, Sheet}
 use Rattle.serial_law.specs.Parts.{SerialPart, SerialDevice, SerialDriver, SerialReceiver, SerialSender, SerialClient}
 use Rattle.serial_law.specs.Table.{serial_sheet}
@@ -44,14 +45,23 @@ sheet scene (RxPart rx clients) = serial_sheet (SerialReceiver rx clients)
 sheet scene (TxPart tx clients) = serial_sheet (SerialSender tx clients)
 sheet scene (ClientPart rx tx script) = serial_sheet (SerialClient rx tx script)
 
--- which parts are hostile: none of these
-abbrev pub is_hostile : Part → Bool
-is_hostile (UartPart rx tx input) = false
-is_hostile (DriverPart device_rx device_tx rx tx) = false
-is_hostile (RxPart rx clients) = false
-is_hostile (TxPart tx clients) = false
-is_hostile (ClientPart rx tx script) = false
+-- how a part goes about: all of these are calm
+abbrev pub manner_of : Part → Manner
+manner_of (UartPart rx tx input) = Calm
+manner_of (DriverPart device_rx device_tx rx tx) = Calm
+manner_of (RxPart rx clients) = Calm
+manner_of (TxPart tx clients) = Calm
+manner_of (ClientPart rx tx script) = Calm
 
--- which of the actors of a cast are hostile
+-- how each actor of a cast goes about
+abbrev pub manners : List Part → Manners
+manners cast k = option_map_or manner_of (slice_get cast k) Calm
+
+-- which of them are hostile
 abbrev pub hostiles : List Part → Hostiles
-hostiles cast k = option_map_or is_hostile (slice_get cast k) false
+hostiles cast = hostile_by (manners cast)
+
+-- an actor isn't runnable: a calm one rests and isn't called, a hostile one rests
+abbrev pub idles : Manner → Bool → Bool → Bool
+idles Calm rests called = rests && not called
+idles (Hostile done) rests called = rests

@@ -28,13 +28,13 @@ pub record IsFitted (s : Setting) : Type 0 where
   pub places : (n : ℕ) (row : QueueRow) → slice_get s.rows n ≡ Some row → IsCapacity row.capacity
 
 -- each queue hands over what was put, once and in order, each call is in discipline, at each moment bells, queues and
--- rows hold, and between two marks no actor makes more than 8 calls on an end
+-- rows hold, and between two marks no actor but a hostile one makes more than 8 calls on an end
 pub record IsLawful (s : Setting) (journal : List Entry) : Type 0 where
   pub legal : LegalJournal (hostile_in s) s.history s.rows journal
   pub bells_hold : EachMoment (BellsHold (hostile_in s) s.history s.rows) journal
   pub flows : EachMoment (QueuesFlow (hostile_in s) s.history s.rows) journal
   pub rows_hold : EachMoment (RowsStand s) journal
-  pub brisk : Brisk no_drops journal
+  pub brisk : Brisk (hostile_in s) no_drops journal
 
 -- the bytes that a part heard: a device on its line and a client for its record what they took
 abbrev pub heard_by : Moved → Part → List ℕ

@@ -8,9 +8,10 @@ use Rattle.wire_core.specs.Journal.{History, Hostiles}
 use Rattle.expect_core.specs.declared.report.Census.{Census}
 use Rattle.play_core.specs.Moved.{Moved, moved}
 use Rattle.play_core.specs.Sheets.{Sheet, needful, RowsHold}
+use Rattle.play_core.specs.Manners.{Manners}
 use Rattle.play_core.specs.Runs.{runnable}
 use Rattle.actor_set.specs.Parts.{Part}
-use Rattle.system_core.specs.Kinds.{sheet, scene_of, hostiles}
+use Rattle.system_core.specs.Kinds.{sheet, scene_of, manners, hostiles}
 
 -- which of the actors are the device and the clients of a class, these in their order
 pub record Crew : Type 0 where
@@ -41,7 +42,10 @@ pub record Shown : Type 0 where
   pub journal : List Entry
   pub state : State
 
--- which of the actors are hostile
+-- how each of the actors goes about, and which of them are hostile
+abbrev pub manner_in : Setting → Manners
+manner_in s = manners s.cast
+
 abbrev pub hostile_in : Setting → Hostiles
 hostile_in s = hostiles s.cast
 
@@ -55,7 +59,8 @@ moved_in s journal = moved s.history journal
 
 -- the actors that are runnable after a journal
 abbrev pub runs : Setting → List Entry → List ℕ
-runs s journal = runnable (hostile_in s) s.history s.rows (needful (sheet_in s) s.cast (moved_in s journal)) journal
+runs s journal =
+    runnable (manner_in s) s.history s.rows (needful (sheet_in s) s.cast (moved_in s journal)) journal
 
 -- each actor's row holds after a journal
 abbrev pub RowsStand : Setting → List Entry → Type 0

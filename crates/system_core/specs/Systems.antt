@@ -1,5 +1,5 @@
 -- The invariant of a system at play: history, queues, actors and journal belong together.
-use Rattle.std.specs.Prelude.{◌≡◌, ◌<◌, ◌≤◌, ℕ, Some, List, ◌++◌, length, map, slice_get}
+use Rattle.std.specs.Prelude.{◌≡◌, ◌<◌, ◌≤◌, ℕ, false, Some, List, ◌++◌, length, map, slice_get}
 use Rattle.wire_core.specs.declared.names.QueueRow.{QueueRow}
 use Rattle.wire_core.specs.declared.names.Entry.{Entry}
 use Rattle.wire_core.specs.Ends.{Role}
@@ -25,8 +25,9 @@ pub record Holds (history : History) (rows : List QueueRow) (world : List Queue)
   pub fits : (k : ℕ) (x : Actor) → slice_get actors k ≡ Some x → FitsActor (end_at world) x
   pub stands : (k : ℕ) (x : Actor) → slice_get actors k ≡ Some x → ActorStandsFor x passed
   pub owners : (k : ℕ) (x : Actor) → slice_get actors k ≡ Some x → (r : Role) (n : ℕ) → ActorEnd x r n → (row : QueueRow) → slice_get rows n ≡ Some row → owner_of row r ≡ k
-  -- what each actor did since its last mark
-  pub paced : (k : ℕ) (x : Actor) → slice_get actors k ≡ Some x → Paced (pendings history journal) (since no_drops k journal) (actor_round x)
+  -- what each actor that isn't hostile did since its last mark
+  pub paced : (k : ℕ) (x : Actor) → slice_get actors k ≡ Some x → hostiles (map part_of actors) k ≡ false
+      → Paced (pendings history journal) (since no_drops k journal) (actor_round x)
   pub peers : (n : ℕ) (row : QueueRow) → slice_get rows n ≡ Some row → (r : Role) → owner_of row r < length actors
   pub few : length actors ≤ 65536
   pub legal : LegalJournal (hostiles (map part_of actors)) history rows journal

@@ -1,14 +1,14 @@
 //! The system at play: the queues of a layout with the actors at them, its steps, and what is seen of it. It stands here,
 //! above actors and descriptions, since a plan and a trace say who acts.
-ghost use Rattle.std.specs.Prelude.{◌≡◌, ◌<◌, ◌≤◌, ◌&&◌, ℕ, List, not, length, map, OnOk, OnErr, IfOk, slice_get, Some, None, []};
+ghost use Rattle.std.specs.Prelude.{◌≡◌, ◌<◌, ◌≤◌, ℕ, List, length, map, OnOk, OnErr, IfOk, slice_get, Some, None, []};
 ghost use Rattle.std.specs.Option.{option_map};
 ghost use Rattle.wire_core.specs.Queues.{is_pending, starts};
-ghost use Rattle.turn_kit.specs.Turns.{is_at_rest};
 ghost use Rattle.play_core.specs.Runs.{rung_at};
-ghost use Rattle.actor_set.specs.Actors.{actor_round};
+ghost use Rattle.actor_set.specs.Actors.{actor_rests, part_of};
 ghost use Rattle.trace_text.specs.Traces.{IsReadFor};
 ghost use Rattle.region_layout.specs.Layouts.{layout_of};
 ghost use Rattle.sdf_check.specs.Valid.{Valid};
+ghost use Rattle.system_core.specs.Kinds.{manner_of, idles};
 ghost use Rattle.system_core.specs.Shows.{runs};
 ghost use Rattle.system_core.specs.States.{heard_of, heard_from, begun, crew_of, started};
 ghost use Rattle.system_core.specs.Starts.{AreStarting};
@@ -82,7 +82,7 @@ pub fn unplayed(plan: &Plan) -> Option<Place>
 
 // Whether the actor at a place isn't runnable.
 fn is_idle(actor: &Actor, world: &World, place: ActorId) -> bool
-    ensures { result ≡ (is_at_rest (actor_round actor.now) && not (is_pending place.0 world.now)) }
+    ensures { result ≡ idles (manner_of (part_of actor.now)) (actor_rests actor.now) (is_pending place.0 world.now) }
 {
     actor.at_rest() && !world.is_pending(place)
 }

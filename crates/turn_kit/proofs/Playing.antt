@@ -12,6 +12,7 @@ use Rattle.wire_core.specs.declared.names.Answer.TheVariants.{Done, Yes, No}
 use Rattle.wire_core.specs.Deeds.{answer_of}
 use Rattle.wire_core.specs.Ends.{Role, role_of}
 use Rattle.wire_core.specs.Queues.{Bells, bell_of, bells_after, Tells}
+use Rattle.wire_core.proofs.Callers.{calm_caller}
 use Rattle.wire_core.specs.Journal.{History, Track, track, history_at, track_after, if_on, LegalEntry, is_calm, is_sent, is_open, Hostiles, owner_of}
 use Rattle.wire_core.proofs.Tracks.{track_from-append}
 use Rattle.turn_kit.specs.Turns.{Post, is_drop, is_mark_at, Round, Turned, is_at_rest}
@@ -94,12 +95,12 @@ module _ (hostile : Hostiles) (drops : Drops) (history : History) (rows : List Q
           let plain = no_mark_at t.posted.post e.event n in
           paced_next (pendings history before) (pendings history (before ++ e ∷ [])) (since drops e.actor.0 before) old new e.event p t n runs (λ s o. told_at (is_sent (track history e.event.queue.0 before)) (is_open legal.row (track history e.event.queue.0 before)) (track history e.event.queue.0 before).bells e.event.op e.event.answer s (legal.legal.tells calm) o) (λ m s p. pendings_after history before e m s p (λ q o y. yes_marks e.event.op e.event.answer s plain o y)) (is_at_rest old) refl
 
-  -- another actor's entry
-  pub pace_beside : (a : ℕ) (now : Round) → (e.actor.0 ≡ a → ⊥) → AreOwnPosts rows a now.posts → Paced (pendings history before) (since drops a before) now → After a now
-  pace_beside a now apart own p = subst (λ es. Paced (pendings history (before ++ e ∷ [])) es now) (sym (since-append drops a before e)) (rw (eqb_apart e.actor.0 a apart) (paced_beside (pendings history before) (pendings history (before ++ e ∷ [])) (since drops a before) now p (λ k q at h. pendings_after history before e q.queue q.side h (λ s o y. apart (owner_is k q at s o)))))
+  -- another actor's entry on a calm queue
+  pub pace_beside : is_calm hostile legal.row ≡ true → (a : ℕ) (now : Round) → (e.actor.0 ≡ a → ⊥) → AreOwnPosts rows a now.posts → Paced (pendings history before) (since drops a before) now → After a now
+  pace_beside calm a now apart own p = subst (λ es. Paced (pendings history (before ++ e ∷ [])) es now) (sym (since-append drops a before e)) (rw (eqb_apart e.actor.0 a apart) (paced_beside (pendings history before) (pendings history (before ++ e ∷ [])) (since drops a before) now p (λ k q at h. pendings_after history before e q.queue q.side h (λ s o y. apart (owner_is k q at s o)))))
     where
       owner_is : (k : ℕ) (q : Post) → slice_get now.posts k ≡ Some q → e.event.queue.0 ≡ q.queue → e.event.op ≡ Do.Wake q.side → e.actor.0 ≡ a
-      owner_is k q at s o = legal.legal.owner ∙ (ap (λ x. owner_of legal.row (role_of x)) o ∙ own k q at legal.row (sym (ap (slice_get rows) s) ∙ legal.there))
+      owner_is k q at s o = sym (calm_caller hostile legal.row (role_of e.event.op) e.actor.0 calm legal.legal.caller) ∙ (ap (λ x. owner_of legal.row (role_of x)) o ∙ own k q at legal.row (sym (ap (slice_get rows) s) ∙ legal.there))
 
 -- at most 8 calls on each end
 pub pace_few : (pending : Pendings) (calls : List Event) (now : Round) → Paced pending calls now → (r : Role) (n : ℕ) → calls_at r n calls ≤ 8

@@ -46,11 +46,11 @@ pub fn mark_law()
 {}
 
 /// Where each entry of a legal journal is a turn of an actor that wasn't at rest, or was called, the pace of all actors is
-/// kept: an actor begins, and goes on after each mark, with no calls since; its own turns, on queues without a hostile end, and the entries of the others
-/// keep what is known of it; and from this it follows that it made at most 8 calls on each end since its last mark.
+/// kept: an actor begins, and goes on after each mark, with no calls since; its own turns and the entries of the others, on
+/// queues without a hostile end, keep what is known of it; and from this it follows that it made at most 8 calls on each end since its last mark.
 pub fn pace_law()
     ensures begins { (pending : Pendings) (now : Round) → IsRound now → Paced pending [] now }
     ensures own { (hostile : Hostiles) (drops : Drops) (history : History) (rows : List QueueRow) (before : List Entry) (e : Entry) → (legal : LegalEntry hostile history rows before e) → is_calm hostile legal.row ≡ true → (old new : Round) → Paced (pendings history before) (since drops e.actor.0 before) old → (t : Turned old e.event new) → drops e ≡ is_drop t.posted.post e.event → (is_at_rest old ≡ true → IsCalled (pendings history before) old.posts) → Paced (pendings history (before ++ e ∷ [])) (since drops e.actor.0 (before ++ e ∷ [])) new }
-    ensures beside { (hostile : Hostiles) (drops : Drops) (history : History) (rows : List QueueRow) (before : List Entry) (e : Entry) → LegalEntry hostile history rows before e → (a : ℕ) (now : Round) → (e.actor.0 ≡ a → ⊥) → AreOwnPosts rows a now.posts → Paced (pendings history before) (since drops a before) now → Paced (pendings history (before ++ e ∷ [])) (since drops a (before ++ e ∷ [])) now }
+    ensures beside { (hostile : Hostiles) (drops : Drops) (history : History) (rows : List QueueRow) (before : List Entry) (e : Entry) → (legal : LegalEntry hostile history rows before e) → is_calm hostile legal.row ≡ true → (a : ℕ) (now : Round) → (e.actor.0 ≡ a → ⊥) → AreOwnPosts rows a now.posts → Paced (pendings history before) (since drops a before) now → Paced (pendings history (before ++ e ∷ [])) (since drops a (before ++ e ∷ [])) now }
     ensures few { (pending : Pendings) (calls : List Event) (now : Round) → Paced pending calls now → (r : Role) (n : ℕ) → calls_at r n calls ≤ 8 }
 {}

@@ -6,3 +6,4 @@ pub mod BellLemmas
 pub mod BellTheorem
 pub mod Seeds
 pub mod Sinces
+pub mod Callers

@@ -159,11 +159,17 @@ is_sent t = nat_lt (length t.taken) (length t.sent)
 abbrev pub is_open : QueueRow → Track → Bool
 is_open row t = nat_lt (length t.sent) (length t.taken + row.capacity)
 
+-- actor k may call at the end r of a queue of this row: it has an end of the queue, and unless it is hostile it has that
+-- one
+pub record MayCall (hostile : Hostiles) (row : QueueRow) (r : Role) (k : ℕ) : Type 0 where
+  pub some : (x : Role) × (owner_of row x ≡ k)
+  pub own : hostile k ≡ false → owner_of row r ≡ k
+
 -- the queue law and the discipline at one entry of a journal on a queue of this row, where t is the queue's track
 -- just before it; the queue law is claimed of a queue with no hostile end
 pub record Legal (hostile : Hostiles) (row : QueueRow) (t : Track) (e : Entry) : Type 0 where
-  -- the call is made by the end's owner
-  pub owner : e.actor.0 ≡ owner_of row (role_of e.event.op)
+  -- the call is made by an actor that may make it
+  pub caller : MayCall hostile row (role_of e.event.op) e.actor.0
   -- the discipline: its condition holds
   pub condition : Condition (end_of true row.kind t.bells (role_of e.event.op)) e.event.op
   -- it answers by what was put and taken, and by the last stores

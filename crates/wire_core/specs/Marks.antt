@@ -10,7 +10,7 @@ use Rattle.wire_core.specs.declared.names.Answer.{Answer}
 use Rattle.wire_core.specs.declared.names.Answer.TheVariants.{Done, Yes, No}
 use Rattle.wire_core.specs.Bells.{bit}
 use Rattle.wire_core.specs.Ends.{Role, Consumer, Producer, role_of}
-use Rattle.wire_core.specs.Journal.{History, track, owner_of, EachMoment}
+use Rattle.wire_core.specs.Journal.{History, Hostiles, track, owner_of, EachMoment}
 
 -- a call that is a mark wherever it is made: a take, a put, or a wake that answers yes
 abbrev pub is_mark : Op → Answer → Bool
@@ -89,14 +89,14 @@ abbrev pub calls_at : Role → ℕ → List Event → ℕ
 calls_at r n [] = 0
 calls_at r n (e ∷ es) = bit (is_role (role_of e.op) r && (e.queue.0 == n)) + calls_at r n es
 
--- since its last mark each actor made at most 8 calls on each of its ends
-abbrev pub AreFew : Drops → List Entry → Type 0
-AreFew drops journal = (a : ℕ) (r : Role) (n : ℕ) → calls_at r n (since drops a journal) ≤ 8
+-- since its last mark each actor that isn't hostile made at most 8 calls on each of its ends
+abbrev pub AreFew : Hostiles → Drops → List Entry → Type 0
+AreFew hostile drops journal = (a : ℕ) → hostile a ≡ false → (r : Role) (n : ℕ) → calls_at r n (since drops a journal) ≤ 8
 
 -- a journal is brisk where this is so at each moment: between two marks of an actor that follow each other, and after its
 -- last one, it makes at most 8 calls on each of its ends
-abbrev pub Brisk : Drops → List Entry → Type 0
-Brisk drops journal = EachMoment (AreFew drops) journal
+abbrev pub Brisk : Hostiles → Drops → List Entry → Type 0
+Brisk hostile drops journal = EachMoment (AreFew hostile drops) journal
 
 -- how many ends of queues actor a has
 abbrev pub ends_of : ℕ → List QueueRow → ℕ

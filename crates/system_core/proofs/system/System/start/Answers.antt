@@ -19,7 +19,7 @@ invariant_of-system c =
       fitted = seated_fit c.args.rows.items c.args.actors.items (crew_of c.args.device c.args.clients.items) c.requires;
       holds = rw (world_is, c.new-2.ensures.items) new;
       rows_hold = rw c.new-2.ensures.items (rows_now (scene_of (map part_of c.args.actors.items)) (start_history c.args.rows.items) c.args.rows.items (starts c.args.rows.items) c.args.actors.items [] new (hostiles (map part_of c.args.actors.items)), tt);
-      brisk = rw c.new-2.ensures.items ((λ a r n. omega arith), tt);
+      brisk = rw c.new-2.ensures.items ((λ a calm r n. omega arith), tt);
       running = rw c.new-2.ensures.items (rw (c.deref-2.ensures.value, c.deref-3.ensures.value) at c.in_ok-running.ensures.list);
       room = rw c.deref-3.ensures.value at c.in_ok-running.ensures.room;
     }

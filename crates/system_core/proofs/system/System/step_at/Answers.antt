@@ -4,7 +4,8 @@ use Rattle.std.specs.Vec.{vec_len}
 use Rattle.std.proofs.lemmas.Option.{slice_get_read}
 use Rattle.wire_core.specs.Journal.{start_history, EachMoment}
 use Rattle.actor_set.specs.Actors.{part_of}
-use Rattle.system_core.specs.Shows.{Shown, runs, RowsStand}
+use Rattle.wire_core.specs.Marks.{no_drops, Brisk}
+use Rattle.system_core.specs.Shows.{Shown, hostile_in, runs, RowsStand}
 use Rattle.system_core.specs.States.{begun, crew_of}
 use Rattle.system_core.specs.Lawful.{IsFitted}
 use Rattle.system_core.specs.Inside.{setting_of}
@@ -49,7 +50,7 @@ invariant_of-self-2 c =
       fitted = subst IsFitted (sym same) c.self.invariant.fitted;
       holds = rw (c.push_reserved.ensures.items, c.in_ok-reserve.ensures.items) s.holds;
       rows_hold = rw (c.push_reserved.ensures.items, c.in_ok-reserve.ensures.items) (subst (λ z. EachMoment (RowsStand z) (c.self.inside.journal.items ++ entry_of c.at-number.result c.in_ok-event.event ∷ [])) (sym same) s.rows_hold);
-      brisk = rw (c.push_reserved.ensures.items, c.in_ok-reserve.ensures.items) s.brisk;
+      brisk = rw (c.push_reserved.ensures.items, c.in_ok-reserve.ensures.items) (subst (λ z. Brisk (hostile_in z) no_drops (c.self.inside.journal.items ++ entry_of c.at-number.result c.in_ok-event.event ∷ [])) (sym same) s.brisk);
       running = rw (c.push_reserved.ensures.items, c.in_ok-reserve.ensures.items, c.note.ensures) (s.running ∙ ap (λ z. runs z (c.self.inside.journal.items ++ entry_of c.at-number.result c.in_ok-event.event ∷ [])) (sym same));
       room = rw c.note.ensures s.room_is;
     }
