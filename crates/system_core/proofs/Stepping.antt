@@ -38,7 +38,7 @@ use Rattle.system_core.proofs.PartEnds.{from_part, seat_end}
 use Rattle.system_core.proofs.Paces.{called_end, nobody_since}
 use Rattle.system_core.proofs.Places.{places_set, places_clear, places_so, places_below, places_few}
 
-set_same : (xs : List Bool) (k : ℕ) (b : Bool) → slice_get xs k ≡ Some b → slice_set xs k b ≡ xs
+pub set_same : {X : Type 0} (xs : List X) (k : ℕ) (b : X) → slice_get xs k ≡ Some b → slice_set xs k b ≡ xs
 set_same [] k b h = refl
 set_same (x ∷ xs) zero b h = ap (λ y. y ∷ xs) (sym (some_eq h))
 set_same (x ∷ xs) (suc k) b h = ap (λ ys. x ∷ ys) (set_same xs k b h)

@@ -1,7 +1,7 @@
-use Rattle.std.proofs.Common.{◌≡◌, ◌<◌, ◌++◌, [], ◌∷◌, refl, sym, ap, ◌∙◌, length, map, slice_get, slice_set, Some, subst, arith}
+use Rattle.std.proofs.Common.{◌≡◌, ◌<◌, ◌++◌, [], ◌∷◌, refl, sym, ap, ◌∙◌, length, length-set, map, slice_get, slice_set, Some, subst, arith}
 use Rattle.std.proofs.lemmas.List.{length-map}
 use Rattle.std.specs.Vec.{vec_len}
-use Rattle.std.proofs.lemmas.Option.{slice_get_read}
+use Rattle.std.proofs.lemmas.Option.{slice_get_read, slice_get_within}
 use Rattle.wire_core.specs.Journal.{start_history, EachMoment}
 use Rattle.actor_set.specs.Actors.{part_of}
 use Rattle.wire_core.specs.Marks.{no_drops, Brisk}
@@ -11,7 +11,8 @@ use Rattle.system_core.specs.Lawful.{IsFitted}
 use Rattle.system_core.specs.Inside.{setting_of}
 use Rattle.system_core.proofs.SystemStep.{entry_of}
 use Rattle.system_core.specs.Plays.{runnable_now}
-use Rattle.system_core.proofs.Stepping.{runs_below, system_then}
+use Rattle.system_core.specs.Systems.{Holds}
+use Rattle.system_core.proofs.Stepping.{runs_below, set_same, system_then}
 use Rattle.system_core.proofs.system.System.step_at.Goals as goal
 
 pub index_mut-actor-requires : goal.index_mut-actor-requires
@@ -36,6 +37,27 @@ index-actor-requires c =
     let lt : c.at-number.result < length c.self.inside.actors.items = omega (arith, below, size) in
     let v : vec_len c.self.inside.actors ≡ length c.self.inside.actors.items = c.self.inside.actors.ok.0 in
     omega arith
+
+-- after want of memory nothing changed
+pub invariant_of-self-in_err-event : goal.invariant_of-self-in_err-event
+invariant_of-self-in_err-event c =
+    let below = runs_below (start_history c.self.inside.rows.items) c.self.inside.rows.items (map part_of c.self.inside.actors.items) c.self.inside.journal.items c.args.place c.at-number.result (rw c.self.invariant.running at c.at-number.ensures) in
+    let size = length-map c.self.inside.actors.items part_of in
+    let lt : c.at-number.result < length c.self.inside.actors.items = omega (arith, below, size) in
+    let here : slice_get c.self.inside.actors.items c.at-number.result ≡ Some c.index_mut-actor.result.now = slice_get_read c.self.inside.actors.items _ c.at-number.result c.index_mut-actor.result.now refl lt c.index_mut-actor.ensures.value in
+    let set : slice_set c.self.inside.actors.items c.at-number.result c.step.new.self ≡ c.self.inside.actors.items = ap (slice_set c.self.inside.actors.items c.at-number.result) c.in_err-event.ensures.unchanged ∙ set_same c.self.inside.actors.items c.at-number.result c.index_mut-actor.result.now here in
+    let same : begun c.self.inside.rows.items (slice_set c.self.inside.actors.items c.at-number.result c.step.new.self) (crew_of c.self.inside.device c.self.inside.clients.items) ≡ setting_of c.self.inside = ap (λ xs. begun c.self.inside.rows.items xs (crew_of c.self.inside.device c.self.inside.clients.items)) set in
+    record {
+      fitted = subst IsFitted (sym same) c.self.invariant.fitted;
+      holds = rw (c.in_err-event.ensures.no_call, c.in_ok-reserve.ensures.items) (subst (λ xs. Holds (start_history c.self.inside.rows.items) c.self.inside.rows.items c.self.inside.world xs c.self.inside.journal.items) (sym set) c.self.invariant.holds);
+      rows_hold = rw c.in_ok-reserve.ensures.items (subst (λ z. EachMoment (RowsStand z) c.self.inside.journal.items) (sym same) c.self.invariant.rows_hold);
+      brisk = rw c.in_ok-reserve.ensures.items (subst (λ z. Brisk (hostile_in z) no_drops c.self.inside.journal.items) (sym same) c.self.invariant.brisk);
+      running = rw c.in_ok-reserve.ensures.items (c.self.invariant.running ∙ ap (λ z. runs z c.self.inside.journal.items) (sym same));
+      room = rw length-set c.self.invariant.room;
+    }
+
+pub note-requires-clause-there : goal.note-requires-clause-there
+note-requires-clause-there c = slice_get_within c.self.inside.running.list c.args.place c.at-number.result c.at-number.ensures
 
 pub note-requires-clause-room : goal.note-requires-clause-room
 note-requires-clause-room c = (system_then (start_history c.self.inside.rows.items) c.self.inside.rows.items (crew_of c.self.inside.device c.self.inside.clients.items) c.self.inside.world c.step.new.wires c.self.inside.actors.items c.self.inside.journal.items c.at-number.result c.index_mut-actor.result.now c.step.new.self c.index-actor.result.now c.in_ok-event.event c.index-row.result.now c.rung-rung.result c.is_idle-idle.result c.args.place c.self.inside.running.list c.self.inside.running.room
