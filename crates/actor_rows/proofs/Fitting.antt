@@ -50,7 +50,7 @@ eight_apart k j q r at there same = let a = eight_at k q at in let b = eight_at 
 pub new_stands : (w : List Queue) (v : SerialVirtRx) → AreByteQueues 9 w → IsNewRx (queue 0) eight v → RxStands w v
 new_stands w v b new = record {
   fits = record {
-    input = rw (new.input, new.input_kept, b.start Consumer 0 (omega arith)) (record { owned = refl; waiter = refl; ringer = refl; looked = λ h. cc });
+    input = rw (new.input, new.input_state, b.start Consumer 0 (omega arith)) (record { owned = refl; waiter = refl; ringer = refl; looked = λ h. cc });
     outputs = record { agrees = agrees; apart = subst AreApart (sym queues) eight_apart };
     hears = rw new.input (ap (λ e. e.kind) (b.start Consumer 0 (omega arith)));
     says = λ k q at. let e = eight_at k q (ap (λ qs. slice_get qs k) (sym queues) ∙ at) in ap (λ e. e.kind) (b.start Producer q.0 (let x : q.0 ≡ k + 1 = e.0 in let y : k < 8 = e.1 in omega (arith, x, y)));
@@ -65,19 +65,19 @@ new_stands w v b new = record {
     queues : outlet_queues v.outputs ≡ eight
     queues = ap (map (λ (o : Outlet). o.queue)) new.outputs ∙ queues_are eight
 
-    agrees : (k : ℕ) (o : Outlet) → slice_get v.outputs.ends.items k ≡ Some o → Agrees (end_at w Producer o.queue.0) o.kept
+    agrees : (k : ℕ) (o : Outlet) → slice_get v.outputs.ends.items k ≡ Some o → Agrees (end_at w Producer o.queue.0) o.state
     agrees k o at =
         let from = from_queue eight k o (ap (λ os. slice_get os k) (sym new.outputs) ∙ at) in
         let e = eight_at k from.0 from.1 in
         let lt : from.0.0 < 9 = (let x : from.0.0 ≡ k + 1 = e.0 in let y : k < 8 = e.1 in omega (arith, x, y)) in
-        subst (λ (x : Outlet). Agrees (end_at w Producer x.queue.0) x.kept) from.2 (rw (b.start Producer from.0.0 lt) (record { owned = refl; waiter = refl; ringer = refl; looked = λ h. cc }))
+        subst (λ (x : Outlet). Agrees (end_at w Producer x.queue.0) x.state) from.2 (rw (b.start Producer from.0.0 lt) (record { owned = refl; waiter = refl; ringer = refl; looked = λ h. cc }))
 
 -- what the hand does at an end that isn't the virtualiser's leaves it
 fits_beside : (w u : List Queue) (v : SerialVirtRx) (role : Role) (place : ℕ) → OnlyAt role place w u → ((r : Role) (n : ℕ) → RxEnd v r n → r ≡ role → n ≡ place → ⊥) → FitsRx (end_at w) v → FitsRx (end_at u) v
 fits_beside w u v role place only away f = record {
-  input = subst (λ e. Agrees e v.input.kept) (sym (only.rest Consumer v.input.queue.0 (away Consumer v.input.queue.0 refl))) f.input;
+  input = subst (λ e. Agrees e v.input.state) (sym (only.rest Consumer v.input.queue.0 (away Consumer v.input.queue.0 refl))) f.input;
   outputs = record {
-    agrees = λ k o at. subst (λ e. Agrees e o.kept) (sym (only.rest Producer o.queue.0 (away Producer o.queue.0 (k, o.queue, map_get (λ (x : Outlet). x.queue) v.outputs.ends.items k o at, refl)))) (f.outputs.agrees k o at);
+    agrees = λ k o at. subst (λ e. Agrees e o.state) (sym (only.rest Producer o.queue.0 (away Producer o.queue.0 (k, o.queue, map_get (λ (x : Outlet). x.queue) v.outputs.ends.items k o at, refl)))) (f.outputs.agrees k o at);
     apart = f.outputs.apart;
   };
   hears = only.kinds Consumer v.input.queue.0 ∙ f.hears;

@@ -29,7 +29,7 @@ pub new_merger : (w : List Queue) (v : SerialVirtTx) → AreByteQueues 9 w → I
 new_merger w v b new = record {
   fits = record {
     inputs = record { agrees = agrees; apart = subst AreApart (sym queues) eight_apart };
-    output = rw (new.output, new.output_kept, b.start Producer 0 (omega arith)) (record { owned = refl; waiter = refl; ringer = refl; looked = λ h. cc });
+    output = rw (new.output, new.output_state, b.start Producer 0 (omega arith)) (record { owned = refl; waiter = refl; ringer = refl; looked = λ h. cc });
     hears = λ k q at. let e = eight_at k q (ap (λ qs. slice_get qs k) (sym queues) ∙ at) in ap (λ e. e.kind) (b.start Consumer q.0 (let x : q.0 ≡ k + 1 = e.0 in let y : k < 8 = e.1 in omega (arith, x, y)));
     says = rw new.output (ap (λ e. e.kind) (b.start Producer 0 (omega arith)));
     load = rw new.load (λ x h. cc);
@@ -43,22 +43,22 @@ new_merger w v b new = record {
     queues : intake_queues v.inputs ≡ eight
     queues = ap (map (λ (i : Intake). i.queue)) new.inputs ∙ queues_are eight
 
-    agrees : (k : ℕ) (i : Intake) → slice_get v.inputs.ends.items k ≡ Some i → Agrees (end_at w Consumer i.queue.0) i.kept
+    agrees : (k : ℕ) (i : Intake) → slice_get v.inputs.ends.items k ≡ Some i → Agrees (end_at w Consumer i.queue.0) i.state
     agrees k i at =
         let from = from_queue eight k i (ap (λ is. slice_get is k) (sym new.inputs) ∙ at) in
         let e = eight_at k from.0 from.1 in
         let lt : from.0.0 < 9 = (let x : from.0.0 ≡ k + 1 = e.0 in let y : k < 8 = e.1 in omega (arith, x, y)) in
-        subst (λ (x : Intake). Agrees (end_at w Consumer x.queue.0) x.kept) from.2 (rw (b.start Consumer from.0.0 lt) (record { owned = refl; waiter = refl; ringer = refl; looked = λ h. cc }))
+        subst (λ (x : Intake). Agrees (end_at w Consumer x.queue.0) x.state) from.2 (rw (b.start Consumer from.0.0 lt) (record { owned = refl; waiter = refl; ringer = refl; looked = λ h. cc }))
 
 -- what the hand does at an end that isn't the virtualiser's leaves it
 beside : (w u : List Queue) (v : SerialVirtTx) (role : Role) (place : ℕ) → OnlyAt role place w u → ((r : Role) (n : ℕ) → TxEnd v r n → r ≡ role → n ≡ place → ⊥) → TxStands w v → TxStands u v
 beside w u v role place only away s = record {
   fits = record {
     inputs = record {
-      agrees = λ k i at. subst (λ e. Agrees e i.kept) (sym (only.rest Consumer i.queue.0 (away Consumer i.queue.0 (k, i.queue, map_get (λ (x : Intake). x.queue) v.inputs.ends.items k i at, refl)))) (s.fits.inputs.agrees k i at);
+      agrees = λ k i at. subst (λ e. Agrees e i.state) (sym (only.rest Consumer i.queue.0 (away Consumer i.queue.0 (k, i.queue, map_get (λ (x : Intake). x.queue) v.inputs.ends.items k i at, refl)))) (s.fits.inputs.agrees k i at);
       apart = s.fits.inputs.apart;
     };
-    output = subst (λ e. Agrees e v.output.kept) (sym (only.rest Producer v.output.queue.0 (away Producer v.output.queue.0 refl))) s.fits.output;
+    output = subst (λ e. Agrees e v.output.state) (sym (only.rest Producer v.output.queue.0 (away Producer v.output.queue.0 refl))) s.fits.output;
     hears = λ k q at. only.kinds Consumer q.0 ∙ s.fits.hears k q at;
     says = only.kinds Producer v.output.queue.0 ∙ s.fits.says;
     load = s.fits.load;

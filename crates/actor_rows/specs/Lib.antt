@@ -1,2 +1,3 @@
+-- What the helpers of these tests say.
 pub mod Hands
 pub mod Standings

@@ -5,11 +5,9 @@ use Rattle.wire_core.specs.declared.names.QueueId.{QueueId}
 use Rattle.wire_core.specs.Ends.{Producer}
 use Rattle.wire_core.specs.Queues.{Queue, end_at}
 use Rattle.turn_kit.specs.ManyEnds.{intake_queues, outlet_queues}
-use Rattle.turn_kit.specs.declared.pipe.Pipe.{Pipe}
 use Rattle.pipe_driver.specs.Drivers.{FitsPipes, inputs_of, outputs_of}
 use Rattle.pipe_driver.specs.Lengths.{two_pipes}
-use Rattle.pipe_driver.specs.declared.pipes.Pipes.{Pipes}
-use Rattle.pipe_driver.specs.declared.driver.PipeDriver.{PipeDriver}
+use Rattle.uart_driver.specs.declared.UartDriver.{UartDriver}
 use Rattle.serial_virt.specs.Receiving.{FitsRx}
 use Rattle.serial_virt.specs.Sending.{FitsTx}
 use Rattle.serial_virt.specs.declared.rx.SerialVirtRx.{SerialVirtRx}
@@ -32,12 +30,12 @@ pub record RxStands (w : List Queue) (v : SerialVirtRx) : Type 0 where
   pub outputs : outlet_queues v.outputs ≡ eight
 
 -- a driver stands between the queues 0 and 2, and the queues 3 and 1; queue 0 is filled by hand
-pub record DriverStands (w : List Queue) (d : PipeDriver (Pipes Pipe)) : Type 0 where
-  pub fits : FitsPipes (end_at w) (two_pipes d.pipes)
+pub record DriverStands (w : List Queue) (d : UartDriver) : Type 0 where
+  pub fits : FitsPipes (end_at w) (two_pipes d.driver.pipes)
   pub long : length w ≡ 4
   pub kind : (end_at w Producer 0).kind ≡ Kind.Byte
-  pub inputs : inputs_of (two_pipes d.pipes) ≡ 0 ∷ 3 ∷ []
-  pub outputs : outputs_of (two_pipes d.pipes) ≡ 2 ∷ 1 ∷ []
+  pub inputs : inputs_of (two_pipes d.driver.pipes) ≡ 0 ∷ 3 ∷ []
+  pub outputs : outputs_of (two_pipes d.driver.pipes) ≡ 2 ∷ 1 ∷ []
 
 -- a transmit virtualiser stands at the queues 0 to 8, and the queues 1 to 8 are filled by hand
 pub record TxStands (w : List Queue) (v : SerialVirtTx) : Type 0 where

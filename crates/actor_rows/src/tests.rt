@@ -10,7 +10,7 @@ use cargo_core::{Item, Memory};
 use plain_wires::World;
 use serial_virt::{SerialVirtRx, SerialVirtTx};
 use std::alloc::Global;
-use uart_driver::{UartDriver, make_driver};
+use uart_driver::UartDriver;
 use wire_core::QueueId;
 
 // The queues 1 to 8, one of each client.
@@ -187,7 +187,7 @@ fn bytes_pass_the_driver_in_order(rt: HostRuntime) -> Result<(), Memory> {
     for two in [false, true] {
         let mut wires = queues(alloc, 4, one_or_two(two))?;
         let fit = if two { 5 } else { 3 };
-        let mut driver = make_driver(QueueId(0), QueueId(1), QueueId(2), QueueId(3));
+        let mut driver = UartDriver::new(QueueId(0), QueueId(1), QueueId(2), QueueId(3));
         for byte in 0..8u8 {
             assert!(rt; feed(&mut driver, &mut wires, byte) == (byte < fit));
         }

@@ -3,8 +3,8 @@ use Rattle.cargo_core.specs.declared.memory.Memory.{Memory}
 use Rattle.wire_core.specs.declared.names.Event.{Event}
 use Rattle.wire_core.specs.Deeds.{Deed}
 use Rattle.wire_core.specs.Lists.{Passed, Stepped}
-use Rattle.device_model.specs.Devices.{UartStandsFor, UartRow, UartBalances}
-use Rattle.device_model.specs.declared.UartDevice.{UartDevice}
+use Rattle.serial_terminal.specs.declared.Terminal.{Terminal}
+use Rattle.serial_terminal.specs.Terminals.{TerminalStandsFor, TerminalRow, TerminalBalances}
 use Rattle.turn_kit.specs.declared.pipe.Pipe.{Pipe}
 use Rattle.pipe_driver.specs.Drivers.{PipesStandFor, PipesRow, PipesBalance}
 use Rattle.pipe_driver.specs.Lengths.{two_pipes}
@@ -12,8 +12,6 @@ use Rattle.serial_virt.specs.Receiving.{RxStandsFor, RxRow, RxBalances}
 use Rattle.serial_virt.specs.declared.rx.SerialVirtRx.{SerialVirtRx}
 use Rattle.serial_virt.specs.Sending.{TxStandsFor, TxRow, TxBalances}
 use Rattle.serial_virt.specs.declared.tx.SerialVirtTx.{SerialVirtTx}
-use Rattle.client_programs.specs.Clients.{SerialStandsFor, SerialRow, SerialBalances}
-use Rattle.client_programs.specs.declared.SerialClient.{SerialClient}
 use Rattle.actor_set.specs.Actors.{ActorStandsFor, ActorRow, ActorBalances}
 use Rattle.actor_set.specs.declared.actor.Actor.{Actor}
 use Rattle.actor_set.specs.declared.actor.Actor.TheVariants as Kinds
@@ -27,19 +25,19 @@ ok_actor S did w v old new a a' (Ok e) was is st = as_actor S did w v old new a 
 ok_actor S did w v old new a a' (Err m) was is st = st
 
 -- the row of each kind is that of an actor
-pub rows : ((x : UartDevice) (p : Passed) → UartStandsFor x p → UartRow x p) → ((ps : List Pipe) (p : Passed) → PipesStandFor ps p → PipesRow ps p) → ((x : SerialVirtRx) (p : Passed) → RxStandsFor x p → RxRow x p) → ((x : SerialVirtTx) (p : Passed) → TxStandsFor x p → TxRow x p) → ((x : SerialClient) (p : Passed) → SerialStandsFor x p → SerialRow x p)
+pub rows : ((x : Terminal) (p : Passed) → TerminalStandsFor x p → TerminalRow x p) → ((ps : List Pipe) (p : Passed) → PipesStandFor ps p → PipesRow ps p) → ((x : SerialVirtRx) (p : Passed) → RxStandsFor x p → RxRow x p) → ((x : SerialVirtTx) (p : Passed) → TxStandsFor x p → TxRow x p)
     → (a : Actor) (p : Passed) → ActorStandsFor a p → ActorRow a p
-rows device driver rx tx client (Kinds.UartDevice x) p h = device x p h
-rows device driver rx tx client (Kinds.UartDriver x) p h = driver (two_pipes x.pipes) p h
-rows device driver rx tx client (Kinds.SerialVirtRx x) p h = rx x p h
-rows device driver rx tx client (Kinds.SerialVirtTx x) p h = tx x p h
-rows device driver rx tx client (Kinds.SerialClient x) p h = client x p h
+rows terminal driver rx tx (Kinds.UartDevice x) p h = terminal x.terminal p h
+rows terminal driver rx tx (Kinds.UartDriver x) p h = driver (two_pipes x.driver.pipes) p h
+rows terminal driver rx tx (Kinds.SerialVirtRx x) p h = rx x p h
+rows terminal driver rx tx (Kinds.SerialVirtTx x) p h = tx x p h
+rows terminal driver rx tx (Kinds.SerialClient x) p h = terminal x.terminal p h
 
 -- and so is its balance
-pub balances : ((x : UartDevice) (p : Passed) → UartStandsFor x p → UartBalances x p) → ((ps : List Pipe) (p : Passed) → PipesStandFor ps p → PipesBalance ps p) → ((x : SerialVirtRx) (p : Passed) → RxStandsFor x p → RxBalances x p) → ((x : SerialVirtTx) (p : Passed) → TxStandsFor x p → TxBalances x p) → ((x : SerialClient) (p : Passed) → SerialStandsFor x p → SerialBalances x p)
+pub balances : ((x : Terminal) (p : Passed) → TerminalStandsFor x p → TerminalBalances x p) → ((ps : List Pipe) (p : Passed) → PipesStandFor ps p → PipesBalance ps p) → ((x : SerialVirtRx) (p : Passed) → RxStandsFor x p → RxBalances x p) → ((x : SerialVirtTx) (p : Passed) → TxStandsFor x p → TxBalances x p)
     → (a : Actor) (p : Passed) → ActorStandsFor a p → ActorBalances a p
-balances device driver rx tx client (Kinds.UartDevice x) p h = device x p h
-balances device driver rx tx client (Kinds.UartDriver x) p h = driver (two_pipes x.pipes) p h
-balances device driver rx tx client (Kinds.SerialVirtRx x) p h = rx x p h
-balances device driver rx tx client (Kinds.SerialVirtTx x) p h = tx x p h
-balances device driver rx tx client (Kinds.SerialClient x) p h = client x p h
+balances terminal driver rx tx (Kinds.UartDevice x) p h = terminal x.terminal p h
+balances terminal driver rx tx (Kinds.UartDriver x) p h = driver (two_pipes x.driver.pipes) p h
+balances terminal driver rx tx (Kinds.SerialVirtRx x) p h = rx x p h
+balances terminal driver rx tx (Kinds.SerialVirtTx x) p h = tx x p h
+balances terminal driver rx tx (Kinds.SerialClient x) p h = terminal x.terminal p h

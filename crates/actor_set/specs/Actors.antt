@@ -5,63 +5,61 @@ use Rattle.wire_core.specs.Lists.{Passed}
 use Rattle.wire_core.specs.Ends.{Role, End}
 use Rattle.wire_core.specs.declared.names.Event.{Event}
 use Rattle.turn_kit.specs.Turns.{Round, Turned, is_at_rest}
-use Rattle.serial_terminal.specs.Terminals.{terminal_round, terminal_hand, terminal_forgotten}
-use Rattle.device_model.specs.Devices.{FitsUart, UartStandsFor, UartRow, UartBalances, UartEnd}
+use Rattle.serial_terminal.specs.Terminals.{FitsTerminal, TerminalStandsFor, TerminalRow, TerminalBalances, TerminalEnd, terminal_round, terminal_hand, terminal_forgotten}
 use Rattle.serial_virt.specs.Receiving.{FitsRx, RxStandsFor, RxRow, RxBalances, RxEnd, RxForgot, rx_round, rx_hand}
 use Rattle.serial_virt.specs.Sending.{FitsTx, TxStandsFor, TxRow, TxBalances, TxEnd, TxForgot, tx_round, tx_hand}
 use Rattle.turn_kit.specs.ManyEnds.{intake_queues, outlet_queues}
 use Rattle.wire_core.specs.declared.names.QueueId.{QueueId}
 use Rattle.pipe_driver.specs.Drivers.{FitsPipes, PipesStandFor, PipesRow, PipesBalance, PipesEnd, pipes_round, pipes_hand, pipe_forgotten}
 use Rattle.pipe_driver.specs.Lengths.{two_pipes}
-use Rattle.client_programs.specs.Clients.{FitsSerial, SerialStandsFor, SerialRow, SerialBalances, SerialEnd}
 use Rattle.actor_set.specs.Parts.{Part, UartPart, DriverPart, RxPart, TxPart, ClientPart}
 use Rattle.actor_set.specs.declared.actor.Actor.{Actor}
 use Rattle.actor_set.specs.declared.actor.Actor.TheVariants as Kinds
 
 -- the actor's ends are its own, and as it keeps them
 abbrev pub FitsActor : (Role → ℕ → End) → Actor → Type 0
-FitsActor ends (Kinds.UartDevice x) = FitsUart ends x
-FitsActor ends (Kinds.UartDriver x) = FitsPipes ends (two_pipes x.pipes)
+FitsActor ends (Kinds.UartDevice x) = FitsTerminal ends x.terminal
+FitsActor ends (Kinds.UartDriver x) = FitsPipes ends (two_pipes x.driver.pipes)
 FitsActor ends (Kinds.SerialVirtRx x) = FitsRx ends x
 FitsActor ends (Kinds.SerialVirtTx x) = FitsTx ends x
-FitsActor ends (Kinds.SerialClient x) = FitsSerial ends x
+FitsActor ends (Kinds.SerialClient x) = FitsTerminal ends x.terminal
 
 -- what it keeps, by what it took and what it put
 abbrev pub ActorStandsFor : Actor → Passed → Type 0
-ActorStandsFor (Kinds.UartDevice x) passed = UartStandsFor x passed
-ActorStandsFor (Kinds.UartDriver x) passed = PipesStandFor (two_pipes x.pipes) passed
+ActorStandsFor (Kinds.UartDevice x) passed = TerminalStandsFor x.terminal passed
+ActorStandsFor (Kinds.UartDriver x) passed = PipesStandFor (two_pipes x.driver.pipes) passed
 ActorStandsFor (Kinds.SerialVirtRx x) passed = RxStandsFor x passed
 ActorStandsFor (Kinds.SerialVirtTx x) passed = TxStandsFor x passed
-ActorStandsFor (Kinds.SerialClient x) passed = SerialStandsFor x passed
+ActorStandsFor (Kinds.SerialClient x) passed = TerminalStandsFor x.terminal passed
 
 -- what it may have put and recorded, for what it took
 abbrev pub ActorRow : Actor → Passed → Type 0
-ActorRow (Kinds.UartDevice x) passed = UartRow x passed
-ActorRow (Kinds.UartDriver x) passed = PipesRow (two_pipes x.pipes) passed
+ActorRow (Kinds.UartDevice x) passed = TerminalRow x.terminal passed
+ActorRow (Kinds.UartDriver x) passed = PipesRow (two_pipes x.driver.pipes) passed
 ActorRow (Kinds.SerialVirtRx x) passed = RxRow x passed
 ActorRow (Kinds.SerialVirtTx x) passed = TxRow x passed
-ActorRow (Kinds.SerialClient x) passed = SerialRow x passed
+ActorRow (Kinds.SerialClient x) passed = TerminalRow x.terminal passed
 
 -- what it had at the start and what came is what went, what is in its hand, and what it keeps for good or lends
 abbrev pub ActorBalances : Actor → Passed → Type 0
-ActorBalances (Kinds.UartDevice x) passed = UartBalances x passed
-ActorBalances (Kinds.UartDriver x) passed = PipesBalance (two_pipes x.pipes) passed
+ActorBalances (Kinds.UartDevice x) passed = TerminalBalances x.terminal passed
+ActorBalances (Kinds.UartDriver x) passed = PipesBalance (two_pipes x.driver.pipes) passed
 ActorBalances (Kinds.SerialVirtRx x) passed = RxBalances x passed
 ActorBalances (Kinds.SerialVirtTx x) passed = TxBalances x passed
-ActorBalances (Kinds.SerialClient x) passed = SerialBalances x passed
+ActorBalances (Kinds.SerialClient x) passed = TerminalBalances x.terminal passed
 
 -- one of its ends
 abbrev pub ActorEnd : Actor → Role → ℕ → Type 0
-ActorEnd (Kinds.UartDevice x) r n = UartEnd x r n
-ActorEnd (Kinds.UartDriver x) r n = PipesEnd (two_pipes x.pipes) r n
+ActorEnd (Kinds.UartDevice x) r n = TerminalEnd x.terminal r n
+ActorEnd (Kinds.UartDriver x) r n = PipesEnd (two_pipes x.driver.pipes) r n
 ActorEnd (Kinds.SerialVirtRx x) r n = RxEnd x r n
 ActorEnd (Kinds.SerialVirtTx x) r n = TxEnd x r n
-ActorEnd (Kinds.SerialClient x) r n = SerialEnd x r n
+ActorEnd (Kinds.SerialClient x) r n = TerminalEnd x.terminal r n
 
 -- its ends, and which of them it needs
 abbrev pub actor_round : Actor → Round
 actor_round (Kinds.UartDevice x) = terminal_round x.terminal
-actor_round (Kinds.UartDriver x) = pipes_round (two_pipes x.pipes) x.turn.last
+actor_round (Kinds.UartDriver x) = pipes_round (two_pipes x.driver.pipes) x.driver.turn.last
 actor_round (Kinds.SerialVirtRx x) = rx_round x
 actor_round (Kinds.SerialVirtTx x) = tx_round x
 actor_round (Kinds.SerialClient x) = terminal_round x.terminal
@@ -70,7 +68,8 @@ actor_round (Kinds.SerialClient x) = terminal_round x.terminal
 -- would say it otherwise
 abbrev pub actor_rests : Actor → Bool
 actor_rests (Kinds.UartDevice x) = is_at_rest (terminal_round x.terminal)
-actor_rests (Kinds.UartDriver x) = is_at_rest (pipes_round (two_pipes x.pipes) x.turn.last)
+actor_rests (Kinds.UartDriver x) = is_at_rest (pipes_round
+    (two_pipes x.driver.pipes) x.driver.turn.last)
 actor_rests (Kinds.SerialVirtRx x) = is_at_rest (rx_round x)
 actor_rests (Kinds.SerialVirtTx x) = is_at_rest (tx_round x)
 actor_rests (Kinds.SerialClient x) = is_at_rest (terminal_round x.terminal)
@@ -78,7 +77,8 @@ actor_rests (Kinds.SerialClient x) = is_at_rest (terminal_round x.terminal)
 -- a call is its turn: each of these kinds takes its ends in turn
 abbrev pub ActorTurned : Actor → Event → Actor → Type 0
 ActorTurned (Kinds.UartDevice x) e y = Turned (terminal_round x.terminal) e (actor_round y)
-ActorTurned (Kinds.UartDriver x) e y = Turned (pipes_round (two_pipes x.pipes) x.turn.last) e (actor_round y)
+ActorTurned (Kinds.UartDriver x) e y =
+    Turned (pipes_round (two_pipes x.driver.pipes) x.driver.turn.last) e (actor_round y)
 ActorTurned (Kinds.SerialVirtRx x) e y = Turned (rx_round x) e (actor_round y)
 ActorTurned (Kinds.SerialVirtTx x) e y = Turned (tx_round x) e (actor_round y)
 ActorTurned (Kinds.SerialClient x) e y = Turned (terminal_round x.terminal) e (actor_round y)
@@ -86,7 +86,7 @@ ActorTurned (Kinds.SerialClient x) e y = Turned (terminal_round x.terminal) e (a
 -- the bodies in its hand
 abbrev pub actor_hand : Actor → List Body
 actor_hand (Kinds.UartDevice x) = terminal_hand x.terminal
-actor_hand (Kinds.UartDriver x) = pipes_hand (two_pipes x.pipes)
+actor_hand (Kinds.UartDriver x) = pipes_hand (two_pipes x.driver.pipes)
 actor_hand (Kinds.SerialVirtRx x) = rx_hand x
 actor_hand (Kinds.SerialVirtTx x) = tx_hand x
 actor_hand (Kinds.SerialClient x) = terminal_hand x.terminal
@@ -97,11 +97,15 @@ numbers qs = map (λ q. q.0) qs
 
 -- what it is made of
 abbrev pub part_of : Actor → Part
-part_of (Kinds.UartDevice x) = UartPart x.terminal.output.queue.0 x.terminal.input.queue.0 x.terminal.script
-part_of (Kinds.UartDriver x) = DriverPart x.pipes.first.input.queue.0 x.pipes.rest.output.queue.0 x.pipes.first.output.queue.0 x.pipes.rest.input.queue.0
+part_of (Kinds.UartDevice x) =
+    UartPart x.terminal.output.queue.0 x.terminal.input.queue.0 x.terminal.script
+part_of (Kinds.UartDriver x) =
+    DriverPart x.driver.pipes.first.input.queue.0 x.driver.pipes.rest.output.queue.0
+    x.driver.pipes.first.output.queue.0 x.driver.pipes.rest.input.queue.0
 part_of (Kinds.SerialVirtRx x) = RxPart x.input.queue.0 (numbers (outlet_queues x.outputs))
 part_of (Kinds.SerialVirtTx x) = TxPart x.output.queue.0 (numbers (intake_queues x.inputs))
-part_of (Kinds.SerialClient x) = ClientPart x.terminal.input.queue.0 x.terminal.output.queue.0 x.terminal.script
+part_of (Kinds.SerialClient x) =
+    ClientPart x.terminal.input.queue.0 x.terminal.output.queue.0 x.terminal.script
 
 -- the length of a client's record
 abbrev pub record_length : Actor → ℕ
@@ -109,12 +113,14 @@ record_length (Kinds.UartDevice x) = 0
 record_length (Kinds.UartDriver x) = 0
 record_length (Kinds.SerialVirtRx x) = 0
 record_length (Kinds.SerialVirtTx x) = 0
-record_length (Kinds.SerialClient x) = length x.terminal.heard.shown
+record_length (Kinds.SerialClient x) = length x.terminal.recorded.shown
 
 -- the same actor without the last looks
 abbrev pub Forgot : Actor → Actor → Type 0
 Forgot (Kinds.UartDevice x) (Kinds.UartDevice y) = y.terminal ≡ terminal_forgotten x.terminal
-Forgot (Kinds.UartDriver x) (Kinds.UartDriver y) = (two_pipes y.pipes ≡ map pipe_forgotten (two_pipes x.pipes)) × (y.turn ≡ x.turn)
+Forgot (Kinds.UartDriver x) (Kinds.UartDriver y) =
+    (two_pipes y.driver.pipes ≡ map pipe_forgotten (two_pipes x.driver.pipes))
+    × (y.driver.turn ≡ x.driver.turn)
 Forgot (Kinds.SerialVirtRx x) (Kinds.SerialVirtRx y) = RxForgot x y
 Forgot (Kinds.SerialVirtTx x) (Kinds.SerialVirtTx y) = TxForgot x y
 Forgot (Kinds.SerialClient x) (Kinds.SerialClient y) = y.terminal ≡ terminal_forgotten x.terminal

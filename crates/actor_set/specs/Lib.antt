@@ -1,2 +1,3 @@
+-- What the contracts of actors of all kinds say.
 pub mod Parts
 pub mod Actors

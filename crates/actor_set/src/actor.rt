@@ -1,4 +1,5 @@
-// One actor of any kind, so that a system can keep a list of them.
+//! One actor of any kind, so that a system can keep a list of them.
+
 ghost use Rattle.std.specs.Prelude.{◌≡◌, ℕ, IfOk, OnErr};
 ghost use Rattle.wire_core.specs.Ends.{role_of, Role, End};
 ghost use Rattle.wire_core.specs.Lists.{Passed, Stepped};
@@ -65,7 +66,8 @@ impl Actor {
         ensures fits { FitsActor (W.ends wires.new) self.new }
         ensures own { IfOk result (λ e. ActorEnd self.old (role_of e.op) e.queue.0) }
         ensures part { part_of self.new ≡ part_of self.old }
-        ensures stepped { IfOk result (λ e. Stepped ActorStandsFor W.did wires.old wires.new self.old self.new e) }
+        ensures stepped { IfOk result
+            (λ e. Stepped ActorStandsFor W.did wires.old wires.new self.old self.new e) }
         ensures turned { IfOk result (λ e. ActorTurned self.old e self.new) }
         ensures no_call { OnErr result (wires.new ≡ wires.old) }
         ensures unchanged { OnErr result (self.new ≡ self.old) }
@@ -85,7 +87,8 @@ impl Actor {
         ensures part { part_of self.new ≡ part_of self.old }
         ensures recorded { record_length self.new ≡ record_length self.old }
         ensures fits { (ends : Role → ℕ → End) → FitsActor ends self.old → FitsActor ends self.new }
-        ensures lists { (passed : Passed) → ActorStandsFor self.old passed → ActorStandsFor self.new passed }
+        ensures lists { (passed : Passed) → ActorStandsFor self.old passed
+            → ActorStandsFor self.new passed }
     {
         match self {
             Actor::UartDevice(device) => device.forget(),
@@ -101,11 +104,10 @@ impl Actor {
 pub fn row_law()
     ensures { (a : Actor) (passed : Passed) → ActorStandsFor a passed → ActorRow a passed }
 {
-    device_model::row_law();
+    serial_terminal::row_law();
     pipe_driver::row_law();
     serial_virt::rx_row_law();
     serial_virt::tx_row_law();
-    client_programs::row_law();
 }
 
 /// For each pool, what an actor had at the start and what came is what went, what is in its hand, and what it keeps for
@@ -113,9 +115,8 @@ pub fn row_law()
 pub fn hand_law()
     ensures { (a : Actor) (passed : Passed) → ActorStandsFor a passed → ActorBalances a passed }
 {
-    device_model::hand_law();
+    serial_terminal::hand_law();
     pipe_driver::hand_law();
     serial_virt::rx_hand_law();
     serial_virt::tx_hand_law();
-    client_programs::hand_law();
 }

@@ -1,3 +1,5 @@
+//! An actor of each kind begins with its looks to make, and one of them fills its queue.
+
 ghost use Rattle.std.specs.Prelude.{◌≡◌, IfOk};
 
 use crate::Actor;
@@ -7,7 +9,7 @@ use device_model::UartDevice;
 use plain_wires::World;
 use serial_virt::{SerialVirtRx, SerialVirtTx};
 use std::alloc::Global;
-use uart_driver::make_driver;
+use uart_driver::UartDriver;
 use wire_core::{ActorId, QueueId, QueueRow};
 
 // A queue of bytes that holds two of them.
@@ -35,7 +37,7 @@ fn each_kind_begins_with_its_looks_to_make(rt: HostRuntime) -> Result<(), Memory
     let speakers = vec![in alloc; QueueId(4), QueueId(5)]?;
     let mut actors = [
         Actor::UartDevice(UartDevice::new(alloc, QueueId(0), QueueId(1), input)),
-        Actor::UartDriver(make_driver(QueueId(0), QueueId(1), QueueId(6), QueueId(7))),
+        Actor::UartDriver(UartDriver::new(QueueId(0), QueueId(1), QueueId(6), QueueId(7))),
         Actor::SerialVirtRx(SerialVirtRx::new(alloc, QueueId(6), readers)?),
         Actor::SerialVirtTx(SerialVirtTx::new(alloc, QueueId(7), speakers)?),
         Actor::SerialClient(SerialClient::new(alloc, QueueId(2), QueueId(4), script)),

@@ -4,16 +4,16 @@ use Rattle.wire_core.specs.Ends.{Role, Consumer, Producer, End}
 use Rattle.turn_kit.specs.Table.{Agrees}
 use Rattle.turn_kit.specs.Pipes.{FitsPipe, PipeStandsFor}
 use Rattle.turn_kit.specs.declared.pipe.Pipe.{Pipe}
-use Rattle.turn_kit.specs.declared.kept.Kept.{Kept}
+use Rattle.turn_kit.specs.declared.end_state.EndState.{EndState}
 use Rattle.pipe_driver.specs.Drivers.{EachPipe, FitsPipes, PipesStandFor, AreDistinct, inputs_of, outputs_of, pipe_forgotten}
 
-still_agrees : (e : End) (k : Kept) → Agrees e k → Agrees e (record k { look = None })
+still_agrees : (e : End) (k : EndState) → Agrees e k → Agrees e (record k { look = None })
 still_agrees e k h = record { owned = h.owned; waiter = h.waiter; ringer = h.ringer; looked = λ no_look. cc }
 
 pipe_fits : (ends : Role → ℕ → End) (p : Pipe) → FitsPipe ends p → FitsPipe ends (pipe_forgotten p)
 pipe_fits ends p f = record {
-  input = still_agrees (ends Consumer p.input.queue.0) p.input.kept f.input;
-  output = still_agrees (ends Producer p.output.queue.0) p.output.kept f.output;
+  input = still_agrees (ends Consumer p.input.queue.0) p.input.state f.input;
+  output = still_agrees (ends Producer p.output.queue.0) p.output.state f.output;
   kinds = f.kinds;
   load = f.load;
 }

@@ -51,7 +51,8 @@ PipesStandFor ps passed = EachPipe (λ p. PipeStandsFor p passed) ps
 
 -- each output copies its input
 abbrev pub PipesRow : List Pipe → Passed → Type 0
-PipesRow ps passed = EachPipe (λ p. IsPrefix (passed.sent p.output.queue.0) (passed.taken p.input.queue.0)) ps
+PipesRow ps passed =
+    EachPipe (λ p. IsPrefix (passed.sent p.output.queue.0) (passed.taken p.input.queue.0)) ps
 
 -- one of a driver's ends
 abbrev pub PipesEnd : List Pipe → Role → ℕ → Type 0
@@ -85,11 +86,13 @@ pipes_hand (p ∷ ps) = bodies_of (option_to_list p.load) ++ pipes_hand ps
 
 -- it keeps nothing
 abbrev pub PipesBalance : List Pipe → Passed → Type 0
-PipesBalance ps passed = Balances [] (bodies_at passed.taken (inputs_of ps)) (bodies_at passed.sent (outputs_of ps)) (pipes_hand ps) []
+PipesBalance ps passed =
+    Balances [] (bodies_at passed.taken (inputs_of ps)) (bodies_at passed.sent (outputs_of ps))
+    (pipes_hand ps) []
 
 -- the same pipe without the last looks
 abbrev pub pipe_forgotten : Pipe → Pipe
 pipe_forgotten p = record p {
-  input = record p.input { kept = record p.input.kept { look = None } };
-  output = record p.output { kept = record p.output.kept { look = None } };
+  input = record p.input { state = record p.input.state { look = None } };
+  output = record p.output { state = record p.output.state { look = None } };
 }

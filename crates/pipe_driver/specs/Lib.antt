@@ -1,2 +1,3 @@
+-- What the contracts of drivers say.
 pub mod Drivers
 pub mod Lengths

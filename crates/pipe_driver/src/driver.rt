@@ -1,4 +1,5 @@
-// A driver: some pipes, and whose turn it is among their ends.
+//! A driver: some pipes, and whose turn it is among their ends.
+
 ghost use Rattle.std.specs.Prelude.{◌≡◌, ◌<◌, ◌*◌, ◌^◌, ℕ, List, map, length};
 ghost use Rattle.cargo_core.specs.Bodies.{buffers_of};
 ghost use Rattle.wire_core.specs.Ends.{role_of, Role, End};
@@ -49,10 +50,12 @@ impl<P: PipeList> PipeDriver<P> {
     // The end that is stepped now: those of the first pipe come first, each input before its output.
     fn choose(&mut self) -> usize
         requires { length (P.list self.old.pipes) < 2 ^ 16 }
-        ensures place { result ≡ chosen (choice_of (pipes_round (P.list self.old.pipes) self.old.turn.last)) }
+        ensures place { result ≡ chosen (choice_of
+            (pipes_round (P.list self.old.pipes) self.old.turn.last)) }
         ensures within { result < 2 * length (P.list self.old.pipes) }
         ensures pipes { self.new.pipes ≡ self.old.pipes }
-        ensures last { self.new.turn.last ≡ last_after (choice_of (pipes_round (P.list self.old.pipes) self.old.turn.last)) }
+        ensures last { self.new.turn.last ≡ last_after
+            (choice_of (pipes_round (P.list self.old.pipes) self.old.turn.last)) }
     {
         let choice = self.turn.begin(self.pipes.ends());
         let choice = self.pipes.offer(choice, 0);
@@ -67,8 +70,10 @@ impl<P: PipeList> PipeDriver<P> {
         ensures own { PipesEnd (P.list self.old.pipes) (role_of result.op) result.queue.0 }
         ensures inputs { inputs_of (P.list self.new.pipes) ≡ inputs_of (P.list self.old.pipes) }
         ensures outputs { outputs_of (P.list self.new.pipes) ≡ outputs_of (P.list self.old.pipes) }
-        ensures stepped { Stepped PipesStandFor W.did wires.old wires.new (P.list self.old.pipes) (P.list self.new.pipes) result }
-        ensures turned { Turned (pipes_round (P.list self.old.pipes) self.old.turn.last) result (pipes_round (P.list self.new.pipes) self.new.turn.last) }
+        ensures stepped { Stepped PipesStandFor W.did wires.old wires.new (P.list self.old.pipes)
+            (P.list self.new.pipes) result }
+        ensures turned { Turned (pipes_round (P.list self.old.pipes) self.old.turn.last) result
+            (pipes_round (P.list self.new.pipes) self.new.turn.last) }
     {
         let place = self.choose();
         self.pipes.step(wires, place)
@@ -78,8 +83,10 @@ impl<P: PipeList> PipeDriver<P> {
     pub fn forget(&mut self)
         ensures pipes { P.list self.new.pipes ≡ map pipe_forgotten (P.list self.old.pipes) }
         ensures turn { self.new.turn ≡ self.old.turn }
-        ensures fits { (ends : Role → ℕ → End) → FitsPipes ends (P.list self.old.pipes) → FitsPipes ends (P.list self.new.pipes) }
-        ensures lists { (passed : Passed) → PipesStandFor (P.list self.old.pipes) passed → PipesStandFor (P.list self.new.pipes) passed }
+        ensures fits { (ends : Role → ℕ → End) → FitsPipes ends (P.list self.old.pipes)
+            → FitsPipes ends (P.list self.new.pipes) }
+        ensures lists { (passed : Passed) → PipesStandFor (P.list self.old.pipes) passed
+            → PipesStandFor (P.list self.new.pipes) passed }
     {
         self.pipes.forget();
     }
@@ -87,10 +94,12 @@ impl<P: PipeList> PipeDriver<P> {
 
 /// Whatever it stands for meets its row.
 pub fn row_law()
-    ensures { (pipes : List Pipe) (passed : Passed) → PipesStandFor pipes passed → PipesRow pipes passed }
+    ensures { (pipes : List Pipe) (passed : Passed) → PipesStandFor pipes passed
+        → PipesRow pipes passed }
 {}
 
 /// What came and did not go out is in its hand.
 pub fn hand_law()
-    ensures { (pipes : List Pipe) (passed : Passed) → PipesStandFor pipes passed → PipesBalance pipes passed }
+    ensures { (pipes : List Pipe) (passed : Passed) → PipesStandFor pipes passed
+        → PipesBalance pipes passed }
 {}

@@ -1,4 +1,5 @@
-// A list of pipes whose length its type tells: a pipe is one, and `Pipes` has one more.
+//! A list of pipes whose length its type tells: a pipe is one, and `Pipes` has one more.
+
 ghost use Rattle.std.specs.Prelude.{◌≡◌, ◌<◌, ◌≤◌, ◌+◌, ◌*◌, ◌^◌, ℕ, List, [], ◌∷◌, map, length, false};
 ghost use Rattle.cargo_core.specs.Bodies.{buffers_of};
 ghost use Rattle.wire_core.specs.Ends.{role_of, Moves};
@@ -9,7 +10,7 @@ ghost use Rattle.turn_kit.specs.declared.pipe.Pipe.{Pipe};
 ghost use Rattle.pipe_driver.specs.Drivers.{FitsPipes, PipesStandFor, PipesEnd, PipesPosted, inputs_of, outputs_of, pipe_posts, pipe_needs, pipes_hand, pipe_forgotten};
 
 use cargo_core::PoolId;
-use turn_kit::{Choice, Pipe, held};
+use turn_kit::{Choice, Pipe, count_held};
 use wire_core::{Event, Wires};
 
 /// Some pipes, one at least.
@@ -36,7 +37,8 @@ pub trait PipeList {
     /// Offers each end, the first of them at the place `base`.
     fn offer(&self, choice: Choice, base: usize) -> Choice
         requires { base + 2 * length (list self.now) ≤ choice.count }
-        ensures { result ≡ offered_from choice base (pipe_posts (list self.now)) (pipe_needs (list self.now)) };
+        ensures { result ≡ offered_from choice base (pipe_posts (list self.now))
+            (pipe_needs (list self.now)) };
 
     /// Makes the next call of the end at a place.
     fn step<W: Wires>(&mut self, wires: &mut W, place: usize) -> Event
@@ -47,9 +49,11 @@ pub trait PipeList {
         ensures own { PipesEnd (list self.old) (role_of result.op) result.queue.0 }
         ensures inputs { inputs_of (list self.new) ≡ inputs_of (list self.old) }
         ensures outputs { outputs_of (list self.new) ≡ outputs_of (list self.old) }
-        ensures stepped { Stepped PipesStandFor W.did wires.old wires.new (list self.old) (list self.new) result }
+        ensures stepped { Stepped PipesStandFor W.did wires.old wires.new (list self.old)
+            (list self.new) result }
         ensures posted { PipesPosted (list self.old) place result (list self.new) }
-        ensures still { is_mark result.op result.answer ≡ false → pipe_needs (list self.new) ≡ pipe_needs (list self.old) };
+        ensures still { is_mark result.op result.answer ≡ false
+            → pipe_needs (list self.new) ≡ pipe_needs (list self.old) };
 
     /// Discards the last look of each end, and nothing else.
     fn forget(&mut self)
@@ -76,7 +80,7 @@ impl PipeList for Pipe {
     }
 
     fn held(&self, pool: PoolId) -> u32 {
-        held(pool, &self.load)
+        count_held(pool, &self.load)
     }
 
     fn offer(&self, choice: Choice, base: usize) -> Choice {
@@ -110,7 +114,7 @@ impl<R: PipeList> PipeList for Pipes<R> {
     }
 
     fn held(&self, pool: PoolId) -> u32 {
-        held(pool, &self.first.load) + self.rest.held(pool)
+        count_held(pool, &self.first.load) + self.rest.held(pool)
     }
 
     fn offer(&self, choice: Choice, base: usize) -> Choice {

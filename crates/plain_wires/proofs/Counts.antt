@@ -119,8 +119,8 @@ pub not_true : (b : Bool) → not b ≡ true → b ≡ false
 not_true false h = refl
 not_true true h = cc
 
-pub there_in : (lines w : List Queue) (r : Role) (n : ℕ) → lines ≡ w → (end_at w r n).owned ≡ true → n < length lines
-there_in lines w r n same owned = subst (λ x. n < length x) (sym same) (there_if_owned w r n owned)
+pub there_in : (queues w : List Queue) (r : Role) (n : ℕ) → queues ≡ w → (end_at w r n).owned ≡ true → n < length queues
+there_in queues w r n same owned = subst (λ x. n < length x) (sym same) (there_if_owned w r n owned)
 
 -- one queue changes
 module _ (counts : List ℕ) (w : List Queue) (k : ℕ) (q : Queue) (ok : IsCounted counts w) (there : k < length w) (at : q ≡ slice_index_or w k q) where

@@ -1,3 +1,4 @@
+-- For whom a notification is pending, and how many are counted.
 use Rattle.std.specs.Prelude.{◌≡◌, ◌==◌, ◌+◌, ◌<◌, ◌&&◌, ℕ, List, length, slice_index_or, sum_by, All}
 use Rattle.wire_core.specs.declared.names.Side.{Side}
 use Rattle.wire_core.specs.declared.names.Side.TheVariants.{Forward, Backward}
@@ -11,7 +12,9 @@ waiting_actor q Backward = q.producer
 
 -- how many pending words of this actor's waiters are 1 at a queue
 abbrev pub pending_of : ℕ → Queue → ℕ
-pending_of actor q = bit (q.consumer == actor && q.bells.forward.pending) + bit (q.producer == actor && q.bells.backward.pending)
+pending_of actor q =
+    bit (q.consumer == actor && q.bells.forward.pending)
+    + bit (q.producer == actor && q.bells.backward.pending)
 
 -- the actors at a queue's ends are among the first so many
 abbrev pub IsAmong : ℕ → Queue → Type 0

@@ -1,4 +1,5 @@
-// Each helper makes one call where the discipline allows it, and answers None where it doesn't.
+//! Each helper makes one call where the discipline allows it, and answers None where it doesn't.
+
 ghost use Rattle.std.specs.Prelude.{◌≡◌, ◌<◌, length, IfOk};
 ghost use Rattle.wire_core.specs.Ends.{Producer};
 ghost use Rattle.wire_core.specs.Queues.{end_at};

@@ -1,9 +1,11 @@
+//! All queues of a system, and how many notifications are pending for each actor.
+
 ghost use Rattle.std.specs.Prelude.{◌≡◌, ◌<◌, ◌≤◌, ◌^◌, length, map, All, IfOk, IfSome, OnOk, slice_get, Some};
 ghost use Rattle.wire_core.specs.Sizes.{AreSized};
 ghost use Rattle.wire_core.specs.Queues.{Happens, bell_of, queue_at, end_at, starts, is_pending};
 ghost use Rattle.plain_wires.specs.Pendings.{IsCounted};
 
-use crate::line::Line;
+use crate::queue::PlainQueue;
 use cargo_core::{Body, Item, Memory};
 use std::alloc::Global;
 use std::marker::Model;
@@ -14,7 +16,7 @@ use wire_core::{ActorId, BellState, Op, QueueId, QueueRow, Side, Wires};
 /// queue, and changes no other.
 #[derive(Drop)]
 pub struct World {
-    lines: Vec<Line>,
+    queues: Vec<PlainQueue>,
     // For each actor, how many pending words of its waiters are 1.
     pending: Vec<u64>,
 }
@@ -27,9 +29,9 @@ impl Model for World {
 
     ghost use Rattle.plain_wires.specs.Pendings.{IsCounted};
 
-    ghost view = { λ w. w.lines.items };
+    ghost view = { λ w. w.queues.items };
 
-    ghost invariant = { λ w. IsCounted w.pending.items w.lines.items };
+    ghost invariant = { λ w. IsCounted w.pending.items w.queues.items };
 }
 
 // One more than the greatest number of an actor at a queue's end.
@@ -60,12 +62,12 @@ impl World {
         requires { AreSized rows.now }
         ensures { IfOk result (λ w. w ≡ starts rows.now) }
     {
-        let mut lines = Vec::with_capacity(alloc, rows.len())?;
+        let mut queues = Vec::with_capacity(alloc, rows.len())?;
         for row in rows {
-            lines.push(Line::new(alloc, row)?)?;
+            queues.push(PlainQueue::new(alloc, row)?)?;
         }
         Ok(World {
-            lines,
+            queues,
             pending: none_pending(alloc, rows)?,
         })
     }
@@ -75,8 +77,8 @@ impl World {
         requires { q.0 < length self.now }
         ensures { result ≡ length (queue_at self.now q.0).entries }
     {
-        let line = &self.lines[q.0 as usize];
-        line.len()
+        let queue = &self.queues[q.0 as usize];
+        queue.len()
     }
 
     /// Whether a pending word of one of the actor's waiters is 1: forward where it is the queue's consumer, backward
@@ -95,8 +97,8 @@ impl World {
         requires { q.0 < length self.now }
         ensures { result ≡ bell_of (queue_at self.now q.0).bells side }
     {
-        let line = &self.lines[q.0 as usize];
-        line.bell(side)
+        let queue = &self.queues[q.0 as usize];
+        queue.bell(side)
     }
 }
 
@@ -106,39 +108,39 @@ impl Wires for World {
     ghost did = { λ old d new. Happens old d new };
 
     fn see(&mut self, q: QueueId) -> bool {
-        let line = &mut self.lines[q.0 as usize];
-        line.see()
+        let queue = &mut self.queues[q.0 as usize];
+        queue.see()
     }
 
     fn room(&mut self, q: QueueId) -> bool {
-        let line = &mut self.lines[q.0 as usize];
-        line.room()
+        let queue = &mut self.queues[q.0 as usize];
+        queue.room()
     }
 
     fn take(&mut self, q: QueueId) -> (Item, Body) {
-        let line = &mut self.lines[q.0 as usize];
-        line.take()
+        let queue = &mut self.queues[q.0 as usize];
+        queue.take()
     }
 
     fn put(&mut self, q: QueueId, item: Item, body: Body) {
-        let line = &mut self.lines[q.0 as usize];
-        line.put(item, body);
+        let queue = &mut self.queues[q.0 as usize];
+        queue.put(item, body);
     }
 
     fn ask(&mut self, q: QueueId, side: Side) {
-        let line = &mut self.lines[q.0 as usize];
-        line.ask(side);
+        let queue = &mut self.queues[q.0 as usize];
+        queue.ask(side);
     }
 
     fn waive(&mut self, q: QueueId, side: Side) {
-        let line = &mut self.lines[q.0 as usize];
-        line.waive(side);
+        let queue = &mut self.queues[q.0 as usize];
+        queue.waive(side);
     }
 
     fn wake(&mut self, q: QueueId, side: Side) -> bool {
-        let line = &mut self.lines[q.0 as usize];
-        let actor = line.waits(side);
-        let woken = line.wake(side);
+        let queue = &mut self.queues[q.0 as usize];
+        let actor = queue.waiting_actor(side);
+        let woken = queue.wake(side);
         if woken {
             self.pending[actor.0 as usize] -= 1;
         }
@@ -146,20 +148,20 @@ impl Wires for World {
     }
 
     fn wanted(&mut self, q: QueueId, side: Side) -> bool {
-        let line = &mut self.lines[q.0 as usize];
-        line.wanted(side)
+        let queue = &mut self.queues[q.0 as usize];
+        queue.wanted(side)
     }
 
     fn settle(&mut self, q: QueueId, side: Side) {
-        let line = &mut self.lines[q.0 as usize];
-        line.settle(side);
+        let queue = &mut self.queues[q.0 as usize];
+        queue.settle(side);
     }
 
     fn ring(&mut self, q: QueueId, side: Side) {
-        let line = &mut self.lines[q.0 as usize];
-        let actor = line.waits(side);
-        let first = !line.bell(side).pending;
-        line.ring(side);
+        let queue = &mut self.queues[q.0 as usize];
+        let actor = queue.waiting_actor(side);
+        let first = !queue.bell(side).pending;
+        queue.ring(side);
         if first {
             self.pending[actor.0 as usize] += 1;
         }

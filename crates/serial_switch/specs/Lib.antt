@@ -1,3 +1,4 @@
+-- What the contracts of the switch say.
 pub mod Switching
 pub mod Standing
 pub mod Finding

@@ -101,7 +101,7 @@ fn first_piece(input: &[u8]) -> Option<Found>
 }
 
 // What a client gets of a piece.
-fn heard(piece: Found, is_selected: bool) -> Option<u8>
+fn given_byte(piece: Found, is_selected: bool) -> Option<u8>
     ensures { option_to_list result ≡ (if is_selected then option_to_list piece.gives else []) }
 {
     if is_selected { piece.gives } else { None }
@@ -139,7 +139,7 @@ pub fn plain_input_of(
     let mut selected = 0;
     let mut at = 0;
     while let Some(piece) = first_piece(after(input, at)) {
-        append(&mut given, heard(piece, selected == client))?;
+        append(&mut given, given_byte(piece, selected == client))?;
         selected = selected_after(piece, clients, selected);
         at += piece.length;
     }

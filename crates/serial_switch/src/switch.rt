@@ -25,7 +25,7 @@ struct Selection {
 
 impl Selection {
     // Whether a byte is its next digit.
-    fn takes(&self, byte: u8) -> bool
+    fn is_next_digit(&self, byte: u8) -> bool
         ensures { result ≡ (is_ascii_digit byte && nat_lt self.now.digits 4) }
     {
         byte.is_ascii_digit() && self.digits < DIGITS
@@ -76,7 +76,7 @@ impl Switch {
             }
             None => Some((self.selected, byte)),
             Some(selection) => {
-                if selection.takes(byte) {
+                if selection.is_next_digit(byte) {
                     self.opened = Some(Selection {
                         digits: selection.digits + 1,
                         number: 10 * selection.number + u16::from(byte - b'0'),

@@ -23,5 +23,5 @@ spoken_put script n (Some b) (Some i) load put at is same = rw is (sym (spoken_m
 pub row_of : (t : Terminal) (passed : Passed) → TerminalStandsFor t passed → TerminalRow t passed
 row_of t passed h = record {
   says = (map byte_cargo (drop t.next t.script), rw h.sent_is (sym (map-append byte_cargo (take t.next t.script) (drop t.next t.script)) ∙ ap (map byte_cargo) (take-append-drop t.next t.script)));
-  hears = h.heard_is;
+  recorded = h.record_is;
 }

@@ -1,1 +1,2 @@
+-- What the contracts of terminals say.
 pub mod Terminals

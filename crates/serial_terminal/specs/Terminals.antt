@@ -7,7 +7,7 @@ use Rattle.wire_core.specs.declared.names.QueueId.{QueueId}
 use Rattle.wire_core.specs.declared.names.Side.TheVariants.{Forward, Backward}
 use Rattle.wire_core.specs.Lists.{Passed}
 use Rattle.wire_core.specs.Ends.{Role, Consumer, Producer, End}
-use Rattle.turn_kit.specs.Table.{Agrees, start_kept}
+use Rattle.turn_kit.specs.Table.{Agrees, start_state}
 use Rattle.turn_kit.specs.Turns.{Round}
 use Rattle.turn_kit.specs.Posts.{intake_post, outlet_post}
 use Rattle.turn_kit.specs.Hands.{Balances, bodies_at}
@@ -16,8 +16,8 @@ use Rattle.serial_terminal.specs.declared.Terminal.{Terminal}
 
 -- both ends are the terminal's own, and as it keeps them; both are queues of bytes
 pub record FitsTerminal (ends : Role → ℕ → End) (t : Terminal) : Type 0 where
-  pub input : Agrees (ends Consumer t.input.queue.0) t.input.kept
-  pub output : Agrees (ends Producer t.output.queue.0) t.output.kept
+  pub input : Agrees (ends Consumer t.input.queue.0) t.input.state
+  pub output : Agrees (ends Producer t.output.queue.0) t.output.state
   pub hears : (ends Consumer t.input.queue.0).kind ≡ Kind.Byte
   pub says : (ends Producer t.output.queue.0).kind ≡ Kind.Byte
   pub next : t.next ≤ length t.script
@@ -25,12 +25,12 @@ pub record FitsTerminal (ends : Role → ℕ → End) (t : Terminal) : Type 0 wh
 -- it put its script as far as it has come, and recorded the bytes that it took
 pub record TerminalStandsFor (t : Terminal) (passed : Passed) : Type 0 where
   pub sent_is : passed.sent t.output.queue.0 ≡ map byte_cargo (take t.next t.script)
-  pub heard_is : t.heard.shown ≡ bytes_carried (passed.taken t.input.queue.0)
+  pub record_is : t.recorded.shown ≡ bytes_carried (passed.taken t.input.queue.0)
 
 -- what it put is a prefix of its script, and its record is what it took
 pub record TerminalRow (t : Terminal) (passed : Passed) : Type 0 where
   pub says : IsPrefix (passed.sent t.output.queue.0) (map byte_cargo t.script)
-  pub hears : t.heard.shown ≡ bytes_carried (passed.taken t.input.queue.0)
+  pub recorded : t.recorded.shown ≡ bytes_carried (passed.taken t.input.queue.0)
 
 -- one of its ends
 abbrev pub TerminalEnd : Terminal → Role → ℕ → Type 0
@@ -46,11 +46,11 @@ pub record SameTerminal (old new : Terminal) : Type 0 where
 pub record IsNewTerminal (from to : QueueId) (text : List ℕ) (t : Terminal) : Type 0 where
   pub input : t.input.queue ≡ from
   pub output : t.output.queue ≡ to
-  pub input_kept : t.input.kept ≡ start_kept Forward
-  pub output_kept : t.output.kept ≡ start_kept Backward
+  pub input_state : t.input.state ≡ start_state Forward
+  pub output_state : t.output.state ≡ start_state Backward
   pub script : t.script ≡ text
   pub next : t.next ≡ 0
-  pub heard : t.heard.shown ≡ []
+  pub recorded : t.recorded.shown ≡ []
   pub last : t.turn.last ≡ 65535
 
 -- its ends: its input is always needed, its output owed while a byte of the script is left
@@ -67,11 +67,14 @@ terminal_hand t = []
 
 -- it keeps what it took for good
 abbrev pub TerminalBalances : Terminal → Passed → Type 0
-TerminalBalances t passed = Balances [] (bodies_at passed.taken (t.input.queue.0 ∷ [])) (bodies_at passed.sent (t.output.queue.0 ∷ [])) (terminal_hand t) (bodies_at passed.taken (t.input.queue.0 ∷ []))
+TerminalBalances t passed =
+    Balances [] (bodies_at passed.taken (t.input.queue.0 ∷ []))
+    (bodies_at passed.sent (t.output.queue.0 ∷ [])) (terminal_hand t)
+    (bodies_at passed.taken (t.input.queue.0 ∷ []))
 
 -- the same without the last looks
 abbrev pub terminal_forgotten : Terminal → Terminal
 terminal_forgotten t = record t {
-  input = record t.input { kept = record t.input.kept { look = None } };
-  output = record t.output { kept = record t.output.kept { look = None } };
+  input = record t.input { state = record t.input.state { look = None } };
+  output = record t.output { state = record t.output.state { look = None } };
 }

@@ -6,7 +6,7 @@ ghost use Rattle.std.specs.Prelude.{◌≡◌, ◌<◌, ◌≤◌, ◌+◌, ◌^
 ghost use Rattle.std.specs.Option.{option_map, option_to_list};
 ghost use Rattle.wire_core.specs.Ends.{role_of, Role, End};
 ghost use Rattle.wire_core.specs.Lists.{Passed, Stepped, nothing_passed};
-ghost use Rattle.turn_kit.specs.Table.{start_kept};
+ghost use Rattle.turn_kit.specs.Table.{start_state};
 ghost use Rattle.wire_core.specs.Marks.{is_mark};
 ghost use Rattle.turn_kit.specs.Turns.{Turned, Posted, choice_of, chosen, last_after, is_at_rest};
 ghost use Rattle.cargo_core.specs.Bodies.{buffers_of};
@@ -16,7 +16,7 @@ ghost use Rattle.serial_terminal.specs.Terminals.{FitsTerminal, TerminalStandsFo
 
 use cargo_core::{Body, Bytes, Item, Memory, PoolId, Tape};
 use std::alloc::Global;
-use turn_kit::{Intake, Outlet, Turn, held};
+use turn_kit::{Intake, Outlet, Turn, count_held};
 use wire_core::{Event, QueueId, Wires};
 
 /// A serial actor with a script, of which it put the first `next` bytes, and a record of what came.
@@ -26,16 +26,16 @@ pub struct Terminal {
     pub output: Outlet,
     pub script: Bytes,
     pub next: usize,
-    pub heard: Tape,
+    pub recorded: Tape,
     pub turn: Turn,
 }
 
 // Records the byte of what was taken.
-fn note(tape: &mut Tape, got: Option<(Item, Body)>)
+fn note(tape: &mut Tape, taken: Option<(Item, Body)>)
     requires { 0 < tape.old.spare }
-    ensures { tape.new.shown ≡ tape.old.shown ++ bytes_carried (option_to_list got) }
+    ensures { tape.new.shown ≡ tape.old.shown ++ bytes_carried (option_to_list taken) }
 {
-    if let Some((Item::Byte(byte), _)) = got {
+    if let Some((Item::Byte(byte), _)) = taken {
         tape.push(byte);
     }
 }
@@ -51,16 +51,16 @@ impl Terminal {
             output: Outlet::new(to),
             script,
             next: 0,
-            heard: Tape::new(alloc),
+            recorded: Tape::new(alloc),
             turn: Turn::new(),
         }
     }
 
     /// What came.
-    pub fn heard(&self) -> &[u8]
-        ensures { result.now ≡ self.now.heard.shown }
+    pub fn got(&self) -> &[u8]
+        ensures { result.now ≡ self.now.recorded.shown }
     {
-        self.heard.as_slice()
+        self.recorded.as_slice()
     }
 
     // Whether a byte of the script is left.
@@ -81,7 +81,7 @@ impl Terminal {
     pub fn held(&self, pool: PoolId) -> u32
         ensures { result ≡ buffers_of pool (terminal_hand self.now) }
     {
-        held(pool, &None)
+        count_held(pool, &None)
     }
 
     // The next byte, ready to be put.
@@ -101,7 +101,10 @@ impl Terminal {
     fn choose(&mut self) -> usize
         ensures place { result ≡ chosen (choice_of (terminal_round self.old)) }
         ensures within { result < 2 }
-        ensures after { self.new ≡ record self.old { turn = record { last = last_after (choice_of (terminal_round self.old)) } } }
+        ensures after { self.new ≡ record self.old {
+          turn =
+              record { last = last_after (choice_of (terminal_round self.old)) };
+        } }
     {
         let choice = self
             .turn
@@ -114,18 +117,20 @@ impl Terminal {
     // The next call of the input. What it takes is recorded.
     fn step_input<W: Wires>(&mut self, wires: &mut W) -> Event
         requires fits { FitsTerminal (W.ends wires.old) self.old }
-        requires room { 0 < self.old.heard.spare }
+        requires room { 0 < self.old.recorded.spare }
         ensures fits { FitsTerminal (W.ends wires.new) self.new }
         ensures own { TerminalEnd self.old (role_of result.op) result.queue.0 }
         ensures same { SameTerminal self.old self.new }
-        ensures stepped { Stepped TerminalStandsFor W.did wires.old wires.new self.old self.new result }
-        ensures posted { Posted (intake_post self.old.input) true result (intake_post self.new.input) }
+        ensures stepped { Stepped TerminalStandsFor W.did wires.old wires.new self.old self.new
+            result }
+        ensures posted { Posted (intake_post self.old.input) true result
+            (intake_post self.new.input) }
         ensures output { self.new.output ≡ self.old.output }
         ensures next { self.new.next ≡ self.old.next }
         ensures turn { self.new.turn ≡ self.old.turn }
     {
-        let (event, got) = self.input.step(wires, true);
-        note(&mut self.heard, got);
+        let (event, taken) = self.input.step(wires, true);
+        note(&mut self.recorded, taken);
         event
     }
 
@@ -135,8 +140,10 @@ impl Terminal {
         ensures fits { FitsTerminal (W.ends wires.new) self.new }
         ensures own { TerminalEnd self.old (role_of result.op) result.queue.0 }
         ensures same { SameTerminal self.old self.new }
-        ensures stepped { Stepped TerminalStandsFor W.did wires.old wires.new self.old self.new result }
-        ensures posted { Posted (outlet_post self.old.output) (nat_lt self.old.next (length self.old.script)) result (outlet_post self.new.output) }
+        ensures stepped { Stepped TerminalStandsFor W.did wires.old wires.new self.old self.new
+            result }
+        ensures posted { Posted (outlet_post self.old.output)
+            (nat_lt self.old.next (length self.old.script)) result (outlet_post self.new.output) }
         ensures input { self.new.input ≡ self.old.input }
         ensures still { is_mark result.op result.answer ≡ false → self.new.next ≡ self.old.next }
         ensures turn { self.new.turn ≡ self.old.turn }
@@ -157,12 +164,14 @@ impl Terminal {
         ensures fits { FitsTerminal (W.ends wires.new) self.new }
         ensures own { IfOk result (λ e. TerminalEnd self.old (role_of e.op) e.queue.0) }
         ensures same { SameTerminal self.old self.new }
-        ensures stepped { IfOk result (λ e. Stepped TerminalStandsFor W.did wires.old wires.new self.old self.new e) }
-        ensures turned { IfOk result (λ e. Turned (terminal_round self.old) e (terminal_round self.new)) }
+        ensures stepped { IfOk result (λ e. Stepped TerminalStandsFor W.did wires.old wires.new
+            self.old self.new e) }
+        ensures turned { IfOk result (λ e. Turned (terminal_round self.old) e
+            (terminal_round self.new)) }
         ensures no_call { OnErr result (wires.new ≡ wires.old) }
         ensures unchanged { OnErr result (self.new ≡ self.old) }
     {
-        self.heard.reserve()?;
+        self.recorded.reserve()?;
         match self.choose() {
             0 => Ok(self.step_input(wires)),
             1 => Ok(self.step_output(wires)),
@@ -174,8 +183,10 @@ impl Terminal {
     pub fn forget(&mut self)
         ensures after { self.new ≡ terminal_forgotten self.old }
         ensures same { SameTerminal self.old self.new }
-        ensures fits { (ends : Role → ℕ → End) → FitsTerminal ends self.old → FitsTerminal ends self.new }
-        ensures lists { (passed : Passed) → TerminalStandsFor self.old passed → TerminalStandsFor self.new passed }
+        ensures fits { (ends : Role → ℕ → End) → FitsTerminal ends self.old
+            → FitsTerminal ends self.new }
+        ensures lists { (passed : Passed) → TerminalStandsFor self.old passed
+            → TerminalStandsFor self.new passed }
     {
         self.input.forget();
         self.output.forget();
@@ -189,5 +200,6 @@ pub fn row_law()
 
 /// What came and did not go out is kept for good.
 pub fn hand_law()
-    ensures { (t : Terminal) (passed : Passed) → TerminalStandsFor t passed → TerminalBalances t passed }
+    ensures { (t : Terminal) (passed : Passed) → TerminalStandsFor t passed
+        → TerminalBalances t passed }
 {}

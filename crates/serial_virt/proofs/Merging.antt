@@ -109,9 +109,9 @@ pub same_taken : (qs : List QueueId) (taken took : Lists) → ((n : ℕ) → too
 same_taken [] taken took h = refl
 same_taken (q ∷ qs) taken took h = ap (λ l. l ∷ taken_from qs (with taken took)) (ap (λ c. taken q.0 ++ c) (h q.0) ∙ append-nil (taken q.0)) ∙ ap (λ ls. taken q.0 ∷ ls) (same_taken qs taken took h)
 
-pub merge_got : (qs : List QueueId) (taken took : Lists) (k : ℕ) (q : QueueId) (got : Option Cargo) → slice_get qs k ≡ Some q → AreApart qs → ((n : ℕ) → took n ≡ if_there (q.0 == n) (option_to_list got)) → (all : List Cargo) → Merge (taken_from qs taken) all → Merge (taken_from qs (with taken took)) (all ++ option_to_list got)
-merge_got qs taken took k q None at apart takes all h = subst (Merge (taken_from qs (with taken took))) (sym (append-nil all)) (subst (λ ls. Merge ls all) (sym (same_taken qs taken took (λ n. takes n ∙ if_there_nothing (q.0 == n)))) h)
-merge_got qs taken took k q (Some x) at apart takes all h = merge_some qs taken took k q at apart x takes all h
+pub merge_taken : (qs : List QueueId) (taken took : Lists) (k : ℕ) (q : QueueId) (came : Option Cargo) → slice_get qs k ≡ Some q → AreApart qs → ((n : ℕ) → took n ≡ if_there (q.0 == n) (option_to_list came)) → (all : List Cargo) → Merge (taken_from qs taken) all → Merge (taken_from qs (with taken took)) (all ++ option_to_list came)
+merge_taken qs taken took k q None at apart takes all h = subst (Merge (taken_from qs (with taken took))) (sym (append-nil all)) (subst (λ ls. Merge ls all) (sym (same_taken qs taken took (λ n. takes n ∙ if_there_nothing (q.0 == n)))) h)
+merge_taken qs taken took k q (Some x) at apart takes all h = merge_some qs taken took k q at apart x takes all h
 
 -- at the start nothing was taken
 none_taken : (qs : List QueueId) (k : ℕ) (l : List Cargo) → slice_get (taken_from qs (λ n. [])) k ≡ Some l → l ≡ []
@@ -123,18 +123,18 @@ pub merge_start : (qs : List QueueId) → Merge (taken_from qs (λ n. [])) []
 merge_start qs = merge_none (taken_from qs (λ n. [])) (none_taken qs)
 
 -- an actor took from one of its queues
-pub merge_on : (qs qs' : List QueueId) (taken took : Lists) (k : ℕ) (q : QueueId) (got : Option Cargo) → qs' ≡ qs → slice_get qs k ≡ Some q → AreApart qs → ((n : ℕ) → took n ≡ if_there (q.0 == n) (option_to_list got)) → (all all' : List Cargo) → all' ≡ all ++ option_to_list got → Merge (taken_from qs taken) all → Merge (taken_from qs' (with taken took)) all'
-merge_on qs qs' taken took k q got same at apart takes all all' e h = rw (same, e) (merge_got qs taken took k q got at apart takes all h)
+pub merge_on : (qs qs' : List QueueId) (taken took : Lists) (k : ℕ) (q : QueueId) (came : Option Cargo) → qs' ≡ qs → slice_get qs k ≡ Some q → AreApart qs → ((n : ℕ) → took n ≡ if_there (q.0 == n) (option_to_list came)) → (all all' : List Cargo) → all' ≡ all ++ option_to_list came → Merge (taken_from qs taken) all → Merge (taken_from qs' (with taken took)) all'
+merge_on qs qs' taken took k q came same at apart takes all all' e h = rw (same, e) (merge_taken qs taken took k q came at apart takes all h)
 
 -- what came in found nothing loaded
-pub no_load : (load got : Option Cargo) (need : Bool) → is_some load ≡ not need → (IsSome got → need ≡ true) → is_some got ≡ true → load ≡ None
+pub no_load : (load came : Option Cargo) (need : Bool) → is_some load ≡ not need → (IsSome came → need ≡ true) → is_some came ≡ true → load ≡ None
 no_load load None need e f some = cc
 no_load None (Some x) need e f some = refl
 no_load (Some y) (Some x) need e f some = let n : need ≡ true = f refl in let no_such : is_some (Some y) ≡ not true = e ∙ ap not n in cc
 
-pub loaded_now : (s p : List Cargo) (load got : Option Cargo) → p ≡ [] → load ≡ None → (s ++ p) ++ option_to_list got ≡ (s ++ option_to_list load) ++ option_to_list got
-loaded_now s p load got e f = rw (e, f) refl
+pub loaded_now : (s p : List Cargo) (load came : Option Cargo) → p ≡ [] → load ≡ None → (s ++ p) ++ option_to_list came ≡ (s ++ option_to_list load) ++ option_to_list came
+loaded_now s p load came e f = rw (e, f) refl
 
-pub loaded_still : (s p : List Cargo) (load got : Option Cargo) → p ≡ [] → is_some got ≡ false → (s ++ p) ++ option_to_list load ≡ (s ++ option_to_list load) ++ option_to_list got
+pub loaded_still : (s p : List Cargo) (load came : Option Cargo) → p ≡ [] → is_some came ≡ false → (s ++ p) ++ option_to_list load ≡ (s ++ option_to_list load) ++ option_to_list came
 loaded_still s p load None e f = rw (e, append-nil s, append-nil (s ++ option_to_list load)) refl
 loaded_still s p load (Some x) e f = cc

@@ -15,7 +15,7 @@ use Rattle.serial_switch.specs.Standing.{StandsAfter}
 use Rattle.serial_switch.specs.Carried.{byte_cargo, byte_of, bytes_carried}
 use Rattle.serial_switch.specs.Switching.{input_of, given_to}
 use Rattle.serial_virt.specs.declared.rx.SerialVirtRx.{SerialVirtRx}
-use Rattle.serial_virt.specs.Receiving.{owed_to, loaded_with, owner_of, clients_of, RxStandsFor, RxRow}
+use Rattle.serial_virt.specs.Receiving.{owed_to, loaded_with, loaded_for, clients_of, RxStandsFor, RxRow}
 
 some_eq : {X : Type 0} {a b : X} → Some a ≡ Some b → a ≡ b
 some_eq h = cc
@@ -33,7 +33,7 @@ owed_byte false x = refl
 
 -- what the switch gives is owed where nothing was
 pub shared : (n k : ℕ) (bytes more : List ℕ) (s : List Cargo) (load : Option Cargo) (to : ℕ) (given : Option (ℕ × ℕ)) → ((g : ℕ × ℕ) → given ≡ Some g → load ≡ None) → input_of n k (bytes ++ more) ≡ input_of n k bytes ++ given_to k given
-    → s ++ owed_to load to k ≡ map byte_cargo (input_of n k bytes) → s ++ owed_to (loaded_with load given) (owner_of to given) k ≡ map byte_cargo (input_of n k (bytes ++ more))
+    → s ++ owed_to load to k ≡ map byte_cargo (input_of n k bytes) → s ++ owed_to (loaded_with load given) (loaded_for to given) k ≡ map byte_cargo (input_of n k (bytes ++ more))
 shared n k bytes more s load to None free e h = h ∙ ap (map byte_cargo) (sym (e ∙ append-nil (input_of n k bytes)))
 shared n k bytes more s load to (Some g) free e h =
     let none : load ≡ None = free g refl in
@@ -41,7 +41,7 @@ shared n k bytes more s load to (Some g) free e h =
     ap (λ c. s ++ c) (owed_byte (g.0 == k) g.1) ∙ (ap (λ c. c ++ map byte_cargo (given_to k (Some g))) before ∙ (sym (map-append byte_cargo (input_of n k bytes) (given_to k (Some g))) ∙ ap (map byte_cargo) (sym e)))
 
 -- an entry comes, and a byte is given, only where nothing is owed
-pub free_load : (load got : Option Cargo) (given : Option (ℕ × ℕ)) (need : Bool) → is_some load ≡ not need → (IsSome got → need ≡ true) → (got ≡ None → given ≡ None) → (g : ℕ × ℕ) → given ≡ Some g → load ≡ None
+pub free_load : (load came : Option Cargo) (given : Option (ℕ × ℕ)) (need : Bool) → is_some load ≡ not need → (IsSome came → need ≡ true) → (came ≡ None → given ≡ None) → (g : ℕ × ℕ) → given ≡ Some g → load ≡ None
 free_load load None given need e f none g is = let no_such : given ≡ None = none refl in cc
 free_load None (Some x) given need e f none g is = refl
 free_load (Some y) (Some x) given need e f none g is = let n : need ≡ true = f refl in let no_such : is_some (Some y) ≡ not true = e ∙ ap not n in cc
@@ -65,7 +65,7 @@ module _ (qs : List QueueId) (k : ℕ) (q : QueueId) (at : slice_get qs k ≡ So
       ap (λ c. (s ++ c) ++ owed_to load' k j) (elsewhere j q' there other.1 (eqb_tells q.0 q'.0)) ∙ (ap (λ c. c ++ owed_to load' k j) (append-nil s) ∙ (ap (λ b. s ++ (if b then option_to_list load' else [])) other.0 ∙ sym (ap (λ b. s ++ (if b then option_to_list load else [])) other.0)))
 
 -- who is owed a byte is there, after one was given or none was
-owner_there : (n to : ℕ) (load : Option Cargo) (given : Option (ℕ × ℕ)) → (is_some load ≡ true → to < n) → IfSome given (λ g. g.0 < n) → is_some (loaded_with load given) ≡ true → owner_of to given < n
+owner_there : (n to : ℕ) (load : Option Cargo) (given : Option (ℕ × ℕ)) → (is_some load ≡ true → to < n) → IfSome given (λ g. g.0 < n) → is_some (loaded_with load given) ≡ true → loaded_for to given < n
 owner_there n to load None there known some = there some
 owner_there n to load (Some g) there known some = known
 
@@ -77,15 +77,15 @@ still_owed None None (Some c) parts some = cc
 still_owed None (Some x) (Some c) parts some = cc
 
 -- a step of the input
-module _ (old new : SerialVirtRx) (passed : Passed) (took put : Lists) (got : Option Cargo) (given : Option (ℕ × ℕ))
-    (outputs : new.outputs ≡ old.outputs) (input : new.input.queue ≡ old.input.queue) (load : new.load ≡ loaded_with old.load given) (to : new.to ≡ owner_of old.to given)
-    (after : (clients : ℕ) (bytes : List ℕ) → StandsAfter clients bytes old.switch → StandsAfter clients (bytes ++ bytes_carried (option_to_list got)) new.switch)
-    (gives : (clients : ℕ) (bytes : List ℕ) → StandsAfter clients bytes old.switch → (client : ℕ) → input_of clients client (bytes ++ bytes_carried (option_to_list got)) ≡ input_of clients client bytes ++ given_to client given)
+module _ (old new : SerialVirtRx) (passed : Passed) (took put : Lists) (came : Option Cargo) (given : Option (ℕ × ℕ))
+    (outputs : new.outputs ≡ old.outputs) (input : new.input.queue ≡ old.input.queue) (load : new.load ≡ loaded_with old.load given) (to : new.to ≡ loaded_for old.to given)
+    (after : (clients : ℕ) (bytes : List ℕ) → StandsAfter clients bytes old.switch → StandsAfter clients (bytes ++ bytes_carried (option_to_list came)) new.switch)
+    (gives : (clients : ℕ) (bytes : List ℕ) → StandsAfter clients bytes old.switch → (client : ℕ) → input_of clients client (bytes ++ bytes_carried (option_to_list came)) ≡ input_of clients client bytes ++ given_to client given)
     (known : (clients : ℕ) (bytes : List ℕ) → StandsAfter clients bytes old.switch → IfSome given (λ g. g.0 < clients))
     (free : (g : ℕ × ℕ) → given ≡ Some g → old.load ≡ None)
-    (takes : (n : ℕ) → took n ≡ if_there (old.input.queue.0 == n) (option_to_list got)) (puts : (n : ℕ) → put n ≡ []) (h : RxStandsFor old passed) where
-  bytes_now : bytes_carried (with passed.taken took new.input.queue.0) ≡ bytes_carried (passed.taken old.input.queue.0) ++ bytes_carried (option_to_list got)
-  bytes_now = ap (λ (q : QueueId). bytes_carried (with passed.taken took q.0)) input ∙ (bytes_carried-append (passed.taken old.input.queue.0) (took old.input.queue.0) ∙ ap (λ c. bytes_carried (passed.taken old.input.queue.0) ++ bytes_carried c) (takes old.input.queue.0 ∙ if_there_here old.input.queue.0 (option_to_list got)))
+    (takes : (n : ℕ) → took n ≡ if_there (old.input.queue.0 == n) (option_to_list came)) (puts : (n : ℕ) → put n ≡ []) (h : RxStandsFor old passed) where
+  bytes_now : bytes_carried (with passed.taken took new.input.queue.0) ≡ bytes_carried (passed.taken old.input.queue.0) ++ bytes_carried (option_to_list came)
+  bytes_now = ap (λ (q : QueueId). bytes_carried (with passed.taken took q.0)) input ∙ (bytes_carried-append (passed.taken old.input.queue.0) (took old.input.queue.0) ∙ ap (λ c. bytes_carried (passed.taken old.input.queue.0) ++ bytes_carried c) (takes old.input.queue.0 ∙ if_there_here old.input.queue.0 (option_to_list came)))
 
   clients_now : clients_of new ≡ clients_of old
   clients_now = ap (λ (o : Outlets). length (outlet_queues o)) outputs
@@ -93,8 +93,8 @@ module _ (old new : SerialVirtRx) (passed : Passed) (took put : Lists) (got : Op
   given_now : (k : ℕ) (q : QueueId) → slice_get (outlet_queues new.outputs) k ≡ Some q → with passed.sent put q.0 ++ owed_to new.load new.to k ≡ map byte_cargo (input_of (clients_of new) k (bytes_carried (with passed.taken took new.input.queue.0)))
   given_now k q at =
       ap (λ c. (passed.sent q.0 ++ c) ++ owed_to new.load new.to k) (puts q.0) ∙ (ap (λ c. c ++ owed_to new.load new.to k) (append-nil (passed.sent q.0)) ∙ (ap (λ l. passed.sent q.0 ++ owed_to l new.to k) load ∙ (ap (λ t. passed.sent q.0 ++ owed_to (loaded_with old.load given) t k) to
-      ∙ (shared (clients_of old) k (bytes_carried (passed.taken old.input.queue.0)) (bytes_carried (option_to_list got)) (passed.sent q.0) old.load old.to given free (gives (clients_of old) (bytes_carried (passed.taken old.input.queue.0)) h.switched k) (h.given k q (ap (λ (o : Outlets). slice_get (outlet_queues o) k) (sym outputs) ∙ at))
-      ∙ (ap (λ n. map byte_cargo (input_of n k (bytes_carried (passed.taken old.input.queue.0) ++ bytes_carried (option_to_list got)))) (sym clients_now) ∙ ap (λ bs. map byte_cargo (input_of (clients_of new) k bs)) (sym bytes_now))))))
+      ∙ (shared (clients_of old) k (bytes_carried (passed.taken old.input.queue.0)) (bytes_carried (option_to_list came)) (passed.sent q.0) old.load old.to given free (gives (clients_of old) (bytes_carried (passed.taken old.input.queue.0)) h.switched k) (h.given k q (ap (λ (o : Outlets). slice_get (outlet_queues o) k) (sym outputs) ∙ at))
+      ∙ (ap (λ n. map byte_cargo (input_of n k (bytes_carried (passed.taken old.input.queue.0) ++ bytes_carried (option_to_list came)))) (sym clients_now) ∙ ap (λ bs. map byte_cargo (input_of (clients_of new) k bs)) (sym bytes_now))))))
 
   switched_now : StandsAfter (clients_of new) (bytes_carried (with passed.taken took new.input.queue.0)) new.switch
   switched_now = subst (λ n. StandsAfter n (bytes_carried (with passed.taken took new.input.queue.0)) new.switch) (sym clients_now) (subst (λ bs. StandsAfter (clients_of old) bs new.switch) (sym bytes_now) (after (clients_of old) (bytes_carried (passed.taken old.input.queue.0)) h.switched))

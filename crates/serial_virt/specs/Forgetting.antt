@@ -5,7 +5,7 @@ use Rattle.turn_kit.specs.declared.ends.Outlet.{Outlet}
 
 -- an end without its last look
 abbrev pub intake_forgotten : Intake → Intake
-intake_forgotten i = record i { kept = record i.kept { look = None } }
+intake_forgotten i = record i { state = record i.state { look = None } }
 
 abbrev pub outlet_forgotten : Outlet → Outlet
-outlet_forgotten o = record o { kept = record o.kept { look = None } }
+outlet_forgotten o = record o { state = record o.state { look = None } }

@@ -1,3 +1,4 @@
+-- What the contracts of the serial virtualisers say.
 pub mod Sending
 pub mod Forgetting
 pub mod Receiving

@@ -9,7 +9,7 @@ use Rattle.wire_core.specs.declared.names.Side.TheVariants.{Forward, Backward}
 use Rattle.wire_core.specs.Deeds.{Cargo}
 use Rattle.wire_core.specs.Lists.{Passed}
 use Rattle.wire_core.specs.Ends.{Role, Consumer, Producer, End}
-use Rattle.turn_kit.specs.Table.{Agrees, start_kept}
+use Rattle.turn_kit.specs.Table.{Agrees, start_state}
 use Rattle.turn_kit.specs.Turns.{Round}
 use Rattle.turn_kit.specs.Posts.{intake_post}
 use Rattle.turn_kit.specs.Hands.{Balances, bodies_of, bodies_at}
@@ -23,10 +23,11 @@ use Rattle.serial_virt.specs.declared.rx.SerialVirtRx.{SerialVirtRx}
 
 -- the virtualiser's ends are its own, and as it keeps them; all are queues of bytes
 pub record FitsRx (ends : Role → ℕ → End) (v : SerialVirtRx) : Type 0 where
-  pub input : Agrees (ends Consumer v.input.queue.0) v.input.kept
+  pub input : Agrees (ends Consumer v.input.queue.0) v.input.state
   pub outputs : FitsOutlets ends v.outputs
   pub hears : (ends Consumer v.input.queue.0).kind ≡ Kind.Byte
-  pub says : (k : ℕ) (q : QueueId) → slice_get (outlet_queues v.outputs) k ≡ Some q → (ends Producer q.0).kind ≡ Kind.Byte
+  pub says : (k : ℕ) (q : QueueId) → slice_get (outlet_queues v.outputs) k ≡ Some q
+      → (ends Producer q.0).kind ≡ Kind.Byte
   pub load : ForSome v.load (λ c. kind_of c.0 ≡ Kind.Byte)
 
 -- what is owed to the client at a place
@@ -41,19 +42,24 @@ clients_of v = length (outlet_queues v.outputs)
 pub record RxStandsFor (v : SerialVirtRx) (passed : Passed) : Type 0 where
   pub switched : StandsAfter (clients_of v) (bytes_carried (passed.taken v.input.queue.0)) v.switch
   pub to : is_some v.load ≡ true → v.to < clients_of v
-  pub given : (k : ℕ) (q : QueueId) → slice_get (outlet_queues v.outputs) k ≡ Some q → passed.sent q.0 ++ owed_to v.load v.to k ≡ map byte_cargo (input_of (clients_of v) k (bytes_carried (passed.taken v.input.queue.0)))
+  pub given : (k : ℕ) (q : QueueId) → slice_get (outlet_queues v.outputs) k ≡ Some q
+      → passed.sent q.0 ++ owed_to v.load v.to k
+      ≡ map byte_cargo (input_of (clients_of v) k (bytes_carried (passed.taken v.input.queue.0)))
 
 -- each client was given its part of what was taken, but that over all clients at most one byte is owed
 pub record RxRow (v : SerialVirtRx) (passed : Passed) : Type 0 where
   pub owner : ℕ
   pub owed : List Cargo
   pub few : length owed ≤ 1
-  pub given : (k : ℕ) (q : QueueId) → slice_get (outlet_queues v.outputs) k ≡ Some q → passed.sent q.0 ++ (if owner == k then owed else []) ≡ map byte_cargo (input_of (clients_of v) k (bytes_carried (passed.taken v.input.queue.0)))
+  pub given : (k : ℕ) (q : QueueId) → slice_get (outlet_queues v.outputs) k ≡ Some q
+      → passed.sent q.0 ++ (if owner == k then owed else [])
+      ≡ map byte_cargo (input_of (clients_of v) k (bytes_carried (passed.taken v.input.queue.0)))
 
 -- one of its ends
 abbrev pub RxEnd : SerialVirtRx → Role → ℕ → Type 0
 RxEnd v Consumer n = n ≡ v.input.queue.0
-RxEnd v Producer n = (k : ℕ) × (q : QueueId) × (slice_get (outlet_queues v.outputs) k ≡ Some q) × (n ≡ q.0)
+RxEnd v Producer n =
+    (k : ℕ) × (q : QueueId) × (slice_get (outlet_queues v.outputs) k ≡ Some q) × (n ≡ q.0)
 
 -- its queues, the input's first
 abbrev pub rx_queues : SerialVirtRx → List QueueId
@@ -61,11 +67,11 @@ rx_queues v = v.input.queue ∷ outlet_queues v.outputs
 
 -- an end in its start state
 abbrev pub new_outlet : QueueId → Outlet
-new_outlet q = record { queue = q; kept = start_kept Backward }
+new_outlet q = record { queue = q; state = start_state Backward }
 
 pub record IsNewRx (from : QueueId) (clients : List QueueId) (v : SerialVirtRx) : Type 0 where
   pub input : v.input.queue ≡ from
-  pub input_kept : v.input.kept ≡ start_kept Forward
+  pub input_state : v.input.state ≡ start_state Forward
   pub outputs : v.outputs.ends.items ≡ map new_outlet clients
   pub switched : StandsAfter (length clients) [] v.switch
   pub load : v.load ≡ None
@@ -92,16 +98,19 @@ rx_hand v = bodies_of (option_to_list v.load)
 
 -- what it took it read, and keeps for good: the bytes that it gives are new entries
 abbrev pub RxBalances : SerialVirtRx → Passed → Type 0
-RxBalances v passed = Balances [] (bodies_at passed.taken (v.input.queue.0 ∷ [])) (bodies_at passed.sent (map (λ q. q.0) (outlet_queues v.outputs))) (rx_hand v) (bodies_at passed.taken (v.input.queue.0 ∷ []))
+RxBalances v passed =
+    Balances [] (bodies_at passed.taken (v.input.queue.0 ∷ []))
+    (bodies_at passed.sent (map (λ q. q.0) (outlet_queues v.outputs))) (rx_hand v)
+    (bodies_at passed.taken (v.input.queue.0 ∷ []))
 
 -- what is loaded, and for whom, where a client was given a byte or none was
 abbrev pub loaded_with : Option Cargo → Option (ℕ × ℕ) → Option Cargo
 loaded_with load None = load
 loaded_with load (Some g) = Some (byte_cargo g.1)
 
-abbrev pub owner_of : ℕ → Option (ℕ × ℕ) → ℕ
-owner_of to None = to
-owner_of to (Some g) = g.0
+abbrev pub loaded_for : ℕ → Option (ℕ × ℕ) → ℕ
+loaded_for to None = to
+loaded_for to (Some g) = g.0
 
 -- the same without the last looks
 pub record RxForgot (old new : SerialVirtRx) : Type 0 where

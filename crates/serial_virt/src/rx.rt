@@ -1,4 +1,5 @@
-// The virtualiser that shares out what was received.
+//! The virtualiser that shares out what was received.
+
 ghost use Rattle.std.specs.Prelude.{◌≡◌, ◌==◌, ◌<◌, ◌+◌, ◌^◌, ℕ, List, [], ◌++◌, None, IfOk, IfSome, length, map, is_none, is_some, false, if◌then◌else◌};
 ghost use Rattle.std.specs.Option.{ForSome, option_to_list};
 ghost use Rattle.cargo_core.specs.Items.{kind_of};
@@ -13,12 +14,12 @@ ghost use Rattle.serial_switch.specs.Carried.{bytes_carried, byte_cargo};
 ghost use Rattle.serial_switch.specs.Standing.{StandsAfter};
 ghost use Rattle.serial_switch.specs.Switching.{input_of, given_to};
 ghost use Rattle.serial_virt.specs.Forgetting.{outlet_forgotten};
-ghost use Rattle.serial_virt.specs.Receiving.{FitsRx, RxStandsFor, RxRow, RxBalances, RxEnd, IsNewRx, RxForgot, new_outlet, rx_queues, rx_round, rx_hand, loaded_with, owner_of, is_owed_at, place_loaded};
+ghost use Rattle.serial_virt.specs.Receiving.{FitsRx, RxStandsFor, RxRow, RxBalances, RxEnd, IsNewRx, RxForgot, new_outlet, rx_queues, rx_round, rx_hand, loaded_with, loaded_for, is_owed_at, place_loaded};
 
 use cargo_core::{Body, Item, Memory, PoolId};
 use serial_switch::Switch;
 use std::alloc::Global;
-use turn_kit::{Intake, Outlet, Outlets, Turn, held};
+use turn_kit::{Intake, Outlet, Outlets, Turn, count_held};
 use wire_core::{Event, QueueId, Wires};
 
 /// Shares out what the driver received, by the selections that stand in it. `load` is the byte that it owes to the
@@ -55,15 +56,17 @@ fn forget_outputs(outputs: &mut Outlets)
 }
 
 // Reads what was taken, and answers the client that gets a byte for it.
-fn read(switch: &mut Switch, got: Option<(Item, Body)>) -> Option<(u32, u8)>
+fn read(switch: &mut Switch, taken: Option<(Item, Body)>) -> Option<(u32, u8)>
     ensures after { (clients : ℕ) (input : List ℕ) → StandsAfter clients input switch.old
-        → StandsAfter clients (input ++ bytes_carried (option_to_list got)) switch.new }
+        → StandsAfter clients (input ++ bytes_carried (option_to_list taken)) switch.new }
     ensures given { (clients : ℕ) (input : List ℕ) → StandsAfter clients input switch.old
-        → (client : ℕ) → input_of clients client (input ++ bytes_carried (option_to_list got)) ≡ input_of clients client input ++ given_to client result }
-    ensures known { (clients : ℕ) (input : List ℕ) → StandsAfter clients input switch.old → IfSome result (λ g. g.0 < clients) }
-    ensures none { got ≡ None → result ≡ None }
+        → (client : ℕ) → input_of clients client (input ++ bytes_carried (option_to_list taken))
+        ≡ input_of clients client input ++ given_to client result }
+    ensures known { (clients : ℕ) (input : List ℕ) → StandsAfter clients input switch.old
+        → IfSome result (λ g. g.0 < clients) }
+    ensures none { taken ≡ None → result ≡ None }
 {
-    match got {
+    match taken {
         Some((Item::Byte(byte), _)) => switch.step(byte),
         _ => None,
     }
@@ -88,7 +91,7 @@ impl SerialVirtRx {
     }
 
     // The place of the client that is owed a byte.
-    fn owner(&self) -> Option<usize>
+    fn client_owed(&self) -> Option<usize>
         ensures { result ≡ place_loaded self.now }
     {
         if self.load.is_some() {
@@ -102,36 +105,39 @@ impl SerialVirtRx {
     pub fn at_rest(&self) -> bool
         ensures { result ≡ is_at_rest (rx_round self.now) }
     {
-        self.input.settled(self.load.is_none()) && self.outputs.settled(&self.owner())
+        self.input.settled(self.load.is_none()) && self.outputs.settled(&self.client_owed())
     }
 
     /// How many buffers of a pool are in its hand: none, since a byte has no buffer.
     pub fn held(&self, pool: PoolId) -> u32
         ensures { result ≡ buffers_of pool (rx_hand self.now) }
     {
-        held(pool, &self.load)
+        count_held(pool, &self.load)
     }
 
     // The end that is stepped now: the input is the first, the clients follow in their order.
     fn choose(&mut self) -> usize
         ensures place { result ≡ chosen (choice_of (rx_round self.old)) }
         ensures within { result < 1 + length (outlet_queues self.old.outputs) }
-        ensures after { self.new ≡ record self.old { turn = record { last = last_after (choice_of (rx_round self.old)) } } }
+        ensures after { self.new ≡ record self.old {
+          turn =
+              record { last = last_after (choice_of (rx_round self.old)) };
+        } }
     {
         let choice = self.turn.begin(1 + self.outputs.len()).offer(
             0,
             self.input.queue,
             self.input.settled(self.load.is_none()),
         );
-        let owner = self.owner();
-        let choice = self.outputs.offer(choice, 1, &owner);
+        let owed = self.client_owed();
+        let choice = self.outputs.offer(choice, 1, &owed);
         self.turn.pass(choice)
     }
 
     // A byte that was given is owed.
     fn owe(&mut self, given: Option<(u32, u8)>)
         ensures load { self.new.load ≡ loaded_with self.old.load given }
-        ensures to { self.new.to ≡ owner_of self.old.to given }
+        ensures to { self.new.to ≡ loaded_for self.old.to given }
         ensures rest { self.new ≡ record self.old { load = self.new.load; to = self.new.to } }
     {
         if let Some((client, byte)) = given {
@@ -147,14 +153,15 @@ impl SerialVirtRx {
         ensures own { RxEnd self.old (role_of result.op) result.queue.0 }
         ensures queues { rx_queues self.new ≡ rx_queues self.old }
         ensures stepped { Stepped RxStandsFor W.did wires.old wires.new self.old self.new result }
-        ensures posted { Posted (intake_post self.old.input) (is_none self.old.load) result (intake_post self.new.input) }
+        ensures posted { Posted (intake_post self.old.input) (is_none self.old.load) result
+            (intake_post self.new.input) }
         ensures still { is_mark result.op result.answer ≡ false → self.new.load ≡ self.old.load }
         ensures to { is_mark result.op result.answer ≡ false → self.new.to ≡ self.old.to }
         ensures outputs { self.new.outputs ≡ self.old.outputs }
         ensures turn { self.new.turn ≡ self.old.turn }
     {
-        let (event, got) = self.input.step(wires, self.load.is_none());
-        let given = read(&mut self.switch, got);
+        let (event, taken) = self.input.step(wires, self.load.is_none());
+        let given = read(&mut self.switch, taken);
         self.owe(given);
         event
     }
@@ -167,7 +174,8 @@ impl SerialVirtRx {
         ensures own { RxEnd self.old (role_of result.op) result.queue.0 }
         ensures queues { rx_queues self.new ≡ rx_queues self.old }
         ensures stepped { Stepped RxStandsFor W.did wires.old wires.new self.old self.new result }
-        ensures posted { PostedAt (outlet_posts self.old.outputs) k (is_owed_at self.old k) result (outlet_posts self.new.outputs) }
+        ensures posted { PostedAt (outlet_posts self.old.outputs) k (is_owed_at self.old k) result
+            (outlet_posts self.new.outputs) }
         ensures still { is_mark result.op result.answer ≡ false → self.new.load ≡ self.old.load }
         ensures to { self.new.to ≡ self.old.to }
         ensures input { self.new.input ≡ self.old.input }
@@ -203,7 +211,8 @@ impl SerialVirtRx {
         ensures after { RxForgot self.old self.new }
         ensures queues { rx_queues self.new ≡ rx_queues self.old }
         ensures fits { (ends : Role → ℕ → End) → FitsRx ends self.old → FitsRx ends self.new }
-        ensures lists { (passed : Passed) → RxStandsFor self.old passed → RxStandsFor self.new passed }
+        ensures lists { (passed : Passed) → RxStandsFor self.old passed
+            → RxStandsFor self.new passed }
     {
         self.input.forget();
         forget_outputs(&mut self.outputs);

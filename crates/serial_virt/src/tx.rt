@@ -1,4 +1,5 @@
-// The virtualiser that merges what the clients send.
+//! The virtualiser that merges what the clients send.
+
 ghost use Rattle.std.specs.Prelude.{◌≡◌, ◌<◌, ◌+◌, ℕ, [], None, IfOk, length, is_none, is_some, false, map};
 ghost use Rattle.wire_core.specs.Ends.{role_of, Role, End, Producer, Consumer};
 ghost use Rattle.wire_core.specs.Lists.{Passed, Stepped, nothing_passed};
@@ -12,7 +13,7 @@ ghost use Rattle.serial_virt.specs.Sending.{FitsTx, TxStandsFor, TxRow, TxBalanc
 
 use cargo_core::{Body, Item, Memory, PoolId};
 use std::alloc::Global;
-use turn_kit::{Intake, Intakes, Outlet, Turn, held};
+use turn_kit::{Intake, Intakes, Outlet, Turn, count_held};
 use wire_core::{Event, QueueId, Wires};
 
 /// Moves the clients' bytes to the driver, one at a time and in any order between clients.
@@ -71,14 +72,17 @@ impl SerialVirtTx {
     pub fn held(&self, pool: PoolId) -> u32
         ensures { result ≡ buffers_of pool (tx_hand self.now) }
     {
-        held(pool, &self.load)
+        count_held(pool, &self.load)
     }
 
     // The end that is stepped now: the output is the first, the clients follow in their order.
     fn choose(&mut self) -> usize
         ensures place { result ≡ chosen (choice_of (tx_round self.old)) }
         ensures within { result < 1 + length (intake_queues self.old.inputs) }
-        ensures after { self.new ≡ record self.old { turn = record { last = last_after (choice_of (tx_round self.old)) } } }
+        ensures after { self.new ≡ record self.old {
+          turn =
+              record { last = last_after (choice_of (tx_round self.old)) };
+        } }
     {
         let choice = self.turn.begin(1 + self.inputs.len()).offer(
             0,
@@ -98,15 +102,16 @@ impl SerialVirtTx {
         ensures own { TxEnd self.old (role_of result.op) result.queue.0 }
         ensures queues { tx_queues self.new ≡ tx_queues self.old }
         ensures stepped { Stepped TxStandsFor W.did wires.old wires.new self.old self.new result }
-        ensures posted { PostedAt (intake_posts self.old.inputs) k (is_none self.old.load) result (intake_posts self.new.inputs) }
+        ensures posted { PostedAt (intake_posts self.old.inputs) k (is_none self.old.load) result
+            (intake_posts self.new.inputs) }
         ensures still { is_mark result.op result.answer ≡ false → self.new.load ≡ self.old.load }
         ensures output { self.new.output ≡ self.old.output }
         ensures turn { self.new.turn ≡ self.old.turn }
     {
         let need = self.load.is_none();
-        let (event, got) = self.inputs.step(wires, k, need);
-        if got.is_some() {
-            self.load = got;
+        let (event, taken) = self.inputs.step(wires, k, need);
+        if taken.is_some() {
+            self.load = taken;
         }
         event
     }
@@ -118,7 +123,8 @@ impl SerialVirtTx {
         ensures own { TxEnd self.old (role_of result.op) result.queue.0 }
         ensures queues { tx_queues self.new ≡ tx_queues self.old }
         ensures stepped { Stepped TxStandsFor W.did wires.old wires.new self.old self.new result }
-        ensures posted { Posted (outlet_post self.old.output) (is_some self.old.load) result (outlet_post self.new.output) }
+        ensures posted { Posted (outlet_post self.old.output) (is_some self.old.load) result
+            (outlet_post self.new.output) }
         ensures still { is_mark result.op result.answer ≡ false → self.new.load ≡ self.old.load }
         ensures inputs { self.new.inputs ≡ self.old.inputs }
         ensures turn { self.new.turn ≡ self.old.turn }
@@ -148,7 +154,8 @@ impl SerialVirtTx {
         ensures after { TxForgot self.old self.new }
         ensures queues { tx_queues self.new ≡ tx_queues self.old }
         ensures fits { (ends : Role → ℕ → End) → FitsTx ends self.old → FitsTx ends self.new }
-        ensures lists { (passed : Passed) → TxStandsFor self.old passed → TxStandsFor self.new passed }
+        ensures lists { (passed : Passed) → TxStandsFor self.old passed
+            → TxStandsFor self.new passed }
     {
         self.output.forget();
         forget_inputs(&mut self.inputs);

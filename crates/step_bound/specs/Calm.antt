@@ -5,4 +5,5 @@ use Rattle.wire_core.specs.Journal.{Hostiles, is_calm}
 
 -- no queue has a hostile end
 abbrev pub AreCalm : Hostiles → List QueueRow → Type 0
-AreCalm hostile rows = (n : ℕ) (row : QueueRow) → slice_get rows n ≡ Some row → is_calm hostile row ≡ true
+AreCalm hostile rows =
+    (n : ℕ) (row : QueueRow) → slice_get rows n ≡ Some row → is_calm hostile row ≡ true

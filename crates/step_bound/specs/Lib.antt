@@ -1,1 +1,2 @@
+-- What the bound on steps says.
 pub mod Calm

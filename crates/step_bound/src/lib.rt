@@ -22,5 +22,11 @@ pub fn bound(hops: u64, actors: u64, ends: u64) -> u64
 /// A journal that is legal and brisk is shorter than the bound, where the bells and the queues hold before it begins: each
 /// put, drop, take and notification is a mark once, and between two marks an actor makes few calls.
 pub fn brisk_law()
-    ensures bounded { (hostile : Hostiles) (drops : Drops) (history : History) (rows : List QueueRow) (journal : List Entry) (hops actors ends : ℕ) → AreCalm hostile rows → BellsHold hostile history rows [] → QueuesFlow hostile history rows [] → LegalJournal hostile history rows journal → Brisk hostile drops journal → AreOwned rows actors → ((a : ℕ) → ends_of a rows ≤ ends) → all_sent history rows journal + dropped drops journal ≤ hops → length journal < 32 * (hops + actors + 1) * (ends + 1) }
+    ensures bounded { (hostile : Hostiles) (drops : Drops) (history : History)
+        (rows : List QueueRow) (journal : List Entry) (hops actors ends : ℕ)
+        → AreCalm hostile rows → BellsHold hostile history rows []
+        → QueuesFlow hostile history rows [] → LegalJournal hostile history rows journal
+        → Brisk hostile drops journal → AreOwned rows actors → ((a : ℕ) → ends_of a rows ≤ ends)
+        → all_sent history rows journal + dropped drops journal ≤ hops → length journal < 32 *
+        (hops + actors + 1) * (ends + 1) }
 {}

@@ -22,7 +22,7 @@ use Rattle.serial_law.specs.Serial.{SerialClass, IsSerial, ArrivesInPart, Arrive
 use Rattle.actor_set.specs.Parts.{ClientPart}
 use Rattle.system_core.specs.Kinds.{serial_part}
 use Rattle.system_core.specs.Shows.{Setting, Shown, hostile_in, moved_in}
-use Rattle.system_core.specs.Lawful.{heard_by, heard_at, IsTold}
+use Rattle.system_core.specs.Lawful.{record_by, record_at, IsTold}
 use Rattle.system_core.specs.Seats.{HasSeat}
 use Rattle.system_core.specs.Builds.{number_named, serial_class, first_serial, HasSerial}
 use Rattle.system_core.specs.PlanPlays.{ShowsInPart, ShowsWhole}
@@ -99,20 +99,20 @@ module _ (plan : Plan) (serial : Serial) (trace : Trace) (s : Shown) (h : HasSer
 
   record_is : (c : ℕ) (got : List ℕ) → slice_get s.state.serial c ≡ Some got → (slice_get class.client_rx c ≡ Some (4 + 2 * c)) × (bytes_in (went.taken (4 + 2 * c)) ≡ got)
   record_is c got at =
-      let m = map_from (heard_at s) s.setting.serial.clients c got (ap (λ rs. slice_get rs c) (sym told.serial) ∙ at) in
+      let m = map_from (record_at s) s.setting.serial.clients c got (ap (λ rs. slice_get rs c) (sym told.serial) ∙ at) in
       let client = map_from (λ (x : Client). number_named plan x.pd) serial.client c m.0 (ap (λ ns. slice_get ns c) (sym h.clients_are) ∙ m.1) in
       let lt = there_below serial.client c client.0 client.1 in
       let script = there_is trace.says c (omega (arith, lt, says)) in
       let is : slice_get s.setting.cast m.0 ≡ Some (ClientPart (4 + 2 * c) (5 + 2 * c) script.0) = subst (λ k. slice_get s.setting.cast k ≡ Some (ClientPart (4 + 2 * c) (5 + 2 * c) script.0)) client.2 (h.client c client.0 script.0 client.1 script.1) in
-      (second_there 4 clients c lt, sym (ap (λ o. option_map_or (heard_by went) o []) is) ∙ m.2)
+      (second_there 4 clients c lt, sym (ap (λ o. option_map_or (record_by went) o []) is) ∙ m.2)
 
   line_is : s.state.line ≡ Some (bytes_in (went.taken 1))
   line_is =
-      told.line ∙ (ap (option_map (heard_at s)) h.device_is ∙ ap Some (ap (λ o. option_map_or (heard_by went) o []) h.device))
+      told.line ∙ (ap (option_map (record_at s)) h.device_is ∙ ap Some (ap (λ o. option_map_or (record_by went) o []) h.device))
 
   pub shows_in_part : ArrivesInPart class went → ShowsInPart clients trace s.state
   shows_in_part a = record {
-    count_is = ap length told.serial ∙ (length-map s.setting.serial.clients (heard_at s) ∙ (ap length h.clients_are ∙ length-map serial.client (λ (x : Client). number_named plan x.pd)));
+    count_is = ap length told.serial ∙ (length-map s.setting.serial.clients (record_at s) ∙ (ap length h.clients_are ∙ length-map serial.client (λ (x : Client). number_named plan x.pd)));
     records = λ c got at.
         let r = record_is c got at in
         subst (λ n. IsPrefix got (input_of n c trace.input)) (second_length 4 clients) (subst (λ x. IsPrefix x (input_of (length class.client_rx) c trace.input)) r.1 (a.records c (4 + 2 * c) r.0));

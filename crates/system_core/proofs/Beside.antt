@@ -23,8 +23,8 @@ use Rattle.actor_set.specs.declared.actor.Actor.TheVariants as Kinds
 module _ (ends ends' : Role → ℕ → End) (kinds : (r : Role) (n : ℕ) → (ends' r n).kind ≡ (ends r n).kind) where
   fits_terminal : (t : Terminal) → ends' Consumer t.input.queue.0 ≡ ends Consumer t.input.queue.0 → ends' Producer t.output.queue.0 ≡ ends Producer t.output.queue.0 → FitsTerminal ends t → FitsTerminal ends' t
   fits_terminal t i o f = record {
-    input = subst (λ e. Agrees e t.input.kept) (sym i) f.input;
-    output = subst (λ e. Agrees e t.output.kept) (sym o) f.output;
+    input = subst (λ e. Agrees e t.input.state) (sym i) f.input;
+    output = subst (λ e. Agrees e t.output.state) (sym o) f.output;
     hears = kinds Consumer t.input.queue.0 ∙ f.hears;
     says = kinds Producer t.output.queue.0 ∙ f.says;
     next = f.next;
@@ -32,17 +32,17 @@ module _ (ends ends' : Role → ℕ → End) (kinds : (r : Role) (n : ℕ) → (
 
   fits_pipe : (p : Pipe) → ends' Consumer p.input.queue.0 ≡ ends Consumer p.input.queue.0 → ends' Producer p.output.queue.0 ≡ ends Producer p.output.queue.0 → FitsPipe ends p → FitsPipe ends' p
   fits_pipe p i o f = record {
-    input = subst (λ e. Agrees e p.input.kept) (sym i) f.input;
-    output = subst (λ e. Agrees e p.output.kept) (sym o) f.output;
+    input = subst (λ e. Agrees e p.input.state) (sym i) f.input;
+    output = subst (λ e. Agrees e p.output.state) (sym o) f.output;
     kinds = kinds Consumer p.input.queue.0 ∙ (f.kinds ∙ sym (kinds Producer p.output.queue.0));
     load = rw o f.load;
   }
 
   fits_rx : (v : SerialVirtRx) → ((r : Role) (n : ℕ) → RxEnd v r n → ends' r n ≡ ends r n) → FitsRx ends v → FitsRx ends' v
   fits_rx v same f = record {
-    input = subst (λ e. Agrees e v.input.kept) (sym (same Consumer v.input.queue.0 refl)) f.input;
+    input = subst (λ e. Agrees e v.input.state) (sym (same Consumer v.input.queue.0 refl)) f.input;
     outputs = record {
-      agrees = λ k i at. subst (λ e. Agrees e i.kept) (sym (same Producer i.queue.0 (k, i.queue, map_get (λ (o : Outlet). o.queue) v.outputs.ends.items k i at, refl))) (f.outputs.agrees k i at);
+      agrees = λ k i at. subst (λ e. Agrees e i.state) (sym (same Producer i.queue.0 (k, i.queue, map_get (λ (o : Outlet). o.queue) v.outputs.ends.items k i at, refl))) (f.outputs.agrees k i at);
       apart = f.outputs.apart;
     };
     hears = kinds Consumer v.input.queue.0 ∙ f.hears;
@@ -53,10 +53,10 @@ module _ (ends ends' : Role → ℕ → End) (kinds : (r : Role) (n : ℕ) → (
   fits_tx : (v : SerialVirtTx) → ((r : Role) (n : ℕ) → TxEnd v r n → ends' r n ≡ ends r n) → FitsTx ends v → FitsTx ends' v
   fits_tx v same f = record {
     inputs = record {
-      agrees = λ k i at. subst (λ e. Agrees e i.kept) (sym (same Consumer i.queue.0 (k, i.queue, map_get (λ (o : Intake). o.queue) v.inputs.ends.items k i at, refl))) (f.inputs.agrees k i at);
+      agrees = λ k i at. subst (λ e. Agrees e i.state) (sym (same Consumer i.queue.0 (k, i.queue, map_get (λ (o : Intake). o.queue) v.inputs.ends.items k i at, refl))) (f.inputs.agrees k i at);
       apart = f.inputs.apart;
     };
-    output = subst (λ e. Agrees e v.output.kept) (sym (same Producer v.output.queue.0 refl)) f.output;
+    output = subst (λ e. Agrees e v.output.state) (sym (same Producer v.output.queue.0 refl)) f.output;
     hears = λ k q at. kinds Consumer q.0 ∙ f.hears k q at;
     says = kinds Producer v.output.queue.0 ∙ f.says;
     load = f.load;
@@ -69,8 +69,8 @@ module _ (ends ends' : Role → ℕ → End) (kinds : (r : Role) (n : ℕ) → (
   fits_beside (Kinds.SerialVirtTx x) same f = fits_tx x same f
   fits_beside (Kinds.UartDriver x) same f = record {
     each = (
-      fits_pipe x.pipes.first (same Consumer x.pipes.first.input.queue.0 (inl refl)) (same Producer x.pipes.first.output.queue.0 (inl refl)) f.each.0,
-      (fits_pipe x.pipes.rest (same Consumer x.pipes.rest.input.queue.0 (inr (inl refl))) (same Producer x.pipes.rest.output.queue.0 (inr (inl refl))) f.each.1.0, tt),
+      fits_pipe x.driver.pipes.first (same Consumer x.driver.pipes.first.input.queue.0 (inl refl)) (same Producer x.driver.pipes.first.output.queue.0 (inl refl)) f.each.0,
+      (fits_pipe x.driver.pipes.rest (same Consumer x.driver.pipes.rest.input.queue.0 (inr (inl refl))) (same Producer x.driver.pipes.rest.output.queue.0 (inr (inl refl))) f.each.1.0, tt),
     );
     inputs = f.inputs;
     outputs = f.outputs;
@@ -79,7 +79,7 @@ module _ (ends ends' : Role → ℕ → End) (kinds : (r : Role) (n : ℕ) → (
 -- where nothing moved at an actor's ends, it stands for the same lists
 module _ (passed passed' : Passed) where
   stands_terminal : (t : Terminal) → passed'.taken t.input.queue.0 ≡ passed.taken t.input.queue.0 → passed'.sent t.output.queue.0 ≡ passed.sent t.output.queue.0 → TerminalStandsFor t passed → TerminalStandsFor t passed'
-  stands_terminal t i o f = record { sent_is = o ∙ f.sent_is; heard_is = rw i f.heard_is }
+  stands_terminal t i o f = record { sent_is = o ∙ f.sent_is; record_is = rw i f.record_is }
 
   stands_pipe : (p : Pipe) → passed'.taken p.input.queue.0 ≡ passed.taken p.input.queue.0 → passed'.sent p.output.queue.0 ≡ passed.sent p.output.queue.0 → PipeStandsFor p passed → PipeStandsFor p passed'
   stands_pipe p i o f = rw (i, o) f
@@ -100,6 +100,6 @@ module _ (passed passed' : Passed) where
   stands_beside (Kinds.SerialVirtRx x) ins outs f = stands_rx x ins outs f
   stands_beside (Kinds.SerialVirtTx x) ins outs f = stands_tx x ins outs f
   stands_beside (Kinds.UartDriver x) ins outs f = (
-    stands_pipe x.pipes.first (ins x.pipes.first.input.queue.0 (inl refl)) (outs x.pipes.first.output.queue.0 (inl refl)) f.0,
-    (stands_pipe x.pipes.rest (ins x.pipes.rest.input.queue.0 (inr (inl refl))) (outs x.pipes.rest.output.queue.0 (inr (inl refl))) f.1.0, tt),
+    stands_pipe x.driver.pipes.first (ins x.driver.pipes.first.input.queue.0 (inl refl)) (outs x.driver.pipes.first.output.queue.0 (inl refl)) f.0,
+    (stands_pipe x.driver.pipes.rest (ins x.driver.pipes.rest.input.queue.0 (inr (inl refl))) (outs x.driver.pipes.rest.output.queue.0 (inr (inl refl))) f.1.0, tt),
   )

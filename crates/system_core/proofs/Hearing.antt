@@ -13,8 +13,8 @@ use Rattle.actor_set.specs.Actors.{ActorStandsFor, part_of}
 use Rattle.actor_set.specs.declared.actor.Actor.{Actor}
 use Rattle.actor_set.specs.declared.actor.Actor.TheVariants as Kinds
 use Rattle.system_core.specs.Shows.{Shown, hostile_in}
-use Rattle.system_core.specs.States.{heard_of, heard_from}
-use Rattle.system_core.specs.Lawful.{heard_by, heard_at, IsTold, StandsLawful}
+use Rattle.system_core.specs.States.{record_of, record_from}
+use Rattle.system_core.specs.Lawful.{record_by, record_at, IsTold, StandsLawful}
 use Rattle.system_core.specs.Systems.{Holds}
 use Rattle.system_core.specs.Inside.{shown_of, setting_of, IsSystem}
 use Rattle.system_core.specs.declared.system.System.TheInside.{Inside}
@@ -22,31 +22,31 @@ use Rattle.system_core.proofs.RowsNow.{carried_in}
 
 module _ (history : History) (rows : List QueueRow) (w : List Queue) (actors : List Actor) (journal : List Entry) (h : Holds history rows w actors journal) where
   -- what an actor keeps is what the journal says of its part
-  heard_here : (x : Actor) → ActorStandsFor x h.passed → heard_of x ≡ heard_by (moved history journal) (part_of x)
-  heard_here (Kinds.UartDevice x) st = st.heard_is ∙ (carried_in (h.passed.taken x.terminal.input.queue.0) ∙ ap bytes_in (h.shows_taken x.terminal.input.queue.0))
-  heard_here (Kinds.SerialClient x) st = st.heard_is ∙ (carried_in (h.passed.taken x.terminal.input.queue.0) ∙ ap bytes_in (h.shows_taken x.terminal.input.queue.0))
+  heard_here : (x : Actor) → ActorStandsFor x h.passed → record_of x ≡ record_by (moved history journal) (part_of x)
+  heard_here (Kinds.UartDevice x) st = st.record_is ∙ (carried_in (h.passed.taken x.terminal.input.queue.0) ∙ ap bytes_in (h.shows_taken x.terminal.input.queue.0))
+  heard_here (Kinds.SerialClient x) st = st.record_is ∙ (carried_in (h.passed.taken x.terminal.input.queue.0) ∙ ap bytes_in (h.shows_taken x.terminal.input.queue.0))
   heard_here (Kinds.UartDriver x) st = refl
   heard_here (Kinds.SerialVirtRx x) st = refl
   heard_here (Kinds.SerialVirtTx x) st = refl
 
-  pub same_heard : (k : ℕ) → heard_from actors k ≡ option_map_or (heard_by (moved history journal)) (slice_get (map part_of actors) k) []
-  same_heard k = go (slice_get actors k) refl ∙ ap (λ o. option_map_or (heard_by (moved history journal)) o []) (sym (slice_get-map part_of actors k))
+  pub same_heard : (k : ℕ) → record_from actors k ≡ option_map_or (record_by (moved history journal)) (slice_get (map part_of actors) k) []
+  same_heard k = go (slice_get actors k) refl ∙ ap (λ o. option_map_or (record_by (moved history journal)) o []) (sym (slice_get-map part_of actors k))
     where
-      go : (o : Option Actor) → slice_get actors k ≡ o → option_map_or heard_of o [] ≡ option_map_or (heard_by (moved history journal)) (option_map part_of o) []
+      go : (o : Option Actor) → slice_get actors k ≡ o → option_map_or record_of o [] ≡ option_map_or (record_by (moved history journal)) (option_map part_of o) []
       go None at = refl
       go (Some x) at = heard_here x (h.stands k x at)
 
 module _ (a : Inside) (i : IsSystem a) where
-  heard : (k : ℕ) → heard_from a.actors.items k ≡ heard_at (shown_of a) k
+  heard : (k : ℕ) → record_from a.actors.items k ≡ record_at (shown_of a) k
   heard k = same_heard (setting_of a).history a.rows.items a.world a.actors.items a.journal.items i.holds k
 
   told : IsTold (shown_of a)
   told = record {
     line = line a.device;
-    serial = map_alike (heard_from a.actors.items) (heard_at (shown_of a)) a.clients.items (λ c k at. heard k);
+    serial = map_alike (record_from a.actors.items) (record_at (shown_of a)) a.clients.items (λ c k at. heard k);
   }
     where
-      line : (device : Option ℕ) → option_map (heard_from a.actors.items) device ≡ option_map (heard_at (shown_of a)) device
+      line : (device : Option ℕ) → option_map (record_from a.actors.items) device ≡ option_map (record_at (shown_of a)) device
       line None = refl
       line (Some k) = ap Some (heard k)
 

@@ -68,11 +68,11 @@ end_post (Kinds.UartDevice x) Forward n h = (0, intake_post x.terminal.input, re
 end_post (Kinds.UartDevice x) Backward n h = (1, outlet_post x.terminal.output, refl, sym h, refl)
 end_post (Kinds.SerialClient x) Forward n h = (0, intake_post x.terminal.input, refl, sym h, refl)
 end_post (Kinds.SerialClient x) Backward n h = (1, outlet_post x.terminal.output, refl, sym h, refl)
-end_post (Kinds.UartDriver x) Forward n (inl h) = (0, intake_post x.pipes.first.input, refl, sym h, refl)
-end_post (Kinds.UartDriver x) Forward n (inr (inl h)) = (2, intake_post x.pipes.rest.input, refl, sym h, refl)
+end_post (Kinds.UartDriver x) Forward n (inl h) = (0, intake_post x.driver.pipes.first.input, refl, sym h, refl)
+end_post (Kinds.UartDriver x) Forward n (inr (inl h)) = (2, intake_post x.driver.pipes.rest.input, refl, sym h, refl)
 end_post (Kinds.UartDriver x) Forward n (inr (inr h)) = absurd h
-end_post (Kinds.UartDriver x) Backward n (inl h) = (1, outlet_post x.pipes.first.output, refl, sym h, refl)
-end_post (Kinds.UartDriver x) Backward n (inr (inl h)) = (3, outlet_post x.pipes.rest.output, refl, sym h, refl)
+end_post (Kinds.UartDriver x) Backward n (inl h) = (1, outlet_post x.driver.pipes.first.output, refl, sym h, refl)
+end_post (Kinds.UartDriver x) Backward n (inr (inl h)) = (3, outlet_post x.driver.pipes.rest.output, refl, sym h, refl)
 end_post (Kinds.UartDriver x) Backward n (inr (inr h)) = absurd h
 end_post (Kinds.SerialVirtRx x) Forward n h = (0, intake_post x.input, refl, sym h, refl)
 end_post (Kinds.SerialVirtRx x) Backward n h = let m = map_from (λ (o : Outlet). o.queue) x.outputs.ends.items h.0 h.1 h.2 in (suc h.0, outlet_post m.0, map_get outlet_post x.outputs.ends.items h.0 m.0 m.1, ap (λ (q : QueueId). q.0) m.2 ∙ sym h.3, refl)
@@ -142,7 +142,7 @@ four_apart a b c d ab ac ad bc bd cd k j p q pk qj e = go k j pk qj
 apart_posts : (x : Actor) → HasApartEnds x → ((n : ℕ) → ActorEnd x Consumer n → ActorEnd x Producer n → ⊥) → Apart x
 apart_posts (Kinds.UartDevice x) h d k j p q a b e = terminal_apart x.terminal (λ e. d x.terminal.input.queue.0 refl e) k j p q a b e
 apart_posts (Kinds.SerialClient x) h d k j p q a b e = terminal_apart x.terminal (λ e. d x.terminal.input.queue.0 refl e) k j p q a b e
-apart_posts (Kinds.UartDriver x) h d k j p q a b e = four_apart (intake_post x.pipes.first.input) (outlet_post x.pipes.first.output) (intake_post x.pipes.rest.input) (outlet_post x.pipes.rest.output) (λ e. d x.pipes.first.input.queue.0 (inl refl) (inl e)) h.0 (λ e. d x.pipes.first.input.queue.0 (inl refl) (inr (inl e))) (λ e. d x.pipes.rest.input.queue.0 (inr (inl refl)) (inl (sym e))) h.1 (λ e. d x.pipes.rest.input.queue.0 (inr (inl refl)) (inr (inl e))) k j p q a b e
+apart_posts (Kinds.UartDriver x) h d k j p q a b e = four_apart (intake_post x.driver.pipes.first.input) (outlet_post x.driver.pipes.first.output) (intake_post x.driver.pipes.rest.input) (outlet_post x.driver.pipes.rest.output) (λ e. d x.driver.pipes.first.input.queue.0 (inl refl) (inl e)) h.0 (λ e. d x.driver.pipes.first.input.queue.0 (inl refl) (inr (inl e))) (λ e. d x.driver.pipes.rest.input.queue.0 (inr (inl refl)) (inl (sym e))) h.1 (λ e. d x.driver.pipes.rest.input.queue.0 (inr (inl refl)) (inr (inl e))) k j p q a b e
 apart_posts (Kinds.SerialVirtRx x) h d zero zero p q a b e = refl
 apart_posts (Kinds.SerialVirtRx x) h d zero (suc j) p q a b e =
     let m = post_end (Kinds.SerialVirtRx x) (suc j) q b in

@@ -101,7 +101,7 @@ module _ (scene : Scene) (history : History) (rows : List QueueRow) (w : List Qu
   actor_row (Kinds.SerialClient x) f = terminal_row x.terminal f
   actor_row (Kinds.SerialVirtRx x) f = rx_row x f
   actor_row (Kinds.SerialVirtTx x) f = tx_row x f
-  actor_row (Kinds.UartDriver x) f = (pipe_row x.pipes.first f.0, pipe_row x.pipes.rest f.1.0)
+  actor_row (Kinds.UartDriver x) f = (pipe_row x.driver.pipes.first f.0, pipe_row x.driver.pipes.rest f.1.0)
 
   -- each actor's row holds now
   pub rows_now : (hostile : Hostiles) → RowsHold (sheet scene) hostile (map part_of actors) (moved history journal)

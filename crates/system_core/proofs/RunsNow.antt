@@ -16,7 +16,7 @@ use Rattle.wire_core.proofs.Moving.{there_if_owned}
 use Rattle.wire_core.proofs.Tracks.{shown_calls}
 use Rattle.turn_kit.specs.Table.{Agrees, is_settled}
 use Rattle.turn_kit.specs.Turns.{Post, settled_all, is_at_rest}
-use Rattle.turn_kit.specs.declared.kept.Kept.{Kept}
+use Rattle.turn_kit.specs.declared.end_state.EndState.{EndState}
 use Rattle.turn_kit.specs.Pipes.{PipeStandsFor}
 use Rattle.turn_kit.specs.declared.pipe.Pipe.{Pipe}
 use Rattle.serial_terminal.specs.Terminals.{FitsTerminal, TerminalStandsFor}
@@ -60,8 +60,8 @@ both e f = cc
 pub either : {a b c d : Bool} → a ≡ b → c ≡ d → (a || c) ≡ (b || d)
 either e f = cc
 
-kept_settled : (e : End) (k : Kept) (need : Bool) → Agrees e k → is_settled k need ≡ end_settled e.waiter e.ringer need
-kept_settled e k need a = rw (a.ringer, a.waiter) refl
+state_settled : (e : End) (k : EndState) (need : Bool) → Agrees e k → is_settled k need ≡ end_settled e.waiter e.ringer need
+state_settled e k need a = rw (a.ringer, a.waiter) refl
 
 same_settled : (mine : Bool) (k : QueueKind) (b : Bells) (r : Role) (need : Bool) → end_settled (end_of mine k b r).waiter (end_of mine k b r).ringer need ≡ bells_settled b r need
 same_settled mine k b Consumer need = refl
@@ -78,7 +78,7 @@ none_is (Some c) = refl
 -- an actor's end as it keeps it, and what it needs there, as a part has it
 pub record Met (ends : Role → ℕ → End) (p : Post) (need : Bool) (w : Want) : Type 0 where
   pub needs : need ≡ w.need
-  pub agrees : Agrees (ends w.role w.queue) p.kept
+  pub agrees : Agrees (ends w.role w.queue) p.state
 
 abbrev pub Meet : (Role → ℕ → End) → List Post → List Bool → List Want → Type 0
 Meet ends [] [] [] = Unit {0}
@@ -102,7 +102,7 @@ held_is (Some c) n m e = sym (lt-ltb n m (omega (arith, e)))
 index_moves : (c k : ℕ) → c + suc k ≡ (c + 1) + k
 index_moves c k = omega arith
 
-shares_meet : (ends : Role → ℕ → End) (place : Option ℕ) (all : ℕ) (bytes : List ℕ) (c : ℕ) (os : List Outlet) (history : History) (journal : List Entry) → ((k : ℕ) (o : Outlet) → slice_get os k ≡ Some o → Agrees (ends Producer o.queue.0) o.kept) → ((k : ℕ) (q : QueueId) → slice_get (map (λ (o : Outlet). o.queue) os) k ≡ Some q → is_here place (c + k) ≡ is_owed (sent history q.0 journal) (input_of all (c + k) bytes)) → Meet ends (map outlet_post os) (needs_from (is_here place) c (map (λ (o : Outlet). o.queue) os)) (shares all bytes c (numbers (map (λ (o : Outlet). o.queue) os)) (moved history journal))
+shares_meet : (ends : Role → ℕ → End) (place : Option ℕ) (all : ℕ) (bytes : List ℕ) (c : ℕ) (os : List Outlet) (history : History) (journal : List Entry) → ((k : ℕ) (o : Outlet) → slice_get os k ≡ Some o → Agrees (ends Producer o.queue.0) o.state) → ((k : ℕ) (q : QueueId) → slice_get (map (λ (o : Outlet). o.queue) os) k ≡ Some q → is_here place (c + k) ≡ is_owed (sent history q.0 journal) (input_of all (c + k) bytes)) → Meet ends (map outlet_post os) (needs_from (is_here place) c (map (λ (o : Outlet). o.queue) os)) (shares all bytes c (numbers (map (λ (o : Outlet). o.queue) os)) (moved history journal))
 shares_meet ends place all bytes c [] history journal agrees owed = tt
 shares_meet ends place all bytes c (o ∷ os) history journal agrees owed =
     let z : c + 0 ≡ c = omega arith in (
@@ -134,7 +134,7 @@ owed_some : (to : ℕ) (load : Option Cargo) (all : ℕ) (bytes : List ℕ) (c :
 owed_some to None all bytes c qs history journal there owed = nobody_owed all bytes c qs history journal owed
 owed_some to (Some x) all bytes c qs history journal there owed = let t = there refl in one_owed to all bytes c qs history journal t.0 t.1 owed (eqb_tells to c)
 
-inputs_meet : (ends : Role → ℕ → End) (need need' : Bool) (c : ℕ) (is : List Intake) → need ≡ need' → ((k : ℕ) (i : Intake) → slice_get is k ≡ Some i → Agrees (ends Consumer i.queue.0) i.kept) → Meet ends (map intake_post is) (needs_from (λ place. need) c (map (λ (i : Intake). i.queue) is)) (map (λ q. intake_want q need') (numbers (map (λ (i : Intake). i.queue) is)))
+inputs_meet : (ends : Role → ℕ → End) (need need' : Bool) (c : ℕ) (is : List Intake) → need ≡ need' → ((k : ℕ) (i : Intake) → slice_get is k ≡ Some i → Agrees (ends Consumer i.queue.0) i.state) → Meet ends (map intake_post is) (needs_from (λ place. need) c (map (λ (i : Intake). i.queue) is)) (map (λ q. intake_want q need') (numbers (map (λ (i : Intake). i.queue) is)))
 inputs_meet ends need need' c [] same agrees = tt
 inputs_meet ends need need' c (i ∷ is) same agrees = (record { needs = same; agrees = agrees 0 i refl }, inputs_meet ends need need' (c + 1) is same (λ k x at. agrees (suc k) x at))
 
@@ -154,10 +154,10 @@ module _ (scene : Scene) (history : History) (rows : List QueueRow) (w : List Qu
   bells_here : (n : ℕ) (r : Role) → (end_at w r n).owned ≡ true → (queue_at w n).bells ≡ (track history n journal).bells
   bells_here n r owned = (h.queues n (get_or rows n no_row) (slice_get-get_or rows n no_row (subst (λ m. n < m) h.size (there_if_owned w r n owned)))).bells
 
-  settled_here : (p : Post) (need : Bool) (x : Want) → Met (end_at w) p need x → is_settled p.kept need ≡ want_settled history journal x
+  settled_here : (p : Post) (need : Bool) (x : Want) → Met (end_at w) p need x → is_settled p.state need ≡ want_settled history journal x
   settled_here p need x m =
-      ap (is_settled p.kept) m.needs
-      ∙ (kept_settled (end_at w x.role x.queue) p.kept x.need m.agrees
+      ap (is_settled p.state) m.needs
+      ∙ (state_settled (end_at w x.role x.queue) p.state x.need m.agrees
       ∙ (same_settled (nat_lt x.queue (length w)) (queue_at w x.queue).kind (queue_at w x.queue).bells x.role x.need
       ∙ ap (λ b. bells_settled b x.role x.need) (bells_here x.queue x.role m.agrees.owned)))
 
@@ -219,12 +219,12 @@ module _ (scene : Scene) (history : History) (rows : List QueueRow) (w : List Qu
   meets (Kinds.SerialVirtRx x) f st = rx_meets x f st
   meets (Kinds.SerialVirtTx x) f st = tx_meets x f st
   meets (Kinds.UartDriver x) f st = (
-    record { needs = free x.pipes.first st.0; agrees = f.each.0.input },
+    record { needs = free x.driver.pipes.first st.0; agrees = f.each.0.input },
     (
-      record { needs = loaded x.pipes.first st.0; agrees = f.each.0.output },
+      record { needs = loaded x.driver.pipes.first st.0; agrees = f.each.0.output },
       (
-        record { needs = free x.pipes.rest st.1.0; agrees = f.each.1.0.input },
-        (record { needs = loaded x.pipes.rest st.1.0; agrees = f.each.1.0.output }, tt),
+        record { needs = free x.driver.pipes.rest st.1.0; agrees = f.each.1.0.input },
+        (record { needs = loaded x.driver.pipes.rest st.1.0; agrees = f.each.1.0.output }, tt),
       ),
     ),
   )

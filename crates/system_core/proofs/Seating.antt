@@ -14,8 +14,8 @@ use Rattle.wire_core.specs.Ends.{Role, Consumer, Producer, End}
 use Rattle.wire_core.specs.Lists.{nothing_passed}
 use Rattle.wire_core.specs.Queues.{starts, start_queue, start_bells, queue_at, end_at, end_of}
 use Rattle.wire_core.specs.Journal.{owner_of}
-use Rattle.turn_kit.specs.Table.{Agrees, start_kept}
-use Rattle.turn_kit.specs.declared.kept.Kept.{Kept}
+use Rattle.turn_kit.specs.Table.{Agrees, start_state}
+use Rattle.turn_kit.specs.declared.end_state.EndState.{EndState}
 use Rattle.turn_kit.specs.declared.ends.Intake.{Intake}
 use Rattle.turn_kit.specs.declared.ends.Outlet.{Outlet}
 use Rattle.turn_kit.specs.ManyEnds.{intake_queues, outlet_queues}
@@ -65,11 +65,11 @@ module _ (rows : List QueueRow) (k : ℕ) where
       ∙ (ap (λ q. end_of true q.kind q.bells r) (queue_starts rows n s.row s.there)
       ∙ (ap (λ x. end_of true x start_bells r) s.kind ∙ end_is r))
 
-  consumer_agrees : (n : ℕ) (kept : Kept) → HasSeat rows k Consumer n → kept ≡ start_kept Forward → Agrees (ends Consumer n) kept
-  consumer_agrees n kept s e = subst (λ x. Agrees x kept) (sym (seat_end Consumer n s)) (subst (Agrees (start_end Consumer)) (sym e) (record { owned = refl; waiter = refl; ringer = refl; looked = λ h. cc }))
+  consumer_agrees : (n : ℕ) (state : EndState) → HasSeat rows k Consumer n → state ≡ start_state Forward → Agrees (ends Consumer n) state
+  consumer_agrees n state s e = subst (λ x. Agrees x state) (sym (seat_end Consumer n s)) (subst (Agrees (start_end Consumer)) (sym e) (record { owned = refl; waiter = refl; ringer = refl; looked = λ h. cc }))
 
-  producer_agrees : (n : ℕ) (kept : Kept) → HasSeat rows k Producer n → kept ≡ start_kept Backward → Agrees (ends Producer n) kept
-  producer_agrees n kept s e = subst (λ x. Agrees x kept) (sym (seat_end Producer n s)) (subst (Agrees (start_end Producer)) (sym e) (record { owned = refl; waiter = refl; ringer = refl; looked = λ h. cc }))
+  producer_agrees : (n : ℕ) (state : EndState) → HasSeat rows k Producer n → state ≡ start_state Backward → Agrees (ends Producer n) state
+  producer_agrees n state s e = subst (λ x. Agrees x state) (sym (seat_end Producer n s)) (subst (Agrees (start_end Producer)) (sym e) (record { owned = refl; waiter = refl; ringer = refl; looked = λ h. cc }))
 
   consumer_kind : (n : ℕ) → HasSeat rows k Consumer n → (ends Consumer n).kind ≡ Kind.Byte
   consumer_kind n s = ap (λ x. x.kind) (seat_end Consumer n s)
@@ -79,8 +79,8 @@ module _ (rows : List QueueRow) (k : ℕ) where
 
   terminal_fits : (t : Terminal) → IsNewTerminal t.input.queue t.output.queue t.script t → HasSeat rows k Consumer t.input.queue.0 → HasSeat rows k Producer t.output.queue.0 → FitsTerminal ends t
   terminal_fits t new i o = record {
-    input = consumer_agrees t.input.queue.0 t.input.kept i new.input_kept;
-    output = producer_agrees t.output.queue.0 t.output.kept o new.output_kept;
+    input = consumer_agrees t.input.queue.0 t.input.state i new.input_state;
+    output = producer_agrees t.output.queue.0 t.output.state o new.output_state;
     hears = consumer_kind t.input.queue.0 i;
     says = producer_kind t.output.queue.0 o;
     next = rw new.next (omega arith);
@@ -88,17 +88,17 @@ module _ (rows : List QueueRow) (k : ℕ) where
 
   pipe_fits : (p : Pipe) → IsNewPipe p.input.queue p.output.queue p → HasSeat rows k Consumer p.input.queue.0 → HasSeat rows k Producer p.output.queue.0 → FitsPipe ends p
   pipe_fits p new i o = record {
-    input = consumer_agrees p.input.queue.0 p.input.kept i new.input_kept;
-    output = producer_agrees p.output.queue.0 p.output.kept o new.output_kept;
+    input = consumer_agrees p.input.queue.0 p.input.state i new.input_state;
+    output = producer_agrees p.output.queue.0 p.output.state o new.output_state;
     kinds = consumer_kind p.input.queue.0 i ∙ sym (producer_kind p.output.queue.0 o);
     load = λ c h. let no : None ≡ Some c = sym new.load ∙ h in cc;
   }
 
   rx_fits : (v : SerialVirtRx) → IsNewRx v.input.queue (outlet_queues v.outputs) v → HasApartEnds (Kinds.SerialVirtRx v) → ((r : Role) (n : ℕ) → ActorEnd (Kinds.SerialVirtRx v) r n → HasSeat rows k r n) → FitsRx ends v
   rx_fits v new apart seats = record {
-    input = consumer_agrees v.input.queue.0 v.input.kept (seats Consumer v.input.queue.0 refl) new.input_kept;
+    input = consumer_agrees v.input.queue.0 v.input.state (seats Consumer v.input.queue.0 refl) new.input_state;
     outputs = record {
-      agrees = λ j i at. producer_agrees i.queue.0 i.kept (seats Producer i.queue.0 (j, i.queue, map_get (λ (o : Outlet). o.queue) v.outputs.ends.items j i at, refl)) (let m = map_from new_outlet (outlet_queues v.outputs) j i (sym (ap (λ os. slice_get os j) new.outputs) ∙ at) in ap (λ (o : Outlet). o.kept) (sym m.2));
+      agrees = λ j i at. producer_agrees i.queue.0 i.state (seats Producer i.queue.0 (j, i.queue, map_get (λ (o : Outlet). o.queue) v.outputs.ends.items j i at, refl)) (let m = map_from new_outlet (outlet_queues v.outputs) j i (sym (ap (λ os. slice_get os j) new.outputs) ∙ at) in ap (λ (o : Outlet). o.state) (sym m.2));
       apart = apart;
     };
     hears = consumer_kind v.input.queue.0 (seats Consumer v.input.queue.0 refl);
@@ -109,10 +109,10 @@ module _ (rows : List QueueRow) (k : ℕ) where
   tx_fits : (v : SerialVirtTx) → IsNewTx v.output.queue (intake_queues v.inputs) v → HasApartEnds (Kinds.SerialVirtTx v) → ((r : Role) (n : ℕ) → ActorEnd (Kinds.SerialVirtTx v) r n → HasSeat rows k r n) → FitsTx ends v
   tx_fits v new apart seats = record {
     inputs = record {
-      agrees = λ j i at. consumer_agrees i.queue.0 i.kept (seats Consumer i.queue.0 (j, i.queue, map_get (λ (o : Intake). o.queue) v.inputs.ends.items j i at, refl)) (let m = map_from new_intake (intake_queues v.inputs) j i (sym (ap (λ os. slice_get os j) new.inputs) ∙ at) in ap (λ (o : Intake). o.kept) (sym m.2));
+      agrees = λ j i at. consumer_agrees i.queue.0 i.state (seats Consumer i.queue.0 (j, i.queue, map_get (λ (o : Intake). o.queue) v.inputs.ends.items j i at, refl)) (let m = map_from new_intake (intake_queues v.inputs) j i (sym (ap (λ os. slice_get os j) new.inputs) ∙ at) in ap (λ (o : Intake). o.state) (sym m.2));
       apart = apart;
     };
-    output = producer_agrees v.output.queue.0 v.output.kept (seats Producer v.output.queue.0 refl) new.output_kept;
+    output = producer_agrees v.output.queue.0 v.output.state (seats Producer v.output.queue.0 refl) new.output_state;
     hears = λ j q at. consumer_kind q.0 (seats Consumer q.0 (j, q, at, refl));
     says = producer_kind v.output.queue.0 (seats Producer v.output.queue.0 refl);
     load = λ c h. let no : None ≡ Some c = sym new.load ∙ h in cc;
@@ -124,8 +124,8 @@ module _ (rows : List QueueRow) (k : ℕ) where
   new_fits (Kinds.SerialClient x) new apart seats = terminal_fits x.terminal new (seats Consumer x.terminal.input.queue.0 refl) (seats Producer x.terminal.output.queue.0 refl)
   new_fits (Kinds.UartDriver x) new apart seats = record {
     each = (
-      pipe_fits x.pipes.first new.0 (seats Consumer x.pipes.first.input.queue.0 (inl refl)) (seats Producer x.pipes.first.output.queue.0 (inl refl)),
-      (pipe_fits x.pipes.rest new.1 (seats Consumer x.pipes.rest.input.queue.0 (inr (inl refl))) (seats Producer x.pipes.rest.output.queue.0 (inr (inl refl))), tt),
+      pipe_fits x.driver.pipes.first new.0 (seats Consumer x.driver.pipes.first.input.queue.0 (inl refl)) (seats Producer x.driver.pipes.first.output.queue.0 (inl refl)),
+      (pipe_fits x.driver.pipes.rest new.1 (seats Consumer x.driver.pipes.rest.input.queue.0 (inr (inl refl))) (seats Producer x.driver.pipes.rest.output.queue.0 (inr (inl refl))), tt),
     );
     inputs = ((apart.0, tt), (tt, tt));
     outputs = ((apart.1, tt), (tt, tt));
@@ -134,7 +134,7 @@ module _ (rows : List QueueRow) (k : ℕ) where
   new_fits (Kinds.SerialVirtTx x) new apart seats = tx_fits x new apart seats
 
 terminal_stands : (t : Terminal) → IsNewTerminal t.input.queue t.output.queue t.script t → TerminalStandsFor t nothing_passed
-terminal_stands t new = record { sent_is = rw new.next refl; heard_is = new.heard }
+terminal_stands t new = record { sent_is = rw new.next refl; record_is = new.recorded }
 
 pipe_stands : (p : Pipe) → IsNewPipe p.input.queue p.output.queue p → PipeStandsFor p nothing_passed
 pipe_stands p new = ap option_to_list (sym new.load)
@@ -151,7 +151,7 @@ none_taken (q ∷ qs) (suc k) l h = none_taken qs k l h
 new_stands : (x : Actor) → IsNew x → ActorStandsFor x nothing_passed
 new_stands (Kinds.UartDevice x) new = terminal_stands x.terminal new
 new_stands (Kinds.SerialClient x) new = terminal_stands x.terminal new
-new_stands (Kinds.UartDriver x) new = (pipe_stands x.pipes.first new.0, (pipe_stands x.pipes.rest new.1, tt))
+new_stands (Kinds.UartDriver x) new = (pipe_stands x.driver.pipes.first new.0, (pipe_stands x.driver.pipes.rest new.1, tt))
 new_stands (Kinds.SerialVirtRx x) new = record {
   switched = new.switched;
   to = λ some. let no : true ≡ false = sym some ∙ ap is_some new.load in cc;

@@ -36,22 +36,22 @@ pub record IsLawful (s : Setting) (journal : List Entry) : Type 0 where
   pub rows_hold : EachMoment (RowsStand s) journal
   pub brisk : Brisk (hostile_in s) no_drops journal
 
--- the bytes that a part heard: a device on its line and a client for its record what they took
-abbrev pub heard_by : Moved → Part → List ℕ
-heard_by m (UartPart rx tx input) = bytes_in (m.taken tx)
-heard_by m (ClientPart rx tx script) = bytes_in (m.taken rx)
-heard_by m (DriverPart device_rx device_tx rx tx) = []
-heard_by m (RxPart rx clients) = []
-heard_by m (TxPart tx clients) = []
+-- the bytes that a part recorded: a device for its line and a client for its record what they took
+abbrev pub record_by : Moved → Part → List ℕ
+record_by m (UartPart rx tx input) = bytes_in (m.taken tx)
+record_by m (ClientPart rx tx script) = bytes_in (m.taken rx)
+record_by m (DriverPart device_rx device_tx rx tx) = []
+record_by m (RxPart rx clients) = []
+record_by m (TxPart tx clients) = []
 
--- the bytes that the actor at a place heard
-abbrev pub heard_at : Shown → ℕ → List ℕ
-heard_at s k = option_map_or (heard_by (moved_in s.setting s.journal)) (slice_get s.setting.cast k) []
+-- the bytes that the actor at a place recorded
+abbrev pub record_at : Shown → ℕ → List ℕ
+record_at s k = option_map_or (record_by (moved_in s.setting s.journal)) (slice_get s.setting.cast k) []
 
 -- line and records are what the journal says that device and clients took
 pub record IsTold (s : Shown) : Type 0 where
-  pub line : s.state.line ≡ option_map (heard_at s) s.setting.serial.device
-  pub serial : s.state.serial ≡ map (heard_at s) s.setting.serial.clients
+  pub line : s.state.line ≡ option_map (record_at s) s.setting.serial.device
+  pub serial : s.state.serial ≡ map (record_at s) s.setting.serial.clients
 
 -- all that holds of every system
 pub record StandsLawful (s : Shown) : Type 0 where

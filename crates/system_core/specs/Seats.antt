@@ -17,7 +17,7 @@ use Rattle.actor_set.specs.declared.actor.Actor.TheVariants as Kinds
 abbrev pub IsNew : Actor → Type 0
 IsNew (Kinds.UartDevice x) = IsNewTerminal x.terminal.input.queue x.terminal.output.queue x.terminal.script x.terminal
 IsNew (Kinds.SerialClient x) = IsNewTerminal x.terminal.input.queue x.terminal.output.queue x.terminal.script x.terminal
-IsNew (Kinds.UartDriver x) = IsNewPipe x.pipes.first.input.queue x.pipes.first.output.queue x.pipes.first × IsNewPipe x.pipes.rest.input.queue x.pipes.rest.output.queue x.pipes.rest
+IsNew (Kinds.UartDriver x) = IsNewPipe x.driver.pipes.first.input.queue x.driver.pipes.first.output.queue x.driver.pipes.first × IsNewPipe x.driver.pipes.rest.input.queue x.driver.pipes.rest.output.queue x.driver.pipes.rest
 IsNew (Kinds.SerialVirtRx x) = IsNewRx x.input.queue (outlet_queues x.outputs) x
 IsNew (Kinds.SerialVirtTx x) = IsNewTx x.output.queue (intake_queues x.inputs) x
 
@@ -25,7 +25,7 @@ IsNew (Kinds.SerialVirtTx x) = IsNewTx x.output.queue (intake_queues x.inputs) x
 abbrev pub HasApartEnds : Actor → Type 0
 HasApartEnds (Kinds.UartDevice x) = Unit {0}
 HasApartEnds (Kinds.SerialClient x) = Unit {0}
-HasApartEnds (Kinds.UartDriver x) = (x.pipes.first.input.queue.0 ≡ x.pipes.rest.input.queue.0 → ⊥) × (x.pipes.first.output.queue.0 ≡ x.pipes.rest.output.queue.0 → ⊥)
+HasApartEnds (Kinds.UartDriver x) = (x.driver.pipes.first.input.queue.0 ≡ x.driver.pipes.rest.input.queue.0 → ⊥) × (x.driver.pipes.first.output.queue.0 ≡ x.driver.pipes.rest.output.queue.0 → ⊥)
 HasApartEnds (Kinds.SerialVirtRx x) = AreApart (outlet_queues x.outputs)
 HasApartEnds (Kinds.SerialVirtTx x) = AreApart (intake_queues x.inputs)
 

@@ -8,21 +8,21 @@ use Rattle.actor_set.specs.declared.actor.Actor.{Actor}
 use Rattle.actor_set.specs.declared.actor.Actor.TheVariants as Kinds
 use Rattle.system_core.specs.Shows.{Crew, Setting, State, Shown}
 
--- what an actor keeps of what it sent on a line, or recorded
-abbrev pub heard_of : Actor → List ℕ
-heard_of (Kinds.UartDevice x) = x.terminal.heard.shown
-heard_of (Kinds.SerialClient x) = x.terminal.heard.shown
-heard_of (Kinds.UartDriver x) = []
-heard_of (Kinds.SerialVirtRx x) = []
-heard_of (Kinds.SerialVirtTx x) = []
+-- what an actor recorded: a device what was sent on its line, a client what it got
+abbrev pub record_of : Actor → List ℕ
+record_of (Kinds.UartDevice x) = x.terminal.recorded.shown
+record_of (Kinds.SerialClient x) = x.terminal.recorded.shown
+record_of (Kinds.UartDriver x) = []
+record_of (Kinds.SerialVirtRx x) = []
+record_of (Kinds.SerialVirtTx x) = []
 
--- what the actor at a place keeps of it
-abbrev pub heard_from : List Actor → ℕ → List ℕ
-heard_from actors k = option_map_or heard_of (slice_get actors k) []
+-- what the actor at a place recorded
+abbrev pub record_from : List Actor → ℕ → List ℕ
+record_from actors k = option_map_or record_of (slice_get actors k) []
 
 -- what is seen of actors: there are no pages, and none of them counts what is bad
 abbrev pub state_of : List Actor → Crew → State
-state_of actors serial = record { wire = None; net = []; line = option_map (heard_from actors) serial.device; serial = map (heard_from actors) serial.clients; blk = []; pools = []; bad = 0 }
+state_of actors serial = record { wire = None; net = []; line = option_map (record_from actors) serial.device; serial = map (record_from actors) serial.clients; blk = []; pools = []; bad = 0 }
 
 -- these queues and these actors, of which nothing happened before the journal begins
 abbrev pub begun : List QueueRow → List Actor → Crew → Setting

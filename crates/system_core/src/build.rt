@@ -12,7 +12,7 @@ use device_model::UartDevice;
 use serial_virt::{SerialVirtRx, SerialVirtTx};
 use std::alloc::Global;
 use trace_text::Trace;
-use uart_driver::make_driver;
+use uart_driver::UartDriver;
 use wire_core::{QueueId, QueueRow};
 
 /// What an actor is in the serial class.
@@ -132,7 +132,7 @@ fn actor(alloc: Global, job: Job, clients: u16, trace: &Trace) -> Result<Actor, 
             let input = Bytes::from_slice(alloc, trace.input())?;
             Ok(Actor::UartDevice(UartDevice::new(alloc, QueueId(0), QueueId(1), input)))
         }
-        Job::Driver => Ok(Actor::UartDriver(make_driver(
+        Job::Driver => Ok(Actor::UartDriver(UartDriver::new(
             QueueId(0),
             QueueId(1),
             QueueId(2),

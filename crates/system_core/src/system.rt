@@ -10,7 +10,7 @@ ghost use Rattle.region_layout.specs.Layouts.{layout_of};
 ghost use Rattle.sdf_check.specs.Valid.{Valid};
 ghost use Rattle.system_core.specs.Kinds.{manner_of, idles};
 ghost use Rattle.system_core.specs.Shows.{runs};
-ghost use Rattle.system_core.specs.States.{heard_of, heard_from, begun, crew_of, started};
+ghost use Rattle.system_core.specs.States.{record_of, record_from, begun, crew_of, started};
 ghost use Rattle.system_core.specs.Starts.{AreStarting};
 ghost use Rattle.system_core.specs.Seats.{AreSeated};
 ghost use Rattle.system_core.specs.Lawful.{StandsLawful};
@@ -135,8 +135,8 @@ fn first_running(
 }
 
 // What an actor sent on its line, or recorded.
-fn heard_of(actor: &Actor) -> &[u8]
-    ensures { result.now ≡ heard_of actor.now }
+fn record_of(actor: &Actor) -> &[u8]
+    ensures { result.now ≡ record_of actor.now }
 {
     match actor {
         Actor::UartDevice(device) => device.line(),
@@ -146,32 +146,32 @@ fn heard_of(actor: &Actor) -> &[u8]
 }
 
 // What the actor at a place sent on its line, or recorded.
-fn heard_from(actors: &[Actor], place: u16) -> &[u8]
-    ensures { result.now ≡ heard_from actors.now place }
+fn record_from(actors: &[Actor], place: u16) -> &[u8]
+    ensures { result.now ≡ record_from actors.now place }
 {
     match actors.get(place as usize) {
-        Some(actor) => heard_of(actor),
+        Some(actor) => record_of(actor),
         None => &[],
     }
 }
 
 // What was sent on the line of a device.
 fn line(alloc: Global, actors: &[Actor], device: Option<u16>) -> Result<Option<Bytes>, Memory>
-    ensures { IfOk result (λ l. l ≡ option_map (heard_from actors.now) device) }
+    ensures { IfOk result (λ l. l ≡ option_map (record_from actors.now) device) }
 {
     match device {
-        Some(place) => Ok(Some(Bytes::from_slice(alloc, heard_from(actors, place))?)),
+        Some(place) => Ok(Some(Bytes::from_slice(alloc, record_from(actors, place))?)),
         None => Ok(None),
     }
 }
 
 // What each of these actors recorded.
 fn records(alloc: Global, actors: &[Actor], clients: &[u16]) -> Result<Series<Bytes>, Memory>
-    ensures { IfOk result (λ rs. rs ≡ map (heard_from actors.now) clients.now) }
+    ensures { IfOk result (λ rs. rs ≡ map (record_from actors.now) clients.now) }
 {
     let mut records = Series::new(alloc);
     for client in clients {
-        records.push(Bytes::from_slice(alloc, heard_from(actors, *client))?)?;
+        records.push(Bytes::from_slice(alloc, record_from(actors, *client))?)?;
     }
     Ok(records)
 }

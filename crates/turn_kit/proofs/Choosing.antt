@@ -14,7 +14,7 @@ best t acc place (p ∷ ps) [] = acc
 best t acc place (p ∷ ps) (n ∷ ns) = best t (lower_if (t p n) acc (record { queue = p.queue; place = place })) (place + 1) ps ns
 
 abbrev pub is_loose : Post → Bool → Bool
-is_loose p n = not (is_settled p.kept n)
+is_loose p n = not (is_settled p.state n)
 
 abbrev pub is_late : ℕ → Post → Bool → Bool
 is_late last p n = nat_lt last p.queue
@@ -25,7 +25,7 @@ is_any p n = true
 pub offered_best : (c : Choosing) (place : ℕ) (ps : List Post) (ns : List Bool) → offered_from c place ps ns ≡ record { count = c.count; last = c.last; unsettled = best is_loose c.unsettled place ps ns; after = best (is_late c.last) c.after place ps ns; first = best is_any c.first place ps ns }
 offered_best c place [] ns = refl
 offered_best c place (p ∷ ps) [] = refl
-offered_best c place (p ∷ ps) (n ∷ ns) = offered_best (offered c (record { queue = p.queue; place = place }) (is_settled p.kept n)) (place + 1) ps ns
+offered_best c place (p ∷ ps) (n ∷ ns) = offered_best (offered c (record { queue = p.queue; place = place }) (is_settled p.state n)) (place + 1) ps ns
 
 -- one of the two is lower than both
 pub record Lower (x y z : Stand) : Type 0 where
@@ -133,7 +133,7 @@ found t acc place (p ∷ ps) (n ∷ ns) s h = one_more t (t p n) acc place p n p
 pub rest_none : (place : ℕ) (ps : List Post) (ns : List Bool) → settled_all ps ns ≡ true → best is_loose None place ps ns ≡ None
 rest_none place [] ns h = refl
 rest_none place (p ∷ ps) [] h = refl
-rest_none place (p ∷ ps) (n ∷ ns) h = go (rest_none (place + 1) ps ns) (is_settled p.kept n) h
+rest_none place (p ∷ ps) (n ∷ ns) h = go (rest_none (place + 1) ps ns) (is_settled p.state n) h
   where
     go : (settled_all ps ns ≡ true → best is_loose None (place + 1) ps ns ≡ None) → (v : Bool) → (v && settled_all ps ns) ≡ true → best is_loose (lower_if (not v) None (record { queue = p.queue; place = place })) (place + 1) ps ns ≡ None
     go on true h = on h
@@ -142,7 +142,7 @@ rest_none place (p ∷ ps) (n ∷ ns) h = go (rest_none (place + 1) ps ns) (is_s
 pub none_rest : (place : ℕ) (ps : List Post) (ns : List Bool) → best is_loose None place ps ns ≡ None → settled_all ps ns ≡ true
 none_rest place [] ns h = refl
 none_rest place (p ∷ ps) [] h = refl
-none_rest place (p ∷ ps) (n ∷ ns) h = go (none_rest (place + 1) ps ns) (is_settled p.kept n) h
+none_rest place (p ∷ ps) (n ∷ ns) h = go (none_rest (place + 1) ps ns) (is_settled p.state n) h
   where
     go : (best is_loose None (place + 1) ps ns ≡ None → settled_all ps ns ≡ true) → (v : Bool) → best is_loose (lower_if (not v) None (record { queue = p.queue; place = place })) (place + 1) ps ns ≡ None → (v && settled_all ps ns) ≡ true
     go on true h = on h

@@ -51,7 +51,7 @@ even (e ∷ es) r new ok rest u k j p q atk atj apart =
     ]
 
 -- an end whose next call is a wake makes none where it isn't woken
-waking_none : (es : List Event) (r new : Round) → IsRound r → is_at_rest r ≡ true → Unmarked r es new → (j : ℕ) (p : Post) (b : Bool) → slice_get r.posts j ≡ Some p → slice_get r.needs j ≡ Some b → is_waking p.kept b ≡ true → Unwoken p.queue p.side es → calls_on p.queue es ≤ 0
+waking_none : (es : List Event) (r new : Round) → IsRound r → is_at_rest r ≡ true → Unmarked r es new → (j : ℕ) (p : Post) (b : Bool) → slice_get r.posts j ≡ Some p → slice_get r.needs j ≡ Some b → is_waking p.state b ≡ true → Unwoken p.queue p.side es → calls_on p.queue es ≤ 0
 waking_none [] r new ok rest u j p b at need w none = omega arith
 waking_none (e ∷ es) r new ok rest u j p b at need w none = elim (moved_or r e u.0 u.1 ok j p b at need) [
   | inl g ↦ let v = vainly p u.1.posted.moved b e g.2 (ap (λ (x : Post). is_mark_at x e) g.0 ∙ u.2) w in absurd (none.0 v.queue v.op)

@@ -4,7 +4,7 @@ use Rattle.std.proofs.lemmas.Bool.Decides.{eqb_tells}
 use Rattle.wire_core.specs.declared.names.Event.{Event}
 use Rattle.wire_core.proofs.Places.{slice_get_written, slice_get_beside}
 use Rattle.turn_kit.specs.Turns.{Post, Round, Turned, IsRound, is_at_rest, Unsettled, calls_on}
-use Rattle.turn_kit.proofs.Bounds.{seven, six}
+use Rattle.turn_kit.proofs.EveryState.{seven, six}
 use Rattle.turn_kit.proofs.Choosing.{some_is}
 use Rattle.turn_kit.proofs.Turning.{need_at, few_calls, settling_calls}
 
@@ -21,7 +21,7 @@ module _ (r : Round) (e : Event) (m : Round) (t : Turned r e m) where
 
 -- at most 7 calls on each end while some end isn't settled, and 6 where at last all are
 pub seven_calls : (r new : Round) (es : List Event) → IsRound r → Unsettled r es new → (k : ℕ) (p : Post) → slice_get r.posts k ≡ Some p → calls_on p.queue es ≤ 7
-seven_calls r new es ok u k p at = let n = need_at r.posts r.needs k p ok.needs at in let few = few_calls es r new ok u k p n.0 at n.1 in let most = seven p.kept.ringer p.kept.waiter n.0 p.kept.look in omega (arith, few, most)
+seven_calls r new es ok u k p at = let n = need_at r.posts r.needs k p ok.needs at in let few = few_calls es r new ok u k p n.0 at n.1 in let most = seven p.state n.0 in omega (arith, few, most)
 
 pub six_calls : (r new : Round) (es : List Event) → IsRound r → Unsettled r es new → is_at_rest new ≡ true → (k : ℕ) (p : Post) → slice_get r.posts k ≡ Some p → calls_on p.queue es ≤ 6
-six_calls r new es ok u rest k p at = let n = need_at r.posts r.needs k p ok.needs at in let few = settling_calls es r new ok u rest k p n.0 at n.1 in let most = six p.kept.ringer p.kept.waiter n.0 p.kept.look in omega (arith, few, most)
+six_calls r new es ok u rest k p at = let n = need_at r.posts r.needs k p ok.needs at in let few = settling_calls es r new ok u rest k p n.0 at n.1 in let most = six p.state n.0 in omega (arith, few, most)

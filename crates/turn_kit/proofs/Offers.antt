@@ -23,10 +23,10 @@ module _ (c : Choosing) (base k k' : ℕ) (posts : List Post) (needs : List Bool
   one_on : base + k + 1 ≡ base + (k + 1) → suc k ≡ k' → offered_from c (base + k + 1) (drop (suc k) posts) (drop (suc k) needs) ≡ offered_from c (base + k') (drop k' posts) (drop k' needs)
   one_on e f = ap (λ n. offered_from c n (drop (suc k) posts) (drop (suc k) needs)) (e ∙ ap (λ m. base + m) (add-one k)) ∙ ap (λ m. offered_from c (base + m) (drop m posts) (drop m needs)) f
 
-pub offers_next : (c now : Choosing) (base k : ℕ) (posts : List Post) (needs : List Bool) (p : Post) (need : Bool) → slice_get posts k ≡ Some p → slice_get needs k ≡ Some need → OffersOn c now base k posts needs → OffersOn c (offered now (record { queue = p.queue; place = base + k }) (is_settled p.kept need)) base (k + 1) posts needs
+pub offers_next : (c now : Choosing) (base k : ℕ) (posts : List Post) (needs : List Bool) (p : Post) (need : Bool) → slice_get posts k ≡ Some p → slice_get needs k ≡ Some need → OffersOn c now base k posts needs → OffersOn c (offered now (record { queue = p.queue; place = base + k }) (is_settled p.state need)) base (k + 1) posts needs
 offers_next c now base k posts needs p need at n h = record {
   count = h.count;
-  rest = h.rest ∙ (ap (λ ps. offered_from now (base + k) ps (drop k needs)) (drop_here posts k p at) ∙ (ap (λ ns. offered_from now (base + k) (p ∷ drop (suc k) posts) ns) (drop_here needs k need n) ∙ one_on (offered now (record { queue = p.queue; place = base + k }) (is_settled p.kept need)) base k (k + 1) posts needs (add_assoc base k 1) (sym (add-one k))));
+  rest = h.rest ∙ (ap (λ ps. offered_from now (base + k) ps (drop k needs)) (drop_here posts k p at) ∙ (ap (λ ns. offered_from now (base + k) (p ∷ drop (suc k) posts) ns) (drop_here needs k need n) ∙ one_on (offered now (record { queue = p.queue; place = base + k }) (is_settled p.state need)) base k (k + 1) posts needs (add_assoc base k 1) (sym (add-one k))));
 }
 
 -- what a map has at a place
@@ -74,15 +74,15 @@ module _ {X : Type 0} (f : X → Post) (g : X → QueueId) (items ends : List X)
   need_here = get_need need 0 (map g ends) k (g (slice_index_or items k d)) (get_map g ends k (slice_index_or items k d) here) ∙ ap (λ n. Some (need n)) (zero-add k)
 
 -- one end of a list more was offered
-pub end_next : {X : Type 0} (f : X → Post) (g : X → QueueId) (c now v : Choosing) (base k : ℕ) (items ends : List X) (d : X) (need : ℕ → Bool) (s b : Bool) → items ≡ ends → k < length items → v ≡ offered now (record { queue = (f (slice_index_or items k d)).queue; place = base + k }) s → s ≡ is_settled (f (slice_index_or items k d)).kept b → b ≡ need k
+pub end_next : {X : Type 0} (f : X → Post) (g : X → QueueId) (c now v : Choosing) (base k : ℕ) (items ends : List X) (d : X) (need : ℕ → Bool) (s b : Bool) → items ≡ ends → k < length items → v ≡ offered now (record { queue = (f (slice_index_or items k d)).queue; place = base + k }) s → s ≡ is_settled (f (slice_index_or items k d)).state b → b ≡ need k
     → OffersOn c now base k (map f ends) (needs_from need 0 (map g ends)) → OffersOn c v base (k + 1) (map f ends) (needs_from need 0 (map g ends))
 end_next f g c now v base k items ends d need s b same h e t u on = rw (e, t, u) (offers_next c now base k (map f ends) (needs_from need 0 (map g ends)) (f (slice_index_or items k d)) (need k) (post_here f g items ends k d need same h) (need_here f g items ends k d need same h) on)
 
-here_settled : (posts : List Post) (needs : List Bool) (k : ℕ) (p : Post) (need : Bool) → slice_get posts k ≡ Some p → slice_get needs k ≡ Some need → settled_all (drop k posts) (drop k needs) ≡ (is_settled p.kept need && settled_all (drop (k + 1) posts) (drop (k + 1) needs))
+here_settled : (posts : List Post) (needs : List Bool) (k : ℕ) (p : Post) (need : Bool) → slice_get posts k ≡ Some p → slice_get needs k ≡ Some need → settled_all (drop k posts) (drop k needs) ≡ (is_settled p.state need && settled_all (drop (k + 1) posts) (drop (k + 1) needs))
 here_settled posts needs k p need at n = rw (drop_here posts k p at, drop_here needs k need n, add-one k) refl
 
 -- the ends from a place on are settled where this one is and the others are
-module _ {X : Type 0} (f : X → Post) (g : X → QueueId) (k : ℕ) (items ends : List X) (d : X) (need : ℕ → Bool) (s b : Bool) (same : items ≡ ends) (h : k < length items) (t : s ≡ is_settled (f (slice_index_or items k d)).kept b) (u : b ≡ need k) where
+module _ {X : Type 0} (f : X → Post) (g : X → QueueId) (k : ℕ) (items ends : List X) (d : X) (need : ℕ → Bool) (s b : Bool) (same : items ≡ ends) (h : k < length items) (t : s ≡ is_settled (f (slice_index_or items k d)).state b) (u : b ≡ need k) where
   settled_now : settled_all (drop k (map f ends)) (drop k (needs_from need 0 (map g ends))) ≡ (s && settled_all (drop (k + 1) (map f ends)) (drop (k + 1) (needs_from need 0 (map g ends))))
   settled_now = rw (t, u) (here_settled (map f ends) (needs_from need 0 (map g ends)) k (f (slice_index_or items k d)) (need k) (post_here f g items ends k d need same h) (need_here f g items ends k d need same h))
 

@@ -6,15 +6,12 @@ use Rattle.std.proofs.lemmas.Option.{slice_get_within, slice_get-get_or}
 use Rattle.wire_core.specs.declared.names.Event.{Event}
 use Rattle.wire_core.specs.Bells.{bit}
 use Rattle.wire_core.proofs.Places.{slice_get_written, slice_get_beside}
-use Rattle.turn_kit.specs.Table.{next_op, kept_after, is_settled}
+use Rattle.turn_kit.specs.Table.{next_op, state_after, is_settled}
 use Rattle.wire_core.specs.Marks.{is_mark}
 use Rattle.turn_kit.specs.Calls.{may_answer, calls_left, settling_left, is_moving}
 use Rattle.turn_kit.specs.Turns.{Post, Posted, is_drop, is_mark_at, forgotten_if, Round, Turned, IsRound, IsNext, choosing, choice_of, chosen, last_after, place_or, queue_or, is_at_rest, settled_all, Unsettled, calls_on}
 use Rattle.turn_kit.specs.declared.turns.Stand.{Stand}
-use Rattle.turn_kit.proofs.Calls.{nearer}
-use Rattle.turn_kit.proofs.Settles.{settles}
-use Rattle.turn_kit.proofs.Moves.{moving_stays}
-use Rattle.turn_kit.proofs.Bounds.{moving_unsettled}
+use Rattle.turn_kit.proofs.EveryState.{nearer, settles, moving_stays, moving_unsettled, and_left, and_right}
 use Rattle.turn_kit.proofs.Choosing.{some_is, best, best_none, is_loose, is_late, is_any, offered_best, Among, Found, found, rest_none, none_rest}
 
 or_left : (a b : Bool) → (a || b) ≡ false → a ≡ false
@@ -41,23 +38,23 @@ side_is p moved b e h = ap (λ (x : Post). x.side) h.after
 
 -- what is known of one call at one end that is no mark
 module _ (p moved : Post) (b : Bool) (e : Event) (h : Posted p b e moved) (m : is_mark_at p e ≡ false) where
-  pub no_mark : is_mark (next_op p.kept p.side b) e.answer ≡ false
+  pub no_mark : is_mark (next_op p.state p.side b) e.answer ≡ false
   no_mark = subst (λ o. is_mark o e.answer ≡ false) h.op (no_mark_at p e m)
 
-  pub answers : may_answer (next_op p.kept p.side b) e.answer ≡ true
+  pub answers : may_answer (next_op p.state p.side b) e.answer ≡ true
   answers = subst (λ o. may_answer o e.answer ≡ true) h.op h.answer
 
-  pub kept_is : moved.kept ≡ kept_after p.kept (next_op p.kept p.side b) e.answer
-  kept_is = ap (λ (x : Post). x.kept) h.after ∙ (ap (λ d. forgotten_if d (kept_after p.kept e.op e.answer)) (no_drop_at p e m) ∙ ap (λ o. kept_after p.kept o e.answer) h.op)
+  pub state_is : moved.state ≡ state_after p.state (next_op p.state p.side b) e.answer
+  state_is = ap (λ (x : Post). x.state) h.after ∙ (ap (λ d. forgotten_if d (state_after p.state e.op e.answer)) (no_drop_at p e m) ∙ ap (λ o. state_after p.state o e.answer) h.op)
 
-  pub post_nearer : is_settled p.kept b ≡ false → calls_left moved.kept b + 1 ≤ calls_left p.kept b
-  post_nearer s = rw kept_is (nearer p.kept.ringer p.kept.waiter b p.kept.look p.side e.answer s no_mark answers)
+  pub post_nearer : is_settled p.state b ≡ false → calls_left moved.state b + 1 ≤ calls_left p.state b
+  post_nearer s = rw state_is (nearer p.state b p.side e.answer s no_mark answers)
 
-  pub post_settles : is_settled p.kept b ≡ false → is_moving moved.kept b ≡ false → settling_left moved.kept b + 1 ≤ settling_left p.kept b
-  post_settles s g = rw kept_is (settles p.kept.ringer p.kept.waiter b p.kept.look p.side e.answer s no_mark answers (subst (λ k. is_moving k b ≡ false) kept_is g))
+  pub post_settles : is_settled p.state b ≡ false → is_moving moved.state b ≡ false → settling_left moved.state b + 1 ≤ settling_left p.state b
+  post_settles s g = rw state_is (settles p.state b p.side e.answer s no_mark answers (subst (λ k. is_moving k b ≡ false) state_is g))
 
-  pub post_moving : is_moving p.kept b ≡ true → is_moving moved.kept b ≡ true
-  post_moving s = rw kept_is (moving_stays p.kept.ringer p.kept.waiter b p.kept.look p.side e.answer s no_mark answers)
+  pub post_moving : is_moving p.state b ≡ true → is_moving moved.state b ≡ true
+  post_moving s = rw state_is (moving_stays p.state b p.side e.answer s no_mark answers)
 
 -- each end has its need
 pub need_at : (ps : List Post) (ns : List Bool) (k : ℕ) (p : Post) → length ns ≡ length ps → slice_get ps k ≡ Some p → (n : Bool) × (slice_get ns k ≡ Some n)
@@ -66,14 +63,6 @@ need_at ps ns k p same at = (_, slice_get-get_or ns k false (subst (λ n. k < n)
 first_at : (ps : List Post) → 0 < length ps → (p : Post) × (slice_get ps 0 ≡ Some p)
 first_at [] h = absurd (omega (arith, h))
 first_at (p ∷ ps) h = (p, refl)
-
-pub and_left : (a b : Bool) → (a && b) ≡ true → a ≡ true
-and_left true b h = refl
-and_left false b h = cc
-
-pub and_right : (a b : Bool) → (a && b) ≡ true → b ≡ true
-and_right true b h = h
-and_right false b h = cc
 
 not_true : (b : Bool) → not b ≡ true → b ≡ false
 not_true false h = refl
@@ -109,20 +98,20 @@ module _ (r : Round) (e : Event) (m : Round) (t : Turned r e m) (ok : IsRound r)
     need_is = some_is (sym t.needed ∙ (ap (slice_get r.needs) k_is ∙ a.needed))
 
   -- where some end isn't settled, the one that is stepped isn't, and it has the lowest queue number
-  loose_case : (u : Option Stand) → Loose ≡ u → is_at_rest r ≡ false → (is_settled t.posted.post.kept t.need ≡ false) × ((k : ℕ) (p : Post) (n : Bool) → slice_get r.posts k ≡ Some p → slice_get r.needs k ≡ Some n → is_settled p.kept n ≡ false → t.posted.post.queue ≤ p.queue) × (m.last ≡ r.last)
+  loose_case : (u : Option Stand) → Loose ≡ u → is_at_rest r ≡ false → (is_settled t.posted.post.state t.need ≡ false) × ((k : ℕ) (p : Post) (n : Bool) → slice_get r.posts k ≡ Some p → slice_get r.needs k ≡ Some n → is_settled p.state n ≡ false → t.posted.post.queue ≤ p.queue) × (m.last ≡ r.last)
   loose_case None h rest = let no : true ≡ false = sym (none_rest 0 r.posts r.needs h) ∙ rest in cc
   loose_case (Some s) h rest = let f = found is_loose None 0 r.posts r.needs s h in elim f.from [ inl g ↦ cc | inr a ↦ here f a ]
     where
-      here : Found is_loose None 0 r.posts r.needs s → Among is_loose 0 r.posts r.needs s → (is_settled t.posted.post.kept t.need ≡ false) × ((k : ℕ) (p : Post) (n : Bool) → slice_get r.posts k ≡ Some p → slice_get r.needs k ≡ Some n → is_settled p.kept n ≡ false → t.posted.post.queue ≤ p.queue) × (m.last ≡ r.last)
+      here : Found is_loose None 0 r.posts r.needs s → Among is_loose 0 r.posts r.needs s → (is_settled t.posted.post.state t.need ≡ false) × ((k : ℕ) (p : Post) (n : Bool) → slice_get r.posts k ≡ Some p → slice_get r.needs k ≡ Some n → is_settled p.state n ≡ false → t.posted.post.queue ≤ p.queue) × (m.last ≡ r.last)
       here f a =
           let at : t.place ≡ s.place = place_is ∙ ap (λ u. place_or u (place_or Late (place_or First 0))) h in
           let same = post_is is_loose s a at in (
-            not_true _ (ap (λ (p : Post). not (is_settled p.kept t.need)) same ∙ (ap (λ n. not (is_settled a.post.kept n)) (need_is is_loose s a at) ∙ a.test)),
+            not_true _ (ap (λ (p : Post). not (is_settled p.state t.need)) same ∙ (ap (λ n. not (is_settled a.post.state n)) (need_is is_loose s a at) ∙ a.test)),
             (λ k p n there needed loose. subst (λ x. x ≤ p.queue) (a.queue ∙ sym (ap (λ (x : Post). x.queue) same)) (f.least k p n there needed (ap not loose))),
             last_is ∙ ap (λ u. cond (is_none u) (queue_or Late (queue_or First r.last)) r.last) h,
           )
 
-  pub loose_chosen : is_at_rest r ≡ false → (is_settled t.posted.post.kept t.need ≡ false) × ((k : ℕ) (p : Post) (n : Bool) → slice_get r.posts k ≡ Some p → slice_get r.needs k ≡ Some n → is_settled p.kept n ≡ false → t.posted.post.queue ≤ p.queue) × (m.last ≡ r.last)
+  pub loose_chosen : is_at_rest r ≡ false → (is_settled t.posted.post.state t.need ≡ false) × ((k : ℕ) (p : Post) (n : Bool) → slice_get r.posts k ≡ Some p → slice_get r.needs k ≡ Some n → is_settled p.state n ≡ false → t.posted.post.queue ≤ p.queue) × (m.last ≡ r.last)
   loose_chosen rest = loose_case Loose refl rest
 
   -- where all are settled, the next after the last is stepped
@@ -211,15 +200,15 @@ bit_other a b h = decide (eqb_tells a b)
     decide (inr apart) = ap bit apart.0
 
 -- before it is settled or a mark comes, an end makes at most so many calls
-pub few_calls : (es : List Event) (r new : Round) → IsRound r → Unsettled r es new → (j : ℕ) (p : Post) (b : Bool) → slice_get r.posts j ≡ Some p → slice_get r.needs j ≡ Some b → calls_on p.queue es ≤ calls_left p.kept b
+pub few_calls : (es : List Event) (r new : Round) → IsRound r → Unsettled r es new → (j : ℕ) (p : Post) (b : Bool) → slice_get r.posts j ≡ Some p → slice_get r.needs j ≡ Some b → calls_on p.queue es ≤ calls_left p.state b
 few_calls [] r new ok u j p b at need = omega arith
 few_calls (e ∷ es) r new ok u j p b at need = elim (moved_or r e u.0 u.2 ok j p b at need) [
   | inl h ↦
       let next = few_calls es u.0 new (round_next r e u.0 u.2 ok) u.4 j u.2.posted.moved b h.3 (ap (λ ns. slice_get ns j) (u.2.needs u.3) ∙ need) in
-      let settled : is_settled p.kept b ≡ false = ap (λ (x : Post). is_settled x.kept b) h.0 ∙ (ap (is_settled u.2.posted.post.kept) h.1 ∙ (loose_chosen r e u.0 u.2 ok u.1).0) in
+      let settled : is_settled p.state b ≡ false = ap (λ (x : Post). is_settled x.state b) h.0 ∙ (ap (is_settled u.2.posted.post.state) h.1 ∙ (loose_chosen r e u.0 u.2 ok u.1).0) in
       let near = post_nearer p u.2.posted.moved b e h.2 (ap (λ (x : Post). is_mark_at x e) h.0 ∙ u.3) settled in
       let here : bit (e.queue.0 == p.queue) ≡ 1 = bit_same e.queue.0 p.queue h.2.queue in
-      let rest : calls_on p.queue es ≤ calls_left u.2.posted.moved.kept b = subst (λ n. calls_on n es ≤ calls_left u.2.posted.moved.kept b) (queue_is p u.2.posted.moved b e h.2) next in
+      let rest : calls_on p.queue es ≤ calls_left u.2.posted.moved.state b = subst (λ n. calls_on n es ≤ calls_left u.2.posted.moved.state b) (queue_is p u.2.posted.moved b e h.2) next in
       omega (arith, near, here, rest)
   | inr h ↦
       let next = few_calls es u.0 new (round_next r e u.0 u.2 ok) u.4 j p b h.1 (ap (λ ns. slice_get ns j) (u.2.needs u.3) ∙ need) in
@@ -228,7 +217,7 @@ few_calls (e ∷ es) r new ok u j p b at need = elim (moved_or r e u.0 u.2 ok j 
 ]
 
 -- an end that saw that it can move an entry goes on so
-pub still_moving : (es : List Event) (r new : Round) → IsRound r → Unsettled r es new → (j : ℕ) (p : Post) (b : Bool) → slice_get r.posts j ≡ Some p → slice_get r.needs j ≡ Some b → is_moving p.kept b ≡ true → (q : Post) × (slice_get new.posts j ≡ Some q) × (slice_get new.needs j ≡ Some b) × (is_moving q.kept b ≡ true)
+pub still_moving : (es : List Event) (r new : Round) → IsRound r → Unsettled r es new → (j : ℕ) (p : Post) (b : Bool) → slice_get r.posts j ≡ Some p → slice_get r.needs j ≡ Some b → is_moving p.state b ≡ true → (q : Post) × (slice_get new.posts j ≡ Some q) × (slice_get new.needs j ≡ Some b) × (is_moving q.state b ≡ true)
 still_moving [] r new ok u j p b at need h = (p, ap (λ (x : Round). slice_get x.posts j) (sym u) ∙ at, ap (λ (x : Round). slice_get x.needs j) (sym u) ∙ need, h)
 still_moving (e ∷ es) r new ok u j p b at need h = elim (moved_or r e u.0 u.2 ok j p b at need) [
   | inl g ↦ still_moving es u.0 new (round_next r e u.0 u.2 ok) u.4 j u.2.posted.moved b g.3 (ap (λ ns. slice_get ns j) (u.2.needs u.3) ∙ need) (post_moving p u.2.posted.moved b e g.2 (ap (λ (x : Post). is_mark_at x e) g.0 ∙ u.3) h)
@@ -236,31 +225,31 @@ still_moving (e ∷ es) r new ok u j p b at need h = elim (moved_or r e u.0 u.2 
 ]
 
 -- where all are settled, each is
-pub rest_at : (ps : List Post) (ns : List Bool) (k : ℕ) (p : Post) (n : Bool) → settled_all ps ns ≡ true → slice_get ps k ≡ Some p → slice_get ns k ≡ Some n → is_settled p.kept n ≡ true
+pub rest_at : (ps : List Post) (ns : List Bool) (k : ℕ) (p : Post) (n : Bool) → settled_all ps ns ≡ true → slice_get ps k ≡ Some p → slice_get ns k ≡ Some n → is_settled p.state n ≡ true
 rest_at [] ns k p n h at need = cc
 rest_at (q ∷ ps) [] k p n h at need = cc
-rest_at (q ∷ ps) (m ∷ ns) zero p n h at need = ap (λ (x : Post). is_settled x.kept n) (sym (some_is at)) ∙ (ap (is_settled q.kept) (sym (some_is need)) ∙ and_left (is_settled q.kept m) (settled_all ps ns) h)
-rest_at (q ∷ ps) (m ∷ ns) (suc k) p n h at need = rest_at ps ns k p n (and_right (is_settled q.kept m) (settled_all ps ns) h) at need
+rest_at (q ∷ ps) (m ∷ ns) zero p n h at need = ap (λ (x : Post). is_settled x.state n) (sym (some_is at)) ∙ (ap (is_settled q.state) (sym (some_is need)) ∙ and_left (is_settled q.state m) (settled_all ps ns) h)
+rest_at (q ∷ ps) (m ∷ ns) (suc k) p n h at need = rest_at ps ns k p n (and_right (is_settled q.state m) (settled_all ps ns) h) at need
 
-settled_no : (q : Post) (b : Bool) → is_settled q.kept b ≡ true → is_moving q.kept b ≡ true → ⊥
-settled_no q b s m = let no : true ≡ false = sym s ∙ moving_unsettled q.kept.ringer q.kept.waiter b q.kept.look m in cc
+settled_no : (q : Post) (b : Bool) → is_settled q.state b ≡ true → is_moving q.state b ≡ true → ⊥
+settled_no q b s m = let no : true ≡ false = sym s ∙ moving_unsettled q.state b m in cc
 
 not_moving_if : (v : Bool) → (v ≡ true → ⊥) → v ≡ false
 not_moving_if false h = refl
 not_moving_if true h = absurd (h refl)
 
 -- where at last all are settled, an end made at most so many calls
-pub settling_calls : (es : List Event) (r new : Round) → IsRound r → Unsettled r es new → is_at_rest new ≡ true → (j : ℕ) (p : Post) (b : Bool) → slice_get r.posts j ≡ Some p → slice_get r.needs j ≡ Some b → calls_on p.queue es ≤ settling_left p.kept b
+pub settling_calls : (es : List Event) (r new : Round) → IsRound r → Unsettled r es new → is_at_rest new ≡ true → (j : ℕ) (p : Post) (b : Bool) → slice_get r.posts j ≡ Some p → slice_get r.needs j ≡ Some b → calls_on p.queue es ≤ settling_left p.state b
 settling_calls [] r new ok u rest j p b at need = omega arith
 settling_calls (e ∷ es) r new ok u rest j p b at need = elim (moved_or r e u.0 u.2 ok j p b at need) [
   | inl h ↦
       let need' : slice_get u.0.needs j ≡ Some b = ap (λ ns. slice_get ns j) (u.2.needs u.3) ∙ need in
       let next = settling_calls es u.0 new (round_next r e u.0 u.2 ok) u.4 rest j u.2.posted.moved b h.3 need' in
-      let settled : is_settled p.kept b ≡ false = ap (λ (x : Post). is_settled x.kept b) h.0 ∙ (ap (is_settled u.2.posted.post.kept) h.1 ∙ (loose_chosen r e u.0 u.2 ok u.1).0) in
-      let not_moving : is_moving u.2.posted.moved.kept b ≡ false = not_moving_if (is_moving u.2.posted.moved.kept b) (λ g. let q = still_moving es u.0 new (round_next r e u.0 u.2 ok) u.4 j u.2.posted.moved b h.3 need' g in settled_no q.0 b (rest_at new.posts new.needs j q.0 b rest q.1 q.2) q.3) in
+      let settled : is_settled p.state b ≡ false = ap (λ (x : Post). is_settled x.state b) h.0 ∙ (ap (is_settled u.2.posted.post.state) h.1 ∙ (loose_chosen r e u.0 u.2 ok u.1).0) in
+      let not_moving : is_moving u.2.posted.moved.state b ≡ false = not_moving_if (is_moving u.2.posted.moved.state b) (λ g. let q = still_moving es u.0 new (round_next r e u.0 u.2 ok) u.4 j u.2.posted.moved b h.3 need' g in settled_no q.0 b (rest_at new.posts new.needs j q.0 b rest q.1 q.2) q.3) in
       let near = post_settles p u.2.posted.moved b e h.2 (ap (λ (x : Post). is_mark_at x e) h.0 ∙ u.3) settled not_moving in
       let here : bit (e.queue.0 == p.queue) ≡ 1 = bit_same e.queue.0 p.queue h.2.queue in
-      let rest : calls_on p.queue es ≤ settling_left u.2.posted.moved.kept b = subst (λ n. calls_on n es ≤ settling_left u.2.posted.moved.kept b) (queue_is p u.2.posted.moved b e h.2) next in
+      let rest : calls_on p.queue es ≤ settling_left u.2.posted.moved.state b = subst (λ n. calls_on n es ≤ settling_left u.2.posted.moved.state b) (queue_is p u.2.posted.moved b e h.2) next in
       omega (arith, near, here, rest)
   | inr h ↦
       let next = settling_calls es u.0 new (round_next r e u.0 u.2 ok) u.4 rest j p b h.1 (ap (λ ns. slice_get ns j) (u.2.needs u.3) ∙ need) in

@@ -11,10 +11,9 @@ use Rattle.turn_kit.specs.Table.{is_settled}
 use Rattle.wire_core.specs.Marks.{is_mark}
 use Rattle.turn_kit.specs.Calls.{may_answer, is_waking}
 use Rattle.turn_kit.specs.Turns.{Post, Posted, is_mark_at, Round, Turned, IsRound, IsNext, is_at_rest, settled_all, Unmarked, IsVainWake, WokenInVain}
-use Rattle.turn_kit.proofs.Rests.{settled_wakes}
-use Rattle.turn_kit.proofs.Bounds.{waking_settled, waking_op}
+use Rattle.turn_kit.proofs.EveryState.{settled_wakes, waking_settled, waking_op, and_left, and_right}
 use Rattle.turn_kit.proofs.Choosing.{some_is}
-use Rattle.turn_kit.proofs.Turning.{no_mark_at, no_mark, answers, kept_is, queue_is, side_is, need_at, rest_at, rest_chosen, moved_or, round_next, same_length, and_left, and_right}
+use Rattle.turn_kit.proofs.Turning.{no_mark_at, no_mark, answers, state_is, queue_is, side_is, need_at, rest_at, rest_chosen, moved_or, round_next, same_length}
 
 abbrev count_of : (ℕ → Bool) → List Post → ℕ
 count_of f [] = 0
@@ -171,18 +170,18 @@ gap_falls r e m t ok rest k p at other =
     omega (arith, less, same)
 
 -- what is settled stays so
-settled_set : (ps : List Post) (ns : List Bool) (k : ℕ) (q : Post) (n : Bool) → settled_all ps ns ≡ true → slice_get ns k ≡ Some n → is_settled q.kept n ≡ true → settled_all (slice_set ps k q) ns ≡ true
+settled_set : (ps : List Post) (ns : List Bool) (k : ℕ) (q : Post) (n : Bool) → settled_all ps ns ≡ true → slice_get ns k ≡ Some n → is_settled q.state n ≡ true → settled_all (slice_set ps k q) ns ≡ true
 settled_set [] ns k q n h at g = refl
 settled_set (p ∷ ps) [] k q n h at g = cc
-settled_set (p ∷ ps) (m ∷ ns) zero q n h at g = both (is_settled q.kept m) (settled_all ps ns) (ap (is_settled q.kept) (some_is at) ∙ g) (and_right (is_settled p.kept m) (settled_all ps ns) h)
-settled_set (p ∷ ps) (m ∷ ns) (suc k) q n h at g = both (is_settled p.kept m) (settled_all (slice_set ps k q) ns) (and_left (is_settled p.kept m) (settled_all ps ns) h) (settled_set ps ns k q n (and_right (is_settled p.kept m) (settled_all ps ns) h) at g)
+settled_set (p ∷ ps) (m ∷ ns) zero q n h at g = both (is_settled q.state m) (settled_all ps ns) (ap (is_settled q.state) (some_is at) ∙ g) (and_right (is_settled p.state m) (settled_all ps ns) h)
+settled_set (p ∷ ps) (m ∷ ns) (suc k) q n h at g = both (is_settled p.state m) (settled_all (slice_set ps k q) ns) (and_left (is_settled p.state m) (settled_all ps ns) h) (settled_set ps ns k q n (and_right (is_settled p.state m) (settled_all ps ns) h) at g)
 
 module _ (p moved : Post) (b : Bool) (e : Event) (h : Posted p b e moved) (m : is_mark_at p e ≡ false) where
-  pub then_waking : is_settled p.kept b ≡ true → is_waking moved.kept b ≡ true
-  then_waking s = rw (kept_is p moved b e h m) (settled_wakes p.kept.ringer p.kept.waiter b p.kept.look p.side e.answer s (no_mark p moved b e h m) (answers p moved b e h m))
+  pub then_waking : is_settled p.state b ≡ true → is_waking moved.state b ≡ true
+  then_waking s = rw (state_is p moved b e h m) (settled_wakes p.state b p.side e.answer s (no_mark p moved b e h m) (answers p moved b e h m))
 
-  pub then_settled : is_settled p.kept b ≡ true → is_settled moved.kept b ≡ true
-  then_settled s = waking_settled moved.kept.ringer moved.kept.waiter b moved.kept.look (then_waking s)
+  pub then_settled : is_settled p.state b ≡ true → is_settled moved.state b ≡ true
+  then_settled s = waking_settled moved.state b (then_waking s)
 
   answers_no : (o : Op) (s : Side) → o ≡ Do.Wake s → is_mark o e.answer ≡ false → may_answer o e.answer ≡ true → e.answer ≡ No
   answers_no o s is n a = no e.answer (subst (λ x. is_mark x e.answer ≡ false) is n) (subst (λ x. may_answer x e.answer ≡ true) is a)
@@ -192,8 +191,8 @@ module _ (p moved : Post) (b : Bool) (e : Event) (h : Posted p b e moved) (m : i
       no No x y = refl
       no Done x y = cc
 
-  pub vainly : is_waking p.kept b ≡ true → IsVainWake p.queue p.side e
-  vainly w = let o : e.op ≡ Do.Wake p.side = h.op ∙ waking_op p.kept.ringer p.kept.waiter b p.kept.look p.side w in record { queue = h.queue; op = o; answer = answers_no e.op p.side o (no_mark_at p e m) h.answer }
+  pub vainly : is_waking p.state b ≡ true → IsVainWake p.queue p.side e
+  vainly w = let o : e.op ≡ Do.Wake p.side = h.op ∙ waking_op p.state b p.side w in record { queue = h.queue; op = o; answer = answers_no e.op p.side o (no_mark_at p e m) h.answer }
 
 pub rest_next : (r : Round) (e : Event) (m : Round) (t : Turned r e m) → is_mark_at t.posted.post e ≡ false → is_at_rest r ≡ true → is_at_rest m ≡ true
 rest_next r e m t n rest = ap (λ ps. settled_all ps m.needs) t.posted.after ∙ (ap (settled_all (slice_set r.posts t.place t.posted.moved)) (t.needs n) ∙ settled_set r.posts r.needs t.place t.posted.moved t.need rest t.needed (then_settled t.posted.post t.posted.moved t.need e t.posted.posted n (rest_at r.posts r.needs t.place t.posted.post t.need rest t.posted.there t.needed)))
@@ -207,7 +206,7 @@ later_wake : (n : ℕ) (side : Side) (e : Event) (es : List Event) → WokenInVa
 later_wake n side e es w = record { place = suc w.place; event = w.event; there = w.there; vain = w.vain }
 
 -- an end whose next call is a wake makes it within a round
-within_round : (es : List Event) (r new : Round) → IsRound r → is_at_rest r ≡ true → Unmarked r es new → (j : ℕ) (p : Post) (b : Bool) → slice_get r.posts j ≡ Some p → slice_get r.needs j ≡ Some b → is_waking p.kept b ≡ true → gap r p.queue + 1 ≤ length es → WokenInVain p.queue p.side es
+within_round : (es : List Event) (r new : Round) → IsRound r → is_at_rest r ≡ true → Unmarked r es new → (j : ℕ) (p : Post) (b : Bool) → slice_get r.posts j ≡ Some p → slice_get r.needs j ≡ Some b → is_waking p.state b ≡ true → gap r p.queue + 1 ≤ length es → WokenInVain p.queue p.side es
 within_round [] r new ok rest u j p b at need w h = absurd (omega (arith, h))
 within_round (e ∷ es) r new ok rest u j p b at need w h = elim (moved_or r e u.0 u.1 ok j p b at need) [
   | inl g ↦ record { place = 0; event = e; there = refl; vain = vainly p u.1.posted.moved b e g.2 (ap (λ (x : Post). is_mark_at x e) g.0 ∙ u.2) w }

@@ -1,3 +1,4 @@
+-- How many calls an end makes before it is settled or a mark comes, and which answer each call may have.
 use Rattle.std.specs.Prelude.{◌+◌, ◌&&◌, ◌||◌, not, ℕ, Bool, true, false, Option, Some, None}
 use Rattle.wire_core.specs.declared.names.Op.{Op}
 use Rattle.wire_core.specs.declared.names.Op.TheVariants as Do
@@ -8,7 +9,7 @@ use Rattle.wire_core.specs.declared.names.Waiter.TheVariants as Wait
 use Rattle.wire_core.specs.declared.names.Ringer.{Ringer}
 use Rattle.wire_core.specs.declared.names.Ringer.TheVariants as Rung
 use Rattle.wire_core.specs.Ends.{is_clear}
-use Rattle.turn_kit.specs.declared.kept.Kept.{Kept}
+use Rattle.turn_kit.specs.declared.end_state.EndState.{EndState}
 use Rattle.turn_kit.specs.Table.{is_settled}
 
 abbrev pub is_told : Answer → Bool
@@ -48,7 +49,7 @@ wait_left w true (Some false) = 3
 wait_left w true None = 4
 
 -- how many calls an end may still make before it is settled or a mark comes
-abbrev pub calls_left : Kept → Bool → ℕ
+abbrev pub calls_left : EndState → Bool → ℕ
 calls_left k need = ring_left k.ringer + wait_left k.waiter need k.look
 
 -- the calls, at most, until the waiter is clear, where no look answers yes
@@ -62,16 +63,16 @@ clear_left w true (Some false) = 2
 clear_left w true None = 3
 
 -- how many calls an end may still make until it is settled, where no mark comes
-abbrev pub settling_left : Kept → Bool → ℕ
+abbrev pub settling_left : EndState → Bool → ℕ
 settling_left k need = ring_left k.ringer + clear_left k.waiter need k.look
 
-abbrev pub is_kept_yes : Option Bool → Bool
-is_kept_yes (Some b) = b
-is_kept_yes None = false
+abbrev pub saw_yes : Option Bool → Bool
+saw_yes (Some b) = b
+saw_yes None = false
 
 -- the end is needed and saw that it can move an entry: it will, so it isn't settled before a mark
-abbrev pub is_moving : Kept → Bool → Bool
-is_moving k need = need && (is_kept_yes k.look && not (is_clear k.waiter))
+abbrev pub is_moving : EndState → Bool → Bool
+is_moving k need = need && (saw_yes k.look && not (is_clear k.waiter))
 
 abbrev pub is_off_or_clear : Waiter → Bool
 is_off_or_clear Wait.Off = true
@@ -80,5 +81,5 @@ is_off_or_clear Wait.Busy = false
 is_off_or_clear Wait.Asked = false
 
 -- the end is settled, and its next call is a wake
-abbrev pub is_waking : Kept → Bool → Bool
+abbrev pub is_waking : EndState → Bool → Bool
 is_waking k need = is_settled k need && (need || is_off_or_clear k.waiter)

@@ -12,7 +12,9 @@ use Rattle.turn_kit.specs.declared.outlets.Outlets.{Outlets}
 
 -- no two of these queues are one
 abbrev pub AreApart : List QueueId → Type 0
-AreApart qs = (k j : ℕ) (q q' : QueueId) → slice_get qs k ≡ Some q → slice_get qs j ≡ Some q' → q.0 ≡ q'.0 → k ≡ j
+AreApart qs =
+    (k j : ℕ) (q q' : QueueId) → slice_get qs k ≡ Some q → slice_get qs j ≡ Some q' → q.0 ≡ q'.0
+    → k ≡ j
 
 -- the queues of the ends, in their order
 abbrev pub intake_queues : Intakes → List QueueId
@@ -29,11 +31,13 @@ outlet_posts xs = map outlet_post xs.ends.items
 
 -- each end is the caller's own, and as it is kept; no two are of one queue
 pub record FitsIntakes (ends : Role → ℕ → End) (xs : Intakes) : Type 0 where
-  pub agrees : (k : ℕ) (i : Intake) → slice_get xs.ends.items k ≡ Some i → Agrees (ends Consumer i.queue.0) i.kept
+  pub agrees : (k : ℕ) (i : Intake) → slice_get xs.ends.items k ≡ Some i
+      → Agrees (ends Consumer i.queue.0) i.state
   pub apart : AreApart (intake_queues xs)
 
 pub record FitsOutlets (ends : Role → ℕ → End) (xs : Outlets) : Type 0 where
-  pub agrees : (k : ℕ) (i : Outlet) → slice_get xs.ends.items k ≡ Some i → Agrees (ends Producer i.queue.0) i.kept
+  pub agrees : (k : ℕ) (i : Outlet) → slice_get xs.ends.items k ≡ Some i
+      → Agrees (ends Producer i.queue.0) i.state
   pub apart : AreApart (outlet_queues xs)
 
 -- a place is this one

@@ -21,6 +21,9 @@ pub record SinceClaims (start : Round) (calls : List Event) (now : Round) : Type
   pub resting : Unmarked mid idle now
   pub rest : (idle ≡ []) ⊎ (is_at_rest mid ≡ true)
   pub seven : (k : ℕ) (p : Post) → slice_get start.posts k ≡ Some p → calls_on p.queue busy ≤ 7
-  pub six : is_at_rest mid ≡ true → (k : ℕ) (p : Post) → slice_get start.posts k ≡ Some p → calls_on p.queue busy ≤ 6
-  pub even : (k j : ℕ) (p q : Post) → slice_get start.posts k ≡ Some p → slice_get start.posts j ≡ Some q → calls_on q.queue idle ≤ calls_on p.queue idle + 1
-  pub wake : length start.posts + length start.posts ≤ length idle → (k : ℕ) (p : Post) → slice_get start.posts k ≡ Some p → WokenInVain p.queue p.side idle
+  pub six : is_at_rest mid ≡ true → (k : ℕ) (p : Post) → slice_get start.posts k ≡ Some p
+      → calls_on p.queue busy ≤ 6
+  pub even : (k j : ℕ) (p q : Post) → slice_get start.posts k ≡ Some p
+      → slice_get start.posts j ≡ Some q → calls_on q.queue idle ≤ calls_on p.queue idle + 1
+  pub wake : length start.posts + length start.posts ≤ length idle → (k : ℕ) (p : Post)
+      → slice_get start.posts k ≡ Some p → WokenInVain p.queue p.side idle

@@ -51,4 +51,6 @@ pub record Paced (pending : Pendings) (calls : List Event) (now : Round) : Type 
 
 -- each of these ends is actor a's own, by the rows
 abbrev pub AreOwnPosts : List QueueRow → ℕ → List Post → Type 0
-AreOwnPosts rows a posts = (k : ℕ) (p : Post) → slice_get posts k ≡ Some p → (row : QueueRow) → slice_get rows p.queue ≡ Some row → owner_of row (waiting_role p.side) ≡ a
+AreOwnPosts rows a posts =
+    (k : ℕ) (p : Post) → slice_get posts k ≡ Some p → (row : QueueRow)
+    → slice_get rows p.queue ≡ Some row → owner_of row (waiting_role p.side) ≡ a

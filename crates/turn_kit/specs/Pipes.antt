@@ -7,19 +7,20 @@ use Rattle.wire_core.specs.Lists.{Passed}
 use Rattle.wire_core.specs.Ends.{Role, Consumer, Producer, End}
 use Rattle.wire_core.specs.declared.names.QueueId.{QueueId}
 use Rattle.wire_core.specs.declared.names.Side.TheVariants.{Forward, Backward}
-use Rattle.turn_kit.specs.Table.{Agrees, start_kept}
+use Rattle.turn_kit.specs.Table.{Agrees, start_state}
 use Rattle.turn_kit.specs.declared.pipe.Pipe.{Pipe}
 
 -- the pipe's ends are its own, and as it keeps them; both queues have one kind, and so has the load
 pub record FitsPipe (ends : Role → ℕ → End) (p : Pipe) : Type 0 where
-  pub input : Agrees (ends Consumer p.input.queue.0) p.input.kept
-  pub output : Agrees (ends Producer p.output.queue.0) p.output.kept
+  pub input : Agrees (ends Consumer p.input.queue.0) p.input.state
+  pub output : Agrees (ends Producer p.output.queue.0) p.output.state
   pub kinds : (ends Consumer p.input.queue.0).kind ≡ (ends Producer p.output.queue.0).kind
   pub load : ForSome p.load (λ c. kind_of c.0 ≡ (ends Producer p.output.queue.0).kind)
 
 -- what it took is what it put and what is loaded
 abbrev pub PipeStandsFor : Pipe → Passed → Type 0
-PipeStandsFor p passed = passed.taken p.input.queue.0 ≡ passed.sent p.output.queue.0 ++ option_to_list p.load
+PipeStandsFor p passed =
+    passed.taken p.input.queue.0 ≡ passed.sent p.output.queue.0 ++ option_to_list p.load
 
 -- what came in where nothing was loaded
 abbrev pub came : Option Cargo → Option Cargo → Option Cargo
@@ -30,6 +31,6 @@ came (Some old) new = None
 pub record IsNewPipe (from to : QueueId) (p : Pipe) : Type 0 where
   pub input : p.input.queue ≡ from
   pub output : p.output.queue ≡ to
-  pub input_kept : p.input.kept ≡ start_kept Forward
-  pub output_kept : p.output.kept ≡ start_kept Backward
+  pub input_state : p.input.state ≡ start_state Forward
+  pub output_state : p.output.state ≡ start_state Backward
   pub load : p.load ≡ None

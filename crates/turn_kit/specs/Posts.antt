@@ -1,3 +1,4 @@
+-- The ends of actors as posts, on which turns are defined.
 use Rattle.std.specs.Prelude.{false}
 use Rattle.wire_core.specs.declared.names.Side.TheVariants.{Forward, Backward}
 use Rattle.turn_kit.specs.declared.ends.Intake.{Intake}
@@ -6,7 +7,7 @@ use Rattle.turn_kit.specs.Turns.{Post}
 
 -- a consuming end waits forward, a producing end backward; nobody drops yet
 abbrev pub intake_post : Intake → Post
-intake_post i = record { queue = i.queue.0; side = Forward; drops = false; kept = i.kept }
+intake_post i = record { queue = i.queue.0; side = Forward; drops = false; state = i.state }
 
 abbrev pub outlet_post : Outlet → Post
-outlet_post o = record { queue = o.queue.0; side = Backward; drops = false; kept = o.kept }
+outlet_post o = record { queue = o.queue.0; side = Backward; drops = false; state = o.state }

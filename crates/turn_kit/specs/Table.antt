@@ -1,3 +1,4 @@
+-- The decision table of one end: its next call, by what its owner keeps of it, and what is kept after a call.
 use Rattle.std.specs.Prelude.{◌≡◌, Bool, true, false, not, ◌||◌, ◌&&◌, Option, Some, None}
 use Rattle.wire_core.specs.declared.names.Side.{Side}
 use Rattle.wire_core.specs.declared.names.Side.TheVariants.{Forward, Backward}
@@ -11,7 +12,7 @@ use Rattle.wire_core.specs.declared.names.Ringer.{Ringer}
 use Rattle.wire_core.specs.declared.names.Ringer.TheVariants as Rung
 use Rattle.wire_core.specs.Bells.{is_free}
 use Rattle.wire_core.specs.Ends.{End, is_clear, is_yes, looked_waiter, woken_waiter, wanted_ringer}
-use Rattle.turn_kit.specs.declared.kept.Kept.{Kept}
+use Rattle.turn_kit.specs.declared.end_state.EndState.{EndState}
 
 abbrev pub other_side : Side → Side
 other_side Forward = Backward
@@ -48,13 +49,13 @@ next_of Rung.Hot w need look s = Do.Settle (other_side s)
 next_of Rung.Ringing w need look s = Do.Ring (other_side s)
 next_of Rung.Free w need look s = waiting_op w need look s
 
-abbrev pub next_op : Kept → Side → Bool → Op
+abbrev pub next_op : EndState → Side → Bool → Op
 next_op k s need = next_of k.ringer k.waiter need k.look s
 
-abbrev pub kept_yes : Option Bool → Option Bool
-kept_yes (Some true) = Some true
-kept_yes (Some false) = None
-kept_yes None = None
+abbrev pub waived_look : Option Bool → Option Bool
+waived_look (Some true) = Some true
+waived_look (Some false) = None
+waived_look None = None
 
 abbrev pub woken_look : Answer → Option Bool → Option Bool
 woken_look Yes l = None
@@ -62,32 +63,33 @@ woken_look No l = l
 woken_look Done l = l
 
 -- what the owner keeps after a call
-abbrev pub kept_after : Kept → Op → Answer → Kept
-kept_after k Do.See a = record k { waiter = looked_waiter k.waiter a; look = Some (is_yes a) }
-kept_after k Do.Room a = record k { waiter = looked_waiter k.waiter a; look = Some (is_yes a) }
-kept_after k Do.Take a = record k { ringer = Rung.Put; look = None }
-kept_after k Do.Put a = record k { ringer = Rung.Put; look = None }
-kept_after k (Do.Ask s) a = record k { waiter = Wait.Asked; look = None }
-kept_after k (Do.Waive s) a = record k { waiter = Wait.Off; look = kept_yes k.look }
-kept_after k (Do.Wake s) a = record k { waiter = woken_waiter k.waiter a; look = woken_look a k.look }
-kept_after k (Do.Wanted s) a = record k { ringer = wanted_ringer a }
-kept_after k (Do.Settle s) a = record k { ringer = Rung.Ringing }
-kept_after k (Do.Ring s) a = record k { ringer = Rung.Free }
+abbrev pub state_after : EndState → Op → Answer → EndState
+state_after k Do.See a = record k { waiter = looked_waiter k.waiter a; look = Some (is_yes a) }
+state_after k Do.Room a = record k { waiter = looked_waiter k.waiter a; look = Some (is_yes a) }
+state_after k Do.Take a = record k { ringer = Rung.Put; look = None }
+state_after k Do.Put a = record k { ringer = Rung.Put; look = None }
+state_after k (Do.Ask s) a = record k { waiter = Wait.Asked; look = None }
+state_after k (Do.Waive s) a = record k { waiter = Wait.Off; look = waived_look k.look }
+state_after k (Do.Wake s) a =
+    record k { waiter = woken_waiter k.waiter a; look = woken_look a k.look }
+state_after k (Do.Wanted s) a = record k { ringer = wanted_ringer a }
+state_after k (Do.Settle s) a = record k { ringer = Rung.Ringing }
+state_after k (Do.Ring s) a = record k { ringer = Rung.Free }
 
-abbrev pub is_settled : Kept → Bool → Bool
+abbrev pub is_settled : EndState → Bool → Bool
 is_settled k need = is_free k.ringer && (not need || is_clear k.waiter)
 
 -- what is kept is so on the wires; a look that is kept as yes is unused there
-pub record Agrees (e : End) (k : Kept) : Type 0 where
+pub record Agrees (e : End) (k : EndState) : Type 0 where
   pub owned : e.owned ≡ true
   pub waiter : e.waiter ≡ k.waiter
   pub ringer : e.ringer ≡ k.ringer
   pub looked : k.look ≡ Some true → e.looked ≡ true
 
 -- what an end that waits on this side keeps at the start
-abbrev pub start_kept : Side → Kept
-start_kept Forward = record { waiter = Wait.Busy; ringer = Rung.Free; look = None }
-start_kept Backward = record { waiter = Wait.Off; ringer = Rung.Free; look = None }
+abbrev pub start_state : Side → EndState
+start_state Forward = record { waiter = Wait.Busy; ringer = Rung.Free; look = None }
+start_state Backward = record { waiter = Wait.Off; ringer = Rung.Free; look = None }
 
 abbrev pub moves_entry : Op → Bool
 moves_entry Do.Take = true

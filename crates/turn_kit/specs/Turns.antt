@@ -1,3 +1,4 @@
+-- The turns of an actor: which of its ends is stepped, and what is said of steps without a mark among them.
 use Rattle.std.specs.Prelude.{◌≡◌, ◌⊎◌, ◌+◌, ◌<◌, ◌≤◌, ◌==◌, ◌&&◌, ◌||◌, ℕ, Bool, true, false, not, cond, nat_lt, Option, Some, None, is_none, List, [], ◌∷◌, length, slice_get, slice_set}
 use Rattle.wire_core.specs.declared.names.Event.{Event}
 use Rattle.wire_core.specs.declared.names.Side.{Side}
@@ -5,9 +6,9 @@ use Rattle.wire_core.specs.declared.names.Op.TheVariants as Do
 use Rattle.wire_core.specs.declared.names.Answer.TheVariants.{No}
 use Rattle.wire_core.specs.Bells.{bit}
 use Rattle.wire_core.specs.Marks.{is_mark, is_vain_look}
-use Rattle.turn_kit.specs.declared.kept.Kept.{Kept}
+use Rattle.turn_kit.specs.declared.end_state.EndState.{EndState}
 use Rattle.turn_kit.specs.declared.turns.Stand.{Stand}
-use Rattle.turn_kit.specs.Table.{next_op, kept_after, is_settled}
+use Rattle.turn_kit.specs.Table.{next_op, state_after, is_settled}
 use Rattle.turn_kit.specs.Calls.{may_answer}
 
 -- an end of an actor: its queue, the side on which it waits, whether its actor drops there in place of waiting, and what is
@@ -16,7 +17,7 @@ pub record Post : Type 0 where
   pub queue : ℕ
   pub side : Side
   pub drops : Bool
-  pub kept : Kept
+  pub state : EndState
 
 -- where its actor drops, a look that answers no is a drop
 abbrev pub is_drop : Post → Event → Bool
@@ -27,16 +28,19 @@ abbrev pub is_mark_at : Post → Event → Bool
 is_mark_at p e = is_drop p e || is_mark e.op e.answer
 
 -- after a drop the look is forgotten, so that the end looks again
-abbrev pub forgotten_if : Bool → Kept → Kept
+abbrev pub forgotten_if : Bool → EndState → EndState
 forgotten_if true k = record k { look = None }
 forgotten_if false k = k
 
 -- one call of the table at an end that is needed, or loaded, or not
 pub record Posted (old : Post) (need : Bool) (e : Event) (new : Post) : Type 0 where
   pub queue : e.queue.0 ≡ old.queue
-  pub op : e.op ≡ next_op old.kept old.side need
+  pub op : e.op ≡ next_op old.state old.side need
   pub answer : may_answer e.op e.answer ≡ true
-  pub after : new ≡ record old { kept = forgotten_if (is_drop old e) (kept_after old.kept e.op e.answer) }
+  pub after : new ≡ record old {
+    state = forgotten_if (is_drop old e)
+        (state_after old.state e.op e.answer);
+  }
 
 -- all ends of an actor, which of them are needed or loaded, and the queue of the end that it stepped last where all
 -- were settled
@@ -78,7 +82,9 @@ offered c y settled = record c {
 abbrev pub offered_from : Choosing → ℕ → List Post → List Bool → Choosing
 offered_from c place [] needs = c
 offered_from c place (p ∷ ps) [] = c
-offered_from c place (p ∷ ps) (need ∷ needs) = offered_from (offered c (record { queue = p.queue; place = place }) (is_settled p.kept need)) (place + 1) ps needs
+offered_from c place (p ∷ ps) (need ∷ needs) =
+    offered_from (offered c (record { queue = p.queue; place = place }) (is_settled p.state need))
+    (place + 1) ps needs
 
 abbrev pub choice_of : Round → Choosing
 choice_of r = offered_from (choosing (length r.posts) r.last) 0 r.posts r.needs
@@ -100,7 +106,8 @@ abbrev pub last_after : Choosing → ℕ
 last_after c = cond (is_none c.unsettled) (queue_or c.after (queue_or c.first c.last)) c.last
 
 -- one call of the table at the end at a place, and none at the others
-pub record PostedAt (old : List Post) (place : ℕ) (need : Bool) (e : Event) (new : List Post) : Type 0 where
+pub record PostedAt (old : List Post) (place : ℕ) (need : Bool) (e : Event) (new : List Post) :
+    Type 0 where
   pub post : Post
   pub moved : Post
   pub there : slice_get old place ≡ Some post
@@ -123,12 +130,13 @@ pub record Turned (old : Round) (e : Event) (new : Round) : Type 0 where
 pub record IsRound (r : Round) : Type 0 where
   pub some : 0 < length r.posts
   pub needs : length r.needs ≡ length r.posts
-  pub apart : (k j : ℕ) (p q : Post) → slice_get r.posts k ≡ Some p → slice_get r.posts j ≡ Some q → p.queue ≡ q.queue → k ≡ j
+  pub apart : (k j : ℕ) (p q : Post) → slice_get r.posts k ≡ Some p → slice_get r.posts j ≡ Some q
+      → p.queue ≡ q.queue → k ≡ j
 
 abbrev pub settled_all : List Post → List Bool → Bool
 settled_all [] needs = true
 settled_all (p ∷ ps) [] = true
-settled_all (p ∷ ps) (need ∷ needs) = is_settled p.kept need && settled_all ps needs
+settled_all (p ∷ ps) (need ∷ needs) = is_settled p.state need && settled_all ps needs
 
 -- all ends are settled
 abbrev pub is_at_rest : Round → Bool
@@ -137,12 +145,16 @@ is_at_rest r = settled_all r.posts r.needs
 -- steps with no mark among them
 abbrev pub Unmarked : Round → List Event → Round → Type 0
 Unmarked r [] new = r ≡ new
-Unmarked r (e ∷ es) new = (next : Round) × (t : Turned r e next) × (is_mark_at t.posted.post e ≡ false) × Unmarked next es new
+Unmarked r (e ∷ es) new =
+    (next : Round) × (t : Turned r e next) × (is_mark_at t.posted.post e ≡ false)
+    × Unmarked next es new
 
 -- steps with no mark among them, before each of which some end isn't settled
 abbrev pub Unsettled : Round → List Event → Round → Type 0
 Unsettled r [] new = r ≡ new
-Unsettled r (e ∷ es) new = (next : Round) × (is_at_rest r ≡ false) × (t : Turned r e next) × (is_mark_at t.posted.post e ≡ false) × Unsettled next es new
+Unsettled r (e ∷ es) new =
+    (next : Round) × (is_at_rest r ≡ false) × (t : Turned r e next)
+    × (is_mark_at t.posted.post e ≡ false) × Unsettled next es new
 
 -- how many of the calls are on queue n
 abbrev pub calls_on : ℕ → List Event → ℕ
@@ -164,7 +176,8 @@ IsWithin count None = Unit {0}
 abbrev pub IsNext : ℕ → List Post → ℕ → Type 0
 IsNext last posts x =
     ((last < x) × ((k : ℕ) (p : Post) → slice_get posts k ≡ Some p → last < p.queue → x ≤ p.queue))
-    ⊎ (((k : ℕ) (p : Post) → slice_get posts k ≡ Some p → p.queue ≤ last) × ((k : ℕ) (p : Post) → slice_get posts k ≡ Some p → x ≤ p.queue))
+    ⊎ (((k : ℕ) (p : Post) → slice_get posts k ≡ Some p → p.queue ≤ last)
+    × ((k : ℕ) (p : Post) → slice_get posts k ≡ Some p → x ≤ p.queue))
 
 -- one of the calls was a wake on queue n that answered no
 pub record WokenInVain (n : ℕ) (side : Side) (es : List Event) : Type 0 where

@@ -1,3 +1,5 @@
+//! The discipline of one end of a queue, consuming or producing: it makes the next call of the table.
+
 ghost use Rattle.std.specs.Prelude.{◌≡◌, ◌==◌, ◌↔◌, ℕ, true, false, Some, None, IsSome, IfSome, option_to_list, is_some, [], ◌++◌};
 ghost use Rattle.std.specs.Option.{ForSome, option_map};
 ghost use Rattle.cargo_core.specs.Items.{kind_of};
@@ -8,9 +10,9 @@ ghost use Rattle.wire_core.specs.Marks.{is_mark};
 ghost use Rattle.turn_kit.specs.Calls.{may_answer};
 ghost use Rattle.turn_kit.specs.Turns.{Posted};
 ghost use Rattle.turn_kit.specs.Posts.{intake_post, outlet_post};
-ghost use Rattle.turn_kit.specs.Table.{next_op, kept_after, start_kept, is_settled, Agrees, moves_entry};
+ghost use Rattle.turn_kit.specs.Table.{next_op, state_after, start_state, is_settled, Agrees, moves_entry};
 
-use crate::Kept;
+use crate::EndState;
 use cargo_core::{Body, Item};
 use wire_core::{Answer, Event, Op, QueueId, Ringer, Side, Waiter, Wires};
 
@@ -62,22 +64,22 @@ fn call<W: Wires>(wires: &mut W, queue: QueueId, op: Op) -> Event
     }
 }
 
-/// The discipline of a consuming end. `queue` is the end's queue, `kept` what is kept of it.
+/// The discipline of a consuming end. `queue` is the end's queue, `state` how it stands.
 #[derive(Debug, Drop)]
 pub struct Intake {
     pub queue: QueueId,
-    pub kept: Kept,
+    pub state: EndState,
 }
 
 impl Intake {
     /// An end in its start state.
     pub fn new(queue: QueueId) -> Intake
         ensures queue { result.queue ≡ queue }
-        ensures kept { result.kept ≡ start_kept Side.Forward }
+        ensures state { result.state ≡ start_state Side.Forward }
     {
         Intake {
             queue,
-            kept: Kept {
+            state: EndState {
                 waiter: Waiter::Busy,
                 ringer: Ringer::Free,
                 look: None,
@@ -88,30 +90,32 @@ impl Intake {
     /// Makes the next call of the table, where `need` says whether an entry is needed. An entry is answered exactly for
     /// a take, and a take comes only where one is needed.
     pub fn step<W: Wires>(&mut self, wires: &mut W, need: bool) -> (Event, Option<(Item, Body)>)
-        requires { Agrees (W.ends wires.old Consumer self.old.queue.0) self.old.kept }
+        requires { Agrees (W.ends wires.old Consumer self.old.queue.0) self.old.state }
         ensures queue { self.new.queue ≡ self.old.queue }
         ensures on { result.0.queue ≡ self.old.queue }
-        ensures op { result.0.op ≡ next_op self.old.kept Side.Forward need }
+        ensures op { result.0.op ≡ next_op self.old.state Side.Forward need }
         ensures role { role_of result.0.op ≡ Consumer }
         ensures did { W.did wires.old (deed_of result.0 result.1) wires.new }
         ensures moves { Moves (W.ends wires.old) result.0 (W.ends wires.new) }
-        ensures kept { self.new.kept ≡ kept_after self.old.kept result.0.op result.0.answer }
-        ensures agrees { Agrees (W.ends wires.new Consumer self.old.queue.0) self.new.kept }
+        ensures state { self.new.state ≡ state_after self.old.state result.0.op result.0.answer }
+        ensures agrees { Agrees (W.ends wires.new Consumer self.old.queue.0) self.new.state }
         // An entry comes exactly at a take, and only where it is needed.
         ensures taken { IsSome result.1 ↔ (result.0.op ≡ Op.Take) }
         ensures needed { IsSome result.1 → need ≡ true }
         ensures item { result.0.item ≡ option_map (λ c. c.0) result.1 }
         ensures cargo { cargo_of (deed_of result.0 result.1) ≡ option_to_list result.1 }
-        ensures takes { (n : ℕ) → taken_by (deed_of result.0 result.1) n ≡ if_there (self.old.queue.0 == n) (option_to_list result.1) }
+        ensures takes { (n : ℕ) → taken_by (deed_of result.0 result.1) n
+            ≡ if_there (self.old.queue.0 == n) (option_to_list result.1) }
         ensures puts { (n : ℕ) → put_by (deed_of result.0 result.1) n ≡ [] }
-        ensures kind { IfSome result.1 (λ c. kind_of c.0 ≡ (W.ends wires.old Consumer self.old.queue.0).kind) }
+        ensures kind { IfSome result.1 (λ c. kind_of c.0
+            ≡ (W.ends wires.old Consumer self.old.queue.0).kind) }
         ensures posted { Posted (intake_post self.old) need result.0 (intake_post self.new) }
         ensures still { is_mark result.0.op result.0.answer ≡ false → result.1 ≡ None }
     {
-        let op = self.kept.next(Side::Forward, need);
+        let op = self.state.next(Side::Forward, need);
         if op == Op::Take {
             let (item, body) = wires.take(self.queue);
-            self.kept.note(op, Answer::Done);
+            self.state.note(op, Answer::Done);
             let event = Event {
                 queue: self.queue,
                 op,
@@ -121,41 +125,41 @@ impl Intake {
             return (event, Some((item, body)));
         }
         let event = call(wires, self.queue, op);
-        self.kept.note(op, event.answer);
+        self.state.note(op, event.answer);
         (event, None)
     }
 
     /// Whether the ringer is free and, where an entry is needed, the waiter is clear.
     pub fn settled(&self, need: bool) -> bool
-        ensures { result ≡ is_settled self.now.kept need }
+        ensures { result ≡ is_settled self.now.state need }
     {
-        self.kept.is_settled(need)
+        self.state.is_settled(need)
     }
 
     /// Discards the last look, and nothing else.
     pub fn forget(&mut self)
-        ensures { self.new ≡ record self.old { kept = record self.old.kept { look = None } } }
+        ensures { self.new ≡ record self.old { state = record self.old.state { look = None } } }
     {
-        self.kept.look = None;
+        self.state.look = None;
     }
 }
 
-/// The discipline of a producing end. `queue` is the end's queue, `kept` what is kept of it.
+/// The discipline of a producing end. `queue` is the end's queue, `state` how it stands.
 #[derive(Debug, Drop)]
 pub struct Outlet {
     pub queue: QueueId,
-    pub kept: Kept,
+    pub state: EndState,
 }
 
 impl Outlet {
     /// An end in its start state.
     pub fn new(queue: QueueId) -> Outlet
         ensures queue { result.queue ≡ queue }
-        ensures kept { result.kept ≡ start_kept Side.Backward }
+        ensures state { result.state ≡ start_state Side.Backward }
     {
         Outlet {
             queue,
-            kept: Kept {
+            state: EndState {
                 waiter: Waiter::Off,
                 ringer: Ringer::Free,
                 look: None,
@@ -165,30 +169,34 @@ impl Outlet {
 
     /// Makes the next call of the table. The load goes exactly at a put.
     pub fn step<W: Wires>(&mut self, wires: &mut W, load: &mut Option<(Item, Body)>) -> Event
-        requires agrees { Agrees (W.ends wires.old Producer self.old.queue.0) self.old.kept }
-        requires kind { ForSome load.old (λ c. kind_of c.0 ≡ (W.ends wires.old Producer self.old.queue.0).kind) }
+        requires agrees { Agrees (W.ends wires.old Producer self.old.queue.0) self.old.state }
+        requires kind { ForSome load.old (λ c. kind_of c.0
+            ≡ (W.ends wires.old Producer self.old.queue.0).kind) }
         ensures queue { self.new.queue ≡ self.old.queue }
         ensures on { result.queue ≡ self.old.queue }
-        ensures op { result.op ≡ next_op self.old.kept Side.Backward (is_some load.old) }
+        ensures op { result.op ≡ next_op self.old.state Side.Backward (is_some load.old) }
         ensures role { role_of result.op ≡ Producer }
         ensures did { W.did wires.old (deed_of result (put_of result load.old)) wires.new }
         ensures moves { Moves (W.ends wires.old) result (W.ends wires.new) }
-        ensures kept { self.new.kept ≡ kept_after self.old.kept result.op result.answer }
-        ensures agrees { Agrees (W.ends wires.new Producer self.old.queue.0) self.new.kept }
+        ensures state { self.new.state ≡ state_after self.old.state result.op result.answer }
+        ensures agrees { Agrees (W.ends wires.new Producer self.old.queue.0) self.new.state }
         // The load is what was put and what is left.
-        ensures load { option_to_list load.old ≡ option_to_list (put_of result load.old) ++ option_to_list load.new }
+        ensures load { option_to_list load.old ≡ option_to_list (put_of result load.old)
+            ++ option_to_list load.new }
         ensures takes { (n : ℕ) → taken_by (deed_of result (put_of result load.old)) n ≡ [] }
-        ensures puts { (n : ℕ) → put_by (deed_of result (put_of result load.old)) n ≡ if_there (self.old.queue.0 == n) (option_to_list (put_of result load.old)) }
+        ensures puts { (n : ℕ) → put_by (deed_of result (put_of result load.old)) n
+            ≡ if_there (self.old.queue.0 == n) (option_to_list (put_of result load.old)) }
         ensures item { result.item ≡ option_map (λ c. c.0) (put_of result load.old) }
         ensures put { IsSome result.item ↔ (result.op ≡ Op.Put) }
-        ensures posted { Posted (outlet_post self.old) (is_some load.old) result (outlet_post self.new) }
+        ensures posted { Posted (outlet_post self.old) (is_some load.old) result
+            (outlet_post self.new) }
         ensures still { is_mark result.op result.answer ≡ false → load.new ≡ load.old }
     {
-        let op = self.kept.next(Side::Backward, load.is_some());
+        let op = self.state.next(Side::Backward, load.is_some());
         if op == Op::Put {
             if let Some((item, body)) = load.take() {
                 wires.put(self.queue, item, body);
-                self.kept.note(op, Answer::Done);
+                self.state.note(op, Answer::Done);
                 return Event {
                     queue: self.queue,
                     op,
@@ -198,21 +206,21 @@ impl Outlet {
             }
         }
         let event = call(wires, self.queue, op);
-        self.kept.note(op, event.answer);
+        self.state.note(op, event.answer);
         event
     }
 
     /// Whether the ringer is free and, where an entry is loaded, the waiter is clear.
     pub fn settled(&self, loaded: bool) -> bool
-        ensures { result ≡ is_settled self.now.kept loaded }
+        ensures { result ≡ is_settled self.now.state loaded }
     {
-        self.kept.is_settled(loaded)
+        self.state.is_settled(loaded)
     }
 
     /// Discards the last look, and nothing else.
     pub fn forget(&mut self)
-        ensures { self.new ≡ record self.old { kept = record self.old.kept { look = None } } }
+        ensures { self.new ≡ record self.old { state = record self.old.state { look = None } } }
     {
-        self.kept.look = None;
+        self.state.look = None;
     }
 }

@@ -1,4 +1,5 @@
-// Several consuming ends of one actor.
+//! Several consuming ends of one actor.
+
 ghost use Rattle.std.specs.Prelude.{◌≡◌, ◌==◌, ◌↔◌, ◌<◌, ◌≤◌, ◌+◌, ◌^◌, ℕ, [], Some, None, true, false, IsSome, IfSome, IfNone, length, map, slice_get};
 ghost use Rattle.std.specs.Option.{option_map, option_to_list};
 ghost use Rattle.cargo_core.specs.Items.{kind_of};
@@ -46,9 +47,11 @@ impl Intakes {
         ensures taken { IsSome result.1 ↔ (result.0.op ≡ Op.Take) }
         ensures needed { IsSome result.1 → need ≡ true }
         ensures item { result.0.item ≡ option_map (λ c. c.0) result.1 }
-        ensures takes { (n : ℕ) → taken_by (deed_of result.0 result.1) n ≡ if_there (result.0.queue.0 == n) (option_to_list result.1) }
+        ensures takes { (n : ℕ) → taken_by (deed_of result.0 result.1) n
+            ≡ if_there (result.0.queue.0 == n) (option_to_list result.1) }
         ensures puts { (n : ℕ) → put_by (deed_of result.0 result.1) n ≡ [] }
-        ensures kind { IfSome result.1 (λ c. kind_of c.0 ≡ (W.ends wires.old Consumer result.0.queue.0).kind) }
+        ensures kind { IfSome result.1 (λ c. kind_of c.0
+            ≡ (W.ends wires.old Consumer result.0.queue.0).kind) }
         ensures posted { PostedAt (intake_posts self.old) k need result.0 (intake_posts self.new) }
         ensures still { is_mark result.0.op result.0.answer ≡ false → result.1 ≡ None }
     {
@@ -60,7 +63,8 @@ impl Intakes {
     /// these ends.
     pub fn offer<N: Needs>(&self, mut choice: Choice, base: usize, needs: &N) -> Choice
         requires { base + length (intake_queues self.now) ≤ choice.count }
-        ensures { result ≡ offered_from choice base (intake_posts self.now) (needs_from (N.need needs.now) 0 (intake_queues self.now)) }
+        ensures { result ≡ offered_from choice base (intake_posts self.now)
+            (needs_from (N.need needs.now) 0 (intake_queues self.now)) }
     {
         for (k, end) in self.ends.iter().enumerate() {
             choice = choice.offer(base + k, end.queue, end.settled(needs.at(k)));
@@ -70,7 +74,8 @@ impl Intakes {
 
     /// Whether all ends are settled.
     pub fn settled<N: Needs>(&self, needs: &N) -> bool
-        ensures { result ≡ settled_all (intake_posts self.now) (needs_from (N.need needs.now) 0 (intake_queues self.now)) }
+        ensures { result ≡ settled_all (intake_posts self.now)
+            (needs_from (N.need needs.now) 0 (intake_queues self.now)) }
     {
         for (k, end) in self.ends.iter().enumerate() {
             if !end.settled(needs.at(k)) {

@@ -1,4 +1,5 @@
-// Laws on the ends of an actor and their order, which no call has to show: they follow from the definitions alone.
+//! Laws on the ends of an actor and their order, which no call has to show: they follow from the definitions alone.
+
 ghost use Rattle.std.specs.Prelude.{◌≡◌, ◌+◌, ◌<◌, ◌≤◌, ℕ, Bool, true, false, Some, List, [], ◌∷◌, ◌++◌, length, slice_get};
 ghost use Rattle.turn_kit.specs.Table.{is_settled};
 ghost use Rattle.turn_kit.specs.Calls.{calls_left, settling_left, is_moving};
@@ -9,25 +10,37 @@ ghost use Rattle.wire_core.specs.Ends.{Role};
 ghost use Rattle.wire_core.specs.Journal.{History, Hostiles, LegalEntry, is_calm};
 ghost use Rattle.wire_core.specs.Marks.{Drops, since, calls_after, calls_at};
 
-use crate::Kept;
+use crate::EndState;
 use wire_core::{Entry, Event, QueueRow};
 
 /// One end: while it isn't settled, each of its calls that is no mark brings it nearer, so it makes at most 7 before it
 /// is settled or a mark comes, and at most 6 until it is settled.
 pub fn end_law()
-    ensures seven { (k : Kept) (need : Bool) → calls_left k need ≤ 7 }
-    ensures six { (k : Kept) (need : Bool) → settling_left k need ≤ 6 }
-    ensures nearer { (p q : Post) (need : Bool) (e : Event) → Posted p need e q → is_mark_at p e ≡ false → is_settled p.kept need ≡ false → calls_left q.kept need + 1 ≤ calls_left p.kept need }
-    ensures settles { (p q : Post) (need : Bool) (e : Event) → Posted p need e q → is_mark_at p e ≡ false → is_settled p.kept need ≡ false → is_moving q.kept need ≡ false → settling_left q.kept need + 1 ≤ settling_left p.kept need }
-    ensures moves { (p q : Post) (need : Bool) (e : Event) → Posted p need e q → is_mark_at p e ≡ false → is_moving p.kept need ≡ true → is_moving q.kept need ≡ true }
-    ensures stays { (p q : Post) (need : Bool) (e : Event) → Posted p need e q → is_mark_at p e ≡ false → is_settled p.kept need ≡ true → is_settled q.kept need ≡ true }
+    ensures seven { (k : EndState) (need : Bool) → calls_left k need ≤ 7 }
+    ensures six { (k : EndState) (need : Bool) → settling_left k need ≤ 6 }
+    ensures nearer { (p q : Post) (need : Bool) (e : Event) → Posted p need e q
+        → is_mark_at p e ≡ false → is_settled p.state need ≡ false
+        → calls_left q.state need + 1 ≤ calls_left p.state need }
+    ensures settles { (p q : Post) (need : Bool) (e : Event) → Posted p need e q
+        → is_mark_at p e ≡ false → is_settled p.state need ≡ false → is_moving q.state need ≡ false
+        → settling_left q.state need + 1 ≤ settling_left p.state need }
+    ensures moves { (p q : Post) (need : Bool) (e : Event) → Posted p need e q
+        → is_mark_at p e ≡ false → is_moving p.state need ≡ true → is_moving q.state need ≡ true }
+    ensures stays { (p q : Post) (need : Bool) (e : Event) → Posted p need e q
+        → is_mark_at p e ≡ false → is_settled p.state need ≡ true → is_settled q.state need ≡ true }
 {}
 
 /// Which end an actor steps: while some end isn't settled, one that isn't, with the lowest queue number of these; where
 /// all are settled, the next in rising queue number after the one that it stepped last in this way.
 pub fn turn_law()
-    ensures unsettled { (r m : Round) (e : Event) → IsRound r → (t : Turned r e m) → is_at_rest r ≡ false → (is_settled t.posted.post.kept t.need ≡ false) × ((k : ℕ) (p : Post) (n : Bool) → slice_get r.posts k ≡ Some p → slice_get r.needs k ≡ Some n → is_settled p.kept n ≡ false → t.posted.post.queue ≤ p.queue) × (m.last ≡ r.last) }
-    ensures settled { (r m : Round) (e : Event) → IsRound r → (t : Turned r e m) → is_at_rest r ≡ true → (m.last ≡ t.posted.post.queue) × IsNext r.last r.posts t.posted.post.queue }
+    ensures unsettled { (r m : Round) (e : Event) → IsRound r → (t : Turned r e m)
+        → is_at_rest r ≡ false → (is_settled t.posted.post.state t.need ≡ false)
+        × ((k : ℕ) (p : Post) (n : Bool) → slice_get r.posts k ≡ Some p
+        → slice_get r.needs k ≡ Some n → is_settled p.state n ≡ false
+        → t.posted.post.queue ≤ p.queue) × (m.last ≡ r.last) }
+    ensures settled { (r m : Round) (e : Event) → IsRound r → (t : Turned r e m)
+        → is_at_rest r ≡ true → (m.last ≡ t.posted.post.queue)
+        × IsNext r.last r.posts t.posted.post.queue }
 {}
 
 /// Each actor whose steps are turns keeps these. A mark is a take, a put, a wake that answers yes, or a look that answers no
@@ -35,14 +48,22 @@ pub fn turn_law()
 /// calls on each end; where at last all are settled, it has made at most 6 on each; then they stay settled until a mark;
 /// and within two rounds from there each end makes a wake, which is a mark where a notification is pending.
 pub fn mark_law()
-    ensures seven { (r new : Round) (es : List Event) → IsRound r → Unsettled r es new → (k : ℕ) (p : Post) → slice_get r.posts k ≡ Some p → calls_on p.queue es ≤ 7 }
-    ensures six { (r new : Round) (es : List Event) → IsRound r → Unsettled r es new → is_at_rest new ≡ true → (k : ℕ) (p : Post) → slice_get r.posts k ≡ Some p → calls_on p.queue es ≤ 6 }
-    ensures rest { (r new : Round) (es : List Event) → Unmarked r es new → is_at_rest r ≡ true → is_at_rest new ≡ true }
-    ensures wake { (r new : Round) (es : List Event) → IsRound r → is_at_rest r ≡ true → Unmarked r es new → length r.posts + length r.posts ≤ length es → (k : ℕ) (p : Post) → slice_get r.posts k ≡ Some p → WokenInVain p.queue p.side es }
+    ensures seven { (r new : Round) (es : List Event) → IsRound r → Unsettled r es new
+        → (k : ℕ) (p : Post) → slice_get r.posts k ≡ Some p → calls_on p.queue es ≤ 7 }
+    ensures six { (r new : Round) (es : List Event) → IsRound r → Unsettled r es new
+        → is_at_rest new ≡ true → (k : ℕ) (p : Post) → slice_get r.posts k ≡ Some p
+        → calls_on p.queue es ≤ 6 }
+    ensures rest { (r new : Round) (es : List Event) → Unmarked r es new → is_at_rest r ≡ true
+        → is_at_rest new ≡ true }
+    ensures wake { (r new : Round) (es : List Event) → IsRound r → is_at_rest r ≡ true
+        → Unmarked r es new → length r.posts + length r.posts ≤ length es → (k : ℕ) (p : Post)
+        → slice_get r.posts k ≡ Some p → WokenInVain p.queue p.side es }
     ensures next { (r m : Round) (e : Event) → IsRound r → Turned r e m → IsRound m }
     // What an actor did since its last mark is kept up by each turn, and the claims hold of it.
-    ensures since { (r m : Round) (e : Event) (calls : List Event) → (t : Turned r e m) → StandsSince r calls → StandsSince m (calls_after (is_mark_at t.posted.post e) calls e) }
-    ensures claims { (now : Round) (calls : List Event) → (s : StandsSince now calls) → SinceClaims s.start calls now }
+    ensures since { (r m : Round) (e : Event) (calls : List Event) → (t : Turned r e m)
+        → StandsSince r calls → StandsSince m (calls_after (is_mark_at t.posted.post e) calls e) }
+    ensures claims { (now : Round) (calls : List Event) → (s : StandsSince now calls)
+        → SinceClaims s.start calls now }
 {}
 
 /// Where each entry of a legal journal is a turn of an actor that wasn't at rest, or was called, the pace of all actors is
@@ -50,7 +71,19 @@ pub fn mark_law()
 /// queues without a hostile end, keep what is known of it; and from this it follows that it made at most 8 calls on each end since its last mark.
 pub fn pace_law()
     ensures begins { (pending : Pendings) (now : Round) → IsRound now → Paced pending [] now }
-    ensures own { (hostile : Hostiles) (drops : Drops) (history : History) (rows : List QueueRow) (before : List Entry) (e : Entry) → (legal : LegalEntry hostile history rows before e) → is_calm hostile legal.row ≡ true → (old new : Round) → Paced (pendings history before) (since drops e.actor.0 before) old → (t : Turned old e.event new) → drops e ≡ is_drop t.posted.post e.event → (is_at_rest old ≡ true → IsCalled (pendings history before) old.posts) → Paced (pendings history (before ++ e ∷ [])) (since drops e.actor.0 (before ++ e ∷ [])) new }
-    ensures beside { (hostile : Hostiles) (drops : Drops) (history : History) (rows : List QueueRow) (before : List Entry) (e : Entry) → (legal : LegalEntry hostile history rows before e) → is_calm hostile legal.row ≡ true → (a : ℕ) (now : Round) → (e.actor.0 ≡ a → ⊥) → AreOwnPosts rows a now.posts → Paced (pendings history before) (since drops a before) now → Paced (pendings history (before ++ e ∷ [])) (since drops a (before ++ e ∷ [])) now }
-    ensures few { (pending : Pendings) (calls : List Event) (now : Round) → Paced pending calls now → (r : Role) (n : ℕ) → calls_at r n calls ≤ 8 }
+    ensures own { (hostile : Hostiles) (drops : Drops) (history : History) (rows : List QueueRow)
+        (before : List Entry) (e : Entry) → (legal : LegalEntry hostile history rows before e)
+        → is_calm hostile legal.row ≡ true → (old new : Round) → Paced (pendings history before)
+        (since drops e.actor.0 before) old → (t : Turned old e.event new) → drops e
+        ≡ is_drop t.posted.post e.event → (is_at_rest old ≡ true → IsCalled
+        (pendings history before) old.posts) → Paced (pendings history (before ++ e ∷ []))
+        (since drops e.actor.0 (before ++ e ∷ [])) new }
+    ensures beside { (hostile : Hostiles) (drops : Drops) (history : History)
+        (rows : List QueueRow) (before : List Entry) (e : Entry) →
+        (legal : LegalEntry hostile history rows before e) → is_calm hostile legal.row ≡ true →
+        (a : ℕ) (now : Round) → (e.actor.0 ≡ a → ⊥) → AreOwnPosts rows a now.posts → Paced
+        (pendings history before) (since drops a before) now → Paced (pendings history
+        (before ++ e ∷ [])) (since drops a (before ++ e ∷ [])) now }
+    ensures few { (pending : Pendings) (calls : List Event) (now : Round)
+        → Paced pending calls now → (r : Role) (n : ℕ) → calls_at r n calls ≤ 8 }
 {}

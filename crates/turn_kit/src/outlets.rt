@@ -1,4 +1,5 @@
-// Several producing ends of one actor.
+//! Several producing ends of one actor.
+
 ghost use Rattle.std.specs.Prelude.{◌≡◌, ◌==◌, ◌↔◌, ◌<◌, ◌≤◌, ◌+◌, ◌++◌, ◌^◌, ℕ, [], Some, None, true, false, IsSome, length, is_some, slice_get};
 ghost use Rattle.std.specs.Option.{ForSome, option_map, option_to_list};
 ghost use Rattle.cargo_core.specs.Items.{kind_of};
@@ -37,19 +38,24 @@ impl Outlets {
     ) -> Event
         requires fits { FitsOutlets (W.ends wires.old) self.old }
         requires there { k < length (outlet_queues self.old) }
-        requires kind { ForSome load.old (λ c. (q : QueueId) → slice_get (outlet_queues self.old) k ≡ Some q → kind_of c.0 ≡ (W.ends wires.old Producer q.0).kind) }
+        requires kind { ForSome load.old (λ c. (q : QueueId)
+            → slice_get (outlet_queues self.old) k ≡ Some q
+            → kind_of c.0 ≡ (W.ends wires.old Producer q.0).kind) }
         ensures queues { outlet_queues self.new ≡ outlet_queues self.old }
         ensures on { slice_get (outlet_queues self.old) k ≡ Some result.queue }
         ensures role { role_of result.op ≡ Producer }
         ensures did { W.did wires.old (deed_of result (put_of result load.old)) wires.new }
         ensures moves { Moves (W.ends wires.old) result (W.ends wires.new) }
         ensures fits { FitsOutlets (W.ends wires.new) self.new }
-        ensures load { option_to_list load.old ≡ option_to_list (put_of result load.old) ++ option_to_list load.new }
+        ensures load { option_to_list load.old ≡ option_to_list (put_of result load.old)
+            ++ option_to_list load.new }
         ensures takes { (n : ℕ) → taken_by (deed_of result (put_of result load.old)) n ≡ [] }
-        ensures puts { (n : ℕ) → put_by (deed_of result (put_of result load.old)) n ≡ if_there (result.queue.0 == n) (option_to_list (put_of result load.old)) }
+        ensures puts { (n : ℕ) → put_by (deed_of result (put_of result load.old)) n
+            ≡ if_there (result.queue.0 == n) (option_to_list (put_of result load.old)) }
         ensures item { result.item ≡ option_map (λ c. c.0) (put_of result load.old) }
         ensures put { IsSome result.item ↔ (result.op ≡ Op.Put) }
-        ensures posted { PostedAt (outlet_posts self.old) k (is_some load.old) result (outlet_posts self.new) }
+        ensures posted { PostedAt (outlet_posts self.old) k (is_some load.old) result
+            (outlet_posts self.new) }
         ensures still { is_mark result.op result.answer ≡ false → load.new ≡ load.old }
     {
         let end = &mut self.ends[k];
@@ -60,7 +66,8 @@ impl Outlets {
     /// these ends.
     pub fn offer<N: Needs>(&self, mut choice: Choice, base: usize, loads: &N) -> Choice
         requires { base + length (outlet_queues self.now) ≤ choice.count }
-        ensures { result ≡ offered_from choice base (outlet_posts self.now) (needs_from (N.need loads.now) 0 (outlet_queues self.now)) }
+        ensures { result ≡ offered_from choice base (outlet_posts self.now)
+            (needs_from (N.need loads.now) 0 (outlet_queues self.now)) }
     {
         for (k, end) in self.ends.iter().enumerate() {
             choice = choice.offer(base + k, end.queue, end.settled(loads.at(k)));
@@ -70,7 +77,8 @@ impl Outlets {
 
     /// Whether all ends are settled.
     pub fn settled<N: Needs>(&self, loads: &N) -> bool
-        ensures { result ≡ settled_all (outlet_posts self.now) (needs_from (N.need loads.now) 0 (outlet_queues self.now)) }
+        ensures { result ≡ settled_all (outlet_posts self.now)
+            (needs_from (N.need loads.now) 0 (outlet_queues self.now)) }
     {
         for (k, end) in self.ends.iter().enumerate() {
             if !end.settled(loads.at(k)) {

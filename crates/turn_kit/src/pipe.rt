@@ -1,4 +1,5 @@
-// One input, one output and what is under way between them: what drivers are made of.
+//! One input, one output and what is under way between them: what drivers are made of.
+
 ghost use Rattle.std.specs.Prelude.{◌≡◌, ℕ, [], None, IsSome, is_some, is_none, false};
 ghost use Rattle.wire_core.specs.Deeds.{deed_of, put_of};
 ghost use Rattle.wire_core.specs.Lists.{Passed, taken_by, put_by, with_deed};
@@ -6,7 +7,7 @@ ghost use Rattle.wire_core.specs.Ends.{Moves, Consumer, Producer, role_of};
 ghost use Rattle.wire_core.specs.Marks.{is_mark};
 ghost use Rattle.turn_kit.specs.Turns.{Posted};
 ghost use Rattle.turn_kit.specs.Posts.{intake_post, outlet_post};
-ghost use Rattle.turn_kit.specs.Table.{is_settled, start_kept};
+ghost use Rattle.turn_kit.specs.Table.{is_settled, start_state};
 ghost use Rattle.turn_kit.specs.Pipes.{FitsPipe, PipeStandsFor, came};
 
 use crate::{Intake, Outlet};
@@ -26,8 +27,8 @@ impl Pipe {
     pub fn new(from: QueueId, to: QueueId) -> Pipe
         ensures from { result.input.queue ≡ from }
         ensures to { result.output.queue ≡ to }
-        ensures input { result.input.kept ≡ start_kept Side.Forward }
-        ensures output { result.output.kept ≡ start_kept Side.Backward }
+        ensures input { result.input.state ≡ start_state Side.Forward }
+        ensures output { result.output.state ≡ start_state Side.Backward }
         ensures load { result.load ≡ None }
     {
         Pipe {
@@ -47,16 +48,20 @@ impl Pipe {
         ensures did { W.did wires.old (deed_of result (came self.old.load self.new.load)) wires.new }
         ensures moves { Moves (W.ends wires.old) result (W.ends wires.new) }
         ensures fits { FitsPipe (W.ends wires.new) self.new }
-        ensures kept { (passed : Passed) → PipeStandsFor self.old passed → PipeStandsFor self.new (with_deed passed (deed_of result (came self.old.load self.new.load))) }
-        ensures takes { (n : ℕ) → (n ≡ self.old.input.queue.0 → ⊥) → taken_by (deed_of result (came self.old.load self.new.load)) n ≡ [] }
+        ensures kept { (passed : Passed) → PipeStandsFor self.old passed
+            → PipeStandsFor self.new (with_deed passed
+            (deed_of result (came self.old.load self.new.load))) }
+        ensures takes { (n : ℕ) → (n ≡ self.old.input.queue.0 → ⊥)
+            → taken_by (deed_of result (came self.old.load self.new.load)) n ≡ [] }
         ensures puts { (n : ℕ) → put_by (deed_of result (came self.old.load self.new.load)) n ≡ [] }
-        ensures posted { Posted (intake_post self.old.input) (is_none self.old.load) result (intake_post self.new.input) }
+        ensures posted { Posted (intake_post self.old.input) (is_none self.old.load) result
+            (intake_post self.new.input) }
         ensures still { is_mark result.op result.answer ≡ false → self.new.load ≡ self.old.load }
     {
         let need = self.load.is_none();
-        let (event, got) = self.input.step(wires, need);
-        if got.is_some() {
-            self.load = got;
+        let (event, taken) = self.input.step(wires, need);
+        if taken.is_some() {
+            self.load = taken;
         }
         event
     }
@@ -71,10 +76,14 @@ impl Pipe {
         ensures did { W.did wires.old (deed_of result (put_of result self.old.load)) wires.new }
         ensures moves { Moves (W.ends wires.old) result (W.ends wires.new) }
         ensures fits { FitsPipe (W.ends wires.new) self.new }
-        ensures kept { (passed : Passed) → PipeStandsFor self.old passed → PipeStandsFor self.new (with_deed passed (deed_of result (put_of result self.old.load))) }
+        ensures kept { (passed : Passed) → PipeStandsFor self.old passed
+            → PipeStandsFor self.new (with_deed passed
+            (deed_of result (put_of result self.old.load))) }
         ensures takes { (n : ℕ) → taken_by (deed_of result (put_of result self.old.load)) n ≡ [] }
-        ensures puts { (n : ℕ) → (n ≡ self.old.output.queue.0 → ⊥) → put_by (deed_of result (put_of result self.old.load)) n ≡ [] }
-        ensures posted { Posted (outlet_post self.old.output) (is_some self.old.load) result (outlet_post self.new.output) }
+        ensures puts { (n : ℕ) → (n ≡ self.old.output.queue.0 → ⊥)
+            → put_by (deed_of result (put_of result self.old.load)) n ≡ [] }
+        ensures posted { Posted (outlet_post self.old.output) (is_some self.old.load) result
+            (outlet_post self.new.output) }
         ensures still { is_mark result.op result.answer ≡ false → self.new.load ≡ self.old.load }
     {
         self.output.step(wires, &mut self.load)
@@ -82,21 +91,28 @@ impl Pipe {
 
     /// Whether the input is settled; it is needed where nothing is loaded.
     pub fn input_settled(&self) -> bool
-        ensures { result ≡ is_settled self.now.input.kept (is_none self.now.load) }
+        ensures { result ≡ is_settled self.now.input.state (is_none self.now.load) }
     {
         self.input.settled(self.load.is_none())
     }
 
     /// Whether the output is settled.
     pub fn output_settled(&self) -> bool
-        ensures { result ≡ is_settled self.now.output.kept (is_some self.now.load) }
+        ensures { result ≡ is_settled self.now.output.state (is_some self.now.load) }
     {
         self.output.settled(self.load.is_some())
     }
 
     /// Discards the last look of both ends, and nothing else.
     pub fn forget(&mut self)
-        ensures { self.new ≡ record self.old { input = record self.old.input { kept = record self.old.input.kept { look = None } }; output = record self.old.output { kept = record self.old.output.kept { look = None } } } }
+        ensures { self.new ≡ record self.old {
+          input =
+              record self.old.input { state = record self.old.input.state { look = None } };
+          output = record self.old.output {
+            state =
+                record self.old.output.state { look = None };
+          };
+        } }
     {
         self.input.forget();
         self.output.forget();

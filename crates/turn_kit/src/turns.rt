@@ -1,4 +1,5 @@
-// Which of an actor's ends is stepped.
+//! Which of an actor's ends is stepped.
+
 ghost use Rattle.std.specs.Prelude.{◌≡◌, ◌<◌};
 ghost use Rattle.turn_kit.specs.Turns.{choosing, lower, offered, chosen, last_after};
 

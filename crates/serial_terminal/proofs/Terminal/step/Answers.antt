@@ -8,7 +8,7 @@ returns-in-0-clause-stepped g c =
     record {
       body = s.body;
       happened = s.happened;
-      kept = λ passed h. s.kept passed (subst (λ t. TerminalStandsFor t passed) (sym c.choose.ensures.after) (record { sent_is = h.sent_is; heard_is = c.in_ok-reserve.ensures.ok ∙ h.heard_is }));
+      kept = λ passed h. s.kept passed (subst (λ t. TerminalStandsFor t passed) (sym c.choose.ensures.after) (record { sent_is = h.sent_is; record_is = c.in_ok-reserve.ensures.ok ∙ h.record_is }));
     }
 
 pub returns-in-1-clause-stepped : goal.returns-in-1-clause-stepped
@@ -17,5 +17,5 @@ returns-in-1-clause-stepped g c =
     record {
       body = s.body;
       happened = s.happened;
-      kept = λ passed h. s.kept passed (subst (λ t. TerminalStandsFor t passed) (sym c.choose.ensures.after) (record { sent_is = h.sent_is; heard_is = c.in_ok-reserve.ensures.ok ∙ h.heard_is }));
+      kept = λ passed h. s.kept passed (subst (λ t. TerminalStandsFor t passed) (sym c.choose.ensures.after) (record { sent_is = h.sent_is; record_is = c.in_ok-reserve.ensures.ok ∙ h.record_is }));
     }

@@ -12,6 +12,6 @@ returns-then-is_some-clause-stepped g c = record {
   happened = c.step-event.ensures.did;
   kept = λ passed h. record {
     sent_is = rw (c.step-event.ensures.queue, c.step-event.ensures.puts c.args.self.now.output.queue.0, if_there_here c.args.self.now.output.queue.0 (option_to_list (put_of c.step-event.result c.load-load.result)), h.sent_is) (spoken_put c.args.self.now.script c.args.self.now.next _ c.step-event.result.item c.load-load.result (sym c.is_some.ensures ∙ c.if-is_some.true) refl c.load-load.ensures.load c.step-event.ensures.item);
-    heard_is = rw (c.step-event.ensures.takes c.args.self.now.input.queue.0, append-nil) h.heard_is;
+    record_is = rw (c.step-event.ensures.takes c.args.self.now.input.queue.0, append-nil) h.record_is;
   };
 }

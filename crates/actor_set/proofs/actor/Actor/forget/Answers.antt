@@ -1,6 +1,5 @@
-use Rattle.std.proofs.Common.{sym, ap, subst}
-use Rattle.device_model.specs.declared.UartDevice.{UartDevice}
-use Rattle.client_programs.specs.declared.SerialClient.{SerialClient}
+use Rattle.std.proofs.Common.{◌∙◌, sym, ap, subst}
+use Rattle.serial_terminal.specs.Terminals.{terminal_forgotten}
 use Rattle.actor_set.specs.declared.actor.Actor.TheVariants as Kinds
 use Rattle.actor_set.specs.Actors.{FitsActor, Forgot}
 use Rattle.actor_set.proofs.actor.Actor.forget.Goals as goal
@@ -12,10 +11,7 @@ pub returns-in-SerialVirtTx-clause-fits : goal.returns-in-SerialVirtTx-clause-fi
 returns-in-SerialVirtTx-clause-fits c = λ ends h. c.forget-in-SerialVirtTx.ensures.fits ends (subst (FitsActor ends) c.in-SerialVirtTx.is h)
 
 pub returns-in-UartDevice-clause-after : goal.returns-in-UartDevice-clause-after
-returns-in-UartDevice-clause-after c = subst (λ a. Forgot a (Kinds.UartDevice c.forget.new.self)) (sym c.in-UartDevice.is) (ap (λ (d : UartDevice). d.terminal) c.forget.ensures.after)
-
-pub returns-in-UartDriver-clause-after : goal.returns-in-UartDriver-clause-after
-returns-in-UartDriver-clause-after c = subst (λ a. Forgot a (Kinds.UartDriver c.forget-in-UartDriver.new.self)) (sym c.in-UartDriver.is) (c.forget-in-UartDriver.ensures.pipes, c.forget-in-UartDriver.ensures.turn)
+returns-in-UartDevice-clause-after c = subst (λ a. Forgot a (Kinds.UartDevice (record { terminal = c.forget.new.self }))) (sym c.in-UartDevice.is) (c.forget.ensures.after ∙ ap terminal_forgotten c.deref_mut.ensures.value)
 
 pub returns-in-SerialVirtRx-clause-after : goal.returns-in-SerialVirtRx-clause-after
 returns-in-SerialVirtRx-clause-after c = subst (λ a. Forgot a (Kinds.SerialVirtRx c.forget-in-SerialVirtRx.new.self)) (sym c.in-SerialVirtRx.is) c.forget-in-SerialVirtRx.ensures.after
@@ -24,4 +20,4 @@ pub returns-in-SerialVirtTx-clause-after : goal.returns-in-SerialVirtTx-clause-a
 returns-in-SerialVirtTx-clause-after c = subst (λ a. Forgot a (Kinds.SerialVirtTx c.forget-in-SerialVirtTx.new.self)) (sym c.in-SerialVirtTx.is) c.forget-in-SerialVirtTx.ensures.after
 
 pub returns-in-SerialClient-clause-after : goal.returns-in-SerialClient-clause-after
-returns-in-SerialClient-clause-after c = subst (λ a. Forgot a (Kinds.SerialClient c.forget-in-SerialClient.new.self)) (sym c.in-SerialClient.is) (ap (λ (d : SerialClient). d.terminal) c.forget-in-SerialClient.ensures.after)
+returns-in-SerialClient-clause-after c = subst (λ a. Forgot a (Kinds.SerialClient (record { terminal = c.forget-in-SerialClient.new.self }))) (sym c.in-SerialClient.is) (c.forget-in-SerialClient.ensures.after ∙ ap terminal_forgotten c.deref_mut-in-SerialClient.ensures.value)

@@ -1,7 +1,7 @@
-use Rattle.std.proofs.Common.{subst}
-use Rattle.device_model.specs.Devices.{UartStandsFor}
+use Rattle.std.proofs.Common.{sym, subst}
+use Rattle.serial_terminal.specs.Terminals.{TerminalStandsFor}
 use Rattle.pipe_driver.specs.Drivers.{PipesStandFor}
-use Rattle.client_programs.specs.Clients.{SerialStandsFor}
+use Rattle.pipe_driver.specs.Lengths.{two_pipes}
 use Rattle.serial_virt.specs.Receiving.{RxStandsFor}
 use Rattle.serial_virt.specs.Sending.{TxStandsFor}
 use Rattle.actor_set.specs.Actors.{ActorStandsFor}
@@ -9,13 +9,13 @@ use Rattle.actor_set.proofs.Casting.{ok_actor, as_actor}
 use Rattle.actor_set.proofs.actor.Actor.step.Goals as goal
 
 pub returns-in-UartDevice-clause-stepped : goal.returns-in-UartDevice-clause-stepped
-returns-in-UartDevice-clause-stepped g c = ok_actor UartStandsFor _ _ _ _ _ _ _ c.step.result (λ passed h. subst (λ a. ActorStandsFor a passed) c.in-UartDevice.is h) (λ passed h. h) c.step.ensures.stepped
+returns-in-UartDevice-clause-stepped g c = ok_actor TerminalStandsFor _ _ _ _ _ _ _ c.step.result (λ passed h. subst (λ t. TerminalStandsFor t passed) (sym c.deref_mut.ensures.value) (subst (λ a. ActorStandsFor a passed) c.in-UartDevice.is h)) (λ passed h. h) c.step.ensures.stepped
 
 pub returns-in-UartDriver-clause-stepped : goal.returns-in-UartDriver-clause-stepped
-returns-in-UartDriver-clause-stepped g c = as_actor PipesStandFor _ _ _ _ _ _ _ _ (λ passed h. subst (λ a. ActorStandsFor a passed) c.in-UartDriver.is h) (λ passed h. h) c.step-in-UartDriver.ensures.stepped
+returns-in-UartDriver-clause-stepped g c = as_actor PipesStandFor _ _ _ _ _ _ _ _ (λ passed h. subst (λ d. PipesStandFor (two_pipes d.pipes) passed) (sym c.deref_mut-in-UartDriver.ensures.value) (subst (λ a. ActorStandsFor a passed) c.in-UartDriver.is h)) (λ passed h. h) c.step-in-UartDriver.ensures.stepped
 
 pub returns-in-SerialClient-clause-stepped : goal.returns-in-SerialClient-clause-stepped
-returns-in-SerialClient-clause-stepped g c = ok_actor SerialStandsFor _ _ _ _ _ _ _ c.step-in-SerialClient.result (λ passed h. subst (λ a. ActorStandsFor a passed) c.in-SerialClient.is h) (λ passed h. h) c.step-in-SerialClient.ensures.stepped
+returns-in-SerialClient-clause-stepped g c = ok_actor TerminalStandsFor _ _ _ _ _ _ _ c.step-in-SerialClient.result (λ passed h. subst (λ t. TerminalStandsFor t passed) (sym c.deref_mut-in-SerialClient.ensures.value) (subst (λ a. ActorStandsFor a passed) c.in-SerialClient.is h)) (λ passed h. h) c.step-in-SerialClient.ensures.stepped
 
 pub returns-in-SerialVirtRx-clause-stepped : goal.returns-in-SerialVirtRx-clause-stepped
 returns-in-SerialVirtRx-clause-stepped g c = as_actor RxStandsFor _ _ _ _ _ _ _ _ (λ passed h. subst (λ a. ActorStandsFor a passed) c.in-SerialVirtRx.is h) (λ passed h. h) c.step-in-SerialVirtRx.ensures.stepped

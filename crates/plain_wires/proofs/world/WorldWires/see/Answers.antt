@@ -5,7 +5,7 @@ use Rattle.wire_core.proofs.Moving.{moves, happens_here}
 use Rattle.plain_wires.proofs.world.WorldWires.see.Goals as goal
 
 pub returns-clause-did : goal.returns-clause-did
-returns-clause-did c = happens_here _ _ (look_deed c.args.q Do.See c.see.result) _ _ c.self.view_is c.requires c.index_mut-line.ensures.value (ap answer_of c.see.ensures.now) refl refl c.see.ensures.after
+returns-clause-did c = happens_here _ _ (look_deed c.args.q Do.See c.see.result) _ _ c.self.view_is c.requires c.index_mut-queue.ensures.value (ap answer_of c.see.ensures.now) refl refl c.see.ensures.after
 
 pub returns-clause-ends : goal.returns-clause-ends
 returns-clause-ends c = moves _ (look_deed c.args.q Do.See c.see.result) _ (returns-clause-did c)

@@ -9,7 +9,7 @@ pub returns-clause-fits : goal.returns-clause-fits
 returns-clause-fits c = λ ends h.
     let stay = outlets_stay c.args.self.now.outputs.ends.items c.forget_outputs.new.outputs.ends.items c.forget_outputs.ensures in
     record {
-      input = rw c.forget.ensures (still_agrees _ c.args.self.now.input.kept h.input);
+      input = rw c.forget.ensures (still_agrees _ c.args.self.now.input.state h.input);
       outputs = record {
         agrees = outlets_agree ends c.args.self.now.outputs.ends.items c.forget_outputs.new.outputs.ends.items c.forget_outputs.ensures h.outputs.agrees;
         apart = rw stay h.outputs.apart;

@@ -17,7 +17,7 @@ pub returns-clause-within : goal.returns-clause-within
 returns-clause-within c = let e = count c.before in omega (arith, e, c.pass.ensures.within, c.len.ensures.len)
 
 choice : (c : goal.After-pass-arg-1) → c.offer-choice-2.result ≡ choice_of (tx_round c.args.self.now)
-choice c = tx_choice c.args.self.now c.is_none-free.result c.settled.result (1 + c.len.result) c.begin.result c.offer-choice.result c.offer-choice-2.result (free_is c.args.self.now.load c.is_none-free.result c.is_none-free.ensures) (c.settled.ensures ∙ ap (λ b. is_settled c.args.self.now.output.kept b) c.is_some.ensures) (ap (λ n. 1 + n) c.len.ensures.len) c.begin.ensures c.offer-choice.ensures c.offer-choice-2.ensures
+choice c = tx_choice c.args.self.now c.is_none-free.result c.settled.result (1 + c.len.result) c.begin.result c.offer-choice.result c.offer-choice-2.result (free_is c.args.self.now.load c.is_none-free.result c.is_none-free.ensures) (c.settled.ensures ∙ ap (λ b. is_settled c.args.self.now.output.state b) c.is_some.ensures) (ap (λ n. 1 + n) c.len.ensures.len) c.begin.ensures c.offer-choice.ensures c.offer-choice-2.ensures
 
 pub returns-clause-place : goal.returns-clause-place
 returns-clause-place c = c.pass.ensures.place ∙ ap chosen (choice c.before)

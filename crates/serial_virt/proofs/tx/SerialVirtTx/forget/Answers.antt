@@ -13,7 +13,7 @@ returns-clause-fits c = λ ends h.
         agrees = intakes_agree ends c.args.self.now.inputs.ends.items c.forget_inputs.new.inputs.ends.items c.forget_inputs.ensures h.inputs.agrees;
         apart = rw stay h.inputs.apart;
       };
-      output = rw c.forget.ensures (still_agrees _ c.args.self.now.output.kept h.output);
+      output = rw c.forget.ensures (still_agrees _ c.args.self.now.output.state h.output);
       hears = rw stay h.hears;
       says = rw c.forget.ensures h.says;
       load = h.load;

@@ -5,6 +5,7 @@ use Rattle.wire_core.specs.Ends.{Consumer}
 use Rattle.turn_kit.specs.Table.{Agrees}
 use Rattle.turn_kit.specs.Posts.{intake_post}
 use Rattle.turn_kit.proofs.Offers.{posted_at}
+use Rattle.turn_kit.specs.declared.ends.Intake.{Intake}
 use Rattle.turn_kit.proofs.ManyEnds.{queue_of, same_queues, all_agree}
 use Rattle.turn_kit.proofs.intakes.Intakes.step.Goals as goal
 
@@ -12,15 +13,15 @@ at_k : (g : _) (c : goal.After-self-1 g) → slice_get c.args.self.now.ends.item
 at_k g c = slice_get_read c.args.self.now.ends.items _ c.args.k c.index_mut-end.result.now refl (subst (λ n. c.args.k < n) (simp length-map) c.requires.there) c.index_mut-end.ensures.value
 
 pub returns-clause-queues : goal.returns-clause-queues
-returns-clause-queues g c = same_queues c.args.self.now.ends.items c.args.k c.index_mut-end.result.now c.step.new.self (at_k g c) c.step.ensures.queue
+returns-clause-queues g c = same_queues (λ (i : Intake). i.queue) c.args.self.now.ends.items c.args.k c.index_mut-end.result.now c.step.new.self (at_k g c) c.step.ensures.queue
 
 pub returns-clause-on : goal.returns-clause-on
-returns-clause-on g c = queue_of c.args.self.now.ends.items c.args.k c.index_mut-end.result.now (at_k g c) ∙ ap (λ q. Some q) (sym c.step.ensures.on)
+returns-clause-on g c = queue_of (λ (i : Intake). i.queue) c.args.self.now.ends.items c.args.k c.index_mut-end.result.now (at_k g c) ∙ ap (λ q. Some q) (sym c.step.ensures.on)
 
 pub returns-clause-fits : goal.returns-clause-fits
 returns-clause-fits g c = record {
-  agrees = all_agree (g.W.Wires.ends c.args.wires.now) (g.W.Wires.ends c.step.new.wires) c.args.self.now.ends.items c.args.k c.index_mut-end.result.now c.step.new.self (at_k g c) c.step.ensures.queue c.requires.fits.apart (λ r n away. c.step.ensures.moves.others r n (λ a b. away (a ∙ c.step.ensures.role) (b ∙ ap (λ q. q.0) c.step.ensures.on))) c.requires.fits.agrees (subst (λ q. Agrees (g.W.Wires.ends c.step.new.wires Consumer q.0) c.step.new.self.kept) (sym c.step.ensures.queue) c.step.ensures.agrees);
-  apart = rw (same_queues c.args.self.now.ends.items c.args.k c.index_mut-end.result.now c.step.new.self (at_k g c) c.step.ensures.queue) c.requires.fits.apart;
+  agrees = all_agree Consumer (λ (i : Intake). i.queue) (λ (i : Intake). i.state) (g.W.Wires.ends c.args.wires.now) (g.W.Wires.ends c.step.new.wires) c.args.self.now.ends.items c.args.k c.index_mut-end.result.now c.step.new.self (at_k g c) c.step.ensures.queue c.requires.fits.apart (λ r n away. c.step.ensures.moves.others r n (λ a b. away (a ∙ c.step.ensures.role) (b ∙ ap (λ q. q.0) c.step.ensures.on))) c.requires.fits.agrees (subst (λ q. Agrees (g.W.Wires.ends c.step.new.wires Consumer q.0) c.step.new.self.state) (sym c.step.ensures.queue) c.step.ensures.agrees);
+  apart = rw (same_queues (λ (i : Intake). i.queue) c.args.self.now.ends.items c.args.k c.index_mut-end.result.now c.step.new.self (at_k g c) c.step.ensures.queue) c.requires.fits.apart;
 }
 
 pub returns-clause-posted : goal.returns-clause-posted

@@ -1,7 +1,7 @@
 use Rattle.std.proofs.Common.{arith, ◌≡◌}
 use Rattle.std.proofs.lemmas.List.Elements.{All-drop}
 use Rattle.cargo_core.specs.Items.{kind_of}
-use Rattle.plain_wires.proofs.line.Line.take.Goals as goal
+use Rattle.plain_wires.proofs.queue.PlainQueue.take.Goals as goal
 
 pub invariant_of-self : goal.invariant_of-self
 invariant_of-self c = record {

@@ -1,4 +1,5 @@
-// One queue: what stands in it, its two bells, and the looks that answered yes and aren't used.
+//! One queue: what stands in it, its two bells, and the looks that answered yes and aren't used.
+
 ghost use Rattle.std.specs.Prelude.{◌≡◌, ◌<◌, not, true, false, length, IfOk, Some, None, [], ◌∷◌};
 ghost use Rattle.cargo_core.specs.Items.{kind_of};
 ghost use Rattle.wire_core.specs.Deeds.{answer_of};
@@ -14,7 +15,7 @@ use wire_core::{ActorId, Answer, BellState, Op, QueueRow, Ringer, Side, Waiter};
 
 /// One queue. `saw` and `free` are the last looks of its two ends, as long as they aren't used.
 #[derive(Drop)]
-pub struct Line {
+pub struct PlainQueue {
     kind: QueueKind,
     capacity: u32,
     producer: ActorId,
@@ -26,24 +27,24 @@ pub struct Line {
     free: bool,
 }
 
-impl Model for Line {
+impl Model for PlainQueue {
     ghost use Rattle.wire_core.specs.Queues.{Queue};
 
     ghost Value = { Queue };
 
-    ghost use Rattle.plain_wires.specs.Lines.{queue_of, IsLine};
+    ghost use Rattle.plain_wires.specs.PlainQueues.{queue_of, IsPlainQueue};
 
     ghost view = { queue_of };
 
-    ghost invariant = { IsLine };
+    ghost invariant = { IsPlainQueue };
 }
 
-impl Line {
+impl PlainQueue {
     /// The queue of a row in its start state, with its room taken.
-    pub fn new(alloc: Global, row: &QueueRow) -> Result<Line, Memory>
+    pub fn new(alloc: Global, row: &QueueRow) -> Result<PlainQueue, Memory>
         ensures { IfOk result (λ l. l ≡ start_queue row.now) }
     {
-        Ok(Line {
+        Ok(PlainQueue {
             kind: row.kind,
             capacity: row.capacity,
             producer: row.producer,
@@ -74,7 +75,7 @@ impl Line {
     }
 
     /// The actor that waits on a bell: forward the consumer, backward the producer.
-    pub fn waits(&self, side: Side) -> ActorId
+    pub fn waiting_actor(&self, side: Side) -> ActorId
         ensures { result.0 ≡ waiting_actor self.now side }
     {
         match side {
