@@ -1,0 +1,39 @@
+-- The places of the table are the class part of the walk.
+use Rattle.std.proofs.Common.{◌≡◌, List, [], ◌∷◌, ◌++◌, map, Option, Some, None, length, refl, ap, ◌∙◌}
+use Rattle.std.specs.Option.{option_map, option_map_or}
+use Rattle.sdf_model.specs.declared.place.Place.{Place}
+use Rattle.sdf_model.specs.declared.place.Place.TheVariants as At
+use Rattle.sdf_model.specs.declared.plan.Plan.{Plan}
+use Rattle.sdf_model.specs.declared.plan.Net.{Net}
+use Rattle.sdf_model.specs.declared.plan.Serial.{Serial}
+use Rattle.sdf_model.specs.declared.plan.Blk.{Blk}
+use Rattle.sdf_model.specs.Places.{class_places}
+use Rattle.class_table.specs.Table.{Element, net_elements, net_client_element, serial_elements, serial_client_element, blk_elements, blk_client_element, table_of, class_part}
+use Rattle.class_table.proofs.Numbered.{numbered-places}
+
+abbrev places : List Element → List Place
+places es = map (λ (e : Element). e.place) es
+
+places-both : (xs ys : List Element) → places (xs ++ ys) ≡ places xs ++ places ys
+places-both [] ys = refl
+places-both (x ∷ xs) ys = ap (λ ps. x.place ∷ ps) (places-both xs ys)
+
+net-places : (o : Option Net) → places (option_map_or net_elements o []) ≡ class_places At.Net (λ c. At.NetClient c) (option_map (λ (x : Net). length x.client) o)
+net-places None = refl
+net-places (Some net) = ap (λ ps. At.Net ∷ ps) (numbered-places (net_client_element net) (λ c. At.NetClient c) 0 net.client (λ k client. refl))
+
+serial-places : (o : Option Serial) → places (option_map_or serial_elements o []) ≡ class_places At.Serial (λ c. At.SerialClient c) (option_map (λ (x : Serial). length x.client) o)
+serial-places None = refl
+serial-places (Some serial) = ap (λ ps. At.Serial ∷ ps) (numbered-places (serial_client_element serial) (λ c. At.SerialClient c) 0 serial.client (λ k client. refl))
+
+blk-places : (o : Option Blk) → places (option_map_or blk_elements o []) ≡ class_places At.Blk (λ c. At.BlkClient c) (option_map (λ (x : Blk). length x.client) o)
+blk-places None = refl
+blk-places (Some blk) = ap (λ ps. At.Blk ∷ ps) (numbered-places (blk_client_element blk) (λ c. At.BlkClient c) 0 blk.client (λ k client. refl))
+
+joined : (xs ys zs : List Element) (a b c : List Place) → places xs ≡ a → places ys ≡ b → places zs ≡ c → places (xs ++ ys ++ zs) ≡ a ++ b ++ c
+joined xs ys zs a b c one two three =
+    rw (← one, ← two, ← three) (places-both (xs ++ ys) zs ∙ ap (λ ps. ps ++ places zs) (places-both xs ys))
+
+pub table_places : (plan : Plan) → places (table_of plan) ≡ class_part plan
+unfolding table_of
+table_places plan = joined _ _ _ _ _ _ (net-places plan.net) (serial-places plan.serial) (blk-places plan.blk)

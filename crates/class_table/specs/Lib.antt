@@ -1,0 +1,6 @@
+-- The rows of each element (Rows), the table of a plan (Table), the programs of a role (Roles), and
+-- what the program's rows show (Shown).
+pub mod Roles
+pub mod Rows
+pub mod Shown
+pub mod Table

@@ -1,0 +1,68 @@
+-- What the rows of the program show, whose texts stand behind references: the rows of the table.
+use Rattle.std.specs.Prelude.{ℕ, List, map}
+use Rattle.std.specs.Option.{option_map}
+use denote.Ref.{Bor}
+use Rattle.class_table.specs.declared.uses.UseName.{UseName}
+use Rattle.class_table.specs.declared.uses.Link.{Link}
+use Rattle.class_table.specs.declared.uses.Ends.{Ends}
+use Rattle.class_table.specs.declared.uses.Ends.TheVariants as Way
+use Rattle.class_table.specs.declared.uses.RoleUse.{RoleUse}
+use Rattle.class_table.specs.declared.uses.QueueUse.{QueueUse}
+use Rattle.class_table.specs.declared.uses.Grant.{Grant}
+use Rattle.class_table.specs.declared.uses.PoolUse.{PoolUse}
+use Rattle.class_table.specs.declared.uses.ClassElement.{ClassElement}
+use Rattle.class_table.specs.Rows.{Name}
+use Rattle.class_table.specs.Table.{Element}
+
+-- a text behind a reference
+abbrev pub Shelved : Type 0
+Shelved = Bor (List ℕ)
+
+abbrev pub name_shown : Shelved → Name
+name_shown text = text.now
+
+abbrev pub use_name_shown : UseName Shelved → UseName Name
+use_name_shown n = record { first = n.first.now; client = n.client; rest = n.rest.now }
+
+abbrev pub role_shown : RoleUse Shelved → RoleUse Name
+role_shown r = record { domain = r.domain.now; role = r.role }
+
+abbrev pub link_shown : Link Shelved → Link Name
+link_shown l = record { region = l.region.now; from = l.from.now; to = l.to.now }
+
+abbrev pub ends_shown : Ends Shelved → Ends Name
+ends_shown (Way.FromDevice driver) = Way.FromDevice driver.now
+ends_shown (Way.ToDevice driver) = Way.ToDevice driver.now
+ends_shown (Way.Across link) = Way.Across (link_shown link)
+
+abbrev pub queue_shown : QueueUse Shelved → QueueUse Name
+queue_shown q = record {
+  name = use_name_shown q.name;
+  kind = q.kind;
+  ends = ends_shown q.ends;
+  behind = q.behind;
+  capacity = q.capacity;
+  holds = q.holds;
+}
+
+abbrev pub grant_shown : Grant Shelved → Grant Name
+grant_shown g = record { domain = g.domain.now; writes = g.writes }
+
+abbrev pub pool_shown : PoolUse Shelved → PoolUse Name
+pool_shown p = record {
+  name = use_name_shown p.name;
+  region = p.region.now;
+  must = map grant_shown p.must;
+  may = map name_shown p.may;
+  buffers = p.buffers;
+  size = p.size;
+}
+
+abbrev pub element_shown : ClassElement Shelved → Element
+element_shown e = record {
+  place = e.place;
+  roles = map role_shown e.roles;
+  driver = option_map name_shown e.driver;
+  queues = map queue_shown e.queues;
+  pools = map pool_shown e.pools;
+}

@@ -1,0 +1,124 @@
+//! The table of a plan: its elements class by class, each class before its clients.
+ghost use Rattle.std.specs.Prelude.{◌≡◌, ◌++◌, [], map, IfOk, OnOk};
+ghost use Rattle.std.specs.Option.{option_map_or};
+ghost use Rattle.class_table.specs.Shown.{element_shown};
+ghost use Rattle.class_table.specs.Table.{table_of, net_elements, serial_elements, blk_elements, numbered, net_client_element, serial_client_element, blk_client_element};
+
+use crate::blk::{blk_client_element, blk_element};
+use crate::net::{net_client_element, net_element};
+use crate::serial::{serial_client_element, serial_element};
+use crate::uses::ClassElement;
+use cargo_core::Memory;
+use sdf_model::{Blk, BlkClient, Net, NetClient, Plan, Serial, SerialClient, number_of};
+use std::alloc::Global;
+
+/// The elements of the classes of a plan, in the order of the walk. Their texts are the plan's.
+#[tactic(auto, using(std::proofs::Common::append_assoc), unfolding(crate::specs::Table::table_of))]
+pub fn table_of<'a>(alloc: Global, plan: &'a Plan) -> Result<Vec<ClassElement<&'a str>>, Memory>
+    ensures { IfOk result (λ table. map element_shown table.items ≡ table_of plan.now) }
+{
+    let mut table = Vec::new(alloc);
+    add_net(alloc, &mut table, &plan.net)?;
+    add_serial(alloc, &mut table, &plan.serial)?;
+    add_blk(alloc, &mut table, &plan.blk)?;
+    Ok(table)
+}
+
+fn add_net<'a>(
+    alloc: Global,
+    table: &mut Vec<ClassElement<&'a str>>,
+    class: &'a Option<Net>,
+) -> Result<(), Memory>
+    ensures { OnOk result
+        (map element_shown table.new.items
+        ≡ map element_shown table.old.items ++ option_map_or net_elements class.now []) }
+{
+    if let Some(net) = class {
+        table.push(net_element(alloc, net)?)?;
+        add_net_clients(alloc, table, net, net.client.as_slice())?;
+    }
+    Ok(())
+}
+
+fn add_net_clients<'a>(
+    alloc: Global,
+    table: &mut Vec<ClassElement<&'a str>>,
+    net: &'a Net,
+    clients: &'a [NetClient],
+) -> Result<(), Memory>
+    ensures { OnOk result
+        (map element_shown table.new.items
+        ≡ map element_shown table.old.items ++ numbered (net_client_element net.now) 0 clients.now) }
+{
+    for (at, client) in clients.iter().enumerate() {
+        let number = number_of(alloc, at)?;
+        table.push(net_client_element(alloc, net, number, client)?)?;
+    }
+    Ok(())
+}
+
+fn add_serial<'a>(
+    alloc: Global,
+    table: &mut Vec<ClassElement<&'a str>>,
+    class: &'a Option<Serial>,
+) -> Result<(), Memory>
+    ensures { OnOk result
+        (map element_shown table.new.items
+        ≡ map element_shown table.old.items ++ option_map_or serial_elements class.now []) }
+{
+    if let Some(serial) = class {
+        table.push(serial_element(alloc, serial)?)?;
+        add_serial_clients(alloc, table, serial, serial.client.as_slice())?;
+    }
+    Ok(())
+}
+
+fn add_serial_clients<'a>(
+    alloc: Global,
+    table: &mut Vec<ClassElement<&'a str>>,
+    serial: &'a Serial,
+    clients: &'a [SerialClient],
+) -> Result<(), Memory>
+    ensures { OnOk result
+        (map element_shown table.new.items
+        ≡ map element_shown table.old.items ++ numbered (serial_client_element serial.now) 0 clients.now) }
+{
+    for (at, client) in clients.iter().enumerate() {
+        let number = number_of(alloc, at)?;
+        table.push(serial_client_element(alloc, serial, number, client)?)?;
+    }
+    Ok(())
+}
+
+fn add_blk<'a>(
+    alloc: Global,
+    table: &mut Vec<ClassElement<&'a str>>,
+    class: &'a Option<Blk>,
+) -> Result<(), Memory>
+    ensures { OnOk result
+        (map element_shown table.new.items
+        ≡ map element_shown table.old.items ++ option_map_or blk_elements class.now []) }
+{
+    if let Some(blk) = class {
+        table.push(blk_element(alloc, blk)?)?;
+        add_blk_clients(alloc, table, blk, blk.client.as_slice())?;
+    }
+    Ok(())
+}
+
+fn add_blk_clients<'a>(
+    alloc: Global,
+    table: &mut Vec<ClassElement<&'a str>>,
+    blk: &'a Blk,
+    clients: &'a [BlkClient],
+) -> Result<(), Memory>
+    ensures { OnOk result
+        (map element_shown table.new.items
+        ≡ map element_shown table.old.items ++ numbered (blk_client_element blk.now) 0 clients.now) }
+{
+    for (at, client) in clients.iter().enumerate() {
+        let number = number_of(alloc, at)?;
+        table.push(blk_client_element(alloc, blk, number, client)?)?;
+    }
+    Ok(())
+}
