@@ -13,6 +13,7 @@ use Rattle.sdf_model.specs.declared.plan.Plan.{Plan}
 use Rattle.sdf_model.specs.declared.plan.Net.{Net}
 use Rattle.sdf_model.specs.declared.plan.NetClient.{NetClient}
 use Rattle.sdf_check.specs.Names.{region_named}
+use Rattle.sdf_check.specs.ClassRules.{HasStranger}
 use Rattle.sdf_check.specs.declared.role.Role.TheVariants as Judged
 use Rattle.sdf_check.specs.declared.role.Role as InRules
 use Rattle.class_table.specs.declared.role.Role.{Role}
@@ -123,3 +124,22 @@ judged_as For.BlkClient = Judged.BlkClient
 -- the roles that an element gives, as that rule judges them
 abbrev pub roles_of : Element → List (Name × InRules.Role)
 roles_of e = map (λ (r : RoleUse Name). (r.domain, judged_as r.role)) e.roles
+
+-- a region, with the domains that may map it: the two of a link, and those that must or may map a
+-- pool
+abbrev pub link_share : Link Name → Name × List Name
+link_share l = (l.region, l.from ∷ l.to ∷ [])
+
+abbrev pub pool_share : PoolUse Name → Name × List Name
+pool_share p = (p.region, map (λ (g : Grant Name). g.domain) p.must ++ p.may)
+
+abbrev pub shares_of : Element → List (Name × List Name)
+shares_of e = map link_share (flat_map queue_link e.queues) ++ map pool_share e.pools
+
+-- a domain that isn't among those of a share maps its region
+abbrev pub HasTrespasser : Plan → Name × List Name → Type 0
+HasTrespasser plan share = HasStranger plan share.0 share.1
+
+-- the regions that an element uses
+abbrev pub regions_of : Element → List Name
+regions_of e = map (λ (s : Name × List Name). s.0) (shares_of e)

@@ -11,11 +11,13 @@ ghost use Rattle.sdf_model.specs.declared.plan.Serial.{Serial};
 ghost use Rattle.sdf_model.specs.declared.plan.SerialClient.{SerialClient};
 ghost use Rattle.sdf_model.specs.declared.plan.Blk.{Blk};
 ghost use Rattle.sdf_model.specs.declared.plan.BlkClient.{BlkClient};
-ghost use Rattle.sdf_check.specs.ClassRules.{class_domains};
+ghost use Rattle.std.specs.Prelude.{◌↔◌};
+ghost use Rattle.sdf_check.specs.ClassRules.{class_domains, SomeOf, NetStranger, NetClientStranger, SerialStranger, SerialClientStranger, BlkStranger, BlkClientStranger};
+ghost use Rattle.sdf_check.specs.Names.{net_regions, net_client_regions, serial_regions, serial_client_regions, blk_regions, blk_client_regions};
 ghost use Rattle.sdf_check.specs.Shares.{net_links, net_client_links, serial_links, serial_client_links, blk_links, blk_client_links, net_rights, net_client_rights, serial_rights, serial_client_rights, blk_rights, blk_client_rights};
 ghost use Rattle.class_table.specs.Table.{table_of, net_element, net_client_element, serial_element, serial_client_element, blk_element, blk_client_element};
 ghost use Rattle.region_layout.specs.Rows.{queues_of, pools_of};
-ghost use Rattle.table_laws.specs.Ties.{queue_rows, pool_rows, domains_of, links_of, grants_of, copier_rights, roles_of, judged_as};
+ghost use Rattle.table_laws.specs.Ties.{queue_rows, pool_rows, domains_of, links_of, grants_of, copier_rights, roles_of, judged_as, shares_of, HasTrespasser, regions_of};
 ghost use Rattle.sdf_check.specs.Roles.{IsProgramOf, net_roles, net_client_roles, serial_roles, serial_client_roles, blk_roles, blk_client_roles};
 ghost use Rattle.class_table.specs.Roles as Table;
 ghost use Rattle.class_table.specs.declared.role.Role.{Role};
@@ -66,4 +68,46 @@ pub fn roles_tie()
         → Table.IsProgramOf role program }
     ensures only { (role : Role) (program : List ℕ)
         → Table.IsProgramOf role program → IsProgramOf (judged_as role) program }
+{}
+
+/// The strangers that are looked for are the domains that map the region of a queue or a pool and are none of those that
+/// its row allows.
+pub fn strangers_tie()
+    ensures net { (plan : Plan) (net : Net)
+        → SomeOf (HasTrespasser plan) (shares_of (net_element net)) ↔ NetStranger plan net }
+    ensures net_client { (plan : Plan) (net : Net) (c : ℕ) (client : NetClient)
+        → SomeOf (HasTrespasser plan) (shares_of (net_client_element net c client))
+        ↔ NetClientStranger plan net client }
+    ensures serial { (plan : Plan) (serial : Serial)
+        → SomeOf (HasTrespasser plan) (shares_of (serial_element serial)) ↔ SerialStranger plan serial }
+    ensures serial_client { (plan : Plan) (serial : Serial) (c : ℕ) (client : SerialClient)
+        → SomeOf (HasTrespasser plan) (shares_of (serial_client_element serial c client))
+        ↔ SerialClientStranger plan serial client }
+    ensures blk { (plan : Plan) (blk : Blk)
+        → SomeOf (HasTrespasser plan) (shares_of (blk_element blk)) ↔ BlkStranger plan blk }
+    ensures blk_client { (plan : Plan) (blk : Blk) (c : ℕ) (client : BlkClient)
+        → SomeOf (HasTrespasser plan) (shares_of (blk_client_element blk c client))
+        ↔ BlkClientStranger plan blk client }
+{}
+
+/// The regions that the keys of an element name are those of its queues and pools.
+pub fn regions_tie()
+    ensures net { (name : List ℕ) (net : Net)
+        → SomeOf (λ region. region ≡ name) (regions_of (net_element net))
+        ↔ SomeOf (λ region. region ≡ name) (net_regions net) }
+    ensures net_client { (name : List ℕ) (net : Net) (c : ℕ) (client : NetClient)
+        → SomeOf (λ region. region ≡ name) (regions_of (net_client_element net c client))
+        ↔ SomeOf (λ region. region ≡ name) (net_client_regions client) }
+    ensures serial { (name : List ℕ) (serial : Serial)
+        → SomeOf (λ region. region ≡ name) (regions_of (serial_element serial))
+        ↔ SomeOf (λ region. region ≡ name) (serial_regions serial) }
+    ensures serial_client { (name : List ℕ) (serial : Serial) (c : ℕ) (client : SerialClient)
+        → SomeOf (λ region. region ≡ name) (regions_of (serial_client_element serial c client))
+        ↔ SomeOf (λ region. region ≡ name) (serial_client_regions client) }
+    ensures blk { (name : List ℕ) (blk : Blk)
+        → SomeOf (λ region. region ≡ name) (regions_of (blk_element blk))
+        ↔ SomeOf (λ region. region ≡ name) (blk_regions blk) }
+    ensures blk_client { (name : List ℕ) (blk : Blk) (c : ℕ) (client : BlkClient)
+        → SomeOf (λ region. region ≡ name) (regions_of (blk_client_element blk c client))
+        ↔ SomeOf (λ region. region ≡ name) (blk_client_regions client) }
 {}
