@@ -39,7 +39,9 @@ same_text a b = pointwise nat_eq a b
 
 -- whether the first domain of a name runs a program
 abbrev pub runs : List Domain → List ℕ → List ℕ → Bool
-runs domains name program = option_map_or (λ d. same_text d.program program) (find (λ d. same_text d.name name) domains) false
+runs domains name program =
+    option_map_or (λ d. same_text d.program program) (find (λ d. same_text d.name name) domains)
+    false
 
 -- the clients of each class: none where the plan doesn't have the class
 abbrev pub net_clients : Plan → List NetClient
@@ -53,11 +55,15 @@ blk_clients plan = option_map_or (λ blk. blk.client) plan.blk []
 
 -- whether the network client of a number sends frames of its own
 unfoldable pub is_source : Plan → ℕ → Bool
-is_source plan c = option_map_or (λ client. runs plan.protection_domain client.pd (codes "net_source")) (slice_get (net_clients plan) c) false
+is_source plan c =
+    option_map_or (λ client. runs plan.protection_domain client.pd (codes "net_source"))
+    (slice_get (net_clients plan) c) false
 
 -- whether the serial client of a number says bytes of its own
 unfoldable pub is_speaker : Plan → ℕ → Bool
-is_speaker plan c = option_map_or (λ client. runs plan.protection_domain client.pd (codes "serial_speaker")) (slice_get (serial_clients plan) c) false
+is_speaker plan c =
+    option_map_or (λ client. runs plan.protection_domain client.pd (codes "serial_speaker"))
+    (slice_get (serial_clients plan) c) false
 
 -- whether there is a block client of a number
 unfoldable pub is_blk_client : Plan → ℕ → Bool
@@ -76,7 +82,9 @@ with_data word event = option_and_then event (data_of word)
 
 -- `rx DATA`
 unfoldable pub rx_line : Plan → List ℕ → Option Event
-rx_line plan word = with_data word (λ frame. kept_if (is_some plan.net && is_frame_of frame) (Some (Event.Rx frame)))
+rx_line plan word =
+    with_data word (λ frame.
+    kept_if (is_some plan.net && is_frame_of frame) (Some (Event.Rx frame)))
 
 -- `in DATA`
 unfoldable pub in_line : Plan → List ℕ → Option Event
@@ -85,20 +93,26 @@ in_line plan word = with_data word (λ bytes. kept_if (is_some plan.serial) (Som
 -- `send C DATA`
 unfoldable pub send_line : Plan → List ℕ → List ℕ → Option Event
 send_line plan client word =
-    with_number client (λ c. with_data word (λ frame. kept_if (is_source plan c && is_frame_of frame) (Some (Event.Send c frame))))
+    with_number client (λ c. with_data word (λ frame.
+    kept_if (is_source plan c && is_frame_of frame) (Some (Event.Send c frame))))
 
 -- `say C DATA`
 unfoldable pub say_line : Plan → List ℕ → List ℕ → Option Event
-say_line plan client word = with_number client (λ c. with_data word (λ bytes. kept_if (is_speaker plan c) (Some (Event.Say c bytes))))
+say_line plan client word =
+    with_number client (λ c. with_data word (λ bytes.
+    kept_if (is_speaker plan c) (Some (Event.Say c bytes))))
 
 -- `disk N`: a number of sectors that makes blocks of 4,096 bytes
 unfoldable pub disk_line : Plan → List ℕ → Option Event
 disk_line plan word =
-    with_number word (λ n. kept_if (is_some plan.blk && n % 8 == 0 && nat_le 8 n && nat_le n 65536) (Some (Event.Disk n)))
+    with_number word (λ n.
+    kept_if (is_some plan.blk && n % 8 == 0 && nat_le 8 n && nat_le n 65536) (Some (Event.Disk n)))
 
 -- `bytes AT DATA`
 unfoldable pub bytes_line : Plan → List ℕ → List ℕ → Option Event
-bytes_line plan place word = with_number place (λ at. with_data word (λ bytes. kept_if (is_some plan.blk) (Some (Event.Patch at bytes))))
+bytes_line plan place word =
+    with_number place (λ at. with_data word (λ bytes.
+    kept_if (is_some plan.blk) (Some (Event.Patch at bytes))))
 
 -- a request without bytes of its own
 abbrev pub bare_ask : Code → ℕ → ℕ → Ask
@@ -114,7 +128,9 @@ order_code order =
 -- `blk C flush`, `blk C barrier`
 unfoldable pub blk_order_line : Plan → List ℕ → List ℕ → Option Event
 blk_order_line plan client order =
-    with_number client (λ c. option_and_then (λ code. kept_if (is_blk_client plan c) (Some (Event.Request c (bare_ask code 0 0)))) (order_code order))
+    with_number client (λ c. option_and_then (λ code.
+    kept_if (is_blk_client plan c) (Some (Event.Request c (bare_ask code 0 0))))
+    (order_code order))
 
 -- whether these blocks can be asked for
 abbrev pub is_reach : ℕ → ℕ → Bool
@@ -124,14 +140,17 @@ is_reach block count = nat_le block 4294967295 && nat_le 1 count && nat_le count
 unfoldable pub blk_read_line : Plan → List ℕ → List ℕ → List ℕ → Option Event
 blk_read_line plan client first many =
     with_number client (λ c. with_number first (λ block. with_number many (λ count.
-    kept_if (is_blk_client plan c && is_reach block count) (Some (Event.Request c (bare_ask Asked.Read block count))))))
+    kept_if (is_blk_client plan c && is_reach block count)
+    (Some (Event.Request c (bare_ask Asked.Read block count))))))
 
 -- `blk C write B N DATA`
 unfoldable pub blk_write_line : Plan → List ℕ → List ℕ → List ℕ → List ℕ → Option Event
 blk_write_line plan client first many word =
-    with_number client (λ c. with_number first (λ block. with_number many (λ count. with_data word (λ bytes.
+    with_number client (λ c. with_number first (λ block. with_number many (λ count.
+    with_data word (λ bytes.
     kept_if (is_blk_client plan c && is_reach block count && length bytes == count * 4096)
-    (Some (Event.Request c (record { code = Asked.Write; block = block; count = count; fill = bytes })))))))
+    (Some (Event.Request c
+    (record { code = Asked.Write; block = block; count = count; fill = bytes })))))))
 
 -- what the words of a line say: none where the line is bad by itself
 unfoldable pub words_say : Plan → List (List ℕ) → Option Event
@@ -146,8 +165,12 @@ words_say plan (name ∷ a ∷ b ∷ []) =
     else if same_text name (codes "bytes") then bytes_line plan a b
     else if same_text name (codes "blk") then blk_order_line plan a b
     else None
-words_say plan (name ∷ a ∷ b ∷ c ∷ d ∷ []) = if same_text name (codes "blk") && same_text b (codes "read") then blk_read_line plan a c d else None
-words_say plan (name ∷ a ∷ b ∷ c ∷ d ∷ e ∷ []) = if same_text name (codes "blk") && same_text b (codes "write") then blk_write_line plan a c d e else None
+words_say plan (name ∷ a ∷ b ∷ c ∷ d ∷ []) =
+    if same_text name (codes "blk") && same_text b (codes "read") then blk_read_line plan a c d
+    else None
+words_say plan (name ∷ a ∷ b ∷ c ∷ d ∷ e ∷ []) =
+    if same_text name (codes "blk") && same_text b (codes "write") then blk_write_line plan a c d e
+    else None
 words_say plan _ = None
 
 -- whether a line is skipped: it is empty, or begins with `#`

@@ -30,19 +30,39 @@ is_refused r (Event.Send c frame) = nat_le 1024 r.frame_lines
 is_refused r (Event.In bytes) = nat_lt 81920 (r.stream_bytes + length bytes)
 is_refused r (Event.Say c bytes) = nat_lt 81920 (r.stream_bytes + length bytes)
 is_refused r (Event.Disk sectors) = nat_lt 0 r.disk_lines
-is_refused r (Event.Patch at bytes) = r.disk_lines == 0 || nat_lt (length r.trace.image) (at + length bytes)
+is_refused r (Event.Patch at bytes) =
+    r.disk_lines == 0 || nat_lt (length r.trace.image) (at + length bytes)
 is_refused r (Event.Request c ask) = nat_le 1024 r.request_lines
 
 -- what the reader keeps after an event that it takes
 abbrev pub grown : Reader → Event → Reader
 grown r Event.Skipped = r
-grown r (Event.Rx frame) = record r { trace = record r.trace { frames = r.trace.frames ++ frame ∷ [] }; frame_lines = r.frame_lines + 1 }
-grown r (Event.Send c frame) = record r { trace = record r.trace { sends = grown_at r.trace.sends c (frame ∷ []) }; frame_lines = r.frame_lines + 1 }
-grown r (Event.In bytes) = record r { trace = record r.trace { input = r.trace.input ++ bytes }; stream_bytes = r.stream_bytes + length bytes }
-grown r (Event.Say c bytes) = record r { trace = record r.trace { says = grown_at r.trace.says c bytes }; stream_bytes = r.stream_bytes + length bytes }
-grown r (Event.Disk sectors) = record r { trace = record r.trace { image = replicate (512 * sectors) 0 }; disk_lines = r.disk_lines + 1 }
-grown r (Event.Patch at bytes) = record r { trace = record r.trace { image = replaced r.trace.image at bytes } }
-grown r (Event.Request c ask) = record r { trace = record r.trace { asks = grown_at r.trace.asks c (ask ∷ []) }; request_lines = r.request_lines + 1 }
+grown r (Event.Rx frame) = record r {
+  trace = record r.trace { frames = r.trace.frames ++ frame ∷ [] };
+  frame_lines = r.frame_lines + 1;
+}
+grown r (Event.Send c frame) = record r {
+  trace = record r.trace { sends = grown_at r.trace.sends c (frame ∷ []) };
+  frame_lines = r.frame_lines + 1;
+}
+grown r (Event.In bytes) = record r {
+  trace = record r.trace { input = r.trace.input ++ bytes };
+  stream_bytes = r.stream_bytes + length bytes;
+}
+grown r (Event.Say c bytes) = record r {
+  trace = record r.trace { says = grown_at r.trace.says c bytes };
+  stream_bytes = r.stream_bytes + length bytes;
+}
+grown r (Event.Disk sectors) = record r {
+  trace = record r.trace { image = replicate (512 * sectors) 0 };
+  disk_lines = r.disk_lines + 1;
+}
+grown r (Event.Patch at bytes) =
+    record r { trace = record r.trace { image = replaced r.trace.image at bytes } }
+grown r (Event.Request c ask) = record r {
+  trace = record r.trace { asks = grown_at r.trace.asks c (ask ∷ []) };
+  request_lines = r.request_lines + 1;
+}
 
 -- what the reader keeps after a line of this meaning: none where the line is bad
 abbrev pub judged : Reader → Option Event → Option Reader
@@ -65,7 +85,8 @@ IsData «data» most (Some bytes) = («data» ≡ Some bytes) × (length bytes �
 -- a piece as it was read: its bytes were appended, or it has none or too many
 abbrev pub IsTaken : Option (List ℕ) → List ℕ → List ℕ → ℕ → Bool → Type 0
 IsTaken piece old new most good =
-    MatchBool good ((bytes : List ℕ) × (piece ≡ Some bytes) × (new ≡ old ++ bytes) × (length new ≤ most))
+    MatchBool good
+    ((bytes : List ℕ) × (piece ≡ Some bytes) × (new ≡ old ++ bytes) × (length new ≤ most))
     ((bytes : List ℕ) → piece ≡ Some bytes → most < length old + length bytes)
 
 -- a number that isn't there, or isn't below a limit

@@ -33,7 +33,8 @@ HasForm Asked.Barrier ask = NamesNoBlock ask
 abbrev pub IsAsk : Ask → Type 0
 IsAsk ask = HasForm ask.code ask
 
--- the frames, requests and disk of a trace are such, with a disk exactly where the plan has a block class
+-- the frames, requests and disk of a trace are such, with a disk exactly where the plan has a block
+-- class
 pub record HasShapes (plan : Plan) (trace : Trace) : Type 0 where
   pub frames : All IsFrame trace.frames
   pub sends : All (All IsFrame) trace.sends

@@ -15,7 +15,8 @@ without_empty_end [] = []
 without_empty_end (part ∷ []) = if length part == 0 then [] else part ∷ []
 without_empty_end (part ∷ next ∷ rest) = part ∷ without_empty_end (next ∷ rest)
 
--- the lines of a text: it is cut at byte 10, and a last byte 10 ends the last line, so the empty text has no line
+-- the lines of a text: it is cut at byte 10, and a last byte 10 ends the last line, so the empty
+-- text has no line
 unfoldable pub lines_of : List ℕ → List (List ℕ)
 lines_of text = without_empty_end (parts_of 10 text)
 
@@ -26,7 +27,8 @@ words_of line = parts_of 32 line
 -- whether a word is a number: decimal digits, the first of them not 0 where there are several
 abbrev pub is_number : List ℕ → Bool
 is_number word =
-    list_all (λ c. nat_le 48 c && nat_le c 57) word && nat_lt 0 (length word) && (length word == 1 || not (slice_index word 0 == 48))
+    list_all (λ c. nat_le 48 c && nat_le c 57) word && nat_lt 0 (length word)
+    && (length word == 1 || not (slice_index word 0 == 48))
 
 -- what decimal digits stand for
 abbrev pub decimal_value : List ℕ → ℕ
@@ -43,7 +45,10 @@ digits_meaning digits = result_ok (decode_of digits)
 -- the byte of two digits, as often as a number of at least 1 says
 abbrev pub repeated : List ℕ → List ℕ → Option (List ℕ)
 repeated count digits =
-    option_and_then (λ n. if nat_le 1 n && length digits == 2 then option_map (λ bytes. replicate n (slice_index bytes 0)) (digits_meaning digits) else None) (number_of count)
+    option_and_then (λ n.
+    if nat_le 1 n && length digits == 2
+    then option_map (λ bytes. replicate n (slice_index bytes 0)) (digits_meaning digits) else None)
+    (number_of count)
 
 -- the bytes of a piece of DATA, by its parts at each `*`
 abbrev pub piece_meaning : List (List ℕ) → Option (List ℕ)
@@ -58,7 +63,8 @@ piece_of piece = piece_meaning (parts_of 42 piece)
 -- the bytes of several pieces, one after another
 abbrev pub all_pieces : List (List ℕ) → Option (List ℕ)
 all_pieces [] = Some []
-all_pieces (piece ∷ rest) = option_and_then (λ bytes. option_map (λ more. bytes ++ more) (all_pieces rest)) (piece_of piece)
+all_pieces (piece ∷ rest) =
+    option_and_then (λ bytes. option_map (λ more. bytes ++ more) (all_pieces rest)) (piece_of piece)
 
 -- the bytes that a word of pieces joined by commas stands for
 unfoldable pub data_of : List ℕ → Option (List ℕ)

@@ -55,7 +55,8 @@ trace_from plan events = record {
   image = image_of events;
 }
 
--- what counts towards the limits: a line that gives a frame, the bytes of a line, a line that gives a request, a `disk` line
+-- what counts towards the limits: a line that gives a frame, the bytes of a line, a line that gives
+-- a request, a `disk` line
 abbrev pub is_frame_line : Event → Bool
 is_frame_line (Event.Rx frame) = true
 is_frame_line (Event.Send c frame) = true
@@ -74,15 +75,19 @@ abbrev pub is_disk_line : Event → Bool
 is_disk_line (Event.Disk sectors) = true
 is_disk_line _ = false
 
--- whether a line is bad after the lines before it: it passes a limit, is a second `disk` line, or writes where no image is
+-- whether a line is bad after the lines before it: it passes a limit, is a second `disk` line, or
+-- writes where no image is
 abbrev pub is_out_of_place : List Event → Event → Bool
 is_out_of_place before Event.Skipped = false
 is_out_of_place before (Event.Rx frame) = nat_le 1024 (count_by is_frame_line before)
 is_out_of_place before (Event.Send c frame) = nat_le 1024 (count_by is_frame_line before)
-is_out_of_place before (Event.In bytes) = nat_lt 81920 (sum_by stream_bytes_in before + length bytes)
-is_out_of_place before (Event.Say c bytes) = nat_lt 81920 (sum_by stream_bytes_in before + length bytes)
+is_out_of_place before (Event.In bytes) =
+    nat_lt 81920 (sum_by stream_bytes_in before + length bytes)
+is_out_of_place before (Event.Say c bytes) =
+    nat_lt 81920 (sum_by stream_bytes_in before + length bytes)
 is_out_of_place before (Event.Disk sectors) = nat_lt 0 (count_by is_disk_line before)
-is_out_of_place before (Event.Patch at bytes) = count_by is_disk_line before == 0 || nat_lt (length (image_of before)) (at + length bytes)
+is_out_of_place before (Event.Patch at bytes) =
+    count_by is_disk_line before == 0 || nat_lt (length (image_of before)) (at + length bytes)
 is_out_of_place before (Event.Request c ask) = nat_le 1024 (count_by is_request_line before)
 
 -- whether a line of this meaning is bad after these events
@@ -94,10 +99,13 @@ is_bad_after before (Some event) = is_out_of_place before event
 unfoldable pub events_before : Plan → List ℕ → ℕ → List Event
 events_before plan text k = filter_map (meaning plan) (take k (lines_of text))
 
--- whether the line at a place, counted from 0, is bad; after the last line stands one that is bad where the disk is missing
+-- whether the line at a place, counted from 0, is bad; after the last line stands one that is bad
+-- where the disk is missing
 abbrev pub place_is_bad : Plan → List ℕ → ℕ → Option (List ℕ) → Bool
 place_is_bad plan text k (Some line) = is_bad_after (events_before plan text k) (meaning plan line)
-place_is_bad plan text k None = k == length (lines_of text) && (is_some plan.blk && count_by is_disk_line (events_before plan text k) == 0)
+place_is_bad plan text k None =
+    k == length (lines_of text)
+    && (is_some plan.blk && count_by is_disk_line (events_before plan text k) == 0)
 
 unfoldable pub is_bad : Plan → List ℕ → ℕ → Bool
 is_bad plan text k = place_is_bad plan text k (slice_get (lines_of text) k)

@@ -28,7 +28,8 @@ pub fn read_data(alloc: Global, word: &[u8], most: usize) -> Result<Option<Bytes
     }
 }
 
-// Appends the bytes that a piece stands for; false where it stands for none, or where they would be more than so many.
+// Appends the bytes that a piece stands for; false where it stands for none, or where they would be
+// more than so many.
 fn read_piece(alloc: Global, into: &mut Bytes, piece: &[u8], most: usize) -> Result<bool, Memory>
     requires { length into.old ≤ most }
     ensures { IfOk result (IsTaken (piece_of piece.now) into.old into.new most) }
@@ -42,7 +43,9 @@ fn read_piece(alloc: Global, into: &mut Bytes, piece: &[u8], most: usize) -> Res
 // Appends the bytes of a piece that is digits alone.
 fn read_digits(alloc: Global, into: &mut Bytes, digits: &[u8], most: usize) -> Result<bool, Memory>
     requires { length into.old ≤ most }
-    ensures { IfOk result (IsTaken (if length digits.now == 0 then None else digits_meaning digits.now) into.old into.new most) }
+    ensures { IfOk result (IsTaken
+        (if length digits.now == 0 then None else digits_meaning digits.now)
+        into.old into.new most) }
 {
     if digits.is_empty() {
         return Ok(false);
@@ -70,7 +73,8 @@ fn read_repeated(
     most: usize,
 ) -> Result<bool, Memory>
     requires { length into.old ≤ most }
-    ensures { IfOk result (IsTaken (piece_meaning (count.now ∷ parts_of 42 digits.now)) into.old into.new most) }
+    ensures { IfOk result (IsTaken (piece_meaning (count.now ∷ parts_of 42 digits.now))
+        into.old into.new most) }
 {
     match split_once(digits, b'*') {
         Some(_) => Ok(false),
@@ -78,7 +82,8 @@ fn read_repeated(
     }
 }
 
-// Appends one byte as often as a number says, and takes no memory before the number is known to be small enough.
+// Appends one byte as often as a number says, and takes no memory before the number is known to be
+// small enough.
 fn append_repeated(
     alloc: Global,
     into: &mut Bytes,

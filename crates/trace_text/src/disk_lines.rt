@@ -19,7 +19,8 @@ const MOST_SECTORS: u64 = 65536;
 impl Reader {
     // `disk N`
     pub fn read_disk(&mut self, alloc: Global, plan: &Plan, word: &[u8]) -> Result<bool, Memory>
-        ensures { IfOk result (λ good. IsRead self.old self.new good (disk_line plan.now word.now)) }
+        ensures { IfOk result (λ good. IsRead self.old self.new good
+            (disk_line plan.now word.now)) }
     {
         if plan.blk.is_none() {
             return Ok(false);
@@ -50,7 +51,8 @@ impl Reader {
         place: &[u8],
         word: &[u8],
     ) -> Result<bool, Memory>
-        ensures { IfOk result (λ good. IsRead self.old self.new good (bytes_line plan.now place.now word.now)) }
+        ensures { IfOk result (λ good. IsRead self.old self.new good
+            (bytes_line plan.now place.now word.now)) }
     {
         if plan.blk.is_none() {
             return Ok(false);

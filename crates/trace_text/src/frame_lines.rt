@@ -48,7 +48,8 @@ impl Reader {
         word: &[u8],
     ) -> Result<bool, Memory>
         requires { HasLists plan.now self.old }
-        ensures { IfOk result (λ good. IsRead self.old self.new good (send_line plan.now client.now word.now)) }
+        ensures { IfOk result (λ good. IsRead self.old self.new good
+            (send_line plan.now client.now word.now)) }
     {
         let client = match read_below(client, net_clients(plan) as u64) {
             Some(client) => client,

@@ -5,16 +5,17 @@ ghost use Rattle.trace_text.specs.Traces.{IsReadFor, KeepsLimits};
 use crate::Trace;
 use sdf_model::Plan;
 
-/// A trace that was read for a plan has a list for each client of each class, and keeps the limits: 1,024 frames that
-/// are received or sent, 81,920 bytes of input and of what is said, 1,024 requests.
+/// A trace that was read for a plan has a list for each client of each class, and keeps the limits:
+/// 1,024 frames that are received or sent, 81,920 bytes of input and of what is said, 1,024
+/// requests.
 pub fn limits_law()
     ensures { (plan : Plan) (trace : Trace) → IsReadFor plan trace → KeepsLimits plan trace }
 {}
 
-/// The frames of a trace that was read, received and sent, have 14 to 1,514 bytes; its disk has one block of 4,096
-/// bytes or more where the plan has a block class, and no byte else; and its requests are such as a line gives: a read
-/// or a write names 1 to 8 blocks, and a write has 4,096 bytes for each, where the others have none; a flush or a
-/// barrier names no block.
+/// The frames of a trace that was read, received and sent, have 14 to 1,514 bytes; its disk has one
+/// block of 4,096 bytes or more where the plan has a block class, and no byte else; and its
+/// requests are such as a line gives: a read or a write names 1 to 8 blocks, and a write has 4,096
+/// bytes for each, where the others have none; a flush or a barrier names no block.
 pub fn shapes_law()
     ensures { (plan : Plan) (trace : Trace) → IsReadFor plan trace → HasShapes plan trace }
 {}

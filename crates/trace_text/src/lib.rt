@@ -1,4 +1,5 @@
-//! Traces: what the devices receive and the clients ask for, one line each, and how a text of such lines is read.
+//! Traces: what the devices receive and the clients ask for, one line each, and how a text of such
+//! lines is read.
 #![tactic(auto)]
 
 mod clients;

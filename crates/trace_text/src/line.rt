@@ -34,7 +34,8 @@ impl Reader {
         rest: &[u8],
     ) -> Result<bool, Memory>
         requires { HasLists plan.now self.old }
-        ensures { IfOk result (λ good. IsRead self.old self.new good (words_say plan.now (name.now ∷ words_of rest.now))) }
+        ensures { IfOk result (λ good. IsRead self.old self.new good
+            (words_say plan.now (name.now ∷ words_of rest.now))) }
     {
         match split_once(rest, b' ') {
             None => self.read_two(alloc, plan, name, rest),
@@ -51,7 +52,8 @@ impl Reader {
         second: &[u8],
     ) -> Result<bool, Memory>
         requires { HasLists plan.now self.old }
-        ensures { IfOk result (λ good. IsRead self.old self.new good (words_say plan.now (name.now ∷ second.now ∷ []))) }
+        ensures { IfOk result (λ good. IsRead self.old self.new good
+            (words_say plan.now (name.now ∷ second.now ∷ []))) }
     {
         if same_text(name, "rx") {
             return self.read_rx(alloc, plan, second);
@@ -75,7 +77,8 @@ impl Reader {
         rest: &[u8],
     ) -> Result<bool, Memory>
         requires { HasLists plan.now self.old }
-        ensures { IfOk result (λ good. IsRead self.old self.new good (words_say plan.now (name.now ∷ second.now ∷ words_of rest.now))) }
+        ensures { IfOk result (λ good. IsRead self.old self.new good
+            (words_say plan.now (name.now ∷ second.now ∷ words_of rest.now))) }
     {
         match split_once(rest, b' ') {
             None => self.read_three(alloc, plan, name, second, rest),
@@ -93,7 +96,8 @@ impl Reader {
         third: &[u8],
     ) -> Result<bool, Memory>
         requires { HasLists plan.now self.old }
-        ensures { IfOk result (λ good. IsRead self.old self.new good (words_say plan.now (name.now ∷ second.now ∷ third.now ∷ []))) }
+        ensures { IfOk result (λ good. IsRead self.old self.new good
+            (words_say plan.now (name.now ∷ second.now ∷ third.now ∷ []))) }
     {
         if same_text(name, "send") {
             return self.read_send(alloc, plan, second, third);
@@ -121,7 +125,8 @@ impl Reader {
         rest: &[u8],
     ) -> Result<bool, Memory>
         requires { HasLists plan.now self.old }
-        ensures { IfOk result (λ good. IsRead self.old self.new good (words_say plan.now (name.now ∷ client.now ∷ code.now ∷ words_of rest.now))) }
+        ensures { IfOk result (λ good. IsRead self.old self.new good
+            (words_say plan.now (name.now ∷ client.now ∷ code.now ∷ words_of rest.now))) }
     {
         if !same_text(name, "blk") {
             return Ok(false);
@@ -145,7 +150,9 @@ impl Reader {
     ) -> Result<bool, Memory>
         requires lists { HasLists plan.now self.old }
         requires blk { same_text name.now (codes "blk") ≡ true }
-        ensures { IfOk result (λ good. IsRead self.old self.new good (words_say plan.now (name.now ∷ client.now ∷ code.now ∷ first.now ∷ words_of rest.now))) }
+        ensures { IfOk result (λ good. IsRead self.old self.new good
+            (words_say plan.now (name.now ∷ client.now ∷ code.now ∷ first.now
+            ∷ words_of rest.now))) }
     {
         match split_once(rest, b' ') {
             None => {

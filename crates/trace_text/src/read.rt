@@ -13,7 +13,8 @@ use std::alloc::Global;
 /// What the reader of traces answers in place of a trace.
 #[derive(Clone, Copy, Debug, PartialEq, Eq)]
 pub enum TraceFault {
-    /// The first line that is bad, counted from 1; where only the disk is missing, the line after the last.
+    /// The first line that is bad, counted from 1; where only the disk is missing, the line after
+    /// the last.
     BadLine(u64),
     /// Want of memory.
     Memory(Memory),
@@ -29,12 +30,14 @@ impl From<Memory> for TraceFault {
     }
 }
 
-/// Reads a trace for the clients of a plan. Ok gives what the lines spell, in their order; `BadLine` comes exactly
-/// where a line is bad, with the first such line. The forms of the lines are this project's own.
+/// Reads a trace for the clients of a plan. Ok gives what the lines spell, in their order;
+/// `BadLine` comes exactly where a line is bad, with the first such line. The forms of the lines
+/// are this project's own.
 pub fn read_trace(alloc: Global, bytes: &[u8], plan: &Plan) -> Result<Trace, TraceFault>
     ensures good { IfOk result (λ t. HasNoBadLine plan.now bytes.now) }
     ensures trace { IfOk result (λ t. t ≡ trace_of plan.now bytes.now) }
-    ensures bad { (number : ℕ) → result ≡ Err (TraceFault.BadLine number) → IsLeastBadLine plan.now bytes.now number }
+    ensures bad { (number : ℕ) → result ≡ Err (TraceFault.BadLine number)
+        → IsLeastBadLine plan.now bytes.now number }
 {
     let mut reader = Reader::new(alloc, plan)?;
     let mut rest = bytes;

@@ -1,4 +1,5 @@
-//! What the lines of a trace gave so far. Each sort of line has a file of its own, which adds to it.
+//! What the lines of a trace gave so far. Each sort of line has a file of its own, which adds to
+//! it.
 ghost use Rattle.std.specs.Prelude.{◌≡◌, ◌==◌, ◌&&◌, [], is_some, IfOk};
 ghost use Rattle.trace_text.specs.Reading.{reader_after};
 

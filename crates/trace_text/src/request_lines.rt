@@ -32,7 +32,8 @@ impl Reader {
         order: &[u8],
     ) -> Result<bool, Memory>
         requires { HasLists plan.now self.old }
-        ensures { IfOk result (λ good. IsRead self.old self.new good (blk_order_line plan.now client.now order.now)) }
+        ensures { IfOk result (λ good. IsRead self.old self.new good
+            (blk_order_line plan.now client.now order.now)) }
     {
         let client = match read_below(client, blk_clients(plan) as u64) {
             Some(client) => client,
@@ -69,7 +70,8 @@ impl Reader {
         many: &[u8],
     ) -> Result<bool, Memory>
         requires { HasLists plan.now self.old }
-        ensures { IfOk result (λ good. IsRead self.old self.new good (blk_read_line plan.now client.now first.now many.now)) }
+        ensures { IfOk result (λ good. IsRead self.old self.new good
+            (blk_read_line plan.now client.now first.now many.now)) }
     {
         let client = match read_below(client, blk_clients(plan) as u64) {
             Some(client) => client,
@@ -114,7 +116,8 @@ impl Reader {
         word: &[u8],
     ) -> Result<bool, Memory>
         requires { HasLists plan.now self.old }
-        ensures { IfOk result (λ good. IsRead self.old self.new good (blk_write_line plan.now client.now first.now many.now word.now)) }
+        ensures { IfOk result (λ good. IsRead self.old self.new good
+            (blk_write_line plan.now client.now first.now many.now word.now)) }
     {
         let client = match read_below(client, blk_clients(plan) as u64) {
             Some(client) => client,

@@ -19,7 +19,8 @@ fn place_of(text: &[u8], at: u8) -> Option<usize>
 
 // The text before the first byte of a value, and that after it; None where there is no such byte.
 pub fn split_once<'a>(text: &'a [u8], at: u8) -> Option<(&'a [u8], &'a [u8])>
-    ensures parts { MatchOption result (parts_of at text.now ≡ text.now ∷ []) (λ x. parts_of at text.now ≡ x.0.now ∷ parts_of at x.1.now) }
+    ensures parts { MatchOption result (parts_of at text.now ≡ text.now ∷ [])
+        (λ x. parts_of at text.now ≡ x.0.now ∷ parts_of at x.1.now) }
     ensures long { IfSome result (λ x. length x.0.now + length x.1.now + 1 ≡ length text.now) }
 {
     match place_of(text, at) {

@@ -1,3 +1,4 @@
+-- What a call did: its event and the body that it moved.
 use Rattle.std.specs.Prelude.{Bool, true, false, Option, Some, None, option_map, List, [], ◌∷◌}
 use Rattle.cargo_core.specs.declared.item.Item.{Item}
 use Rattle.cargo_core.specs.declared.item.Body.{Body}

@@ -1,3 +1,4 @@
+-- What the owner of an end knows of it, and when it may make each call.
 use Rattle.std.specs.Prelude.{◌≡◌, ℕ, Bool, true, false}
 use Rattle.cargo_core.specs.declared.item.QueueKind.{QueueKind}
 use Rattle.wire_core.specs.declared.names.Event.{Event}

@@ -1,3 +1,4 @@
+-- The numbers that a seed draws, and the places that they pick.
 use Rattle.std.specs.Prelude.{◌≡◌, ◌+◌, ◌*◌, ◌/◌, ◌%◌, ◌^◌, ℕ, Some, List, [], ◌∷◌, ◌++◌, length, slice_get}
 use Rattle.wire_core.specs.declared.names.Entry.{Entry}
 

@@ -1,3 +1,4 @@
+-- A queue with its two bells, and what each of the ten calls does to it.
 use Rattle.std.specs.Prelude.{◌≡◌, ◌==◌, ◌&&◌, ◌||◌, ℕ, Bool, true, false, not, nat_lt, ◌<◌, List, [], ◌∷◌, ◌++◌, length, drop, map, slice_index_or, slice_set}
 use Rattle.std.specs.Option.{option_to_list}
 use Rattle.std.specs.List.{list_any}

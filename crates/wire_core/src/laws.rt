@@ -1,3 +1,4 @@
+//! What holds along every legal journal, as laws of definitions alone.
 ghost use Rattle.std.specs.Prelude.{◌≡◌, ℕ, true, List, []};
 ghost use Rattle.wire_core.specs.Ends.{Condition, role_of};
 ghost use Rattle.wire_core.specs.Queues.{end_of, Tells};

@@ -1,3 +1,4 @@
+//! Queues, actors, sides, calls and events, by which a journal is written.
 use cargo_core::{Item, QueueKind, Text};
 
 /// A queue, by its place among the queues of a layout, counted from 0.

@@ -1,3 +1,4 @@
+//! Which actor a seed picks for each step.
 ghost use Rattle.std.specs.Prelude.{◌≡◌, ◌<◌};
 ghost use Rattle.wire_core.specs.Picks.{next_seed, place_of};
 

@@ -1,3 +1,4 @@
+//! The ten calls on the ends of queues, over which every actor is written.
 ghost use Rattle.std.specs.Prelude.{◌≡◌, ℕ};
 ghost use Rattle.cargo_core.specs.Items.{kind_of};
 ghost use Rattle.wire_core.specs.Ends.{Role, Consumer, Producer, End, Allows, Moves, waiting_role, ringing_role};
