@@ -1,3 +1,4 @@
 pub mod Flat
+pub mod Rooms
 pub mod Same
 pub mod Strangers

@@ -1,5 +1,5 @@
 -- What rules and layouts take from a row of the table of classes.
-use Rattle.std.specs.Prelude.{ℕ, Bool, true, false, List, [], ◌∷◌, ◌++◌, map, Option, Some, None}
+use Rattle.std.specs.Prelude.{ℕ, ◌≤◌, All, Bool, true, false, List, [], ◌∷◌, ◌++◌, map, Option, Some, None}
 use Rattle.std.specs.List.{flat_map}
 use Rattle.std.specs.Option.{option_map_or}
 use Rattle.std.specs.Fmt.{decimal}
@@ -143,3 +143,11 @@ HasTrespasser plan share = HasStranger plan share.0 share.1
 -- the regions that an element uses
 abbrev pub regions_of : Element → List Name
 regions_of e = map (λ (s : Name × List Name). s.0) (shares_of e)
+
+-- a queue has an entry for whatever may come to stand there
+abbrev pub HasRoom : QueueUse Name → Type 0
+HasRoom q = q.holds ≤ q.capacity
+
+-- each queue of an element has
+abbrev pub HasRooms : Element → Type 0
+HasRooms e = All HasRoom e.queues

@@ -17,7 +17,9 @@ ghost use Rattle.sdf_check.specs.Names.{net_regions, net_client_regions, serial_
 ghost use Rattle.sdf_check.specs.Shares.{net_links, net_client_links, serial_links, serial_client_links, blk_links, blk_client_links, net_rights, net_client_rights, serial_rights, serial_client_rights, blk_rights, blk_client_rights};
 ghost use Rattle.class_table.specs.Table.{table_of, net_element, net_client_element, serial_element, serial_client_element, blk_element, blk_client_element};
 ghost use Rattle.region_layout.specs.Rows.{queues_of, pools_of};
-ghost use Rattle.table_laws.specs.Ties.{queue_rows, pool_rows, domains_of, links_of, grants_of, copier_rights, roles_of, judged_as, shares_of, HasTrespasser, regions_of};
+ghost use Rattle.table_laws.specs.Ties.{queue_rows, pool_rows, domains_of, links_of, grants_of, copier_rights, roles_of, judged_as, shares_of, HasTrespasser, regions_of, HasRooms};
+ghost use Rattle.sdf_check.specs.Valid.{Valid};
+ghost use Rattle.std.specs.Prelude.{All};
 ghost use Rattle.sdf_check.specs.Roles.{IsProgramOf, net_roles, net_client_roles, serial_roles, serial_client_roles, blk_roles, blk_client_roles};
 ghost use Rattle.class_table.specs.Roles as Table;
 ghost use Rattle.class_table.specs.declared.role.Role.{Role};
@@ -110,4 +112,9 @@ pub fn regions_tie()
     ensures blk_client { (name : List ℕ) (blk : Blk) (c : ℕ) (client : BlkClient)
         → SomeOf (λ region. region ≡ name) (regions_of (blk_client_element blk c client))
         ↔ SomeOf (λ region. region ≡ name) (blk_client_regions client) }
+{}
+
+/// In a valid plan each queue of the table has an entry for whatever may come to stand there.
+pub fn rooms_tie()
+    ensures { (plan : Plan) → Valid plan → All HasRooms (table_of plan) }
 {}
