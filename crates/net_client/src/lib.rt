@@ -1,0 +1,266 @@
+//! The programs of the network clients. A sink gives its buffers, records the frames that come in them, and gives them
+//! back. The programs are this project's own; that a client has two queues each way is sDDF's.
+#![tactic(auto)]
+
+ghost use Rattle.std.specs.Prelude.{◌≡◌, ◌+◌, ◌-◌, ◌<◌, ◌≤◌, ◌^◌, [], ◌∷◌, ℕ, IfOk, OnErr, is_none, false, length};
+ghost use Rattle.cargo_core.specs.Bodies.{buffers_of};
+ghost use Rattle.cargo_core.specs.Pages.{Paged};
+ghost use Rattle.wire_core.specs.Ends.{role_of, Role, End};
+ghost use Rattle.wire_core.specs.Lists.{Passed, Stepped, nothing_passed};
+ghost use Rattle.wire_core.specs.Marks.{is_mark};
+ghost use Rattle.turn_kit.specs.Turns.{Turned, Posted, choice_of, chosen, last_after, is_at_rest};
+ghost use Rattle.turn_kit.specs.Posts.{intake_post, outlet_post};
+ghost use Rattle.net_kit.specs.Pools.{ArePool};
+ghost use Rattle.net_client.specs.Clients.{FitsClient, ClientStandsFor, ClientRow, ClientBalances, ClientEnd, SameClient, IsNewClient, is_giving, client_round, client_hand, client_forgotten};
+
+use cargo_core::{FrameLog, Memory, Page, PoolId};
+use net_kit::{Recorder, Stock, pages_of};
+use std::alloc::Global;
+use turn_kit::{Intake, Outlet, Turn, held};
+use wire_core::{Event, QueueId, Wires};
+
+/// A network client that sends nothing. `frames` moves what comes back to the queue of free buffers, and records it; `stock`
+/// has the receive buffers that it didn't give yet; `sent` and `send` are its ends for sending, and `spare` the buffers that
+/// it could send in, all of which stay in its hand.
+#[derive(Drop)]
+pub struct NetClient {
+    pub frames: Recorder,
+    pub stock: Stock,
+    pub sent: Intake,
+    pub send: Outlet,
+    pub spare: Vec<Page>,
+    pub turn: Turn,
+}
+
+impl NetClient {
+    /// A sink in its start state. `rx` and `tx` are each the queue of frames and then the queue of free buffers; the pages
+    /// are the client's buffers, in rising number.
+    pub fn new(
+        alloc: Global,
+        rx: [QueueId; 2],
+        tx: [QueueId; 2],
+        rx_pages: Vec<Page>,
+        tx_pages: Vec<Page>,
+    ) -> NetClient
+        requires { (pool : PoolId) × (size : ℕ) × ArePool 0 pool size rx_pages.items }
+        ensures new { (rx_active rx_free tx_active tx_free : QueueId) → rx
+            ≡ rx_active ∷ rx_free ∷ [] → tx ≡ tx_active ∷ tx_free ∷ []
+            → IsNewClient rx_active rx_free tx_active tx_free rx_pages.items tx_pages.items result }
+        ensures stands { ClientStandsFor result nothing_passed }
+    {
+        let [rx_active, rx_free] = rx;
+        let [tx_active, tx_free] = tx;
+        NetClient {
+            frames: Recorder::new(alloc, rx_active, rx_free),
+            stock: Stock::new(rx_pages, 0),
+            sent: Intake::new(tx_free),
+            send: Outlet::new(tx_active),
+            spare: tx_pages,
+            turn: Turn::new(),
+        }
+    }
+
+    /// The record of the frames that came.
+    pub fn got(&self) -> &FrameLog
+        ensures { result.now ≡ self.now.frames.tape.shown }
+    {
+        self.frames.tape.frames()
+    }
+
+    // Whether something is to be put to the queue of free buffers.
+    fn is_giving(&self) -> bool
+        ensures { result ≡ is_giving self.now }
+    {
+        self.stock.next.is_some() || self.frames.pipe.load.is_some()
+    }
+
+    /// Whether nothing is to be done before a notification comes.
+    pub fn at_rest(&self) -> bool
+        ensures { result ≡ is_at_rest (client_round self.now) }
+    {
+        self.frames.pipe.input_settled()
+            && self.frames.pipe.output.settled(self.is_giving())
+            && self.sent.settled(false)
+            && self.send.settled(false)
+    }
+
+    /// How many buffers of a pool are in its hand: those that it has yet to put, and those that it could send in.
+    pub fn held(&self, pool: PoolId) -> u32
+        requires few { length self.now.stock.rest.items + length self.now.spare.items < 2 ^ 32 - 2 }
+        ensures { result ≡ buffers_of pool (client_hand self.now) }
+    {
+        self.stock.held(pool) + held(pool, &self.frames.pipe.load) + pages_of(pool, &self.spare)
+    }
+
+    // The end that is stepped now, in the order of frames in, buffers out, and the two of sending.
+    fn choose(&mut self) -> usize
+        ensures place { result ≡ chosen (choice_of (client_round self.old)) }
+        ensures within { result < 4 }
+        ensures after { self.new ≡ record self.old {
+          turn = record {
+            last = last_after (choice_of
+                (client_round self.old));
+          };
+        } }
+    {
+        let giving = self.is_giving();
+        let input_settled = self.frames.pipe.input_settled();
+        let giving_settled = self.frames.pipe.output.settled(giving);
+        let choice = self
+            .turn
+            .begin(4)
+            .offer(0, self.frames.pipe.input.queue, input_settled)
+            .offer(1, self.frames.pipe.output.queue, giving_settled)
+            .offer(2, self.sent.queue, self.sent.settled(false))
+            .offer(3, self.send.queue, self.send.settled(false));
+        self.turn.pass(choice)
+    }
+
+    // The next call where frames come. What it takes is recorded.
+    fn step_input<W: Wires>(&mut self, wires: &mut W) -> Event
+        requires fits { FitsClient (W.ends wires.old) self.old }
+        requires place { 0 < self.old.frames.tape.places }
+        requires bytes { 65535 ≤ self.old.frames.tape.bytes }
+        ensures fits { FitsClient (W.ends wires.new) self.new }
+        ensures own { ClientEnd self.old (role_of result.op) result.queue.0 }
+        ensures same { SameClient self.old self.new }
+        ensures stepped { Stepped ClientStandsFor W.did wires.old wires.new self.old self.new result }
+        ensures posted { Posted (intake_post self.old.frames.pipe.input)
+            (is_none self.old.frames.pipe.load) result (intake_post self.new.frames.pipe.input) }
+        ensures still { is_mark result.op result.answer ≡ false → self.new.frames.pipe.load
+            ≡ self.old.frames.pipe.load }
+        ensures output { self.new.frames.pipe.output ≡ self.old.frames.pipe.output }
+        ensures others { self.new ≡ record self.old { frames = self.new.frames } }
+    {
+        self.frames.step_input(wires)
+    }
+
+    // The next call where free buffers go: first those that it gives for the first time, in rising number.
+    fn step_output<W: Wires>(&mut self, wires: &mut W) -> Event
+        requires { FitsClient (W.ends wires.old) self.old }
+        ensures fits { FitsClient (W.ends wires.new) self.new }
+        ensures own { ClientEnd self.old (role_of result.op) result.queue.0 }
+        ensures same { SameClient self.old self.new }
+        ensures stepped { Stepped ClientStandsFor W.did wires.old wires.new self.old self.new result }
+        ensures posted { Posted (outlet_post self.old.frames.pipe.output)
+            (is_giving self.old) result (outlet_post self.new.frames.pipe.output) }
+        ensures load { is_mark result.op result.answer ≡ false → self.new.frames.pipe.load
+            ≡ self.old.frames.pipe.load }
+        ensures next { is_mark result.op result.answer ≡ false → self.new.stock.next
+            ≡ self.old.stock.next }
+        ensures input { self.new.frames.pipe.input ≡ self.old.frames.pipe.input }
+        ensures others { self.new ≡ record self.old
+            { frames = self.new.frames; stock = self.new.stock } }
+    {
+        if self.stock.next.is_none() {
+            return self.frames.step_output(wires);
+        }
+        let event = self.frames.pipe.output.step(wires, &mut self.stock.next);
+        if self.stock.next.is_none() {
+            self.stock.refill();
+        }
+        event
+    }
+
+    // The next call where buffers that were sent come back: it needs none.
+    fn step_sent<W: Wires>(&mut self, wires: &mut W) -> Event
+        requires { FitsClient (W.ends wires.old) self.old }
+        ensures fits { FitsClient (W.ends wires.new) self.new }
+        ensures own { ClientEnd self.old (role_of result.op) result.queue.0 }
+        ensures same { SameClient self.old self.new }
+        ensures stepped { Stepped ClientStandsFor W.did wires.old wires.new self.old self.new result }
+        ensures posted { Posted (intake_post self.old.sent) false result
+            (intake_post self.new.sent) }
+        ensures others { self.new ≡ record self.old { sent = self.new.sent } }
+    {
+        let (event, _) = self.sent.step(wires, false);
+        event
+    }
+
+    // The next call where frames are sent: it sends none.
+    fn step_send<W: Wires>(&mut self, wires: &mut W) -> Event
+        requires { FitsClient (W.ends wires.old) self.old }
+        ensures fits { FitsClient (W.ends wires.new) self.new }
+        ensures own { ClientEnd self.old (role_of result.op) result.queue.0 }
+        ensures same { SameClient self.old self.new }
+        ensures stepped { Stepped ClientStandsFor W.did wires.old wires.new self.old self.new result }
+        ensures posted { Posted (outlet_post self.old.send) false result
+            (outlet_post self.new.send) }
+        ensures others { self.new ≡ record self.old { send = self.new.send } }
+    {
+        let mut nothing = None;
+        self.send.step(wires, &mut nothing)
+    }
+
+    /// Makes one call on one of its ends. The memory of the record is taken first; after want of memory no call was made
+    /// and nothing changed.
+    pub fn step<W: Wires>(&mut self, wires: &mut W) -> Result<Event, Memory>
+        requires { FitsClient (W.ends wires.old) self.old }
+        ensures fits { FitsClient (W.ends wires.new) self.new }
+        ensures own { IfOk result (λ e. ClientEnd self.old (role_of e.op) e.queue.0) }
+        ensures same { SameClient self.old self.new }
+        ensures stepped { IfOk result
+            (λ e. Stepped ClientStandsFor W.did wires.old wires.new self.old self.new e) }
+        ensures turned { IfOk result (λ e. Turned (client_round self.old) e
+            (client_round self.new)) }
+        ensures no_call { OnErr result (wires.new ≡ wires.old) }
+        ensures unchanged { OnErr result (self.new ≡ self.old) }
+    {
+        self.frames.reserve()?;
+        match self.choose() {
+            0 => Ok(self.step_input(wires)),
+            1 => Ok(self.step_output(wires)),
+            2 => Ok(self.step_sent(wires)),
+            3 => Ok(self.step_send(wires)),
+            _ => unreachable!(),
+        }
+    }
+
+    /// Discards the last look of each end, and nothing else.
+    pub fn forget(&mut self)
+        ensures after { self.new ≡ client_forgotten self.old }
+        ensures same { SameClient self.old self.new }
+        ensures fits { (ends : Role → ℕ → End) → FitsClient ends self.old
+            → FitsClient ends self.new }
+        ensures lists { (passed : Passed) → ClientStandsFor self.old passed
+            → ClientStandsFor self.new passed }
+    {
+        self.frames.pipe.forget();
+        self.sent.forget();
+        self.send.forget();
+    }
+}
+
+/// Whatever it stands for meets its row.
+pub fn row_law()
+    ensures { (c : NetClient) (passed : Passed) → ClientStandsFor c passed → ClientRow c passed }
+{}
+
+/// What it had at the start and what came is what went and what is in its hand.
+pub fn hand_law()
+    ensures { (c : NetClient) (passed : Passed) → ClientStandsFor c passed
+        → ClientBalances c passed }
+{}
+
+#[cfg(test)]
+mod tests {
+    use super::*;
+    use std::test::Fail;
+
+    #[test]
+    fn a_new_sink_has_all_its_buffers(rt: HostRuntime) -> Result<(), Fail> {
+        let mut received = Vec::new(rt.alloc());
+        received.push(Page::new(rt.alloc(), PoolId(1), 0, 2048)?)?;
+        received.push(Page::new(rt.alloc(), PoolId(1), 1, 2048)?)?;
+        let mut sent = Vec::new(rt.alloc());
+        sent.push(Page::new(rt.alloc(), PoolId(2), 0, 2048)?)?;
+        let rx = [QueueId(0), QueueId(1)];
+        let tx = [QueueId(2), QueueId(3)];
+        let client = NetClient::new(rt.alloc(), rx, tx, received, sent);
+        assert_eq!(rt; client.held(PoolId(1)), 2);
+        assert_eq!(rt; client.held(PoolId(2)), 1);
+        assert!(rt; client.got().is_empty());
+        assert!(rt; !client.at_rest());
+        Ok(())
+    }
+}

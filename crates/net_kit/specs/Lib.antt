@@ -1,0 +1,4 @@
+pub mod Entries
+pub mod Pools
+pub mod Stocks
+pub mod Recorders
