@@ -1,12 +1,13 @@
-use Rattle.std.proofs.Common.{◌≡◌, ◌==◌, ◌++◌, ℕ, Option, List, [], map, sym, ap, ◌∙◌, append_assoc}
+use Rattle.std.proofs.Common.{◌≡◌, ◌==◌, ◌++◌, ℕ, Some, Option, List, [], map, sym, ap, ◌∙◌, append_assoc, slice_get, arith}
 use Rattle.std.specs.Option.{option_to_list}
 use Rattle.std.proofs.lemmas.Bool.{ne_eqb}
 use Rattle.std.proofs.lemmas.List.{append-nil, map-append}
+use Rattle.cargo_core.specs.Pages.{Paged}
 use Rattle.wire_core.specs.Deeds.{Cargo}
 use Rattle.wire_core.specs.Lists.{Lists, Passed, with, if_there}
 use Rattle.wire_core.proofs.Places.{if_there_here}
 use Rattle.net_kit.specs.Entries.{frame_of}
-use Rattle.net_kit.specs.Pools.{given_entry}
+use Rattle.net_kit.specs.Pools.{ArePool, given_entry}
 use Rattle.net_kit.specs.Stocks.{stock_list}
 use Rattle.net_kit.specs.declared.recorder.Recorder.{Recorder}
 use Rattle.net_client.specs.declared.NetClient.{NetClient}
@@ -41,3 +42,17 @@ module _ (c : NetClient) (r : Recorder) (got : Option Cargo) (passed : Passed) (
     sends = rw (puts (tx_active c), append-nil (passed.sent (tx_active c))) h.sends;
     returned = rw (came_not, append-nil (passed.taken (tx_free c))) h.returned;
   }
+
+-- no buffers are those of a pool without any
+pub no_pages : ArePool 0 (record { 0 = 0 }) 1 []
+no_pages = record {
+  same_pool = λ k p at. absurd (none_at k p at);
+  numbered = λ k p at. absurd (none_at k p at);
+  sized = λ k p at. absurd (none_at k p at);
+  some = omega arith;
+  few = omega arith;
+  ends = omega arith;
+}
+  where
+    none_at : (k : ℕ) (p : Paged) → slice_get [] k ≡ Some p → ⊥
+    none_at k p at = cc

@@ -1,0 +1,62 @@
+//! Which frames of a device a network client must get. A frame without a whole header is for nobody; that a client gets the
+//! frames to its address and to all stations is sDDF's.
+#![tactic(auto)]
+
+ghost use Rattle.std.specs.Prelude.{◌≡◌, [], ◌∷◌, ◌++◌, IfOk, OnOk};
+ghost use Rattle.net_expect.specs.Expecting.{is_for_client, frames_for};
+
+use cargo_core::{FrameLog, Memory};
+use frame_core::{Mac, is_for};
+use std::alloc::Global;
+
+/// The length of a frame's header, in bytes.
+const HEADER: usize = 14;
+
+/// Whether a frame is for the client of an address. One that is shorter than a header is for none.
+pub fn is_for_client(frame: &[u8], mac: Mac) -> bool
+    ensures { result ≡ is_for_client mac frame.now }
+{
+    frame.len() >= HEADER && is_for(frame, mac)
+}
+
+// Appends a frame, where it is for the client of an address.
+#[tactic(auto, using(crate::proofs::Choosing::kept, crate::proofs::Choosing::left))]
+fn append_if_for(log: &mut FrameLog, frame: &[u8], mac: Mac) -> Result<(), Memory>
+    ensures { OnOk result (log.new ≡ log.old ++ frames_for mac (frame.now ∷ [])) }
+{
+    if is_for_client(frame, mac) {
+        log.push(frame)?;
+    }
+    Ok(())
+}
+
+/// The frames that the client of an address must get, of those that the device receives.
+pub fn frames_for(alloc: Global, frames: &FrameLog, mac: Mac) -> Result<FrameLog, Memory>
+    ensures { IfOk result (λ log. log ≡ frames_for mac frames.now) }
+{
+    let mut log = FrameLog::new(alloc);
+    for at in 0..frames.len() {
+        append_if_for(&mut log, frames.get(at), mac)?;
+    }
+    Ok(log)
+}
+
+#[cfg(test)]
+mod tests {
+    use super::*;
+    use std::test::Fail;
+
+    #[test]
+    fn a_client_gets_its_own_frames_and_those_to_all(rt: HostRuntime) -> Result<(), Fail> {
+        let mut frames = FrameLog::new(rt.alloc());
+        frames.push(&[2, 0, 0, 0, 0, 1, 2, 0, 0, 0, 0, 9, 8, 0])?;
+        frames.push(&[2, 0, 0, 0, 0, 2, 2, 0, 0, 0, 0, 9, 8, 0])?;
+        frames.push(&[255, 255, 255, 255, 255, 255, 2, 0, 0, 0, 0, 9, 8, 0])?;
+        frames.push(&[2, 0, 0, 0, 0, 1])?;
+        let log = frames_for(rt.alloc(), &frames, Mac([2, 0, 0, 0, 0, 1]))?;
+        assert_eq!(rt; log.len(), 2);
+        assert_eq!(rt; log.get(0)[5], 1);
+        assert_eq!(rt; log.get(1)[5], 255);
+        Ok(())
+    }
+}

@@ -1,0 +1,61 @@
+use Rattle.std.proofs.Common.{List, map, sym, ap, ◌∙◌, subst}
+use Rattle.std.proofs.lemmas.List.{map-append}
+use Rattle.cargo_core.specs.Lists.{IsPrefix}
+use Rattle.frame_core.specs.declared.mac.Mac.{Mac}
+use Rattle.wire_core.specs.Deeds.{Cargo}
+use Rattle.wire_core.specs.Lists.{Passed}
+use Rattle.turn_kit.specs.declared.pipe.Pipe.{Pipe}
+use Rattle.pipe_driver.specs.declared.pipes.Pipes.{Pipes}
+use Rattle.net_kit.specs.Entries.{frame_of, all_filled}
+use Rattle.net_expect.specs.Expecting.{frames_for, is_for_client}
+use Rattle.eth_device.specs.declared.EthDevice.{EthDevice}
+use Rattle.net_copier.specs.Copying.{leased_bytes}
+use Rattle.net_copier.specs.declared.NetCopier.{NetCopier}
+use Rattle.net_client.specs.declared.NetClient.{NetClient}
+use Rattle.net_law.specs.Receiving.{IsReceiving, AreRoomy}
+use Rattle.net_law.proofs.Beginnings.{begins_on, begins_map, begins_filter}
+use Rattle.net_law.proofs.Filled.{frames_are, roomy_front}
+
+module _ (d : EthDevice) (p : Pipes (Pipes (Pipes Pipe))) (k : NetCopier) (c : NetClient) (mac : Mac) (passed : Passed) (h : IsReceiving d p k c mac passed) where
+  abbrev active : List Cargo
+  active = passed.taken p.rest.first.output.queue.0
+
+  -- what the virtualiser took are buffers that the device filled
+  from_driver : IsPrefix active (passed.sent d.active.queue.0)
+  from_driver = begins_on active (passed.sent p.rest.first.output.queue.0) (passed.sent d.active.queue.0) (h.hands_over p.rest.first.output.queue.0)
+      (begins_on (passed.sent p.rest.first.output.queue.0) (passed.taken p.rest.first.input.queue.0) (passed.sent d.active.queue.0) h.driver.1.0
+      (subst (λ n. IsPrefix (passed.taken p.rest.first.input.queue.0) (passed.sent n)) h.from_device (h.hands_over p.rest.first.input.queue.0)))
+
+  -- so their frames are the device's, in order
+  device_frames : IsPrefix (map frame_of active) d.frames
+  device_frames =
+      let filled = all_filled d.frames (passed.taken d.free.queue.0) in
+      begins_on (map frame_of active) (map frame_of filled) d.frames (begins_map frame_of active filled (begins_on active (passed.sent d.active.queue.0) filled from_driver h.device.filled)) (frames_are d.frames (passed.taken d.free.queue.0) h.room_at_device)
+
+  -- what the copier took of leases are those frames that are for the client
+  leased : IsPrefix (map leased_bytes (passed.taken k.lease_input.queue.0)) (frames_for mac d.frames)
+  leased =
+      let taken = passed.taken k.lease_input.queue.0 in
+      let sent = passed.sent k.lease_input.queue.0 in
+      begins_on (map leased_bytes taken) (map leased_bytes sent) (frames_for mac d.frames) (begins_map leased_bytes taken sent (h.hands_over k.lease_input.queue.0))
+      (begins_on (map leased_bytes sent) (frames_for mac (map frame_of active)) (frames_for mac d.frames) h.shares (begins_filter (is_for_client mac) (map frame_of active) d.frames device_frames))
+
+  -- and what it put are buffers with these
+  copied : IsPrefix (map frame_of (passed.sent k.buffer_output.queue.0)) (map leased_bytes (passed.taken k.lease_input.queue.0))
+  copied =
+      let fs = map leased_bytes h.copier.leases in
+      let cs = passed.taken k.buffer_input.queue.0 in
+      let parts = ap (map leased_bytes) h.copier.taken ∙ map-append leased_bytes h.copier.leases h.copier.stray in
+      let room = roomy_front fs (map leased_bytes h.copier.stray) cs (subst (λ gs. AreRoomy gs cs) parts h.room_at_copier) in
+      begins_on (map frame_of (passed.sent k.buffer_output.queue.0)) fs (map leased_bytes (passed.taken k.lease_input.queue.0))
+      (begins_on (map frame_of (passed.sent k.buffer_output.queue.0)) (map frame_of (all_filled fs cs)) fs (begins_map frame_of (passed.sent k.buffer_output.queue.0) (all_filled fs cs) h.copier.copies) (frames_are fs cs room))
+      (map leased_bytes h.copier.stray, sym parts)
+
+  pub record_begins : IsPrefix c.frames.tape.shown (frames_for mac d.frames)
+  record_begins =
+      let got = passed.taken c.frames.pipe.input.queue.0 in
+      let sent = passed.sent k.buffer_output.queue.0 in
+      let came : IsPrefix got sent = subst (λ n. IsPrefix got (passed.sent n)) (sym h.to_client) (h.hands_over c.frames.pipe.input.queue.0) in
+      subst (λ xs. IsPrefix xs (frames_for mac d.frames)) (sym h.client.got)
+      (begins_on (map frame_of got) (map frame_of sent) (frames_for mac d.frames) (begins_map frame_of got sent came)
+      (begins_on (map frame_of sent) (map leased_bytes (passed.taken k.lease_input.queue.0)) (frames_for mac d.frames) copied leased))

@@ -1,0 +1,3 @@
+pub mod Beginnings
+pub mod Filled
+pub mod Arriving
