@@ -9,7 +9,7 @@ use Rattle.wire_core.specs.declared.names.QueueId.{QueueId}
 use Rattle.wire_core.specs.declared.names.Side.TheVariants.{Forward, Backward}
 use Rattle.wire_core.specs.Lists.{Passed}
 use Rattle.wire_core.specs.Ends.{Role, Consumer, Producer, End}
-use Rattle.turn_kit.specs.Table.{Agrees, start_kept}
+use Rattle.turn_kit.specs.Table.{Agrees, start_state}
 use Rattle.turn_kit.specs.Turns.{Round}
 use Rattle.turn_kit.specs.Posts.{intake_post, outlet_post}
 use Rattle.turn_kit.specs.Hands.{Balances, bodies_of, bodies_at}
@@ -36,8 +36,8 @@ tx_free d = d.wire.pipe.output.queue.0
 
 -- its ends are its own, and as it keeps them; all are queues of the network, and each frame has at most 65,535 bytes
 pub record FitsDevice (ends : Role → ℕ → End) (d : EthDevice) : Type 0 where
-  pub free : Agrees (ends Consumer (rx_free d)) d.free.kept
-  pub active : Agrees (ends Producer (rx_active d)) d.active.kept
+  pub free : Agrees (ends Consumer (rx_free d)) d.free.state
+  pub active : Agrees (ends Producer (rx_active d)) d.active.state
   pub wire : FitsPipe ends d.wire.pipe
   pub comes : (ends Consumer (rx_free d)).kind ≡ Kind.Net
   pub goes : (ends Producer (rx_active d)).kind ≡ Kind.Net
@@ -80,8 +80,8 @@ pub record SameDevice (old new : EthDevice) : Type 0 where
 -- a device in its start state
 pub record IsNewDevice (rx_free rx_active tx_active tx_free : QueueId) (frames : List (List ℕ))
     (d : EthDevice) : Type 0 where
-  pub free : d.free ≡ record { queue = rx_free; kept = start_kept Forward }
-  pub active : d.active ≡ record { queue = rx_active; kept = start_kept Backward }
+  pub free : d.free ≡ record { queue = rx_free; state = start_state Forward }
+  pub active : d.active ≡ record { queue = rx_active; state = start_state Backward }
   pub wire : IsNewPipe tx_active tx_free d.wire.pipe
   pub sent : d.wire.tape.shown ≡ []
   pub load : d.load ≡ None
@@ -115,12 +115,12 @@ DeviceBalances d passed = Balances [] (bodies_at passed.taken (rx_free d ∷ tx_
 -- the same without the last looks
 abbrev pub device_forgotten : EthDevice → EthDevice
 device_forgotten d = record d {
-  free = record d.free { kept = record d.free.kept { look = None } };
-  active = record d.active { kept = record d.active.kept { look = None } };
+  free = record d.free { state = record d.free.state { look = None } };
+  active = record d.active { state = record d.active.state { look = None } };
   wire = record d.wire {
     pipe = record d.wire.pipe {
-      input = record d.wire.pipe.input { kept = record d.wire.pipe.input.kept { look = None } };
-      output = record d.wire.pipe.output { kept = record d.wire.pipe.output.kept { look = None } };
+      input = record d.wire.pipe.input { state = record d.wire.pipe.input.state { look = None } };
+      output = record d.wire.pipe.output { state = record d.wire.pipe.output.state { look = None } };
     };
   };
 }

@@ -14,7 +14,7 @@ ghost use Rattle.eth_device.specs.Devices.{FitsDevice, DeviceStandsFor, DeviceRo
 use cargo_core::{Body, FrameLog, Item, Memory, PoolId};
 use net_kit::{Recorder, fill};
 use std::alloc::Global;
-use turn_kit::{Intake, Outlet, Turn, held};
+use turn_kit::{Intake, Outlet, Turn, count_held};
 use wire_core::{Event, QueueId, Wires};
 
 /// The Ethernet device. It has put or holds in `load` the first `next` of its frames; `wire` takes what is to be sent.
@@ -83,7 +83,7 @@ impl EthDevice {
     pub fn held(&self, pool: PoolId) -> u32
         ensures { result ≡ buffers_of pool (device_hand self.now) }
     {
-        held(pool, &self.load) + held(pool, &self.wire.pipe.load)
+        count_held(pool, &self.load) + count_held(pool, &self.wire.pipe.load)
     }
 
     // The end that is stepped now, in the order of buffers in, frames out, and the two of sending.

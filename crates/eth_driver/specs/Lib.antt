@@ -1,1 +1,2 @@
+-- What the contracts of the Ethernet driver say.
 pub mod Four

@@ -9,7 +9,7 @@ use Rattle.wire_core.specs.declared.names.Side.TheVariants.{Forward, Backward}
 use Rattle.wire_core.specs.Deeds.{Cargo}
 use Rattle.wire_core.specs.Lists.{Passed}
 use Rattle.wire_core.specs.Ends.{Role, Consumer, Producer, End}
-use Rattle.turn_kit.specs.Table.{Agrees, start_kept}
+use Rattle.turn_kit.specs.Table.{Agrees, start_state}
 use Rattle.turn_kit.specs.Turns.{Round}
 use Rattle.turn_kit.specs.Posts.{intake_post, outlet_post}
 use Rattle.turn_kit.specs.Hands.{Balances, bodies_of, bodies_at}
@@ -38,8 +38,8 @@ tx_free c = c.sent.queue.0
 -- its ends are its own, and as it keeps them; all are queues of the network
 pub record FitsClient (ends : Role → ℕ → End) (c : NetClient) : Type 0 where
   pub frames : FitsPipe ends c.frames.pipe
-  pub sent : Agrees (ends Consumer (tx_free c)) c.sent.kept
-  pub send : Agrees (ends Producer (tx_active c)) c.send.kept
+  pub sent : Agrees (ends Consumer (tx_free c)) c.sent.state
+  pub send : Agrees (ends Producer (tx_active c)) c.send.state
   pub gives : (ends Producer (rx_free c)).kind ≡ Kind.Net
   pub inputs_apart : rx_active c ≡ tx_free c → ⊥
   pub outputs_apart : rx_free c ≡ tx_active c → ⊥
@@ -89,8 +89,8 @@ pub record SameClient (old new : NetClient) : Type 0 where
 pub record IsNewClient (rx_active rx_free tx_active tx_free : QueueId) (pages spare : List Paged)
     (c : NetClient) : Type 0 where
   pub frames : IsNewPipe rx_active rx_free c.frames.pipe
-  pub sent : c.sent ≡ record { queue = tx_free; kept = start_kept Forward }
-  pub send : c.send ≡ record { queue = tx_active; kept = start_kept Backward }
+  pub sent : c.sent ≡ record { queue = tx_free; state = start_state Forward }
+  pub send : c.send ≡ record { queue = tx_active; state = start_state Backward }
   pub got : c.frames.tape.shown ≡ []
   pub is_start : IsStart c.stock pages
   pub base : c.stock.base ≡ 0
@@ -128,10 +128,10 @@ abbrev pub client_forgotten : NetClient → NetClient
 client_forgotten c = record c {
   frames = record c.frames {
     pipe = record c.frames.pipe {
-      input = record c.frames.pipe.input { kept = record c.frames.pipe.input.kept { look = None } };
-      output = record c.frames.pipe.output { kept = record c.frames.pipe.output.kept { look = None } };
+      input = record c.frames.pipe.input { state = record c.frames.pipe.input.state { look = None } };
+      output = record c.frames.pipe.output { state = record c.frames.pipe.output.state { look = None } };
     };
   };
-  sent = record c.sent { kept = record c.sent.kept { look = None } };
-  send = record c.send { kept = record c.send.kept { look = None } };
+  sent = record c.sent { state = record c.sent.state { look = None } };
+  send = record c.send { state = record c.send.state { look = None } };
 }

@@ -1,1 +1,2 @@
+-- What the contracts of the network client say.
 pub mod Clients

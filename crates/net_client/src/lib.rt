@@ -16,7 +16,7 @@ ghost use Rattle.net_client.specs.Clients.{FitsClient, ClientStandsFor, ClientRo
 use cargo_core::{FrameLog, Memory, Page, PoolId};
 use net_kit::{Recorder, Stock, pages_of};
 use std::alloc::Global;
-use turn_kit::{Intake, Outlet, Turn, held};
+use turn_kit::{Intake, Outlet, Turn, count_held};
 use wire_core::{Event, QueueId, Wires};
 
 /// A network client that sends nothing. `frames` moves what comes back to the queue of free buffers, and records it; `stock`
@@ -89,7 +89,9 @@ impl NetClient {
         requires few { length self.now.stock.rest.items + length self.now.spare.items < 2 ^ 32 - 2 }
         ensures { result ≡ buffers_of pool (client_hand self.now) }
     {
-        self.stock.held(pool) + held(pool, &self.frames.pipe.load) + pages_of(pool, &self.spare)
+        self.stock.held(pool)
+            + count_held(pool, &self.frames.pipe.load)
+            + pages_of(pool, &self.spare)
     }
 
     // The end that is stepped now, in the order of frames in, buffers out, and the two of sending.

@@ -12,7 +12,7 @@ use Rattle.wire_core.specs.Bells.{bit}
 use Rattle.wire_core.specs.Deeds.{Cargo}
 use Rattle.wire_core.specs.Lists.{Passed}
 use Rattle.wire_core.specs.Ends.{Role, Consumer, Producer, End}
-use Rattle.turn_kit.specs.Table.{Agrees, start_kept}
+use Rattle.turn_kit.specs.Table.{Agrees, start_state}
 use Rattle.turn_kit.specs.Turns.{Round}
 use Rattle.turn_kit.specs.Posts.{intake_post, outlet_post}
 use Rattle.turn_kit.specs.Hands.{Balances, bodies_of, bodies_at}
@@ -71,10 +71,10 @@ pub record IsWork (c : NetCopier) : Type 0 where
 
 -- the ends are the copier's own, and as it keeps them; all are queues of the network, and so are the entries in hand
 pub record FitsCopier (ends : Role → ℕ → End) (c : NetCopier) : Type 0 where
-  pub lease_input : Agrees (ends Consumer c.lease_input.queue.0) c.lease_input.kept
-  pub buffer_input : Agrees (ends Consumer c.buffer_input.queue.0) c.buffer_input.kept
-  pub buffer_output : Agrees (ends Producer c.buffer_output.queue.0) c.buffer_output.kept
-  pub lease_output : Agrees (ends Producer c.lease_output.queue.0) c.lease_output.kept
+  pub lease_input : Agrees (ends Consumer c.lease_input.queue.0) c.lease_input.state
+  pub buffer_input : Agrees (ends Consumer c.buffer_input.queue.0) c.buffer_input.state
+  pub buffer_output : Agrees (ends Producer c.buffer_output.queue.0) c.buffer_output.state
+  pub lease_output : Agrees (ends Producer c.lease_output.queue.0) c.lease_output.state
   pub leases_come : (ends Consumer c.lease_input.queue.0).kind ≡ Kind.Net
   pub buffers_come : (ends Consumer c.buffer_input.queue.0).kind ≡ Kind.Net
   pub buffers_go : (ends Producer c.buffer_output.queue.0).kind ≡ Kind.Net
@@ -131,10 +131,10 @@ pub record SameCopier (old new : NetCopier) : Type 0 where
 -- a copier in its start state
 pub record IsNewCopier (lease_active lease_free rx_active rx_free : QueueId)
     (c : NetCopier) : Type 0 where
-  pub lease_input : c.lease_input ≡ record { queue = lease_active; kept = start_kept Forward }
-  pub buffer_input : c.buffer_input ≡ record { queue = rx_free; kept = start_kept Forward }
-  pub buffer_output : c.buffer_output ≡ record { queue = rx_active; kept = start_kept Backward }
-  pub lease_output : c.lease_output ≡ record { queue = lease_free; kept = start_kept Backward }
+  pub lease_input : c.lease_input ≡ record { queue = lease_active; state = start_state Forward }
+  pub buffer_input : c.buffer_input ≡ record { queue = rx_free; state = start_state Forward }
+  pub buffer_output : c.buffer_output ≡ record { queue = rx_active; state = start_state Backward }
+  pub lease_output : c.lease_output ≡ record { queue = lease_free; state = start_state Backward }
   pub lease : c.lease ≡ None
   pub buffer : c.buffer ≡ None
   pub last : c.turn.last ≡ 65535
@@ -168,8 +168,8 @@ CopierBalances c passed = Balances [] (bodies_at passed.taken (c.lease_input.que
 -- the same without the last looks
 abbrev pub copier_forgotten : NetCopier → NetCopier
 copier_forgotten c = record c {
-  lease_input = record c.lease_input { kept = record c.lease_input.kept { look = None } };
-  buffer_input = record c.buffer_input { kept = record c.buffer_input.kept { look = None } };
-  buffer_output = record c.buffer_output { kept = record c.buffer_output.kept { look = None } };
-  lease_output = record c.lease_output { kept = record c.lease_output.kept { look = None } };
+  lease_input = record c.lease_input { state = record c.lease_input.state { look = None } };
+  buffer_input = record c.buffer_input { state = record c.buffer_input.state { look = None } };
+  buffer_output = record c.buffer_output { state = record c.buffer_output.state { look = None } };
+  lease_output = record c.lease_output { state = record c.lease_output.state { look = None } };
 }

@@ -14,7 +14,7 @@ ghost use Rattle.net_copier.specs.Copying.{FitsCopier, CopierStandsFor, CopierRo
 
 use cargo_core::{Body, Item, PoolId};
 use net_kit::fill;
-use turn_kit::{Intake, Outlet, Turn, held};
+use turn_kit::{Intake, Outlet, Turn, count_held};
 use wire_core::{Event, QueueId, Wires};
 
 /// The most bytes that a lease can have, since the length of an entry has 16 bits.
@@ -130,7 +130,7 @@ impl NetCopier {
     pub fn held(&self, pool: PoolId) -> u32
         ensures { result ≡ buffers_of pool (copier_hand self.now) }
     {
-        held(pool, &self.lease) + held(pool, &self.buffer)
+        count_held(pool, &self.lease) + count_held(pool, &self.buffer)
     }
 
     // The end that is stepped now, in the order of leases in, buffers in, buffers out, leases out.

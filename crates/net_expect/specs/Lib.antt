@@ -1,1 +1,2 @@
+-- What the contracts on the frames that a client must get say.
 pub mod Expecting

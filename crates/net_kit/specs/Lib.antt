@@ -1,3 +1,4 @@
+-- What the contracts that the actors of the network class share say.
 pub mod Entries
 pub mod Pools
 pub mod Stocks

@@ -1,4 +1,4 @@
-// What an entry of a network queue says, and how its buffer is filled.
+//! What an entry of a network queue says, and how its buffer is filled.
 ghost use Rattle.std.specs.Prelude.{◌≡◌, ◌<◌, ◌^◌, length};
 ghost use Rattle.net_kit.specs.Entries.{frame_of, filled};
 

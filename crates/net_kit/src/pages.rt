@@ -1,4 +1,4 @@
-// How many of some buffers are of a pool.
+//! How many of some buffers are of a pool.
 ghost use Rattle.std.specs.Prelude.{◌≡◌, ◌<◌, ◌≤◌, ◌^◌, length};
 ghost use Rattle.cargo_core.specs.Bodies.{buffers_of};
 ghost use Rattle.net_kit.specs.Pools.{page_bodies};

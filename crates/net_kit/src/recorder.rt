@@ -1,4 +1,4 @@
-// A pipe that records the frames which pass through it.
+//! A pipe that records the frames which pass through it.
 ghost use Rattle.std.specs.Prelude.{◌≡◌, ◌==◌, ◌≤◌, ◌<◌, ◌++◌, ℕ, [], map, IfOk, OnOk, OnErr, is_none, is_some, false};
 ghost use Rattle.std.specs.Option.{option_to_list};
 ghost use Rattle.wire_core.specs.Deeds.{deed_of, put_of};

@@ -1,4 +1,4 @@
-// Buffers that their owner has yet to give for the first time.
+//! Buffers that their owner has yet to give for the first time.
 ghost use Rattle.std.specs.Prelude.{◌≡◌, ◌+◌, ◌*◌, ◌-◌, ◌<◌, ◌≤◌, ◌^◌, ℕ, None, All, map, is_some, is_none, length};
 ghost use Rattle.cargo_core.specs.declared.item.PoolId.{PoolId};
 ghost use Rattle.cargo_core.specs.Bodies.{buffers_of};
@@ -8,7 +8,7 @@ ghost use Rattle.net_kit.specs.Stocks.{stock_list, stock_hand, IsStock, IsStart,
 
 use crate::pages_of;
 use cargo_core::{Body, Item, NetDesc, Page, PoolId};
-use turn_kit::held;
+use turn_kit::count_held;
 
 /// Buffers that are to be given in rising number. `next` is the one that is given next, `rest` the others, the last of them
 /// first. They are the buffers of a pool, as many as `buffers` and each of `size` bytes; that of number 0 begins at `base`.
@@ -65,7 +65,7 @@ impl Stock {
         ensures held { result ≡ buffers_of pool (stock_hand self.now) }
         ensures few { result ≤ 1 + length self.now.rest.items }
     {
-        held(pool, &self.next) + pages_of(pool, &self.rest)
+        count_held(pool, &self.next) + pages_of(pool, &self.rest)
     }
 
     /// The next buffer is made ready, where there is one.

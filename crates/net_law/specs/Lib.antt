@@ -1,1 +1,2 @@
+-- What the contracts of the law of the network class say.
 pub mod Receiving

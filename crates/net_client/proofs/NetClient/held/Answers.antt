@@ -8,4 +8,4 @@ pub returns : goal.returns
 returns c =
     let all = hand_count c.args.pool c.args.self.now in
     let spare = ap (λ xs. buffers_of c.args.pool (page_bodies xs)) c.deref.ensures.value in
-    omega (arith, all, spare, c.held.ensures.held, c.held-2.ensures.held, c.pages_of.ensures.pages)
+    omega (arith, all, spare, c.held.ensures.held, c.count_held.ensures.held, c.pages_of.ensures.pages)
