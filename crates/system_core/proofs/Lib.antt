@@ -1,7 +1,7 @@
 pub mod Calm
 pub mod Rounds
-pub mod Places
 pub mod Rising
+pub mod Places
 pub mod Beside
 pub mod PartEnds
 pub mod Paces

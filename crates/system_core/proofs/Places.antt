@@ -3,7 +3,8 @@ use Rattle.std.specs.List.{remove}
 use Rattle.std.proofs.lemmas.Bool.{lt-ltb, le-ltb, eq-eqb}
 use Rattle.std.proofs.lemmas.Bool.Decides.{nat_tests}
 use Rattle.play_core.specs.Runs.{places_from}
-use Rattle.system_core.specs.Runnings.{with_number}
+use Rattle.system_core.specs.Runnings.{with_number, without, with_if}
+use Rattle.system_core.proofs.Rising.{without_other}
 
 -- all of them are at least k
 abbrev pub AtLeast : ℕ → List ℕ → Type 0
@@ -31,12 +32,33 @@ with_later : (m k : ℕ) (xs : List ℕ) → m < k → with_number k (m ∷ xs) 
 with_later m k xs lt = grind (arith, nat_tests)
 
 -- the places where it is so, after it became so at one
-pub places_set : (k i m : ℕ) (bs : List Bool) → m ≡ k + i → i < length bs → places_from k (slice_set bs i true) ≡ with_number m (places_from k bs)
+places_set : (k i m : ℕ) (bs : List Bool) → m ≡ k + i → i < length bs → places_from k (slice_set bs i true) ≡ with_number m (places_from k bs)
 places_set k i m [] e lt = absurd (omega arith)
 places_set k zero m (true ∷ bs) e lt = let f : k ≡ m = omega arith in subst (λ z. k ∷ places_from (k + 1) bs ≡ with_number z (k ∷ places_from (k + 1) bs)) f (sym (with_here k (places_from (k + 1) bs)))
 places_set k zero m (false ∷ bs) e lt = let f : k ≡ m = omega arith in subst (λ z. k ∷ places_from (k + 1) bs ≡ with_number z (places_from (k + 1) bs)) f (sym (with_front k (places_from (k + 1) bs) (places_at_least (k + 1) bs)))
 places_set k (suc i) m (true ∷ bs) e lt = ap (λ xs. k ∷ xs) (places_set (k + 1) i m bs (omega arith) (omega arith)) ∙ sym (with_later k m (places_from (k + 1) bs) (omega arith))
 places_set k (suc i) m (false ∷ bs) e lt = places_set (k + 1) i m bs (omega arith) (omega arith)
+
+-- none of them is a number below all
+without_front : (k : ℕ) (xs : List ℕ) → AtLeast (k + 1) xs → without k xs ≡ xs
+without_front k [] h = refl
+without_front k (x ∷ xs) h = let le : k + 1 ≤ x = h.0 in without_other k x xs (λ e. absurd (omega (arith, le, e))) ∙ ap (λ ys. x ∷ ys) (without_front k xs h.1)
+
+without_here : (k : ℕ) (xs : List ℕ) → without k (k ∷ xs) ≡ xs
+without_here k xs = rw (eq-eqb k k refl) refl
+
+-- the places where it is so, after it isn't so at one
+places_unset : (k i m : ℕ) (bs : List Bool) → m ≡ k + i → i < length bs → places_from k (slice_set bs i false) ≡ without m (places_from k bs)
+places_unset k i m [] e lt = absurd (omega arith)
+places_unset k zero m (true ∷ bs) e lt = let f : k ≡ m = omega arith in subst (λ z. places_from (k + 1) bs ≡ without z (k ∷ places_from (k + 1) bs)) f (sym (without_here k (places_from (k + 1) bs)))
+places_unset k zero m (false ∷ bs) e lt = let f : k ≡ m = omega arith in subst (λ z. places_from (k + 1) bs ≡ without z (places_from (k + 1) bs)) f (sym (without_front k (places_from (k + 1) bs) (places_at_least (k + 1) bs)))
+places_unset k (suc i) m (true ∷ bs) e lt = ap (λ xs. k ∷ xs) (places_unset (k + 1) i m bs (omega arith) (omega arith)) ∙ sym (without_other m k (places_from (k + 1) bs) (λ f. absurd (omega (arith, e, f))))
+places_unset k (suc i) m (false ∷ bs) e lt = places_unset (k + 1) i m bs (omega arith) (omega arith)
+
+-- the places where it is so, after it is so at one or isn't
+pub places_kept : (runs : Bool) (i : ℕ) (bs : List Bool) → i < length bs → places_from 0 (slice_set bs i runs) ≡ with_if runs i (places_from 0 bs)
+places_kept true i bs lt = places_set 0 i i bs (omega arith) lt
+places_kept false i bs lt = places_unset 0 i i bs (omega arith) lt
 
 some_is : {m n : ℕ} → Some m ≡ Some n → m ≡ n
 some_is h = cc

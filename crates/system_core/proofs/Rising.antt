@@ -6,7 +6,8 @@ use Rattle.std.proofs.lemmas.List.Edits.{length-insert}
 use Rattle.std.proofs.lemmas.List.Sorted.{searched}
 use Rattle.std.specs.List.Sorted.{IsBinarySearchResult}
 use Rattle.std.specs.Ordering.{nat_cmp}
-use Rattle.system_core.specs.Runnings.{with_number, Rises}
+use Rattle.wire_core.proofs.Sinces.{eqb_apart}
+use Rattle.system_core.specs.Runnings.{with_number, without, Rises}
 
 three : (x y : ℕ) → ((x < y) ⊎ ((x ≡ y) ⊎ (y < x)))
 three zero zero = inr (inl refl)
@@ -87,3 +88,35 @@ room_to_add xs x i room n h r le e =
     let p = place_to_add xs x i h r in
     let l : length (with_number x xs) ≡ length xs + 1 = with_length x xs i p.0 p.1 in
     omega arith
+
+without_same : (x : ℕ) (xs : List ℕ) → without x (x ∷ xs) ≡ xs
+without_same x xs = rw (eq-eqb x x refl) refl
+
+pub without_other : (x y : ℕ) (xs : List ℕ) → (x ≡ y → ⊥) → without x (y ∷ xs) ≡ y ∷ without x xs
+without_other x y xs away = rw (eqb_apart x y away) refl
+
+-- a number that is there is taken out at its place
+without_there : (x i k : ℕ) (xs : List ℕ) → Rises k xs → i < length xs → get_or xs i 0 ≡ x → without x xs ≡ remove xs i
+without_there x i k [] h lt at = absurd (omega arith)
+without_there x zero k (y ∷ xs) h lt at = subst (λ z. without z (y ∷ xs) ≡ xs) at (without_same y xs)
+without_there x (suc i) k (y ∷ xs) h lt at =
+    let r : y + 1 ≤ get_or xs i 0 = at_least (y + 1) xs h.1 i (omega arith) in
+    let g : get_or xs i 0 ≡ x = at in
+    without_other x y xs (λ e. absurd (omega (arith, r, g, e))) ∙ ap (λ zs. y ∷ zs) (without_there x i (y + 1) xs h.1 (omega arith) at)
+
+-- one that isn't changes nothing
+without_absent : (x i : ℕ) (xs : List ℕ) → i ≤ length xs → ((k : ℕ) → k < i → get_or xs k 0 < x) → ((k : ℕ) → i ≤ k → k < length xs → x < get_or xs k 0) → without x xs ≡ xs
+without_absent x i [] le below above = refl
+without_absent x zero (y ∷ xs) le below above =
+    let g : x < y = above 0 (omega arith) (omega arith) in
+    without_other x y xs (λ e. absurd (omega (arith, g, e))) ∙ ap (λ zs. y ∷ zs) (without_absent x zero xs (omega arith) (λ k lt. absurd (omega arith)) (λ k le lt. above (suc k) (omega arith) (omega arith)))
+without_absent x (suc i) (y ∷ xs) le below above =
+    let g : y < x = below 0 (omega arith) in
+    without_other x y xs (λ e. absurd (omega (arith, g, e))) ∙ ap (λ zs. y ∷ zs) (without_absent x i xs (omega arith) (λ k lt. below (suc k) (omega arith)) (λ k le lt. above (suc k) (omega arith) (omega arith)))
+
+-- what a search that found the number tells
+pub place_to_take : (xs : List ℕ) (x i : ℕ) → Rises 0 xs → IsBinarySearchResult (λ y. nat_cmp y x) xs (Ok i) → (i < length xs) × (without x xs ≡ remove xs i)
+place_to_take xs x i h r = let m = searched xs x (Ok i) r (rises_at 0 xs h) in (m.0, without_there x i 0 xs h m.0 m.1)
+
+pub none_to_take : (xs : List ℕ) (x i : ℕ) → Rises 0 xs → IsBinarySearchResult (λ y. nat_cmp y x) xs (Err i) → without x xs ≡ xs
+none_to_take xs x i h r = let m = searched xs x (Err i) r (rises_at 0 xs h) in without_absent x i xs m.0 m.1 m.2

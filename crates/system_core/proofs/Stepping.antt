@@ -19,24 +19,25 @@ use Rattle.play_core.specs.Wants.{Want, Needful, all_settled}
 use Rattle.play_core.specs.Sheets.{Scene, AreSeated, needful, RowsHold}
 use Rattle.play_core.specs.Runs.{called_from, is_runnable, flags_from, places_from, runnable, rung_at}
 use Rattle.play_core.proofs.Lists.{map_get, there_is}
-use Rattle.play_core.proofs.Flags.{differs_at, differs_twice, flag_at, flags_length, runnable_rung, rung_owns}
+use Rattle.play_core.proofs.Flags.{differs_at, differs_twice, flag_at, flags_length, rung_owns}
 use Rattle.play_core.proofs.Tables.{others_run}
 use Rattle.actor_set.specs.Parts.{Part}
 use Rattle.actor_set.specs.Actors.{FitsActor, ActorStandsFor, ActorEnd, ActorTurned, actor_round, actor_rests, part_of}
 use Rattle.actor_set.specs.declared.actor.Actor.{Actor}
-use Rattle.play_core.specs.Manners.{Manners, Calm}
+use Rattle.play_core.specs.Manners.{Manner, Manners, Calm}
 use Rattle.system_core.specs.Kinds.{scene_of, sheet, manner_of, manners, hostiles, idles}
 use Rattle.system_core.specs.Shows.{Crew, Setting, hostile_in, runs, RowsStand}
 use Rattle.system_core.specs.Lawful.{IsFitted}
-use Rattle.system_core.specs.Runnings.{removed_if, with_option, with_number}
+use Rattle.system_core.specs.Runnings.{removed_if, with_option, with_if}
+use Rattle.system_core.specs.Asking.{IsAsked}
 use Rattle.system_core.specs.Systems.{Holds}
-use Rattle.system_core.proofs.Calm.{calm_actor, calm_manner, manner_at, sheet_own}
+use Rattle.system_core.proofs.Calm.{calm_manner, manner_at, sheet_own}
 use Rattle.system_core.proofs.RowsNow.{rows_now}
 use Rattle.system_core.proofs.SystemStep.{step_holds, map_same, entry_of, some_eq}
 use Rattle.system_core.proofs.RunsNow.{idle_here, rests_here}
 use Rattle.system_core.proofs.PartEnds.{from_part, seat_end}
 use Rattle.system_core.proofs.Paces.{called_end, nobody_since}
-use Rattle.system_core.proofs.Places.{places_set, places_clear, places_so, places_below, places_few}
+use Rattle.system_core.proofs.Places.{places_kept, places_clear, places_so, places_below, places_few}
 
 pub set_same : {X : Type 0} (xs : List X) (k : ℕ) (b : X) → slice_get xs k ≡ Some b → slice_set xs k b ≡ xs
 set_same [] k b h = refl
@@ -135,17 +136,18 @@ module _ (history : History) (rows : List QueueRow) (w v : List Queue) (actors :
   lengths : length (flag after_) ≡ length (flag journal)
   lengths = flags_count history rows cast after_ ∙ sym (flags_count history rows cast journal)
 
-  caller_then : (idle : Bool) → idle ≡ idles (manner_of (part_of x')) (actor_rests x') (is_pending k v) → slice_get (flag after_) k ≡ Some (not idle)
-  caller_then idle is =
-      let runs : Part → Bool = λ p. is_runnable (manner_of p) k (wanted history rows cast p after_) history rows after_ in
-      let said : idle ≡ not (runs (part_of x')) = is ∙ idle_here (scene_of cast) history rows v (slice_set actors k x') after_ then_holds k x' (slice_get_written actors k x x' here) in
-      flag_of history rows cast after_ k (part_of x) cast_here ∙ ap Some (ap (λ m. is_runnable m k (wanted history rows cast (part_of x) after_) history rows after_) (manner_at cast k (part_of x) cast_here) ∙ (not_not (runs (part_of x)) ∙ ap not (ap (λ p. not (runs p)) (sym part) ∙ sym said)))
+  -- an actor that is asked says whether it is runnable
+  asked_then : (m : ℕ) (z : Actor) (runs : Bool) → slice_get (slice_set actors k x') m ≡ Some z → runs ≡ not (idles (manner_of (part_of z)) (actor_rests z) (is_pending m v)) → slice_get (flag after_) m ≡ Some runs
+  asked_then m z runs at is =
+      let there : slice_get cast m ≡ Some (part_of z) = ap (λ ps. slice_get ps m) (sym (map_same part_of actors k x x' here part)) ∙ map_get part_of (slice_set actors k x') m z at in
+      let run : Manner → Bool = λ n. is_runnable n m (wanted history rows cast (part_of z) after_) history rows after_ in
+      flag_of history rows cast after_ m (part_of z) there
+      ∙ ap Some (ap run (manner_at cast m (part_of z) there)
+      ∙ (not_not (run (manner_of (part_of z)))
+      ∙ (ap not (sym (idle_here (scene_of cast) history rows v (slice_set actors k x') after_ then_holds m z at)) ∙ sym is)))
 
-  rung_then : (m : ℕ) → rung_at e.op row ≡ Some m → m < length cast → slice_get (flag after_) m ≡ Some true
-  rung_then m rung lt =
-      let p = there_is cast m lt in
-      flag_of history rows cast after_ m p.0 p.1
-      ∙ ap Some (runnable_rung (manners cast) history rows journal k e row there may m (wanted history rows cast p.0 after_) (calm_actor cast m) rung)
+  caller_then : (idle : Bool) → idle ≡ idles (manner_of (part_of x')) (actor_rests x') (is_pending k v) → slice_get (flag after_) k ≡ Some (not idle)
+  caller_then idle is = asked_then k x' (not idle) (slice_get_written actors k x x' here) (ap not is)
 
   rung_below : (m : ℕ) → rung_at e.op row ≡ Some m → m < length cast
   rung_below m rung =
@@ -154,18 +156,28 @@ module _ (history : History) (rows : List QueueRow) (w v : List Queue) (actors :
       subst (λ n. m < n) (sym (length-map actors part_of)) lt
 
   -- the runnable actors after the call
-  pub running_then : (rung : Option ℕ) (idle : Bool) (place : ℕ) → rung_at e.op row ≡ rung → idle ≡ idles (manner_of (part_of x')) (actor_rests x') (is_pending k v) → slice_get (places_from 0 (flag journal)) place ≡ Some k → places_from 0 (flag after_) ≡ with_option rung (removed_if idle (places_from 0 (flag journal)) place)
-  running_then None idle place rung is at =
+  pub running_then : (rung : Option ℕ) (runs idle : Bool) (place : ℕ) → rung_at e.op row ≡ rung → IsAsked (slice_set actors k x') v rung runs → idle ≡ idles (manner_of (part_of x')) (actor_rests x') (is_pending k v) → slice_get (places_from 0 (flag journal)) place ≡ Some k
+      → places_from 0 (flag after_) ≡ with_option rung runs (removed_if idle (places_from 0 (flag journal)) place)
+  running_then None runs idle place rung asked is at =
       ap (places_from 0) (differs_at (flag journal) (flag after_) k (not idle) _ lengths (flag_of history rows cast journal k (part_of x) cast_here) (caller_then idle is) (λ i away. others i away (λ h. let no : None ≡ Some i = sym rung ∙ h in cc)))
       ∙ cleared (flag journal) k place idle at
-  running_then (Some m) idle place rung is at =
+  running_then (Some m) runs idle place rung asked is at =
       let lt : m < length cast = rung_below m rung in
       let n : length (flag journal) ≡ length cast = flags_count history rows cast journal in
       let d = there_is (flag journal) m (omega arith) in
       let few : length (slice_set (flag journal) k (not idle)) ≡ length (flag journal) = length-set (flag journal) k (not idle) in
-      ap (places_from 0) (differs_twice (flag journal) (flag after_) k m (not idle) _ d.0 _ lengths (flag_of history rows cast journal k (part_of x) cast_here) d.1 (caller_then idle is) (rung_then m rung lt) (λ i away apart. others i away (λ h. apart (some_eq (sym h ∙ rung)))))
-      ∙ (places_set 0 m m (slice_set (flag journal) k (not idle)) (omega arith) (omega arith)
-      ∙ ap (with_number m) (cleared (flag journal) k place idle at))
+      let z = asked m refl in
+      ap (places_from 0) (differs_twice (flag journal) (flag after_) k m (not idle) _ d.0 runs lengths (flag_of history rows cast journal k (part_of x) cast_here) d.1 (caller_then idle is) (asked_then m z.0 runs z.1 z.2) (λ i away apart. others i away (λ h. apart (some_eq (sym h ∙ rung)))))
+      ∙ (places_kept runs m (slice_set (flag journal) k (not idle)) (omega arith)
+      ∙ ap (with_if runs m) (cleared (flag journal) k place idle at))
+
+-- who is rung is one of the actors
+pub rung_there : (history : History) (rows : List QueueRow) (w : List Queue) (actors : List Actor) (journal : List Entry) → Holds history rows w actors journal → (k : ℕ) (x : Actor) (e : Event) (row : QueueRow) (m : ℕ) → e.queue.0 < length w → row ≡ slice_index_or rows e.queue.0 row → rung_at e.op row ≡ Some m → m < length (slice_set actors k x)
+rung_there history rows w actors journal old k x e row m within is rung =
+    let there : slice_get rows e.queue.0 ≡ Some row = slice_get_read rows _ e.queue.0 row refl (subst (λ n. e.queue.0 < n) old.size within) is in
+    let o = rung_owns e.op row m rung in
+    let lt : m < length actors = subst (λ n. n < length actors) o.1 (old.peers e.queue.0 row there o.0) in
+    rw length-set lt
 
 called_so : (a b : Bool) → a ≡ true → (not a || b) ≡ true → b ≡ true
 called_so true b e g = g
@@ -203,15 +215,15 @@ pub record StepThen (setting : Setting) (v : List Queue) (actors : List Actor) (
   pub room_is : length actors ≤ room
   pub few : length list ≤ room
 
-module _ (history : History) (rows : List QueueRow) (serial : Crew) (w v : List Queue) (actors : List Actor) (journal : List Entry) (k : ℕ) (x x' y : Actor) (e : Event) (row : QueueRow) (rung : Option ℕ) (idle : Bool) (place : ℕ) (list : List ℕ) (room : ℕ) where
+module _ (history : History) (rows : List QueueRow) (serial : Crew) (w v : List Queue) (actors : List Actor) (journal : List Entry) (k : ℕ) (x x' y : Actor) (e : Event) (row : QueueRow) (rung : Option ℕ) (woken idle : Bool) (place : ℕ) (list : List ℕ) (room : ℕ) where
   abbrev setting : Setting
   setting = record { history = history; rows = rows; cast = map part_of actors; serial = serial }
 
   pub system_then : IsFitted setting → Holds history rows w actors journal → EachMoment (RowsStand setting) journal → list ≡ runs setting journal → length actors ≤ room → Brisk (hostile_in setting) no_drops journal
       → slice_get list place ≡ Some k → x ≡ slice_index_or actors k x → ActorEnd x (role_of e.op) e.queue.0 → Stepped ActorStandsFor Happens w v x x' e → ActorTurned x e x' → FitsActor (end_at v) x' → part_of x' ≡ part_of x
-      → y ≡ slice_index_or (slice_set actors k x') k y → row ≡ slice_index_or rows e.queue.0 row → idle ≡ idles (manner_of (part_of y)) (actor_rests y) (is_pending k v) → rung ≡ rung_at e.op row
-      → StepThen setting v (slice_set actors k x') (journal ++ entry_of k e ∷ []) (with_option rung (removed_if idle list place)) room
-  system_then fitted old rows_old running le brisk at x_is own st turned fits part y_is row_is idle_is rung_is =
+      → y ≡ slice_index_or (slice_set actors k x') k y → row ≡ slice_index_or rows e.queue.0 row → idle ≡ idles (manner_of (part_of y)) (actor_rests y) (is_pending k v) → rung ≡ rung_at e.op row → IsAsked (slice_set actors k x') v rung woken
+      → StepThen setting v (slice_set actors k x') (journal ++ entry_of k e ∷ []) (with_option rung woken (removed_if idle list place)) room
+  system_then fitted old rows_old running le brisk at x_is own st turned fits part y_is row_is idle_is rung_is asked =
       let at' : slice_get (runs setting journal) place ≡ Some k = rw (← running) at in
       let size : length (map part_of actors) ≡ length actors = length-map actors part_of in
       let below : k < length (map part_of actors) = runs_below history rows (map part_of actors) journal place k at' in
@@ -222,8 +234,8 @@ module _ (history : History) (rows : List QueueRow) (serial : Crew) (w v : List 
       let new = step_holds history rows w v actors journal k x x' e here old own st turned pressed fits part in
       let cast_is = map_same part_of actors k x x' here part in
       let y_same : y ≡ x' = some_eq (sym (slice_get_read (slice_set actors k x') _ k y refl (subst (λ n. k < n) (sym (length-set actors k x')) lt) y_is) ∙ slice_get_written actors k x x' here) in
-      let then_is = running_then history rows w v actors journal k x x' e row here old fitted.seated own st turned pressed fits part there rung idle place (sym rung_is) (idle_is ∙ ap (λ a. idles (manner_of (part_of a)) (actor_rests a) (is_pending k v)) y_same) at' in
-      let list_is : with_option rung (removed_if idle list place) ≡ runs setting (journal ++ entry_of k e ∷ []) = ap (λ l. with_option rung (removed_if idle l place)) running ∙ sym then_is in
+      let then_is = running_then history rows w v actors journal k x x' e row here old fitted.seated own st turned pressed fits part there rung woken idle place (sym rung_is) asked (idle_is ∙ ap (λ a. idles (manner_of (part_of a)) (actor_rests a) (is_pending k v)) y_same) at' in
+      let list_is : with_option rung woken (removed_if idle list place) ≡ runs setting (journal ++ entry_of k e ∷ []) = ap (λ l. with_option rung woken (removed_if idle l place)) running ∙ sym then_is in
       record {
         holds = new;
         cast_is = cast_is;

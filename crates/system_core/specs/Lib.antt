@@ -1,5 +1,5 @@
 -- The definitions of a system at play: what it shows (Kinds, Shows), what holds of it (Lawful), how it is built and
--- played (Builds, Plays, PlanPlays), and inside, what it keeps (Runnings, Starts, Seats, Systems, Inside, Jobs).
+-- played (Builds, Plays, PlanPlays), and inside, what it keeps (Runnings, Asking, Starts, Seats, Systems, Inside, Jobs).
 pub mod Kinds
 pub mod Shows
 pub mod Plays
@@ -8,6 +8,7 @@ pub mod Lawful
 pub mod Builds
 pub mod PlanPlays
 pub mod Runnings
+pub mod Asking
 pub mod States
 pub mod Starts
 pub mod Seats

@@ -27,6 +27,16 @@ abbrev pub removed_if : Bool → List ℕ → ℕ → List ℕ
 removed_if true xs place = remove xs place
 removed_if false xs place = xs
 
-abbrev pub with_option : Option ℕ → List ℕ → List ℕ
-with_option None xs = xs
-with_option (Some k) xs = with_number k xs
+-- ascending numbers without one, where it is there
+abbrev pub without : ℕ → List ℕ → List ℕ
+without k [] = []
+without k (x ∷ xs) = if k == x then xs else x ∷ without k xs
+
+-- ascending numbers with one that is to be there, or without one that isn't
+abbrev pub with_if : Bool → ℕ → List ℕ → List ℕ
+with_if true k xs = with_number k xs
+with_if false k xs = without k xs
+
+abbrev pub with_option : Option ℕ → Bool → List ℕ → List ℕ
+with_option None runs xs = xs
+with_option (Some k) runs xs = with_if runs k xs

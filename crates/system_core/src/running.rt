@@ -1,6 +1,6 @@
 // The runnable actors, in ascending order.
 ghost use Rattle.std.specs.Prelude.{◌≡◌, ◌<◌, ◌≤◌, length, remove, slice_get, Some, IfOk, []};
-ghost use Rattle.system_core.specs.Runnings.{with_number};
+ghost use Rattle.system_core.specs.Runnings.{with_number, without};
 
 use cargo_core::Memory;
 use std::alloc::Global;
@@ -52,6 +52,15 @@ impl Running {
         ensures { self.new ≡ record self.old { list = remove self.old.list place } }
     {
         self.list.remove(place);
+    }
+
+    /// Takes a number out, where it is there.
+    pub fn take_out(&mut self, number: u16)
+        ensures { self.new ≡ record self.old { list = without number self.old.list } }
+    {
+        if let Ok(place) = self.list.binary_search(&number) {
+            self.remove(place);
+        }
     }
 
     /// Adds a number, where it isn't there yet.

@@ -17,6 +17,7 @@ ghost use Rattle.system_core.specs.Lawful.{StandsLawful};
 ghost use Rattle.system_core.specs.Reports.{report_of};
 ghost use Rattle.system_core.specs.Runnings.{removed_if, with_option};
 ghost use Rattle.system_core.specs.Plays.{Played, IsSpent, StepsAt, runnable_now};
+ghost use Rattle.system_core.specs.Asking.{IsAsked};
 ghost use Rattle.system_core.specs.Builds.{unplayed, IsBuilt};
 ghost use Rattle.system_core.specs.PlanPlays.{IsPlayed, HasEnded};
 
@@ -98,17 +99,30 @@ fn rung(op: Op, row: &QueueRow) -> Option<u16>
     }
 }
 
-// Takes out the actor at a place where it is idle, and adds the one that was rung.
-fn note(running: &mut Running, place: usize, idle: bool, rung: Option<u16>)
+// Whether the actor that was rung is runnable now.
+fn is_runnable(actors: &[Actor], world: &World, rung: Option<u16>) -> bool
+    requires { (k : ℕ) → rung ≡ Some k → k < length actors.now }
+    ensures { IsAsked actors.now world.now rung result }
+{
+    match rung {
+        Some(actor) => !is_idle(&actors[actor as usize], world, ActorId(actor)),
+        None => false,
+    }
+}
+
+// Takes out the actor at a place where it is idle, and keeps the one that was rung where it is runnable.
+fn note(running: &mut Running, place: usize, idle: bool, rung: Option<u16>, runs: bool)
     requires there { place < length running.old.list }
-    requires room { length (with_option rung (removed_if idle running.old.list place)) ≤ running.old.room }
-    ensures { running.new ≡ record running.old { list = with_option rung (removed_if idle running.old.list place) } }
+    requires room { length (with_option rung runs (removed_if idle running.old.list place)) ≤ running.old.room }
+    ensures { running.new ≡ record running.old { list = with_option rung runs (removed_if idle running.old.list place) } }
 {
     if idle {
         running.remove(place);
     }
-    if let Some(actor) = rung {
-        running.add(actor);
+    match rung {
+        Some(actor) if runs => running.add(actor),
+        Some(actor) => running.take_out(actor),
+        None => {}
     }
 }
 
@@ -288,7 +302,8 @@ impl System {
         let idle = is_idle(actor, &self.world, ActorId(number));
         let row = &self.rows[event.queue.0 as usize];
         let rung = rung(event.op, row);
-        note(&mut self.running, place, idle, rung);
+        let runs = is_runnable(&self.actors, &self.world, rung);
+        note(&mut self.running, place, idle, rung, runs);
         Ok(())
     }
 
