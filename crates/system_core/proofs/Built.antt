@@ -23,6 +23,7 @@ use Rattle.system_core.specs.States.{begun, crew_of, started}
 use Rattle.system_core.specs.Seats.{AreSeated}
 use Rattle.system_core.specs.Builds.{unplayed, IsBuilt, HasSerial}
 use Rattle.system_core.specs.Jobs.{IsOwner, SomeJob, AreCast, AreClients}
+use Rattle.system_core.proofs.Scenes.{bare_scene}
 use Rattle.system_core.proofs.Named.{domains_few, client_count}
 use Rattle.system_core.proofs.SerialRows.{row_count}
 use Rattle.system_core.proofs.Building.{some_job, seated, has_serial}
@@ -105,6 +106,7 @@ module _ (plan : Plan) (valid : Valid plan) (net : plan.net ≡ None) (blk : pla
             cast = record {
               rows = rows_are;
               count = length-map actors part_of ∙ cast_of.count_is;
+              scene = bare_scene plan trace (map part_of actors) net blk;
               serial = λ s is. subst (λ n. HasSerial n plan s trace (begun rows actors crew)) (sym (first_is plan net)) (subst (λ (x : Serial). HasSerial 0 plan x trace (begun rows actors crew)) (some_is (sym has ∙ is)) serial_begun);
               nobody = λ none. let no : None ≡ Some serial = sym none ∙ has in cc;
             };
@@ -133,6 +135,7 @@ module _ (plan : Plan) (valid : Valid plan) (net : plan.net ≡ None) (blk : pla
         cast = record {
           rows = rows_are;
           count = ap length (sym (no_actors plan valid net none blk));
+          scene = bare_scene plan trace [] net blk;
           serial = λ s is. let no : None ≡ Some s = sym none ∙ is in cc;
           nobody = λ h. record { cast = refl; device = refl; clients = refl };
         };

@@ -22,6 +22,7 @@ pub mod Seconds
 pub mod NewActors
 pub mod QueuePlaces
 pub mod Building
+pub mod Scenes
 pub mod Scripts
 pub mod Begun
 pub mod Built

@@ -9,9 +9,10 @@ use Rattle.sdf_model.specs.declared.plan.Serial.{Serial}
 use Rattle.sdf_model.specs.declared.plan.SerialClient.{SerialClient as Client}
 use Rattle.trace_text.specs.declared.trace.Trace.{Trace}
 use Rattle.region_layout.specs.Rows.{net_queues, queues_of, actors_of, actor_named, uart_number}
+use Rattle.play_core.specs.Sheets.{Scene}
 use Rattle.serial_law.specs.Parts.{SerialPart, SerialDevice, SerialDriver, SerialReceiver, SerialSender, SerialClient}
 use Rattle.serial_law.specs.Serial.{SerialClass}
-use Rattle.system_core.specs.Kinds.{serial_part}
+use Rattle.system_core.specs.Kinds.{serial_part, scene_of}
 use Rattle.system_core.specs.Shows.{Setting, Shown}
 
 -- the first class of a plan that can't be played yet, if it has one
@@ -66,10 +67,21 @@ pub record HasNobody (s : Setting) : Type 0 where
   pub device : s.serial.device ≡ None
   pub clients : s.serial.clients ≡ []
 
--- the queues and the actors of a plan without the network class and the block class, with what a trace gives them
+-- what a trace gives the classes that a plan has: the frames to the network class, and the image to
+-- the block class
+abbrev pub scene_for : Plan → Trace → Scene
+scene_for plan trace = record {
+  frames = option_map_or (λ net. trace.frames) plan.net [];
+  image = option_map_or (λ blk. trace.image) plan.blk [];
+}
+
+-- the queues and the actors of a plan without the network class and the block class, with what a
+-- trace gives them
 pub record IsCastOf (plan : Plan) (trace : Trace) (s : Setting) : Type 0 where
   pub rows : s.rows ≡ queues_of plan
   pub count : length s.cast ≡ length (actors_of plan)
+  -- the scene in which their needs and rows are said
+  pub scene : scene_of s.cast ≡ scene_for plan trace
   pub serial : (serial : Serial) → plan.serial ≡ Some serial → HasSerial (first_serial plan) plan serial trace s
   pub nobody : plan.serial ≡ None → HasNobody s
 
