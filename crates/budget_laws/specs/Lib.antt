@@ -1,1 +1,2 @@
+-- What the laws on the step budget say.
 pub mod Ends

@@ -1,3 +1,4 @@
+-- What the contracts of items, bodies and pages say, and those of lists and of what actors record.
 pub mod Bodies
 pub mod Items
 pub mod Lists

@@ -1,1 +1,2 @@
+-- What the contracts on the step budget say.
 pub mod Budgets

@@ -1,1 +1,2 @@
+-- What the laws on the layouts of valid plans say.
 pub mod Sound

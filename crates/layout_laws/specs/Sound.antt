@@ -1,3 +1,5 @@
+-- What the laws say of a layout: its queues and pools lie in their regions, apart from each other,
+-- and its actors are those that the plan names.
 use Rattle.std.specs.Prelude.{◌≡◌, ◌≢◌, ℕ, ◌+◌, ◌*◌, ◌<◌, ◌≤◌, List, ◌++◌, length, map, Option, Some, slice_get, slice_index, IsSomeAnd}
 use Rattle.std.specs.Option.{option_map}
 use Rattle.wire_core.specs.declared.names.QueueRow.{QueueRow}

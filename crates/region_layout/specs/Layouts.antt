@@ -1,3 +1,4 @@
+-- The layout of a plan, as one value.
 use Rattle.sdf_model.specs.declared.plan.Plan.{Plan}
 use Rattle.region_layout.specs.declared.layout.Layout.{Layout}
 use Rattle.region_layout.specs.Bases.{bases_of}

@@ -1,3 +1,5 @@
+-- The layout of a plan (Layouts): where its regions lie (Bases), its queues, pools and actors
+-- (Rows), and the numbers for which rows have room (Sizes).
 pub mod Bases
 pub mod Rows
 pub mod Layouts

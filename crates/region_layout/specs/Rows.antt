@@ -1,3 +1,4 @@
+-- The tables of actors, queues and pools that a plan gives, class by class.
 use Rattle.std.specs.Prelude.{ℕ, ◌+◌, ◌*◌, not, Bool, if◌then◌else◌, List, [], ◌∷◌, ◌++◌, length, map, filter, codes, bytes_eq, slice_index, Option, None, is_some, unwrap_or}
 use Rattle.std.specs.Option.{option_map_or}
 use Rattle.std.specs.Fmt.{decimal}

@@ -1,3 +1,4 @@
+-- The numbers of a plan for which the rows of its layout have room: the rules allow no others.
 use Rattle.std.specs.Prelude.{◌≡◌, ℕ, ◌+◌, ◌^◌, ◌<◌, ◌≤◌, List, length, slice_get, Some}
 use Rattle.sdf_model.specs.declared.plan.Plan.{Plan}
 use Rattle.sdf_model.specs.declared.plan.Region.{Region}

@@ -1,3 +1,4 @@
+//! Who acts: the actors of a plan by their numbers, and its regions by their names.
 ghost use Rattle.std.specs.Prelude.{◌≡◌, ◌+◌, ◌<◌, ◌≤◌, ◌++◌, length, map, filter, codes, IfOk, OnOk, IfSome, slice_index};
 ghost use Rattle.sdf_check.specs.Names.{place_of, region_named, region_names_of};
 ghost use Rattle.region_layout.specs.Bases.{bases_of};

@@ -1,3 +1,4 @@
+//! The layout of a plan, and how a valid plan is laid out.
 ghost use Rattle.std.specs.Prelude.{◌≡◌, ◌<◌, length, slice_get, Some, IfOk};
 ghost use Rattle.sdf_check.specs.Valid.{Valid};
 ghost use Rattle.region_layout.specs.Bases.{AreDisjoint, AreGivenApart};

@@ -1,3 +1,4 @@
+//! The table of pools, class by class: each fills a region from its base on.
 ghost use Rattle.std.specs.Prelude.{◌≡◌, ◌^◌, ◌<◌, ℕ, [], ◌∷◌, ◌++◌, Some, IfOk, OnOk};
 ghost use Rattle.std.specs.Option.{option_map_or};
 ghost use Rattle.region_layout.specs.Rows.{pool_in, net_client_pools, net_pools, blk_client_pools, blk_pools, pools_of, each_client};

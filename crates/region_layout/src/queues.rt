@@ -1,3 +1,4 @@
+//! The table of queues, class by class: what each carries, between whom, and where it stands.
 ghost use Rattle.std.specs.Prelude.{Some, IfOk, ◌≡◌, ◌+◌, ◌^◌, ◌<◌, ◌≤◌, [], ◌∷◌, ◌++◌, OnOk};
 ghost use Rattle.std.specs.Option.{option_map_or};
 ghost use Rattle.sdf_check.specs.Names.{region_named};

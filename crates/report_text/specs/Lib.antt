@@ -1,3 +1,4 @@
+-- What the contracts of the printed texts say.
 pub mod Answers
 pub mod Journals
 pub mod Layouts

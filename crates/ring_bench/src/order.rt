@@ -1,4 +1,4 @@
-// What the words ask for.
+//! What the words ask for.
 ghost use Rattle.std.specs.Prelude.{◌≡◌, ◌≤◌, ◌^◌, IfSome};
 
 // How many bytes are to cross a ring whose capacity is 2 to a power, and whether by the whole discipline.

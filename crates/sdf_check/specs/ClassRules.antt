@@ -1,3 +1,4 @@
+-- The rules on the classes of a plan: roles, channels, maps, capacities, sizes, ids and counts.
 use Rattle.std.specs.Prelude.{◌≡◌, ◌≢◌, ℕ, ◌+◌, ◌*◌, ◌^◌, ◌<◌, ◌≤◌, ◌⊎◌, Bool, false, List, [], ◌∷◌, ◌++◌, length, map, sum_by, Option, slice_get, codes, IsNone, IsSomeAnd, MatchBool}
 use Rattle.std.specs.List.{flat_map}
 use Rattle.std.specs.Option.{option_map_or, option_and_then}

@@ -1,3 +1,4 @@
+-- The elements of a plan: how many there are of each sort, and what holds of the one at a place.
 use Rattle.std.specs.Prelude.{ℕ, length, map, slice_get, IsSomeAnd}
 use Rattle.std.specs.Option.{option_map}
 use Rattle.sdf_model.specs.Places.{Outline}

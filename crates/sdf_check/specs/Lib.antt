@@ -1,3 +1,5 @@
+-- The rules of plans (Rules, ClassRules) and what a valid plan is (Valid); what the rules take from
+-- a plan (Elements, Names, Roles, Shares); the others say what the judge finds out and keeps.
 pub mod ClassRules
 pub mod Elements
 pub mod Lookups

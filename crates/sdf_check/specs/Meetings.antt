@@ -1,3 +1,4 @@
+-- The first range that meets an earlier one: of some ranges, and of the maps of each domain.
 use Rattle.std.specs.Prelude.{◌≡◌, ℕ, ◌<◌, List, Option, Some, map, slice_get, MatchOption, IsSomeAnd}
 use Rattle.sdf_model.specs.declared.plan.Plan.{Plan}
 use Rattle.sdf_model.specs.declared.plan.Domain.{Domain}

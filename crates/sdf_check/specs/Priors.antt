@@ -1,3 +1,5 @@
+-- What the judge's tables say of a plan, and which elements are prior to one: where a table has
+-- only the first element that breaks a rule, the answer for a later one may be of that.
 use Rattle.std.specs.Prelude.{◌≡◌, ℕ, ◌<◌, ◌⊎◌, length}
 use Rattle.std.specs.BTreeMap.{get}
 use Rattle.sdf_model.specs.declared.place.Place.{Place}

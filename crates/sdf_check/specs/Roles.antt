@@ -1,3 +1,4 @@
+-- The roles of domains: the programs that play each, and the roles that a class element gives.
 use Rattle.std.specs.Prelude.{◌≡◌, ℕ, ◌⊎◌, List, [], ◌∷◌, codes}
 use Rattle.sdf_model.specs.declared.plan.Net.{Net}
 use Rattle.sdf_model.specs.declared.plan.NetClient.{NetClient}

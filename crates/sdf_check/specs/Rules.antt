@@ -1,3 +1,4 @@
+-- The rules on any system: names, numbers, ranges, permissions, ids and ends of channels.
 use Rattle.std.specs.Prelude.{◌≡◌, ◌≢◌, ℕ, ◌+◌, ◌*◌, ◌^◌, ◌<◌, ◌≤◌, ◌==◌, ◌⊎◌, List, [], ◌∷◌, length, map, count_by, Option, Some, slice_get, codes, IsNone, IsSomeAnd}
 use Rattle.std.specs.Option.{option_map, option_and_then}
 use Rattle.sdf_model.specs.declared.place.Place.{Place}

@@ -1,3 +1,4 @@
+-- What a class element asks of its domains and regions: channels, maps with their rights, sizes.
 use Rattle.std.specs.Prelude.{ℕ, ◌+◌, ◌*◌, ◌/◌, Bool, true, false, List, [], ◌∷◌}
 use Rattle.sdf_model.specs.declared.plan.Net.{Net}
 use Rattle.sdf_model.specs.declared.plan.NetClient.{NetClient}

@@ -1,3 +1,4 @@
+-- What the program's rows on classes show: the same rows without the references.
 use Rattle.std.specs.Prelude.{ℕ, Bool, List}
 use denote.Ref.{Bor}
 use Rattle.sdf_check.specs.declared.role.Role.{Role}

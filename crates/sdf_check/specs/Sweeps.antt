@@ -1,3 +1,4 @@
+-- What a sweep over ranges keeps, until one meets an earlier one.
 use Rattle.std.specs.Prelude.{◌≡◌, ℕ, ◌<◌, ◌≤◌, List, Option, Some, slice_get}
 use Rattle.sdf_check.specs.Rules.{Range}
 

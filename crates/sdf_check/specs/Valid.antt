@@ -1,3 +1,4 @@
+-- What a valid plan is, and the refusal of one that isn't: the rules by their numbers.
 use Rattle.std.specs.Prelude.{ℕ, ◌==◌, nat_lt, MatchBool, ⊤, Result, Ok, Err}
 use Rattle.sdf_model.specs.Places.{walk, KeepsRules, IsRefusal}
 use Rattle.sdf_model.specs.declared.place.Place.{Place}

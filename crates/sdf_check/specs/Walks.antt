@@ -1,3 +1,4 @@
+-- The elements of one sort by their numbers, of which the walk over a plan is made.
 use Rattle.std.specs.Prelude.{ℕ}
 use Rattle.sdf_model.specs.declared.place.Place.{Place}
 use Rattle.sdf_model.specs.declared.place.Place.TheVariants as At

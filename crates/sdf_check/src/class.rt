@@ -1,3 +1,4 @@
+//! The questions that the rules on classes share: of roles, channels, maps, strangers and sizes.
 ghost use Rattle.std.specs.Prelude.{◌≡◌, ◌↔◌, ◌<◌, ◌+◌, ◌^◌, ◌++◌, ℕ, false, List, Bool, map, length, IsTrue, Some, None, MatchOption};
 ghost use Rattle.sdf_check.specs.Names.{StandsBefore};
 ghost use Rattle.sdf_model.specs.declared.plan.Map.{Map};

@@ -1,3 +1,4 @@
+//! The rules on what tells clients apart: their MAC addresses and their partitions.
 ghost use Rattle.std.specs.Prelude.{◌≡◌, ◌↔◌, ◌<◌, Some, map, IsTrue};
 ghost use Rattle.frame_core.specs.Macs.{mac_of};
 ghost use Rattle.sdf_model.specs.declared.plan.NetClient.{NetClient};

@@ -1,3 +1,4 @@
+//! The rules on the domains of a class: their roles, channels and maps, and who shares a region.
 ghost use Rattle.std.specs.Prelude.{◌≡◌, ◌+◌, ◌↔◌, length, IsTrue};
 ghost use Rattle.sdf_check.specs.Lookups.{FindsPlaces};
 ghost use Rattle.sdf_check.specs.Names.{net_domains, net_client_domains, serial_domains, serial_client_domains};

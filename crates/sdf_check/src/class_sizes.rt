@@ -1,3 +1,4 @@
+//! The rules on the numbers of a class: capacities, sizes of regions, and counts.
 ghost use Rattle.std.specs.Prelude.{◌↔◌, IsTrue};
 ghost use Rattle.std.specs.Prelude.{◌<◌, sum_by};
 ghost use Rattle.sdf_model.specs.declared.plan.NetClient.{NetClient};

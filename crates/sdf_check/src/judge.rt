@@ -1,3 +1,5 @@
+//! The judge, a plan with its names looked up, its tables, and the rules on any system that need no
+//! table.
 ghost use Rattle.std.specs.Prelude.{◌≡◌, ◌↔◌, ◌^◌, ℕ, List, map, length, IsTrue, Some, None, MatchOption, slice_get};
 ghost use Rattle.sdf_check.specs.Lookups.{FindsPlaces};
 ghost use Rattle.sdf_check.specs.Names.{region_names, domain_names, region_named, domain_named, StandsBefore};

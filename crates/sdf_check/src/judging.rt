@@ -1,3 +1,4 @@
+//! Judging a plan: the least rule that is broken, and the first element that breaks it.
 ghost use Rattle.std.specs.Prelude.{◌≡◌, ◌↔◌, ℕ, MatchOption, MatchResult, IsTrue, Ok, IfOk, OnOk};
 ghost use Rattle.std.specs.BTreeMap.{get};
 ghost use Rattle.sdf_model.specs.Places.{walk, IsKept, IsFirstBroken};

@@ -1,3 +1,4 @@
+//! The domains and the regions that class elements name, key by key in the order of the walk.
 ghost use Rattle.std.specs.Prelude.{◌≡◌, ◌+◌, ◌++◌, ◌∷◌, List, ℕ, [], length, map, IfOk, OnOk};
 ghost use Rattle.std.specs.List.{flat_map};
 ghost use Rattle.sdf_check.specs.Lookups.{FindsPlaces};

@@ -1,3 +1,4 @@
+//! The places of regions and domains by their names: of equal names, the first counts.
 ghost use Rattle.std.specs.Prelude.{◌≡◌, ◌∷◌, ◌++◌, List, [], ℕ, length, map, IfOk, OnOk, Option};
 ghost use Rattle.sdf_check.specs.Lookups.{FindsPlaces, shown};
 ghost use Rattle.sdf_check.specs.Names.{place_of, region_names_of, domain_names_of};

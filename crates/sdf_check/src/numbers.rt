@@ -1,3 +1,4 @@
+//! Questions on single numbers and texts: page sizes, multiples, ends of ranges, permissions.
 ghost use Rattle.std.specs.Prelude.{◌≡◌, ◌↔◌, ◌+◌, ◌<◌, ◌≤◌, IsTrue};
 ghost use Rattle.sdf_check.specs.Rules.{IsPageSize, IsMultiple, ArePermissions, count_of};
 

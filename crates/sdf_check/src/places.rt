@@ -1,3 +1,4 @@
+//! All elements of a plan, in the order in which a rule is read.
 ghost use Rattle.std.specs.Prelude.{◌≡◌, ◌++◌, ◌∷◌, List, length, map, IfOk, OnOk, Option};
 ghost use Rattle.std.specs.Option.{option_map};
 ghost use Rattle.sdf_model.specs.Places.{walk, places_from, domain_places, channel_places, class_places};

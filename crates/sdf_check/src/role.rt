@@ -1,3 +1,4 @@
+//! The roles of domains in their classes, and the programs that play them.
 ghost use Rattle.std.specs.Prelude.{◌↔◌, IsTrue};
 ghost use Rattle.sdf_check.specs.Roles.{IsProgramOf};
 

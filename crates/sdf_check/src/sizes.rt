@@ -1,3 +1,4 @@
+//! What queues take of a region, and which capacities, counts and permissions a class may have.
 ghost use Rattle.std.specs.Prelude.{◌≡◌, ◌↔◌, ◌<◌, ◌≤◌, ◌+◌, ◌^◌, IsTrue, sum_by, length};
 ghost use Rattle.sdf_model.specs.declared.plan.NetClient.{NetClient};
 ghost use Rattle.sdf_check.specs.ClassRules.{IsCapacity, IsClientCount, IsBufferCount, AllowUse};

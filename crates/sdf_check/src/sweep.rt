@@ -1,3 +1,4 @@
+//! The first of some ranges that meets an earlier one, found in one sweep.
 ghost use Rattle.std.specs.Prelude.{◌≡◌, ◌+◌, ◌<◌, ◌≤◌, ℕ, Bool, List, Some, None, Option, MatchOption, MatchBool, IfOk, OnErr, slice_get, length};
 ghost use Rattle.std.specs.Ordering.{nat_cmp};
 ghost use Rattle.std.specs.BTreeMap.{get};

@@ -1,3 +1,4 @@
+//! What is found out once about the ranges of a plan: the first that meet earlier ones.
 ghost use Rattle.std.specs.Prelude.{◌≡◌, ℕ, map, IfOk, Some, slice_get, length, IsSomeAnd};
 ghost use Rattle.std.specs.BTreeMap.{get};
 ghost use Rattle.sdf_model.specs.declared.plan.Domain.{Domain};

@@ -1,3 +1,4 @@
+//! The table of uses: for each domain and id, the first end of a channel that has them.
 ghost use Rattle.std.specs.Prelude.{◌≡◌, ◌+◌, ◌<◌, ◌↔◌, ℕ, IsTrue, Some, None, Option, MatchOption, IfOk, OnOk, length};
 ghost use Rattle.std.specs.BTreeMap.{get};
 ghost use Rattle.sdf_model.specs.declared.plan.Plan.{Plan};

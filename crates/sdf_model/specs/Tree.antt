@@ -1,3 +1,4 @@
+-- The elements of a document by their places, and the rules that are read on the text.
 use Rattle.std.specs.Prelude.{◌≡◌, ℕ, Bool, true, false, if◌then◌else◌, ◌==◌, ◌⊎◌, List, [], ◌∷◌, length, map, slice_get, codes, Option, Some, None, IsTrue, option_map, option_and_then}
 use Rattle.std.specs.Str.{IsUtf8}
 use Rattle.toml.specs.Data.{Data, Items, Members, get_member, as_array, as_table}

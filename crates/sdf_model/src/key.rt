@@ -1,3 +1,4 @@
+//! The key table: the keys of each element, what their values have to be, and what absence means.
 /// What the value of a key has to be.
 #[derive(Clone, Copy, Debug, PartialEq, Eq)]
 pub enum Kind {

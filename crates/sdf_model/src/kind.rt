@@ -1,3 +1,4 @@
+//! Whether the value of a key is of its kind, in its set and its form.
 ghost use Rattle.std.specs.Prelude.{◌≡◌};
 ghost use Rattle.std.specs.List.{list_any, list_all};
 ghost use Rattle.std.specs.Str.{bytes_eq};

@@ -1,3 +1,4 @@
+//! The places of elements in a description, and its refusal at one of them.
 ghost use Rattle.std.specs.Prelude.{◌≡◌};
 ghost use Rattle.sdf_model.specs.declared.place.SdfFault.TheVariants as Fault;
 

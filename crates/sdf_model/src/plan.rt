@@ -1,3 +1,4 @@
+//! System descriptions as values: plans, and the parts that they are made of.
 use cargo_core::{Series, Text};
 
 /// A system description, with every default filled in. Its fields, like those of its parts, bear the names of the

@@ -1,3 +1,4 @@
+//! What stands at a key of a table: a number, a text, a truth value, a table or a list of tables.
 ghost use Rattle.std.specs.Prelude.{◌≡◌, map, option_map, IfOk, option_copied, Some};
 ghost use Rattle.toml.specs.View.{view, table_view, items_view};
 ghost use Rattle.toml.specs.Data.{get_member};

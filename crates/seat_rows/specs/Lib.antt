@@ -1,1 +1,2 @@
+-- What the contracts of an actor over rings say.
 pub mod Starting

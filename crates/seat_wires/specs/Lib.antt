@@ -1,3 +1,4 @@
+-- What the contracts of the ends of one actor over rings say.
 pub mod Places
 pub mod Inside
 pub mod Went

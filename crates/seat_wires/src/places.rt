@@ -1,4 +1,4 @@
-// A list in which something may stand at each place.
+//! A list in which something may stand at each place.
 ghost use Rattle.std.specs.Prelude.{◌≡◌, ◌≢◌, ◌<◌, ◌≤◌, ℕ, length, Some, None, OnOk, IfSome, IfNone};
 ghost use Rattle.seat_wires.specs.Places.{stands_at};
 

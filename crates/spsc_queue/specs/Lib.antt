@@ -1,3 +1,4 @@
+-- What the contracts of rings and their ends say.
 pub mod Rule
 pub mod Known
 pub mod Steps

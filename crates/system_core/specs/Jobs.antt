@@ -1,3 +1,4 @@
+-- The jobs of the serial class: the queue by which an actor's job is known, and the part of each.
 use Rattle.std.specs.Prelude.{◌≡◌, ◌<◌, ◌+◌, ◌*◌, ℕ, Some, List, [], length, slice_get, unwrap_or}
 use Rattle.wire_core.specs.declared.names.QueueRow.{QueueRow}
 use Rattle.wire_core.specs.Ends.{Role, Consumer, Producer}

@@ -1,3 +1,4 @@
+-- How a system starts: its actors and queues in their start states, and each actor fits its queues.
 use Rattle.std.specs.Prelude.{◌≡◌, ◌<◌, ◌≤◌, ℕ, Some, List, length, slice_get}
 use Rattle.wire_core.specs.declared.names.QueueRow.{QueueRow}
 use Rattle.wire_core.specs.Ends.{Role}

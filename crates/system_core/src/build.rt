@@ -1,4 +1,4 @@
-// The actors of a plan, each with the queues that the rows give it.
+//! The actors of a plan, each with the queues that the rows give it.
 ghost use Rattle.std.specs.Prelude.{◌≡◌, ◌<◌, ◌≤◌, ◌+◌, ◌*◌, ℕ, IfOk, length};
 ghost use Rattle.actor_set.specs.Actors.{part_of, numbers};
 ghost use Rattle.system_core.specs.Builds.{every_second};

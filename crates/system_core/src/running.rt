@@ -1,4 +1,4 @@
-// The runnable actors, in ascending order.
+//! The runnable actors, in ascending order.
 ghost use Rattle.std.specs.Prelude.{◌≡◌, ◌<◌, ◌≤◌, length, remove, slice_get, Some, IfOk, []};
 ghost use Rattle.system_core.specs.Runnings.{with_number, without};
 

@@ -1,1 +1,2 @@
+-- What the laws on the table of classes say.
 pub mod Ties

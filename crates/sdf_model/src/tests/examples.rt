@@ -1,3 +1,4 @@
+//! Two descriptions that the tests read: the serial and the full example.
 /// The serial example.
 pub(super) fn serial() -> &'static str {
     r#"memory_region = [
