@@ -3,19 +3,21 @@
 //! writes what an accepted description has, or its layout, or the rule that a refused one breaks and the place.
 #![tactic(auto)]
 
-ghost use Rattle.std.specs.Prelude.{IfOk};
+ghost use Rattle.std.specs.Prelude.{◌≤◌, IfOk, length};
 ghost use Rattle.sdf_check.specs.Valid.{Valid};
+ghost use Rattle.sdf_model.specs.Counts.{text_most};
 
 use cargo_core::Memory;
 use region_layout::lay_out;
-use report_text::{write_accepted, write_layout, write_refused};
+use report_text::{write_accepted, write_layout, write_refused, write_too_long};
 use sdf_check::check;
-use sdf_model::{Plan, SdfFault, read_description};
+use sdf_model::{Plan, SdfFault, TEXT_MOST, read_description};
 use std::alloc::{AllocError, Global};
 use std::{fs, io};
 
 // The plan that a text spells, where no rule is broken.
 fn judged(alloc: Global, text: &str) -> Result<Plan, SdfFault>
+    requires { length text.now ≤ text_most }
     ensures { IfOk result Valid }
 {
     let plan = read_description(alloc, text.as_bytes())?;
@@ -37,6 +39,9 @@ fn accepted(alloc: Global, plan: &Plan, lays_out: bool) -> Result<String, Memory
 
 // What is written of a description.
 fn answer(alloc: Global, text: &str, lays_out: bool) -> Result<String, Memory> {
+    if text.len() > TEXT_MOST {
+        return write_too_long(alloc);
+    }
     match judged(alloc, text) {
         Ok(plan) => accepted(alloc, &plan, lays_out),
         Err(SdfFault::Refused(refusal)) => write_refused(alloc, &refusal),

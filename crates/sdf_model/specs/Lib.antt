@@ -1,3 +1,4 @@
+pub mod Counts
 pub mod Elements
 pub mod Fields
 pub mod Keys

@@ -1,6 +1,8 @@
-ghost use Rattle.std.specs.Prelude.{◌≡◌, ◌++◌, map, option_map, IfOk, OnOk};
+//! The elements of a description in their order, each with its number and its table.
+ghost use Rattle.std.specs.Prelude.{◌≡◌, ◌<◌, ◌≤◌, ◌^◌, ◌++◌, length, map, option_map, IfOk, IfSome, OnOk};
 ghost use Rattle.toml.specs.View.{table_view};
 ghost use Rattle.sdf_model.specs.Tree.{tables_at};
+ghost use Rattle.sdf_model.specs.Counts.{elements_of_members, elements_of_tables};
 ghost use Rattle.sdf_model.specs.Elements.{seen, nth, parts, domain_parts, channel_parts, class_parts, elements_of};
 
 use crate::place::Place;
@@ -19,6 +21,7 @@ pub(crate) struct Element<'a> {
 /// All elements of a description, in the order in which a rule is read.
 #[tactic(auto, unfolding(crate::specs::Elements::elements_of))]
 pub(crate) fn elements<'a>(alloc: Global, root: &'a Table) -> Result<Vec<Element<'a>>, Memory>
+    requires { elements_of_members (table_view root.now) < 2 ^ 32 }
     ensures { IfOk result (λ v. map seen v.items ≡ elements_of (table_view root.now)) }
 {
     let mut elements = Vec::new(alloc);
@@ -69,10 +72,12 @@ fn add_domains<'a>(
     elements: &mut Vec<Element<'a>>,
     domains: &[&'a Table],
 ) -> Result<(), Memory>
-    ensures { OnOk result (map seen elements.new.items ≡ map seen elements.old.items ++ domain_parts 0 (map (λ t. table_view t.now) domains.now)) }
+    requires { elements_of_tables (map (λ t. table_view t.now) domains.now) < 2 ^ 32 }
+    ensures { OnOk result (map seen elements.new.items
+        ≡ map seen elements.old.items ++ domain_parts 0 (map (λ t. table_view t.now) domains.now)) }
 {
     for (at, domain) in domains.iter().enumerate() {
-        let d = number_of(alloc, at)?;
+        let d = at as u32;
         elements.push(Element {
             place: Place::Domain(d),
             table: *domain,
@@ -89,10 +94,12 @@ fn add_channels<'a>(
     elements: &mut Vec<Element<'a>>,
     channels: &[&'a Table],
 ) -> Result<(), Memory>
-    ensures { OnOk result (map seen elements.new.items ≡ map seen elements.old.items ++ channel_parts 0 (map (λ t. table_view t.now) channels.now)) }
+    requires { elements_of_tables (map (λ t. table_view t.now) channels.now) < 2 ^ 32 }
+    ensures { OnOk result (map seen elements.new.items
+        ≡ map seen elements.old.items ++ channel_parts 0 (map (λ t. table_view t.now) channels.now)) }
 {
     for (at, channel) in channels.iter().enumerate() {
-        let c = number_of(alloc, at)?;
+        let c = at as u32;
         elements.push(Element {
             place: Place::Channel(c),
             table: *channel,
@@ -110,7 +117,10 @@ fn add_class<'a>(
     place: Place,
     client: Place,
 ) -> Result<(), Memory>
-    ensures { OnOk result (map seen elements.new.items ≡ map seen elements.old.items ++ class_parts place client (option_map (λ t. table_view t.now) class.entry)) }
+    requires { IfSome class (λ t. elements_of_members (table_view t.now) < 2 ^ 32) }
+    ensures { OnOk result (map seen elements.new.items
+        ≡ map seen elements.old.items ++ class_parts place client
+        (option_map (λ t. table_view t.now) class.entry)) }
 {
     if let Some(table) = class {
         elements.push(Element { place, table })?;
@@ -127,7 +137,9 @@ fn add_list<'a>(
     key: &str,
     first: Place,
 ) -> Result<(), Memory>
-    ensures { OnOk result (map seen elements.new.items ≡ map seen elements.old.items ++ parts first 0 (tables_at key.now (table_view table.now))) }
+    requires { elements_of_members (table_view table.now) < 2 ^ 32 }
+    ensures { OnOk result (map seen elements.new.items
+        ≡ map seen elements.old.items ++ parts first 0 (tables_at key.now (table_view table.now))) }
 {
     add_parts(alloc, elements, &tables_at(alloc, table, key)?, first)
 }
@@ -139,19 +151,21 @@ fn add_parts<'a>(
     tables: &[&'a Table],
     first: Place,
 ) -> Result<(), Memory>
-    ensures { OnOk result (map seen elements.new.items ≡ map seen elements.old.items ++ parts first 0 (map (λ t. table_view t.now) tables.now)) }
+    requires { length tables.now ≤ 2 ^ 32 }
+    ensures { OnOk result (map seen elements.new.items
+        ≡ map seen elements.old.items ++ parts first 0 (map (λ t. table_view t.now) tables.now)) }
 {
     for (at, table) in tables.iter().enumerate() {
         elements.push(Element {
-            place: nth(first, number_of(alloc, at)?),
+            place: nth(first, at as u32),
             table: *table,
         })?;
     }
     Ok(())
 }
 
-/// The number of an element in its list. Past 2^32 elements, which no text within the limit has, there is none, and
-/// memory is asked for that no allocator gives.
+/// The number of an element of a plan in its list. Past 2^32 elements, which no description has,
+/// there is none, and memory is asked for that no allocator gives.
 pub fn number_of(alloc: Global, at: usize) -> Result<u32, Memory>
     ensures { IfOk result (λ n. n ≡ at) }
 {

@@ -18,7 +18,7 @@ pub use plan::{
     Blk, BlkClient, Channel, Domain, End, Irq, Map, Net, NetClient, Plan, Region, Serial,
     SerialClient,
 };
-pub use read::read_description;
+pub use read::{TEXT_MOST, read_description};
 
 #[cfg(test)]
 mod tests;

@@ -1,9 +1,10 @@
-ghost use Rattle.std.specs.Prelude.{◌≡◌, ◌<◌, ◌≤◌, ℕ, None, Some, IfOk, IfErr};
+ghost use Rattle.std.specs.Prelude.{◌≡◌, ◌<◌, ◌≤◌, ◌^◌, ℕ, length, None, Some, IfOk, IfErr};
 ghost use Rattle.toml.specs.Data.{Members};
 ghost use Rattle.toml.specs.View.{table_view};
 ghost use Rattle.sdf_model.specs.Places.{KeepsRules, IsRefusal};
 ghost use Rattle.sdf_model.specs.Spelled.{plan_of};
 ghost use Rattle.sdf_model.specs.Tree.{IsDocument, BreaksText, places_of, IfRefused};
+ghost use Rattle.sdf_model.specs.Counts.{text_most, elements_of_members};
 ghost use Rattle.sdf_model.specs.Elements.{Judged, elements_of, first_broken};
 
 use crate::element::elements;
@@ -15,12 +16,16 @@ use cargo_core::Memory;
 use std::alloc::Global;
 use toml::Table;
 
+/// How many bytes a description has at most.
+pub const TEXT_MOST: usize = 16_777_216;
+
 /// Reads a system description: the plan that the text spells, with every default filled in. It is refused exactly where
 /// one of the first four rules is broken: the text is no UTF-8 or no TOML document (rule 1), an element has a key beside
 /// its own (2), a required key is missing (3), or a value isn't of its key's kind (4). The refusal names the least rule
 /// that is broken, and the first element at which it is. The keys of the elements of a system are those of the Microkit
 /// manual, and those of `net`, `serial` and `blk` are this project's own.
 pub fn read_description(alloc: Global, bytes: &[u8]) -> Result<Plan, SdfFault>
+    requires { length bytes.now ≤ text_most }
     ensures accepted { IfOk result (λ plan. (root : Members) × IsDocument bytes.now root
         × KeepsRules (BreaksText bytes.now) (places_of bytes.now) 1 4 × (plan ≡ plan_of root)) }
     ensures refused { IfErr result (λ fault. IfRefused fault (IsRefusal (BreaksText bytes.now) (places_of bytes.now) 1 4)) }
@@ -39,6 +44,7 @@ pub fn read_description(alloc: Global, bytes: &[u8]) -> Result<Plan, SdfFault>
 
 /// Reads the root table of a description, which breaks rule 2, 3 or 4 or spells a plan.
 fn read_root(alloc: Global, root: &Table) -> Result<Plan, SdfFault>
+    requires { elements_of_members (table_view root.now) < 2 ^ 32 }
     ensures accepted { IfOk result (λ plan. ((n : ℕ) → 2 ≤ n → n ≤ 4 → first_broken n (elements_of (table_view root.now)) ≡ None)
         × (plan ≡ plan_of (table_view root.now))) }
     ensures refused { IfErr result (λ fault. IfRefused fault (Judged (elements_of (table_view root.now)))) }

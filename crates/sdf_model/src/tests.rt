@@ -1,4 +1,6 @@
-use super::{Blk, Channel, Domain, Net, Place, Plan, Refusal, SdfFault, Serial, read_description};
+use super::{
+    Blk, Channel, Domain, Net, Place, Plan, Refusal, SdfFault, Serial, TEXT_MOST, read_description,
+};
 use std::alloc::Global;
 use std::process::Abort;
 
@@ -6,6 +8,7 @@ mod examples;
 
 /// The text is refused for this rule at this place.
 fn refused(rt: &impl Abort, alloc: Global, rule: u8, place: Place, text: &[u8]) {
+    assert!(rt; text.len() <= TEXT_MOST);
     match read_description(alloc, text) {
         Err(SdfFault::Refused(refusal)) => assert!(rt; refusal == Refusal { rule, place }),
         _ => assert!(rt; false),
@@ -406,7 +409,9 @@ fn has_first_parts(rt: &impl Abort, plan: &Plan) {
 
 #[test]
 fn full_example_is_read(rt: HostRuntime) {
-    match read_description(rt.alloc(), examples::full().as_bytes()) {
+    let text = examples::full().as_bytes();
+    assert!(rt; text.len() <= TEXT_MOST);
+    match read_description(rt.alloc(), text) {
         Ok(plan) => has_first_parts(&rt, &plan),
         Err(_) => assert!(rt; false),
     }
@@ -414,7 +419,9 @@ fn full_example_is_read(rt: HostRuntime) {
 
 #[test]
 fn classes_of_the_full_example_are_read(rt: HostRuntime) {
-    match read_description(rt.alloc(), examples::full().as_bytes()) {
+    let text = examples::full().as_bytes();
+    assert!(rt; text.len() <= TEXT_MOST);
+    match read_description(rt.alloc(), text) {
         Ok(plan) => match (&plan.net, &plan.serial, &plan.blk) {
             (Some(net), Some(serial), Some(blk)) => {
                 has_net(&rt, net);
@@ -429,7 +436,9 @@ fn classes_of_the_full_example_are_read(rt: HostRuntime) {
 
 #[test]
 fn serial_example_is_read(rt: HostRuntime) {
-    match read_description(rt.alloc(), examples::serial().as_bytes()) {
+    let text = examples::serial().as_bytes();
+    assert!(rt; text.len() <= TEXT_MOST);
+    match read_description(rt.alloc(), text) {
         Ok(plan) => {
             assert!(rt; plan.version == 1);
             assert!(rt; plan.memory_region.len() == 4);

@@ -5,8 +5,9 @@
 //! stands in it, since their bytes come in any order.
 #![tactic(auto)]
 
-ghost use Rattle.std.specs.Prelude.{◌≡◌, ◌<◌, IfOk, length, None};
+ghost use Rattle.std.specs.Prelude.{◌≡◌, ◌<◌, ◌≤◌, IfOk, length, None};
 ghost use Rattle.sdf_check.specs.Valid.{Valid};
+ghost use Rattle.sdf_model.specs.Counts.{text_most};
 ghost use Rattle.system_core.specs.Builds.{unplayed};
 ghost use Rattle.trace_text.specs.Traces.{IsReadFor};
 
@@ -14,7 +15,7 @@ use cargo_core::Memory;
 use expect_core::{Report, input_of};
 use region_layout::lay_out;
 use sdf_check::check;
-use sdf_model::{Plan, SdfFault, read_description};
+use sdf_model::{Plan, SdfFault, TEXT_MOST, read_description};
 use std::alloc::Global;
 use std::{fs, io};
 use system_core::{Ending, System, unplayed};
@@ -22,6 +23,7 @@ use trace_text::{Trace, TraceFault, read_trace};
 
 // The plan that a text spells, where no rule is broken.
 fn judged(alloc: Global, text: &str) -> Result<Plan, SdfFault>
+    requires { length text.now ≤ text_most }
     ensures { IfOk result Valid }
 {
     let plan = read_description(alloc, text.as_bytes())?;
@@ -141,6 +143,9 @@ fn play_lines(
 
 // What a play of a description's text comes to.
 fn answer(alloc: Global, text: &str, seed: u64, steps: u64, lines: &str) -> Result<String, Memory> {
+    if text.len() > TEXT_MOST {
+        return Ok(String::from_str(alloc, "too long\n")?);
+    }
     match judged(alloc, text) {
         Ok(plan) => play_lines(alloc, &plan, seed, steps, lines),
         Err(SdfFault::Refused(_)) => Ok(String::from_str(alloc, "refused\n")?),

@@ -1,24 +1,27 @@
-//! Lays descriptions out and reads traces for them. A row of the input that names a file alone asks for the layout of the
-//! description there. A row `FILE | LINE | LINE` has the lines of a trace, of which the last doesn't end; `LINE x N` stands
-//! for N such lines. For each row the answer is written: the layout, the bad line, or what the trace gives and its budget.
+//! Lays descriptions out and reads traces for them. A row of the input that names a file alone asks
+//! for the layout of the description there. A row `FILE | LINE | LINE` has the lines of a trace, of
+//! which the last doesn't end; `LINE x N` stands for N such lines. For each row the answer is
+//! written: the layout, the bad line, or what the trace gives and its budget.
 #![tactic(auto)]
 
-ghost use Rattle.std.specs.Prelude.{IfOk};
+ghost use Rattle.std.specs.Prelude.{◌≤◌, IfOk, length};
 ghost use Rattle.sdf_check.specs.Valid.{Valid};
+ghost use Rattle.sdf_model.specs.Counts.{text_most};
 ghost use Rattle.trace_text.specs.Traces.{IsReadFor};
 
 use cargo_core::{Ask, Bytes, FrameLog, Memory, Series};
 use expect_core::budget;
 use region_layout::lay_out;
-use report_text::{write_accepted, write_bad_trace, write_layout, write_refused};
+use report_text::{write_accepted, write_bad_trace, write_layout, write_refused, write_too_long};
 use sdf_check::check;
-use sdf_model::{Plan, SdfFault, read_description};
+use sdf_model::{Plan, SdfFault, TEXT_MOST, read_description};
 use std::alloc::Global;
 use std::{fs, io};
 use trace_text::{Trace, TraceFault, read_trace};
 
 // The plan that a text spells, where no rule is broken.
-fn judged(alloc: Global, text: &str) -> Result<Plan, SdfFault>
+fn judge(alloc: Global, text: &str) -> Result<Plan, SdfFault>
+    requires { length text.now ≤ text_most }
     ensures { IfOk result Valid }
 {
     let plan = read_description(alloc, text.as_bytes())?;
@@ -112,7 +115,7 @@ fn add_requests(to: &mut String, asks: &Series<Series<Ask>>) -> Result<(), Memor
 }
 
 // What a trace gives, and its budget.
-fn taken(alloc: Global, plan: &Plan, trace: &Trace) -> Result<String, Memory>
+fn describe(alloc: Global, plan: &Plan, trace: &Trace) -> Result<String, Memory>
     requires valid { Valid plan.now }
     requires read { IsReadFor plan.now trace.now }
 {
@@ -134,7 +137,7 @@ fn read(alloc: Global, plan: &Plan, text: &str) -> Result<String, Memory>
     requires { Valid plan.now }
 {
     match read_trace(alloc, text.as_bytes(), plan) {
-        Ok(trace) => taken(alloc, plan, &trace),
+        Ok(trace) => describe(alloc, plan, &trace),
         Err(TraceFault::BadLine(line)) => write_bad_trace(alloc, line),
         Err(TraceFault::Memory(memory)) => Err(memory),
     }
@@ -153,7 +156,10 @@ fn laid_out(alloc: Global, plan: &Plan) -> Result<String, Memory>
 
 // What is answered at a description, and at the lines of a trace for it where there are any.
 fn answer(alloc: Global, text: &str, lines: Option<&str>) -> Result<String, Memory> {
-    match judged(alloc, text) {
+    if text.len() > TEXT_MOST {
+        return write_too_long(alloc);
+    }
+    match judge(alloc, text) {
         Ok(plan) => match lines {
             None => laid_out(alloc, &plan),
             Some(lines) => {

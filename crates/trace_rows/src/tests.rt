@@ -1,3 +1,4 @@
+//! A journal whose calls, sides, answers and items are spelt out by hand.
 use cargo_core::{BlkReq, BlkResp, BlkStatus, Code, Item, NetDesc, QueueKind, Series, Text};
 use region_layout::{Layout, QueueRow};
 use report_text::write_journal;

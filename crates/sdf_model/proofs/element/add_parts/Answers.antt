@@ -9,5 +9,5 @@ loop-at-preserved c =
     let t = table_view c.index-tables-at.result.now in
     adds-step (parts c.args.first) ((nth c.args.first c.loop-at.at, t) ∷ []) _ c.loop-at.elements.items _ c.args.tables.now c.loop-at.at c.index-tables-at.result
     c.loop-at-test.true c.index-tables-at.is refl
-    (ap (map seen) c.in_ok-push.ensures.items ∙ seen-push _ _ _ (ap (λ p. (p, t)) (c.nth.ensures ∙ ap (nth c.args.first) c.in_ok-number_of.ensures)))
+    (ap (map seen) c.in_ok-push.ensures.items ∙ seen-push _ _ _ (ap (λ p. (p, t)) c.nth.ensures))
     c.loop-at.invariant

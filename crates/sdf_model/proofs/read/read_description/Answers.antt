@@ -1,3 +1,5 @@
+use Rattle.std.proofs.Common.{◌^◌, arith}
+use Rattle.sdf_model.proofs.TableCounts.{text-fits}
 use Rattle.sdf_model.proofs.Judging.{kept-text, judged-text, no-document, ok-along, refused-along}
 use Rattle.sdf_model.proofs.read.read_description.Goals as goal
 
@@ -12,3 +14,6 @@ returns-in-Ok-clause-refused c =
 pub returns-in-None-clause-refused : goal.returns-in-None-clause-refused
 returns-in-None-clause-refused c =
     no-document c.args.bytes.now (λ root doc. cc (c.in-Err.ensures.refused c.in-None.ensures doc.0, doc.1))
+
+pub read_root-requires : goal.read_root-requires
+read_root-requires c = text-fits c.args.bytes.now _ (2 ^ 32) c.in-Ok.ensures.ok.1 (omega (arith, c.requires))
