@@ -49,12 +49,12 @@ MayBeFault Ended.ReadFault = Unit {0}
 MayBeFault Ended.WriteFault = Unit {0}
 MayBeFault (Ended.Spent n) = ⊥
 MayBeFault Ended.TooLong = ⊥
-MayBeFault Ended.Memory = Unit {0}
+MayBeFault (Ended.Memory memory) = Unit {0}
 
 may-be : (s : Status) → IsFault s → MayBeFault s
 may-be _ no_reading = tt
 may-be _ no_writing = tt
-may-be _ no_memory = tt
+may-be _ (no_memory memory) = tt
 
 module _ (told : List ℕ → Option (List ℕ)) (words : List (List ℕ)) where
   -- an answer has the status that the told texts decide
@@ -72,7 +72,7 @@ module _ (told : List ℕ → Option (List ℕ)) (words : List (List ℕ)) where
   served-status old new Ended.WriteFault played d h b = inr no_writing
   served-status old new (Ended.Spent n) played d h b = inl (told-status d (Ended.Spent n) b.0 played h b.1)
   served-status old new Ended.TooLong played d h b = inl (told-status d Ended.TooLong b.0 played h b.1)
-  served-status old new Ended.Memory played d h b = inr no_memory
+  served-status old new (Ended.Memory memory) played d h b = inr (no_memory memory)
 
 -- a decision isn't a fault
 abbrev pub IsCalm : Decision → Type 0
@@ -126,7 +126,7 @@ written-whole R words old new Ended.ReadFault x p a e = absurd (answer-calm R wo
 written-whole R words old new Ended.WriteFault x p a e = absurd (answer-calm R words Ended.WriteFault x p a no_writing)
 written-whole R words old new (Ended.Spent n) x p a e = (x, a, e)
 written-whole R words old new Ended.TooLong x p a e = (x, a, e)
-written-whole R words old new Ended.Memory x p a e = absurd (answer-calm R words Ended.Memory x p a no_memory)
+written-whole R words old new (Ended.Memory memory) x p a e = absurd (answer-calm R words (Ended.Memory memory) x p a (no_memory memory))
 
 -- what came of an answer isn't another fault than one of writing
 pub not-instead : (R : List ℕ → List ℕ → Type 0) (words : List (List ℕ)) (s result f : Status) (x : List ℕ) (p : Played) → Answers R words s x p → (result ≡ s) ⊎ (result ≡ Ended.WriteFault) → IsFault f

@@ -53,7 +53,7 @@ names-words words desc (inl c) = (_, _, c.words_are)
 names-words words desc (inr (inl l)) = (_, _, l.words_are)
 names-words words desc (inr (inr p)) = (_, _, p.2.words_are)
 
-same-desc : (words : List (List ℕ)) (desc desc' : List ℕ) → NamesDescription words desc → NamesDescription words desc' → desc ≡ desc'
+pub same-desc : (words : List (List ℕ)) (desc desc' : List ℕ) → NamesDescription words desc → NamesDescription words desc' → desc ≡ desc'
 same-desc words desc desc' n m = let a = names-words words desc n in let b = names-words words desc' m in second-of words a.0 desc a.1 b.0 desc' b.1 a.2 b.2
 
 same-trace : (words : List (List ℕ)) (desc trace desc' trace' : List ℕ) (o o' : Options) → IsPlay words desc trace o → IsPlay words desc' trace' o' → trace ≡ trace'

@@ -9,7 +9,7 @@ use Rattle.sdf_model.specs.Spelled.{plan_of}
 use Rattle.sdf_model.specs.Tree.{places_of, BreaksText}
 use Rattle.sdf_check.specs.Elements.{outline_of}
 use Rattle.sdf_check.specs.Valid.{IsRefused, broken}
-use Rattle.sddf_top.specs.Judged.{IsSpelled, IsAccepted, IsRefusedText}
+use Rattle.sddf_top.specs.Judged.{SpellsPlan, IsAccepted, IsRefusedText}
 
 module _ (broken : Place → Type 0) (elements : List Place) where
   -- there is one first element that breaks a rule
@@ -47,7 +47,7 @@ module _ (broken : ℕ → Place → Type 0) (elements : List Place) (first last
       ap (λ n. record { rule = n; place = r.place }) rule ∙ ap (λ p. record { rule = s.rule; place = p }) place
 
 -- a text spells one plan
-pub same-plan : (text : List ℕ) (p q : Plan) → IsSpelled text p → IsSpelled text q → p ≡ q
+pub same-plan : (text : List ℕ) (p q : Plan) → SpellsPlan text p → SpellsPlan text q → p ≡ q
 same-plan text p q h i =
     let e : Some h.root ≡ Some i.root = sym h.document.1 ∙ i.document.1 in
     let root : h.root ≡ i.root = cc in

@@ -1,5 +1,7 @@
+-- What `serve` answers, by what the words and the texts decide.
 use Rattle.std.specs.Prelude.{◌≡◌, ◌⊎◌, ℕ, false, Option, Some, List, length, take}
 use Rattle.cargo_core.specs.Lists.{IsPrefix}
+use Rattle.cargo_core.specs.declared.memory.Memory.{Memory}
 use Rattle.sdf_model.specs.declared.plan.Plan.{Plan}
 use Rattle.trace_text.specs.declared.trace.Trace.{Trace}
 use Rattle.region_layout.specs.Layouts.{layout_of}
@@ -13,11 +15,13 @@ use Rattle.sddf_top.specs.declared.played.Played.{Played}
 use Rattle.sddf_top.specs.declared.played.Played.TheVariants as Was
 use Rattle.sddf_top.specs.Decisions.{Decision, Say, Play, Decides}
 use Rattle.sddf_top.specs.Shown.{limit_of, ending_of, shown_text}
-use Rattle.sddf_top.specs.Outside.{IsRead, appended}
+use Rattle.sddf_top.specs.Outside.{IsRead, appended, read_most}
 
--- a trace was played on a plan: the system that was built and played, the status by whether it is quiet, and the text of
--- its report, with its journal where the options ask for it. Where it isn't quiet all steps were made.
-pub record Shows (plan : Plan) (trace : Trace) (options : Options) (status : Status) (text : List ℕ) (played : Played) : Type 0 where
+-- a trace was played on a plan: the system that was built and played, the status by whether it is
+-- quiet, and the text of its report, with its journal where the options ask for it. Where it isn't
+-- quiet all steps were made.
+pub record Shows (plan : Plan) (trace : Trace) (options : Options) (status : Status) (text : List ℕ)
+    (played : Played) : Type 0 where
   pub system : System
   pub played_is : played ≡ Was.Classes system
   pub plays : IsPlayed plan trace options.seed (limit_of plan trace options) system
@@ -25,14 +29,17 @@ pub record Shows (plan : Plan) (trace : Trace) (options : Options) (status : Sta
   pub status_is : status ≡ ending_of (report_of system).quiet (report_of system).steps
   pub text_is : text ≡ shown_text (layout_of plan) options.journal (report_of system) system.journal
 
--- the answer that a decision leads to: its status, the whole text that is written, and the system that was played
+-- the answer that a decision leads to: its status, the whole text that is written, and the system
+-- that was played
 abbrev pub Comes : Decision → Status → List ℕ → Played → Type 0
-Comes (Say status' text') status text played = (status ≡ status') × (text ≡ text') × (played ≡ Was.Nothing)
+Comes (Say status' text') status text played =
+    (status ≡ status') × (text ≡ text') × (played ≡ Was.Nothing)
 Comes (Play plan trace options) status text played = Shows plan trace options status text played
 
 -- an answer that comes by such a decision
 abbrev pub ComesBy : (Decision → Type 0) → Status → List ℕ → Played → Type 0
-ComesBy decides status text played = (decision : Decision) × decides decision × Comes decision status text played
+ComesBy decides status text played =
+    (decision : Decision) × decides decision × Comes decision status text played
 
 -- the answer to words, by what they and the texts under their names decide
 abbrev pub Answers : (List ℕ → List ℕ → Type 0) → List (List ℕ) → Status → List ℕ → Played → Type 0
@@ -41,7 +48,8 @@ Answers reads words status text played = ComesBy (Decides reads words) status te
 -- the status that a decision leads to: a play gets quiet or spends its steps
 abbrev pub IsStatusOf : Decision → Status → Type 0
 IsStatusOf (Say status' text') status = status ≡ status'
-IsStatusOf (Play plan trace options) status = (status ≡ Ended.Ok) ⊎ ((steps : ℕ) × (status ≡ Ended.Spent steps))
+IsStatusOf (Play plan trace options) status =
+    (status ≡ Ended.Ok) ⊎ ((steps : ℕ) × (status ≡ Ended.Spent steps))
 
 -- the bytes that were read of a text, where a shelf tells some texts
 abbrev pub WasRead : (List ℕ → Option (List ℕ)) → List ℕ → List ℕ → Type 0
@@ -49,31 +57,42 @@ WasRead told name bytes = IsRead (told name) bytes
 
 -- the bytes that are read of a text which is told
 abbrev pub IsTold : (List ℕ → Option (List ℕ)) → List ℕ → List ℕ → Type 0
-IsTold told name bytes = (text : List ℕ) × (told name ≡ Some text) × (bytes ≡ take 16777217 text)
+IsTold told name bytes = (text : List ℕ) × (told name ≡ Some text) × (bytes ≡ take read_most text)
 
 -- an answer that may come in place of another
 pub data IsFault : Status → Type 0 where
   no_reading : IsFault Ended.ReadFault
   no_writing : IsFault Ended.WriteFault
-  no_memory : IsFault Ended.Memory
+  no_memory : (memory : Memory) → IsFault (Ended.Memory memory)
 
 -- the text of the answer was written whole
-abbrev pub WritesWhole : (List ℕ → List ℕ → Type 0) → List (List ℕ) → Option (List ℕ) → Option (List ℕ) → Status → Played → Type 0
-WritesWhole reads words old new status played = (text : List ℕ) × Answers reads words status text played × (new ≡ appended old text)
+abbrev pub WritesWhole : (List ℕ → List ℕ → Type 0) → List (List ℕ) → Option (List ℕ)
+    → Option (List ℕ) → Status → Played → Type 0
+WritesWhole reads words old new status played =
+    (text : List ℕ) × Answers reads words status text played × (new ≡ appended old text)
 
 -- a beginning of the text of the answer was written that a failure of the sink came in place of
-abbrev pub WritesBegun : (List ℕ → List ℕ → Type 0) → List (List ℕ) → Option (List ℕ) → Option (List ℕ) → Played → Type 0
+abbrev pub WritesBegun : (List ℕ → List ℕ → Type 0) → List (List ℕ) → Option (List ℕ)
+    → Option (List ℕ) → Played → Type 0
 WritesBegun reads words old new played =
-    (status : Status) × (text : List ℕ) × (begun : List ℕ) × Answers reads words status text played × IsPrefix begun text × (new ≡ appended old begun)
+    (status : Status) × (text : List ℕ) × (begun : List ℕ) × Answers reads words status text played
+    × IsPrefix begun text × (new ≡ appended old begun)
 
--- what a call answers, and what it wrote: nothing where a text couldn't be read or memory was refused
-abbrev pub Serves : (List ℕ → List ℕ → Type 0) → List (List ℕ) → Option (List ℕ) → Option (List ℕ) → Status → Played → Type 0
+-- what a call answers, and what it wrote: nothing where a text couldn't be read or memory was
+-- refused
+abbrev pub Serves : (List ℕ → List ℕ → Type 0) → List (List ℕ) → Option (List ℕ) → Option (List ℕ)
+    → Status → Played → Type 0
 Serves reads words old new Ended.ReadFault played = (played ≡ Was.Nothing) × (new ≡ old)
-Serves reads words old new Ended.Memory played = (played ≡ Was.Nothing) × (new ≡ old)
+Serves reads words old new (Ended.Memory memory) played = (played ≡ Was.Nothing) × (new ≡ old)
 Serves reads words old new Ended.WriteFault played = WritesBegun reads words old new played
 Serves reads words old new Ended.Ok played = WritesWhole reads words old new Ended.Ok played
-Serves reads words old new (Ended.Usage k) played = WritesWhole reads words old new (Ended.Usage k) played
-Serves reads words old new (Ended.Refused n) played = WritesWhole reads words old new (Ended.Refused n) played
-Serves reads words old new (Ended.BadTrace l) played = WritesWhole reads words old new (Ended.BadTrace l) played
-Serves reads words old new (Ended.Spent s) played = WritesWhole reads words old new (Ended.Spent s) played
-Serves reads words old new Ended.TooLong played = WritesWhole reads words old new Ended.TooLong played
+Serves reads words old new (Ended.Usage k) played =
+    WritesWhole reads words old new (Ended.Usage k) played
+Serves reads words old new (Ended.Refused n) played =
+    WritesWhole reads words old new (Ended.Refused n) played
+Serves reads words old new (Ended.BadTrace l) played =
+    WritesWhole reads words old new (Ended.BadTrace l) played
+Serves reads words old new (Ended.Spent s) played =
+    WritesWhole reads words old new (Ended.Spent s) played
+Serves reads words old new Ended.TooLong played =
+    WritesWhole reads words old new Ended.TooLong played

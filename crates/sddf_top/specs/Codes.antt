@@ -1,3 +1,4 @@
+-- The status codes.
 use Rattle.std.specs.Prelude.{ℕ}
 use Rattle.sddf_top.specs.declared.status.Status.{Status}
 use Rattle.sddf_top.specs.declared.status.Status.TheVariants as Ended
@@ -12,4 +13,4 @@ code_of Ended.ReadFault = 5
 code_of Ended.WriteFault = 6
 code_of (Ended.Spent s) = 7
 code_of Ended.TooLong = 8
-code_of Ended.Memory = 9
+code_of (Ended.Memory memory) = 9

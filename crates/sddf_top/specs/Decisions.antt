@@ -1,3 +1,4 @@
+-- What the words and the texts under their names decide, one constructor a cause.
 use Rattle.std.specs.Prelude.{◌≡◌, ◌⊎◌, ◌<◌, ◌≤◌, ℕ, Some, None, List, length}
 use Rattle.sdf_model.specs.declared.place.Place.{Place}
 use Rattle.sdf_model.specs.declared.place.Refusal.{Refusal}
@@ -12,16 +13,14 @@ use Rattle.command_words.specs.Words.{IsCheck, IsLayout, IsPlay, IsBadWord}
 use Rattle.sddf_top.specs.declared.status.Status.{Status}
 use Rattle.sddf_top.specs.declared.status.Status.TheVariants as Ended
 use Rattle.system_core.specs.Builds.{unplayed}
+use Rattle.sdf_model.specs.Counts.{text_most}
 use Rattle.sddf_top.specs.Judged.{IsAccepted, IsRefusedText}
 
--- what is decided before anything is played: the status and the text of the answer, or that a trace is played on a plan
+-- what is decided before anything is played: the status and the text of the answer, or that a trace
+-- is played on a plan
 pub data Decision : Type 0 where
   Say : Status → List ℕ → Decision
   Play : Plan → Trace → Options → Decision
-
--- how many bytes a text has at most
-abbrev pub text_most : ℕ
-text_most = 16777216
 
 -- a description is refused
 abbrev pub refuses : Refusal → Decision
@@ -31,36 +30,55 @@ refuses refusal = Say (Ended.Refused refusal.rule) (refused_text refusal)
 abbrev pub too_long : Decision
 too_long = Say Ended.TooLong long_text
 
--- what the bytes of a trace decide for a plan that can be played: it is too long, a line of it is bad, or it is played
+-- what the bytes of a trace decide for a plan that can be played: it is too long, a line of it is
+-- bad, or it is played
 pub data TraceDecides (plan : Plan) (options : Options) (bytes : List ℕ) : Decision → Type 0 where
   long_trace : text_most < length bytes → TraceDecides plan options bytes too_long
   bad_trace : (line : ℕ) → length bytes ≤ text_most → IsLeastBadLine plan bytes line
       → TraceDecides plan options bytes (Say (Ended.BadTrace line) (bad_trace_text line))
-  good_trace : length bytes ≤ text_most → HasNoBadLine plan bytes → TraceDecides plan options bytes (Play plan (trace_of plan bytes) options)
+  good_trace : length bytes ≤ text_most → HasNoBadLine plan bytes
+      → TraceDecides plan options bytes (Play plan (trace_of plan bytes) options)
 
--- what the words decide for the plan of a description that is accepted. To play it, no class may be there that can't be
--- played yet, where reads tells the bytes that were read of a text.
-pub data PlanDecides (reads : List ℕ → List ℕ → Type 0) (words : List (List ℕ)) (plan : Plan) : Decision → Type 0 where
-  checked : (desc : List ℕ) → IsCheck words desc → PlanDecides reads words plan (Say Ended.Ok (accepted_text plan))
-  laid_out : (desc : List ℕ) → IsLayout words desc → PlanDecides reads words plan (Say Ended.Ok (layout_text plan (layout_of plan)))
-  not_played : (desc trace : List ℕ) (options : Options) (place : Place) → IsPlay words desc trace options
-      → unplayed plan ≡ Some place → PlanDecides reads words plan (refuses (record { rule = 0; place = place }))
-  traced : (desc trace bytes : List ℕ) (options : Options) (decision : Decision) → IsPlay words desc trace options
-      → unplayed plan ≡ None → reads trace bytes → TraceDecides plan options bytes decision → PlanDecides reads words plan decision
+-- what the words decide for the plan of a description that is accepted. To play it, no class may be
+-- there that can't be played yet, where reads tells the bytes that were read of a text.
+pub data PlanDecides (reads : List ℕ → List ℕ → Type 0) (words : List (List ℕ)) (plan : Plan)
+    : Decision → Type 0 where
+  checked : (desc : List ℕ) → IsCheck words desc
+      → PlanDecides reads words plan (Say Ended.Ok (accepted_text plan))
+  laid_out : (desc : List ℕ) → IsLayout words desc
+      → PlanDecides reads words plan (Say Ended.Ok (layout_text plan (layout_of plan)))
+  not_played : (desc trace : List ℕ) (options : Options) (place : Place)
+      → IsPlay words desc trace options
+      → unplayed plan ≡ Some place
+      → PlanDecides reads words plan (refuses (record { rule = 0; place = place }))
+  traced : (desc trace bytes : List ℕ) (options : Options) (decision : Decision)
+      → IsPlay words desc trace options
+      → unplayed plan ≡ None → reads trace bytes → TraceDecides plan options bytes decision
+      → PlanDecides reads words plan decision
 
--- what the words and the bytes of a description decide: it is too long, it is refused, or it is accepted
-pub data TextDecides (reads : List ℕ → List ℕ → Type 0) (words : List (List ℕ)) (bytes : List ℕ) : Decision → Type 0 where
+-- what the words and the bytes of a description decide: it is too long, it is refused, or it is
+-- accepted
+pub data TextDecides (reads : List ℕ → List ℕ → Type 0) (words : List (List ℕ)) (bytes : List ℕ)
+    : Decision → Type 0 where
   long_description : text_most < length bytes → TextDecides reads words bytes too_long
-  refused : (refusal : Refusal) → length bytes ≤ text_most → IsRefusedText bytes refusal → TextDecides reads words bytes (refuses refusal)
-  accepted : (plan : Plan) (decision : Decision) → length bytes ≤ text_most → IsAccepted bytes plan → PlanDecides reads words plan decision
+  refused : (refusal : Refusal) → length bytes ≤ text_most → IsRefusedText bytes refusal
+      → TextDecides reads words bytes (refuses refusal)
+  accepted : (plan : Plan) (decision : Decision) → length bytes ≤ text_most → IsAccepted bytes plan
+      → PlanDecides reads words plan decision
       → TextDecides reads words bytes decision
 
 -- the words are a command on this description
 abbrev pub NamesDescription : List (List ℕ) → List ℕ → Type 0
-NamesDescription words desc = IsCheck words desc ⊎ (IsLayout words desc ⊎ ((trace : List ℕ) × (options : Options) × IsPlay words desc trace options))
+NamesDescription words desc =
+    IsCheck words desc
+    ⊎ (IsLayout words desc
+    ⊎ ((trace : List ℕ) × (options : Options) × IsPlay words desc trace options))
 
 -- what the words and the texts under their names decide
-pub data Decides (reads : List ℕ → List ℕ → Type 0) (words : List (List ℕ)) : Decision → Type 0 where
-  no_command : (k : ℕ) → IsBadWord words k → Decides reads words (Say (Ended.Usage k) (usage_text k))
-  described : (desc bytes : List ℕ) (decision : Decision) → NamesDescription words desc → reads desc bytes → TextDecides reads words bytes decision
+pub data Decides (reads : List ℕ → List ℕ → Type 0) (words : List (List ℕ))
+    : Decision → Type 0 where
+  no_command : (k : ℕ) → IsBadWord words k
+      → Decides reads words (Say (Ended.Usage k) (usage_text k))
+  described : (desc bytes : List ℕ) (decision : Decision) → NamesDescription words desc
+      → reads desc bytes → TextDecides reads words bytes decision
       → Decides reads words decision

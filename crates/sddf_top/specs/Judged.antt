@@ -1,3 +1,4 @@
+-- Which descriptions are accepted, and which refused.
 use Rattle.std.specs.Prelude.{◌≡◌, ◌⊎◌, ℕ, List}
 use Rattle.toml.specs.Data.{Members}
 use Rattle.sdf_model.specs.declared.place.Refusal.{Refusal}
@@ -8,7 +9,7 @@ use Rattle.sdf_model.specs.Tree.{IsDocument, places_of, BreaksText}
 use Rattle.sdf_check.specs.Valid.{Valid, IsRefused}
 
 -- a text keeps the rules on texts and spells a plan
-pub record IsSpelled (text : List ℕ) (plan : Plan) : Type 0 where
+pub record SpellsPlan (text : List ℕ) (plan : Plan) : Type 0 where
   pub root : Members
   pub document : IsDocument text root
   pub kept : KeepsRules (BreaksText text) (places_of text) 1 4
@@ -16,14 +17,16 @@ pub record IsSpelled (text : List ℕ) (plan : Plan) : Type 0 where
 
 -- a description is accepted where it spells a valid plan
 pub record IsAccepted (text : List ℕ) (plan : Plan) : Type 0 where
-  pub spelled : IsSpelled text plan
+  pub spelled : SpellsPlan text plan
   pub valid : Valid plan
 
 -- a plan that some description spells which is accepted
 abbrev pub IsAcceptedPlan : Plan → Type 0
 IsAcceptedPlan plan = (text : List ℕ) × IsAccepted text plan
 
--- a description is refused by the least rule that it breaks, at the first element that breaks it: by a rule on texts,
--- or where it keeps these by a rule on plans
+-- a description is refused by the least rule that it breaks, at the first element that breaks it:
+-- by a rule on texts, or where it keeps these by a rule on plans
 abbrev pub IsRefusedText : List ℕ → Refusal → Type 0
-IsRefusedText text refusal = IsRefusal (BreaksText text) (places_of text) 1 4 refusal ⊎ ((plan : Plan) × IsSpelled text plan × IsRefused plan refusal)
+IsRefusedText text refusal =
+    IsRefusal (BreaksText text) (places_of text) 1 4 refusal
+    ⊎ ((plan : Plan) × SpellsPlan text plan × IsRefused plan refusal)

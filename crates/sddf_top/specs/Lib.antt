@@ -3,7 +3,9 @@ pub mod Codes
 pub mod Decisions
 pub mod Judged
 pub mod Names
+pub mod Outcomes
 pub mod Outside
 pub mod Readings
+pub mod Served
 pub mod Shown
 pub mod Sunk

@@ -3,27 +3,27 @@ use Rattle.std.specs.Prelude.{ℕ, ◌+◌, ◌-◌, ◌^◌, ◌==◌, min, max
 use Rattle.std.specs.Option.{option_map}
 use Rattle.std.specs.List.{list_any}
 use Rattle.std.specs.Cmp.Lexicographic.{pointwise}
-use Rattle.sddf_top.specs.declared.memory_shelf.Kept.{Kept}
+use Rattle.sddf_top.specs.declared.memory_shelf.NamedText.{NamedText}
 
 -- the first text of this name: its place, and its bytes
-abbrev pub place_under : List Kept → List ℕ → Option ℕ
+abbrev pub place_under : List NamedText → List ℕ → Option ℕ
 place_under kept name = position (λ k. pointwise nat_eq k.name name) kept
 
-abbrev pub text_at : List Kept → Option ℕ → Option (List ℕ)
+abbrev pub text_at : List NamedText → Option ℕ → Option (List ℕ)
 text_at kept (Some place) = option_map (λ k. k.text) (slice_get kept place)
 text_at kept None = None
 
-abbrev pub text_under : List Kept → List ℕ → Option (List ℕ)
+abbrev pub text_under : List NamedText → List ℕ → Option (List ℕ)
 text_under kept name = text_at kept (place_under kept name)
 
 -- what is left of the open text, from a byte of it on
-abbrev pub left_of : List Kept → Option ℕ → ℕ → List ℕ
+abbrev pub left_of : List NamedText → Option ℕ → ℕ → List ℕ
 left_of kept opened at = drop at (unwrap_or (text_at kept opened) [])
 
--- a shelf in memory: the texts, which is open and how far it was read, the calls so far, those that fail, how many
--- bytes a call gives at most, and the faults
+-- a shelf in memory: the texts, which is open and how far it was read, the calls so far, those that
+-- fail, how many bytes a call gives at most, and the faults
 pub record Shelved : Type 0 where
-  pub kept : List Kept
+  pub kept : List NamedText
   pub opened : Option ℕ
   pub at : ℕ
   pub calls : ℕ
@@ -39,6 +39,7 @@ next_call n = min (n + 1) (2 ^ 64 - 1)
 abbrev pub is_listed : List ℕ → ℕ → Bool
 is_listed failing call = list_any (λ n. n == call) failing
 
--- how many bytes a call gives that has room for so many: as many as it can, but no more than a piece
+-- how many bytes a call gives that has room for so many: as many as it can, but no more than a
+-- piece
 abbrev pub given : Shelved → ℕ → ℕ
 given s room = min (min (length (left_of s.kept s.opened s.at)) room) (max s.piece 1)

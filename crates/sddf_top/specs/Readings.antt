@@ -1,62 +1,98 @@
 -- How texts are read: in what pieces, which last, and how far.
-use Rattle.std.specs.Prelude.{◌≡◌, ◌≤◌, ◌⊎◌, ℕ, Option, List, [], ◌++◌, length, take, drop, IfSome}
+use Rattle.std.specs.Prelude.{◌≡◌, ◌≤◌, ◌<◌, ◌⊎◌, ℕ, Option, List, [], ◌++◌, length, take, drop, IfSome}
 use Rattle.std.specs.Option.{option_map}
 use Rattle.command_words.specs.declared.command.Options.{Options}
 use Rattle.command_words.specs.Words.{IsCheck, IsLayout, IsPlay}
 use Rattle.sddf_top.specs.declared.status.Status.{Status}
 use Rattle.sddf_top.specs.declared.status.Status.TheVariants as Ended
+use Rattle.sdf_model.specs.Counts.{text_most}
+use Rattle.sddf_top.specs.Outside.{read_most}
 use Rattle.sddf_top.specs.Decisions.{NamesDescription}
 
--- a piece of n bytes was read on: the next bytes of what was left, where it is told, and none only at its end
-pub record ReadsOn (left : Option (List ℕ)) (old : List ℕ) (n : ℕ) (left' : Option (List ℕ)) (new : List ℕ) : Type 0 where
+-- a piece of n bytes was read on: the next bytes of what was left, where it is told, and none only
+-- at its end
+pub record ReadsOn (left : Option (List ℕ)) (old : List ℕ) (n : ℕ) (left' : Option (List ℕ))
+    (new : List ℕ) : Type 0 where
   pub bytes : IfSome left (λ l. new ≡ old ++ take n l)
   pub within : IfSome left (λ l. n ≤ length l)
   pub rest : left' ≡ option_map (drop n) left
   pub none : n ≡ 0 → IfSome left (λ l. l ≡ [])
 
--- what is left of a text of which all that is ever read was read: what stands behind its first 16,777,217 bytes
+-- what is left of a text of which all that is ever read was read: what stands behind its first
+-- 16,777,217 bytes
 unfoldable pub Behind : (List ℕ → Option (List ℕ)) → List ℕ → Option (List ℕ) → Type 0
-Behind told name left = left ≡ option_map (drop 16777217) (told name)
+Behind told name left = left ≡ option_map (drop read_most) (told name)
 
--- an answer to a description, before a trace is read
-abbrev pub IsOfDescription : List (List ℕ) → Status → Type 0
-IsOfDescription words (Ended.Refused n) = Unit {0}
-IsOfDescription words Ended.TooLong = Unit {0}
-IsOfDescription words Ended.Ok = (desc : List ℕ) × (IsCheck words desc ⊎ IsLayout words desc)
-IsOfDescription words (Ended.Usage k) = ⊥
-IsOfDescription words (Ended.BadTrace l) = ⊥
-IsOfDescription words (Ended.Spent s) = ⊥
-IsOfDescription words Ended.ReadFault = ⊥
-IsOfDescription words Ended.WriteFault = ⊥
-IsOfDescription words Ended.Memory = ⊥
+-- a text is too long, where it is told
+abbrev pub IsLong : Option (List ℕ) → Type 0
+IsLong told = IfSome told (λ text. text_most < length text)
 
--- an answer to a trace
-abbrev pub IsOfTrace : Status → Type 0
-IsOfTrace Ended.Ok = Unit {0}
-IsOfTrace (Ended.Spent s) = Unit {0}
-IsOfTrace (Ended.BadTrace l) = Unit {0}
-IsOfTrace Ended.TooLong = Unit {0}
-IsOfTrace (Ended.Usage k) = ⊥
-IsOfTrace (Ended.Refused n) = ⊥
-IsOfTrace Ended.ReadFault = ⊥
-IsOfTrace Ended.WriteFault = ⊥
-IsOfTrace Ended.Memory = ⊥
+-- a text is within the limit, where it is told
+abbrev pub IsWithinLimit : Option (List ℕ) → Type 0
+IsWithinLimit told = IfSome told (λ text. length text ≤ text_most)
 
--- what is left on the shelf once the trace of a play was read and answered, or nothing more was read than before
-abbrev pub LeavesPlay : (List ℕ → Option (List ℕ)) → List ℕ → Option (List ℕ) → Option (List ℕ) → Status → Type 0
-LeavesPlay told trace old new status = ((n : ℕ) × (status ≡ Ended.Refused n) × (new ≡ old)) ⊎ (Behind told trace new × IsOfTrace status)
+-- an answer to a description that isn't too long, before a trace is read
+abbrev pub IsOfPlan : List (List ℕ) → Status → Type 0
+IsOfPlan words (Ended.Refused n) = Unit {0}
+IsOfPlan words Ended.Ok = (desc : List ℕ) × (IsCheck words desc ⊎ IsLayout words desc)
+IsOfPlan words Ended.TooLong = ⊥
+IsOfPlan words (Ended.Usage k) = ⊥
+IsOfPlan words (Ended.BadTrace l) = ⊥
+IsOfPlan words (Ended.Spent s) = ⊥
+IsOfPlan words Ended.ReadFault = ⊥
+IsOfPlan words Ended.WriteFault = ⊥
+IsOfPlan words (Ended.Memory memory) = ⊥
+
+-- an answer to a trace that isn't too long
+abbrev pub IsOfPlay : Status → Type 0
+IsOfPlay Ended.Ok = Unit {0}
+IsOfPlay (Ended.Spent s) = Unit {0}
+IsOfPlay (Ended.BadTrace l) = Unit {0}
+IsOfPlay Ended.TooLong = ⊥
+IsOfPlay (Ended.Usage k) = ⊥
+IsOfPlay (Ended.Refused n) = ⊥
+IsOfPlay Ended.ReadFault = ⊥
+IsOfPlay Ended.WriteFault = ⊥
+IsOfPlay (Ended.Memory memory) = ⊥
+
+-- an answer to a text that was read: that it is too long, or one of these where it is within the
+-- limit
+abbrev pub IsOfText : Option (List ℕ) → (Status → Type 0) → Status → Type 0
+IsOfText told answers status =
+    (IsLong told × (status ≡ Ended.TooLong)) ⊎ (IsWithinLimit told × answers status)
+
+-- what is left on the shelf once the trace of a play was read and answered, or nothing more was
+-- read than before
+abbrev pub LeavesPlay : (List ℕ → Option (List ℕ)) → List ℕ → Option (List ℕ) → Option (List ℕ)
+    → Status → Type 0
+LeavesPlay told trace old new status =
+    ((n : ℕ) × (status ≡ Ended.Refused n) × (new ≡ old))
+    ⊎ (Behind told trace new × IsOfText (told trace) IsOfPlay status)
 
 -- the same of the words of a command whose description was read
-abbrev pub LeavesPlan : (List ℕ → Option (List ℕ)) → List (List ℕ) → Option (List ℕ) → Option (List ℕ) → Status → Type 0
+abbrev pub LeavesPlan : (List ℕ → Option (List ℕ)) → List (List ℕ) → Option (List ℕ)
+    → Option (List ℕ) → Status → Type 0
 LeavesPlan told words old new status =
-    (IsOfDescription words status × (new ≡ old))
-    ⊎ ((desc : List ℕ) × (trace : List ℕ) × (options : Options) × IsPlay words desc trace options × Behind told trace new × IsOfTrace status)
+    (IsOfPlan words status × (new ≡ old))
+    ⊎ ((desc : List ℕ) × (trace : List ℕ) × (options : Options) × IsPlay words desc trace options
+    × Behind told trace new × IsOfText (told trace) IsOfPlay status)
 
--- which text was read last, and how far, where this is the answer to the words: none for bad words; the description
--- where it is too long or refused, or the words ask for no play; else the trace
-pub data ReadLast (told : List ℕ → Option (List ℕ)) (words : List (List ℕ)) (old new : Option (List ℕ)) (status : Status) : Type 0 where
+-- the same of these bytes of a description
+abbrev pub LeavesText : (List ℕ → Option (List ℕ)) → List (List ℕ) → List ℕ → Option (List ℕ)
+    → Option (List ℕ) → Status → Type 0
+LeavesText told words bytes old new status =
+    ((text_most < length bytes) × (status ≡ Ended.TooLong) × (new ≡ old))
+    ⊎ ((length bytes ≤ text_most) × LeavesPlan told words old new status)
+
+-- which text was read last, and how far, where this is the answer to the words: none for bad words;
+-- the description where it is too long or refused, or the words ask for no play; else the trace. A
+-- text that is too long is the one that was read last, and the trace is read where the description
+-- is within the limit.
+pub data ReadLast (told : List ℕ → Option (List ℕ)) (words : List (List ℕ))
+    (old new : Option (List ℕ)) (status : Status) : Type 0 where
   read_none : (k : ℕ) → status ≡ Ended.Usage k → new ≡ old → ReadLast told words old new status
-  read_description : (desc : List ℕ) → NamesDescription words desc → Behind told desc new → IsOfDescription words status
-      → ReadLast told words old new status
-  read_trace : (desc trace : List ℕ) (options : Options) → IsPlay words desc trace options → Behind told trace new → IsOfTrace status
+  read_description : (desc : List ℕ) → NamesDescription words desc → Behind told desc new
+      → IsOfText (told desc) (IsOfPlan words) status → ReadLast told words old new status
+  read_trace : (desc trace : List ℕ) (options : Options) → IsPlay words desc trace options
+      → IsWithinLimit (told desc) → Behind told trace new → IsOfText (told trace) IsOfPlay status
       → ReadLast told words old new status

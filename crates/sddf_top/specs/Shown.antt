@@ -1,3 +1,4 @@
+-- What is shown of a play.
 use Rattle.std.specs.Prelude.{ℕ, Bool, true, false, List, ◌++◌, unwrap_or}
 use Rattle.sdf_model.specs.declared.plan.Plan.{Plan}
 use Rattle.trace_text.specs.declared.trace.Trace.{Trace}

@@ -1,8 +1,8 @@
 -- A sink in memory, and how much a call of it takes.
 use Rattle.std.specs.Prelude.{ℕ, ◌-◌, min, List, length}
 
--- a sink in memory: the bytes that were written, for how many there is room, the calls so far, those that fail, how
--- many bytes a call takes at most, and the faults
+-- a sink in memory: the bytes that were written, for how many there is room, the calls so far,
+-- those that fail, how many bytes a call takes at most, and the faults
 pub record Sunk : Type 0 where
   pub written : List ℕ
   pub room : ℕ

@@ -1,8 +1,9 @@
+//! How a count of faults rises.
 ghost use Rattle.std.specs.Prelude.{◌≤◌};
 ghost use Rattle.sddf_top.specs.Outside.{Rose};
 
 /// A count of faults after one more. It stands still at the end of its type.
-pub fn raised(count: u64) -> u64
+pub fn one_more(count: u64) -> u64
     ensures rose { Rose count result }
     ensures rising { count ≤ result }
 {

@@ -1,6 +1,8 @@
+//! A shelf of files and a sink on standard output: one call of the runtime each, whose answer is
+//! handed on.
 ghost use Rattle.std.specs.Prelude.{◌≡◌};
 
-use crate::faults::raised;
+use crate::faults::one_more;
 use crate::{Failed, Shelf, Sink};
 use std::fs;
 use std::io::Read;
@@ -42,7 +44,7 @@ impl<R: Files> Shelf for FileShelf<'_, R> {
             }
             Err(_) => {
                 self.open = None;
-                self.faults = raised(self.faults);
+                self.faults = one_more(self.faults);
                 Err(Failed)
             }
         }
@@ -56,7 +58,7 @@ impl<R: Files> Shelf for FileShelf<'_, R> {
             Ok(n) => Ok(n),
             Err(_) => {
                 self.open = None;
-                self.faults = raised(self.faults);
+                self.faults = one_more(self.faults);
                 Err(Failed)
             }
         }
@@ -88,7 +90,7 @@ impl<R: Print> Sink for OutSink<'_, R> {
         match self.rt.write_some(from) {
             Ok(n) if n > 0 || from.is_empty() => Ok(n),
             _ => {
-                self.faults = raised(self.faults);
+                self.faults = one_more(self.faults);
                 Err(Failed)
             }
         }

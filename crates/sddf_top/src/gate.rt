@@ -1,7 +1,8 @@
+//! Gates, which may hold an actor back before its step.
 use wire_core::ActorId;
 
-/// What is asked before each step of an actor in a thread: who steps, and how much a client has recorded by then. A
-/// gate may wait, so that a test can hold actors back.
+/// What is asked before each step of an actor in a thread: who steps, and how much a client has
+/// recorded by then. A gate may wait, so that a test can hold actors back.
 pub trait Gate {
     fn pass(&self, actor: ActorId, recorded: u64);
 }

@@ -1,17 +1,17 @@
 //! The program as one call, over a shelf of texts and a sink for the answer.
 #![tactic(auto)]
 
+mod answering;
 mod faults;
 mod files;
 mod gate;
-mod judged;
+mod judging;
 mod memory_shelf;
 mod memory_sink;
 mod played;
-mod plays;
+mod playing;
 mod reading;
-mod replies;
-mod served;
+mod serving;
 mod shelf;
 mod sink;
 mod status;
@@ -19,12 +19,13 @@ mod writing;
 
 pub use files::{FileShelf, OutSink};
 pub use gate::{Gate, OpenGate};
-pub use judged::judge;
-pub use memory_shelf::{Kept, MemShelf};
+pub use judging::judge;
+pub use memory_shelf::{MemShelf, NamedText};
 pub use memory_sink::MemSink;
 pub use played::Played;
-pub use reading::{READ_MOST, ReadStop, TEXT_MOST, read_text};
-pub use served::{serve, serve_alone};
+pub use reading::{READ_MOST, ReadStop, read_text};
+pub use sdf_model::TEXT_MOST;
+pub use serving::{serve, serve_alone};
 pub use shelf::{Failed, Shelf};
 pub use sink::Sink;
 pub use status::Status;

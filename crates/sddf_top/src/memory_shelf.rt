@@ -1,8 +1,9 @@
+//! A shelf of texts in memory, which fails the calls that it is told to.
 ghost use Rattle.std.specs.Prelude.{◌≡◌, ◌≤◌, ◌<◌, ◌∷◌, ◌++◌, [], ℕ, None, length, min, OnOk, OnErr, ◌+◌, ◌-◌, ◌^◌, drop};
 ghost use Rattle.sddf_top.specs.Outside.{Rose};
 ghost use Rattle.sddf_top.specs.Names.{place_under, left_of, next_call, is_listed};
 
-use crate::faults::raised;
+use crate::faults::one_more;
 use crate::{Failed, Shelf};
 use cargo_core::{Bytes, Memory, Text};
 use std::alloc::Global;
@@ -10,17 +11,17 @@ use std::marker::Model;
 
 /// A text under its name.
 #[derive(Debug, Drop)]
-pub struct Kept {
+pub struct NamedText {
     pub name: Text,
     pub text: Bytes,
 }
 
-/// Texts in memory. It counts the calls of its trait from 0, opens among them, and fails those that it was told to.
-/// Until `piece` is called, a read gives as many bytes as it can.
+/// Texts in memory. It counts the calls of its trait from 0, opens among them, and fails those that
+/// it was told to. Until `piece` is called, a read gives as many bytes as it can.
 #[derive(Drop)]
 pub struct MemShelf {
     alloc: Global,
-    kept: Vec<Kept>,
+    kept: Vec<NamedText>,
     opened: Option<usize>,
     at: usize,
     calls: u64,
@@ -34,7 +35,15 @@ impl Model for MemShelf {
 
     ghost Value = { Shelved };
 
-    ghost view = { λ s. record { kept = s.kept.items; opened = s.opened; at = s.at; calls = s.calls; failing = s.failing.items; piece = s.piece; faults = s.faults } };
+    ghost view = { λ s. record {
+      kept = s.kept.items;
+      opened = s.opened;
+      at = s.at;
+      calls = s.calls;
+      failing = s.failing.items;
+      piece = s.piece;
+      faults = s.faults;
+    } };
 }
 
 impl MemShelf {
@@ -61,7 +70,8 @@ impl MemShelf {
 
     /// Adds a text, which stands in place of one that had this name. No text is open afterwards.
     pub fn add(&mut self, name: &str, text: &[u8]) -> Result<(), Memory>
-        ensures ok { OnOk result (self.new.kept ≡ (record { name = name.now; text = text.now }) ∷ self.old.kept) }
+        ensures ok { OnOk result (self.new.kept
+            ≡ (record { name = name.now; text = text.now }) ∷ self.old.kept) }
         ensures err { OnErr result (self.new.kept ≡ self.old.kept) }
         ensures closed { self.new.opened ≡ None }
         ensures calls { self.new.calls ≡ self.old.calls }
@@ -70,7 +80,7 @@ impl MemShelf {
         ensures faults { self.new.faults ≡ self.old.faults }
     {
         self.opened = None;
-        let kept = Kept {
+        let kept = NamedText {
             name: Text::new(self.alloc, name)?,
             text: Bytes::from_slice(self.alloc, text)?,
         };
@@ -80,7 +90,10 @@ impl MemShelf {
 
     /// Fails the call of this number.
     pub fn fail_at(&mut self, call: u64) -> Result<(), Memory>
-        ensures ok { OnOk result (self.new ≡ record self.old { failing = self.old.failing ++ call ∷ [] }) }
+        ensures ok { OnOk result (self.new ≡ record self.old {
+          failing = self.old.failing ++ call
+              ∷ [];
+        }) }
         ensures err { OnErr result (self.new ≡ self.old) }
     {
         self.failing.push(call)?;
@@ -116,7 +129,7 @@ impl MemShelf {
         ensures rising { self.old.faults ≤ self.new.faults }
     {
         self.opened = None;
-        self.faults = raised(self.faults);
+        self.faults = one_more(self.faults);
         Failed
     }
 
@@ -148,7 +161,8 @@ impl MemShelf {
     /// Goes on behind the next bytes.
     fn skip(&mut self, n: usize)
         requires { self.old.at + n < 2 ^ 64 }
-        ensures left { left_of self.new.kept self.new.opened self.new.at ≡ drop n (left_of self.old.kept self.old.opened self.old.at) }
+        ensures left { left_of self.new.kept self.new.opened self.new.at
+            ≡ drop n (left_of self.old.kept self.old.opened self.old.at) }
         ensures kept { self.new.kept ≡ self.old.kept }
         ensures calls { self.new.calls ≡ self.old.calls }
         ensures failing { self.new.failing ≡ self.old.failing }
@@ -175,12 +189,15 @@ impl Shelf for MemShelf {
     fn open(&mut self, name: &str) -> Result<(), Failed>
         ensures texts { (n : List ℕ) → text_under self.new.kept n ≡ text_under self.old.kept n }
         ensures rising { self.old.faults ≤ self.new.faults }
-        ensures opened { OnOk result (Some (left_of self.new.kept self.new.opened self.new.at) ≡ text_under self.old.kept name.now) }
+        ensures opened { OnOk result (Some (left_of self.new.kept self.new.opened self.new.at)
+            ≡ text_under self.old.kept name.now) }
         ensures calm { OnOk result (self.new.faults ≡ self.old.faults) }
         ensures failed { OnErr result (Rose self.old.faults self.new.faults) }
-        ensures ended { OnErr result (IsAtEnd (Some (left_of self.new.kept self.new.opened self.new.at))) }
+        ensures ended { OnErr result (IsAtEnd (Some (left_of self.new.kept self.new.opened
+            self.new.at))) }
         ensures counted { self.new.calls ≡ next_call self.old.calls }
-        ensures fails { is_ok result ≡ (not (is_listed self.old.failing self.old.calls) && is_some (place_under self.old.kept name.now)) }
+        ensures fails { is_ok result ≡ (not (is_listed self.old.failing self.old.calls)
+            && is_some (place_under self.old.kept name.now)) }
         ensures listed { self.new.failing ≡ self.old.failing }
         ensures piece { self.new.piece ≡ self.old.piece }
     {
@@ -195,18 +212,20 @@ impl Shelf for MemShelf {
         Ok(())
     }
 
-    /// It counts the call, and fails where the call is listed. Else it gives as many bytes as it can, but no more than a
-    /// piece.
+    /// It counts the call, and fails where the call is listed. Else it gives as many bytes as it
+    /// can, but no more than a piece.
     fn read(&mut self, into: &mut [u8]) -> Result<usize, Failed>
         ensures texts { (n : List ℕ) → text_under self.new.kept n ≡ text_under self.old.kept n }
         ensures rising { self.old.faults ≤ self.new.faults }
         ensures bound { IfOk result (λ n. n ≤ length into.new) }
-        ensures bytes { IfOk result (λ n. IfSome (Some (left_of self.old.kept self.old.opened self.old.at)) (λ l. GivesNext l n into.new)) }
+        ensures bytes { IfOk result (λ n. IfSome (Some (left_of self.old.kept self.old.opened
+            self.old.at)) (λ l. GivesNext l n into.new)) }
         ensures rest { IfOk result (λ n. Some (left_of self.new.kept self.new.opened self.new.at)
             ≡ option_map (drop n) (Some (left_of self.old.kept self.old.opened self.old.at))) }
         ensures calm { OnOk result (self.new.faults ≡ self.old.faults) }
         ensures failed { OnErr result (Rose self.old.faults self.new.faults) }
-        ensures ended { OnErr result (IsAtEnd (Some (left_of self.new.kept self.new.opened self.new.at))) }
+        ensures ended { OnErr result (IsAtEnd (Some (left_of self.new.kept self.new.opened
+            self.new.at))) }
         ensures counted { self.new.calls ≡ next_call self.old.calls }
         ensures fails { is_ok result ≡ not (is_listed self.old.failing self.old.calls) }
         ensures most { IfOk result (λ n. n ≡ given self.old (length into.old)) }

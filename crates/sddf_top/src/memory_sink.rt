@@ -1,15 +1,17 @@
+//! A sink in memory, which fails the calls that it is told to, and gets full.
 ghost use Rattle.std.specs.Prelude.{◌≡◌, ◌≤◌, ◌-◌, ◌^◌, ◌∷◌, ◌++◌, [], length, OnOk, OnErr, IfOk};
 ghost use Rattle.sddf_top.specs.Outside.{Rose};
 ghost use Rattle.sddf_top.specs.Sunk.{taken};
 
-use crate::faults::raised;
+use crate::faults::one_more;
 use crate::{Failed, Sink};
 use cargo_core::Memory;
 use std::alloc::Global;
 use std::marker::Model;
 
-/// Bytes that were written to memory. It counts the calls of its trait from 0, and fails those that it was told to,
-/// and each for which there is no room left. Until `piece` is called, a call takes as many bytes as it can.
+/// Bytes that were written to memory. It counts the calls of its trait from 0, and fails those that
+/// it was told to, and each for which there is no room left. Until `piece` is called, a call takes
+/// as many bytes as it can.
 #[derive(Drop)]
 pub struct MemSink {
     written: Vec<u8>,
@@ -26,7 +28,15 @@ impl Model for MemSink {
 
     ghost Value = { Sunk };
 
-    ghost view = { λ s. record { written = s.written.items; room = s.room; calls = s.calls; failing = s.failing.items; piece = s.piece; faults = s.faults } };
+    ghost view = { λ s. record {
+      written = s.written.items;
+      room = s.room;
+      calls = s.calls;
+      failing
+          = s.failing.items;
+      piece = s.piece;
+      faults = s.faults;
+    } };
 
     ghost invariant = { λ s. s.room ≤ vec_capacity s.written };
 }
@@ -60,7 +70,10 @@ impl MemSink {
 
     /// Fails the call of this number.
     pub fn fail_at(&mut self, call: u64) -> Result<(), Memory>
-        ensures ok { OnOk result (self.new ≡ record self.old { failing = self.old.failing ++ call ∷ [] }) }
+        ensures ok { OnOk result (self.new ≡ record self.old {
+          failing = self.old.failing ++ call
+              ∷ [];
+        }) }
         ensures err { OnErr result (self.new ≡ self.old) }
     {
         self.failing.push(call)?;
@@ -76,7 +89,7 @@ impl MemSink {
     }
 
     /// How many bytes of a piece are taken now.
-    fn taken_of(&self, from: &[u8]) -> usize
+    fn taken_now(&self, from: &[u8]) -> usize
         ensures { result ≡ taken self.now (length from.now) }
     {
         let room = self.room.saturating_sub(self.written.len());
@@ -89,7 +102,7 @@ impl MemSink {
         ensures rose { Rose self.old.faults self.new.faults }
         ensures rising { self.old.faults ≤ self.new.faults }
     {
-        self.faults = raised(self.faults);
+        self.faults = one_more(self.faults);
         Failed
     }
 }
@@ -103,13 +116,14 @@ impl Sink for MemSink {
 
     ghost faults = { λ s. s.faults };
 
-    /// It counts the call, and fails where the call is listed, or nothing can be taken of a piece that has bytes. Else it
-    /// takes as many bytes as it can, but no more than a piece.
+    /// It counts the call, and fails where the call is listed, or nothing can be taken of a piece
+    /// that has bytes. Else it takes as many bytes as it can, but no more than a piece.
     fn write(&mut self, from: &[u8]) -> Result<usize, Failed>
         ensures rising { self.old.faults ≤ self.new.faults }
         ensures bound { IfOk result (λ n. n ≤ length from.now) }
         ensures progress { IfOk result (λ n. n ≡ 0 → from.now ≡ []) }
-        ensures appends { IfOk result (λ n. Some self.new.written ≡ appended (Some self.old.written) (take n from.now)) }
+        ensures appends { IfOk result (λ n. Some self.new.written
+            ≡ appended (Some self.old.written) (take n from.now)) }
         ensures calm { OnOk result (self.new.faults ≡ self.old.faults) }
         ensures failed { OnErr result (Rose self.old.faults self.new.faults) }
         ensures unwritten { OnErr result (Some self.new.written ≡ Some self.old.written) }
@@ -123,7 +137,7 @@ impl Sink for MemSink {
     {
         let fails = self.failing.contains(&self.calls);
         self.calls = self.calls.saturating_add(1);
-        let n = self.taken_of(from);
+        let n = self.taken_now(from);
         if fails || (n == 0 && !from.is_empty()) {
             return Err(self.fail());
         }

@@ -1,5 +1,8 @@
+//! How a call of the program ends, and the status code of each end.
 ghost use Rattle.std.specs.Prelude.{◌≡◌};
 ghost use Rattle.sddf_top.specs.Codes.{code_of};
+
+use cargo_core::Memory;
 
 /// How a call of the program ended.
 #[derive(Clone, Copy, Debug, PartialEq, Eq)]
@@ -20,8 +23,8 @@ pub enum Status {
     Spent(u64),
     /// A text is longer than 16,777,216 bytes.
     TooLong,
-    /// Memory was refused.
-    Memory,
+    /// Memory was refused: want of memory itself, which no allocation but a refused one gives.
+    Memory(Memory),
 }
 
 impl Status {
@@ -38,7 +41,7 @@ impl Status {
             Status::WriteFault => 6,
             Status::Spent(_) => 7,
             Status::TooLong => 8,
-            Status::Memory => 9,
+            Status::Memory(_) => 9,
         }
     }
 }

@@ -2,7 +2,7 @@ use Rattle.std.proofs.Common.{ap, ◌∙◌}
 use Rattle.sddf_top.specs.Outside.{appended}
 use Rattle.sddf_top.specs.Answers.{WasRead}
 use Rattle.sddf_top.proofs.AnswerLemmas.{written-whole}
-use Rattle.sddf_top.proofs.served.write_reply.Goals as goal
+use Rattle.sddf_top.proofs.serving.write_outcome.Goals as goal
 
 pub returns-in-Ok-clause-served : goal.returns-in-Ok-clause-served
 returns-in-Ok-clause-served g c told words a =

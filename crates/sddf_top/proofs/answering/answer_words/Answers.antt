@@ -4,7 +4,7 @@ use Rattle.report_text.specs.Answers.{usage_text}
 use Rattle.sddf_top.specs.Decisions.{Say, no_command}
 use Rattle.std.proofs.Common.{refl}
 use Rattle.sddf_top.specs.Readings.{read_none}
-use Rattle.sddf_top.proofs.replies.reply_to.Goals as goal
+use Rattle.sddf_top.proofs.answering.answer_words.Goals as goal
 
 pub returns-in_ok-text-in-Err-clause-answer : goal.returns-in_ok-text-in-Err-clause-answer
 returns-in_ok-text-in-Err-clause-answer g c = (

@@ -7,7 +7,7 @@ use Rattle.system_core.specs.PlanPlays.{IsPlayed}
 use Rattle.system_core.specs.Reports.{report_of}
 use Rattle.sddf_top.specs.Shown.{ending_of, shown_text}
 use Rattle.sddf_top.proofs.PlanLemmas.{spent-whole}
-use Rattle.sddf_top.proofs.plays.play.Goals as goal
+use Rattle.sddf_top.proofs.playing.play.Goals as goal
 
 pub returns-clause-answer : goal.returns-clause-answer
 returns-clause-answer c = record {

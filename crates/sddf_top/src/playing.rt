@@ -1,12 +1,13 @@
+//! A trace is played on a plan, and what the system shows is made the answer.
 ghost use Rattle.std.specs.Prelude.{◌≡◌, None, Err, IfOk, OnErr, string_bytes};
 ghost use Rattle.trace_text.specs.Traces.{IsReadFor};
 ghost use Rattle.system_core.specs.Builds.{unplayed};
 ghost use Rattle.sddf_top.specs.Judged.{IsAcceptedPlan};
 ghost use Rattle.sddf_top.specs.Decisions.{Play};
 ghost use Rattle.sddf_top.specs.Shown.{limit_of, ending_of, shown_text};
-ghost use Rattle.sddf_top.specs.Answers.{Comes};
+ghost use Rattle.sddf_top.specs.Outcomes.{Follows};
 
-use crate::replies::Reply;
+use crate::answering::Outcome;
 use crate::{Played, ReadStop, Status};
 use cargo_core::Memory;
 use command_words::Options;
@@ -50,7 +51,8 @@ fn shown_text(
     report: &Report,
     journal: &[Entry],
 ) -> Result<String, Memory>
-    ensures { IfOk result (λ s. string_bytes s ≡ shown_text layout.now with_journal report.now journal.now) }
+    ensures { IfOk result (λ s. string_bytes s
+        ≡ shown_text layout.now with_journal report.now journal.now) }
 {
     let mut text = write_report(alloc, report)?;
     if with_journal {
@@ -61,19 +63,24 @@ fn shown_text(
 }
 
 /// Plays a trace on a plan, and makes the answer of what the system shows.
-pub fn play(alloc: Global, plan: &Plan, trace: &Trace, options: Options) -> Result<Reply, ReadStop>
+pub fn play(
+    alloc: Global,
+    plan: &Plan,
+    trace: &Trace,
+    options: Options,
+) -> Result<Outcome, ReadStop>
     requires accepted { IsAcceptedPlan plan.now }
     requires played { unplayed plan.now ≡ None }
     requires read { IsReadFor plan.now trace.now }
-    ensures answer { IfOk result (λ r. Comes (Play plan.now trace.now options) r.status (string_bytes r.text) r.played) }
-    ensures starved { OnErr result (result ≡ Err ReadStop.Memory) }
+    ensures answer { IfOk result (Follows (Play plan.now trace.now options)) }
+    ensures unfailing { result ≡ Err ReadStop.Failed → ⊥ }
 {
     let layout = lay_out(alloc, plan)?;
     let limit = limit_of(plan, trace, options);
     let (system, _) = System::played(alloc, plan, &layout, trace, options.seed, limit)?;
     let report = system.report()?;
     let text = shown_text(alloc, &layout, options.journal, &report, system.journal())?;
-    Ok(Reply {
+    Ok(Outcome {
         status: ending_of(&report),
         text,
         played: Played::Classes(system),

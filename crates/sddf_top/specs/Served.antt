@@ -1,0 +1,38 @@
+-- What `serve` does with the words, a shelf and a sink.
+use Rattle.std.specs.Prelude.{◌≡◌, ◌⊎◌, ◌<◌, ℕ, Option, List}
+use Rattle.cargo_core.specs.declared.memory.Memory.{Memory}
+use Rattle.command_words.specs.declared.command.Command.{Command}
+use Rattle.command_words.specs.Words.{Spells}
+use Rattle.sddf_top.specs.declared.status.Status.{Status}
+use Rattle.sddf_top.specs.declared.status.Status.TheVariants as Ended
+use Rattle.sddf_top.specs.declared.played.Played.{Played}
+use Rattle.sddf_top.specs.Outside.{Rose}
+use Rattle.sddf_top.specs.Decisions.{Decision, Decides}
+use Rattle.sddf_top.specs.Answers.{Serves, WasRead, IsTold, IsStatusOf, IsFault}
+use Rattle.sddf_top.specs.Readings.{ReadLast}
+
+-- the words were served over a shelf, which tells texts, what is left of the open one and how often
+-- it failed, and a sink, which tells what was written and how often it failed
+pub record IsServed {F K : Type 0} (text : F → List ℕ → Option (List ℕ)) (left : F → Option (List ℕ))
+    (reads : F → ℕ) (written : K → Option (List ℕ)) (writes : K → ℕ) (words : List (List ℕ))
+    (shelf shelf' : F) (sink sink' : K) (status : Status) (played : Played) : Type 0 where
+  -- the status, what was written and what was played: each only for its cause
+  pub served : Serves (WasRead (text shelf)) words (written sink) (written sink') status played
+  -- each status wherever its cause holds, but for faults and want of memory
+  pub exactly : (decision : Decision) → Decides (IsTold (text shelf)) words decision
+      → IsStatusOf decision status ⊎ IsFault status
+  -- what is read, in which order and how far: the text that was read last, and what is left of it
+  pub last : ReadLast (text shelf) words (left shelf) (left shelf') status ⊎ IsFault status
+  -- a fault of reading comes only where words that are a command let a text be read, and then
+  -- nothing is written
+  pub read_fault : status ≡ Ended.ReadFault → Rose (reads shelf) (reads shelf')
+  pub read_always : reads shelf < reads shelf' → status ≡ Ended.ReadFault
+  pub read_command : status ≡ Ended.ReadFault → (command : Command) × Spells words command
+  pub read_unwritten : status ≡ Ended.ReadFault → sink' ≡ sink
+  -- a fault of writing
+  pub write_fault : status ≡ Ended.WriteFault → Rose (writes sink) (writes sink')
+  pub write_always : writes sink < writes sink' → status ≡ Ended.WriteFault
+  -- after want of memory nothing was written
+  pub memory_unwritten : (memory : Memory) → status ≡ Ended.Memory memory → sink' ≡ sink
+  -- the texts stay
+  pub texts : (name : List ℕ) → text shelf' name ≡ text shelf name
