@@ -149,7 +149,7 @@ impl ClassCounts {
 }
 
 // The clients of the network class, where the plan has it.
-fn net_clients(plan: &Plan) -> Option<u64>
+fn net_client_count(plan: &Plan) -> Option<u64>
     ensures { result ≡ (counts_of plan.now no_trace).net }
 {
     match &plan.net {
@@ -159,7 +159,7 @@ fn net_clients(plan: &Plan) -> Option<u64>
 }
 
 // The clients of the serial class, where the plan has it.
-fn serial_clients(plan: &Plan) -> Option<u64>
+fn serial_client_count(plan: &Plan) -> Option<u64>
     ensures { result ≡ (counts_of plan.now no_trace).serial }
 {
     match &plan.serial {
@@ -169,7 +169,7 @@ fn serial_clients(plan: &Plan) -> Option<u64>
 }
 
 // The clients of the block class, where the plan has it.
-fn blk_clients(plan: &Plan) -> Option<u64>
+fn blk_client_count(plan: &Plan) -> Option<u64>
     ensures { result ≡ (counts_of plan.now no_trace).blk }
 {
     match &plan.blk {
@@ -197,9 +197,9 @@ fn counts(plan: &Plan, trace: &Trace) -> ClassCounts
 {
     let (device_buffers, client_buffers) = receive_buffers(plan);
     ClassCounts {
-        net: net_clients(plan),
-        serial: serial_clients(plan),
-        blk: blk_clients(plan),
+        net: net_client_count(plan),
+        serial: serial_client_count(plan),
+        blk: blk_client_count(plan),
         device_buffers,
         client_buffers,
         frames: trace.frames.len() as u64,

@@ -56,8 +56,8 @@ abbrev pub blk_client_rights : Blk → BlkClient → List (List ℕ × List ℕ 
 blk_client_rights blk client = (client.pd, client.queues, true) ∷ (blk.virt, client.queues, true) ∷ (client.pd, client.region, true) ∷ []
 
 -- the number of bytes up to the next multiple of 64
-abbrev pub round_up : ℕ → ℕ
-round_up bytes = (bytes + 63) / 64 * 64
+abbrev pub second_offset : ℕ → ℕ
+second_offset bytes = (bytes + 63) / 64 * 64
 
 -- a queue's bytes: a header of 64, and its entries
 abbrev pub net_queue_size : ℕ → ℕ
@@ -74,10 +74,10 @@ resp_queue_size capacity = 64 + 16 * capacity
 
 -- what two queues of a region take, the second from the next multiple of 64 on
 abbrev pub net_queues_size : ℕ → ℕ
-net_queues_size capacity = round_up (net_queue_size capacity) + net_queue_size capacity
+net_queues_size capacity = second_offset (net_queue_size capacity) + net_queue_size capacity
 
 abbrev pub blk_queues_size : ℕ → ℕ
-blk_queues_size capacity = round_up (req_queue_size capacity) + resp_queue_size capacity
+blk_queues_size capacity = second_offset (req_queue_size capacity) + resp_queue_size capacity
 
 -- how large the regions of a class element are at least
 abbrev pub net_needs : Net → List (List ℕ × ℕ)

@@ -90,7 +90,7 @@ fn push_class(
     Ok(())
 }
 
-fn net_clients(plan: &Plan) -> Option<usize>
+fn net_client_count(plan: &Plan) -> Option<usize>
     ensures { result ≡ (outline_of plan.now).net }
 {
     match &plan.net {
@@ -99,7 +99,7 @@ fn net_clients(plan: &Plan) -> Option<usize>
     }
 }
 
-fn serial_clients(plan: &Plan) -> Option<usize>
+fn serial_client_count(plan: &Plan) -> Option<usize>
     ensures { result ≡ (outline_of plan.now).serial }
 {
     match &plan.serial {
@@ -108,7 +108,7 @@ fn serial_clients(plan: &Plan) -> Option<usize>
     }
 }
 
-fn blk_clients(plan: &Plan) -> Option<usize>
+fn blk_client_count(plan: &Plan) -> Option<usize>
     ensures { result ≡ (outline_of plan.now).blk }
 {
     match &plan.blk {
@@ -131,21 +131,21 @@ pub fn places_of(alloc: Global, plan: &Plan) -> Result<Vec<Place>, Memory>
         &mut places,
         Place::Net,
         Sort::NetClient,
-        net_clients(plan),
+        net_client_count(plan),
     )?;
     push_class(
         alloc,
         &mut places,
         Place::Serial,
         Sort::SerialClient,
-        serial_clients(plan),
+        serial_client_count(plan),
     )?;
     push_class(
         alloc,
         &mut places,
         Place::Blk,
         Sort::BlkClient,
-        blk_clients(plan),
+        blk_client_count(plan),
     )?;
     Ok(places)
 }

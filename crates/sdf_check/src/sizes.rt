@@ -2,15 +2,15 @@
 ghost use Rattle.std.specs.Prelude.{◌≡◌, ◌↔◌, ◌<◌, ◌≤◌, ◌+◌, ◌^◌, IsTrue, sum_by, length};
 ghost use Rattle.sdf_model.specs.declared.plan.NetClient.{NetClient};
 ghost use Rattle.sdf_check.specs.ClassRules.{IsCapacity, IsClientCount, IsBufferCount, AllowUse};
-ghost use Rattle.sdf_check.specs.Shares.{round_up, net_queues_size, byte_queue_size, blk_queues_size};
+ghost use Rattle.sdf_check.specs.Shares.{second_offset, net_queues_size, byte_queue_size, blk_queues_size};
 
 use crate::numbers::count_of;
 use sdf_model::NetClient;
 
 // The next multiple of 64.
-fn round_up(bytes: u128) -> u128
+fn second_offset(bytes: u128) -> u128
     requires { bytes < 2 ^ 100 }
-    ensures { result ≡ round_up bytes }
+    ensures { result ≡ second_offset bytes }
 {
     (bytes + 63) / 64 * 64
 }
@@ -20,7 +20,7 @@ pub fn net_queues_size(capacity: u64) -> u128
     ensures { result ≡ net_queues_size capacity }
 {
     let queue = 64 + 16 * capacity as u128;
-    round_up(queue) + queue
+    second_offset(queue) + queue
 }
 
 /// What a queue of bytes takes.
@@ -34,7 +34,7 @@ pub fn byte_queue_size(capacity: u64) -> u128
 pub fn blk_queues_size(capacity: u64) -> u128
     ensures { result ≡ blk_queues_size capacity }
 {
-    round_up(64 + 32 * capacity as u128) + (64 + 16 * capacity as u128)
+    second_offset(64 + 32 * capacity as u128) + (64 + 16 * capacity as u128)
 }
 
 /// Whether a number is a power of two from 1 to 32,768.

@@ -7,7 +7,7 @@ use cargo_core::Text;
 use sdf_model::{Domain, Plan};
 
 // How many clients the network class has.
-pub fn net_clients(plan: &Plan) -> usize
+pub fn net_client_count(plan: &Plan) -> usize
     ensures { result ≡ length (net_clients plan.now) }
 {
     match &plan.net {
@@ -17,7 +17,7 @@ pub fn net_clients(plan: &Plan) -> usize
 }
 
 // How many clients the serial class has.
-pub fn serial_clients(plan: &Plan) -> usize
+pub fn serial_client_count(plan: &Plan) -> usize
     ensures { result ≡ length (serial_clients plan.now) }
 {
     match &plan.serial {
@@ -27,7 +27,7 @@ pub fn serial_clients(plan: &Plan) -> usize
 }
 
 // How many clients the block class has.
-pub fn blk_clients(plan: &Plan) -> usize
+pub fn blk_client_count(plan: &Plan) -> usize
     ensures { result ≡ length (blk_clients plan.now) }
 {
     match &plan.blk {

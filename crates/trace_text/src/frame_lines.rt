@@ -3,7 +3,7 @@ ghost use Rattle.std.specs.Prelude.{IfOk};
 ghost use Rattle.trace_text.specs.Events.{rx_line, send_line};
 ghost use Rattle.trace_text.specs.Reading.{IsRead, HasLists};
 
-use crate::clients::{is_source, net_clients};
+use crate::clients::{is_source, net_client_count};
 use crate::data::read_data;
 use crate::lists::add_frame;
 use crate::number::read_below;
@@ -51,7 +51,7 @@ impl Reader {
         ensures { IfOk result (λ good. IsRead self.old self.new good
             (send_line plan.now client.now word.now)) }
     {
-        let client = match read_below(client, net_clients(plan) as u64) {
+        let client = match read_below(client, net_client_count(plan) as u64) {
             Some(client) => client,
             None => return Ok(false),
         };

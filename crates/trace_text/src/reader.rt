@@ -3,7 +3,7 @@
 ghost use Rattle.std.specs.Prelude.{◌≡◌, ◌==◌, ◌&&◌, [], is_some, IfOk};
 ghost use Rattle.trace_text.specs.Reading.{reader_after};
 
-use crate::clients::{blk_clients, net_clients, serial_clients};
+use crate::clients::{blk_client_count, net_client_count, serial_client_count};
 use crate::lists::{no_asks, no_bytes, no_frames};
 use crate::trace::Trace;
 use cargo_core::{Bytes, FrameLog, Memory};
@@ -33,9 +33,9 @@ impl Reader {
             trace: Trace {
                 frames: FrameLog::new(alloc),
                 input: Bytes::new(alloc),
-                sends: no_frames(alloc, net_clients(plan))?,
-                says: no_bytes(alloc, serial_clients(plan))?,
-                asks: no_asks(alloc, blk_clients(plan))?,
+                sends: no_frames(alloc, net_client_count(plan))?,
+                says: no_bytes(alloc, serial_client_count(plan))?,
+                asks: no_asks(alloc, blk_client_count(plan))?,
                 image: Bytes::new(alloc),
             },
             frame_lines: 0,

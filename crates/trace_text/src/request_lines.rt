@@ -3,7 +3,7 @@ ghost use Rattle.std.specs.Prelude.{◌≡◌, IfOk};
 ghost use Rattle.trace_text.specs.Events.{order_code, blk_order_line, blk_read_line, blk_write_line};
 ghost use Rattle.trace_text.specs.Reading.{IsRead, HasLists};
 
-use crate::clients::{blk_clients, is_blk_client};
+use crate::clients::{blk_client_count, is_blk_client};
 use crate::data::read_data;
 use crate::lists::add_ask;
 use crate::number::read_below;
@@ -35,7 +35,7 @@ impl Reader {
         ensures { IfOk result (λ good. IsRead self.old self.new good
             (blk_order_line plan.now client.now order.now)) }
     {
-        let client = match read_below(client, blk_clients(plan) as u64) {
+        let client = match read_below(client, blk_client_count(plan) as u64) {
             Some(client) => client,
             None => return Ok(false),
         };
@@ -73,7 +73,7 @@ impl Reader {
         ensures { IfOk result (λ good. IsRead self.old self.new good
             (blk_read_line plan.now client.now first.now many.now)) }
     {
-        let client = match read_below(client, blk_clients(plan) as u64) {
+        let client = match read_below(client, blk_client_count(plan) as u64) {
             Some(client) => client,
             None => return Ok(false),
         };
@@ -119,7 +119,7 @@ impl Reader {
         ensures { IfOk result (λ good. IsRead self.old self.new good
             (blk_write_line plan.now client.now first.now many.now word.now)) }
     {
-        let client = match read_below(client, blk_clients(plan) as u64) {
+        let client = match read_below(client, blk_client_count(plan) as u64) {
             Some(client) => client,
             None => return Ok(false),
         };

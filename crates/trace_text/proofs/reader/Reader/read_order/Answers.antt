@@ -5,7 +5,7 @@ use Rattle.trace_text.proofs.reader.Reader.read_order.Goals as goal
 
 pub returns-in-None : goal.returns-in-None
 returns-in-None c =
-    order_none c.args.self.now c.args.plan.now c.args.client.now c.args.order.now (λ n code m e. inl (no_blk_client c.args.plan.now n (rw c.blk_clients.ensures at (c.in-None.ensures.none n m))))
+    order_none c.args.self.now c.args.plan.now c.args.client.now c.args.order.now (λ n code m e. inl (no_blk_client c.args.plan.now n (rw c.blk_client_count.ensures at (c.in-None.ensures.none n m))))
 
 pub returns-in-None-order_code : goal.returns-in-None-order_code
 returns-in-None-order_code c =

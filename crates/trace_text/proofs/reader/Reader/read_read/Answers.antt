@@ -7,7 +7,7 @@ use Rattle.trace_text.proofs.reader.Reader.read_read.Goals as goal
 
 pub returns-in-None : goal.returns-in-None
 returns-in-None c =
-    read_none c.args.self.now c.args.plan.now c.args.client.now c.args.first.now c.args.many.now (λ n block count m b k. inl (and_left _ _ (no_blk_client c.args.plan.now n (rw c.blk_clients.ensures at (c.in-None.ensures.none n m)))))
+    read_none c.args.self.now c.args.plan.now c.args.client.now c.args.first.now c.args.many.now (λ n block count m b k. inl (and_left _ _ (no_blk_client c.args.plan.now n (rw c.blk_client_count.ensures at (c.in-None.ensures.none n m)))))
 
 pub returns-in-None-read_below : goal.returns-in-None-read_below
 returns-in-None-read_below c =

@@ -4,7 +4,7 @@ use Rattle.trace_text.proofs.reader.Reader.read_say.Goals as goal
 
 pub returns-in-None : goal.returns-in-None
 returns-in-None c =
-    say_none c.args.self.now c.args.plan.now c.args.client.now c.args.word.now (λ n bytes m e. inl (no_speaker c.args.plan.now n (rw c.serial_clients.ensures at (c.in-None.ensures.none n m))))
+    say_none c.args.self.now c.args.plan.now c.args.client.now c.args.word.now (λ n bytes m e. inl (no_speaker c.args.plan.now n (rw c.serial_client_count.ensures at (c.in-None.ensures.none n m))))
 
 pub returns-then-not-is_speaker : goal.returns-then-not-is_speaker
 returns-then-not-is_speaker c =

@@ -8,7 +8,7 @@ use Rattle.trace_text.proofs.reader.Reader.read_send.Goals as goal
 
 pub returns-in-None : goal.returns-in-None
 returns-in-None c =
-    send_none c.args.self.now c.args.plan.now c.args.client.now c.args.word.now (λ n frame m e. inl (and_left _ _ (no_source c.args.plan.now n (rw c.net_clients.ensures at (c.in-None.ensures.none n m)))))
+    send_none c.args.self.now c.args.plan.now c.args.client.now c.args.word.now (λ n frame m e. inl (and_left _ _ (no_source c.args.plan.now n (rw c.net_client_count.ensures at (c.in-None.ensures.none n m)))))
 
 pub returns-then-not-is_source : goal.returns-then-not-is_source
 returns-then-not-is_source c =

@@ -7,7 +7,7 @@ use Rattle.trace_text.proofs.reader.Reader.read_write.Goals as goal
 
 pub returns-in-None : goal.returns-in-None
 returns-in-None c =
-    write_none c.args.self.now c.args.plan.now c.args.client.now c.args.first.now c.args.many.now c.args.word.now (λ n block count bytes m b k e. inl (and_left _ _ (and_left _ _ (no_blk_client c.args.plan.now n (rw c.blk_clients.ensures at (c.in-None.ensures.none n m))))))
+    write_none c.args.self.now c.args.plan.now c.args.client.now c.args.first.now c.args.many.now c.args.word.now (λ n block count bytes m b k e. inl (and_left _ _ (and_left _ _ (no_blk_client c.args.plan.now n (rw c.blk_client_count.ensures at (c.in-None.ensures.none n m))))))
 
 pub returns-in-None-read_below : goal.returns-in-None-read_below
 returns-in-None-read_below c =
