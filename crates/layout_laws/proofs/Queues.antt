@@ -17,7 +17,7 @@ use Rattle.sdf_model.specs.declared.plan.BlkClient.{BlkClient}
 use Rattle.sdf_check.specs.Names.{region_named}
 use Rattle.sdf_check.specs.Rules.{IsMultiple}
 use Rattle.sdf_check.specs.ClassRules.{SomeOf, IsSmaller, IsCapacity}
-use Rattle.sdf_check.specs.Shares.{round_up, net_queues_size, byte_queue_size, blk_queues_size, net_needs, net_client_needs, serial_needs, serial_client_needs, blk_needs, blk_client_needs}
+use Rattle.sdf_check.specs.Shares.{second_offset, net_queues_size, byte_queue_size, blk_queues_size, net_needs, net_client_needs, serial_needs, serial_client_needs, blk_needs, blk_client_needs}
 use Rattle.sdf_check.specs.Valid.{Valid}
 use Rattle.sdf_check.proofs.SoughtLemmas.{here-some}
 use Rattle.wire_core.specs.declared.names.ActorId.{ActorId}
@@ -54,18 +54,18 @@ only plan key name producer consumer capacity is large =
 
 -- the two of a region
 pair : (plan : Plan) (key first second : List ℕ) (from to : ActorId) (kind back : QueueKind) (capacity : ℕ) → IsCapacity capacity
-    → (IsSmaller plan (key, round_up (64 + entry_size kind * capacity) + (64 + entry_size back * capacity)) → ⊥) → 64 + entry_size kind * capacity ≤ round_up (64 + entry_size kind * capacity) + (64 + entry_size back * capacity)
+    → (IsSmaller plan (key, second_offset (64 + entry_size kind * capacity) + (64 + entry_size back * capacity)) → ⊥) → 64 + entry_size kind * capacity ≤ second_offset (64 + entry_size kind * capacity) + (64 + entry_size back * capacity)
     → All (IsSoundQueue plan) (queue_pair plan key first kind second back from to capacity)
 unfolding queue_pair queue_span
 pair plan key first second from to kind back capacity is large room =
     All-cons (IsSoundQueue plan) (queue_in plan (region_named plan key) 0 first kind from to capacity) (queue_in plan (region_named plan key) (queue_span kind capacity) second back to from capacity ∷ [])
-    (held_queue plan key first from to kind 0 capacity (round_up (64 + entry_size kind * capacity) + (64 + entry_size back * capacity)) is (0, refl)
-    (let fits : 0 + (64 + entry_size kind * capacity) ≤ round_up (64 + entry_size kind * capacity) + (64 + entry_size back * capacity) = omega (arith, room) in fits) large)
+    (held_queue plan key first from to kind 0 capacity (second_offset (64 + entry_size kind * capacity) + (64 + entry_size back * capacity)) is (0, refl)
+    (let fits : 0 + (64 + entry_size kind * capacity) ≤ second_offset (64 + entry_size kind * capacity) + (64 + entry_size back * capacity) = omega (arith, room) in fits) large)
     (All-cons (IsSoundQueue plan) (queue_in plan (region_named plan key) (queue_span kind capacity) second back to from capacity) []
-    (held_queue plan key second to from back (queue_span kind capacity) capacity (round_up (64 + entry_size kind * capacity) + (64 + entry_size back * capacity)) is
+    (held_queue plan key second to from back (queue_span kind capacity) capacity (second_offset (64 + entry_size kind * capacity) + (64 + entry_size back * capacity)) is
     ((64 + entry_size kind * capacity + 63) / 64, refl) (omega arith) large) (All-nil (IsSoundQueue plan)))
 
-room_above : (size rest : ℕ) → size ≤ round_up size + rest
+room_above : (size rest : ℕ) → size ≤ second_offset size + rest
 room_above size rest = omega arith
 
 net_pair : (plan : Plan) (key first second : List ℕ) (from to : ActorId) (capacity : ℕ) → IsCapacity capacity → (IsSmaller plan (key, net_queues_size capacity) → ⊥)

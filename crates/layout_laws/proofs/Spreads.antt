@@ -16,7 +16,7 @@ use Rattle.sdf_model.specs.declared.plan.BlkClient.{BlkClient}
 use Rattle.sdf_check.specs.Names.{region_named, net_regions, net_client_regions, serial_regions, serial_client_regions, blk_regions, blk_client_regions}
 use Rattle.sdf_check.specs.Rules.{Range, Meets, MeetsEarlier}
 use Rattle.sdf_check.specs.ClassRules.{IsSmaller, class_regions, serial_names, blk_names}
-use Rattle.sdf_check.specs.Shares.{round_up, net_queues_size, byte_queue_size, blk_queues_size, net_needs, net_client_needs, serial_needs, serial_client_needs, blk_needs, blk_client_needs}
+use Rattle.sdf_check.specs.Shares.{second_offset, net_queues_size, byte_queue_size, blk_queues_size, net_needs, net_client_needs, serial_needs, serial_client_needs, blk_needs, blk_client_needs}
 use Rattle.sdf_check.specs.Valid.{Valid}
 use Rattle.sdf_check.proofs.ListLemmas.{get-either}
 use Rattle.sdf_check.proofs.SweepLemmas.{some-inj, none-is-some}
@@ -58,7 +58,7 @@ only plan key region name from to capacity queue at large =
     (λ a is. part-held plan key region (byte_queue_size capacity) 0 (64 + 1 * capacity) a at large (omega arith) is)
 
 pair : (plan : Plan) (key : ℕ) (region first second : List ℕ) (from to : ActorId) (kind back : QueueKind) (capacity : ℕ) → NotPool plan key → slice_get (class_regions plan) key ≡ Some region
-    → (IsSmaller plan (region, round_up (64 + entry_size kind * capacity) + (64 + entry_size back * capacity)) → ⊥)
+    → (IsSmaller plan (region, second_offset (64 + entry_size kind * capacity) + (64 + entry_size back * capacity)) → ⊥)
     → QueueSpread plan key (key + 1) (queue_pair plan region first kind second back from to capacity)
 unfolding queue_range queue_in queue_pair queue_span
 pair plan key region first second from to kind back capacity queue at large =
@@ -66,14 +66,14 @@ pair plan key region first second from to kind back capacity queue at large =
     let more = 64 + entry_size back * capacity in
     spread-two plan (queue_range plan) (NotPool plan) key (queue_in plan (region_named plan region) 0 first kind from to capacity)
     (queue_in plan (region_named plan region) (queue_span kind capacity) second back to from capacity) queue
-    (λ a is. part-held plan key region (round_up size + more) 0 size a at large (first-fits size more) is)
-    (λ b is. part-held plan key region (round_up size + more) (round_up size) more b at large (omega arith) is)
-    (λ a b f g m. parts-apart plan (region_named plan region) size (round_up size) more a b (behind size) f g m)
+    (λ a is. part-held plan key region (second_offset size + more) 0 size a at large (first-fits size more) is)
+    (λ b is. part-held plan key region (second_offset size + more) (second_offset size) more b at large (omega arith) is)
+    (λ a b f g m. parts-apart plan (region_named plan region) size (second_offset size) more a b (behind size) f g m)
   where
-    first-fits : (size more : ℕ) → 0 + size ≤ round_up size + more
+    first-fits : (size more : ℕ) → 0 + size ≤ second_offset size + more
     first-fits size more = omega arith
 
-    behind : (size : ℕ) → size ≤ round_up size
+    behind : (size : ℕ) → size ≤ second_offset size
     behind size = omega arith
 
 both : (plan : Plan) (low mid high : ℕ) (xs ys : List QueueRow) → Valid plan → low ≤ mid → mid ≤ high → QueueSpread plan low mid xs → QueueSpread plan mid high ys → QueueSpread plan low high (xs ++ ys)
