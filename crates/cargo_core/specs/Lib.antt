@@ -4,4 +4,5 @@ pub mod Items
 pub mod Lists
 pub mod Loans
 pub mod Pages
+pub mod Ranges
 pub mod Tapes

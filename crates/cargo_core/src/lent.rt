@@ -1,7 +1,7 @@
 //! Pages that are lent to several receivers, until the last of them returns them.
 ghost use Rattle.std.specs.Prelude.{◌≡◌, ◌<◌, ◌≤◌, IfOk, None, Some, length, replicate, slice_get, slice_set};
 ghost use Rattle.cargo_core.specs.Pages.{Paged};
-ghost use Rattle.cargo_core.specs.Loans.{Loan, receivers_at, after_return, page_back};
+ghost use Rattle.cargo_core.specs.Loans.{Loan, receivers_at, after_return, page_back, page_at};
 
 use crate::{Memory, Page};
 use std::alloc::Global;
@@ -52,6 +52,17 @@ impl Lent {
         match self.loans.get(no as usize) {
             Some(Some((_, receivers))) => *receivers,
             _ => 0,
+        }
+    }
+
+    /// The page of a number, which is lent.
+    pub fn page(&self, no: u32) -> &Page
+        requires { 1 ≤ receivers_at self.now no }
+        ensures { result.now ≡ page_at self.now no }
+    {
+        match self.loans.get(no as usize) {
+            Some(Some((page, _))) => page,
+            _ => unreachable!(),
         }
     }
 

@@ -8,6 +8,7 @@ mod item;
 mod lent;
 mod memory;
 mod page;
+mod ranges;
 mod series;
 mod tape;
 mod text;
@@ -21,6 +22,7 @@ pub use item::{
 pub use lent::Lent;
 pub use memory::Memory;
 pub use page::{Lease, Page};
+pub use ranges::{Range, Ranges};
 pub use series::Series;
 pub use tape::Tape;
 pub use text::Text;
@@ -78,6 +80,17 @@ mod tests {
         let mut lent = Lent::new(rt.alloc(), 3)?;
         lent.lend(page, 1);
         assert_eq!(rt; lent.count(2), 1);
+        assert_eq!(rt; lent.page(2).no(), 2);
+        Ok(())
+    }
+
+    #[test]
+    fn an_address_tells_its_client(rt: HostRuntime) -> Result<(), Fail> {
+        let mut ranges = Ranges::new(rt.alloc());
+        ranges.add(0x1000, 0x800)?;
+        assert_eq!(rt; ranges.client_of(0x17ff), Some(0));
+        assert_eq!(rt; ranges.client_of(0x1800), None);
+        assert_eq!(rt; ranges.offset_of(0, 0x17ff), 0x7ff);
         Ok(())
     }
 }

@@ -1,5 +1,4 @@
 use Rattle.std.proofs.Common.{◌≡◌, replicate, None}
-use Rattle.cargo_core.specs.Loans.{Loan}
 use Rattle.cargo_core.proofs.lent.Lent.new.Given as goal
 
 abbrev pub invariant-loop : goal.invariant-loop
