@@ -1,0 +1,10 @@
+pub mod Sums
+pub mod Tables
+pub mod Lists
+pub mod Ends
+pub mod Finding
+pub mod Steps
+pub mod Replays
+pub mod Counting
+pub mod Starts
+pub mod Named

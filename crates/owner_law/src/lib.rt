@@ -1,0 +1,72 @@
+//! The owners of buffers, of whatever class: a journal is replayed on one table, in which each
+//! buffer has its place. What holds of the table at any moment follows from the rows of the actors
+//! and the law of the queues.
+#![tactic(auto)]
+
+ghost use Rattle.std.specs.Prelude.{◌≡◌, ◌+◌, ◌++◌, ℕ, List, [], length, sum_by};
+ghost use Rattle.wire_core.specs.declared.names.QueueRow.{QueueRow};
+ghost use Rattle.wire_core.specs.declared.names.Entry.{Entry};
+ghost use Rattle.wire_core.specs.Journal.{History, Hostiles, EachMoment, start_history};
+ghost use Rattle.wire_core.specs.Marks.{sum_below};
+ghost use Rattle.play_core.specs.Moved.{Moved, moved};
+ghost use Rattle.owner_law.specs.Things.{Naming, things_sent, things_taken};
+ghost use Rattle.owner_law.specs.Owners.{Table, AreCounted, OneOwner, replay, replay_from};
+ghost use Rattle.owner_law.specs.Keeping.{Keeper, came, went, IsShownBy, start_table, AreDealt, IsNaming, IsOwned};
+ghost use Rattle.owner_law.specs.Census.{census, IsPool, buffers_among, buffers_started};
+
+/// The replay of a journal is that of its beginning and then of its rest.
+pub fn replay_law()
+    ensures { (naming : Naming) (history : History) (before : List Entry) (t : Table)
+        (es fs : List Entry)
+        → replay_from naming history before t (es ++ fs)
+        ≡ replay_from naming history (before ++ es) (replay_from naming history before t es) fs }
+{}
+
+/// Where the queues hand over in order and each actor puts only what it had at the start and took,
+/// each move finds its buffer or lease in the place that it leaves, at each moment, and each lent
+/// buffer has as many receivers as there are leases of it. The table stays the one that the lists
+/// of the actors show.
+pub fn owner_law()
+    ensures owners { (naming : Naming) (lender : ℕ) (hostile : Hostiles) (history : History)
+        (rows : List QueueRow) (keepers : List Keeper) (start : Table) (journal : List Entry)
+        → IsOwned naming lender hostile history rows keepers start journal
+        → EachMoment (OneOwner naming history start) journal }
+    ensures shown { (naming : Naming) (lender : ℕ) (hostile : Hostiles) (history : History)
+        (rows : List QueueRow) (keepers : List Keeper) (start : Table) (journal : List Entry)
+        → IsOwned naming lender hostile history rows keepers start journal
+        → EachMoment (λ j. IsShownBy naming lender keepers (moved history j)
+        (replay naming history start j)) journal }
+{}
+
+/// A system that was built starts with a table that its lists show, and in which nothing is lent.
+pub fn start_law()
+    ensures shown { (naming : Naming) (lender : ℕ) (rows : List QueueRow) (keepers : List Keeper)
+        → AreDealt keepers
+        → IsShownBy naming lender keepers (moved (start_history rows) []) (start_table keepers) }
+    ensures counted { (keepers : List Keeper) → AreCounted (start_table keepers) }
+{}
+
+/// The pool lines. The three numbers add up to the pool's size at each moment of any journal, where
+/// each buffer had a place at its start. Those of the queues are what was put there and not taken;
+/// those of hands and lent buffers together are what the actors had at the start and took, and
+/// didn't put.
+pub fn census_law()
+    ensures whole { (naming : Naming) (history : History) (start : Table) (pool buffers : ℕ)
+        → IsPool start pool buffers → (journal : List Entry)
+        → (census (replay naming history start journal) pool buffers).queues
+        + (census (replay naming history start journal) pool buffers).hands
+        + (census (replay naming history start journal) pool buffers).lent ≡ buffers }
+    ensures queues { (naming : Naming) (lender : ℕ) (hostile : Hostiles) (rows : List QueueRow)
+        (keepers : List Keeper) (m : Moved) (t : Table) (pool buffers : ℕ)
+        → IsNaming naming lender hostile rows → IsShownBy naming lender keepers m t
+        → (census t pool buffers).queues
+        + sum_below (λ n. buffers_among pool buffers (things_taken naming m n)) (length rows)
+        ≡ sum_below (λ n. buffers_among pool buffers (things_sent naming m n)) (length rows) }
+    ensures hands { (naming : Naming) (lender : ℕ) (keepers : List Keeper) (m : Moved) (t : Table)
+        (pool buffers : ℕ)
+        → IsShownBy naming lender keepers m t
+        → (census t pool buffers).hands + (census t pool buffers).lent
+        + sum_by (λ p. buffers_among pool buffers (went naming m p.ends)) keepers
+        ≡ sum_by (λ p. buffers_started pool buffers p.hand
+        + buffers_among pool buffers (came naming m p.ends)) keepers }
+{}
