@@ -7,15 +7,15 @@ use Rattle.std.proofs.lemmas.Option.{slice_get-map, none-some}
 use Rattle.cargo_core.specs.declared.item.QueueKind.{QueueKind}
 use Rattle.wire_core.specs.declared.names.ActorId.{ActorId}
 use Rattle.wire_core.specs.declared.names.QueueRow.{QueueRow}
-use Rattle.sdf_model.specs.declared.plan.Plan.{Plan}
-use Rattle.sdf_model.specs.declared.plan.Region.{Region}
-use Rattle.sdf_model.specs.declared.plan.Domain.{Domain}
-use Rattle.sdf_model.specs.declared.plan.Net.{Net}
-use Rattle.sdf_model.specs.declared.plan.NetClient.{NetClient}
-use Rattle.sdf_model.specs.declared.plan.Serial.{Serial}
-use Rattle.sdf_model.specs.declared.plan.SerialClient.{SerialClient}
-use Rattle.sdf_model.specs.declared.plan.Blk.{Blk}
-use Rattle.sdf_model.specs.declared.plan.BlkClient.{BlkClient}
+use Rattle.sdf_plan.specs.declared.plan.Plan.{Plan}
+use Rattle.sdf_plan.specs.declared.plan.Region.{Region}
+use Rattle.sdf_plan.specs.declared.plan.Domain.{Domain}
+use Rattle.sdf_plan.specs.declared.plan.Net.{Net}
+use Rattle.sdf_plan.specs.declared.plan.NetClient.{NetClient}
+use Rattle.sdf_plan.specs.declared.plan.Serial.{Serial}
+use Rattle.sdf_plan.specs.declared.plan.SerialClient.{SerialClient}
+use Rattle.sdf_plan.specs.declared.plan.Blk.{Blk}
+use Rattle.sdf_plan.specs.declared.plan.BlkClient.{BlkClient}
 use Rattle.sdf_check.specs.Names.{region_names, region_named, net_domains, net_client_domains, serial_domains, serial_client_domains, blk_domains, blk_client_domains}
 use Rattle.sdf_check.specs.ClassRules.{AreJoined, IsGranted, HasStranger, class_domains, net_names, serial_names, blk_names}
 use Rattle.sdf_check.specs.Shares.{net_links, net_client_links, serial_links, serial_client_links, blk_links, blk_client_links, net_rights, net_client_rights, serial_rights, serial_client_rights, blk_rights, blk_client_rights}

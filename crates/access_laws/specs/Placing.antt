@@ -1,7 +1,7 @@
 -- Where regions and queues are placed: each at the least place that is free when its turn comes.
 use Rattle.std.specs.Prelude.{◌≡◌, ℕ, ◌+◌, ◌*◌, ◌<◌, ◌≤◌, ◌⊎◌, List, Some, None, slice_get}
 use Rattle.wire_core.specs.declared.names.QueueRow.{QueueRow}
-use Rattle.sdf_model.specs.declared.plan.Region.{Region}
+use Rattle.sdf_plan.specs.declared.plan.Region.{Region}
 use Rattle.sdf_check.specs.Rules.{IsMultiple}
 use Rattle.region_layout.specs.Rows.{entry_size}
 

@@ -4,7 +4,7 @@
 
 ghost use Rattle.std.specs.Prelude.{All};
 ghost use Rattle.std.specs.List.{AllZip};
-ghost use Rattle.sdf_model.specs.declared.plan.Plan.{Plan};
+ghost use Rattle.sdf_plan.specs.declared.plan.Plan.{Plan};
 ghost use Rattle.sdf_check.specs.Valid.{Valid};
 ghost use Rattle.region_layout.specs.Bases.{bases_of};
 ghost use Rattle.region_layout.specs.Rows.{queues_of, pools_of};

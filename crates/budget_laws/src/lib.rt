@@ -3,7 +3,7 @@
 #![tactic(auto)]
 
 ghost use Rattle.std.specs.Prelude.{◌≡◌, length};
-ghost use Rattle.sdf_model.specs.declared.plan.Plan.{Plan};
+ghost use Rattle.sdf_plan.specs.declared.plan.Plan.{Plan};
 ghost use Rattle.trace_text.specs.declared.trace.Trace.{Trace};
 ghost use Rattle.sdf_check.specs.Valid.{Valid};
 ghost use Rattle.region_layout.specs.Rows as Layout;

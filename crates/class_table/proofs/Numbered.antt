@@ -1,7 +1,7 @@
 -- What each client gives with its number: one after another, and the places of all.
 use Rattle.std.proofs.Common.{◌≡◌, ℕ, ◌+◌, ◌<◌, List, [], ◌∷◌, ◌++◌, length, map, drop, get_or, refl, ap, ◌∙◌, subst, append_assoc, drop-cons, add-one}
-use Rattle.sdf_model.specs.declared.place.Place.{Place}
-use Rattle.sdf_model.specs.Places.{places_from}
+use Rattle.sdf_plan.specs.declared.place.Place.{Place}
+use Rattle.sdf_plan.specs.Places.{places_from}
 use Rattle.class_table.specs.declared.uses.ClassElement.{ClassElement}
 use Rattle.class_table.specs.Table.{Element, numbered}
 use Rattle.class_table.specs.Shown.{Shelved, element_shown}

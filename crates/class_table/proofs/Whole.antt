@@ -1,13 +1,14 @@
--- The places of the table are the class part of the walk.
-use Rattle.std.proofs.Common.{◌≡◌, List, [], ◌∷◌, ◌++◌, map, Option, Some, None, length, refl, ap, ◌∙◌}
+-- The places of the table are the class part of the walk, with which it ends.
+use Rattle.std.proofs.Common.{◌≡◌, List, [], ◌∷◌, ◌++◌, map, Option, Some, None, length, refl, sym, ap, ◌∙◌, append_assoc}
 use Rattle.std.specs.Option.{option_map, option_map_or}
-use Rattle.sdf_model.specs.declared.place.Place.{Place}
-use Rattle.sdf_model.specs.declared.place.Place.TheVariants as At
-use Rattle.sdf_model.specs.declared.plan.Plan.{Plan}
-use Rattle.sdf_model.specs.declared.plan.Net.{Net}
-use Rattle.sdf_model.specs.declared.plan.Serial.{Serial}
-use Rattle.sdf_model.specs.declared.plan.Blk.{Blk}
-use Rattle.sdf_model.specs.Places.{class_places}
+use Rattle.sdf_plan.specs.declared.place.Place.{Place}
+use Rattle.sdf_plan.specs.declared.place.Place.TheVariants as At
+use Rattle.sdf_plan.specs.declared.plan.Plan.{Plan}
+use Rattle.sdf_plan.specs.declared.plan.Net.{Net}
+use Rattle.sdf_plan.specs.declared.plan.Serial.{Serial}
+use Rattle.sdf_plan.specs.declared.plan.Blk.{Blk}
+use Rattle.sdf_plan.specs.Places.{walk, places_from, domain_places, channel_places, class_places}
+use Rattle.sdf_plan.specs.Elements.{outline_of}
 use Rattle.class_table.specs.Table.{Element, net_elements, net_client_element, serial_elements, serial_client_element, blk_elements, blk_client_element, table_of, class_part}
 use Rattle.class_table.proofs.Numbered.{numbered-places}
 
@@ -37,3 +38,18 @@ joined xs ys zs a b c one two three =
 pub table_places : (plan : Plan) → places (table_of plan) ≡ class_part plan
 unfolding table_of
 table_places plan = joined _ _ _ _ _ _ (net-places plan.net) (serial-places plan.serial) (blk-places plan.blk)
+
+behind : (x n s b : List Place) → x ++ n ++ s ++ b ≡ x ++ (n ++ s ++ b)
+behind x n s b = append_assoc (x ++ n) s b ∙ append_assoc x n (s ++ b) ∙ ap (λ ps. x ++ ps) (sym (append_assoc n s b))
+
+-- what stands before the classes in the walk
+abbrev before : Plan → List Place
+before plan =
+    At.System ∷ places_from (λ r. At.Region r) 0 (outline_of plan).regions ++ domain_places 0 (outline_of plan).domains ++ channel_places 0 (outline_of plan).channels
+
+pub walk-ends : (plan : Plan) → (before : List Place) × (walk (outline_of plan) ≡ before ++ class_part plan)
+walk-ends plan = (
+  before plan,
+  behind (before plan) (class_places At.Net (λ c. At.NetClient c) (outline_of plan).net) (class_places At.Serial (λ c. At.SerialClient c) (outline_of plan).serial)
+      (class_places At.Blk (λ c. At.BlkClient c) (outline_of plan).blk),
+)

@@ -8,7 +8,7 @@ use crate::role::Role;
 use crate::rows::{across, of_client, plays, queue, queue_behind, whole, writes};
 use crate::uses::{ClassElement, Ends, PoolUse, QueueUse, RoleUse};
 use cargo_core::{Memory, QueueKind, Series};
-use sdf_model::{Blk, BlkClient, Place};
+use sdf_plan::{Blk, BlkClient, Place};
 use std::alloc::Global;
 
 /// The bytes of a block buffer.

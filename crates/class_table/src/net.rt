@@ -1,6 +1,6 @@
 //! The rows of the network class and of its clients.
 ghost use Rattle.std.specs.Prelude.{◌≡◌, ◌∷◌, map, sum_by, IfOk};
-ghost use Rattle.sdf_model.specs.declared.plan.NetClient.{NetClient};
+ghost use Rattle.sdf_plan.specs.declared.plan.NetClient.{NetClient};
 ghost use Rattle.class_table.specs.Rows.{net_roles, net_queues, net_pools, net_client_roles, net_client_queues, net_client_pools, reads, rx_pool, tx_pool};
 ghost use Rattle.class_table.specs.Shown.{role_shown, queue_shown, grant_shown, pool_shown, element_shown};
 ghost use Rattle.class_table.specs.Table.{net_element, net_client_element};
@@ -9,7 +9,7 @@ use crate::role::Role;
 use crate::rows::{across, of_client, plays, queue, queue_behind, reads, whole, writes};
 use crate::uses::{ClassElement, Ends, Grant, PoolUse, QueueUse, RoleUse};
 use cargo_core::{Memory, QueueKind, Series};
-use sdf_model::{Net, NetClient, Place};
+use sdf_plan::{Net, NetClient, Place};
 use std::alloc::Global;
 
 /// The bytes of a network buffer.

@@ -8,7 +8,7 @@ use crate::role::Role;
 use crate::rows::{across, of_client, plays, queue, whole};
 use crate::uses::{ClassElement, Ends, QueueUse, RoleUse};
 use cargo_core::{Memory, QueueKind, Series};
-use sdf_model::{Place, Serial, SerialClient};
+use sdf_plan::{Place, Serial, SerialClient};
 use std::alloc::Global;
 
 fn roles<'a>(alloc: Global, serial: &'a Serial) -> Result<Vec<RoleUse<&'a str>>, Memory>

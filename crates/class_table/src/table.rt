@@ -9,7 +9,7 @@ use crate::net::{net_client_element, net_element};
 use crate::serial::{serial_client_element, serial_element};
 use crate::uses::ClassElement;
 use cargo_core::Memory;
-use sdf_model::{Blk, BlkClient, Net, NetClient, Plan, Serial, SerialClient, number_of};
+use sdf_plan::{Blk, BlkClient, Net, NetClient, Plan, Serial, SerialClient, number_of};
 use std::alloc::Global;
 
 /// The elements of the classes of a plan, in the order of the walk. Their texts are the plan's.

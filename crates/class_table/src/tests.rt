@@ -1,7 +1,7 @@
 //! The table of a plan with the serial class alone, row by row against the tables of queues and pools.
 use super::{Ends, QueueUse, table_of};
 use cargo_core::{QueueKind, Series, Text};
-use sdf_model::{Place, Plan, Serial, SerialClient};
+use sdf_plan::{Place, Plan, Serial, SerialClient};
 use std::alloc::Global;
 use std::process::Abort;
 

@@ -2,7 +2,7 @@
 //! definitions say them as lists of bytes, and the program has them where the plan has them.
 use crate::role::Role;
 use cargo_core::{QueueKind, Series};
-use sdf_model::Place;
+use sdf_plan::Place;
 
 /// The domain of a name, and what it is in its class.
 #[derive(Clone, Copy, Debug)]

@@ -6,8 +6,8 @@ use Rattle.std.proofs.lemmas.List.Quantifiers.{position-Some}
 use Rattle.std.proofs.lemmas.Slice.Eq.{bytes_eq-Decides}
 use Rattle.std.specs.Str.{bytes_eq}
 use Rattle.std.proofs.lemmas.List.{length-map}
-use Rattle.sdf_model.specs.declared.plan.Plan.{Plan}
-use Rattle.sdf_model.specs.declared.plan.Region.{Region}
+use Rattle.sdf_plan.specs.declared.plan.Plan.{Plan}
+use Rattle.sdf_plan.specs.declared.plan.Region.{Region}
 use Rattle.sdf_check.specs.Names.{place_of, region_names, region_named}
 use Rattle.sdf_check.specs.Rules.{the_region}
 use Rattle.sdf_check.specs.ClassRules.{SomeOf, IsSmaller}

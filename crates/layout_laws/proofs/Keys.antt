@@ -1,11 +1,11 @@
 use Rattle.std.proofs.Common.{◌≡◌, ℕ, zero, suc, ◌+◌, ◌*◌, ◌<◌, ◌≤◌, ◌⊎◌, inl, inr, ⊎_elim, List, [], ◌∷◌, ◌++◌, length, flat_map, Some, slice_get, refl, ap, sym, ◌∙◌, subst, arith, length-append}
-use Rattle.sdf_model.specs.declared.plan.Plan.{Plan}
-use Rattle.sdf_model.specs.declared.plan.Net.{Net}
-use Rattle.sdf_model.specs.declared.plan.NetClient.{NetClient}
-use Rattle.sdf_model.specs.declared.plan.Serial.{Serial}
-use Rattle.sdf_model.specs.declared.plan.SerialClient.{SerialClient}
-use Rattle.sdf_model.specs.declared.plan.Blk.{Blk}
-use Rattle.sdf_model.specs.declared.plan.BlkClient.{BlkClient}
+use Rattle.sdf_plan.specs.declared.plan.Plan.{Plan}
+use Rattle.sdf_plan.specs.declared.plan.Net.{Net}
+use Rattle.sdf_plan.specs.declared.plan.NetClient.{NetClient}
+use Rattle.sdf_plan.specs.declared.plan.Serial.{Serial}
+use Rattle.sdf_plan.specs.declared.plan.SerialClient.{SerialClient}
+use Rattle.sdf_plan.specs.declared.plan.Blk.{Blk}
+use Rattle.sdf_plan.specs.declared.plan.BlkClient.{BlkClient}
 use Rattle.sdf_check.specs.Names.{net_regions, net_client_regions, serial_regions, serial_client_regions, blk_regions, blk_client_regions}
 use Rattle.sdf_check.specs.ClassRules.{class_regions, net_names, serial_names, blk_names}
 use Rattle.sdf_check.proofs.ListLemmas.{get-left, get-right}

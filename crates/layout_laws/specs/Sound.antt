@@ -4,8 +4,8 @@ use Rattle.std.specs.Prelude.{◌≡◌, ◌≢◌, ℕ, ◌+◌, ◌*◌, ◌<�
 use Rattle.std.specs.Option.{option_map}
 use Rattle.wire_core.specs.declared.names.QueueRow.{QueueRow}
 use Rattle.wire_core.specs.declared.names.PoolRow.{PoolRow}
-use Rattle.sdf_model.specs.declared.plan.Plan.{Plan}
-use Rattle.sdf_model.specs.declared.plan.Net.{Net}
+use Rattle.sdf_plan.specs.declared.plan.Plan.{Plan}
+use Rattle.sdf_plan.specs.declared.plan.Net.{Net}
 use Rattle.sdf_check.specs.Names.{StandsBefore}
 use Rattle.sdf_check.specs.Rules.{IsMultiple, Range}
 use Rattle.sdf_check.specs.ClassRules.{IsCapacity, IsBufferCount}

@@ -4,8 +4,8 @@
 #![tactic(auto)]
 
 ghost use Rattle.std.specs.Prelude.{◌≡◌, ℕ, All, Some};
-ghost use Rattle.sdf_model.specs.declared.plan.Plan.{Plan};
-ghost use Rattle.sdf_model.specs.declared.plan.Net.{Net};
+ghost use Rattle.sdf_plan.specs.declared.plan.Plan.{Plan};
+ghost use Rattle.sdf_plan.specs.declared.plan.Net.{Net};
 ghost use Rattle.sdf_check.specs.ClassRules.{class_domains, class_regions};
 ghost use Rattle.sdf_check.specs.Rules.{MeetsEarlier};
 ghost use Rattle.sdf_check.specs.Valid.{Valid};

@@ -11,7 +11,8 @@ use cargo_core::Memory;
 use region_layout::lay_out;
 use report_text::{write_accepted, write_layout, write_refused, write_too_long};
 use sdf_check::check;
-use sdf_model::{Plan, SdfFault, TEXT_MOST, read_description};
+use sdf_model::{TEXT_MOST, read_description};
+use sdf_plan::{Plan, SdfFault};
 use std::alloc::{AllocError, Global};
 use std::{fs, io};
 

@@ -1,5 +1,5 @@
 use Rattle.std.proofs.Common.{◌≡◌, ℕ, zero, suc, ◌+◌, ◌<◌, ◌≤◌, ◌⊎◌, inl, inr, max, List, [], ◌∷◌, fold, Option, Some, None, slice_get, refl, sym, arith}
-use Rattle.sdf_model.specs.declared.plan.Region.{Region}
+use Rattle.sdf_plan.specs.declared.plan.Region.{Region}
 use Rattle.region_layout.specs.Bases.{given_end, floor_of, round_up, base_at, free_after, bases_from, bases_of, AreDisjoint, AreGivenApart}
 use Rattle.region_layout.specs.Sizes.{AreSmallRegions}
 

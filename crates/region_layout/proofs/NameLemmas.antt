@@ -3,9 +3,9 @@ use Rattle.std.specs.Prelude.{bytes_eq, position}
 use Rattle.std.specs.List.{position_or_len, prefix_len}
 use Rattle.std.proofs.lemmas.Bool.{cases_lt}
 use Rattle.std.proofs.lemmas.Option.{slice_get_within}
-use Rattle.sdf_model.specs.declared.plan.Plan.{Plan}
-use Rattle.sdf_model.specs.declared.plan.Domain.{Domain}
-use Rattle.sdf_model.specs.declared.plan.Region.{Region}
+use Rattle.sdf_plan.specs.declared.plan.Plan.{Plan}
+use Rattle.sdf_plan.specs.declared.plan.Domain.{Domain}
+use Rattle.sdf_plan.specs.declared.plan.Region.{Region}
 use Rattle.sdf_check.specs.Names.{place_of, region_names_of}
 use Rattle.region_layout.specs.Rows.{acts, name_if, devices_of, actors_of, one_if, acting_count}
 

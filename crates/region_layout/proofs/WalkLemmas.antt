@@ -1,13 +1,13 @@
 use Rattle.std.proofs.Common.{◌≡◌, ℕ, zero, suc, ◌+◌, ◌<◌, ◌≤◌, List, [], ◌∷◌, ◌++◌, length, map, Option, Some, slice_get, refl, ap, sym, ◌∙◌, subst, arith, add-zero, zero-add}
 use Rattle.std.specs.Option.{option_map}
-use Rattle.sdf_model.specs.Places.{Outline, walk, places_from, domain_places, channel_places, class_places}
-use Rattle.sdf_model.specs.declared.place.Place.{Place}
-use Rattle.sdf_model.specs.declared.place.Place.TheVariants as At
-use Rattle.sdf_model.specs.declared.plan.Plan.{Plan}
-use Rattle.sdf_model.specs.declared.plan.Net.{Net}
-use Rattle.sdf_model.specs.declared.plan.Serial.{Serial}
-use Rattle.sdf_model.specs.declared.plan.Blk.{Blk}
-use Rattle.sdf_check.specs.Elements.{outline_of, domain_parts}
+use Rattle.sdf_plan.specs.Places.{Outline, walk, places_from, domain_places, channel_places, class_places}
+use Rattle.sdf_plan.specs.declared.place.Place.{Place}
+use Rattle.sdf_plan.specs.declared.place.Place.TheVariants as At
+use Rattle.sdf_plan.specs.declared.plan.Plan.{Plan}
+use Rattle.sdf_plan.specs.declared.plan.Net.{Net}
+use Rattle.sdf_plan.specs.declared.plan.Serial.{Serial}
+use Rattle.sdf_plan.specs.declared.plan.Blk.{Blk}
+use Rattle.sdf_plan.specs.Elements.{outline_of, domain_parts}
 use Rattle.sdf_check.specs.Valid.{Valid, broken, first_rule, last_rule}
 use Rattle.sdf_check.proofs.ListLemmas.{get-left, get-right}
 use Rattle.region_layout.proofs.NameLemmas.{length_map}

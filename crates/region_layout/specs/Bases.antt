@@ -1,7 +1,7 @@
 -- Where the regions of a plan lie: at their given bases, or in file order behind all given ranges.
 use Rattle.std.specs.Prelude.{◌≡◌, ℕ, ◌+◌, ◌-◌, ◌*◌, ◌/◌, ◌<◌, ◌≤◌, ◌⊎◌, max, if◌then◌else◌, List, [], ◌∷◌, fold, slice_get, Some, is_some, unwrap_or}
 use Rattle.std.specs.Option.{option_map_or}
-use Rattle.sdf_model.specs.declared.plan.Region.{Region}
+use Rattle.sdf_plan.specs.declared.plan.Region.{Region}
 
 -- where the range that a region is given ends; 0 where it is given none
 abbrev pub given_end : Region → ℕ

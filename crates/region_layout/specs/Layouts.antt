@@ -1,5 +1,5 @@
 -- The layout of a plan, as one value.
-use Rattle.sdf_model.specs.declared.plan.Plan.{Plan}
+use Rattle.sdf_plan.specs.declared.plan.Plan.{Plan}
 use Rattle.region_layout.specs.declared.layout.Layout.{Layout}
 use Rattle.region_layout.specs.Bases.{bases_of}
 use Rattle.region_layout.specs.Rows.{queues_of, pools_of, actors_of}

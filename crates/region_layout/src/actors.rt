@@ -5,7 +5,7 @@ ghost use Rattle.region_layout.specs.Bases.{bases_of};
 ghost use Rattle.region_layout.specs.Rows.{acts, actors_of, devices_of, name_if, actor_named, acting_count, one_if, eth_number, uart_number, disk_number};
 
 use cargo_core::{Memory, Series, Text};
-use sdf_model::{Domain, Plan, Region};
+use sdf_plan::{Domain, Plan, Region};
 use std::alloc::Global;
 use wire_core::ActorId;
 

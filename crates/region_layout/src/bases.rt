@@ -4,7 +4,7 @@ ghost use Rattle.region_layout.specs.Bases.{base_at, free_after, bases_of, floor
 ghost use Rattle.region_layout.specs.Sizes.{AreSmallRegions, IsSmallRegion};
 
 use cargo_core::{Memory, Series};
-use sdf_model::Region;
+use sdf_plan::Region;
 use std::alloc::Global;
 
 /// The least address of a region that isn't given one.

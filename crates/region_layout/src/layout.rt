@@ -10,7 +10,7 @@ use crate::bases::bases_of;
 use crate::pools::pools_of;
 use crate::queues::queues_of;
 use cargo_core::{Memory, Series, Text};
-use sdf_model::Plan;
+use sdf_plan::Plan;
 use std::alloc::Global;
 use wire_core::{PoolRow, QueueRow};
 

@@ -6,7 +6,7 @@ ghost use Rattle.region_layout.specs.Sizes.{IsSmallNet, IsSmallNetClient, IsSmal
 
 use crate::actors::Names;
 use cargo_core::{Memory, Series, Text};
-use sdf_model::{Blk, BlkClient, Net, NetClient};
+use sdf_plan::{Blk, BlkClient, Net, NetClient};
 use std::alloc::Global;
 use wire_core::PoolRow;
 

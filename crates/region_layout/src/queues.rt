@@ -8,7 +8,7 @@ ghost use Rattle.region_layout.specs.Sizes.{IsSmallNet, IsSmallNetClient, IsSmal
 use crate::actors::Names;
 use crate::bases::round_up;
 use cargo_core::{Memory, QueueKind, Series, Text};
-use sdf_model::{Blk, BlkClient, Net, NetClient, Serial, SerialClient};
+use sdf_plan::{Blk, BlkClient, Net, NetClient, Serial, SerialClient};
 use std::alloc::Global;
 use wire_core::{ActorId, QueueRow};
 

@@ -1,13 +1,13 @@
 use Rattle.std.proofs.Common.{◌≡◌, ℕ, ◌+◌, ◌*◌, List, [], ◌∷◌, ◌++◌, length, refl, ap, ◌∙◌, arith}
 use Rattle.std.specs.Option.{option_map_or}
 use Rattle.std.proofs.lemmas.List.{length-append}
-use Rattle.sdf_model.specs.declared.plan.Plan.{Plan}
-use Rattle.sdf_model.specs.declared.plan.Net.{Net}
-use Rattle.sdf_model.specs.declared.plan.NetClient.{NetClient}
-use Rattle.sdf_model.specs.declared.plan.Serial.{Serial}
-use Rattle.sdf_model.specs.declared.plan.SerialClient.{SerialClient}
-use Rattle.sdf_model.specs.declared.plan.Blk.{Blk}
-use Rattle.sdf_model.specs.declared.plan.BlkClient.{BlkClient}
+use Rattle.sdf_plan.specs.declared.plan.Plan.{Plan}
+use Rattle.sdf_plan.specs.declared.plan.Net.{Net}
+use Rattle.sdf_plan.specs.declared.plan.NetClient.{NetClient}
+use Rattle.sdf_plan.specs.declared.plan.Serial.{Serial}
+use Rattle.sdf_plan.specs.declared.plan.SerialClient.{SerialClient}
+use Rattle.sdf_plan.specs.declared.plan.Blk.{Blk}
+use Rattle.sdf_plan.specs.declared.plan.BlkClient.{BlkClient}
 use Rattle.region_layout.specs.Rows.{each_client, queue_pair, eth_rx_queues, eth_tx_queues, net_rx_queues, net_tx_queues, lease_queues, client_rx_queues, client_tx_queues, net_client_queues, net_queues, uart_queues, shared_serial_queues, serial_client_queues, serial_queues, disk_queues, shared_blk_queues, blk_client_queues, blk_queues, queues_of}
 
 -- clients of which each gives as many rows

@@ -1,7 +1,7 @@
 use Rattle.std.proofs.Common.{◌≡◌, ℕ, ◌+◌, ◌<◌, ◌≤◌, min, ⊎_elim, List, [], ◌∷◌, ◌++◌, length, drop, slice_get, Some, refl, ap, sym, ◌∙◌, append_assoc, append-nil, arith}
 use Rattle.std.proofs.lemmas.Bool.{cases_lt}
 use Rattle.std.proofs.lemmas.List.{drop_all}
-use Rattle.sdf_model.specs.declared.plan.Region.{Region}
+use Rattle.sdf_plan.specs.declared.plan.Region.{Region}
 use Rattle.report_text.specs.Lines.{text_of}
 use Rattle.report_text.specs.Layouts.{region_line, region_lines}
 use Rattle.report_text.proofs.LineLemmas.{drop_at}

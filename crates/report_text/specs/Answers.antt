@@ -1,8 +1,8 @@
 -- The answers of one line, word by word.
 use Rattle.std.specs.Prelude.{ℕ, List, [], ◌∷◌, ◌++◌, length, codes}
 use Rattle.std.specs.Fmt.{decimal}
-use Rattle.sdf_model.specs.declared.place.Refusal.{Refusal}
-use Rattle.sdf_model.specs.declared.plan.Plan.{Plan}
+use Rattle.sdf_plan.specs.declared.place.Refusal.{Refusal}
+use Rattle.sdf_plan.specs.declared.plan.Plan.{Plan}
 use Rattle.region_layout.specs.Rows.{queues_of}
 use Rattle.report_text.specs.Lines.{text_of}
 use Rattle.report_text.specs.Places.{place_text}

@@ -2,8 +2,8 @@
 use Rattle.std.specs.Prelude.{ℕ, false, Option, Some, None, unwrap_or, List, [], ◌∷◌, ◌++◌, map, slice_get, codes}
 use Rattle.std.specs.Option.{option_map_or}
 use Rattle.std.specs.Fmt.{decimal, digits}
-use Rattle.sdf_model.specs.declared.plan.Plan.{Plan}
-use Rattle.sdf_model.specs.declared.plan.Region.{Region}
+use Rattle.sdf_plan.specs.declared.plan.Plan.{Plan}
+use Rattle.sdf_plan.specs.declared.plan.Region.{Region}
 use Rattle.wire_core.specs.declared.names.QueueRow.{QueueRow}
 use Rattle.wire_core.specs.declared.names.PoolRow.{PoolRow}
 use Rattle.region_layout.specs.declared.layout.Layout.{Layout}

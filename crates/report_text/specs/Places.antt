@@ -1,8 +1,8 @@
 -- How a place in a description prints: its element, with the numbers that lead to it.
 use Rattle.std.specs.Prelude.{ℕ, List, [], ◌++◌, codes}
 use Rattle.std.specs.Fmt.{decimal}
-use Rattle.sdf_model.specs.declared.place.Place.{Place}
-use Rattle.sdf_model.specs.declared.place.Place.TheVariants as At
+use Rattle.sdf_plan.specs.declared.place.Place.{Place}
+use Rattle.sdf_plan.specs.declared.place.Place.TheVariants as At
 
 -- an element of a list: the list's name, the element's number in brackets, and what follows
 abbrev pub numbered : List ℕ → ℕ → List ℕ → List ℕ

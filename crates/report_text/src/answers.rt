@@ -7,7 +7,7 @@ ghost use Rattle.report_text.specs.Answers.{usage_text, accepted_text, refused_t
 
 use crate::write_place;
 use cargo_core::Memory;
-use sdf_model::{Plan, Refusal};
+use sdf_plan::{Plan, Refusal};
 use std::alloc::Global;
 
 /// The line for words that are no command: the place of the first bad word, counted from 0. The

@@ -7,7 +7,7 @@ ghost use Rattle.report_text.specs.Layouts.{name_at, region_name, region_line, r
 
 use cargo_core::{Memory, Text};
 use region_layout::{Layout, PoolRow, QueueRow};
-use sdf_model::{Plan, Region};
+use sdf_plan::{Plan, Region};
 use std::alloc::Global;
 
 // The name at a place of a list; nothing where the list ends before it.

@@ -4,7 +4,7 @@ ghost use Rattle.std.specs.Prelude.{◌≡◌, IfOk, string_bytes};
 ghost use Rattle.report_text.specs.Places.{place_text};
 
 use cargo_core::Memory;
-use sdf_model::Place;
+use sdf_plan::Place;
 use std::alloc::Global;
 
 /// The text of a place in a description, as `protection_domain[2].map[0]`. The spellings are this

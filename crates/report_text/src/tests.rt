@@ -3,7 +3,7 @@
 use super::{write_place, write_report};
 use cargo_core::{BlkResp, BlkStatus, Bytes, Reply, Series, Text};
 use expect_core::{Census, Report};
-use sdf_model::Place;
+use sdf_plan::Place;
 use std::alloc::Global;
 use std::test::Fail;
 

@@ -1,13 +1,13 @@
 use Rattle.std.proofs.Common.{◌≡◌, inl, inr, ◌<◌, ℕ, Some, List, sym, ap, ◌∙◌, subst, arith}
 use Rattle.std.specs.Prelude.{slice_get}
 use Rattle.std.proofs.lemmas.Bool.{cases_lt}
-use Rattle.sdf_model.specs.declared.place.Place.{Place}
-use Rattle.sdf_model.specs.declared.place.Refusal.{Refusal}
-use Rattle.sdf_model.specs.declared.plan.Plan.{Plan}
-use Rattle.sdf_model.specs.Places.{walk, IsFirstBroken, KeepsRules, IsRefusal}
+use Rattle.sdf_plan.specs.declared.place.Place.{Place}
+use Rattle.sdf_plan.specs.declared.place.Refusal.{Refusal}
+use Rattle.sdf_plan.specs.declared.plan.Plan.{Plan}
+use Rattle.sdf_plan.specs.Places.{walk, IsFirstBroken, KeepsRules, IsRefusal}
 use Rattle.sdf_model.specs.Spelled.{plan_of}
 use Rattle.sdf_model.specs.Tree.{places_of, BreaksText}
-use Rattle.sdf_check.specs.Elements.{outline_of}
+use Rattle.sdf_plan.specs.Elements.{outline_of}
 use Rattle.sdf_check.specs.Valid.{IsRefused, broken}
 use Rattle.sddf_top.specs.Judged.{SpellsPlan, IsAccepted, IsRefusedText}
 

@@ -1,8 +1,8 @@
 -- What the words and the texts under their names decide, one constructor a cause.
 use Rattle.std.specs.Prelude.{◌≡◌, ◌⊎◌, ◌<◌, ◌≤◌, ℕ, Some, None, List, length}
-use Rattle.sdf_model.specs.declared.place.Place.{Place}
-use Rattle.sdf_model.specs.declared.place.Refusal.{Refusal}
-use Rattle.sdf_model.specs.declared.plan.Plan.{Plan}
+use Rattle.sdf_plan.specs.declared.place.Place.{Place}
+use Rattle.sdf_plan.specs.declared.place.Refusal.{Refusal}
+use Rattle.sdf_plan.specs.declared.plan.Plan.{Plan}
 use Rattle.trace_text.specs.declared.trace.Trace.{Trace}
 use Rattle.trace_text.specs.Traces.{HasNoBadLine, IsLeastBadLine, trace_of}
 use Rattle.region_layout.specs.Layouts.{layout_of}

@@ -1,9 +1,9 @@
 -- Which descriptions are accepted, and which refused.
 use Rattle.std.specs.Prelude.{◌≡◌, ◌⊎◌, ℕ, List}
 use Rattle.toml.specs.Data.{Members}
-use Rattle.sdf_model.specs.declared.place.Refusal.{Refusal}
-use Rattle.sdf_model.specs.declared.plan.Plan.{Plan}
-use Rattle.sdf_model.specs.Places.{KeepsRules, IsRefusal}
+use Rattle.sdf_plan.specs.declared.place.Refusal.{Refusal}
+use Rattle.sdf_plan.specs.declared.plan.Plan.{Plan}
+use Rattle.sdf_plan.specs.Places.{KeepsRules, IsRefusal}
 use Rattle.sdf_model.specs.Spelled.{plan_of}
 use Rattle.sdf_model.specs.Tree.{IsDocument, places_of, BreaksText}
 use Rattle.sdf_check.specs.Valid.{Valid, IsRefused}

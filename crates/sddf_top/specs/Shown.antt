@@ -1,6 +1,6 @@
 -- What is shown of a play.
 use Rattle.std.specs.Prelude.{ℕ, Bool, true, false, List, ◌++◌, unwrap_or}
-use Rattle.sdf_model.specs.declared.plan.Plan.{Plan}
+use Rattle.sdf_plan.specs.declared.plan.Plan.{Plan}
 use Rattle.trace_text.specs.declared.trace.Trace.{Trace}
 use Rattle.wire_core.specs.declared.names.Entry.{Entry}
 use Rattle.region_layout.specs.declared.layout.Layout.{Layout}

@@ -1,7 +1,7 @@
 //! The answer to the words, one function for each stage: words, description, plan, trace.
 ghost use Rattle.std.specs.Prelude.{◌≡◌, None, Err, IfOk, OnOk, OnErr, ℕ, List, string_bytes};
 ghost use Rattle.cargo_core.specs.declared.memory.Memory.{Memory};
-ghost use Rattle.sdf_model.specs.declared.place.Refusal.{Refusal};
+ghost use Rattle.sdf_plan.specs.declared.place.Refusal.{Refusal};
 ghost use Rattle.region_layout.specs.Layouts.{layout_of};
 ghost use Rattle.report_text.specs.Answers.{accepted_text, bad_trace_text};
 ghost use Rattle.report_text.specs.Layouts.{layout_text};
@@ -24,7 +24,8 @@ use region_layout::lay_out;
 use report_text::{
     write_accepted, write_bad_trace, write_layout, write_refused, write_too_long, write_usage,
 };
-use sdf_model::{Plan, Refusal, SdfFault, TEXT_MOST};
+use sdf_model::TEXT_MOST;
+use sdf_plan::{Plan, Refusal, SdfFault};
 use std::alloc::Global;
 use system_core::unplayed;
 use trace_text::{TraceFault, read_trace};

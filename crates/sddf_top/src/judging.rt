@@ -1,11 +1,12 @@
 //! A description is judged by all rules.
 ghost use Rattle.std.specs.Prelude.{◌≡◌, ◌≤◌, Err, IfOk, length};
-ghost use Rattle.sdf_model.specs.declared.place.Refusal.{Refusal};
+ghost use Rattle.sdf_plan.specs.declared.place.Refusal.{Refusal};
 ghost use Rattle.sdf_model.specs.Counts.{text_most};
 ghost use Rattle.sddf_top.specs.Judged.{IsAccepted, IsRefusedText};
 
 use sdf_check::check;
-use sdf_model::{Plan, SdfFault, read_description};
+use sdf_model::read_description;
+use sdf_plan::{Plan, SdfFault};
 use std::alloc::Global;
 
 /// The plan of a description that breaks no rule. `Refused` has the least rule that is broken and

@@ -14,7 +14,7 @@ use command_words::Options;
 use expect_core::{Report, budget};
 use region_layout::{Layout, lay_out};
 use report_text::{write_journal, write_report};
-use sdf_model::Plan;
+use sdf_plan::Plan;
 use std::alloc::Global;
 use system_core::System;
 use trace_text::Trace;

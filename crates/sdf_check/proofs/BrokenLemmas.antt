@@ -1,7 +1,7 @@
 use Rattle.std.proofs.Common.{◌≡◌, ℕ, ◌<◌, true, false, Bool, nat_lt, arith, inl, inr, ⊎_elim}
 use Rattle.std.specs.Bool.{MatchBool}
-use Rattle.sdf_model.specs.declared.place.Place.{Place}
-use Rattle.sdf_model.specs.declared.plan.Plan.{Plan}
+use Rattle.sdf_plan.specs.declared.place.Place.{Place}
+use Rattle.sdf_plan.specs.declared.plan.Plan.{Plan}
 use Rattle.sdf_check.specs.Priors.{IsPrior, OrPrior}
 use Rattle.sdf_check.specs.Valid.{broken, BreaksPlanRule}
 

@@ -1,4 +1,3 @@
-pub mod WalkLemmas
 pub mod NameLemmas
 pub mod RuleLemmas
 pub mod SweepLemmas

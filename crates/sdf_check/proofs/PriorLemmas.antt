@@ -2,9 +2,9 @@ use Rattle.std.proofs.Common.{◌≡◌, ℕ, zero, suc, ◌+◌, ◌-◌, ◌<�
 use Rattle.std.specs.List.{slice_get}
 use Rattle.std.proofs.lemmas.Bool.{cases_lt}
 use Rattle.std.proofs.lemmas.Option.{slice_get_within}
-use Rattle.sdf_model.specs.Places.{Outline, walk, places_from, domain_places, channel_places, class_places, IsKept, IsFirstBroken}
-use Rattle.sdf_model.specs.declared.place.Place.{Place}
-use Rattle.sdf_model.specs.declared.place.Place.TheVariants as At
+use Rattle.sdf_plan.specs.Places.{Outline, walk, places_from, domain_places, channel_places, class_places, IsKept, IsFirstBroken}
+use Rattle.sdf_plan.specs.declared.place.Place.{Place}
+use Rattle.sdf_plan.specs.declared.place.Place.TheVariants as At
 use Rattle.sdf_check.specs.Priors.{IsPrior, OrPrior}
 use Rattle.sdf_check.proofs.ListLemmas.{get-left, get-right, get-either}
 use Rattle.sdf_check.proofs.SweepLemmas.{some-inj, none-is-some}

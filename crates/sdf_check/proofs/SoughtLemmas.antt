@@ -4,9 +4,9 @@ use Rattle.std.specs.Option.{IsSomeAnd}
 use Rattle.std.proofs.lemmas.Bool.{cases_lt, cases_eq}
 use Rattle.std.proofs.lemmas.Option.{slice_get_within, slice_get-map}
 use Rattle.std.proofs.lemmas.List.{length-map}
-use Rattle.sdf_model.specs.declared.plan.Plan.{Plan}
-use Rattle.sdf_model.specs.declared.plan.Irq.{Irq}
-use Rattle.sdf_model.specs.declared.plan.Domain.{Domain}
+use Rattle.sdf_plan.specs.declared.plan.Plan.{Plan}
+use Rattle.sdf_plan.specs.declared.plan.Irq.{Irq}
+use Rattle.sdf_plan.specs.declared.plan.Domain.{Domain}
 use Rattle.sdf_check.specs.Names.{StandsBefore}
 use Rattle.sdf_check.specs.Rules.{Range, MeetsEarlier, InterruptHas}
 use Rattle.sdf_check.specs.Meetings.{IsFirstMeeting}

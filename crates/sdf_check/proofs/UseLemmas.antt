@@ -5,10 +5,10 @@ use Rattle.std.specs.BTreeMap.{is_at}
 use Rattle.std.proofs.lemmas.Grind.{common_steps}
 use Rattle.std.proofs.lemmas.Bool.{cases_Bool, cases_lt, cases_order}
 use Rattle.std.proofs.lemmas.Option.{slice_get_past, slice_get-get_or}
-use Rattle.sdf_model.specs.declared.plan.Plan.{Plan}
-use Rattle.sdf_model.specs.declared.plan.End.{End}
-use Rattle.sdf_model.specs.declared.plan.Channel.{Channel}
-use Rattle.sdf_check.specs.Elements.{OfEnd, OfChannel}
+use Rattle.sdf_plan.specs.declared.plan.Plan.{Plan}
+use Rattle.sdf_plan.specs.declared.plan.End.{End}
+use Rattle.sdf_plan.specs.declared.plan.Channel.{Channel}
+use Rattle.sdf_plan.specs.Elements.{OfEnd, OfChannel}
 use Rattle.sdf_check.specs.Names.{domain_named}
 use Rattle.sdf_check.specs.Rules.{IsEarlierEnd, EarlierEndHas}
 use Rattle.sdf_check.specs.Uses.{use_cmp, HasUse, UsesUpTo}

@@ -2,22 +2,22 @@
 use Rattle.std.specs.Prelude.{◌≡◌, ◌≢◌, ℕ, ◌+◌, ◌*◌, ◌^◌, ◌<◌, ◌≤◌, ◌⊎◌, Bool, false, List, [], ◌∷◌, ◌++◌, length, map, sum_by, Option, slice_get, codes, IsNone, IsSomeAnd, MatchBool}
 use Rattle.std.specs.List.{flat_map}
 use Rattle.std.specs.Option.{option_map_or, option_and_then}
-use Rattle.sdf_model.specs.declared.plan.Domain.{Domain}
-use Rattle.sdf_model.specs.declared.plan.Map.{Map}
-use Rattle.sdf_model.specs.declared.plan.Channel.{Channel}
+use Rattle.sdf_plan.specs.declared.plan.Domain.{Domain}
+use Rattle.sdf_plan.specs.declared.plan.Map.{Map}
+use Rattle.sdf_plan.specs.declared.plan.Channel.{Channel}
 use Rattle.std.specs.Prelude.{⊤}
 use Rattle.frame_core.specs.Macs.{mac_of}
-use Rattle.sdf_model.specs.declared.place.Place.{Place}
-use Rattle.sdf_model.specs.declared.place.Place.TheVariants as At
-use Rattle.sdf_model.specs.declared.plan.Plan.{Plan}
-use Rattle.sdf_model.specs.declared.plan.Net.{Net}
-use Rattle.sdf_model.specs.declared.plan.NetClient.{NetClient}
-use Rattle.sdf_model.specs.declared.plan.Serial.{Serial}
-use Rattle.sdf_model.specs.declared.plan.SerialClient.{SerialClient}
-use Rattle.sdf_model.specs.declared.plan.Blk.{Blk}
-use Rattle.sdf_model.specs.declared.plan.BlkClient.{BlkClient}
+use Rattle.sdf_plan.specs.declared.place.Place.{Place}
+use Rattle.sdf_plan.specs.declared.place.Place.TheVariants as At
+use Rattle.sdf_plan.specs.declared.plan.Plan.{Plan}
+use Rattle.sdf_plan.specs.declared.plan.Net.{Net}
+use Rattle.sdf_plan.specs.declared.plan.NetClient.{NetClient}
+use Rattle.sdf_plan.specs.declared.plan.Serial.{Serial}
+use Rattle.sdf_plan.specs.declared.plan.SerialClient.{SerialClient}
+use Rattle.sdf_plan.specs.declared.plan.Blk.{Blk}
+use Rattle.sdf_plan.specs.declared.plan.BlkClient.{BlkClient}
 use Rattle.sdf_check.specs.declared.role.Role.{Role}
-use Rattle.sdf_check.specs.Elements.{OfDomain, OfNetClient, OfSerialClient, OfBlkClient}
+use Rattle.sdf_plan.specs.Elements.{OfDomain, OfNetClient, OfSerialClient, OfBlkClient}
 use Rattle.sdf_check.specs.Names.{StandsBefore, domain_named, net_regions, net_client_regions, serial_regions, serial_client_regions, blk_regions, blk_client_regions, net_domains, net_client_domains, serial_domains, serial_client_domains, blk_domains, blk_client_domains}
 use Rattle.sdf_check.specs.Rules.{the_region, count_of}
 use Rattle.sdf_check.specs.Roles.{IsProgramOf, net_roles, net_client_roles, serial_roles, serial_client_roles, blk_roles, blk_client_roles}

@@ -1,7 +1,6 @@
 -- The rules of plans (Rules, ClassRules) and what a valid plan is (Valid); what the rules take from
--- a plan (Elements, Names, Roles, Shares); the others say what the judge finds out and keeps.
+-- a plan (Names, Roles, Shares); the others say what the judge finds out and keeps.
 pub mod ClassRules
-pub mod Elements
 pub mod Lookups
 pub mod Meetings
 pub mod Names
@@ -13,4 +12,3 @@ pub mod Shown
 pub mod Sweeps
 pub mod Uses
 pub mod Valid
-pub mod Walks

@@ -2,9 +2,9 @@
 -- only the first element that breaks a rule, the answer for a later one may be of that.
 use Rattle.std.specs.Prelude.{◌≡◌, ℕ, ◌<◌, ◌⊎◌, length}
 use Rattle.std.specs.BTreeMap.{get}
-use Rattle.sdf_model.specs.declared.place.Place.{Place}
-use Rattle.sdf_model.specs.declared.place.Place.TheVariants as At
-use Rattle.sdf_model.specs.declared.plan.Plan.{Plan}
+use Rattle.sdf_plan.specs.declared.place.Place.{Place}
+use Rattle.sdf_plan.specs.declared.place.Place.TheVariants as At
+use Rattle.sdf_plan.specs.declared.plan.Plan.{Plan}
 use Rattle.sdf_check.specs.declared.judge.Tables.{Tables}
 use Rattle.std.specs.Prelude.{◌+◌}
 use Rattle.sdf_check.specs.Lookups.{FindsPlaces}

@@ -1,13 +1,13 @@
 -- The rules on any system: names, numbers, ranges, permissions, ids and ends of channels.
 use Rattle.std.specs.Prelude.{◌≡◌, ◌≢◌, ℕ, ◌+◌, ◌*◌, ◌^◌, ◌<◌, ◌≤◌, ◌==◌, ◌⊎◌, List, [], ◌∷◌, length, map, count_by, Option, Some, slice_get, codes, IsNone, IsSomeAnd}
 use Rattle.std.specs.Option.{option_map, option_and_then}
-use Rattle.sdf_model.specs.declared.place.Place.{Place}
-use Rattle.sdf_model.specs.declared.place.Place.TheVariants as At
-use Rattle.sdf_model.specs.declared.plan.Plan.{Plan}
-use Rattle.sdf_model.specs.declared.plan.Region.{Region}
-use Rattle.sdf_model.specs.declared.plan.Map.{Map}
-use Rattle.sdf_model.specs.declared.plan.Irq.{Irq}
-use Rattle.sdf_check.specs.Elements.{OfRegion, OfDomain, OfMap, OfIrq, OfEnd, OfNetClient, OfSerialClient, OfBlkClient}
+use Rattle.sdf_plan.specs.declared.place.Place.{Place}
+use Rattle.sdf_plan.specs.declared.place.Place.TheVariants as At
+use Rattle.sdf_plan.specs.declared.plan.Plan.{Plan}
+use Rattle.sdf_plan.specs.declared.plan.Region.{Region}
+use Rattle.sdf_plan.specs.declared.plan.Map.{Map}
+use Rattle.sdf_plan.specs.declared.plan.Irq.{Irq}
+use Rattle.sdf_plan.specs.Elements.{OfRegion, OfDomain, OfMap, OfIrq, OfEnd, OfNetClient, OfSerialClient, OfBlkClient}
 use Rattle.sdf_check.specs.Names.{StandsBefore, region_names, domain_names, region_named, domain_named, net_regions, net_client_regions, serial_regions, serial_client_regions, blk_regions, blk_client_regions, net_domains, net_client_domains, serial_domains, serial_client_domains, blk_domains, blk_client_domains}
 
 -- rule 5: a region has the name of an earlier region, or a domain that of an earlier domain

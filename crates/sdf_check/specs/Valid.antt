@@ -1,12 +1,12 @@
 -- What a valid plan is, and the refusal of one that isn't: the rules by their numbers.
 use Rattle.std.specs.Prelude.{ℕ, ◌==◌, nat_lt, MatchBool, ⊤, Result, Ok, Err}
-use Rattle.sdf_model.specs.Places.{walk, KeepsRules, IsRefusal}
-use Rattle.sdf_model.specs.declared.place.Place.{Place}
-use Rattle.sdf_model.specs.declared.place.Refusal.{Refusal}
-use Rattle.sdf_model.specs.declared.place.SdfFault.{SdfFault}
-use Rattle.sdf_model.specs.declared.place.SdfFault.TheVariants as Fault
-use Rattle.sdf_model.specs.declared.plan.Plan.{Plan}
-use Rattle.sdf_check.specs.Elements.{outline_of}
+use Rattle.sdf_plan.specs.Places.{walk, KeepsRules, IsRefusal}
+use Rattle.sdf_plan.specs.declared.place.Place.{Place}
+use Rattle.sdf_plan.specs.declared.place.Refusal.{Refusal}
+use Rattle.sdf_plan.specs.declared.place.SdfFault.{SdfFault}
+use Rattle.sdf_plan.specs.declared.place.SdfFault.TheVariants as Fault
+use Rattle.sdf_plan.specs.declared.plan.Plan.{Plan}
+use Rattle.sdf_plan.specs.Elements.{outline_of}
 use Rattle.sdf_check.specs.ClassRules.{HasWrongRole, MissesChannel, MissesRight, SharesRegion, HasBadCapacity, HasLowCapacity, HasSmallRegion, HasBadMac, HasBadPartition, IsPastLimit}
 use Rattle.sdf_check.specs.Rules.{TakesName, IsPastLastDomain, HasPriorityTooHigh, HasPeriodTooShort, HasBadSize, HasBadPageSize, HasBadPhysAddr, MeetsGivenRange, NamesNoRegion, HasBadVaddr, MeetsMap, HasBadPerms, NamesNoDomain, HasIdTooHigh, TakesId, JoinsOneDomain}
 

@@ -1,8 +1,8 @@
 //! The questions that the rules on classes share: of roles, channels, maps, strangers and sizes.
 ghost use Rattle.std.specs.Prelude.{◌≡◌, ◌↔◌, ◌<◌, ◌+◌, ◌^◌, ◌++◌, ℕ, false, List, Bool, map, length, IsTrue, Some, None, MatchOption};
 ghost use Rattle.sdf_check.specs.Names.{StandsBefore};
-ghost use Rattle.sdf_model.specs.declared.plan.Map.{Map};
-ghost use Rattle.sdf_model.specs.declared.plan.NetClient.{NetClient};
+ghost use Rattle.sdf_plan.specs.declared.plan.Map.{Map};
+ghost use Rattle.sdf_plan.specs.declared.plan.NetClient.{NetClient};
 ghost use Rattle.sdf_check.specs.Lookups.{FindsPlaces, shown};
 ghost use Rattle.sdf_check.specs.ClassRules.{SomeOf, RepeatsName, the_domain, Plays, Joins, AreJoined, HasInterrupt, Grants, IsGranted, IsStranger, HasStranger, IsSmaller};
 ghost use Rattle.sdf_check.specs.Shown.{shown_role, shown_link, shown_right, shown_need};
@@ -12,7 +12,7 @@ use crate::names::{Places, place_of};
 use crate::role::{Role, is_program_of};
 use crate::sizes::allow_use;
 use cargo_core::Text;
-use sdf_model::{Channel, Domain, Map, NetClient};
+use sdf_plan::{Channel, Domain, Map, NetClient};
 
 /// The domain that has a name.
 fn the_domain<'b>(judge: &'b Judge<'_>, name: &Text) -> Option<&'b Domain>

@@ -1,15 +1,15 @@
 //! The rules on what tells clients apart: their MAC addresses and their partitions.
 ghost use Rattle.std.specs.Prelude.{◌≡◌, ◌↔◌, ◌<◌, Some, map, IsTrue};
 ghost use Rattle.frame_core.specs.Macs.{mac_of};
-ghost use Rattle.sdf_model.specs.declared.plan.NetClient.{NetClient};
-ghost use Rattle.sdf_model.specs.declared.plan.BlkClient.{BlkClient};
+ghost use Rattle.sdf_plan.specs.declared.plan.NetClient.{NetClient};
+ghost use Rattle.sdf_plan.specs.declared.plan.BlkClient.{BlkClient};
 ghost use Rattle.sdf_check.specs.Names.{StandsBefore};
 ghost use Rattle.sdf_check.specs.ClassRules.{HasBadMac, HasBadPartition};
 
 use crate::judge::{Judge, at};
 use cargo_core::Series;
 use frame_core::{Mac, read_mac};
-use sdf_model::{BlkClient, NetClient, Place};
+use sdf_plan::{BlkClient, NetClient, Place};
 
 fn same_mac(first: Mac, second: Mac) -> bool
     ensures { IsTrue result ↔ (first ≡ second) }

@@ -13,7 +13,7 @@ use crate::class::{
 use crate::judge::{Judge, Tables, at};
 use crate::keys::Keys;
 use crate::role::Role;
-use sdf_model::{Blk, BlkClient, Net, NetClient, Place, Serial, SerialClient};
+use sdf_plan::{Blk, BlkClient, Net, NetClient, Place, Serial, SerialClient};
 
 /// Whether a domain has no role, or an element gives a role wrongly.
 pub fn has_wrong_role(judge: &Judge<'_>, tables: &Tables<'_>, place: Place) -> bool

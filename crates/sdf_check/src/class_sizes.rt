@@ -1,7 +1,7 @@
 //! The rules on the numbers of a class: capacities, sizes of regions, and counts.
 ghost use Rattle.std.specs.Prelude.{◌↔◌, IsTrue};
 ghost use Rattle.std.specs.Prelude.{◌<◌, sum_by};
-ghost use Rattle.sdf_model.specs.declared.plan.NetClient.{NetClient};
+ghost use Rattle.sdf_plan.specs.declared.plan.NetClient.{NetClient};
 ghost use Rattle.sdf_check.specs.ClassRules.{HasBadCapacity, HasLowCapacity, HasSmallRegion, IsPastLimit};
 
 use crate::class::lacks_room;
@@ -10,7 +10,7 @@ use crate::sizes::{
     blk_queues_size, byte_queue_size, is_below_buffers, is_buffer_count, is_capacity,
     is_client_count, net_queues_size,
 };
-use sdf_model::{Net, Place};
+use sdf_plan::{Net, Place};
 
 /// Whether a capacity is no power of two from 1 to 32,768.
 pub fn has_bad_capacity(judge: &Judge<'_>, place: Place) -> bool

@@ -10,7 +10,7 @@ use crate::names::{Places, place_of};
 use crate::numbers::{are_permissions, ends_above, is_multiple, is_page_size};
 use crate::uses::Uses;
 use cargo_core::{Series, Text};
-use sdf_model::{Place, Plan, Region};
+use sdf_plan::{Place, Plan, Region};
 
 /// What is found out once about the ranges and the ids of a plan.
 #[derive(Drop)]

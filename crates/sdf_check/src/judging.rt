@@ -1,8 +1,8 @@
 //! Judging a plan: the least rule that is broken, and the first element that breaks it.
 ghost use Rattle.std.specs.Prelude.{◌≡◌, ◌↔◌, ℕ, MatchOption, MatchResult, IsTrue, Ok, IfOk, OnOk};
 ghost use Rattle.std.specs.BTreeMap.{get};
-ghost use Rattle.sdf_model.specs.Places.{walk, IsKept, IsFirstBroken};
-ghost use Rattle.sdf_check.specs.Elements.{outline_of};
+ghost use Rattle.sdf_plan.specs.Places.{walk, IsKept, IsFirstBroken};
+ghost use Rattle.sdf_plan.specs.Elements.{outline_of};
 ghost use Rattle.sdf_check.specs.Priors.{OrPrior, AreTables};
 ghost use Rattle.sdf_check.specs.Valid.{Valid, IsRefused, IfRefused, broken, BreaksPlanRule, BreaksClassRule};
 
@@ -12,12 +12,11 @@ use crate::class_sizes::{has_bad_capacity, has_low_capacity, has_small_region, i
 use crate::judge::{Judge, Tables};
 use crate::keys::{domain_keys, region_keys};
 use crate::names::{domains_by_name, regions_by_name};
-use crate::places::places_of;
 use crate::sought::{meets_given_range, meets_map, takes_id};
 use crate::tables::{first_given, first_maps};
 use crate::uses::uses_of;
 use cargo_core::{Memory, Series};
-use sdf_model::{Place, Plan, Refusal, SdfFault};
+use sdf_plan::{Place, Plan, Refusal, SdfFault, places_of};
 use std::alloc::Global;
 
 /// The first rule that a plan is judged by; the reader of descriptions judges those before.

@@ -8,7 +8,7 @@ ghost use Rattle.sdf_check.specs.Lookups.{shown};
 
 use crate::names::{Places, places_by_name};
 use cargo_core::Memory;
-use sdf_model::{Blk, Net, Plan, Serial};
+use sdf_plan::{Blk, Net, Plan, Serial};
 use std::alloc::Global;
 
 /// The names that class elements have at their keys, in the order of the walk: for each name its first key, counted

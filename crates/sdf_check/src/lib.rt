@@ -10,7 +10,6 @@ mod judging;
 mod keys;
 mod names;
 mod numbers;
-mod places;
 mod role;
 mod sizes;
 mod sought;

@@ -4,7 +4,7 @@ ghost use Rattle.sdf_check.specs.Lookups.{FindsPlaces, shown};
 ghost use Rattle.sdf_check.specs.Names.{place_of, region_names_of, domain_names_of};
 
 use cargo_core::Memory;
-use sdf_model::{Domain, Region};
+use sdf_plan::{Domain, Region};
 use std::alloc::Global;
 use std::collections::BTreeMap;
 

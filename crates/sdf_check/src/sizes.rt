@@ -1,11 +1,11 @@
 //! What queues take of a region, and which capacities, counts and permissions a class may have.
 ghost use Rattle.std.specs.Prelude.{◌≡◌, ◌↔◌, ◌<◌, ◌≤◌, ◌+◌, ◌^◌, IsTrue, sum_by, length};
-ghost use Rattle.sdf_model.specs.declared.plan.NetClient.{NetClient};
+ghost use Rattle.sdf_plan.specs.declared.plan.NetClient.{NetClient};
 ghost use Rattle.sdf_check.specs.ClassRules.{IsCapacity, IsClientCount, IsBufferCount, AllowUse};
 ghost use Rattle.sdf_check.specs.Shares.{second_offset, net_queues_size, byte_queue_size, blk_queues_size};
 
 use crate::numbers::count_of;
-use sdf_model::NetClient;
+use sdf_plan::NetClient;
 
 // The next multiple of 64.
 fn second_offset(bytes: u128) -> u128

@@ -1,7 +1,7 @@
 //! The rules on ranges and ids, answered from tables, so that no range and no end is held against
 //! all before it.
 ghost use Rattle.std.specs.Prelude.{◌≡◌, ◌↔◌, ℕ, List, map, length, ◌≤◌, IsTrue, Some, None, IsSomeAnd};
-ghost use Rattle.sdf_model.specs.declared.plan.Irq.{Irq};
+ghost use Rattle.sdf_plan.specs.declared.plan.Irq.{Irq};
 ghost use Rattle.std.specs.BTreeMap.{get};
 ghost use Rattle.sdf_check.specs.Uses.{use_cmp, UsesUpTo};
 ghost use Rattle.sdf_check.specs.Names.{StandsBefore};
@@ -12,7 +12,7 @@ use crate::judge::{Judge, Tables, at, nth};
 use crate::names::place_of;
 use crate::uses::{Uses, is_used_before};
 use cargo_core::Series;
-use sdf_model::{Irq, Place};
+use sdf_plan::{Irq, Place};
 
 // Whether the first place that was found is this one or before it.
 fn is_reached(first: Option<usize>, number: u32) -> bool

@@ -1,7 +1,7 @@
 //! What is found out once about the ranges of a plan: the first that meet earlier ones.
 ghost use Rattle.std.specs.Prelude.{◌≡◌, ℕ, map, IfOk, Some, slice_get, length, IsSomeAnd};
 ghost use Rattle.std.specs.BTreeMap.{get};
-ghost use Rattle.sdf_model.specs.declared.plan.Domain.{Domain};
+ghost use Rattle.sdf_plan.specs.declared.plan.Domain.{Domain};
 ghost use Rattle.sdf_check.specs.Rules.{given_range, map_range};
 ghost use Rattle.sdf_check.specs.Meetings.{IsFirstMeeting, AreFirstMaps};
 
@@ -9,7 +9,7 @@ use crate::judge::Judge;
 use crate::sweep::{Span, first_meeting};
 use crate::uses::{Uses, uses_of};
 use cargo_core::Memory;
-use sdf_model::{Domain, Map, Region};
+use sdf_plan::{Domain, Map, Region};
 use std::alloc::Global;
 
 fn given_range(region: &Region) -> Option<Span>

@@ -1,8 +1,8 @@
 //! The table of uses: for each domain and id, the first end of a channel that has them.
 ghost use Rattle.std.specs.Prelude.{◌≡◌, ◌+◌, ◌<◌, ◌↔◌, ℕ, IsTrue, Some, None, Option, MatchOption, IfOk, OnOk, length};
 ghost use Rattle.std.specs.BTreeMap.{get};
-ghost use Rattle.sdf_model.specs.declared.plan.Plan.{Plan};
-ghost use Rattle.sdf_check.specs.Elements.{OfEnd, OfChannel};
+ghost use Rattle.sdf_plan.specs.declared.plan.Plan.{Plan};
+ghost use Rattle.sdf_plan.specs.Elements.{OfEnd, OfChannel};
 ghost use Rattle.sdf_check.specs.Lookups.{FindsPlaces};
 ghost use Rattle.sdf_check.specs.Names.{domain_names};
 ghost use Rattle.sdf_check.specs.Rules.{EarlierEndHas, IsEarlierEnd};
@@ -10,7 +10,7 @@ ghost use Rattle.sdf_check.specs.Uses.{use_cmp, UsesUpTo};
 
 use crate::names::{Places, place_of};
 use cargo_core::Memory;
-use sdf_model::{Channel, End, Plan};
+use sdf_plan::{Channel, End, Plan};
 use std::alloc::Global;
 use std::collections::BTreeMap;
 

@@ -2,9 +2,9 @@ use Rattle.std.proofs.Common.{◌≡◌, ℕ, zero, suc, ◌+◌, ◌<◌, Bool,
 use Rattle.std.specs.List.{slice_get}
 use Rattle.std.proofs.lemmas.Option.{same_Some}
 use Rattle.toml.specs.Data.{Members}
-use Rattle.sdf_model.specs.declared.place.Place.{Place}
-use Rattle.sdf_model.specs.declared.place.Place.TheVariants as At
-use Rattle.sdf_model.specs.Places.{places_from, domain_places, channel_places, class_places, walk}
+use Rattle.sdf_plan.specs.declared.place.Place.{Place}
+use Rattle.sdf_plan.specs.declared.place.Place.TheVariants as At
+use Rattle.sdf_plan.specs.Places.{places_from, domain_places, channel_places, class_places, walk}
 use Rattle.sdf_model.specs.Tree.{tables_at, table_at, part_at, element_at, outline_of}
 use Rattle.sdf_model.specs.Elements.{Seen, nth, parts, domain_parts, channel_parts, class_parts, elements_of}
 

@@ -3,12 +3,12 @@ use Rattle.std.specs.List.{slice_get, find}
 use Rattle.std.proofs.lemmas.Option.{same_Some}
 use Rattle.toml.specs.Data.{Members}
 use Rattle.toml.specs.Parse.{parse_document}
-use Rattle.sdf_model.specs.declared.place.Place.{Place}
-use Rattle.sdf_model.specs.declared.place.Place.TheVariants as At
-use Rattle.sdf_model.specs.declared.place.Refusal.{Refusal}
-use Rattle.sdf_model.specs.declared.place.SdfFault.{SdfFault}
-use Rattle.sdf_model.specs.declared.place.SdfFault.TheVariants as Fault
-use Rattle.sdf_model.specs.Places.{walk, IsKept, IsFirstBroken, KeepsRules, IsRefusal}
+use Rattle.sdf_plan.specs.declared.place.Place.{Place}
+use Rattle.sdf_plan.specs.declared.place.Place.TheVariants as At
+use Rattle.sdf_plan.specs.declared.place.Refusal.{Refusal}
+use Rattle.sdf_plan.specs.declared.place.SdfFault.{SdfFault}
+use Rattle.sdf_plan.specs.declared.place.SdfFault.TheVariants as Fault
+use Rattle.sdf_plan.specs.Places.{walk, IsKept, IsFirstBroken, KeepsRules, IsRefusal}
 use Rattle.sdf_model.specs.Keys.{breaks_with, keys_at}
 use Rattle.sdf_model.specs.Tree.{element_at, outline_of, IsDocument, places_of, places_in, breaks, IsNoDocument, BreaksText, IfRefused}
 use Rattle.sdf_model.specs.Elements.{Seen, elements_of, first_broken, Judged}

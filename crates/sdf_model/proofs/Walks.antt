@@ -3,7 +3,7 @@ use Rattle.std.proofs.lemmas.List.{drop-map, drop_more}
 use Rattle.toml.specs.declared.value.Value.{Value}
 use Rattle.toml.specs.Data.{Members}
 use Rattle.toml.specs.View.{table_view}
-use Rattle.sdf_model.specs.declared.place.Place.{Place}
+use Rattle.sdf_plan.specs.declared.place.Place.{Place}
 use Rattle.sdf_model.specs.declared.element.Element.{Element}
 use Rattle.sdf_model.specs.Elements.{Seen, seen}
 

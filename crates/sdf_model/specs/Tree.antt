@@ -4,13 +4,13 @@ use Rattle.std.specs.Str.{IsUtf8}
 use Rattle.toml.specs.Data.{Data, Items, Members, get_member, as_array, as_table}
 use Rattle.toml.specs.Text.{are_tables}
 use Rattle.toml.specs.Parse.{parse_document}
-use Rattle.sdf_model.specs.declared.place.Place.{Place}
-use Rattle.sdf_model.specs.declared.place.Place.TheVariants as At
-use Rattle.sdf_model.specs.declared.place.Refusal.{Refusal}
-use Rattle.sdf_model.specs.declared.place.SdfFault.{SdfFault}
-use Rattle.sdf_model.specs.declared.place.SdfFault.TheVariants as Fault
+use Rattle.sdf_plan.specs.declared.place.Place.{Place}
+use Rattle.sdf_plan.specs.declared.place.Place.TheVariants as At
+use Rattle.sdf_plan.specs.declared.place.Refusal.{Refusal}
+use Rattle.sdf_plan.specs.declared.place.SdfFault.{SdfFault}
+use Rattle.sdf_plan.specs.declared.place.SdfFault.TheVariants as Fault
 use Rattle.sdf_model.specs.Keys.{tables_of, keys_at, breaks_with}
-use Rattle.sdf_model.specs.Places.{Outline, walk}
+use Rattle.sdf_plan.specs.Places.{Outline, walk}
 
 -- the elements of a list: its tables, where it holds nothing else
 abbrev pub tables_in : Option Items → List Members

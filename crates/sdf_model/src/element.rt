@@ -5,9 +5,9 @@ ghost use Rattle.sdf_model.specs.Tree.{tables_at};
 ghost use Rattle.sdf_model.specs.Counts.{elements_of_members, elements_of_tables};
 ghost use Rattle.sdf_model.specs.Elements.{seen, nth, parts, domain_parts, channel_parts, class_parts, elements_of};
 
-use crate::place::Place;
 use crate::tree::{table_at, tables_at};
 use cargo_core::Memory;
+use sdf_plan::Place;
 use std::alloc::Global;
 use toml::Table;
 
@@ -162,25 +162,6 @@ fn add_parts<'a>(
         })?;
     }
     Ok(())
-}
-
-/// The number of an element of a plan in its list. Past 2^32 elements, which no description has,
-/// there is none, and memory is asked for that no allocator gives.
-pub fn number_of(alloc: Global, at: usize) -> Result<u32, Memory>
-    ensures { IfOk result (λ n. n ≡ at) }
-{
-    match u32::try_from(at) {
-        Ok(number) => Ok(number),
-        Err(_) => Err(past_all_memory(alloc)),
-    }
-}
-
-/// What the allocator answers when it is asked for more than there are addresses.
-fn past_all_memory(alloc: Global) -> Memory {
-    match Vec::<u8>::with_capacity(alloc, usize::MAX) {
-        Ok(_) => unreachable!(),
-        Err(refused) => Memory::from(refused),
-    }
 }
 
 /// The place of the element with a number, in the list in which the given place is.

@@ -1,4 +1,4 @@
-//! System descriptions: their parts, and how a text is read into them.
+//! System descriptions: how a text is read into a plan.
 #![tactic(auto)]
 
 mod element;
@@ -6,18 +6,10 @@ mod field;
 mod key;
 mod kind;
 mod part;
-mod place;
-mod plan;
 mod read;
 mod rules;
 mod tree;
 
-pub use element::number_of;
-pub use place::{Place, Refusal, SdfFault};
-pub use plan::{
-    Blk, BlkClient, Channel, Domain, End, Irq, Map, Net, NetClient, Plan, Region, Serial,
-    SerialClient,
-};
 pub use read::{TEXT_MOST, read_description};
 
 #[cfg(test)]

@@ -3,11 +3,11 @@ ghost use Rattle.sdf_model.specs.Spelled.{plan_of, region_of, domain_of, map_of,
 
 use crate::field::{Field, Part, four, three, two};
 use crate::key;
-use crate::plan::{
+use cargo_core::Memory;
+use sdf_plan::{
     Blk, BlkClient, Channel, Domain, End, Irq, Map, Net, NetClient, Plan, Region, Serial,
     SerialClient,
 };
-use cargo_core::Memory;
 use std::alloc::Global;
 use toml::Table;
 

@@ -1,7 +1,7 @@
 ghost use Rattle.std.specs.Prelude.{◌≡◌, ◌<◌, ◌≤◌, ◌^◌, ℕ, length, None, Some, IfOk, IfErr};
 ghost use Rattle.toml.specs.Data.{Members};
 ghost use Rattle.toml.specs.View.{table_view};
-ghost use Rattle.sdf_model.specs.Places.{KeepsRules, IsRefusal};
+ghost use Rattle.sdf_plan.specs.Places.{KeepsRules, IsRefusal};
 ghost use Rattle.sdf_model.specs.Spelled.{plan_of};
 ghost use Rattle.sdf_model.specs.Tree.{IsDocument, BreaksText, places_of, IfRefused};
 ghost use Rattle.sdf_model.specs.Counts.{text_most, elements_of_members};
@@ -9,10 +9,9 @@ ghost use Rattle.sdf_model.specs.Elements.{Judged, elements_of, first_broken};
 
 use crate::element::elements;
 use crate::field::Part;
-use crate::place::{Place, Refusal, SdfFault};
-use crate::plan::Plan;
 use crate::rules::judge;
 use cargo_core::Memory;
+use sdf_plan::{Place, Plan, Refusal, SdfFault};
 use std::alloc::Global;
 use toml::Table;
 

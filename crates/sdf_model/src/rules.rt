@@ -11,8 +11,8 @@ ghost use Rattle.sdf_model.specs.Elements.{seen, first_broken, Judged};
 use crate::element::Element;
 use crate::key::{self, Absent, Key};
 use crate::kind::is_kind;
-use crate::place::{Place, Refusal};
 use crate::tree::value_at;
+use sdf_plan::{Place, Refusal};
 use toml::Table;
 
 /// Judges the rules that are read on one element, each only where those before it are kept.

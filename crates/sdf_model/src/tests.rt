@@ -1,6 +1,5 @@
-use super::{
-    Blk, Channel, Domain, Net, Place, Plan, Refusal, SdfFault, Serial, TEXT_MOST, read_description,
-};
+use super::{TEXT_MOST, read_description};
+use sdf_plan::{Blk, Channel, Domain, Net, Place, Plan, Refusal, SdfFault, Serial};
 use std::alloc::Global;
 use std::process::Abort;
 

@@ -4,7 +4,7 @@ use Rattle.std.proofs.lemmas.Bool.{cases_lt}
 use Rattle.std.proofs.lemmas.Option.{slice_get-get_or}
 use Rattle.std.proofs.lemmas.List.Quantifiers.{position-Some}
 use Rattle.std.proofs.lemmas.Slice.Eq.{bytes_eq-Decides}
-use Rattle.sdf_model.specs.declared.plan.Domain.{Domain}
+use Rattle.sdf_plan.specs.declared.plan.Domain.{Domain}
 use Rattle.sdf_check.specs.Names.{place_of}
 use Rattle.sdf_check.proofs.ListLemmas.{get-left}
 use Rattle.sdf_check.proofs.RuleLemmas.{position-None}

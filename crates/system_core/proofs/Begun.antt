@@ -3,9 +3,9 @@ use Rattle.std.specs.Option.{option_map, option_map_or}
 use Rattle.std.proofs.lemmas.List.{length-map}
 use Rattle.std.proofs.lemmas.Nat.{pow_pos}
 use Rattle.cargo_core.specs.Lists.{IsPrefix}
-use Rattle.sdf_model.specs.declared.plan.Plan.{Plan}
-use Rattle.sdf_model.specs.declared.plan.Serial.{Serial}
-use Rattle.sdf_model.specs.declared.plan.SerialClient.{SerialClient as Client}
+use Rattle.sdf_plan.specs.declared.plan.Plan.{Plan}
+use Rattle.sdf_plan.specs.declared.plan.Serial.{Serial}
+use Rattle.sdf_plan.specs.declared.plan.SerialClient.{SerialClient as Client}
 use Rattle.wire_core.specs.declared.names.QueueRow.{QueueRow}
 use Rattle.wire_core.specs.Ends.{Role}
 use Rattle.serial_switch.specs.Switching.{input_of}

@@ -4,16 +4,16 @@ use Rattle.std.specs.Str.{bytes_eq}
 use Rattle.std.proofs.lemmas.Bool.{cases_lt}
 use Rattle.std.proofs.lemmas.List.{length-map, append-nil}
 use Rattle.std.proofs.lemmas.Slice.Eq.{bytes_eq-Decides}
-use Rattle.sdf_model.specs.declared.place.Place.{Place}
-use Rattle.sdf_model.specs.declared.place.Place.TheVariants as At
-use Rattle.sdf_model.specs.Places.{walk}
-use Rattle.sdf_model.specs.declared.plan.Plan.{Plan}
-use Rattle.sdf_model.specs.declared.plan.Domain.{Domain}
-use Rattle.sdf_model.specs.declared.plan.Serial.{Serial}
-use Rattle.sdf_model.specs.declared.plan.SerialClient.{SerialClient}
+use Rattle.sdf_plan.specs.declared.place.Place.{Place}
+use Rattle.sdf_plan.specs.declared.place.Place.TheVariants as At
+use Rattle.sdf_plan.specs.Places.{walk}
+use Rattle.sdf_plan.specs.declared.plan.Plan.{Plan}
+use Rattle.sdf_plan.specs.declared.plan.Domain.{Domain}
+use Rattle.sdf_plan.specs.declared.plan.Serial.{Serial}
+use Rattle.sdf_plan.specs.declared.plan.SerialClient.{SerialClient}
 use Rattle.sdf_check.specs.declared.role.Role.{Role}
 use Rattle.sdf_check.specs.declared.role.Role.TheVariants as For
-use Rattle.sdf_check.specs.Elements.{outline_of, domain_parts}
+use Rattle.sdf_plan.specs.Elements.{outline_of, domain_parts}
 use Rattle.sdf_check.specs.Names.{place_of, domain_names, domain_named, serial_client_domains}
 use Rattle.sdf_check.specs.Roles.{IsProgramOf, serial_roles, serial_client_roles}
 use Rattle.sdf_check.specs.ClassRules.{class_domains, the_domain, Plays, GivesWrongRole, IsClientCount}

@@ -1,6 +1,6 @@
 use Rattle.std.proofs.Common.{◌≡◌, ℕ, zero, suc, Some, List, length, refl, ap, ◌∙◌}
-use Rattle.sdf_model.specs.declared.plan.Plan.{Plan}
-use Rattle.sdf_model.specs.declared.plan.Serial.{Serial}
+use Rattle.sdf_plan.specs.declared.plan.Plan.{Plan}
+use Rattle.sdf_plan.specs.declared.plan.Serial.{Serial}
 use Rattle.trace_text.specs.declared.trace.Trace.{Trace}
 use Rattle.trace_text.specs.Events.{serial_clients}
 use Rattle.trace_text.specs.Traces.{IsReadFor, trace_of, trace_from, per_client}

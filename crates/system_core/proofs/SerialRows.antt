@@ -5,9 +5,9 @@ use Rattle.wire_core.specs.declared.names.ActorId.{ActorId}
 use Rattle.wire_core.specs.declared.names.QueueRow.{QueueRow}
 use Rattle.wire_core.specs.Ends.{Role, Consumer, Producer}
 use Rattle.wire_core.specs.Journal.{owner_of}
-use Rattle.sdf_model.specs.declared.plan.Plan.{Plan}
-use Rattle.sdf_model.specs.declared.plan.Serial.{Serial}
-use Rattle.sdf_model.specs.declared.plan.SerialClient.{SerialClient}
+use Rattle.sdf_plan.specs.declared.plan.Plan.{Plan}
+use Rattle.sdf_plan.specs.declared.plan.Serial.{Serial}
+use Rattle.sdf_plan.specs.declared.plan.SerialClient.{SerialClient}
 use Rattle.region_layout.specs.Rows.{actor_named, uart_number, device_queue, only_queue, queue_in, client_name, each_client, uart_queues, shared_serial_queues, serial_client_queues, net_queues, serial_queues, blk_queues, queues_of}
 use Rattle.std.specs.Option.{option_map_or}
 use Rattle.system_core.specs.Seats.{HasSeat}

@@ -5,8 +5,8 @@ use Rattle.wire_core.specs.Picks.{PickedFrom}
 use Rattle.wire_core.specs.Journal.{EachMoment}
 use Rattle.serial_switch.specs.Switching.{input_of}
 use Rattle.serial_law.specs.Serial.{ArrivesInPart}
-use Rattle.sdf_model.specs.declared.plan.Plan.{Plan}
-use Rattle.sdf_model.specs.declared.plan.Serial.{Serial}
+use Rattle.sdf_plan.specs.declared.plan.Plan.{Plan}
+use Rattle.sdf_plan.specs.declared.plan.Serial.{Serial}
 use Rattle.trace_text.specs.declared.trace.Trace.{Trace}
 use Rattle.system_core.specs.Shows.{State, Shown, runs, moved_in}
 use Rattle.system_core.specs.Plays.{runnable_now}

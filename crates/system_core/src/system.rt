@@ -28,7 +28,7 @@ use cargo_core::{Bytes, Memory, Series};
 use expect_core::Report;
 use plain_wires::World;
 use region_layout::Layout;
-use sdf_model::{Place, Plan};
+use sdf_plan::{Place, Plan};
 use serial_law::serial_law;
 use std::alloc::Global;
 use std::marker::Model;

@@ -2,13 +2,13 @@
 use Rattle.std.proofs.Common.{◌≡◌, ℕ, List, [], ◌∷◌, ◌++◌, map, flat_map, Bool, false, Option, Some, None, refl, sym, ap, ◌∙◌}
 use Rattle.std.specs.Option.{option_map_or}
 use Rattle.std.proofs.lemmas.List.{append-nil}
-use Rattle.sdf_model.specs.declared.plan.Plan.{Plan}
-use Rattle.sdf_model.specs.declared.plan.Net.{Net}
-use Rattle.sdf_model.specs.declared.plan.NetClient.{NetClient}
-use Rattle.sdf_model.specs.declared.plan.Serial.{Serial}
-use Rattle.sdf_model.specs.declared.plan.SerialClient.{SerialClient}
-use Rattle.sdf_model.specs.declared.plan.Blk.{Blk}
-use Rattle.sdf_model.specs.declared.plan.BlkClient.{BlkClient}
+use Rattle.sdf_plan.specs.declared.plan.Plan.{Plan}
+use Rattle.sdf_plan.specs.declared.plan.Net.{Net}
+use Rattle.sdf_plan.specs.declared.plan.NetClient.{NetClient}
+use Rattle.sdf_plan.specs.declared.plan.Serial.{Serial}
+use Rattle.sdf_plan.specs.declared.plan.SerialClient.{SerialClient}
+use Rattle.sdf_plan.specs.declared.plan.Blk.{Blk}
+use Rattle.sdf_plan.specs.declared.plan.BlkClient.{BlkClient}
 use Rattle.sdf_check.specs.Names.{net_domains, net_client_domains, serial_domains, serial_client_domains, blk_domains, blk_client_domains}
 use Rattle.sdf_check.specs.ClassRules.{class_domains}
 use Rattle.sdf_check.specs.Shares.{net_rights}

@@ -1,13 +1,13 @@
 -- Strangers and regions of an element, row by row.
 use Rattle.std.proofs.Common.{◌≡◌, ◌↔◌, ◌⊎◌, ℕ, zero, suc, inl, inr, ⊎_elim, List, [], ◌∷◌, ◌++◌, map}
 use Rattle.std.specs.List.{slice_get}
-use Rattle.sdf_model.specs.declared.plan.Plan.{Plan}
-use Rattle.sdf_model.specs.declared.plan.Net.{Net}
-use Rattle.sdf_model.specs.declared.plan.NetClient.{NetClient}
-use Rattle.sdf_model.specs.declared.plan.Serial.{Serial}
-use Rattle.sdf_model.specs.declared.plan.SerialClient.{SerialClient}
-use Rattle.sdf_model.specs.declared.plan.Blk.{Blk}
-use Rattle.sdf_model.specs.declared.plan.BlkClient.{BlkClient}
+use Rattle.sdf_plan.specs.declared.plan.Plan.{Plan}
+use Rattle.sdf_plan.specs.declared.plan.Net.{Net}
+use Rattle.sdf_plan.specs.declared.plan.NetClient.{NetClient}
+use Rattle.sdf_plan.specs.declared.plan.Serial.{Serial}
+use Rattle.sdf_plan.specs.declared.plan.SerialClient.{SerialClient}
+use Rattle.sdf_plan.specs.declared.plan.Blk.{Blk}
+use Rattle.sdf_plan.specs.declared.plan.BlkClient.{BlkClient}
 use Rattle.sdf_check.specs.Names.{net_regions, net_client_regions, blk_client_regions}
 use Rattle.sdf_check.specs.ClassRules.{SomeOf, HasStranger, IsStranger, NetStranger, NetClientStranger, SerialStranger, SerialClientStranger, BlkStranger, BlkClientStranger}
 use Rattle.sdf_check.proofs.LoopLemmas.{held, some-append}

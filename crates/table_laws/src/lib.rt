@@ -4,13 +4,13 @@
 #![tactic(auto)]
 
 ghost use Rattle.std.specs.Prelude.{◌≡◌, ◌++◌, ℕ, List, flat_map};
-ghost use Rattle.sdf_model.specs.declared.plan.Plan.{Plan};
-ghost use Rattle.sdf_model.specs.declared.plan.Net.{Net};
-ghost use Rattle.sdf_model.specs.declared.plan.NetClient.{NetClient};
-ghost use Rattle.sdf_model.specs.declared.plan.Serial.{Serial};
-ghost use Rattle.sdf_model.specs.declared.plan.SerialClient.{SerialClient};
-ghost use Rattle.sdf_model.specs.declared.plan.Blk.{Blk};
-ghost use Rattle.sdf_model.specs.declared.plan.BlkClient.{BlkClient};
+ghost use Rattle.sdf_plan.specs.declared.plan.Plan.{Plan};
+ghost use Rattle.sdf_plan.specs.declared.plan.Net.{Net};
+ghost use Rattle.sdf_plan.specs.declared.plan.NetClient.{NetClient};
+ghost use Rattle.sdf_plan.specs.declared.plan.Serial.{Serial};
+ghost use Rattle.sdf_plan.specs.declared.plan.SerialClient.{SerialClient};
+ghost use Rattle.sdf_plan.specs.declared.plan.Blk.{Blk};
+ghost use Rattle.sdf_plan.specs.declared.plan.BlkClient.{BlkClient};
 ghost use Rattle.std.specs.Prelude.{◌↔◌};
 ghost use Rattle.sdf_check.specs.ClassRules.{class_domains, SomeOf, NetStranger, NetClientStranger, SerialStranger, SerialClientStranger, BlkStranger, BlkClientStranger};
 ghost use Rattle.sdf_check.specs.Names.{net_regions, net_client_regions, serial_regions, serial_client_regions, blk_regions, blk_client_regions};

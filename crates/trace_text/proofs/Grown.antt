@@ -5,7 +5,7 @@ use Rattle.std.proofs.lemmas.Bool.{cases_Bool, eqb-true, eqb-false}
 use Rattle.std.proofs.lemmas.List.Concat.{flat_map-append}
 use Rattle.std.proofs.lemmas.List.Sums.{fold-append, sum_by-append}
 use Rattle.cargo_core.specs.declared.item.Ask.{Ask}
-use Rattle.sdf_model.specs.declared.plan.Plan.{Plan}
+use Rattle.sdf_plan.specs.declared.plan.Plan.{Plan}
 use Rattle.trace_text.specs.declared.reader.Reader.{Reader}
 use Rattle.trace_text.specs.Events.{Event, net_clients, serial_clients, blk_clients}
 use Rattle.trace_text.specs.Traces.{per_client, frames_in, input_in, sends_in, says_in, asks_in, image_after, image_of, trace_from, is_frame_line, is_request_line, is_disk_line, stream_bytes_in, is_out_of_place, is_bad_after}

@@ -1,6 +1,6 @@
 use Rattle.std.proofs.Common.{◌≡◌, ℕ, List, [], length, refl}
 use Rattle.cargo_core.specs.declared.item.Ask.{Ask}
-use Rattle.sdf_model.specs.declared.plan.Plan.{Plan}
+use Rattle.sdf_plan.specs.declared.plan.Plan.{Plan}
 use Rattle.trace_text.specs.Events.{net_clients, serial_clients, blk_clients}
 use Rattle.trace_text.specs.Traces.{trace_from, per_client}
 use Rattle.trace_text.specs.Reading.{reader_after}

@@ -11,8 +11,8 @@ use Rattle.cargo_core.specs.declared.item.Ask.{Ask}
 use Rattle.cargo_core.specs.declared.item.Code.{Code}
 use Rattle.cargo_core.specs.declared.item.Code.TheVariants as Asked
 use Rattle.frame_core.specs.Frames.{is_frame_of}
-use Rattle.sdf_model.specs.declared.plan.Plan.{Plan}
-use Rattle.sdf_model.specs.declared.plan.Blk.{Blk}
+use Rattle.sdf_plan.specs.declared.plan.Plan.{Plan}
+use Rattle.sdf_plan.specs.declared.plan.Blk.{Blk}
 use Rattle.trace_text.specs.declared.trace.Trace.{Trace}
 use Rattle.trace_text.specs.Texts.{lines_of, words_of, number_of, data_of}
 use Rattle.trace_text.specs.Events.{Event, same_text, kept_if, is_source, is_speaker, is_blk_client, is_reach, bare_ask, order_code, rx_line, in_line, send_line, say_line, disk_line, bytes_line, blk_order_line, blk_read_line, blk_write_line, words_say, is_skipped, meaning, net_clients, blk_clients}

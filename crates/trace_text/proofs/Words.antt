@@ -1,5 +1,5 @@
 use Rattle.std.proofs.Common.{◌≡◌, ℕ, true, false, eqb, List, [], ◌∷◌, length, Some, None, codes, refl}
-use Rattle.sdf_model.specs.declared.plan.Plan.{Plan}
+use Rattle.sdf_plan.specs.declared.plan.Plan.{Plan}
 use Rattle.trace_text.specs.Texts.{parts_of, words_of, lines_of}
 use Rattle.trace_text.specs.Events.{Event, same_text, words_say, meaning, is_skipped, rx_line, in_line, send_line, say_line, disk_line, bytes_line, blk_order_line, blk_read_line, blk_write_line}
 use Rattle.trace_text.proofs.Pieces.{parts_cons}

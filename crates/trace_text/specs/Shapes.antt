@@ -3,7 +3,7 @@ use Rattle.std.specs.Prelude.{◌≡◌, ℕ, ◌*◌, ◌≤◌, All, List, [],
 use Rattle.cargo_core.specs.declared.item.Ask.{Ask}
 use Rattle.cargo_core.specs.declared.item.Code.{Code}
 use Rattle.cargo_core.specs.declared.item.Code.TheVariants as Asked
-use Rattle.sdf_model.specs.declared.plan.Plan.{Plan}
+use Rattle.sdf_plan.specs.declared.plan.Plan.{Plan}
 use Rattle.trace_text.specs.declared.trace.Trace.{Trace}
 
 -- the bytes of a frame: 14 to 1,514

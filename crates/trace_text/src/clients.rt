@@ -4,7 +4,7 @@ ghost use Rattle.trace_text.specs.Events.{net_clients, serial_clients, blk_clien
 
 use crate::text::same_text;
 use cargo_core::Text;
-use sdf_model::{Domain, Plan};
+use sdf_plan::{Domain, Plan};
 
 // How many clients the network class has.
 pub fn net_client_count(plan: &Plan) -> usize

@@ -7,7 +7,7 @@ use crate::data::read_data;
 use crate::number::{read_below, read_number};
 use crate::reader::Reader;
 use cargo_core::{Bytes, Memory};
-use sdf_model::Plan;
+use sdf_plan::Plan;
 use std::alloc::Global;
 
 /// The bytes of a sector.

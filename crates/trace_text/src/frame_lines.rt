@@ -10,7 +10,7 @@ use crate::number::read_below;
 use crate::reader::{LINES, Reader};
 use cargo_core::Memory;
 use frame_core::is_frame;
-use sdf_model::Plan;
+use sdf_plan::Plan;
 use std::alloc::Global;
 
 /// The most bytes of a frame.

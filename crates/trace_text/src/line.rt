@@ -7,7 +7,7 @@ ghost use Rattle.trace_text.specs.Texts.{words_of};
 use crate::reader::Reader;
 use crate::text::{is_skipped, same_text, split_once};
 use cargo_core::Memory;
-use sdf_model::Plan;
+use sdf_plan::Plan;
 use std::alloc::Global;
 
 impl Reader {

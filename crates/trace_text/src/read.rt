@@ -7,7 +7,7 @@ use crate::reader::Reader;
 use crate::text::split_once;
 use crate::trace::Trace;
 use cargo_core::Memory;
-use sdf_model::Plan;
+use sdf_plan::Plan;
 use std::alloc::Global;
 
 /// What the reader of traces answers in place of a trace.

@@ -7,7 +7,7 @@ use crate::clients::{blk_client_count, net_client_count, serial_client_count};
 use crate::lists::{no_asks, no_bytes, no_frames};
 use crate::trace::Trace;
 use cargo_core::{Bytes, FrameLog, Memory};
-use sdf_model::Plan;
+use sdf_plan::Plan;
 use std::alloc::Global;
 
 /// The most `rx` and `send` lines together, and the most `blk` lines.

@@ -10,7 +10,7 @@ use crate::number::read_below;
 use crate::reader::{LINES, Reader};
 use crate::text::same_text;
 use cargo_core::{Ask, Bytes, Code, Memory};
-use sdf_model::Plan;
+use sdf_plan::Plan;
 use std::alloc::Global;
 
 /// The bytes of a block.

@@ -9,7 +9,7 @@ use crate::lists::add_bytes;
 use crate::number::read_below;
 use crate::reader::Reader;
 use cargo_core::Memory;
-use sdf_model::Plan;
+use sdf_plan::Plan;
 use std::alloc::Global;
 
 /// The most bytes of all `in` and `say` lines together.

@@ -1,9 +1,12 @@
 use Rattle.std.proofs.Common.{refl}
-use Rattle.class_table.proofs.Whole.{table_places}
+use Rattle.class_table.proofs.Whole.{table_places, walk-ends}
 use Rattle.class_table.proofs.law.table_law.Goals as goal
 
 pub returns-clause-places : goal.returns-clause-places
 returns-clause-places c = table_places
+
+pub returns-clause-ends : goal.returns-clause-ends
+returns-clause-ends c = walk-ends
 
 pub returns-clause-net : goal.returns-clause-net
 returns-clause-net c net = record { roles = refl; queues = refl; pools = refl }

@@ -1,5 +1,5 @@
 use Rattle.std.proofs.Common.{◌≡◌, ◌∷◌, map, take}
-use Rattle.sdf_model.specs.declared.plan.NetClient.{NetClient}
+use Rattle.sdf_plan.specs.declared.plan.NetClient.{NetClient}
 use Rattle.class_table.specs.Rows.{reads}
 use Rattle.class_table.specs.Shown.{grant_shown}
 use Rattle.class_table.proofs.net.receivers.Given as goal

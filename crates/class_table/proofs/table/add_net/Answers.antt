@@ -1,5 +1,5 @@
 use Rattle.std.proofs.Common.{◌∙◌, ◌++◌, List, ap, map}
-use Rattle.sdf_model.specs.declared.plan.NetClient.{NetClient}
+use Rattle.sdf_plan.specs.declared.plan.NetClient.{NetClient}
 use Rattle.class_table.specs.Shown.{element_shown}
 use Rattle.class_table.specs.Table.{net_element, net_client_element, numbered}
 use Rattle.class_table.proofs.Numbered.{class-joined}

@@ -1,5 +1,5 @@
 use Rattle.std.proofs.Common.{◌≡◌, ◌+◌, drop, sum_by}
-use Rattle.sdf_model.specs.declared.plan.NetClient.{NetClient}
+use Rattle.sdf_plan.specs.declared.plan.NetClient.{NetClient}
 use Rattle.expect_core.proofs.counts.client_buffers.Given as goal
 
 abbrev pub invariant-loop-client : goal.invariant-loop-client

@@ -1,5 +1,5 @@
 use Rattle.std.proofs.Common.{◌≡◌, ◌++◌, drop, map, filter}
-use Rattle.sdf_model.specs.declared.plan.Domain.{Domain}
+use Rattle.sdf_plan.specs.declared.plan.Domain.{Domain}
 use Rattle.region_layout.specs.Rows.{acts}
 use Rattle.region_layout.proofs.actors.acting.Given as goal
 

@@ -1,7 +1,7 @@
 use Rattle.std.proofs.Common.{sym, ◌∙◌, refl, arith}
 use Rattle.std.specs.Prelude.{bytes_eq}
 use Rattle.std.proofs.lemmas.Option.{slice_get_read}
-use Rattle.sdf_model.specs.declared.plan.Region.{Region}
+use Rattle.sdf_plan.specs.declared.plan.Region.{Region}
 use Rattle.region_layout.proofs.NameLemmas.{position_found, position_none, none_more, place_of_region}
 use Rattle.region_layout.proofs.actors.place_of_region.Goals as goal
 

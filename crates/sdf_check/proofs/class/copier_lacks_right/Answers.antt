@@ -1,5 +1,5 @@
 use Rattle.std.proofs.Common.{false}
-use Rattle.sdf_model.specs.declared.plan.NetClient.{NetClient}
+use Rattle.sdf_plan.specs.declared.plan.NetClient.{NetClient}
 use Rattle.sdf_check.specs.ClassRules.{IsGranted}
 use Rattle.sdf_check.proofs.LoopLemmas.{found-item, more-item, none_left, not-so}
 use Rattle.std.proofs.Common.{refl}

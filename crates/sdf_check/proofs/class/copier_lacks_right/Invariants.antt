@@ -1,7 +1,7 @@
 use Rattle.std.proofs.Common.{ℕ, ◌<◌, false}
 use Rattle.std.specs.List.{slice_get}
 use Rattle.std.specs.Option.{IsSomeAnd}
-use Rattle.sdf_model.specs.declared.plan.NetClient.{NetClient}
+use Rattle.sdf_plan.specs.declared.plan.NetClient.{NetClient}
 use Rattle.sdf_check.specs.ClassRules.{IsGranted}
 use Rattle.sdf_check.proofs.class.copier_lacks_right.Given as goal
 

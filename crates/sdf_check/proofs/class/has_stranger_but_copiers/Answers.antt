@@ -1,5 +1,5 @@
 use Rattle.std.proofs.Common.{◌++◌, map}
-use Rattle.sdf_model.specs.declared.plan.NetClient.{NetClient}
+use Rattle.sdf_plan.specs.declared.plan.NetClient.{NetClient}
 use Rattle.sdf_check.specs.Lookups.{shown}
 use Rattle.sdf_check.specs.ClassRules.{IsStranger}
 use Rattle.sdf_check.proofs.LoopLemmas.{more-item, none_left-item, not-so}

@@ -1,5 +1,5 @@
 use Rattle.std.proofs.Common.{◌≡◌, ℕ, List, map, refl, inl, inr, ⊎_elim}
-use Rattle.sdf_model.specs.declared.plan.NetClient.{NetClient}
+use Rattle.sdf_plan.specs.declared.plan.NetClient.{NetClient}
 use Rattle.sdf_check.specs.Lookups.{shown}
 use Rattle.sdf_check.specs.ClassRules.{SomeOf}
 use Rattle.sdf_check.proofs.LoopLemmas.{some-append, not-so}

@@ -1,5 +1,5 @@
 use Rattle.std.proofs.Common.{◌≡◌}
-use Rattle.sdf_model.specs.declared.plan.NetClient.{NetClient}
+use Rattle.sdf_plan.specs.declared.plan.NetClient.{NetClient}
 use Rattle.sdf_check.proofs.LoopLemmas.{more-map-item, none_left-map, not-so}
 use Rattle.sdf_check.proofs.class.is_copier.Goals as goal
 

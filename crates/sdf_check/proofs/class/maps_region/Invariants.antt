@@ -1,7 +1,7 @@
 use Rattle.std.proofs.Common.{◌≡◌, ℕ, ◌<◌}
 use Rattle.std.specs.List.{slice_get}
 use Rattle.std.specs.Option.{IsSomeAnd}
-use Rattle.sdf_model.specs.declared.plan.Map.{Map}
+use Rattle.sdf_plan.specs.declared.plan.Map.{Map}
 use Rattle.sdf_check.proofs.class.maps_region.Given as goal
 
 abbrev pub invariant-loop-map : goal.invariant-loop-map

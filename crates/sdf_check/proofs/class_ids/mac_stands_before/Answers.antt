@@ -1,6 +1,6 @@
 use Rattle.std.proofs.Common.{◌≡◌, ◌<◌, length, false, true, arith, below_more, Some}
 use Rattle.frame_core.specs.Macs.{mac_of}
-use Rattle.sdf_model.specs.declared.plan.NetClient.{NetClient}
+use Rattle.sdf_plan.specs.declared.plan.NetClient.{NetClient}
 use Rattle.sdf_check.proofs.ValueLemmas.{value-not-at, value-within}
 use Rattle.sdf_check.proofs.LoopLemmas.{not-so}
 use Rattle.sdf_check.proofs.class_ids.mac_stands_before.Goals as goal

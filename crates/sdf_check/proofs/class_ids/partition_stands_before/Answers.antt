@@ -1,5 +1,5 @@
 use Rattle.std.proofs.Common.{◌≡◌, ◌<◌, length, false, true, arith, below_more}
-use Rattle.sdf_model.specs.declared.plan.BlkClient.{BlkClient}
+use Rattle.sdf_plan.specs.declared.plan.BlkClient.{BlkClient}
 use Rattle.sdf_check.proofs.ValueLemmas.{value-not-at, value-within}
 use Rattle.sdf_check.proofs.class_ids.partition_stands_before.Goals as goal
 

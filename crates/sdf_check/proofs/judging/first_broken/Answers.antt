@@ -1,7 +1,7 @@
 use Rattle.std.proofs.Common.{◌≡◌, true, false, sym, ◌∙◌}
-use Rattle.sdf_model.specs.Places.{walk}
+use Rattle.sdf_plan.specs.Places.{walk}
 use Rattle.std.proofs.lemmas.Option.{slice_get-get_or}
-use Rattle.sdf_check.specs.Elements.{outline_of}
+use Rattle.sdf_plan.specs.Elements.{outline_of}
 use Rattle.sdf_check.specs.Valid.{broken}
 use Rattle.sdf_check.proofs.PriorLemmas.{chained-walk, first-here, none-here, one-more}
 use Rattle.sdf_check.proofs.judging.first_broken.Goals as goal

@@ -1,6 +1,6 @@
 use Rattle.std.proofs.Common.{◌≡◌, ℕ, ◌<◌, Some}
 use Rattle.std.specs.List.{slice_get}
-use Rattle.sdf_model.specs.declared.place.Place.{Place}
+use Rattle.sdf_plan.specs.declared.place.Place.{Place}
 use Rattle.sdf_check.specs.Valid.{broken}
 use Rattle.sdf_check.proofs.judging.first_broken.Given as goal
 

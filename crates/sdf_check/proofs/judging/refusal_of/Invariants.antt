@@ -1,6 +1,6 @@
 use Rattle.std.proofs.Common.{ℕ, ◌<◌, ◌≤◌}
-use Rattle.sdf_model.specs.Places.{walk, IsKept}
-use Rattle.sdf_check.specs.Elements.{outline_of}
+use Rattle.sdf_plan.specs.Places.{walk, IsKept}
+use Rattle.sdf_plan.specs.Elements.{outline_of}
 use Rattle.sdf_check.specs.Valid.{broken}
 use Rattle.sdf_check.proofs.judging.refusal_of.Given as goal
 

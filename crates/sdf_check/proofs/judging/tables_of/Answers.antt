@@ -1,5 +1,5 @@
 use Rattle.std.proofs.Common.{ℕ, List, Option, map, subst, sym}
-use Rattle.sdf_model.specs.declared.plan.Region.{Region}
+use Rattle.sdf_plan.specs.declared.plan.Region.{Region}
 use Rattle.sdf_check.specs.Rules.{given_range}
 use Rattle.sdf_check.specs.Meetings.{IsFirstMeeting, AreFirstMaps}
 use Rattle.sdf_check.proofs.judging.tables_of.Goals as goal

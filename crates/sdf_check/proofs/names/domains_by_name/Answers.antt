@@ -1,4 +1,4 @@
-use Rattle.sdf_model.specs.declared.plan.Domain.{Domain}
+use Rattle.sdf_plan.specs.declared.plan.Domain.{Domain}
 use Rattle.sdf_check.proofs.NameLemmas.{names-step}
 use Rattle.sdf_check.proofs.names.domains_by_name.Goals as goal
 

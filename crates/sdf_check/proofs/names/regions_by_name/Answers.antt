@@ -1,4 +1,4 @@
-use Rattle.sdf_model.specs.declared.plan.Region.{Region}
+use Rattle.sdf_plan.specs.declared.plan.Region.{Region}
 use Rattle.sdf_check.proofs.NameLemmas.{names-step}
 use Rattle.sdf_check.proofs.names.regions_by_name.Goals as goal
 

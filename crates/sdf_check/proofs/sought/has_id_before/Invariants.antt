@@ -1,6 +1,6 @@
 use Rattle.std.proofs.Common.{◌≡◌, ℕ, ◌<◌, map, Some}
 use Rattle.std.specs.List.{slice_get}
-use Rattle.sdf_model.specs.declared.plan.Irq.{Irq}
+use Rattle.sdf_plan.specs.declared.plan.Irq.{Irq}
 use Rattle.sdf_check.proofs.sought.has_id_before.Given as goal
 
 abbrev pub invariant-loop-at : goal.invariant-loop-at

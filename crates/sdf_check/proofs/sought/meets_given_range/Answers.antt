@@ -1,5 +1,5 @@
 use Rattle.std.proofs.Common.{ℕ, map, subst, sym, inl, inr, ⊎_elim, ◌<◌, refl}
-use Rattle.sdf_model.specs.declared.place.Place.TheVariants as At
+use Rattle.sdf_plan.specs.declared.place.Place.TheVariants as At
 use Rattle.sdf_check.specs.Rules.{MeetsGivenRange, MeetsEarlier, given_range}
 use Rattle.sdf_check.specs.Priors.{OrPrior}
 use Rattle.sdf_check.proofs.SoughtLemmas.{reach-complete, reach-sound}

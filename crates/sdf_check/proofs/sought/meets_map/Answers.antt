@@ -1,6 +1,6 @@
 use Rattle.std.proofs.Common.{ℕ, map, subst, sym, inl, inr, ⊎_elim, ◌<◌, refl}
-use Rattle.sdf_model.specs.declared.place.Place.TheVariants as At
-use Rattle.sdf_model.specs.declared.plan.Domain.{Domain}
+use Rattle.sdf_plan.specs.declared.place.Place.TheVariants as At
+use Rattle.sdf_plan.specs.declared.plan.Domain.{Domain}
 use Rattle.sdf_check.specs.Rules.{MeetsMap, MeetsEarlier, map_range}
 use Rattle.sdf_check.specs.Meetings.{IsFirstMeeting}
 use Rattle.sdf_check.specs.Priors.{OrPrior}

@@ -1,5 +1,5 @@
 use Rattle.std.proofs.Common.{◌≡◌, ◌+◌, ◌∙◌, ap, arith, length, List, length-append, ◌<◌, Option, ℕ}
-use Rattle.sdf_model.specs.declared.plan.Domain.{Domain}
+use Rattle.sdf_plan.specs.declared.plan.Domain.{Domain}
 use Rattle.std.proofs.lemmas.Option.{slice_get_within}
 use Rattle.sdf_check.proofs.MeetingLemmas.{firsts-step}
 use Rattle.sdf_check.proofs.tables.first_maps.Goals as goal

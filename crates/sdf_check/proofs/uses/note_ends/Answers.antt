@@ -1,5 +1,5 @@
 use Rattle.std.proofs.Common.{◌≡◌, ap, length, arith, ◌≤◌}
-use Rattle.sdf_model.specs.declared.plan.End.{End}
+use Rattle.sdf_plan.specs.declared.plan.End.{End}
 use Rattle.std.proofs.Common.{List}
 use Rattle.sdf_check.proofs.UseLemmas.{end-there, uses-next}
 use Rattle.sdf_check.proofs.uses.note_ends.Goals as goal

@@ -1,6 +1,6 @@
 use Rattle.std.specs.BTreeMap.{get}
-use Rattle.sdf_model.specs.declared.plan.Plan.{Plan}
-use Rattle.sdf_check.specs.Elements.{OfChannel}
+use Rattle.sdf_plan.specs.declared.plan.Plan.{Plan}
+use Rattle.sdf_plan.specs.Elements.{OfChannel}
 use Rattle.sdf_check.specs.Lookups.{FindsPlaces}
 use Rattle.sdf_check.specs.Names.{domain_names}
 use Rattle.sdf_check.specs.Uses.{use_cmp, UsesUpTo}

@@ -1,7 +1,7 @@
 use Rattle.std.proofs.Common.{◌≡◌, ap, length, arith, List, subst, ℕ}
 use Rattle.std.specs.Map.{lookup}
 use Rattle.std.specs.BTreeMap.{is_at, get}
-use Rattle.sdf_model.specs.declared.plan.Channel.{Channel}
+use Rattle.sdf_plan.specs.declared.plan.Channel.{Channel}
 use Rattle.sdf_check.specs.Uses.{use_cmp, UsesUpTo}
 use Rattle.sdf_check.proofs.UseLemmas.{uses-none, channel-there}
 use Rattle.sdf_check.proofs.uses.uses_of.Goals as goal

@@ -1,10 +1,10 @@
 use Rattle.std.proofs.Common.{◌≡◌, ℕ, zero, suc, ◌+◌, ◌-◌, ◌<◌, List, [], ◌∷◌, ◌++◌, length, map, drop, get_or, refl, ◌∙◌, ap, subst, arith, add-one, sub-one, append_assoc, drop-cons}
-use Rattle.sdf_model.specs.Places.{places_from, domain_places, channel_places}
-use Rattle.sdf_model.specs.declared.place.Place.{Place}
-use Rattle.sdf_model.specs.declared.place.Place.TheVariants as At
-use Rattle.sdf_model.specs.declared.plan.Domain.{Domain}
-use Rattle.sdf_model.specs.declared.plan.Channel.{Channel}
-use Rattle.sdf_check.specs.Elements.{domain_parts, channel_parts}
+use Rattle.sdf_plan.specs.Places.{places_from, domain_places, channel_places}
+use Rattle.sdf_plan.specs.declared.place.Place.{Place}
+use Rattle.sdf_plan.specs.declared.place.Place.TheVariants as At
+use Rattle.sdf_plan.specs.declared.plan.Domain.{Domain}
+use Rattle.sdf_plan.specs.declared.plan.Channel.{Channel}
+use Rattle.sdf_plan.specs.Elements.{domain_parts, channel_parts}
 
 -- the first of so many numbered elements, and the others
 pub places_from-first : (place : ℕ → Place) (first left : ℕ) → 0 < left → places_from place first left ≡ place first ∷ places_from place (first + 1) (left - 1)

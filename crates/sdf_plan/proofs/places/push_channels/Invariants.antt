@@ -1,7 +1,7 @@
 use Rattle.std.proofs.Common.{◌≡◌, ◌++◌, map, drop}
-use Rattle.sdf_model.specs.Places.{channel_places}
-use Rattle.sdf_check.specs.Elements.{channel_parts}
-use Rattle.sdf_check.proofs.places.push_channels.Given as goal
+use Rattle.sdf_plan.specs.Places.{channel_places}
+use Rattle.sdf_plan.specs.Elements.{channel_parts}
+use Rattle.sdf_plan.proofs.places.push_channels.Given as goal
 
 abbrev pub invariant-loop-at : goal.invariant-loop-at
 invariant-loop-at l =

@@ -1,5 +1,5 @@
-use Rattle.sdf_check.proofs.WalkLemmas.{domains-step}
-use Rattle.sdf_check.proofs.places.push_domains.Goals as goal
+use Rattle.sdf_plan.proofs.WalkLemmas.{domains-step}
+use Rattle.sdf_plan.proofs.places.push_domains.Goals as goal
 
 pub loop-at-preserved : goal.loop-at-preserved
 loop-at-preserved c =

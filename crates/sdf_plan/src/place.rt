@@ -1,6 +1,6 @@
 //! The places of elements in a description, and its refusal at one of them.
 ghost use Rattle.std.specs.Prelude.{◌≡◌};
-ghost use Rattle.sdf_model.specs.declared.place.SdfFault.TheVariants as Fault;
+ghost use Rattle.sdf_plan.specs.declared.place.SdfFault.TheVariants as Fault;
 
 use cargo_core::Memory;
 
@@ -22,7 +22,8 @@ pub enum Place {
     BlkClient(u32),
 }
 
-/// Why a description is refused: the least rule that is broken, and the first element at which it is.
+/// Why a description is refused: the least rule that is broken, and the first element at which it
+/// is.
 #[derive(Clone, Copy, Debug, PartialEq, Eq)]
 pub struct Refusal {
     pub rule: u8,

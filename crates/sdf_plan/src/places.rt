@@ -1,13 +1,15 @@
 //! All elements of a plan, in the order in which a rule is read.
 ghost use Rattle.std.specs.Prelude.{◌≡◌, ◌++◌, ◌∷◌, List, length, map, IfOk, OnOk, Option};
 ghost use Rattle.std.specs.Option.{option_map};
-ghost use Rattle.sdf_model.specs.Places.{walk, places_from, domain_places, channel_places, class_places};
-ghost use Rattle.sdf_model.specs.declared.place.Place.{Place};
-ghost use Rattle.sdf_check.specs.Elements.{outline_of, domain_parts, channel_parts};
-ghost use Rattle.sdf_check.specs.Walks.{member};
+ghost use Rattle.sdf_plan.specs.Places.{walk, places_from, domain_places, channel_places, class_places};
+ghost use Rattle.sdf_plan.specs.declared.place.Place.{Place};
+ghost use Rattle.sdf_plan.specs.Elements.{outline_of, domain_parts, channel_parts};
+ghost use Rattle.sdf_plan.specs.Walks.{member};
 
+use crate::number::number_of;
+use crate::place::Place;
+use crate::plan::{Channel, Domain, Plan};
 use cargo_core::Memory;
-use sdf_model::{Channel, Domain, Place, Plan, number_of};
 use std::alloc::Global;
 
 /// A sort of elements that are told apart by a number.
@@ -43,7 +45,8 @@ fn push_members(
     sort: Sort,
     count: usize,
 ) -> Result<(), Memory>
-    ensures { OnOk result (places.new.items ≡ places.old.items ++ places_from (member sort) 0 count) }
+    ensures { OnOk result (places.new.items
+        ≡ places.old.items ++ places_from (member sort) 0 count) }
 {
     for number in 0..count {
         places.push(member(sort, number_of(alloc, number)?))?;
@@ -52,7 +55,8 @@ fn push_members(
 }
 
 fn push_domains(alloc: Global, places: &mut Vec<Place>, domains: &[Domain]) -> Result<(), Memory>
-    ensures { OnOk result (places.new.items ≡ places.old.items ++ domain_places 0 (map domain_parts domains.now)) }
+    ensures { OnOk result (places.new.items
+        ≡ places.old.items ++ domain_places 0 (map domain_parts domains.now)) }
 {
     for (at, domain) in domains.iter().enumerate() {
         let number = number_of(alloc, at)?;
@@ -64,7 +68,8 @@ fn push_domains(alloc: Global, places: &mut Vec<Place>, domains: &[Domain]) -> R
 }
 
 fn push_channels(alloc: Global, places: &mut Vec<Place>, channels: &[Channel]) -> Result<(), Memory>
-    ensures { OnOk result (places.new.items ≡ places.old.items ++ channel_places 0 (map channel_parts channels.now)) }
+    ensures { OnOk result (places.new.items
+        ≡ places.old.items ++ channel_places 0 (map channel_parts channels.now)) }
 {
     for (at, channel) in channels.iter().enumerate() {
         let number = number_of(alloc, at)?;
@@ -81,7 +86,8 @@ fn push_class(
     sort: Sort,
     clients: Option<usize>,
 ) -> Result<(), Memory>
-    ensures { OnOk result (places.new.items ≡ places.old.items ++ class_places class (member sort) clients) }
+    ensures { OnOk result (places.new.items
+        ≡ places.old.items ++ class_places class (member sort) clients) }
 {
     if let Some(count) = clients {
         places.push(class)?;

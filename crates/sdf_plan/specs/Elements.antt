@@ -1,20 +1,20 @@
 -- The elements of a plan: how many there are of each sort, and what holds of the one at a place.
 use Rattle.std.specs.Prelude.{ℕ, length, map, slice_get, IsSomeAnd}
 use Rattle.std.specs.Option.{option_map}
-use Rattle.sdf_model.specs.Places.{Outline}
-use Rattle.sdf_model.specs.declared.plan.Plan.{Plan}
-use Rattle.sdf_model.specs.declared.plan.Region.{Region}
-use Rattle.sdf_model.specs.declared.plan.Domain.{Domain}
-use Rattle.sdf_model.specs.declared.plan.Map.{Map}
-use Rattle.sdf_model.specs.declared.plan.Irq.{Irq}
-use Rattle.sdf_model.specs.declared.plan.Channel.{Channel}
-use Rattle.sdf_model.specs.declared.plan.End.{End}
-use Rattle.sdf_model.specs.declared.plan.Net.{Net}
-use Rattle.sdf_model.specs.declared.plan.NetClient.{NetClient}
-use Rattle.sdf_model.specs.declared.plan.Serial.{Serial}
-use Rattle.sdf_model.specs.declared.plan.SerialClient.{SerialClient}
-use Rattle.sdf_model.specs.declared.plan.Blk.{Blk}
-use Rattle.sdf_model.specs.declared.plan.BlkClient.{BlkClient}
+use Rattle.sdf_plan.specs.Places.{Outline}
+use Rattle.sdf_plan.specs.declared.plan.Plan.{Plan}
+use Rattle.sdf_plan.specs.declared.plan.Region.{Region}
+use Rattle.sdf_plan.specs.declared.plan.Domain.{Domain}
+use Rattle.sdf_plan.specs.declared.plan.Map.{Map}
+use Rattle.sdf_plan.specs.declared.plan.Irq.{Irq}
+use Rattle.sdf_plan.specs.declared.plan.Channel.{Channel}
+use Rattle.sdf_plan.specs.declared.plan.End.{End}
+use Rattle.sdf_plan.specs.declared.plan.Net.{Net}
+use Rattle.sdf_plan.specs.declared.plan.NetClient.{NetClient}
+use Rattle.sdf_plan.specs.declared.plan.Serial.{Serial}
+use Rattle.sdf_plan.specs.declared.plan.SerialClient.{SerialClient}
+use Rattle.sdf_plan.specs.declared.plan.Blk.{Blk}
+use Rattle.sdf_plan.specs.declared.plan.BlkClient.{BlkClient}
 
 -- how many maps and interrupts a domain has, and how many ends a channel
 abbrev pub domain_parts : Domain → ℕ × ℕ

@@ -1,7 +1,7 @@
 use Rattle.std.proofs.Common.{◌≡◌, ◌++◌, ◌-◌}
-use Rattle.sdf_model.specs.Places.{places_from}
-use Rattle.sdf_check.specs.Walks.{member}
-use Rattle.sdf_check.proofs.places.push_members.Given as goal
+use Rattle.sdf_plan.specs.Places.{places_from}
+use Rattle.sdf_plan.specs.Walks.{member}
+use Rattle.sdf_plan.proofs.places.push_members.Given as goal
 
 abbrev pub invariant-loop-number : goal.invariant-loop-number
 invariant-loop-number l =

@@ -1,6 +1,6 @@
-use Rattle.sdf_check.specs.Walks.{member}
-use Rattle.sdf_check.proofs.WalkLemmas.{members-step}
-use Rattle.sdf_check.proofs.places.push_members.Goals as goal
+use Rattle.sdf_plan.specs.Walks.{member}
+use Rattle.sdf_plan.proofs.WalkLemmas.{members-step}
+use Rattle.sdf_plan.proofs.places.push_members.Goals as goal
 
 pub loop-number-preserved : goal.loop-number-preserved
 loop-number-preserved c =

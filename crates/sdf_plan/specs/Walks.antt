@@ -1,9 +1,9 @@
 -- The elements of one sort by their numbers, of which the walk over a plan is made.
 use Rattle.std.specs.Prelude.{ℕ}
-use Rattle.sdf_model.specs.declared.place.Place.{Place}
-use Rattle.sdf_model.specs.declared.place.Place.TheVariants as At
-use Rattle.sdf_check.specs.declared.places.Sort.{Sort}
-use Rattle.sdf_check.specs.declared.places.Sort.TheVariants as Of
+use Rattle.sdf_plan.specs.declared.place.Place.{Place}
+use Rattle.sdf_plan.specs.declared.place.Place.TheVariants as At
+use Rattle.sdf_plan.specs.declared.places.Sort.{Sort}
+use Rattle.sdf_plan.specs.declared.places.Sort.TheVariants as Of
 
 -- the element of a sort with a number
 abbrev pub member : Sort → ℕ → Place
