@@ -13,8 +13,8 @@ use Rattle.play_core.specs.Still.{Holds}
 use Rattle.play_core.proofs.Lists.{there_below}
 use Rattle.owner_law.specs.Things.{Buffer, is_same, Names, NoBuffers, Naming, Thing, Nothing, Whole, Frame, Lease, Return, things_from, requests_of, things_sent, things_taken, as_buffer}
 use Rattle.owner_law.specs.Owners.{Spot, InQueue, InHand, Place, Nowhere, At, Lent, Table, Move, Stays, Puts, Takes, move_of, after_move, frame_place, returned_place, replay, replay_from}
-use Rattle.owner_law.specs.Keeping.{Keeper, started, came, went, stands_in, is_with, IsAmong, IsShownBy, IsNaming}
-use Rattle.owner_law.specs.Census.{is_queued, is_held, is_lent, census, IsPool, buffers_among, buffers_started}
+use Rattle.owner_law.specs.Keeping.{Keeper, at_start, all_taken, all_put, stands_in, is_with, IsAmong, IsShownBy, IsNaming}
+use Rattle.owner_law.specs.Census.{is_queued, is_held, is_lent, census, IsPool, buffers_among, buffers_at_start}
 use Rattle.owner_law.proofs.Sums.{same_is}
 
 -- sums over the first numbers
@@ -177,12 +177,12 @@ module _ (naming : Naming) (lender : ℕ) (keepers : List Keeper) (m : Moved) (t
   this i = record { pool = pool; no = i }
 
   -- of an actor
-  actor_has : (k : ℕ) (p : Keeper) → slice_get keepers k ≡ Some p → sum_below (λ no. is_with lender k (t.place (this no))) buffers + buffers_among pool buffers (went naming m p.ends) ≡ buffers_started pool buffers p.hand + buffers_among pool buffers (came naming m p.ends)
+  actor_has : (k : ℕ) (p : Keeper) → slice_get keepers k ≡ Some p → sum_below (λ no. is_with lender k (t.place (this no))) buffers + buffers_among pool buffers (all_put naming m p.ends) ≡ buffers_at_start pool buffers p.hand + buffers_among pool buffers (all_taken naming m p.ends)
   actor_has k p at =
-      let each = below_same (λ no. sum_by (as_buffer (this no)) (went naming m p.ends) + is_with lender k (t.place (this no))) (λ no. started p.hand (this no) + sum_by (as_buffer (this no)) (came naming m p.ends)) buffers (λ no lt. shown.held k p (this no) at) in
-      omega (arith, each, below_plus (λ no. sum_by (as_buffer (this no)) (went naming m p.ends)) (λ no. is_with lender k (t.place (this no))) buffers, below_plus (λ no. started p.hand (this no)) (λ no. sum_by (as_buffer (this no)) (came naming m p.ends)) buffers)
+      let each = below_same (λ no. sum_by (as_buffer (this no)) (all_put naming m p.ends) + is_with lender k (t.place (this no))) (λ no. at_start p.hand (this no) + sum_by (as_buffer (this no)) (all_taken naming m p.ends)) buffers (λ no lt. shown.held k p (this no) at) in
+      omega (arith, each, below_plus (λ no. sum_by (as_buffer (this no)) (all_put naming m p.ends)) (λ no. is_with lender k (t.place (this no))) buffers, below_plus (λ no. at_start p.hand (this no)) (λ no. sum_by (as_buffer (this no)) (all_taken naming m p.ends)) buffers)
 
-  pub census_hands : (census t pool buffers).hands + (census t pool buffers).lent + sum_by (λ p. buffers_among pool buffers (went naming m p.ends)) keepers ≡ sum_by (λ p. buffers_started pool buffers p.hand + buffers_among pool buffers (came naming m p.ends)) keepers
+  pub census_hands : (census t pool buffers).hands + (census t pool buffers).lent + sum_by (λ p. buffers_among pool buffers (all_put naming m p.ends)) keepers ≡ sum_by (λ p. buffers_at_start pool buffers p.hand + buffers_among pool buffers (all_taken naming m p.ends)) keepers
   census_hands =
       let each = below_same (λ no. bit (is_held (t.place (this no))) + bit (is_lent (t.place (this no)))) (λ no. sum_below (λ k. is_with lender k (t.place (this no))) (length keepers)) buffers (λ no lt. with_is lender (t.place (this no)) (length keepers) (shown.among (this no))) in
       omega (
@@ -190,5 +190,5 @@ module _ (naming : Naming) (lender : ℕ) (keepers : List Keeper) (m : Moved) (t
         each,
         below_plus (λ no. bit (is_held (t.place (this no)))) (λ no. bit (is_lent (t.place (this no)))) buffers,
         below_swap (λ k no. is_with lender k (t.place (this no))) (length keepers) buffers,
-        below_list (λ k. sum_below (λ no. is_with lender k (t.place (this no))) buffers) (λ p. buffers_among pool buffers (went naming m p.ends)) (λ p. buffers_started pool buffers p.hand + buffers_among pool buffers (came naming m p.ends)) keepers actor_has,
+        below_list (λ k. sum_below (λ no. is_with lender k (t.place (this no))) buffers) (λ p. buffers_among pool buffers (all_put naming m p.ends)) (λ p. buffers_at_start pool buffers p.hand + buffers_among pool buffers (all_taken naming m p.ends)) keepers actor_has,
       )

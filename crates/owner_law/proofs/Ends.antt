@@ -9,7 +9,7 @@ use Rattle.wire_core.specs.Journal.{owner_of}
 use Rattle.play_core.specs.Moved.{Moved, Seat}
 use Rattle.play_core.proofs.Lists.{some_is}
 use Rattle.owner_law.specs.Things.{Window, Answers, Naming, Thing, requests_of, things_sent, things_taken}
-use Rattle.owner_law.specs.Keeping.{Keeper, things_in, things_out, by_role, came, went, AreKeepers}
+use Rattle.owner_law.specs.Keeping.{Keeper, things_in, things_out, by_role, all_taken, all_put, AreKeepers}
 use Rattle.owner_law.proofs.Sums.{when, both, sum_flat, sum_both, sum_none, sum_one}
 use Rattle.owner_law.proofs.Lists.{Moves, Enough, put_sum, take_sum, sent_sum, taken_sum}
 
@@ -70,13 +70,13 @@ module _ (naming : Naming) (answers : (n q : ℕ) (ws : List Window) → naming 
   in_more Producer q = refl
 
   module _ (rows : List QueueRow) (keepers : List Keeper) (are : AreKeepers rows keepers) (row : QueueRow) (there : slice_get rows n ≡ Some row) (j : ℕ) (p : Keeper) (at : slice_get keepers j ≡ Some p) where
-    pub went_sum : sum_by f (went naming m' p.ends) ≡ sum_by f (went naming m p.ends) + when (owner_of row Producer == j) (put_sum naming answers m m' n puts takes moves f)
+    pub went_sum : sum_by f (all_put naming m' p.ends) ≡ sum_by f (all_put naming m p.ends) + when (owner_of row Producer == j) (put_sum naming answers m m' n puts takes moves f)
     went_sum =
         sum_flat f (things_out naming m') p.ends
         ∙ (sum_both (λ s. sum_by f (things_out naming m s)) (λ s. sum_by f (things_out naming m' s)) (λ s. when (is_its Producer n s) (put_sum naming answers m m' n puts takes moves f)) (λ s. out_more s.role s.queue) p.ends
         ∙ ap₂ (λ a b. a + b) (sym (sum_flat f (things_out naming m) p.ends)) (share_sum rows keepers are n row there Producer (put_sum naming answers m m' n puts takes moves f) j p at))
 
-    pub came_sum : sum_by f (came naming m' p.ends) ≡ sum_by f (came naming m p.ends) + when (owner_of row Consumer == j) (take_sum naming answers m m' n puts takes moves f)
+    pub came_sum : sum_by f (all_taken naming m' p.ends) ≡ sum_by f (all_taken naming m p.ends) + when (owner_of row Consumer == j) (take_sum naming answers m m' n puts takes moves f)
     came_sum =
         sum_flat f (things_in naming m') p.ends
         ∙ (sum_both (λ s. sum_by f (things_in naming m s)) (λ s. sum_by f (things_in naming m' s)) (λ s. when (is_its Consumer n s) (take_sum naming answers m m' n puts takes moves f)) (λ s. in_more s.role s.queue) p.ends

@@ -1,25 +1,12 @@
-use Rattle.std.proofs.Common.{◌≡◌, ◌+◌, ◌≤◌, ℕ, Option, Some, None, List, [], ◌∷◌, ◌++◌, map, sum_by, refl, sym, ap, subst, arith}
+use Rattle.std.proofs.Common.{◌≡◌, ◌+◌, ◌≤◌, ℕ, Option, Some, None, List, [], ◌∷◌, ◌++◌, sum_by, refl, sym, ap, subst, arith}
 use Rattle.std.proofs.lemmas.Bool.{le-ltb}
 use Rattle.std.proofs.lemmas.List.Sums.{sum_by-cons, sum_by-append}
 use Rattle.cargo_core.specs.declared.item.Item.{Item}
 use Rattle.cargo_core.specs.Lists.{IsPrefix}
 use Rattle.wire_core.specs.Bells.{bit}
 use Rattle.play_core.specs.Moved.{Moved}
-use Rattle.owner_law.specs.Things.{Buffer, is_same, Window, Names, Buffers, Frames, Leases, Returns, Naming, Thing, Nothing, Whole, Frame, Lease, Return, thing_of, thing_at, things_from, requests_of, buffer_of, as_buffer, as_lease, lends, gives_back, brings_leases}
-use Rattle.owner_law.specs.Keeping.{Keeps, is_out, started}
-
--- one where it is this buffer
-abbrev pub is_named : Buffer → Option Buffer → ℕ
-is_named b None = 0
-is_named b (Some c) = bit (is_same c b)
-
--- how many of these are this buffer
-abbrev pub times : Buffer → List (Option Buffer) → ℕ
-times b names = sum_by (is_named b) names
-
--- the buffers that items name
-abbrev pub names_in : List Window → List Item → List (Option Buffer)
-names_in ws items = map (buffer_of ws) items
+use Rattle.owner_law.specs.Things.{Buffer, is_same, Window, Names, Buffers, Frames, Leases, Returns, Naming, Thing, Nothing, Whole, Frame, Lease, Return, thing_of, thing_at, things_from, requests_of, buffer_of, names_in, is_named, times, as_buffer, as_lease, lends, gives_back, brings_leases}
+use Rattle.owner_law.specs.Keeping.{Keeps, is_out, at_start}
 
 -- a beginning has each buffer no more often
 pub times_few : (b : Buffer) (xs ys : List (Option Buffer)) → IsPrefix xs ys → times b xs ≤ times b ys
@@ -76,7 +63,7 @@ module _ (naming : Naming) (m : Moved) (q : ℕ) (items : List Item) where
   returns_none ws f eq none is = by_names f (Returns ws) 0 eq (λ rs. sum_zero f (Returns ws) (λ rs k i. made_zero f Return none is (buffer_of ws i)) rs 0 items)
 
 -- an actor that lends nothing keeps where it puts no more than it had and took
-pub keeps_plain : (hand : ℕ → List ℕ) (took put : List Thing) → ((b : Buffer) → sum_by (lends b) took ≡ 0) → ((b : Buffer) → sum_by (as_buffer b) put ≤ started hand b + sum_by (as_buffer b) took) → ((b : Buffer) → sum_by (as_lease b) put ≤ sum_by (brings_leases b) took) → Keeps hand took put
+pub keeps_plain : (hand : ℕ → List ℕ) (took put : List Thing) → ((b : Buffer) → sum_by (lends b) took ≡ 0) → ((b : Buffer) → sum_by (as_buffer b) put ≤ at_start hand b + sum_by (as_buffer b) took) → ((b : Buffer) → sum_by (as_lease b) put ≤ sum_by (brings_leases b) took) → Keeps hand took put
 keeps_plain hand took put lent buffers leases = record {
   buffers = λ b. omega (arith, buffers b, none b);
   leases = leases;

@@ -9,7 +9,7 @@ use Rattle.wire_core.specs.Journal.{Track, start_track, start_history, history_a
 use Rattle.play_core.specs.Moved.{Moved, Seat, moved}
 use Rattle.owner_law.specs.Things.{Buffer, Naming, Thing, things_from, requests_of, things_sent, things_taken, as_buffer, as_lease, lends, gives_back, brings_leases}
 use Rattle.owner_law.specs.Owners.{InHand, Place, At, Lent, receivers, AreCounted}
-use Rattle.owner_law.specs.Keeping.{Keeper, started, things_in, things_out, by_role, came, went, stands_in, is_with, IsAmong, IsShownBy, first_place, start_table, AreDealt}
+use Rattle.owner_law.specs.Keeping.{Keeper, at_start, things_in, things_out, by_role, all_taken, all_put, stands_in, is_with, IsAmong, IsShownBy, first_place, start_table, AreDealt}
 use Rattle.owner_law.proofs.Sums.{sum_flat, sum_none}
 
 first_stands : (b : Bool) (k n : ℕ) (P : Place) → stands_in n P ≡ 0 → stands_in n (cond b (At (InHand k)) P) ≡ 0
@@ -18,7 +18,7 @@ first_stands false k n P h = h
 
 no_queue : (k n : ℕ) (ps : List Keeper) (b : Buffer) → stands_in n (first_place k ps b) ≡ 0
 no_queue k n [] b = refl
-no_queue k n (p ∷ ps) b = first_stands (nat_lt 0 (started p.hand b)) k n (first_place (k + 1) ps b) (no_queue (k + 1) n ps b)
+no_queue k n (p ∷ ps) b = first_stands (nat_lt 0 (at_start p.hand b)) k n (first_place (k + 1) ps b) (no_queue (k + 1) n ps b)
 
 first_receivers : (b : Bool) (k : ℕ) (P : Place) → receivers P ≡ 0 → receivers (cond b (At (InHand k)) P) ≡ 0
 first_receivers true k P h = refl
@@ -26,7 +26,7 @@ first_receivers false k P h = h
 
 no_receivers : (k : ℕ) (ps : List Keeper) (b : Buffer) → receivers (first_place k ps b) ≡ 0
 no_receivers k [] b = refl
-no_receivers k (p ∷ ps) b = first_receivers (nat_lt 0 (started p.hand b)) k (first_place (k + 1) ps b) (no_receivers (k + 1) ps b)
+no_receivers k (p ∷ ps) b = first_receivers (nat_lt 0 (at_start p.hand b)) k (first_place (k + 1) ps b) (no_receivers (k + 1) ps b)
 
 first_lent : (b : Bool) (k n : ℕ) (P : Place) → (P ≡ Lent n → ⊥) → cond b (At (InHand k)) P ≡ Lent n → ⊥
 first_lent true k n P h e = cc
@@ -34,7 +34,7 @@ first_lent false k n P h e = h e
 
 not_lent : (k n : ℕ) (ps : List Keeper) (b : Buffer) → first_place k ps b ≡ Lent n → ⊥
 not_lent k n [] b h = cc
-not_lent k n (p ∷ ps) b h = first_lent (nat_lt 0 (started p.hand b)) k n (first_place (k + 1) ps b) (not_lent (k + 1) n ps b) h
+not_lent k n (p ∷ ps) b h = first_lent (nat_lt 0 (at_start p.hand b)) k n (first_place (k + 1) ps b) (not_lent (k + 1) n ps b) h
 
 pub start_counted : (keepers : List Keeper) → AreCounted (start_table keepers)
 start_counted keepers = record {
@@ -48,7 +48,7 @@ first_among false k count lender P lt h = h
 
 among_all : (k count lender : ℕ) (ps : List Keeper) (b : Buffer) → k + length ps ≤ count → IsAmong count lender (first_place k ps b)
 among_all k count lender [] b le = tt
-among_all k count lender (p ∷ ps) b le = first_among (nat_lt 0 (started p.hand b)) k count lender (first_place (k + 1) ps b) (omega (arith, le)) (among_all (k + 1) count lender ps b (omega (arith, le)))
+among_all k count lender (p ∷ ps) b le = first_among (nat_lt 0 (at_start p.hand b)) k count lender (first_place (k + 1) ps b) (omega (arith, le)) (among_all (k + 1) count lender ps b (omega (arith, le)))
 
 other_hand : (k j : ℕ) → (k ≡ j → ⊥) → bit (k == j) ≡ 0
 other_hand k j off = split (eqb_tells k j)
@@ -64,31 +64,31 @@ first_with false lender k j d P here there = there refl
 -- nobody before the first of some actors has it
 before_first : (lender k j : ℕ) (ps : List Keeper) (b : Buffer) → j < k → is_with lender j (first_place k ps b) ≡ 0
 before_first lender k j [] b lt = refl
-before_first lender k j (p ∷ ps) b lt = first_with (nat_lt 0 (started p.hand b)) lender k j 0 (first_place (k + 1) ps b) (λ yes. other_hand k j (λ e. omega (arith, e, lt))) (λ no. before_first lender (k + 1) j ps b (omega (arith, lt)))
+before_first lender k j (p ∷ ps) b lt = first_with (nat_lt 0 (at_start p.hand b)) lender k j 0 (first_place (k + 1) ps b) (λ yes. other_hand k j (λ e. omega (arith, e, lt))) (λ no. before_first lender (k + 1) j ps b (omega (arith, lt)))
 
-started_few : (ps : List Keeper) (b : Buffer) (i : ℕ) (p : Keeper) → slice_get ps i ≡ Some p → started p.hand b ≤ sum_by (λ q. started q.hand b) ps
+started_few : (ps : List Keeper) (b : Buffer) (i : ℕ) (p : Keeper) → slice_get ps i ≡ Some p → at_start p.hand b ≤ sum_by (λ q. at_start q.hand b) ps
 started_few [] b i p at = cc
 started_few (q ∷ ps) b zero p at =
     let e : q ≡ p = cc in
-    let same : started q.hand b ≡ started p.hand b = ap (λ (x : Keeper). started x.hand b) e in
-    omega (arith, same, sum_by-cons (λ x. started x.hand b) q ps)
-started_few (q ∷ ps) b (suc i) p at = omega (arith, started_few ps b i p at, sum_by-cons (λ x. started x.hand b) q ps)
+    let same : at_start q.hand b ≡ at_start p.hand b = ap (λ (x : Keeper). at_start x.hand b) e in
+    omega (arith, same, sum_by-cons (λ x. at_start x.hand b) q ps)
+started_few (q ∷ ps) b (suc i) p at = omega (arith, started_few ps b i p at, sum_by-cons (λ x. at_start x.hand b) q ps)
 
 -- who has it at the start has it in the table
-first_has : (lender k : ℕ) (ps : List Keeper) (b : Buffer) → sum_by (λ q. started q.hand b) ps ≤ 1 → (i : ℕ) (p : Keeper) → slice_get ps i ≡ Some p → is_with lender (k + i) (first_place k ps b) ≡ started p.hand b
+first_has : (lender k : ℕ) (ps : List Keeper) (b : Buffer) → sum_by (λ q. at_start q.hand b) ps ≤ 1 → (i : ℕ) (p : Keeper) → slice_get ps i ≡ Some p → is_with lender (k + i) (first_place k ps b) ≡ at_start p.hand b
 first_has lender k [] b few i p at = cc
 first_has lender k (q ∷ ps) b few zero p at =
     let e : q ≡ p = cc in
-    let same : started q.hand b ≡ started p.hand b = ap (λ (x : Keeper). started x.hand b) e in
+    let same : at_start q.hand b ≡ at_start p.hand b = ap (λ (x : Keeper). at_start x.hand b) e in
     let self : bit (k == k + 0) ≡ 1 = ap bit (eq-eqb k (k + 0) (omega arith)) in
-    first_with (nat_lt 0 (started q.hand b)) lender k (k + 0) (started p.hand b) (first_place (k + 1) ps b)
-    (λ yes. omega (arith, self, same, few, ltb-true 0 (started q.hand b) yes, sum_by-cons (λ x. started x.hand b) q ps))
-    (λ no. omega (arith, same, ltb-false 0 (started q.hand b) no, before_first lender (k + 1) (k + 0) ps b (omega arith)))
+    first_with (nat_lt 0 (at_start q.hand b)) lender k (k + 0) (at_start p.hand b) (first_place (k + 1) ps b)
+    (λ yes. omega (arith, self, same, few, ltb-true 0 (at_start q.hand b) yes, sum_by-cons (λ x. at_start x.hand b) q ps))
+    (λ no. omega (arith, same, ltb-false 0 (at_start q.hand b) no, before_first lender (k + 1) (k + 0) ps b (omega arith)))
 first_has lender k (q ∷ ps) b few (suc i) p at =
-    let less : sum_by (λ x. started x.hand b) ps ≤ 1 = omega (arith, few, sum_by-cons (λ x. started x.hand b) q ps) in
+    let less : sum_by (λ x. at_start x.hand b) ps ≤ 1 = omega (arith, few, sum_by-cons (λ x. at_start x.hand b) q ps) in
     let place : k + 1 + i ≡ k + suc i = omega arith in
-    first_with (nat_lt 0 (started q.hand b)) lender k (k + suc i) (started p.hand b) (first_place (k + 1) ps b)
-    (λ yes. omega (arith, other_hand k (k + suc i) (λ e. omega (arith, e)), few, ltb-true 0 (started q.hand b) yes, started_few ps b i p at, sum_by-cons (λ x. started x.hand b) q ps))
+    first_with (nat_lt 0 (at_start q.hand b)) lender k (k + suc i) (at_start p.hand b) (first_place (k + 1) ps b)
+    (λ yes. omega (arith, other_hand k (k + suc i) (λ e. omega (arith, e)), few, ltb-true 0 (at_start q.hand b) yes, started_few ps b i p at, sum_by-cons (λ x. at_start x.hand b) q ps))
     (λ no. ap (λ j. is_with lender j (first_place (k + 1) ps b)) (sym place) ∙ first_has lender (k + 1) ps b less i p at)
 
 -- nothing went through the queues
@@ -115,10 +115,10 @@ module _ (naming : Naming) (rows : List QueueRow) where
   role_out f Consumer n = refl
   role_out f Producer n = none_sent f n
 
-  none_came : (f : Thing → ℕ) (ends : List Seat) → sum_by f (came naming m ends) ≡ 0
+  none_came : (f : Thing → ℕ) (ends : List Seat) → sum_by f (all_taken naming m ends) ≡ 0
   none_came f ends = sum_flat f (things_in naming m) ends ∙ sum_none (λ s. sum_by f (things_in naming m s)) ends (λ i s at. role_in f s.role s.queue)
 
-  none_went : (f : Thing → ℕ) (ends : List Seat) → sum_by f (went naming m ends) ≡ 0
+  none_went : (f : Thing → ℕ) (ends : List Seat) → sum_by f (all_put naming m ends) ≡ 0
   none_went f ends = sum_flat f (things_out naming m) ends ∙ sum_none (λ s. sum_by f (things_out naming m s)) ends (λ i s at. role_out f s.role s.queue)
 
 pub start_shown : (naming : Naming) (lender : ℕ) (rows : List QueueRow) (keepers : List Keeper) → AreDealt keepers → IsShownBy naming lender keepers (moved (start_history rows) []) (start_table keepers)
@@ -131,7 +131,7 @@ start_shown naming lender rows keepers dealt = record {
   among = λ b. among_all 0 (length keepers) lender keepers b (omega arith);
 }
   where
-    has : (k : ℕ) (p : Keeper) (b : Buffer) → slice_get keepers k ≡ Some p → is_with lender k (first_place 0 keepers b) ≡ started p.hand b
+    has : (k : ℕ) (p : Keeper) (b : Buffer) → slice_get keepers k ≡ Some p → is_with lender k (first_place 0 keepers b) ≡ at_start p.hand b
     has k p b at =
         let place : 0 + k ≡ k = omega arith in
         ap (λ j. is_with lender j (first_place 0 keepers b)) (sym place) ∙ first_has lender 0 keepers b (dealt b) k p at

@@ -18,7 +18,7 @@ use Rattle.play_core.proofs.Lists.{there_is, some_is}
 use Rattle.play_core.proofs.Walks.{begins_few}
 use Rattle.owner_law.specs.Things.{Buffer, Window, Names, NoBuffers, Buffers, Frames, Leases, Returns, Answers, Naming, Thing, Nothing, Whole, Frame, Lease, Return, thing_at, thing_of, things_from, requests_of, things_sent, things_taken, buffer_of, requested, as_buffer, as_lease, lends, gives_back, brings_leases}
 use Rattle.owner_law.specs.Owners.{InQueue, InHand, Lent, Table, leases_at, Stands, Move, Stays, Puts, Takes, call_move, move_of, after_move, after_put, after_take, Finds, receivers, AreCounted}
-use Rattle.owner_law.specs.Keeping.{Keeper, came, went, is_out, Keeps, is_with, IsShownBy, is_lending, IsNaming, AreKeepers, IsKept}
+use Rattle.owner_law.specs.Keeping.{Keeper, all_taken, all_put, is_out, Keeps, is_with, IsShownBy, is_lending, IsNaming, AreKeepers, IsKept}
 use Rattle.owner_law.proofs.Sums.{when, when_none}
 use Rattle.owner_law.proofs.Tables.{PutEffect, put_effect, TakeEffect, take_effect, IsLenders}
 use Rattle.owner_law.proofs.Lists.{Moves, entry_moves, Enough, enough_less, sum_things, put_sum, take_sum, sent_sum, taken_sum}
@@ -143,10 +143,10 @@ module _ (naming : Naming) (lender : ℕ) (hostile : Hostiles) (history : Histor
       still_taken : (f : Thing → ℕ) (q : ℕ) → sum_by f (things_taken naming m' q) ≡ sum_by f (things_taken naming m q)
       still_taken f q = omega (arith, taken_sum naming is.answers m m' n [] [] moves f q (taken_enough before kept q), when_none (n == q))
 
-      still_went : (f : Thing → ℕ) (j : ℕ) (p : Keeper) → slice_get keepers j ≡ Some p → sum_by f (went naming m' p.ends) ≡ sum_by f (went naming m p.ends)
+      still_went : (f : Thing → ℕ) (j : ℕ) (p : Keeper) → slice_get keepers j ≡ Some p → sum_by f (all_put naming m' p.ends) ≡ sum_by f (all_put naming m p.ends)
       still_went f j p at = omega (arith, went_sum naming is.answers m m' n [] [] moves (sent_enough before kept) (taken_enough before kept) f rows keepers are legal.row legal.there j p at, when_none (owner Producer == j))
 
-      still_came : (f : Thing → ℕ) (j : ℕ) (p : Keeper) → slice_get keepers j ≡ Some p → sum_by f (came naming m' p.ends) ≡ sum_by f (came naming m p.ends)
+      still_came : (f : Thing → ℕ) (j : ℕ) (p : Keeper) → slice_get keepers j ≡ Some p → sum_by f (all_taken naming m' p.ends) ≡ sum_by f (all_taken naming m p.ends)
       still_came f j p at = omega (arith, came_sum naming is.answers m m' n [] [] moves (sent_enough before kept) (taken_enough before kept) f rows keepers are legal.row legal.there j p at, when_none (owner Consumer == j))
 
       pub stay_step : Result Stays
@@ -180,14 +180,14 @@ module _ (naming : Naming) (lender : ℕ) (hostile : Hostiles) (history : Histor
       put_taken : (f : Thing → ℕ) (q : ℕ) → sum_by f (things_taken naming m' q) ≡ sum_by f (things_taken naming m q)
       put_taken f q = omega (arith, taken_sum naming is.answers m m' n (i ∷ []) [] moves f q (taken_enough before kept q), when_none (n == q))
 
-      put_went : (f : Thing → ℕ) → f Nothing ≡ 0 → (j : ℕ) (p : Keeper) → slice_get keepers j ≡ Some p → sum_by f (went naming m' p.ends) ≡ sum_by f (went naming m p.ends) + when (k == j) (f x)
+      put_went : (f : Thing → ℕ) → f Nothing ≡ 0 → (j : ℕ) (p : Keeper) → slice_get keepers j ≡ Some p → sum_by f (all_put naming m' p.ends) ≡ sum_by f (all_put naming m p.ends) + when (k == j) (f x)
       put_went f none j p at = omega (arith, went_sum naming is.answers m m' n (i ∷ []) [] moves (sent_enough before kept) (taken_enough before kept) f rows keepers are legal.row legal.there j p at, ap (when (owner Producer == j)) (put_one f), shares_same f none x (owner Producer) k j (by put_owned))
         where
           by : (x ≡ Nothing) ⊎ ((is_calm hostile legal.row ≡ true) × (owner Producer ≡ k)) → (x ≡ Nothing) ⊎ (owner Producer ≡ k)
           by (inl h) = inl h
           by (inr h) = inr h.1
 
-      put_came : (f : Thing → ℕ) (j : ℕ) (p : Keeper) → slice_get keepers j ≡ Some p → sum_by f (came naming m' p.ends) ≡ sum_by f (came naming m p.ends)
+      put_came : (f : Thing → ℕ) (j : ℕ) (p : Keeper) → slice_get keepers j ≡ Some p → sum_by f (all_taken naming m' p.ends) ≡ sum_by f (all_taken naming m p.ends)
       put_came f j p at = omega (arith, came_sum naming is.answers m m' n (i ∷ []) [] moves (sent_enough before kept) (taken_enough before kept) f rows keepers are legal.row legal.there j p at, when_none (owner Consumer == j))
 
       put_found : Stands t (InHand k) x
@@ -200,22 +200,22 @@ module _ (naming : Naming) (lender : ℕ) (hostile : Hostiles) (history : Histor
               let calm : hostile k ≡ false = subst (λ o. hostile o ≡ false) h.1 (calm_owner hostile legal.row h.0 Producer) in
               from some.0 some.1 (next.keeps k some.0 calm some.1)
             where
-              from : (p : Keeper) → slice_get keepers k ≡ Some p → Keeps p.hand (came naming m' p.ends) (went naming m' p.ends) → Stands t (InHand k) x
-              from p at keeps = put_finds lender k t (λ b. is_out b (came naming m' p.ends)) x buffers leases lent
+              from : (p : Keeper) → slice_get keepers k ≡ Some p → Keeps p.hand (all_taken naming m' p.ends) (all_put naming m' p.ends) → Stands t (InHand k) x
+              from p at keeps = put_finds lender k t (λ b. is_out b (all_taken naming m' p.ends)) x buffers leases lent
                 where
                   here : (d : ℕ) → when (k == k) d ≡ d
                   here d = rw (eq-eqb k k refl) refl
 
-                  buffers : (b : Buffer) → as_buffer b x + bit (is_out b (came naming m' p.ends)) ≤ is_with lender k (t.place b)
+                  buffers : (b : Buffer) → as_buffer b x + bit (is_out b (all_taken naming m' p.ends)) ≤ is_with lender k (t.place b)
                   buffers b = omega (arith, keeps.buffers b, put_went (as_buffer b) refl k p at, put_came (as_buffer b) k p at, shown.held k p b at, here (as_buffer b x))
 
                   leases : (b : Buffer) → as_lease b x ≤ leases_at t b (InHand k)
                   leases b = omega (arith, keeps.leases b, put_went (as_lease b) refl k p at, put_came (brings_leases b) k p at, shown.leases_held k p b at, here (as_lease b x))
 
-                  lent : (b : Buffer) (r : ℕ) → t.place b ≡ Lent r → lender ≡ k → is_out b (came naming m' p.ends) ≡ true
+                  lent : (b : Buffer) (r : ℕ) → t.place b ≡ Lent r → lender ≡ k → is_out b (all_taken naming m' p.ends) ≡ true
                   lent b r place_is his =
                       let owes : receivers (t.place b) ≡ r = ap receivers place_is in
-                      lt-ltb (sum_by (gives_back b) (came naming m' p.ends)) (sum_by (lends b) (came naming m' p.ends))
+                      lt-ltb (sum_by (gives_back b) (all_taken naming m' p.ends)) (sum_by (lends b) (all_taken naming m' p.ends))
                       (omega (arith, counted.some b r place_is, owes, shown.lent p b (subst (λ j. slice_get keepers j ≡ Some p) (sym his) at), put_came (gives_back b) k p at, put_came (lends b) k p at))
 
       put_effects : (b : Buffer) → PutEffect lender t k n x (after_put t k n x) b
@@ -255,10 +255,10 @@ module _ (naming : Naming) (lender : ℕ) (hostile : Hostiles) (history : Histor
       take_taken : (f : Thing → ℕ) (q : ℕ) → sum_by f (things_taken naming m' q) ≡ sum_by f (things_taken naming m q) + when (n == q) (f y)
       take_taken f q = omega (arith, taken_sum naming is.answers m m' n [] (i ∷ []) moves f q (taken_enough before kept q), ap (when (n == q)) (take_one f))
 
-      take_went : (f : Thing → ℕ) (j : ℕ) (p : Keeper) → slice_get keepers j ≡ Some p → sum_by f (went naming m' p.ends) ≡ sum_by f (went naming m p.ends)
+      take_went : (f : Thing → ℕ) (j : ℕ) (p : Keeper) → slice_get keepers j ≡ Some p → sum_by f (all_put naming m' p.ends) ≡ sum_by f (all_put naming m p.ends)
       take_went f j p at = omega (arith, went_sum naming is.answers m m' n [] (i ∷ []) moves (sent_enough before kept) (taken_enough before kept) f rows keepers are legal.row legal.there j p at, when_none (owner Producer == j))
 
-      take_came : (f : Thing → ℕ) → f Nothing ≡ 0 → (j : ℕ) (p : Keeper) → slice_get keepers j ≡ Some p → sum_by f (came naming m' p.ends) ≡ sum_by f (came naming m p.ends) + when (k == j) (f y)
+      take_came : (f : Thing → ℕ) → f Nothing ≡ 0 → (j : ℕ) (p : Keeper) → slice_get keepers j ≡ Some p → sum_by f (all_taken naming m' p.ends) ≡ sum_by f (all_taken naming m p.ends) + when (k == j) (f y)
       take_came f none j p at = omega (arith, came_sum naming is.answers m m' n [] (i ∷ []) moves (sent_enough before kept) (taken_enough before kept) f rows keepers are legal.row legal.there j p at, ap (when (owner Consumer == j)) (take_one f), shares_same f none y (owner Consumer) k j (by take_owned))
         where
           by : (y ≡ Nothing) ⊎ ((is_calm hostile legal.row ≡ true) × (owner Consumer ≡ k)) → (y ≡ Nothing) ⊎ (owner Consumer ≡ k)

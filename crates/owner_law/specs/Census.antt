@@ -5,7 +5,7 @@ use Rattle.wire_core.specs.Bells.{bit}
 use Rattle.wire_core.specs.Marks.{sum_below}
 use Rattle.owner_law.specs.Things.{Thing, as_buffer}
 use Rattle.owner_law.specs.Owners.{InQueue, InHand, Place, Nowhere, At, Lent, Table}
-use Rattle.owner_law.specs.Keeping.{started}
+use Rattle.owner_law.specs.Keeping.{at_start}
 
 -- a buffer that stands in a queue
 abbrev pub is_queued : Place → Bool
@@ -57,6 +57,6 @@ buffers_among pool buffers things =
     sum_below (λ no. sum_by (as_buffer (record { pool = pool; no = no })) things) buffers
 
 -- how many of them are in a hand at the start
-abbrev pub buffers_started : (pool buffers : ℕ) → (ℕ → List ℕ) → ℕ
-buffers_started pool buffers hand =
-    sum_below (λ no. started hand (record { pool = pool; no = no })) buffers
+abbrev pub buffers_at_start : (pool buffers : ℕ) → (ℕ → List ℕ) → ℕ
+buffers_at_start pool buffers hand =
+    sum_below (λ no. at_start hand (record { pool = pool; no = no })) buffers

@@ -22,8 +22,8 @@ abbrev pub keeper_of : Sheet → Keeper
 keeper_of s = record { ends = s.ends; hand = s.hand }
 
 -- how often a buffer is in a hand at the start
-abbrev pub started : (ℕ → List ℕ) → Buffer → ℕ
-started hand b = count_by (λ no. no == b.no) (hand b.pool)
+abbrev pub at_start : (ℕ → List ℕ) → Buffer → ℕ
+at_start hand b = count_by (λ no. no == b.no) (hand b.pool)
 
 -- of an end, what a consumer took there, or what a producer put
 abbrev pub by_role : Role → List Thing → List Thing → List Thing
@@ -39,12 +39,12 @@ abbrev pub things_out : Naming → Moved → Seat → List Thing
 things_out naming m s = by_role s.role [] (things_sent naming m s.queue)
 
 -- all that an actor took
-abbrev pub came : Naming → Moved → List Seat → List Thing
-came naming m ends = flat_map (things_in naming m) ends
+abbrev pub all_taken : Naming → Moved → List Seat → List Thing
+all_taken naming m ends = flat_map (things_in naming m) ends
 
 -- all that an actor put
-abbrev pub went : Naming → Moved → List Seat → List Thing
-went naming m ends = flat_map (things_out naming m) ends
+abbrev pub all_put : Naming → Moved → List Seat → List Thing
+all_put naming m ends = flat_map (things_out naming m) ends
 
 -- a buffer is lent by who lent it to more receivers than gave it back
 abbrev pub is_out : Buffer → List Thing → Bool
@@ -55,13 +55,13 @@ is_out b took = nat_lt (sum_by (gives_back b) took) (sum_by (lends b) took)
 -- took and made
 pub record Keeps (hand : ℕ → List ℕ) (took put : List Thing) : Type 0 where
   pub buffers : (b : Buffer) → sum_by (as_buffer b) put + bit (is_out b took)
-      ≤ started hand b + sum_by (as_buffer b) took
+      ≤ at_start hand b + sum_by (as_buffer b) took
   pub leases : (b : Buffer) → sum_by (as_lease b) put ≤ sum_by (brings_leases b) took
 
 -- the row of an actor lets it put only what was in its hand
 abbrev pub PutsItsOwn : Naming → Sheet → Type 0
 PutsItsOwn naming s = (m : Moved) → AreApart s.ends → s.row m
-    → Keeps s.hand (came naming m s.ends) (went naming m s.ends)
+    → Keeps s.hand (all_taken naming m s.ends) (all_put naming m s.ends)
 
 -- one where a buffer with this place stands in a queue
 abbrev pub stands_in : (queue : ℕ) → Place → ℕ
@@ -94,14 +94,14 @@ pub record IsShownBy (naming : Naming) (lender : ℕ) (keepers : List Keeper) (m
   pub leases_queued : (n : ℕ) (b : Buffer) → sum_by (as_lease b) (things_taken naming m n)
       + leases_at t b (InQueue n) ≡ sum_by (as_lease b) (things_sent naming m n)
   pub held : (k : ℕ) (p : Keeper) (b : Buffer) → slice_get keepers k ≡ Some p
-      → sum_by (as_buffer b) (went naming m p.ends) + is_with lender k (t.place b)
-      ≡ started p.hand b + sum_by (as_buffer b) (came naming m p.ends)
+      → sum_by (as_buffer b) (all_put naming m p.ends) + is_with lender k (t.place b)
+      ≡ at_start p.hand b + sum_by (as_buffer b) (all_taken naming m p.ends)
   pub leases_held : (k : ℕ) (p : Keeper) (b : Buffer) → slice_get keepers k ≡ Some p
-      → sum_by (as_lease b) (went naming m p.ends) + leases_at t b (InHand k)
-      ≡ sum_by (brings_leases b) (came naming m p.ends)
+      → sum_by (as_lease b) (all_put naming m p.ends) + leases_at t b (InHand k)
+      ≡ sum_by (brings_leases b) (all_taken naming m p.ends)
   pub lent : (p : Keeper) (b : Buffer) → slice_get keepers lender ≡ Some p
-      → receivers (t.place b) + sum_by (gives_back b) (came naming m p.ends)
-      ≡ sum_by (lends b) (came naming m p.ends)
+      → receivers (t.place b) + sum_by (gives_back b) (all_taken naming m p.ends)
+      ≡ sum_by (lends b) (all_taken naming m p.ends)
   pub among : (b : Buffer) → IsAmong (length keepers) lender (t.place b)
 
 -- buffers are lent where they are taken from such a queue, or come back there
@@ -116,7 +116,7 @@ is_lending (Answers q ws) = false
 -- the first of these actors, from a number on, in whose hand a buffer is at the start
 abbrev pub first_place : (actor : ℕ) → List Keeper → Buffer → Place
 first_place k [] b = Nowhere
-first_place k (p ∷ keepers) b = if nat_lt 0 (started p.hand b) then At (InHand k) else
+first_place k (p ∷ keepers) b = if nat_lt 0 (at_start p.hand b) then At (InHand k) else
     first_place (k + 1) keepers b
 
 -- the table at the start: each buffer is in the hand of the actor that has it, and none is lent
@@ -125,7 +125,7 @@ start_table keepers = record { place = first_place 0 keepers; leases = λ b. [] 
 
 -- no buffer is in two hands at the start, or twice in one
 abbrev pub AreDealt : List Keeper → Type 0
-AreDealt keepers = (b : Buffer) → sum_by (λ p. started p.hand b) keepers ≤ 1
+AreDealt keepers = (b : Buffer) → sum_by (λ p. at_start p.hand b) keepers ≤ 1
 
 -- items name buffers at queues that are there and have no hostile end; one actor lends; and no
 -- queue answers itself
@@ -152,8 +152,8 @@ pub record AreKeepers (rows : List QueueRow) (keepers : List Keeper) : Type 0 wh
 pub record IsKept (naming : Naming) (hostile : Hostiles) (history : History) (rows : List QueueRow)
     (keepers : List Keeper) (journal : List Entry) : Type 0 where
   pub keeps : (k : ℕ) (p : Keeper) → hostile k ≡ false → slice_get keepers k ≡ Some p
-      → Keeps p.hand (came naming (moved history journal) p.ends)
-      (went naming (moved history journal) p.ends)
+      → Keeps p.hand (all_taken naming (moved history journal) p.ends)
+      (all_put naming (moved history journal) p.ends)
   pub flows : QueuesFlow hostile history rows journal
   pub answers : (n q : ℕ) (ws : List Window) → naming n ≡ Answers q ws
       → length (sent history n journal) ≤ length (sent history q journal)

@@ -1,5 +1,5 @@
 -- What items carry from owner to owner: buffers, and leave to read a buffer.
-use Rattle.std.specs.Prelude.{◌==◌, ◌&&◌, ◌+◌, ◌-◌, ◌*◌, ◌/◌, ℕ, Bool, nat_lt, if◌then◌else◌, Option, Some, None, List, [], ◌∷◌, slice_get, slice_index_or, option_and_then}
+use Rattle.std.specs.Prelude.{◌==◌, ◌&&◌, ◌+◌, ◌-◌, ◌*◌, ◌/◌, ℕ, Bool, nat_lt, if◌then◌else◌, Option, Some, None, List, [], ◌∷◌, slice_get, slice_index_or, option_and_then, map, sum_by}
 use Rattle.cargo_core.specs.declared.item.Item.{Item}
 use Rattle.cargo_core.specs.declared.item.Item.TheVariants as ItemOf
 use Rattle.cargo_core.specs.declared.item.Code.{Code}
@@ -56,6 +56,19 @@ address_of (ItemOf.Resp r) = None
 -- the buffer that an item names
 abbrev pub buffer_of : List Window → Item → Option Buffer
 buffer_of ws item = option_and_then (buffer_at ws) (address_of item)
+
+-- the buffers that items name, one each
+abbrev pub names_in : List Window → List Item → List (Option Buffer)
+names_in ws items = map (buffer_of ws) items
+
+-- one where a name is this buffer
+abbrev pub is_named : Buffer → Option Buffer → ℕ
+is_named b None = 0
+is_named b (Some c) = bit (is_same c b)
+
+-- how often a buffer is among these names
+abbrev pub times : Buffer → List (Option Buffer) → ℕ
+times b names = sum_by (is_named b) names
 
 -- what the items of a queue name: nothing; a buffer each; buffers with frames, each of which is
 -- lent where it is taken, to as many receivers as the frame of its place has; leave to read a

@@ -11,8 +11,8 @@ ghost use Rattle.wire_core.specs.Marks.{sum_below};
 ghost use Rattle.play_core.specs.Moved.{Moved, moved};
 ghost use Rattle.owner_law.specs.Things.{Naming, things_sent, things_taken};
 ghost use Rattle.owner_law.specs.Owners.{Table, AreCounted, OneOwner, replay, replay_from};
-ghost use Rattle.owner_law.specs.Keeping.{Keeper, came, went, IsShownBy, start_table, AreDealt, IsNaming, IsOwned};
-ghost use Rattle.owner_law.specs.Census.{census, IsPool, buffers_among, buffers_started};
+ghost use Rattle.owner_law.specs.Keeping.{Keeper, all_taken, all_put, IsShownBy, start_table, AreDealt, IsNaming, IsOwned};
+ghost use Rattle.owner_law.specs.Census.{census, IsPool, buffers_among, buffers_at_start};
 
 /// The replay of a journal is that of its beginning and then of its rest.
 pub fn replay_law()
@@ -66,7 +66,7 @@ pub fn census_law()
         (pool buffers : ℕ)
         → IsShownBy naming lender keepers m t
         → (census t pool buffers).hands + (census t pool buffers).lent
-        + sum_by (λ p. buffers_among pool buffers (went naming m p.ends)) keepers
-        ≡ sum_by (λ p. buffers_started pool buffers p.hand
-        + buffers_among pool buffers (came naming m p.ends)) keepers }
+        + sum_by (λ p. buffers_among pool buffers (all_put naming m p.ends)) keepers
+        ≡ sum_by (λ p. buffers_at_start pool buffers p.hand
+        + buffers_among pool buffers (all_taken naming m p.ends)) keepers }
 {}

@@ -1,0 +1,111 @@
+use Rattle.std.proofs.Common.{◌≡◌, ◌==◌, ◌&&◌, ◌+◌, ◌*◌, ◌/◌, ◌<◌, ◌≤◌, ℕ, suc, Bool, true, false, cond, if◌then◌else◌, Some, List, [], ◌∷◌, ◌++◌, length, map, slice_get, sum_by, count_by, refl, ap, ◌∙◌, arith, mul-div_cancel, eq-eqb, lt-ltb}
+use Rattle.std.proofs.Math.Nat.{add-sub_cancel_left}
+use Rattle.std.proofs.lemmas.List.Sums.{sum_by-cons, sum_by-append}
+use Rattle.cargo_core.specs.Pages.{Paged}
+use Rattle.wire_core.specs.Bells.{bit}
+use Rattle.wire_core.specs.Deeds.{Cargo}
+use Rattle.wire_core.specs.Lists.{Passed}
+use Rattle.play_core.specs.Moved.{Moved}
+use Rattle.owner_law.specs.Things.{is_named, times, names_in, Buffer, is_same, Window, Naming, Thing, Nothing, Whole, number_at, begins_at, buffer_at, as_buffer, as_lease, lends, gives_back, brings_leases}
+use Rattle.owner_law.specs.Keeping.{Keeps, at_start, all_taken, all_put, things_in, things_out}
+use Rattle.owner_law.proofs.Sums.{sum_flat}
+use Rattle.owner_law.proofs.Named.{carried, buffers_are, buffers_none, keeps_plain}
+use Rattle.net_kit.specs.Pools.{given_entry}
+use Rattle.net_kit.specs.declared.stock.Stock.{Stock}
+use Rattle.net_client.specs.Clients.{ClientRow, rx_active, rx_free, tx_active, tx_free}
+use Rattle.net_client.specs.declared.NetClient.{NetClient}
+use Rattle.net_owners.specs.Ends.{AreItemsOf, client_ends, ClientNames, stock_window, numbers_from, numbers_of, client_start}
+use Rattle.net_owners.proofs.Few.{few, named}
+
+-- a buffer is named by the address at which it begins
+number_is : (w : Window) (k : ℕ) → 0 < w.size → number_at w (w.base + k * w.size) ≡ k
+number_is w k some = ap (λ a. a / w.size) (add-sub_cancel_left w.base (k * w.size)) ∙ mul-div_cancel k some
+
+at_address : (w : Window) (k : ℕ) → 0 < w.size → k < w.buffers → buffer_at (w ∷ []) (w.base + k * w.size) ≡ Some (record { pool = w.pool; no = k })
+at_address w k some lt =
+    let begins : begins_at w (w.base + k * w.size) ≡ true = rw (number_is w k some, lt-ltb k w.buffers lt, eq-eqb (w.base + k * w.size) (w.base + k * w.size) refl) refl in
+    rw (begins, number_is w k some) refl
+
+-- numbers of another pool, or of this one
+here_or_not : (s : Bool) (n k : ℕ) (rest : List ℕ) (more : ℕ) → more ≤ count_by (λ x. x == n) (cond s rest []) → bit (s && (k == n)) + more ≤ count_by (λ x. x == n) (cond s (k ∷ rest) [])
+here_or_not true n k rest more le =
+    let one : bit (k == n) ≡ cond {A = ℕ} (k == n) 1 0 = by (k == n) in
+    omega (arith, le, one, sum_by-cons (λ x. cond {A = ℕ} (x == n) 1 0) k rest)
+  where
+    by : (b : Bool) → bit b ≡ cond {A = ℕ} b 1 0
+    by true = refl
+    by false = refl
+here_or_not false n k rest more le = omega (arith, le)
+
+-- the buffers of a stock, from one on, are named by their numbers
+given_few : (s : Stock) (b : Buffer) (pages : List Paged) (k : ℕ) → 0 < s.size → ((i : ℕ) (p : Paged) → slice_get pages i ≡ Some p → p.no ≡ k + i) → k + length pages ≤ s.buffers → times b (named (stock_window s ∷ []) (map (given_entry s.base s.size) pages)) ≤ count_by (λ x. x == b.no) (if s.pool.0 == b.pool then numbers_from k (length pages) else [])
+given_few s b [] k some numbered le = omega arith
+given_few s b (p ∷ pages) k some numbered le =
+    let no_is : p.no ≡ k = numbered 0 p refl ∙ plus in
+    let address : s.base + p.no * s.size ≡ s.base + k * s.size = ap (λ n. s.base + n * s.size) no_is in
+    let head : is_named b (buffer_at (stock_window s ∷ []) (s.base + p.no * s.size)) ≡ bit ((s.pool.0 == b.pool) && (k == b.no)) =
+    ap (λ a. is_named b (buffer_at (stock_window s ∷ []) a)) address ∙ ap (is_named b) (at_address (stock_window s) k some (omega (arith, le))) in
+    let tail : times b (named (stock_window s ∷ []) (map (given_entry s.base s.size) pages)) ≤ count_by (λ x. x == b.no) (if s.pool.0 == b.pool then numbers_from (k + 1) (length pages) else []) =
+    given_few s b pages (k + 1) some (λ i q at. numbered (suc i) q at ∙ shift i) (omega (arith, le)) in
+    omega (arith, sum_by-cons (is_named b) (buffer_at (stock_window s ∷ []) (s.base + p.no * s.size)) (named (stock_window s ∷ []) (map (given_entry s.base s.size) pages)), head, here_or_not (s.pool.0 == b.pool) b.no k (numbers_from (k + 1) (length pages)) (times b (named (stock_window s ∷ []) (map (given_entry s.base s.size) pages))) tail)
+  where
+    plus : k + 0 ≡ k
+    plus = omega arith
+
+    shift : (i : ℕ) → k + suc i ≡ k + 1 + i
+    shift i = omega arith
+
+module _ (naming : Naming) (sending : List Window) (c : NetClient) (passed : Passed) (m : Moved) (names : ClientNames naming sending c) (items : AreItemsOf (client_ends c) passed m) (row : ClientRow c passed) where
+  abbrev ws : List Window
+  ws = stock_window c.stock ∷ []
+
+  client_came : (f : Thing → ℕ) → sum_by f (all_taken naming m (client_ends c)) ≡ carried naming m (rx_active c) (m.taken (rx_active c)) f + carried naming m (tx_free c) (m.taken (tx_free c)) f
+  client_came f =
+      let parts : sum_by f (all_taken naming m (client_ends c)) ≡ 0 + carried naming m (rx_active c) (m.taken (rx_active c)) f + 0 + carried naming m (tx_free c) (m.taken (tx_free c)) f + 0 = sum_flat f (things_in naming m) (client_ends c) in
+      omega (arith, parts)
+
+  client_went : (f : Thing → ℕ) → sum_by f (all_put naming m (client_ends c)) ≡ carried naming m (rx_free c) (m.sent (rx_free c)) f + carried naming m (tx_active c) (m.sent (tx_active c)) f
+  client_went f =
+      let parts : sum_by f (all_put naming m (client_ends c)) ≡ 0 + 0 + carried naming m (rx_free c) (m.sent (rx_free c)) f + 0 + carried naming m (tx_active c) (m.sent (tx_active c)) f = sum_flat f (things_out naming m) (client_ends c) in
+      omega (arith, parts)
+
+  client_came_none : (f : Thing → ℕ) → f Nothing ≡ 0 → ((d : Buffer) → f (Whole d) ≡ 0) → sum_by f (all_taken naming m (client_ends c)) ≡ 0
+  client_came_none f none whole = omega (arith, client_came f, buffers_none naming m (rx_active c) (m.taken (rx_active c)) ws f names.active none whole, buffers_none naming m (tx_free c) (m.taken (tx_free c)) sending f names.sent none whole)
+
+  client_went_none : (f : Thing → ℕ) → f Nothing ≡ 0 → ((d : Buffer) → f (Whole d) ≡ 0) → sum_by f (all_put naming m (client_ends c)) ≡ 0
+  client_went_none f none whole = omega (arith, client_went f, buffers_none naming m (rx_free c) (m.sent (rx_free c)) ws f names.free none whole, buffers_none naming m (tx_active c) (m.sent (tx_active c)) sending f names.sends none whole)
+
+  client_buffers : (b : Buffer) → sum_by (as_buffer b) (all_put naming m (client_ends c)) ≤ at_start (client_start c) b + sum_by (as_buffer b) (all_taken naming m (client_ends c))
+  client_buffers b =
+      let into = buffers_are naming m (rx_active c) (m.taken (rx_active c)) ws (as_buffer b) b names.active refl (λ d. refl) ∙ ap (λ xs. times b (names_in ws xs)) (items 0 _ refl) in
+      let out = buffers_are naming m (rx_free c) (m.sent (rx_free c)) ws (as_buffer b) b names.free refl (λ d. refl) ∙ ap (λ xs. times b (names_in ws xs)) (items 1 _ refl) in
+      let sends = buffers_are naming m (tx_active c) (m.sent (tx_active c)) sending (as_buffer b) b names.sends refl (λ d. refl) ∙ (ap (λ xs. times b (names_in sending xs)) (items 3 _ refl) ∙ ap (λ cs. times b (named sending cs)) row.sends) in
+      let given = map (given_entry c.stock.base c.stock.size) row.start in
+      let parts : times b (named ws (given ++ passed.taken (rx_active c))) ≡ times b (named ws given) + times b (named ws (passed.taken (rx_active c))) = split given (passed.taken (rx_active c)) in
+      let stock = given_few c.stock b row.start 0 row.is_start.are_pool.some (λ i p at. row.is_start.are_pool.numbered i p at ∙ first i) (omega (arith, row.is_start.many)) in
+      let many : count_by (λ x. x == b.no) (if c.stock.pool.0 == b.pool then numbers_from 0 (length row.start) else []) ≡ count_by (λ x. x == b.no) (if c.stock.pool.0 == b.pool then numbers_from 0 c.stock.buffers else []) = ap (λ n. count_by (λ x. x == b.no) (if c.stock.pool.0 == b.pool then numbers_from 0 n else [])) row.is_start.many in
+      omega (
+        arith,
+        client_came (as_buffer b),
+        client_went (as_buffer b),
+        into,
+        out,
+        sends,
+        few b ws (passed.sent (rx_free c)) (given ++ passed.taken (rx_active c)) row.given,
+        parts,
+        stock,
+        many,
+        sum_by-append (λ x. cond {A = ℕ} (x == b.no) 1 0) (if c.stock.pool.0 == b.pool then numbers_from 0 c.stock.buffers else []) (numbers_of b.pool c.spare.items),
+      )
+    where
+      first : (i : ℕ) → i ≡ 0 + i
+      first i = omega arith
+
+      split : (xs ys : List Cargo) → times b (named ws (xs ++ ys)) ≡ times b (named ws xs) + times b (named ws ys)
+      split [] ys = omega arith
+      split (x ∷ xs) ys = omega (arith, split xs ys, sum_by-cons (is_named b) (Rattle.owner_law.specs.Things.buffer_of ws x.0) (named ws (xs ++ ys)), sum_by-cons (is_named b) (Rattle.owner_law.specs.Things.buffer_of ws x.0) (named ws xs))
+
+  pub client_keeps : Keeps (client_start c) (all_taken naming m (client_ends c)) (all_put naming m (client_ends c))
+  client_keeps = keeps_plain (client_start c) (all_taken naming m (client_ends c)) (all_put naming m (client_ends c))
+      (λ b. client_came_none (lends b) refl (λ d. refl)) client_buffers
+      (λ b. omega (arith, client_went_none (as_lease b) refl (λ d. refl)))
