@@ -1,6 +1,7 @@
 //! The table of a plan: its elements class by class, each class before its clients.
-ghost use Rattle.std.specs.Prelude.{◌≡◌, ◌++◌, [], map, IfOk, OnOk};
+ghost use Rattle.std.specs.Prelude.{◌≡◌, ◌<◌, ◌^◌, ◌++◌, [], length, map, IfOk, IfSome, OnOk};
 ghost use Rattle.std.specs.Option.{option_map_or};
+ghost use Rattle.sdf_plan.specs.Elements.{IsNumbered};
 ghost use Rattle.class_table.specs.Shown.{element_shown};
 ghost use Rattle.class_table.specs.Table.{table_of, net_elements, serial_elements, blk_elements, numbered, net_client_element, serial_client_element, blk_client_element};
 
@@ -9,12 +10,13 @@ use crate::net::{net_client_element, net_element};
 use crate::serial::{serial_client_element, serial_element};
 use crate::uses::ClassElement;
 use cargo_core::Memory;
-use sdf_plan::{Blk, BlkClient, Net, NetClient, Plan, Serial, SerialClient, number_of};
+use sdf_plan::{Blk, BlkClient, Net, NetClient, Plan, Serial, SerialClient};
 use std::alloc::Global;
 
 /// The elements of the classes of a plan, in the order of the walk. Their texts are the plan's.
 #[tactic(auto, using(std::proofs::Common::append_assoc), unfolding(crate::specs::Table::table_of))]
 pub fn table_of<'a>(alloc: Global, plan: &'a Plan) -> Result<Vec<ClassElement<&'a str>>, Memory>
+    requires { IsNumbered plan.now }
     ensures { IfOk result (λ table. map element_shown table.items ≡ table_of plan.now) }
 {
     let mut table = Vec::new(alloc);
@@ -29,6 +31,7 @@ fn add_net<'a>(
     table: &mut Vec<ClassElement<&'a str>>,
     class: &'a Option<Net>,
 ) -> Result<(), Memory>
+    requires { IfSome class.now (λ c. length c.client < 2 ^ 32) }
     ensures { OnOk result
         (map element_shown table.new.items
         ≡ map element_shown table.old.items ++ option_map_or net_elements class.now []) }
@@ -46,12 +49,13 @@ fn add_net_clients<'a>(
     net: &'a Net,
     clients: &'a [NetClient],
 ) -> Result<(), Memory>
+    requires { length clients.now < 2 ^ 32 }
     ensures { OnOk result
         (map element_shown table.new.items
         ≡ map element_shown table.old.items ++ numbered (net_client_element net.now) 0 clients.now) }
 {
     for (at, client) in clients.iter().enumerate() {
-        let number = number_of(alloc, at)?;
+        let number = at as u32;
         table.push(net_client_element(alloc, net, number, client)?)?;
     }
     Ok(())
@@ -62,6 +66,7 @@ fn add_serial<'a>(
     table: &mut Vec<ClassElement<&'a str>>,
     class: &'a Option<Serial>,
 ) -> Result<(), Memory>
+    requires { IfSome class.now (λ c. length c.client < 2 ^ 32) }
     ensures { OnOk result
         (map element_shown table.new.items
         ≡ map element_shown table.old.items ++ option_map_or serial_elements class.now []) }
@@ -79,12 +84,13 @@ fn add_serial_clients<'a>(
     serial: &'a Serial,
     clients: &'a [SerialClient],
 ) -> Result<(), Memory>
+    requires { length clients.now < 2 ^ 32 }
     ensures { OnOk result
         (map element_shown table.new.items
         ≡ map element_shown table.old.items ++ numbered (serial_client_element serial.now) 0 clients.now) }
 {
     for (at, client) in clients.iter().enumerate() {
-        let number = number_of(alloc, at)?;
+        let number = at as u32;
         table.push(serial_client_element(alloc, serial, number, client)?)?;
     }
     Ok(())
@@ -95,6 +101,7 @@ fn add_blk<'a>(
     table: &mut Vec<ClassElement<&'a str>>,
     class: &'a Option<Blk>,
 ) -> Result<(), Memory>
+    requires { IfSome class.now (λ c. length c.client < 2 ^ 32) }
     ensures { OnOk result
         (map element_shown table.new.items
         ≡ map element_shown table.old.items ++ option_map_or blk_elements class.now []) }
@@ -112,12 +119,13 @@ fn add_blk_clients<'a>(
     blk: &'a Blk,
     clients: &'a [BlkClient],
 ) -> Result<(), Memory>
+    requires { length clients.now < 2 ^ 32 }
     ensures { OnOk result
         (map element_shown table.new.items
         ≡ map element_shown table.old.items ++ numbered (blk_client_element blk.now) 0 clients.now) }
 {
     for (at, client) in clients.iter().enumerate() {
-        let number = number_of(alloc, at)?;
+        let number = at as u32;
         table.push(blk_client_element(alloc, blk, number, client)?)?;
     }
     Ok(())

@@ -1,4 +1,6 @@
 //! The table of a plan with the serial class alone, row by row against the tables of queues and pools.
+ghost use Rattle.sdf_plan.specs.Elements.{IsNumbered};
+
 use super::{Ends, QueueUse, table_of};
 use cargo_core::{QueueKind, Series, Text};
 use sdf_plan::{Place, Plan, Serial, SerialClient};
@@ -10,7 +12,9 @@ fn text(rt: &impl Abort, alloc: Global, name: &str) -> Text {
 }
 
 /// A serial class with one client.
-fn plan(rt: &impl Abort, alloc: Global) -> Plan {
+fn plan(rt: &impl Abort, alloc: Global) -> Plan
+    ensures { IsNumbered result }
+{
     let mut clients = Series::new(alloc);
     let client = SerialClient {
         pd: text(rt, alloc, "term0"),

@@ -2,7 +2,7 @@
 ghost use Rattle.std.specs.Prelude.{◌≡◌, ◌↔◌, ℕ, MatchOption, MatchResult, IsTrue, Ok, IfOk, OnOk};
 ghost use Rattle.std.specs.BTreeMap.{get};
 ghost use Rattle.sdf_plan.specs.Places.{walk, IsKept, IsFirstBroken};
-ghost use Rattle.sdf_plan.specs.Elements.{outline_of};
+ghost use Rattle.sdf_plan.specs.Elements.{outline_of, IsNumbered};
 ghost use Rattle.sdf_check.specs.Priors.{OrPrior, AreTables};
 ghost use Rattle.sdf_check.specs.Valid.{Valid, IsRefused, IfRefused, broken, BreaksPlanRule, BreaksClassRule};
 
@@ -129,6 +129,7 @@ fn first_broken(judge: &Judge<'_>, tables: &Tables<'_>, rule: u8, places: &[Plac
 
 // The least rule that is broken, at the first place that breaks it.
 fn refusal_of(alloc: Global, plan: &Plan) -> Result<Option<Refusal>, Memory>
+    requires { IsNumbered plan.now }
     ensures { IfOk result (λ refusal. MatchOption refusal (Valid plan.now) (IsRefused plan.now)) }
 {
     let judge = judge_of(alloc, plan)?;
@@ -144,8 +145,9 @@ fn refusal_of(alloc: Global, plan: &Plan) -> Result<Option<Refusal>, Memory>
 
 /// Judges a plan by the rules on names, sizes, ranges, permissions, ids and classes. `Refused` has the least rule that
 /// an element breaks, and the first element that breaks it, in the order of the walk over a description. Want of
-/// memory, which a list of 2^32 elements counts as too, may come at any plan.
+/// memory may come at any plan.
 pub fn check(alloc: Global, plan: &Plan) -> Result<(), SdfFault>
+    requires { IsNumbered plan.now }
     ensures valid { OnOk result (Valid plan.now) }
     ensures refused { IfRefused result (IsRefused plan.now) }
 {

@@ -1,6 +1,7 @@
 pub mod EditedCounts
 pub mod Found
 pub mod Judging
+pub mod Numbered
 pub mod Rows
 pub mod TableCounts
 pub mod TextCounts

@@ -1,6 +1,7 @@
 ghost use Rattle.std.specs.Prelude.{◌≡◌, ◌<◌, ◌≤◌, ◌^◌, ℕ, length, None, Some, IfOk, IfErr};
 ghost use Rattle.toml.specs.Data.{Members};
 ghost use Rattle.toml.specs.View.{table_view};
+ghost use Rattle.sdf_plan.specs.Elements.{IsNumbered};
 ghost use Rattle.sdf_plan.specs.Places.{KeepsRules, IsRefusal};
 ghost use Rattle.sdf_model.specs.Spelled.{plan_of};
 ghost use Rattle.sdf_model.specs.Tree.{IsDocument, BreaksText, places_of, IfRefused};
@@ -27,6 +28,7 @@ pub fn read_description(alloc: Global, bytes: &[u8]) -> Result<Plan, SdfFault>
     requires { length bytes.now ≤ text_most }
     ensures accepted { IfOk result (λ plan. (root : Members) × IsDocument bytes.now root
         × KeepsRules (BreaksText bytes.now) (places_of bytes.now) 1 4 × (plan ≡ plan_of root)) }
+    ensures numbered { IfOk result IsNumbered }
     ensures refused { IfErr result (λ fault. IfRefused fault (IsRefusal (BreaksText bytes.now) (places_of bytes.now) 1 4)) }
 {
     match toml::table_from_slice(alloc, bytes) {
@@ -46,6 +48,7 @@ fn read_root(alloc: Global, root: &Table) -> Result<Plan, SdfFault>
     requires { elements_of_members (table_view root.now) < 2 ^ 32 }
     ensures accepted { IfOk result (λ plan. ((n : ℕ) → 2 ≤ n → n ≤ 4 → first_broken n (elements_of (table_view root.now)) ≡ None)
         × (plan ≡ plan_of (table_view root.now))) }
+    ensures numbered { IfOk result IsNumbered }
     ensures refused { IfErr result (λ fault. IfRefused fault (Judged (elements_of (table_view root.now)))) }
 {
     let elements = elements(alloc, root)?;

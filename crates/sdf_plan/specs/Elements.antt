@@ -1,5 +1,5 @@
 -- The elements of a plan: how many there are of each sort, and what holds of the one at a place.
-use Rattle.std.specs.Prelude.{ℕ, length, map, slice_get, IsSomeAnd}
+use Rattle.std.specs.Prelude.{ℕ, ◌<◌, ◌^◌, length, map, slice_get, All, IfSome, IsSomeAnd}
 use Rattle.std.specs.Option.{option_map}
 use Rattle.sdf_plan.specs.Places.{Outline}
 use Rattle.sdf_plan.specs.declared.plan.Plan.{Plan}
@@ -33,6 +33,18 @@ outline_of plan = record {
   serial = option_map (λ (s : Serial). length s.client) plan.serial;
   blk = option_map (λ (b : Blk). length b.client) plan.blk;
 }
+
+-- each list of a plan has fewer than 2^32 elements, so that the number of each takes 32 bits
+pub record IsNumbered (plan : Plan) : Type 0 where
+  pub regions : length plan.memory_region < 2 ^ 32
+  pub domains : length plan.protection_domain < 2 ^ 32
+  pub maps : All (λ (d : Domain). length d.map < 2 ^ 32) plan.protection_domain
+  pub irqs : All (λ (d : Domain). length d.irq < 2 ^ 32) plan.protection_domain
+  pub channels : length plan.channel < 2 ^ 32
+  pub ends : All (λ (c : Channel). length c.end < 2 ^ 32) plan.channel
+  pub net : IfSome plan.net (λ (n : Net). length n.client < 2 ^ 32)
+  pub serial : IfSome plan.serial (λ (s : Serial). length s.client < 2 ^ 32)
+  pub blk : IfSome plan.blk (λ (b : Blk). length b.client < 2 ^ 32)
 
 -- an element stands at this place, and this holds of it
 abbrev pub OfRegion : Plan → ℕ → (Region → Type 0) → Type 0

@@ -2,12 +2,10 @@
 //! all of them.
 #![tactic(auto)]
 
-mod number;
 mod place;
 mod places;
 mod plan;
 
-pub use number::number_of;
 pub use place::{Place, Refusal, SdfFault};
 pub use places::places_of;
 pub use plan::{

@@ -1,12 +1,13 @@
 //! All elements of a plan, in the order in which a rule is read.
-ghost use Rattle.std.specs.Prelude.{◌≡◌, ◌++◌, ◌∷◌, List, length, map, IfOk, OnOk, Option};
+ghost use Rattle.std.specs.Prelude.{◌≡◌, ◌<◌, ◌^◌, ◌++◌, ◌∷◌, List, length, map, All, IfOk, IfSome, OnOk, Option};
 ghost use Rattle.std.specs.Option.{option_map};
 ghost use Rattle.sdf_plan.specs.Places.{walk, places_from, domain_places, channel_places, class_places};
 ghost use Rattle.sdf_plan.specs.declared.place.Place.{Place};
-ghost use Rattle.sdf_plan.specs.Elements.{outline_of, domain_parts, channel_parts};
+ghost use Rattle.sdf_plan.specs.Elements.{outline_of, domain_parts, channel_parts, IsNumbered};
+ghost use Rattle.sdf_plan.specs.declared.plan.Domain.{Domain};
+ghost use Rattle.sdf_plan.specs.declared.plan.Channel.{Channel};
 ghost use Rattle.sdf_plan.specs.Walks.{member};
 
-use crate::number::number_of;
 use crate::place::Place;
 use crate::plan::{Channel, Domain, Plan};
 use cargo_core::Memory;
@@ -45,21 +46,25 @@ fn push_members(
     sort: Sort,
     count: usize,
 ) -> Result<(), Memory>
+    requires { count < 2 ^ 32 }
     ensures { OnOk result (places.new.items
         ≡ places.old.items ++ places_from (member sort) 0 count) }
 {
     for number in 0..count {
-        places.push(member(sort, number_of(alloc, number)?))?;
+        places.push(member(sort, number as u32))?;
     }
     Ok(())
 }
 
 fn push_domains(alloc: Global, places: &mut Vec<Place>, domains: &[Domain]) -> Result<(), Memory>
+    requires few { length domains.now < 2 ^ 32 }
+    requires maps { All (λ (d : Domain). length d.map < 2 ^ 32) domains.now }
+    requires irqs { All (λ (d : Domain). length d.irq < 2 ^ 32) domains.now }
     ensures { OnOk result (places.new.items
         ≡ places.old.items ++ domain_places 0 (map domain_parts domains.now)) }
 {
     for (at, domain) in domains.iter().enumerate() {
-        let number = number_of(alloc, at)?;
+        let number = at as u32;
         places.push(Place::Domain(number))?;
         push_members(alloc, places, Sort::Map(number), domain.map.len())?;
         push_members(alloc, places, Sort::Irq(number), domain.irq.len())?;
@@ -68,11 +73,13 @@ fn push_domains(alloc: Global, places: &mut Vec<Place>, domains: &[Domain]) -> R
 }
 
 fn push_channels(alloc: Global, places: &mut Vec<Place>, channels: &[Channel]) -> Result<(), Memory>
+    requires few { length channels.now < 2 ^ 32 }
+    requires ends { All (λ (c : Channel). length c.end < 2 ^ 32) channels.now }
     ensures { OnOk result (places.new.items
         ≡ places.old.items ++ channel_places 0 (map channel_parts channels.now)) }
 {
     for (at, channel) in channels.iter().enumerate() {
-        let number = number_of(alloc, at)?;
+        let number = at as u32;
         places.push(Place::Channel(number))?;
         push_members(alloc, places, Sort::End(number), channel.end.len())?;
     }
@@ -86,6 +93,7 @@ fn push_class(
     sort: Sort,
     clients: Option<usize>,
 ) -> Result<(), Memory>
+    requires { IfSome clients (λ n. n < 2 ^ 32) }
     ensures { OnOk result (places.new.items
         ≡ places.old.items ++ class_places class (member sort) clients) }
 {
@@ -125,6 +133,7 @@ fn blk_client_count(plan: &Plan) -> Option<usize>
 
 /// All elements of a plan, in the order in which a rule is read.
 pub fn places_of(alloc: Global, plan: &Plan) -> Result<Vec<Place>, Memory>
+    requires { IsNumbered plan.now }
     ensures { IfOk result (λ places. places.items ≡ walk (outline_of plan.now)) }
 {
     let mut places = Vec::new(alloc);

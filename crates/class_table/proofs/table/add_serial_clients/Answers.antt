@@ -1,4 +1,4 @@
-use Rattle.std.proofs.Common.{◌∙◌, ap, map}
+use Rattle.std.proofs.Common.{refl, ◌∙◌, ap, map}
 use Rattle.class_table.specs.Shown.{element_shown}
 use Rattle.class_table.specs.Table.{serial_client_element}
 use Rattle.class_table.proofs.Numbered.{numbered-step, shown-push}
@@ -7,5 +7,5 @@ use Rattle.class_table.proofs.table.add_serial_clients.Goals as goal
 pub loop-at-preserved : goal.loop-at-preserved
 loop-at-preserved c =
     numbered-step (serial_client_element c.args.serial.now) _ _ _ _ c.args.clients.now c.index-clients-at.result c.loop-at.at _
-    c.loop-at-test.true c.index-clients-at.is c.in_ok-number.ensures
+    c.loop-at-test.true c.index-clients-at.is refl
     c.in_ok-serial_client_element.ensures (ap (map element_shown) c.in_ok-push.ensures.items ∙ shown-push _ _) c.loop-at.invariant

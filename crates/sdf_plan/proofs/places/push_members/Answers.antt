@@ -4,4 +4,4 @@ use Rattle.sdf_plan.proofs.places.push_members.Goals as goal
 
 pub loop-number-preserved : goal.loop-number-preserved
 loop-number-preserved c =
-    members-step (member c.args.sort) _ _ _ _ _ c.loop-number-test.true (rw (← c.in_ok-number_of.ensures, ← c.member.ensures) c.in_ok-push.ensures.items) c.loop-number.invariant
+    members-step (member c.args.sort) _ _ _ _ _ c.loop-number-test.true (rw (← c.member.ensures) c.in_ok-push.ensures.items) c.loop-number.invariant
