@@ -35,11 +35,14 @@ parts first n (t ∷ ts) = (nth first n, t) ∷ parts first (n + 1) ts
 abbrev pub domain_parts : ℕ → List Members → List Seen
 domain_parts d [] = []
 domain_parts d (t ∷ ts) =
-    ((At.Domain d, t) ∷ parts (At.Map d 0) 0 (tables_at (codes "map") t) ++ parts (At.Irq d 0) 0 (tables_at (codes "irq") t)) ++ domain_parts (d + 1) ts
+    ((At.Domain d, t) ∷ parts (At.Map d 0) 0 (tables_at (codes "map") t)
+    ++ parts (At.Irq d 0) 0 (tables_at (codes "irq") t)) ++ domain_parts (d + 1) ts
 
 abbrev pub channel_parts : ℕ → List Members → List Seen
 channel_parts c [] = []
-channel_parts c (t ∷ ts) = ((At.Channel c, t) ∷ parts (At.End c 0) 0 (tables_at (codes "end") t)) ++ channel_parts (c + 1) ts
+channel_parts c (t ∷ ts) =
+    ((At.Channel c, t) ∷ parts (At.End c 0) 0 (tables_at (codes "end") t))
+    ++ channel_parts (c + 1) ts
 
 abbrev pub class_parts : Place → Place → Option Members → List Seen
 class_parts class client None = []
@@ -48,9 +51,12 @@ class_parts class client (Some t) = (class, t) ∷ parts client 0 (tables_at (co
 -- all elements in the order of the walk, with their tables
 unfoldable pub elements_of : Members → List Seen
 elements_of root =
-    (At.System, root) ∷ parts (At.Region 0) 0 (tables_at (codes "memory_region") root) ++ domain_parts 0 (tables_at (codes "protection_domain") root)
-    ++ channel_parts 0 (tables_at (codes "channel") root) ++ class_parts At.Net (At.NetClient 0) (table_at (codes "net") root)
-    ++ class_parts At.Serial (At.SerialClient 0) (table_at (codes "serial") root) ++ class_parts At.Blk (At.BlkClient 0) (table_at (codes "blk") root)
+    (At.System, root) ∷ parts (At.Region 0) 0 (tables_at (codes "memory_region") root)
+    ++ domain_parts 0 (tables_at (codes "protection_domain") root)
+    ++ channel_parts 0 (tables_at (codes "channel") root)
+    ++ class_parts At.Net (At.NetClient 0) (table_at (codes "net") root)
+    ++ class_parts At.Serial (At.SerialClient 0) (table_at (codes "serial") root)
+    ++ class_parts At.Blk (At.BlkClient 0) (table_at (codes "blk") root)
 
 -- the first element that breaks a rule
 abbrev pub first_broken : ℕ → List Seen → Option Place
@@ -59,5 +65,6 @@ first_broken rule elements = option_map (λ e. e.0) (find (λ e. breaks rule e.0
 -- the least of the rules read on one element that is broken, and the first element that breaks it
 abbrev pub Judged : List Seen → Refusal → Type 0
 Judged elements refusal =
-    (first_broken refusal.rule elements ≡ Some refusal.place) × (2 ≤ refusal.rule) × (refusal.rule ≤ 4)
+    (first_broken refusal.rule elements ≡ Some refusal.place)
+    × (2 ≤ refusal.rule) × (refusal.rule ≤ 4)
     × ((n : ℕ) → 2 ≤ n → n < refusal.rule → first_broken n elements ≡ None)

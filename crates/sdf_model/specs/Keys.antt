@@ -28,26 +28,44 @@ row_of key = record { name = key.name.now; kind = key.kind; absent = key.absent 
 -- the keys of each element
 abbrev pub system_keys : List Row
 system_keys =
-    row (codes "version") A.Version (If.Number 1) ∷ row (codes "memory_region") A.List If.Empty ∷ row (codes "protection_domain") A.List If.Refused
-    ∷ row (codes "channel") A.List If.Empty ∷ row (codes "net") A.Table If.Nothing ∷ row (codes "serial") A.Table If.Nothing ∷ row (codes "blk") A.Table If.Nothing ∷ []
+    row (codes "version") A.Version (If.Number 1)
+    ∷ row (codes "memory_region") A.List If.Empty
+    ∷ row (codes "protection_domain") A.List If.Refused
+    ∷ row (codes "channel") A.List If.Empty
+    ∷ row (codes "net") A.Table If.Nothing
+    ∷ row (codes "serial") A.Table If.Nothing
+    ∷ row (codes "blk") A.Table If.Nothing ∷ []
 
 abbrev pub region_keys : List Row
 region_keys =
-    row (codes "name") A.Name If.Refused ∷ row (codes "size") A.Number If.Refused ∷ row (codes "page_size") A.Number (If.Number 4096)
+    row (codes "name") A.Name If.Refused
+    ∷ row (codes "size") A.Number If.Refused
+    ∷ row (codes "page_size") A.Number (If.Number 4096)
     ∷ row (codes "phys_addr") A.Number If.Nothing ∷ []
 
 abbrev pub domain_keys : List Row
 domain_keys =
-    row (codes "name") A.Name If.Refused ∷ row (codes "priority") A.Number (If.Number 0) ∷ row (codes "budget") A.Number (If.Number 1000)
-    ∷ row (codes "period") A.Number If.Budget ∷ row (codes "program") A.Program If.Refused ∷ row (codes "map") A.List If.Empty ∷ row (codes "irq") A.List If.Empty ∷ []
+    row (codes "name") A.Name If.Refused
+    ∷ row (codes "priority") A.Number (If.Number 0)
+    ∷ row (codes "budget") A.Number (If.Number 1000)
+    ∷ row (codes "period") A.Number If.Budget
+    ∷ row (codes "program") A.Program If.Refused
+    ∷ row (codes "map") A.List If.Empty
+    ∷ row (codes "irq") A.List If.Empty ∷ []
 
 abbrev pub map_keys : List Row
 map_keys =
-    row (codes "mr") A.Name If.Refused ∷ row (codes "vaddr") A.Number If.Refused ∷ row (codes "perms") A.Text If.Refused
-    ∷ row (codes "cached") A.Truth If.True ∷ row (codes "setvar_vaddr") A.Text If.Nothing ∷ []
+    row (codes "mr") A.Name If.Refused
+    ∷ row (codes "vaddr") A.Number If.Refused
+    ∷ row (codes "perms") A.Text If.Refused
+    ∷ row (codes "cached") A.Truth If.True
+    ∷ row (codes "setvar_vaddr") A.Text If.Nothing ∷ []
 
 abbrev pub irq_keys : List Row
-irq_keys = row (codes "irq") A.Number If.Refused ∷ row (codes "id") A.Number If.Refused ∷ row (codes "trigger") A.Trigger If.Level ∷ []
+irq_keys =
+    row (codes "irq") A.Number If.Refused
+    ∷ row (codes "id") A.Number If.Refused
+    ∷ row (codes "trigger") A.Trigger If.Level ∷ []
 
 abbrev pub channel_keys : List Row
 channel_keys = row (codes "end") A.Pair If.Refused ∷ []
@@ -62,24 +80,34 @@ all_of kind (name ∷ names) more = row name kind If.Refused ∷ all_of kind nam
 
 abbrev pub net_keys : List Row
 net_keys =
-    all_of A.Name (codes "driver" ∷ codes "rx_virt" ∷ codes "tx_virt" ∷ codes "rx_region" ∷ codes "rx_queues" ∷ codes "tx_queues" ∷ [])
-    (all_of A.Number (codes "rx_buffers" ∷ codes "rx_capacity" ∷ codes "tx_capacity" ∷ []) (all_of A.List (codes "client" ∷ []) []))
+    all_of A.Name
+    (codes "driver" ∷ codes "rx_virt" ∷ codes "tx_virt" ∷ codes "rx_region" ∷ codes "rx_queues"
+    ∷ codes "tx_queues" ∷ [])
+    (all_of A.Number (codes "rx_buffers" ∷ codes "rx_capacity" ∷ codes "tx_capacity" ∷ [])
+    (all_of A.List (codes "client" ∷ []) []))
 
 abbrev pub net_client_keys : List Row
 net_client_keys =
     all_of A.Name (codes "pd" ∷ codes "copier" ∷ [])
     (all_of A.Text (codes "mac" ∷ [])
-    (all_of A.Name (codes "lease_queues" ∷ codes "rx_region" ∷ codes "rx_queues" ∷ codes "tx_region" ∷ codes "tx_queues" ∷ [])
-    (all_of A.Number (codes "rx_buffers" ∷ codes "rx_capacity" ∷ codes "tx_buffers" ∷ codes "tx_capacity" ∷ []) [])))
+    (all_of A.Name
+    (codes "lease_queues" ∷ codes "rx_region" ∷ codes "rx_queues" ∷ codes "tx_region"
+    ∷ codes "tx_queues" ∷ [])
+    (all_of A.Number
+    (codes "rx_buffers" ∷ codes "rx_capacity" ∷ codes "tx_buffers" ∷ codes "tx_capacity" ∷ []) [])))
 
 abbrev pub serial_keys : List Row
 serial_keys =
-    all_of A.Name (codes "driver" ∷ codes "rx_virt" ∷ codes "tx_virt" ∷ codes "rx_queues" ∷ codes "tx_queues" ∷ [])
-    (all_of A.Number (codes "rx_capacity" ∷ codes "tx_capacity" ∷ []) (all_of A.List (codes "client" ∷ []) []))
+    all_of A.Name
+    (codes "driver" ∷ codes "rx_virt" ∷ codes "tx_virt" ∷ codes "rx_queues" ∷ codes "tx_queues"
+    ∷ [])
+    (all_of A.Number (codes "rx_capacity" ∷ codes "tx_capacity" ∷ [])
+    (all_of A.List (codes "client" ∷ []) []))
 
 abbrev pub serial_client_keys : List Row
 serial_client_keys =
-    all_of A.Name (codes "pd" ∷ codes "rx_queues" ∷ codes "tx_queues" ∷ []) (all_of A.Number (codes "rx_capacity" ∷ codes "tx_capacity" ∷ []) [])
+    all_of A.Name (codes "pd" ∷ codes "rx_queues" ∷ codes "tx_queues" ∷ [])
+    (all_of A.Number (codes "rx_capacity" ∷ codes "tx_capacity" ∷ []) [])
 
 abbrev pub blk_keys : List Row
 blk_keys =
@@ -88,7 +116,8 @@ blk_keys =
 
 abbrev pub blk_client_keys : List Row
 blk_client_keys =
-    all_of A.Name (codes "pd" ∷ codes "region" ∷ codes "queues" ∷ []) (all_of A.Number (codes "partition" ∷ codes "buffers" ∷ codes "capacity" ∷ []) [])
+    all_of A.Name (codes "pd" ∷ codes "region" ∷ codes "queues" ∷ [])
+    (all_of A.Number (codes "partition" ∷ codes "buffers" ∷ codes "capacity" ∷ []) [])
 
 abbrev pub keys_at : Place → List Row
 keys_at At.System = system_keys
@@ -108,8 +137,10 @@ keys_at (At.BlkClient c) = blk_client_keys
 -- the programs that a domain may run
 abbrev pub programs : List (List ℕ)
 programs =
-    codes "eth_driver" ∷ codes "net_virt_rx" ∷ codes "net_virt_tx" ∷ codes "net_copier" ∷ codes "net_sink" ∷ codes "net_source" ∷ codes "net_echo"
-    ∷ codes "uart_driver" ∷ codes "serial_virt_rx" ∷ codes "serial_virt_tx" ∷ codes "serial_reader" ∷ codes "serial_speaker"
+    codes "eth_driver" ∷ codes "net_virt_rx" ∷ codes "net_virt_tx" ∷ codes "net_copier"
+    ∷ codes "net_sink" ∷ codes "net_source" ∷ codes "net_echo"
+    ∷ codes "uart_driver" ∷ codes "serial_virt_rx" ∷ codes "serial_virt_tx"
+    ∷ codes "serial_reader" ∷ codes "serial_speaker"
     ∷ codes "blk_driver" ∷ codes "blk_virt" ∷ codes "blk_script" ∷ codes "idle" ∷ []
 
 -- one of the texts
@@ -119,7 +150,8 @@ is_among texts text = list_any (λ one. bytes_eq one text) texts
 -- a letter, a digit, `_`, `-` or `.`, in ASCII
 abbrev pub is_name_byte : ℕ → Bool
 is_name_byte b =
-    ((nat_le 97 b && nat_le b 122) || (nat_le 65 b && nat_le b 90)) || (((nat_le 48 b && nat_le b 57) || (b == 95)) || ((b == 45) || (b == 46)))
+    ((nat_le 97 b && nat_le b 122) || (nat_le 65 b && nat_le b 90))
+    || (((nat_le 48 b && nat_le b 57) || (b == 95)) || ((b == 45) || (b == 46)))
 
 -- a name: 1 to 64 such bytes
 abbrev pub is_name : List ℕ → Bool
@@ -195,7 +227,11 @@ is_misfit t key = holds (λ d. not (is_kind key.kind d)) (get_member key.name t)
 abbrev pub has_misfit : List Row → Members → Bool
 has_misfit keys t = list_any (is_misfit t) keys
 
--- the table of an element with these keys breaks the rule of this number, of those that are read on one element
+-- the table of an element with these keys breaks the rule of this number, of those that are read on
+-- one element
 unfoldable pub breaks_with : ℕ → List Row → Members → Bool
 breaks_with rule keys t =
-    if rule == 2 then has_unknown_key keys t else if rule == 3 then lacks_key keys t else if rule == 4 then has_misfit keys t else false
+    if rule == 2 then has_unknown_key keys t
+    else if rule == 3 then lacks_key keys t
+    else if rule == 4 then has_misfit keys t
+    else false

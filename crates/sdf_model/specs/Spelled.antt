@@ -33,7 +33,8 @@ text_if key t = option_and_then as_str (get_member key t)
 abbrev pub truth_if : List ℕ → Members → Option Bool
 truth_if key t = option_and_then as_bool (get_member key t)
 
--- the same with what an absent key means. A required key is there, so that what stands for it then has no use.
+-- the same with what an absent key means. A required key is there, so that what stands for it then
+-- has no use.
 abbrev pub number_or : ℕ → List ℕ → Members → ℕ
 number_or absent key t = unwrap_or (number_if key t) absent
 

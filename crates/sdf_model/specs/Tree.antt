@@ -34,8 +34,10 @@ abbrev pub element_at : Members → Place → Option Members
 element_at root At.System = Some root
 element_at root (At.Region r) = part_at (codes "memory_region") r (Some root)
 element_at root (At.Domain d) = part_at (codes "protection_domain") d (Some root)
-element_at root (At.Map d m) = part_at (codes "map") m (part_at (codes "protection_domain") d (Some root))
-element_at root (At.Irq d i) = part_at (codes "irq") i (part_at (codes "protection_domain") d (Some root))
+element_at root (At.Map d m) =
+    part_at (codes "map") m (part_at (codes "protection_domain") d (Some root))
+element_at root (At.Irq d i) =
+    part_at (codes "irq") i (part_at (codes "protection_domain") d (Some root))
 element_at root (At.Channel c) = part_at (codes "channel") c (Some root)
 element_at root (At.End c e) = part_at (codes "end") e (part_at (codes "channel") c (Some root))
 element_at root At.Net = table_at (codes "net") root
@@ -49,10 +51,13 @@ element_at root (At.BlkClient c) = part_at (codes "client") c (table_at (codes "
 abbrev pub outline_of : Members → Outline
 outline_of root = record {
   regions = length (tables_at (codes "memory_region") root);
-  domains = map (λ t. (length (tables_at (codes "map") t), length (tables_at (codes "irq") t))) (tables_at (codes "protection_domain") root);
+  domains =
+      map (λ t. (length (tables_at (codes "map") t), length (tables_at (codes "irq") t)))
+      (tables_at (codes "protection_domain") root);
   channels = map (λ t. length (tables_at (codes "end") t)) (tables_at (codes "channel") root);
   net = option_map (λ t. length (tables_at (codes "client") t)) (table_at (codes "net") root);
-  serial = option_map (λ t. length (tables_at (codes "client") t)) (table_at (codes "serial") root);
+  serial =
+      option_map (λ t. length (tables_at (codes "client") t)) (table_at (codes "serial") root);
   blk = option_map (λ t. length (tables_at (codes "client") t)) (table_at (codes "blk") root);
 }
 
@@ -80,7 +85,8 @@ IsNoDocument text = (root : Members) → IsDocument text root → ⊥
 abbrev pub BreaksText : List ℕ → ℕ → Place → Type 0
 BreaksText text rule place =
     ((rule ≡ 1) × (place ≡ At.System) × IsNoDocument text)
-    ⊎ ((root : Members) × (t : Members) × (parse_document text ≡ Some root) × (element_at root place ≡ Some t) × (breaks rule place t ≡ true))
+    ⊎ ((root : Members) × (t : Members) × (parse_document text ≡ Some root)
+    × (element_at root place ≡ Some t) × (breaks rule place t ≡ true))
 
 -- of a fault that is no want of memory
 abbrev pub IfRefused : SdfFault → (Refusal → Type 0) → Type 0

@@ -74,7 +74,8 @@ fn add_domains<'a>(
 ) -> Result<(), Memory>
     requires { elements_of_tables (map (λ t. table_view t.now) domains.now) < 2 ^ 32 }
     ensures { OnOk result (map seen elements.new.items
-        ≡ map seen elements.old.items ++ domain_parts 0 (map (λ t. table_view t.now) domains.now)) }
+        ≡ map seen elements.old.items
+        ++ domain_parts 0 (map (λ t. table_view t.now) domains.now)) }
 {
     for (at, domain) in domains.iter().enumerate() {
         let d = at as u32;
@@ -96,7 +97,8 @@ fn add_channels<'a>(
 ) -> Result<(), Memory>
     requires { elements_of_tables (map (λ t. table_view t.now) channels.now) < 2 ^ 32 }
     ensures { OnOk result (map seen elements.new.items
-        ≡ map seen elements.old.items ++ channel_parts 0 (map (λ t. table_view t.now) channels.now)) }
+        ≡ map seen elements.old.items
+        ++ channel_parts 0 (map (λ t. table_view t.now) channels.now)) }
 {
     for (at, channel) in channels.iter().enumerate() {
         let c = at as u32;
@@ -139,7 +141,8 @@ fn add_list<'a>(
 ) -> Result<(), Memory>
     requires { elements_of_members (table_view table.now) < 2 ^ 32 }
     ensures { OnOk result (map seen elements.new.items
-        ≡ map seen elements.old.items ++ parts first 0 (tables_at key.now (table_view table.now))) }
+        ≡ map seen elements.old.items
+        ++ parts first 0 (tables_at key.now (table_view table.now))) }
 {
     add_parts(alloc, elements, &tables_at(alloc, table, key)?, first)
 }
@@ -153,7 +156,8 @@ fn add_parts<'a>(
 ) -> Result<(), Memory>
     requires { length tables.now ≤ 2 ^ 32 }
     ensures { OnOk result (map seen elements.new.items
-        ≡ map seen elements.old.items ++ parts first 0 (map (λ t. table_view t.now) tables.now)) }
+        ≡ map seen elements.old.items
+        ++ parts first 0 (map (λ t. table_view t.now) tables.now)) }
 {
     for (at, table) in tables.iter().enumerate() {
         elements.push(Element {

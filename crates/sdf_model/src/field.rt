@@ -110,8 +110,8 @@ impl<T: Part> Field for Option<T> {
     }
 }
 
-/// The fields that are read by two, three and four keys. A part is read by these, and not by one field after another,
-/// since each way out of a body drops what was read before it.
+/// The fields that are read by two, three and four keys. A part is read by these, and not by one
+/// field after another, since each way out of a body drops what was read before it.
 pub(crate) fn two<A: Field, B: Field>(
     alloc: Global,
     table: &Table,

@@ -44,7 +44,8 @@ pub struct Key {
     pub absent: Absent,
 }
 
-/// The keys of an element, as an array: of each its name, its kind, and what it means that it is absent.
+/// The keys of an element, as an array: of each its name, its kind, and what it means that it is
+/// absent.
 macro_rules! keys {
     ($($name:ident: $kind:ident, $absent:expr;)*) => {
         [$(Key {

@@ -11,10 +11,11 @@ use sdf_plan::{
 use std::alloc::Global;
 use toml::Table;
 
-/// Reads a part of a plan from the table of its element: each field, in the order of the element's array of keys, by
-/// the key that stands there; so many fields at once.
+/// Reads a part of a plan from the table of its element: each field, in the order of the element's
+/// array of keys, by the key that stands there; so many fields at once.
 macro_rules! reading {
-    ($part:ident by $keys:expr, $alloc:ident, $table:ident; $($many:ident($($field:ident),*))*) => {{
+    ($part:ident by $keys:expr, $alloc:ident, $table:ident;
+    $($many:ident($($field:ident),*))*) => {{
         let [$($($field),*),*] = &$keys;
         $(let ($($field),*) = $many($alloc, $table, $($field),*)?;)*
         Ok($part { $($($field),*),* })
@@ -25,7 +26,8 @@ impl Part for Plan {
     ghost spelled = { plan_of };
 
     fn read(alloc: Global, table: &Table) -> Result<Plan, Memory> {
-        reading!(Plan by key::SYSTEM, alloc, table; four(version, memory_region, protection_domain, channel) three(net, serial, blk))
+        reading!(Plan by key::SYSTEM, alloc, table;
+            four(version, memory_region, protection_domain, channel) three(net, serial, blk))
     }
 }
 
@@ -41,7 +43,8 @@ impl Part for Domain {
     ghost spelled = { domain_of };
 
     fn read(alloc: Global, table: &Table) -> Result<Domain, Memory> {
-        reading!(Domain by key::DOMAIN, alloc, table; four(name, priority, budget, period) three(program, map, irq))
+        reading!(Domain by key::DOMAIN, alloc, table;
+            four(name, priority, budget, period) three(program, map, irq))
     }
 }
 
@@ -84,7 +87,10 @@ impl Part for Net {
     ghost spelled = { net_of };
 
     fn read(alloc: Global, table: &Table) -> Result<Net, Memory> {
-        reading!(Net by key::NET, alloc, table; four(driver, rx_virt, tx_virt, rx_region) four(rx_queues, tx_queues, rx_buffers, rx_capacity) two(tx_capacity, client))
+        reading!(Net by key::NET, alloc, table;
+            four(driver, rx_virt, tx_virt, rx_region)
+            four(rx_queues, tx_queues, rx_buffers, rx_capacity)
+            two(tx_capacity, client))
     }
 }
 
@@ -92,7 +98,10 @@ impl Part for NetClient {
     ghost spelled = { net_client_of };
 
     fn read(alloc: Global, table: &Table) -> Result<NetClient, Memory> {
-        reading!(NetClient by key::NET_CLIENT, alloc, table; four(pd, copier, mac, lease_queues) four(rx_region, rx_queues, tx_region, tx_queues) four(rx_buffers, rx_capacity, tx_buffers, tx_capacity))
+        reading!(NetClient by key::NET_CLIENT, alloc, table;
+            four(pd, copier, mac, lease_queues)
+            four(rx_region, rx_queues, tx_region, tx_queues)
+            four(rx_buffers, rx_capacity, tx_buffers, tx_capacity))
     }
 }
 
@@ -100,7 +109,9 @@ impl Part for Serial {
     ghost spelled = { serial_of };
 
     fn read(alloc: Global, table: &Table) -> Result<Serial, Memory> {
-        reading!(Serial by key::SERIAL, alloc, table; four(driver, rx_virt, tx_virt, rx_queues) four(tx_queues, rx_capacity, tx_capacity, client))
+        reading!(Serial by key::SERIAL, alloc, table;
+            four(driver, rx_virt, tx_virt, rx_queues)
+            four(tx_queues, rx_capacity, tx_capacity, client))
     }
 }
 
@@ -108,7 +119,8 @@ impl Part for SerialClient {
     ghost spelled = { serial_client_of };
 
     fn read(alloc: Global, table: &Table) -> Result<SerialClient, Memory> {
-        reading!(SerialClient by key::SERIAL_CLIENT, alloc, table; three(pd, rx_queues, tx_queues) two(rx_capacity, tx_capacity))
+        reading!(SerialClient by key::SERIAL_CLIENT, alloc, table;
+            three(pd, rx_queues, tx_queues) two(rx_capacity, tx_capacity))
     }
 }
 
@@ -116,7 +128,8 @@ impl Part for Blk {
     ghost spelled = { blk_of };
 
     fn read(alloc: Global, table: &Table) -> Result<Blk, Memory> {
-        reading!(Blk by key::BLK, alloc, table; three(driver, virt, queues) three(region, capacity, client))
+        reading!(Blk by key::BLK, alloc, table;
+            three(driver, virt, queues) three(region, capacity, client))
     }
 }
 
@@ -124,6 +137,7 @@ impl Part for BlkClient {
     ghost spelled = { blk_client_of };
 
     fn read(alloc: Global, table: &Table) -> Result<BlkClient, Memory> {
-        reading!(BlkClient by key::BLK_CLIENT, alloc, table; three(pd, region, queues) three(partition, buffers, capacity))
+        reading!(BlkClient by key::BLK_CLIENT, alloc, table;
+            three(pd, region, queues) three(partition, buffers, capacity))
     }
 }

@@ -1,3 +1,4 @@
+//! Reading a description: the plan that a text spells, or the refusal of the text.
 ghost use Rattle.std.specs.Prelude.{◌≡◌, ◌<◌, ◌≤◌, ◌^◌, ℕ, length, None, Some, IfOk, IfErr};
 ghost use Rattle.toml.specs.Data.{Members};
 ghost use Rattle.toml.specs.View.{table_view};
@@ -19,17 +20,19 @@ use toml::Table;
 /// How many bytes a description has at most.
 pub const TEXT_MOST: usize = 16_777_216;
 
-/// Reads a system description: the plan that the text spells, with every default filled in. It is refused exactly where
-/// one of the first four rules is broken: the text is no UTF-8 or no TOML document (rule 1), an element has a key beside
-/// its own (2), a required key is missing (3), or a value isn't of its key's kind (4). The refusal names the least rule
-/// that is broken, and the first element at which it is. The keys of the elements of a system are those of the Microkit
+/// Reads a system description: the plan that the text spells, with every default filled in. It is
+/// refused exactly where one of the first four rules is broken: the text is no UTF-8 or no TOML
+/// document (rule 1), an element has a key beside its own (2), a required key is missing (3), or a
+/// value isn't of its key's kind (4). The refusal names the least rule that is broken, and the
+/// first element at which it is. The keys of the elements of a system are those of the Microkit
 /// manual, and those of `net`, `serial` and `blk` are this project's own.
 pub fn read_description(alloc: Global, bytes: &[u8]) -> Result<Plan, SdfFault>
     requires { length bytes.now ≤ text_most }
     ensures accepted { IfOk result (λ plan. (root : Members) × IsDocument bytes.now root
         × KeepsRules (BreaksText bytes.now) (places_of bytes.now) 1 4 × (plan ≡ plan_of root)) }
     ensures numbered { IfOk result IsNumbered }
-    ensures refused { IfErr result (λ fault. IfRefused fault (IsRefusal (BreaksText bytes.now) (places_of bytes.now) 1 4)) }
+    ensures refused { IfErr result (λ fault.
+        IfRefused fault (IsRefusal (BreaksText bytes.now) (places_of bytes.now) 1 4)) }
 {
     match toml::table_from_slice(alloc, bytes) {
         Ok(root) => read_root(alloc, &root),
@@ -46,10 +49,12 @@ pub fn read_description(alloc: Global, bytes: &[u8]) -> Result<Plan, SdfFault>
 /// Reads the root table of a description, which breaks rule 2, 3 or 4 or spells a plan.
 fn read_root(alloc: Global, root: &Table) -> Result<Plan, SdfFault>
     requires { elements_of_members (table_view root.now) < 2 ^ 32 }
-    ensures accepted { IfOk result (λ plan. ((n : ℕ) → 2 ≤ n → n ≤ 4 → first_broken n (elements_of (table_view root.now)) ≡ None)
+    ensures accepted { IfOk result (λ plan.
+        ((n : ℕ) → 2 ≤ n → n ≤ 4 → first_broken n (elements_of (table_view root.now)) ≡ None)
         × (plan ≡ plan_of (table_view root.now))) }
     ensures numbered { IfOk result IsNumbered }
-    ensures refused { IfErr result (λ fault. IfRefused fault (Judged (elements_of (table_view root.now)))) }
+    ensures refused { IfErr result (λ fault.
+        IfRefused fault (Judged (elements_of (table_view root.now)))) }
 {
     let elements = elements(alloc, root)?;
     match judge(&elements) {

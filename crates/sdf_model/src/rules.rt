@@ -17,7 +17,8 @@ use toml::Table;
 
 /// Judges the rules that are read on one element, each only where those before it are kept.
 pub(crate) fn judge(elements: &[Element]) -> Result<(), Refusal>
-    ensures kept { OnOk result ((n : ℕ) → 2 ≤ n → n ≤ 4 → first_broken n (map seen elements.now) ≡ None) }
+    ensures kept { OnOk result ((n : ℕ) → 2 ≤ n → n ≤ 4
+        → first_broken n (map seen elements.now) ≡ None) }
     ensures broken { IfErr result (Judged (map seen elements.now)) }
 {
     for rule in 2..5 {
@@ -76,7 +77,10 @@ fn breaks_with(rule: u8, keys: &[Key], table: &Table) -> bool
 
 /// Whether a table has a key beside these.
 fn has_unknown_key(keys: &[Key], table: &Table) -> bool
-    ensures { result ≡ list_any (λ name. not (list_any (λ key. bytes_eq key.name.now (string_bytes name)) keys.now)) (keys_in table.now) }
+    ensures { result
+        ≡ list_any
+        (λ name. not (list_any (λ key. bytes_eq key.name.now (string_bytes name)) keys.now))
+        (keys_in table.now) }
 {
     table.keys().any(|name| !is_known(keys, name.as_str()))
 }

@@ -1,3 +1,4 @@
+//! Descriptions that are read, and those that are refused, rule by rule.
 use super::{TEXT_MOST, read_description};
 use sdf_plan::{Blk, Channel, Domain, Net, Place, Plan, Refusal, SdfFault, Serial};
 use std::alloc::Global;

@@ -66,7 +66,8 @@ pub(crate) fn tables_at<'a>(
     table: &'a Table,
     key: &str,
 ) -> Result<Vec<&'a Table>, Memory>
-    ensures { IfOk result (λ v. map (λ t. table_view t.now) v.items ≡ tables_at key.now (table_view table.now)) }
+    ensures { IfOk result (λ v. map (λ t. table_view t.now) v.items
+        ≡ tables_at key.now (table_view table.now)) }
 {
     match value_at(table, key) {
         Some(value) => match value.as_array() {
@@ -79,7 +80,8 @@ pub(crate) fn tables_at<'a>(
 
 /// The tables of a list, where it holds nothing else.
 fn tables_in<'a>(alloc: Global, items: &'a [Value]) -> Result<Vec<&'a Table>, Memory>
-    ensures { IfOk result (λ v. map (λ t. table_view t.now) v.items ≡ tables_in (Some (items_view items.now))) }
+    ensures { IfOk result (λ v. map (λ t. table_view t.now) v.items
+        ≡ tables_in (Some (items_view items.now))) }
 {
     let mut tables = Vec::with_capacity(alloc, items.len())?;
     for item in items {
