@@ -106,7 +106,7 @@ pub census_whole : (naming : Naming) (history : History) (start : Table) (pool b
 census_whole naming history start pool buffers some journal = counts_whole (replay naming history start journal) pool buffers (λ no lt. replay_somewhere naming history [] start journal (record { pool = pool; no = no }) (some no lt))
 
 -- nothing is named
-nothing_sum : (f : Thing → ℕ) → f Nothing ≡ 0 → (rs : List Item) (k : ℕ) (items : List Item) → sum_by f (things_from NoBuffers rs k items) ≡ 0
+pub nothing_sum : (f : Thing → ℕ) → f Nothing ≡ 0 → (rs : List Item) (k : ℕ) (items : List Item) → sum_by f (things_from NoBuffers rs k items) ≡ 0
 nothing_sum f none rs k [] = refl
 nothing_sum f none rs k (i ∷ items) = omega (arith, sum_by-cons f Nothing (things_from NoBuffers rs (k + 1) items), none, nothing_sum f none rs (k + 1) items)
 

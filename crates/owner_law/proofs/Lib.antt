@@ -8,3 +8,6 @@ pub mod Replays
 pub mod Counting
 pub mod Starts
 pub mod Named
+pub mod Casts
+pub mod Showing
+pub mod Adopted

@@ -8,8 +8,9 @@ use Rattle.wire_core.specs.Ends.{Role, Consumer, Producer}
 use Rattle.wire_core.specs.Journal.{Track, start_track, start_history, history_at}
 use Rattle.play_core.specs.Moved.{Moved, Seat, moved}
 use Rattle.owner_law.specs.Things.{Buffer, Naming, Thing, things_from, requests_of, things_sent, things_taken, as_buffer, as_lease, lends, gives_back, brings_leases}
-use Rattle.owner_law.specs.Owners.{InHand, Place, At, Lent, receivers, AreCounted}
+use Rattle.owner_law.specs.Owners.{InHand, Place, Nowhere, At, Lent, receivers, AreCounted}
 use Rattle.owner_law.specs.Keeping.{Keeper, at_start, things_in, things_out, by_role, all_taken, all_put, stands_in, is_with, IsAmong, IsShownBy, first_place, start_table, AreDealt}
+use Rattle.owner_law.specs.Census.{IsPool}
 use Rattle.owner_law.proofs.Sums.{sum_flat, sum_none}
 
 first_stands : (b : Bool) (k n : ℕ) (P : Place) → stands_in n P ≡ 0 → stands_in n (cond b (At (InHand k)) P) ≡ 0
@@ -135,3 +136,14 @@ start_shown naming lender rows keepers dealt = record {
     has k p b at =
         let place : 0 + k ≡ k = omega arith in
         ap (λ j. is_with lender j (first_place 0 keepers b)) (sym place) ∙ first_has lender 0 keepers b (dealt b) k p at
+
+first_there : (s : Bool) (k : ℕ) (P : Place) → (s ≡ false → P ≡ Nowhere → ⊥) → cond s (At (InHand k)) P ≡ Nowhere → ⊥
+first_there true k P later h = cc
+first_there false k P later h = later refl h
+
+somewhere : (k : ℕ) (ps : List Keeper) (b : Buffer) → 1 ≤ sum_by (λ q. at_start q.hand b) ps → first_place k ps b ≡ Nowhere → ⊥
+somewhere k [] b some h = absurd (omega (arith, some))
+somewhere k (p ∷ ps) b some h = first_there (nat_lt 0 (at_start p.hand b)) k (first_place (k + 1) ps b) (λ out. somewhere (k + 1) ps b (omega (arith, some, ltb-false 0 (at_start p.hand b) out, sum_by-cons (λ x. at_start x.hand b) p ps))) h
+
+pub start_pools : (keepers : List Keeper) (pool buffers : ℕ) → ((i : ℕ) → i < buffers → 1 ≤ sum_by (λ p. at_start p.hand (record { pool = pool; no = i })) keepers) → IsPool (start_table keepers) pool buffers
+start_pools keepers pool buffers some = λ i lt. somewhere 0 keepers (record { pool = pool; no = i }) (some i lt)

@@ -3,15 +3,16 @@
 //! and the law of the queues.
 #![tactic(auto)]
 
-ghost use Rattle.std.specs.Prelude.{◌≡◌, ◌+◌, ◌++◌, ℕ, List, [], length, sum_by};
+ghost use Rattle.std.specs.Prelude.{◌≡◌, ◌+◌, ◌<◌, ◌≤◌, ◌++◌, ℕ, Some, List, [], length, slice_get, sum_by};
 ghost use Rattle.wire_core.specs.declared.names.QueueRow.{QueueRow};
 ghost use Rattle.wire_core.specs.declared.names.Entry.{Entry};
-ghost use Rattle.wire_core.specs.Journal.{History, Hostiles, EachMoment, start_history};
+ghost use Rattle.wire_core.specs.Journal.{History, Hostiles, EachMoment, QueuesFlow, start_history};
 ghost use Rattle.wire_core.specs.Marks.{sum_below};
 ghost use Rattle.play_core.specs.Moved.{Moved, moved};
 ghost use Rattle.owner_law.specs.Things.{Naming, things_sent, things_taken};
 ghost use Rattle.owner_law.specs.Owners.{Table, AreCounted, OneOwner, replay, replay_from};
-ghost use Rattle.owner_law.specs.Keeping.{Keeper, all_taken, all_put, IsShownBy, start_table, AreDealt, IsNaming, IsOwned};
+ghost use Rattle.owner_law.specs.Keeping.{Keeper, at_start, Keeps, all_taken, all_put, IsShownBy, start_table, AreDealt, IsNaming, IsOwned};
+ghost use Rattle.owner_law.specs.Shown.{shown_table, HaveOnePlace};
 ghost use Rattle.owner_law.specs.Census.{census, IsPool, buffers_among, buffers_at_start};
 
 /// The replay of a journal is that of its beginning and then of its rest.
@@ -44,6 +45,25 @@ pub fn start_law()
         → AreDealt keepers
         → IsShownBy naming lender keepers (moved (start_history rows) []) (start_table keepers) }
     ensures counted { (keepers : List Keeper) → AreCounted (start_table keepers) }
+    ensures pools { (keepers : List Keeper) (pool buffers : ℕ)
+        → ((no : ℕ) → no < buffers
+        → 1 ≤ sum_by (λ p. at_start p.hand (record { pool = pool; no = no })) keepers)
+        → IsPool (start_table keepers) pool buffers }
+{}
+
+/// A system that takes a history over begins with the table that its lists show, where each buffer
+/// has at most one place by them and as many leases as receivers.
+pub fn shown_law()
+    ensures { (naming : Naming) (lender : ℕ) (hostile : Hostiles) (history : History)
+        (rows : List QueueRow) (keepers : List Keeper)
+        → IsNaming naming lender hostile rows → QueuesFlow hostile history rows []
+        → ((k : ℕ) (p : Keeper) → slice_get keepers k ≡ Some p → Keeps p.hand
+        (all_taken naming (moved history []) p.ends) (all_put naming (moved history []) p.ends))
+        → lender < length keepers
+        → HaveOnePlace naming lender keepers (length rows) (moved history [])
+        → IsShownBy naming lender keepers (moved history [])
+        (shown_table naming lender keepers (length rows) (moved history []))
+        × AreCounted (shown_table naming lender keepers (length rows) (moved history [])) }
 {}
 
 /// The pool lines. The three numbers add up to the pool's size at each moment of any journal, where

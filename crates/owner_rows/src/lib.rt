@@ -1,10 +1,11 @@
-//! The owner table of a broadcast, worked by hand: its pools' lines at five moments, and entries
-//! that find nothing where they take it from. It stands apart, since nothing stands on it.
+//! The owner table of two journals, worked by hand: the lines of pools at some moments, and entries
+//! that find nothing where they take it from. Nothing stands on it.
 #![tactic(auto)]
 
 ghost use Rattle.std.specs.Prelude.{◌≡◌, true, false, [], ◌∷◌};
 ghost use Rattle.owner_law.specs.Owners.{InQueue, InHand, At, Lent};
 ghost use Rattle.owner_law.specs.Keeping.{start_table};
+ghost use Rattle.owner_rows.specs.Reading.{asked, responded, replied, block_table, block_line};
 ghost use Rattle.owner_rows.specs.Broadcast.{to_the_virtualiser, lent, first_back, both_back, answered, table, line, counts, all_found, next_found, puts, takes, actors};
 
 /// The lines of the receive buffers at each moment, and of all pools at the end.
@@ -32,4 +33,17 @@ pub fn wrong_rows()
     ensures third_lease { next_found first_back (puts 1 8 0) ≡ false }
     ensures of_another { next_found answered (puts 5 18 2048) ≡ false }
     ensures back_twice { next_found first_back (takes 1 9 0) ≡ false }
+{}
+
+/// A response names the buffer of the request of its place: the lines of the virtualiser's pool and
+/// of the client's while the disk has a read's request, and when its response is on its way and
+/// back.
+pub fn reading_rows()
+    ensures own { block_line asked 0 1 ≡ counts 0 1 0 }
+    ensures at_the_disk { (block_table asked).place (record { pool = 1; no = 1 }) ≡ At (InHand 3) }
+    ensures under_way { (block_table responded).place (record { pool = 1; no = 1 })
+        ≡ At (InQueue 1) }
+    ensures waiting { block_line responded 1 2 ≡ counts 1 1 0 }
+    ensures back { (block_table replied).place (record { pool = 1; no = 1 }) ≡ At (InHand 2) }
+    ensures at_hand { block_line replied 1 2 ≡ counts 0 2 0 }
 {}
