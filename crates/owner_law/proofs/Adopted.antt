@@ -4,6 +4,7 @@ use Rattle.std.proofs.lemmas.List.Sums.{sum_by-append}
 use Rattle.cargo_core.specs.Lists.{IsPrefix}
 use Rattle.wire_core.specs.declared.names.QueueRow.{QueueRow}
 use Rattle.wire_core.specs.Bells.{bit}
+use Rattle.wire_core.specs.Marks.{sum_below}
 use Rattle.wire_core.specs.Journal.{History, Hostiles, QueuesFlow}
 use Rattle.play_core.specs.Moved.{Moved, moved, sent, taken}
 use Rattle.play_core.specs.Still.{Holds}
@@ -12,11 +13,12 @@ use Rattle.owner_law.specs.Things.{Buffer, Names, NoBuffers, Naming, Thing, Noth
 use Rattle.owner_law.specs.Owners.{Spot, InQueue, InHand, is_spot, Table, leases_at, receivers, AreCounted}
 use Rattle.owner_law.specs.Keeping.{Keeper, all_taken, all_put, is_out, Keeps, stands_in, is_with, IsShownBy, IsNaming}
 use Rattle.owner_law.specs.Shown.{buffers_left, leases_left, buffers_with, leases_with, receivers_left, of_actor, number_of, first_some, spots_below, shown_table, HaveOnePlace}
+use Rattle.owner_law.specs.Census.{IsPool}
 use Rattle.owner_law.proofs.Sums.{when}
 use Rattle.owner_law.proofs.Tables.{spots_at}
 use Rattle.owner_law.proofs.Lists.{sum_things}
 use Rattle.owner_law.proofs.Counting.{nothing_sum}
-use Rattle.owner_law.proofs.Showing.{first_tells, shows_stands, shows_with, shows_owed, shows_among, shows_some, spots_length, queue_spots, hand_spots, no_queue_spots, no_hand_spots}
+use Rattle.owner_law.proofs.Showing.{first_tells, shows_stands, shows_with, shows_owed, shows_among, shows_some, shows_place, spots_length, queue_spots, hand_spots, no_queue_spots, no_hand_spots}
 
 -- the number of an actor that is there, and of one that isn't
 actor_is : (keepers : List Keeper) (f : Keeper → ℕ) (k : ℕ) (p : Keeper) → slice_get keepers k ≡ Some p → of_actor keepers f k ≡ f p
@@ -114,3 +116,8 @@ module _ (naming : Naming) (lender : ℕ) (hostile : Hostiles) (history : Histor
       some = λ b n h. shows_some (first_some (left b) (length rows)) (first_some (has b) (length keepers)) (owed b) n h;
     },
   )
+
+pub pools_shown : (naming : Naming) (lender : ℕ) (keepers : List Keeper) (queues : ℕ) (m : Moved) (pool buffers : ℕ) → ((i : ℕ) → i < buffers → 1 ≤ sum_below (buffers_left naming m (record { pool = pool; no = i })) queues + sum_below (of_actor keepers (buffers_with naming m (record { pool = pool; no = i }))) (length keepers)) → IsPool (shown_table naming lender keepers queues m) pool buffers
+pools_shown naming lender keepers queues m pool buffers some = λ i lt.
+    let b : Buffer = record { pool = pool; no = i } in
+    shows_place (buffers_left naming m b) (of_actor keepers (buffers_with naming m b)) queues (length keepers) (some i lt) (first_some (buffers_left naming m b) queues) (first_some (of_actor keepers (buffers_with naming m b)) (length keepers)) (first_tells (buffers_left naming m b) queues) (first_tells (of_actor keepers (buffers_with naming m b)) (length keepers)) (of_actor keepers (receivers_left naming m b) lender)

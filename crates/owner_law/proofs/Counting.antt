@@ -176,8 +176,14 @@ module _ (naming : Naming) (lender : ℕ) (keepers : List Keeper) (m : Moved) (t
   abbrev this : ℕ → Buffer
   this i = record { pool = pool; no = i }
 
+  -- of a queue
+  pub queue_has : (n : ℕ) → sum_below (λ no. stands_in n (t.place (this no))) buffers + buffers_among pool buffers (things_taken naming m n) ≡ buffers_among pool buffers (things_sent naming m n)
+  queue_has n =
+      let each = below_same (λ no. sum_by (as_buffer (this no)) (things_taken naming m n) + stands_in n (t.place (this no))) (λ no. sum_by (as_buffer (this no)) (things_sent naming m n)) buffers (λ no lt. shown.queued n (this no)) in
+      omega (arith, each, below_plus (λ no. sum_by (as_buffer (this no)) (things_taken naming m n)) (λ no. stands_in n (t.place (this no))) buffers)
+
   -- of an actor
-  actor_has : (k : ℕ) (p : Keeper) → slice_get keepers k ≡ Some p → sum_below (λ no. is_with lender k (t.place (this no))) buffers + buffers_among pool buffers (all_put naming m p.ends) ≡ buffers_at_start pool buffers p.hand + buffers_among pool buffers (all_taken naming m p.ends)
+  pub actor_has : (k : ℕ) (p : Keeper) → slice_get keepers k ≡ Some p → sum_below (λ no. is_with lender k (t.place (this no))) buffers + buffers_among pool buffers (all_put naming m p.ends) ≡ buffers_at_start pool buffers p.hand + buffers_among pool buffers (all_taken naming m p.ends)
   actor_has k p at =
       let each = below_same (λ no. sum_by (as_buffer (this no)) (all_put naming m p.ends) + is_with lender k (t.place (this no))) (λ no. at_start p.hand (this no) + sum_by (as_buffer (this no)) (all_taken naming m p.ends)) buffers (λ no lt. shown.held k p (this no) at) in
       omega (arith, each, below_plus (λ no. sum_by (as_buffer (this no)) (all_put naming m p.ends)) (λ no. is_with lender k (t.place (this no))) buffers, below_plus (λ no. at_start p.hand (this no)) (λ no. sum_by (as_buffer (this no)) (all_taken naming m p.ends)) buffers)

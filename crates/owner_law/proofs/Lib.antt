@@ -11,3 +11,4 @@ pub mod Named
 pub mod Casts
 pub mod Showing
 pub mod Adopted
+pub mod Carrying

@@ -5,7 +5,7 @@ use Rattle.std.proofs.lemmas.List.{length-replicate, append-nil}
 use Rattle.std.proofs.lemmas.List.Sums.{sum_by-append}
 use Rattle.wire_core.specs.Bells.{bit}
 use Rattle.wire_core.specs.Marks.{sum_below}
-use Rattle.owner_law.specs.Owners.{Spot, InQueue, InHand, is_spot, Lent, receivers}
+use Rattle.owner_law.specs.Owners.{Nowhere, Spot, InQueue, InHand, is_spot, Lent, receivers}
 use Rattle.owner_law.specs.Keeping.{stands_in, is_with, IsAmong}
 use Rattle.owner_law.specs.Shown.{first_or, first_some, shown_place, spots_below}
 use Rattle.owner_law.proofs.Sums.{when}
@@ -151,3 +151,10 @@ no_queue_spots f q k = spots_at_one f InHand (InQueue q) k ∙ below_zero (λ n.
 
 pub no_hand_spots : (f : ℕ → ℕ) (q k : ℕ) → spots_at (InHand q) (spots_below f InQueue k) ≡ 0
 no_hand_spots f q k = spots_at_one f InQueue (InHand q) k ∙ below_zero (λ n. 0) k (λ n lt. refl)
+
+-- a buffer that is left or with an actor has a place
+pub shows_place : (left has : ℕ → ℕ) (queues count : ℕ) → 1 ≤ sum_below left queues + sum_below has count → (oq oa : Option ℕ) → Tells left queues oq → Tells has count oa → (d : ℕ) → shown_place oq oa d ≡ Nowhere → ⊥
+shows_place left has queues count some (Some q) oa tells told d h = cc
+shows_place left has queues count some None None tells told d h = omega (arith, some, below_zero left queues tells, below_zero has count told)
+shows_place left has queues count some None (Some a) tells told zero h = cc
+shows_place left has queues count some None (Some a) tells told (suc r) h = cc

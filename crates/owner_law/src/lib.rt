@@ -7,12 +7,15 @@ ghost use Rattle.std.specs.Prelude.{◌≡◌, ◌+◌, ◌<◌, ◌≤◌, ◌+
 ghost use Rattle.wire_core.specs.declared.names.QueueRow.{QueueRow};
 ghost use Rattle.wire_core.specs.declared.names.Entry.{Entry};
 ghost use Rattle.wire_core.specs.Journal.{History, Hostiles, EachMoment, QueuesFlow, start_history};
+ghost use Rattle.wire_core.specs.Deeds.{Cargo};
+ghost use Rattle.wire_core.specs.Lists.{Passed};
 ghost use Rattle.wire_core.specs.Marks.{sum_below};
 ghost use Rattle.play_core.specs.Moved.{Moved, moved};
-ghost use Rattle.owner_law.specs.Things.{Naming, things_sent, things_taken};
+ghost use Rattle.owner_law.specs.Things.{Buffer, Naming, things_sent, things_taken};
 ghost use Rattle.owner_law.specs.Owners.{Table, AreCounted, OneOwner, replay, replay_from};
-ghost use Rattle.owner_law.specs.Keeping.{Keeper, at_start, Keeps, all_taken, all_put, IsShownBy, start_table, AreDealt, IsNaming, IsOwned};
-ghost use Rattle.owner_law.specs.Shown.{shown_table, HaveOnePlace};
+ghost use Rattle.owner_law.specs.Keeping.{Keeper, at_start, Keeps, all_taken, all_put, stands_in, is_with, IsShownBy, start_table, AreDealt, IsNaming, IsOwned};
+ghost use Rattle.owner_law.specs.Shown.{buffers_left, buffers_with, of_actor, shown_table, HaveOnePlace};
+ghost use Rattle.owner_law.specs.Pages.{as_page, CarryPages};
 ghost use Rattle.owner_law.specs.Census.{census, IsPool, buffers_among, buffers_at_start};
 
 /// The replay of a journal is that of its beginning and then of its rest.
@@ -52,9 +55,16 @@ pub fn start_law()
 {}
 
 /// A system that takes a history over begins with the table that its lists show, where each buffer
-/// has at most one place by them and as many leases as receivers.
+/// has at most one place by them and as many leases as receivers; a buffer that they have somewhere
+/// has a place there.
 pub fn shown_law()
-    ensures { (naming : Naming) (lender : ℕ) (hostile : Hostiles) (history : History)
+    ensures pools { (naming : Naming) (lender : ℕ) (keepers : List Keeper) (queues : ℕ) (m : Moved)
+        (pool buffers : ℕ) → ((no : ℕ) → no < buffers
+        → 1 ≤ sum_below (buffers_left naming m (record { pool = pool; no = no })) queues
+        + sum_below (of_actor keepers (buffers_with naming m (record { pool = pool; no = no })))
+        (length keepers))
+        → IsPool (shown_table naming lender keepers queues m) pool buffers }
+    ensures shown { (naming : Naming) (lender : ℕ) (hostile : Hostiles) (history : History)
         (rows : List QueueRow) (keepers : List Keeper)
         → IsNaming naming lender hostile rows → QueuesFlow hostile history rows []
         → ((k : ℕ) (p : Keeper) → slice_get keepers k ≡ Some p → Keeps p.hand
@@ -69,7 +79,7 @@ pub fn shown_law()
 /// The pool lines. The three numbers add up to the pool's size at each moment of any journal, where
 /// each buffer had a place at its start. Those of the queues are what was put there and not taken;
 /// those of hands and lent buffers together are what the actors had at the start and took, and
-/// didn't put.
+/// didn't put. So it is of each queue and each actor alone.
 pub fn census_law()
     ensures whole { (naming : Naming) (history : History) (start : Table) (pool buffers : ℕ)
         → IsPool start pool buffers → (journal : List Entry)
@@ -82,6 +92,18 @@ pub fn census_law()
         → (census t pool buffers).queues
         + sum_below (λ n. buffers_among pool buffers (things_taken naming m n)) (length rows)
         ≡ sum_below (λ n. buffers_among pool buffers (things_sent naming m n)) (length rows) }
+    ensures queue { (naming : Naming) (lender : ℕ) (keepers : List Keeper) (m : Moved) (t : Table)
+        (pool buffers n : ℕ) → IsShownBy naming lender keepers m t
+        → sum_below (λ no. stands_in n (t.place (record { pool = pool; no = no }))) buffers
+        + buffers_among pool buffers (things_taken naming m n)
+        ≡ buffers_among pool buffers (things_sent naming m n) }
+    ensures actor { (naming : Naming) (lender : ℕ) (keepers : List Keeper) (m : Moved) (t : Table)
+        (pool buffers k : ℕ) (p : Keeper) → IsShownBy naming lender keepers m t
+        → slice_get keepers k ≡ Some p
+        → sum_below (λ no. is_with lender k (t.place (record { pool = pool; no = no }))) buffers
+        + buffers_among pool buffers (all_put naming m p.ends)
+        ≡ buffers_at_start pool buffers p.hand
+        + buffers_among pool buffers (all_taken naming m p.ends) }
     ensures hands { (naming : Naming) (lender : ℕ) (keepers : List Keeper) (m : Moved) (t : Table)
         (pool buffers : ℕ)
         → IsShownBy naming lender keepers m t
@@ -89,4 +111,13 @@ pub fn census_law()
         + sum_by (λ p. buffers_among pool buffers (all_put naming m p.ends)) keepers
         ≡ sum_by (λ p. buffers_at_start pool buffers p.hand
         + buffers_among pool buffers (all_taken naming m p.ends)) keepers }
+{}
+
+/// Where entries carry the pages of the buffers that their items name, each page that stands in a
+/// queue is where the table says, and no other one.
+pub fn pages_law()
+    ensures { (naming : Naming) (lender : ℕ) (keepers : List Keeper) (m : Moved) (t : Table)
+        (passed : Passed) → IsShownBy naming lender keepers m t → CarryPages naming m passed
+        → (n : ℕ) (entries : List Cargo) → passed.sent n ≡ passed.taken n ++ entries
+        → (b : Buffer) → sum_by (λ c. as_page b c.1) entries ≡ stands_in n (t.place b) }
 {}
