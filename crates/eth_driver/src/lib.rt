@@ -1,5 +1,5 @@
-//! The driver of an Ethernet device: one pipe for each of the four moves between the device's queues and the
-//! virtualisers'.
+//! The driver of an Ethernet device: one pipe for each of the four moves between the device's
+//! queues and the virtualisers'.
 #![tactic(auto)]
 
 ghost use Rattle.std.specs.Prelude.{◌≡◌, Some, slice_get};
@@ -16,17 +16,18 @@ use std::ops::{Deref, DerefMut};
 use turn_kit::Pipe;
 use wire_core::QueueId;
 
-/// The driver of an Ethernet device: its first pipe moves free buffers to the device, its second received frames from it,
-/// its third frames to be sent to it, and its fourth their buffers back. From sDDF's design document.
+/// The driver of an Ethernet device: its first pipe moves free buffers to the device, its second
+/// received frames from it, its third frames to be sent to it, and its fourth their buffers back.
+/// From sDDF's design document.
 #[derive(Drop)]
 pub struct EthDriver {
     pub driver: PipeDriver<Pipes<Pipes<Pipes<Pipe>>>>,
 }
 
 impl EthDriver {
-    /// A driver in its start state. The queues stand in the order free and active of what is received, active and free of
-    /// what is sent: it moves the first of `net` to the first of `device`, the second of `device` to the second of `net`,
-    /// and so on.
+    /// A driver in its start state. The queues stand in the order free and active of what is
+    /// received, active and free of what is sent: it moves the first of `net` to the first of
+    /// `device`, the second of `device` to the second of `net`, and so on.
     pub fn new(device: [QueueId; 4], net: [QueueId; 4]) -> EthDriver
         ensures rx_free { (from to : QueueId) → slice_get net 0 ≡ Some from
             → slice_get device 0 ≡ Some to → IsNewPipe from to result.driver.pipes.first }

@@ -1,6 +1,7 @@
 pub mod Answers
 pub mod Codes
 pub mod Decisions
+pub mod FaultPlans
 pub mod Judged
 pub mod Names
 pub mod Outcomes

@@ -1,8 +1,8 @@
 -- Texts in memory under their names, and what a call of a shelf of them does.
-use Rattle.std.specs.Prelude.{ℕ, ◌+◌, ◌-◌, ◌^◌, ◌==◌, min, max, Bool, Option, Some, None, List, [], length, drop, slice_get, position, nat_eq, unwrap_or}
+use Rattle.std.specs.Prelude.{ℕ, min, max, Option, Some, None, List, [], length, drop, slice_get, position, nat_eq, unwrap_or}
 use Rattle.std.specs.Option.{option_map}
-use Rattle.std.specs.List.{list_any}
 use Rattle.std.specs.Cmp.Lexicographic.{pointwise}
+use Rattle.sddf_top.specs.FaultPlans.{Planned}
 use Rattle.sddf_top.specs.declared.memory_shelf.NamedText.{NamedText}
 
 -- the first text of this name: its place, and its bytes
@@ -20,26 +20,14 @@ text_under kept name = text_at kept (place_under kept name)
 abbrev pub left_of : List NamedText → Option ℕ → ℕ → List ℕ
 left_of kept opened at = drop at (unwrap_or (text_at kept opened) [])
 
--- a shelf in memory: the texts, which is open and how far it was read, the calls so far, those that
--- fail, how many bytes a call gives at most, and the faults
+-- a shelf in memory: the texts, which is open, how far it was read, and what the shelf was told
 pub record Shelved : Type 0 where
   pub kept : List NamedText
   pub opened : Option ℕ
   pub at : ℕ
-  pub calls : ℕ
-  pub failing : List ℕ
-  pub piece : ℕ
-  pub faults : ℕ
-
--- a count of calls after one more: it stands still at the end of its type
-abbrev pub next_call : ℕ → ℕ
-next_call n = min (n + 1) (2 ^ 64 - 1)
-
--- whether a call of this number is one of those that fail
-abbrev pub is_listed : List ℕ → ℕ → Bool
-is_listed failing call = list_any (λ n. n == call) failing
+  pub plan : Planned
 
 -- how many bytes a call gives that has room for so many: as many as it can, but no more than a
 -- piece
-abbrev pub given : Shelved → ℕ → ℕ
-given s room = min (min (length (left_of s.kept s.opened s.at)) room) (max s.piece 1)
+abbrev pub bytes_given : Shelved → ℕ → ℕ
+bytes_given s room = min (min (length (left_of s.kept s.opened s.at)) room) (max s.plan.piece 1)

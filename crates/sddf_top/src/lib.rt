@@ -2,6 +2,7 @@
 #![tactic(auto)]
 
 mod answering;
+mod fault_plan;
 mod faults;
 mod files;
 mod gate;

@@ -1,9 +1,10 @@
 //! A shelf of texts in memory, which fails the calls that it is told to.
-ghost use Rattle.std.specs.Prelude.{◌≡◌, ◌≤◌, ◌<◌, ◌∷◌, ◌++◌, [], ℕ, None, length, min, OnOk, OnErr, ◌+◌, ◌-◌, ◌^◌, drop};
+ghost use Rattle.std.specs.Prelude.{◌≡◌, ◌≤◌, ◌<◌, ◌∷◌, ◌++◌, [], ℕ, None, length, OnOk, OnErr, ◌+◌, ◌^◌, drop};
 ghost use Rattle.sddf_top.specs.Outside.{Rose};
-ghost use Rattle.sddf_top.specs.Names.{place_under, left_of, next_call, is_listed};
+ghost use Rattle.sddf_top.specs.Names.{place_under, left_of};
+ghost use Rattle.sddf_top.specs.FaultPlans.{unplanned};
 
-use crate::faults::one_more;
+use crate::fault_plan::FaultPlan;
 use crate::{Failed, Shelf};
 use cargo_core::{Bytes, Memory, Text};
 use std::alloc::Global;
@@ -24,10 +25,7 @@ pub struct MemShelf {
     kept: Vec<NamedText>,
     opened: Option<usize>,
     at: usize,
-    calls: u64,
-    failing: Vec<u64>,
-    piece: usize,
-    faults: u64,
+    plan: FaultPlan,
 }
 
 impl Model for MemShelf {
@@ -39,10 +37,7 @@ impl Model for MemShelf {
       kept = s.kept.items;
       opened = s.opened;
       at = s.at;
-      calls = s.calls;
-      failing = s.failing.items;
-      piece = s.piece;
-      faults = s.faults;
+      plan = s.plan;
     } };
 }
 
@@ -50,21 +45,15 @@ impl MemShelf {
     /// No texts. It takes no memory.
     pub fn new(alloc: Global) -> MemShelf
         ensures kept { result.kept ≡ [] }
-        ensures failing { result.failing ≡ [] }
-        ensures calls { result.calls ≡ 0 }
-        ensures faults { result.faults ≡ 0 }
         ensures opened { result.opened ≡ None }
-        ensures piece { result.piece ≡ 2 ^ 64 - 1 }
+        ensures plan { result.plan ≡ unplanned }
     {
         MemShelf {
             alloc,
             kept: Vec::new(alloc),
             opened: None,
             at: 0,
-            calls: 0,
-            failing: Vec::new(alloc),
-            piece: usize::MAX,
-            faults: 0,
+            plan: FaultPlan::new(alloc),
         }
     }
 
@@ -74,10 +63,7 @@ impl MemShelf {
             ≡ (record { name = name.now; text = text.now }) ∷ self.old.kept) }
         ensures err { OnErr result (self.new.kept ≡ self.old.kept) }
         ensures closed { self.new.opened ≡ None }
-        ensures calls { self.new.calls ≡ self.old.calls }
-        ensures failing { self.new.failing ≡ self.old.failing }
-        ensures piece { self.new.piece ≡ self.old.piece }
-        ensures faults { self.new.faults ≡ self.old.faults }
+        ensures plan { self.new.plan ≡ self.old.plan }
     {
         self.opened = None;
         let kept = NamedText {
@@ -91,46 +77,33 @@ impl MemShelf {
     /// Fails the call of this number.
     pub fn fail_at(&mut self, call: u64) -> Result<(), Memory>
         ensures ok { OnOk result (self.new ≡ record self.old {
-          failing = self.old.failing ++ call
-              ∷ [];
+          plan = record self.old.plan { failing = self.old.plan.failing ++ call ∷ [] };
         }) }
         ensures err { OnErr result (self.new ≡ self.old) }
     {
-        self.failing.push(call)?;
-        Ok(())
+        self.plan.fail_at(call)
     }
 
     /// Gives at most so many bytes in one call.
     pub fn piece(&mut self, most: usize)
         requires { 1 ≤ most }
-        ensures { self.new ≡ record self.old { piece = most } }
+        ensures { self.new
+            ≡ record self.old { plan = record self.old.plan { piece = most } } }
     {
-        self.piece = most;
-    }
-
-    /// Counts a call, and tells whether it fails.
-    fn is_failing(&mut self) -> bool
-        ensures failing { result ≡ is_listed self.old.failing self.old.calls }
-        ensures counted { self.new ≡ record self.old { calls = next_call self.old.calls } }
-    {
-        let fails = self.failing.contains(&self.calls);
-        self.calls = self.calls.saturating_add(1);
-        fails
+        self.plan.set_piece(most);
     }
 
     /// The text that is open fails.
     fn fail(&mut self) -> Failed
         ensures kept { self.new.kept ≡ self.old.kept }
-        ensures calls { self.new.calls ≡ self.old.calls }
-        ensures failing { self.new.failing ≡ self.old.failing }
-        ensures piece { self.new.piece ≡ self.old.piece }
+        ensures plan { self.new.plan
+            ≡ record self.old.plan { faults = self.new.plan.faults } }
         ensures closed { self.new.opened ≡ None }
-        ensures rose { Rose self.old.faults self.new.faults }
-        ensures rising { self.old.faults ≤ self.new.faults }
+        ensures rose { Rose self.old.plan.faults self.new.plan.faults }
+        ensures rising { self.old.plan.faults ≤ self.new.plan.faults }
     {
         self.opened = None;
-        self.faults = one_more(self.faults);
-        Failed
+        self.plan.fail()
     }
 
     /// The place of the text of a name.
@@ -164,10 +137,7 @@ impl MemShelf {
         ensures left { left_of self.new.kept self.new.opened self.new.at
             ≡ drop n (left_of self.old.kept self.old.opened self.old.at) }
         ensures kept { self.new.kept ≡ self.old.kept }
-        ensures calls { self.new.calls ≡ self.old.calls }
-        ensures failing { self.new.failing ≡ self.old.failing }
-        ensures piece { self.new.piece ≡ self.old.piece }
-        ensures faults { self.new.faults ≡ self.old.faults }
+        ensures plan { self.new.plan ≡ self.old.plan }
     {
         self.at += n;
     }
@@ -175,33 +145,32 @@ impl MemShelf {
 
 impl Shelf for MemShelf {
     ghost use Rattle.std.specs.Prelude.{Some, List, IfOk, IfSome, is_ok, is_some, not, ◌&&◌};
-    ghost use Rattle.sddf_top.specs.Names.{text_under, left_of, given};
+    ghost use Rattle.sddf_top.specs.Names.{text_under, left_of, bytes_given};
     ghost use Rattle.std.specs.Option.{option_map};
+    ghost use Rattle.sddf_top.specs.FaultPlans.{Counted, is_due};
     ghost use Rattle.sddf_top.specs.Outside.{GivesNext, IsAtEnd};
 
     ghost text = { λ s name. text_under s.kept name };
 
     ghost left = { λ s. Some (left_of s.kept s.opened s.at) };
 
-    ghost faults = { λ s. s.faults };
+    ghost faults = { λ s. s.plan.faults };
 
     /// It counts the call, and fails where the call is listed or the name isn't there.
     fn open(&mut self, name: &str) -> Result<(), Failed>
         ensures texts { (n : List ℕ) → text_under self.new.kept n ≡ text_under self.old.kept n }
-        ensures rising { self.old.faults ≤ self.new.faults }
+        ensures rising { self.old.plan.faults ≤ self.new.plan.faults }
         ensures opened { OnOk result (Some (left_of self.new.kept self.new.opened self.new.at)
             ≡ text_under self.old.kept name.now) }
-        ensures calm { OnOk result (self.new.faults ≡ self.old.faults) }
-        ensures failed { OnErr result (Rose self.old.faults self.new.faults) }
+        ensures calm { OnOk result (self.new.plan.faults ≡ self.old.plan.faults) }
+        ensures failed { OnErr result (Rose self.old.plan.faults self.new.plan.faults) }
         ensures ended { OnErr result (IsAtEnd (Some (left_of self.new.kept self.new.opened
             self.new.at))) }
-        ensures counted { self.new.calls ≡ next_call self.old.calls }
-        ensures fails { is_ok result ≡ (not (is_listed self.old.failing self.old.calls)
+        ensures counted { Counted self.old.plan self.new.plan }
+        ensures fails { is_ok result ≡ (not (is_due self.old.plan)
             && is_some (place_under self.old.kept name.now)) }
-        ensures listed { self.new.failing ≡ self.old.failing }
-        ensures piece { self.new.piece ≡ self.old.piece }
     {
-        if self.is_failing() {
+        if self.plan.is_failing() {
             return Err(self.fail());
         }
         let Some(place) = self.place_of(name) else {
@@ -216,27 +185,25 @@ impl Shelf for MemShelf {
     /// can, but no more than a piece.
     fn read(&mut self, into: &mut [u8]) -> Result<usize, Failed>
         ensures texts { (n : List ℕ) → text_under self.new.kept n ≡ text_under self.old.kept n }
-        ensures rising { self.old.faults ≤ self.new.faults }
+        ensures rising { self.old.plan.faults ≤ self.new.plan.faults }
         ensures bound { IfOk result (λ n. n ≤ length into.new) }
         ensures bytes { IfOk result (λ n. IfSome (Some (left_of self.old.kept self.old.opened
             self.old.at)) (λ l. GivesNext l n into.new)) }
         ensures rest { IfOk result (λ n. Some (left_of self.new.kept self.new.opened self.new.at)
             ≡ option_map (drop n) (Some (left_of self.old.kept self.old.opened self.old.at))) }
-        ensures calm { OnOk result (self.new.faults ≡ self.old.faults) }
-        ensures failed { OnErr result (Rose self.old.faults self.new.faults) }
+        ensures calm { OnOk result (self.new.plan.faults ≡ self.old.plan.faults) }
+        ensures failed { OnErr result (Rose self.old.plan.faults self.new.plan.faults) }
         ensures ended { OnErr result (IsAtEnd (Some (left_of self.new.kept self.new.opened
             self.new.at))) }
-        ensures counted { self.new.calls ≡ next_call self.old.calls }
-        ensures fails { is_ok result ≡ not (is_listed self.old.failing self.old.calls) }
-        ensures most { IfOk result (λ n. n ≡ given self.old (length into.old)) }
-        ensures listed { self.new.failing ≡ self.old.failing }
-        ensures piece { self.new.piece ≡ self.old.piece }
+        ensures counted { Counted self.old.plan self.new.plan }
+        ensures fails { is_ok result ≡ not (is_due self.old.plan) }
+        ensures most { IfOk result (λ n. n ≡ bytes_given self.old (length into.old)) }
     {
-        if self.is_failing() {
+        if self.plan.is_failing() {
             return Err(self.fail());
         }
         let left = self.left();
-        let n = left.len().min(into.len()).min(self.piece.max(1));
+        let n = left.len().min(into.len()).min(self.plan.piece().max(1));
         into[..n].copy_from_slice(&left[..n]);
         self.skip(n);
         Ok(n)

@@ -1,6 +1,6 @@
 -- What holds of each state of an end, at each need, on each side and after each answer: one test for each claim, which is
 -- computed over all of them.
-use Rattle.std.proofs.Common.{◌≡◌, ◌+◌, ◌<◌, ◌≤◌, ◌&&◌, ◌||◌, ℕ, Bool, true, false, not, nat_lt, Option, Some, None, refl, ap, arith}
+use Rattle.std.proofs.Common.{◌≡◌, ◌+◌, ◌≤◌, ◌&&◌, ◌||◌, Bool, true, false, not, nat_lt, Option, Some, None, refl, ap, arith}
 use Rattle.std.proofs.lemmas.Bool.{ltb-true}
 use Rattle.wire_core.specs.declared.names.Side.{Side}
 use Rattle.wire_core.specs.declared.names.Side.TheVariants.{Forward, Backward}

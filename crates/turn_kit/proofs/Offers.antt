@@ -1,5 +1,4 @@
-use Rattle.std.proofs.Common.{◌≡◌, ◌+◌, ◌<◌, ◌&&◌, ℕ, zero, suc, Bool, true, false, Some, List, [], ◌∷◌, drop, map, length, slice_get, slice_set, refl, sym, ap, ◌∙◌, subst, arith, add-one, add-zero, zero-add, add_assoc, slice_index_or}
-use Rattle.std.proofs.lemmas.Option.{slice_get-get_or}
+use Rattle.std.proofs.Common.{◌≡◌, ◌+◌, ◌&&◌, ℕ, zero, suc, Bool, true, false, Some, List, [], ◌∷◌, drop, map, slice_get, slice_set, refl, sym, ap, ◌∙◌, arith, add-one, add-zero, zero-add, add_assoc}
 use Rattle.wire_core.specs.declared.names.QueueId.{QueueId}
 use Rattle.wire_core.specs.declared.names.Event.{Event}
 use Rattle.turn_kit.specs.Table.{is_settled}
@@ -59,35 +58,29 @@ first p moved ps need e h = record { post = p; moved = moved; there = refl; post
 pub later : (p : Post) (ps ps' : List Post) (k : ℕ) (need : Bool) (e : Event) → PostedAt ps k need e ps' → PostedAt (p ∷ ps) (suc k) need e (p ∷ ps')
 later p ps ps' k need e h = record { post = h.post; moved = h.moved; there = h.there; posted = h.posted; after = ap (λ xs. p ∷ xs) h.after }
 
-at_index : {X : Type 0} → (xs : List X) (k : ℕ) (d : X) → k < length xs → slice_get xs k ≡ Some (slice_index_or xs k d)
-at_index xs k d h = slice_get-get_or xs k d h
-
 -- an end that is there, and its need
-module _ {X : Type 0} (f : X → Post) (g : X → QueueId) (items ends : List X) (k : ℕ) (d : X) (need : ℕ → Bool) (same : items ≡ ends) (h : k < length items) where
-  here : slice_get ends k ≡ Some (slice_index_or items k d)
-  here = subst (λ xs. slice_get xs k ≡ Some (slice_index_or items k d)) same (at_index items k d h)
-
-  post_here : slice_get (map f ends) k ≡ Some (f (slice_index_or items k d))
-  post_here = get_map f ends k (slice_index_or items k d) here
+module _ {X : Type 0} (f : X → Post) (g : X → QueueId) (ends : List X) (k : ℕ) (x : X) (need : ℕ → Bool) (there : slice_get ends k ≡ Some x) where
+  post_here : slice_get (map f ends) k ≡ Some (f x)
+  post_here = get_map f ends k x there
 
   need_here : slice_get (needs_from need 0 (map g ends)) k ≡ Some (need k)
-  need_here = get_need need 0 (map g ends) k (g (slice_index_or items k d)) (get_map g ends k (slice_index_or items k d) here) ∙ ap (λ n. Some (need n)) (zero-add k)
+  need_here = get_need need 0 (map g ends) k (g x) (get_map g ends k x there) ∙ ap (λ n. Some (need n)) (zero-add k)
 
 -- one end of a list more was offered
-pub end_next : {X : Type 0} (f : X → Post) (g : X → QueueId) (c now v : Choosing) (base k : ℕ) (items ends : List X) (d : X) (need : ℕ → Bool) (s b : Bool) → items ≡ ends → k < length items → v ≡ offered now (record { queue = (f (slice_index_or items k d)).queue; place = base + k }) s → s ≡ is_settled (f (slice_index_or items k d)).state b → b ≡ need k
+pub end_next : {X : Type 0} (f : X → Post) (g : X → QueueId) (c now v : Choosing) (base k : ℕ) (ends : List X) (x : X) (need : ℕ → Bool) (q : ℕ) (s b : Bool) → slice_get ends k ≡ Some x → q ≡ (f x).queue → v ≡ offered now (record { queue = q; place = base + k }) s → s ≡ is_settled (f x).state b → b ≡ need k
     → OffersOn c now base k (map f ends) (needs_from need 0 (map g ends)) → OffersOn c v base (k + 1) (map f ends) (needs_from need 0 (map g ends))
-end_next f g c now v base k items ends d need s b same h e t u on = rw (e, t, u) (offers_next c now base k (map f ends) (needs_from need 0 (map g ends)) (f (slice_index_or items k d)) (need k) (post_here f g items ends k d need same h) (need_here f g items ends k d need same h) on)
+end_next f g c now v base k ends x need q s b there p e t u on = rw (e, p, t, u) (offers_next c now base k (map f ends) (needs_from need 0 (map g ends)) (f x) (need k) (post_here f g ends k x need there) (need_here f g ends k x need there) on)
 
 here_settled : (posts : List Post) (needs : List Bool) (k : ℕ) (p : Post) (need : Bool) → slice_get posts k ≡ Some p → slice_get needs k ≡ Some need → settled_all (drop k posts) (drop k needs) ≡ (is_settled p.state need && settled_all (drop (k + 1) posts) (drop (k + 1) needs))
 here_settled posts needs k p need at n = rw (drop_here posts k p at, drop_here needs k need n, add-one k) refl
 
 -- the ends from a place on are settled where this one is and the others are
-module _ {X : Type 0} (f : X → Post) (g : X → QueueId) (k : ℕ) (items ends : List X) (d : X) (need : ℕ → Bool) (s b : Bool) (same : items ≡ ends) (h : k < length items) (t : s ≡ is_settled (f (slice_index_or items k d)).state b) (u : b ≡ need k) where
+module _ {X : Type 0} (f : X → Post) (g : X → QueueId) (k : ℕ) (ends : List X) (x : X) (need : ℕ → Bool) (s b : Bool) (there : slice_get ends k ≡ Some x) (t : s ≡ is_settled (f x).state b) (u : b ≡ need k) where
   settled_now : settled_all (drop k (map f ends)) (drop k (needs_from need 0 (map g ends))) ≡ (s && settled_all (drop (k + 1) (map f ends)) (drop (k + 1) (needs_from need 0 (map g ends))))
-  settled_now = rw (t, u) (here_settled (map f ends) (needs_from need 0 (map g ends)) k (f (slice_index_or items k d)) (need k) (post_here f g items ends k d need same h) (need_here f g items ends k d need same h))
+  settled_now = rw (t, u) (here_settled (map f ends) (needs_from need 0 (map g ends)) k (f x) (need k) (post_here f g ends k x need there) (need_here f g ends k x need there))
 
   pub end_stop : (all : Bool) → s ≡ false → all ≡ settled_all (drop k (map f ends)) (drop k (needs_from need 0 (map g ends))) → false ≡ all
-  end_stop all e o = sym (o ∙ (settled_now ∙ ap (λ x. x && settled_all (drop (k + 1) (map f ends)) (drop (k + 1) (needs_from need 0 (map g ends)))) e))
+  end_stop all e o = sym (o ∙ (settled_now ∙ ap (λ y. y && settled_all (drop (k + 1) (map f ends)) (drop (k + 1) (needs_from need 0 (map g ends)))) e))
 
   pub end_go : (all : Bool) → s ≡ true → all ≡ settled_all (drop k (map f ends)) (drop k (needs_from need 0 (map g ends))) → all ≡ settled_all (drop (k + 1) (map f ends)) (drop (k + 1) (needs_from need 0 (map g ends)))
-  end_go all e o = o ∙ (settled_now ∙ ap (λ x. x && settled_all (drop (k + 1) (map f ends)) (drop (k + 1) (needs_from need 0 (map g ends)))) e)
+  end_go all e o = o ∙ (settled_now ∙ ap (λ y. y && settled_all (drop (k + 1) (map f ends)) (drop (k + 1) (needs_from need 0 (map g ends)))) e)

@@ -1,4 +1,4 @@
-use Rattle.std.proofs.Common.{◌≡◌, ◌≢◌, ◌⊎◌, ◌+◌, ◌==◌, ◌<◌, ◌≤◌, ◌&&◌, ◌||◌, ℕ, zero, suc, Bool, true, false, not, cond, Option, Some, None, is_none, List, [], ◌∷◌, length, slice_get, slice_set, length-set, refl, sym, ap, ◌∙◌, subst, inl, inr, arith, zero-add, eq-eqb}
+use Rattle.std.proofs.Common.{◌≡◌, ◌≢◌, ◌⊎◌, ◌+◌, ◌==◌, ◌<◌, ◌≤◌, ◌||◌, ℕ, zero, suc, Bool, true, false, not, cond, Option, Some, None, is_none, List, [], ◌∷◌, length, slice_get, slice_set, length-set, refl, sym, ap, ◌∙◌, subst, inl, inr, arith, zero-add, eq-eqb}
 use Rattle.std.proofs.Math.Dec.{eqb}
 use Rattle.std.proofs.lemmas.Bool.{ltb-true, ltb-false, lt-ltb}
 use Rattle.std.proofs.lemmas.Bool.Decides.{eqb_tells}

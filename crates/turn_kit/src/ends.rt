@@ -12,6 +12,7 @@ ghost use Rattle.turn_kit.specs.Turns.{Posted};
 ghost use Rattle.turn_kit.specs.Posts.{intake_post, outlet_post};
 ghost use Rattle.turn_kit.specs.Table.{next_op, state_after, start_state, is_settled, Agrees, moves_entry};
 
+use crate::each::Listed;
 use crate::EndState;
 use cargo_core::{Body, Item};
 use wire_core::{Answer, Event, Op, QueueId, Ringer, Side, Waiter, Wires};
@@ -144,6 +145,19 @@ impl Intake {
     }
 }
 
+impl Listed for Intake {
+    ghost post = { intake_post };
+    ghost queue = { λ end. end.queue };
+
+    fn queue(&self) -> QueueId {
+        self.queue
+    }
+
+    fn is_settled(&self, need: bool) -> bool {
+        self.settled(need)
+    }
+}
+
 /// The discipline of a producing end. `queue` is the end's queue, `state` how it stands.
 #[derive(Debug, Drop)]
 pub struct Outlet {
@@ -222,5 +236,18 @@ impl Outlet {
         ensures { self.new ≡ record self.old { state = record self.old.state { look = None } } }
     {
         self.state.look = None;
+    }
+}
+
+impl Listed for Outlet {
+    ghost post = { outlet_post };
+    ghost queue = { λ end. end.queue };
+
+    fn queue(&self) -> QueueId {
+        self.queue
+    }
+
+    fn is_settled(&self, need: bool) -> bool {
+        self.settled(need)
     }
 }

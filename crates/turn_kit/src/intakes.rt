@@ -10,6 +10,7 @@ ghost use Rattle.turn_kit.specs.ManyEnds.{FitsIntakes, intake_queues, intake_pos
 ghost use Rattle.wire_core.specs.Marks.{is_mark};
 ghost use Rattle.turn_kit.specs.Turns.{PostedAt, offered_from, settled_all};
 
+use crate::each::{is_each_settled, offer_each};
 use crate::{Choice, Intake, Needs};
 use cargo_core::{Body, Item};
 use wire_core::{Event, Op, Wires};
@@ -59,17 +60,14 @@ impl Intakes {
         end.step(wires, need)
     }
 
-    /// Offers each end, the first of them at the place `base`; `needs` tells which are needed, by their places among
-    /// these ends.
-    pub fn offer<N: Needs>(&self, mut choice: Choice, base: usize, needs: &N) -> Choice
+    /// Offers each end, the first of them at the place `base`; `needs` tells which are needed, by
+    /// their places among these ends.
+    pub fn offer<N: Needs>(&self, choice: Choice, base: usize, needs: &N) -> Choice
         requires { base + length (intake_queues self.now) ≤ choice.count }
         ensures { result ≡ offered_from choice base (intake_posts self.now)
             (needs_from (N.need needs.now) 0 (intake_queues self.now)) }
     {
-        for (k, end) in self.ends.iter().enumerate() {
-            choice = choice.offer(base + k, end.queue, end.settled(needs.at(k)));
-        }
-        choice
+        offer_each(&self.ends, choice, base, needs)
     }
 
     /// Whether all ends are settled.
@@ -77,11 +75,6 @@ impl Intakes {
         ensures { result ≡ settled_all (intake_posts self.now)
             (needs_from (N.need needs.now) 0 (intake_queues self.now)) }
     {
-        for (k, end) in self.ends.iter().enumerate() {
-            if !end.settled(needs.at(k)) {
-                return false;
-            }
-        }
-        true
+        is_each_settled(&self.ends, needs)
     }
 }

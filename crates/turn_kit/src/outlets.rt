@@ -10,6 +10,7 @@ ghost use Rattle.turn_kit.specs.ManyEnds.{FitsOutlets, outlet_queues, outlet_pos
 ghost use Rattle.wire_core.specs.Marks.{is_mark};
 ghost use Rattle.turn_kit.specs.Turns.{PostedAt, offered_from, settled_all};
 
+use crate::each::{is_each_settled, offer_each};
 use crate::{Choice, Needs, Outlet};
 use cargo_core::{Body, Item};
 use wire_core::{Event, Op, QueueId, Wires};
@@ -62,17 +63,14 @@ impl Outlets {
         end.step(wires, load)
     }
 
-    /// Offers each end, the first of them at the place `base`; `loads` tells which are loaded, by their places among
-    /// these ends.
-    pub fn offer<N: Needs>(&self, mut choice: Choice, base: usize, loads: &N) -> Choice
+    /// Offers each end, the first of them at the place `base`; `loads` tells which are loaded, by
+    /// their places among these ends.
+    pub fn offer<N: Needs>(&self, choice: Choice, base: usize, loads: &N) -> Choice
         requires { base + length (outlet_queues self.now) ≤ choice.count }
         ensures { result ≡ offered_from choice base (outlet_posts self.now)
             (needs_from (N.need loads.now) 0 (outlet_queues self.now)) }
     {
-        for (k, end) in self.ends.iter().enumerate() {
-            choice = choice.offer(base + k, end.queue, end.settled(loads.at(k)));
-        }
-        choice
+        offer_each(&self.ends, choice, base, loads)
     }
 
     /// Whether all ends are settled.
@@ -80,11 +78,6 @@ impl Outlets {
         ensures { result ≡ settled_all (outlet_posts self.now)
             (needs_from (N.need loads.now) 0 (outlet_queues self.now)) }
     {
-        for (k, end) in self.ends.iter().enumerate() {
-            if !end.settled(loads.at(k)) {
-                return false;
-            }
-        }
-        true
+        is_each_settled(&self.ends, loads)
     }
 }

@@ -1,0 +1,7 @@
+use Rattle.std.proofs.Common.{refl}
+use Rattle.std.proofs.lemmas.Option.{slice_get_read}
+use Rattle.turn_kit.proofs.Offers.{end_next}
+use Rattle.turn_kit.proofs.each.offer_each.Goals as goal
+
+pub loop-k-preserved : goal.loop-k-preserved
+loop-k-preserved g c = end_next g.E.Listed.post g.E.Listed.queue c.args.choice c.loop-k.choice c.offer-choice.result c.args.base c.loop-k.k c.args.ends.now c.index-ends-k.result (g.N.Needs.need c.args.needs.now) c.queue.result.0 c.is_settled.result c.at.result (slice_get_read c.args.ends.now _ c.loop-k.k c.index-ends-k.result refl c.loop-k-test.true c.index-ends-k.is) c.queue.ensures.post c.offer-choice.ensures c.is_settled.ensures c.at.ensures c.loop-k.invariant
