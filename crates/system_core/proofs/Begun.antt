@@ -32,17 +32,13 @@ use Rattle.system_core.proofs.Named.{has_role}
 use Rattle.system_core.proofs.SerialRows.{seats_0, seats_1, seats_2, seats_3, seats_rx, seats_tx}
 use Rattle.system_core.proofs.Seconds.{second_get, second_there, second_length}
 
--- the network's queues stand before those of the serial class, if there are any
-pub first_is : (plan : Plan) → plan.net ≡ None → first_serial plan ≡ 0
-first_is plan net = rw net refl
-
 -- an actor of the serial class is one of a cast
 abbrev pub There : Setting → SerialPart → Type 0
 There s p = (k : ℕ) × (slice_get s.cast k ≡ Some (serial_part p))
 
 -- the actors of the serial class are its actors
-module _ (plan : Plan) (serial : Serial) (net : plan.net ≡ None) (blk : plan.blk ≡ None) (has : plan.serial ≡ Some serial) (trace : Trace) (s : Setting)
-    (rows : s.rows ≡ queues_of plan) (places : (n : ℕ) (row : QueueRow) → slice_get s.rows n ≡ Some row → IsCapacity row.capacity) (h : HasSerial 0 plan serial trace s) (says : length trace.says ≡ length serial.client) where
+module _ (plan : Plan) (serial : Serial) (has : plan.serial ≡ Some serial) (first : ℕ) (starts : first_serial plan ≡ first) (trace : Trace) (s : Setting)
+    (rows : s.rows ≡ queues_of plan) (places : (n : ℕ) (row : QueueRow) → slice_get s.rows n ≡ Some row → IsCapacity row.capacity) (h : HasSerial first plan serial trace s) (says : length trace.says ≡ length serial.client) where
   abbrev count : ℕ
   count = length serial.client
 
@@ -55,58 +51,58 @@ module _ (plan : Plan) (serial : Serial) (net : plan.net ≡ None) (blk : plan.b
       some_power : (k : ℕ) → 1 ≤ 2 ^ k
       some_power k = let p : 0 < 2 ^ k = pow_pos k in omega (arith, p)
 
-  pub serial_there : IsSerial (There s) (hostile_in s) s.rows (serial_class 0 count trace)
+  pub serial_there : IsSerial (There s) (hostile_in s) s.rows (serial_class first count trace)
   serial_there = record {
     device = ((uart_number plan).0, h.device);
     driver = (number_named plan serial.driver, h.driver);
     receiver = (number_named plan serial.rx_virt, h.receiver);
     sender = (number_named plan serial.tx_virt, h.sender);
     client = λ c q p script rx tx said.
-        let g = second_get 4 count c q rx in
-        let p_is : p ≡ 5 + 2 * c = (second_get 5 count c p tx).1 in
+        let g = second_get (first + 4) count c q rx in
+        let p_is : p ≡ first + 5 + 2 * c = (second_get (first + 5) count c p tx).1 in
         let client = there_is serial.client c g.0 in
-        let at : slice_get s.cast (number_named plan client.0.pd) ≡ Some (ClientPart (4 + 2 * c) (5 + 2 * c) script) = h.client c client.0 script client.1 said in (
+        let at : slice_get s.cast (number_named plan client.0.pd) ≡ Some (ClientPart (first + 4 + 2 * c) (first + 5 + 2 * c) script) = h.client c client.0 script client.1 said in (
           number_named plan client.0.pd,
           subst (λ n. slice_get s.cast (number_named plan client.0.pd) ≡ Some (ClientPart n p script)) (sym g.1)
-              (subst (λ n. slice_get s.cast (number_named plan client.0.pd) ≡ Some (ClientPart (4 + 2 * c) n script)) (sym p_is) at),
+              (subst (λ n. slice_get s.cast (number_named plan client.0.pd) ≡ Some (ClientPart (first + 4 + 2 * c) n script)) (sym p_is) at),
         );
-    rx_count = second_length 4 count ∙ sym says;
-    tx_count = second_length 5 count ∙ sym says;
-    holds_device_rx = holds 0 _ _ (seats_0 plan serial net blk has).0;
-    holds_device_tx = holds 1 _ _ (seats_1 plan serial net blk has).0;
-    holds_rx = holds 2 _ _ (seats_2 plan serial net blk has).0;
-    holds_tx = holds 3 _ _ (seats_3 plan serial net blk has).0;
+    rx_count = second_length (first + 4) count ∙ sym says;
+    tx_count = second_length (first + 5) count ∙ sym says;
+    holds_device_rx = holds first _ _ (seats_0 plan serial has first starts first refl).0;
+    holds_device_tx = holds (first + 1) _ _ (seats_1 plan serial has first starts (first + 1) refl).0;
+    holds_rx = holds (first + 2) _ _ (seats_2 plan serial has first starts (first + 2) refl).0;
+    holds_tx = holds (first + 3) _ _ (seats_3 plan serial has first starts (first + 3) refl).0;
     holds_client_rx = λ c q at.
-        let g = second_get 4 count c q at in
+        let g = second_get (first + 4) count c q at in
         let client = there_is serial.client c g.0 in
-        subst (λ n. Holds (hostile_in s) s.rows n 1) (sym g.1) (holds (4 + 2 * c) _ _ (seats_rx plan serial net blk has c client.0 client.1).0);
+        holds q _ _ (seats_rx plan serial has first starts c q client.0 g.1 client.1).0;
     holds_client_tx = λ c q at.
-        let g = second_get 5 count c q at in
+        let g = second_get (first + 5) count c q at in
         let client = there_is serial.client c g.0 in
-        subst (λ n. Holds (hostile_in s) s.rows n 1) (sym g.1) (holds (5 + 2 * c) _ _ (seats_tx plan serial net blk has c client.0 client.1).0);
+        holds q _ _ (seats_tx plan serial has first starts c q client.0 g.1 client.1).0;
   }
 
 -- what is seen of the class is what its actors took
-module _ (plan : Plan) (serial : Serial) (trace : Trace) (s : Shown) (h : HasSerial 0 plan serial trace s.setting) (says : length trace.says ≡ length serial.client) (told : IsTold s) where
+module _ (plan : Plan) (serial : Serial) (first : ℕ) (trace : Trace) (s : Shown) (h : HasSerial first plan serial trace s.setting) (says : length trace.says ≡ length serial.client) (told : IsTold s) where
   abbrev clients : ℕ
   clients = length serial.client
 
   abbrev class : SerialClass
-  class = serial_class 0 clients trace
+  class = serial_class first clients trace
 
   abbrev went : Moved
   went = moved_in s.setting s.journal
 
-  record_is : (c : ℕ) (got : List ℕ) → slice_get s.state.serial c ≡ Some got → (slice_get class.client_rx c ≡ Some (4 + 2 * c)) × (bytes_in (went.taken (4 + 2 * c)) ≡ got)
+  record_is : (c : ℕ) (got : List ℕ) → slice_get s.state.serial c ≡ Some got → (slice_get class.client_rx c ≡ Some (first + 4 + 2 * c)) × (bytes_in (went.taken (first + 4 + 2 * c)) ≡ got)
   record_is c got at =
       let m = map_from (record_at s) s.setting.serial.clients c got (ap (λ rs. slice_get rs c) (sym told.serial) ∙ at) in
       let client = map_from (λ (x : Client). number_named plan x.pd) serial.client c m.0 (ap (λ ns. slice_get ns c) (sym h.clients_are) ∙ m.1) in
       let lt = there_below serial.client c client.0 client.1 in
       let script = there_is trace.says c (omega (arith, lt, says)) in
-      let is : slice_get s.setting.cast m.0 ≡ Some (ClientPart (4 + 2 * c) (5 + 2 * c) script.0) = subst (λ k. slice_get s.setting.cast k ≡ Some (ClientPart (4 + 2 * c) (5 + 2 * c) script.0)) client.2 (h.client c client.0 script.0 client.1 script.1) in
-      (second_there 4 clients c lt, sym (ap (λ o. option_map_or (record_by went) o []) is) ∙ m.2)
+      let is : slice_get s.setting.cast m.0 ≡ Some (ClientPart (first + 4 + 2 * c) (first + 5 + 2 * c) script.0) = subst (λ k. slice_get s.setting.cast k ≡ Some (ClientPart (first + 4 + 2 * c) (first + 5 + 2 * c) script.0)) client.2 (h.client c client.0 script.0 client.1 script.1) in
+      (second_there (first + 4) clients c lt, sym (ap (λ o. option_map_or (record_by went) o []) is) ∙ m.2)
 
-  line_is : s.state.line ≡ Some (bytes_in (went.taken 1))
+  line_is : s.state.line ≡ Some (bytes_in (went.taken (first + 1)))
   line_is =
       told.line ∙ (ap (option_map (record_at s)) h.device_is ∙ ap Some (ap (λ o. option_map_or (record_by went) o []) h.device))
 
@@ -115,14 +111,14 @@ module _ (plan : Plan) (serial : Serial) (trace : Trace) (s : Shown) (h : HasSer
     count_is = ap length told.serial ∙ (length-map s.setting.serial.clients (record_at s) ∙ (ap length h.clients_are ∙ length-map serial.client (λ (x : Client). number_named plan x.pd)));
     records = λ c got at.
         let r = record_is c got at in
-        subst (λ n. IsPrefix got (input_of n c trace.input)) (second_length 4 clients) (subst (λ x. IsPrefix x (input_of (length class.client_rx) c trace.input)) r.1 (a.records c (4 + 2 * c) r.0));
-    line = (bytes_in (went.taken 1), line_is, a.line);
+        subst (λ n. IsPrefix got (input_of n c trace.input)) (second_length (first + 4) clients) (subst (λ x. IsPrefix x (input_of (length class.client_rx) c trace.input)) r.1 (a.records c (first + 4 + 2 * c) r.0));
+    line = (bytes_in (went.taken (first + 1)), line_is, a.line);
   }
 
   pub shows_whole : ArrivesWhole class went → ShowsWhole clients trace s.state
   shows_whole a = record {
-    records = λ c got at. let r = record_is c got at in sym r.1 ∙ (a.records c (4 + 2 * c) r.0 ∙ ap (λ n. input_of n c trace.input) (second_length 4 clients));
-    line = (bytes_in (went.taken 1), line_is, a.line);
+    records = λ c got at. let r = record_is c got at in sym r.1 ∙ (a.records c (first + 4 + 2 * c) r.0 ∙ ap (λ n. input_of n c trace.input) (second_length (first + 4) clients));
+    line = (bytes_in (went.taken (first + 1)), line_is, a.line);
   }
 
 -- without a class there is nobody, and no queue

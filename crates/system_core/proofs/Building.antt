@@ -17,7 +17,7 @@ use Rattle.actor_set.specs.declared.actor.Actor.TheVariants as Kinds
 use Rattle.system_core.specs.Shows.{Setting}
 use Rattle.system_core.specs.States.{begun, crew_of}
 use Rattle.system_core.specs.Seats.{HasSeat, HasApartEnds, AreSeated}
-use Rattle.system_core.specs.Builds.{HasSerial}
+use Rattle.system_core.specs.Builds.{HasSerial, first_serial}
 use Rattle.system_core.specs.Jobs.{IsOwner, within, known_queue, known_role, HasJob, SomeJob, job_part, AreCast, AreClients}
 use Rattle.system_core.specs.declared.build.Job.{Job}
 use Rattle.system_core.specs.declared.build.Job.TheVariants as Of
@@ -29,7 +29,7 @@ use Rattle.system_core.proofs.Apart.{one_place}
 use Rattle.system_core.proofs.QueuePlaces.{has_places}
 use Rattle.system_core.proofs.Named.{client_count, Peer, peer_number, peers, role_peers, pd_of, peers_differ, device_acts, role_is_actor, not_role, one_peer, number_below, who}
 use Rattle.system_core.proofs.Seconds.{second_get, second_apart, second_there}
-use Rattle.system_core.proofs.SerialRows.{seats_0, seats_1, seats_2, seats_3, seats_rx, seats_tx, owner_named, row_count}
+use Rattle.system_core.proofs.SerialRows.{seats_0, seats_1, seats_2, seats_3, seats_rx, seats_tx, owner_named, row_count, first_none}
 
 -- no two ends of a part on one side are of one queue
 abbrev ApartIn : Part → Type 0
@@ -46,23 +46,23 @@ apart_of (Kinds.UartDriver x) h = h
 apart_of (Kinds.SerialVirtRx x) h = λ k j q q' p r e. h k j q.0 (number_there (outlet_queues x.outputs) k q q.0 p refl) (number_there (outlet_queues x.outputs) j q' q.0 r e)
 apart_of (Kinds.SerialVirtTx x) h = λ k j q q' p r e. h k j q.0 (number_there (intake_queues x.inputs) k q q.0 p refl) (number_there (intake_queues x.inputs) j q' q.0 r e)
 
-job_apart : (n : ℕ) (trace : Trace) (job : Job) → ApartIn (job_part n trace job)
-job_apart n trace Of.Device = tt
-job_apart n trace Of.Driver = (λ e. cc, λ e. cc)
-job_apart n trace Of.Receiver = second_apart 4 n
-job_apart n trace Of.Sender = second_apart 5 n
-job_apart n trace (Of.Client c) = tt
+job_apart : (first n : ℕ) (trace : Trace) (job : Job) → ApartIn (job_part first n trace job)
+job_apart first n trace Of.Device = tt
+job_apart first n trace Of.Driver = (λ e. omega (arith, e), λ e. omega (arith, e))
+job_apart first n trace Of.Receiver = second_apart (first + 4) n
+job_apart first n trace Of.Sender = second_apart (first + 5) n
+job_apart first n trace (Of.Client c) = tt
 
 -- no part has both ends of a queue
-job_split : (count : ℕ) (trace : Trace) (job : Job) (n : ℕ) → PartEnd (job_part count trace job) Consumer n → PartEnd (job_part count trace job) Producer n → ⊥
-job_split count trace Of.Device n a b = omega (arith, a, b)
-job_split count trace Of.Driver n (inl a) (inl b) = omega (arith, a, b)
-job_split count trace Of.Driver n (inl a) (inr b) = omega (arith, a, b)
-job_split count trace Of.Driver n (inr a) (inl b) = omega (arith, a, b)
-job_split count trace Of.Driver n (inr a) (inr b) = omega (arith, a, b)
-job_split count trace Of.Receiver n a b = let g = (second_get 4 count b.0 n b.1).1 in omega (arith, a, g)
-job_split count trace Of.Sender n a b = let g = (second_get 5 count a.0 n a.1).1 in omega (arith, b, g)
-job_split count trace (Of.Client c) n a b = omega (arith, a, b)
+job_split : (first count : ℕ) (trace : Trace) (job : Job) (n : ℕ) → PartEnd (job_part first count trace job) Consumer n → PartEnd (job_part first count trace job) Producer n → ⊥
+job_split first count trace Of.Device n a b = omega (arith, a, b)
+job_split first count trace Of.Driver n (inl a) (inl b) = omega (arith, a, b)
+job_split first count trace Of.Driver n (inl a) (inr b) = omega (arith, a, b)
+job_split first count trace Of.Driver n (inr a) (inl b) = omega (arith, a, b)
+job_split first count trace Of.Driver n (inr a) (inr b) = omega (arith, a, b)
+job_split first count trace Of.Receiver n a b = let g = (second_get (first + 4) count b.0 n b.1).1 in omega (arith, a, g)
+job_split first count trace Of.Sender n a b = let g = (second_get (first + 5) count a.0 n a.1).1 in omega (arith, b, g)
+job_split first count trace (Of.Client c) n a b = omega (arith, a, b)
 
 -- the client of a queue after the first four, and which of its two queues it is
 halves : (m count : ℕ) → m < 2 * count → (c : ℕ) × (c < count) × ((m ≡ 2 * c) ⊎ (m ≡ suc (2 * c)))
@@ -84,7 +84,7 @@ same_lists [] (y ∷ ys) n same = cc
 same_lists (x ∷ xs) [] n same = cc
 same_lists (x ∷ xs) (y ∷ ys) n same = let e : x ≡ y = same 0 x y refl refl in let r = same_lists xs ys (omega (arith, n)) (λ k a b. same (suc k) a b) in ap (λ z. z ∷ xs) e ∙ ap (λ zs. y ∷ zs) r
 
-module _ (plan : Plan) (valid : Valid plan) (serial : Serial) (net : plan.net ≡ None) (blk : plan.blk ≡ None) (has : plan.serial ≡ Some serial) where
+module _ (plan : Plan) (valid : Valid plan) (serial : Serial) (net : plan.net ≡ None) (blk : plan.blk ≡ None) (has : plan.serial ≡ Some serial) (first : ℕ) (starts : first_serial plan ≡ first) where
   abbrev rows : List QueueRow
   rows = queues_of plan
 
@@ -125,8 +125,8 @@ module _ (plan : Plan) (valid : Valid plan) (serial : Serial) (net : plan.net �
   named_acts (Of.Client c) a h = role_is_actor plan valid serial net blk has (suc (suc (suc c))) a h
 
   -- a seat under another name of its actor
-  moved : (a b : Peer) (r : Role) (k m : ℕ) → HasSeat rows (number a) r k → Some a ≡ Some b → m ≡ k → HasSeat rows (number b) r m
-  moved a b r k m s e f = subst (λ x. HasSeat rows (number x) r m) (some_is e) (subst (HasSeat rows (number a) r) (sym f) s)
+  moved : (a b : Peer) (r : Role) (m : ℕ) → HasSeat rows (number a) r m → Some a ≡ Some b → HasSeat rows (number b) r m
+  moved a b r m s e = subst (λ x. HasSeat rows (number x) r m) (some_is e) s
 
   client_named : (c : ℕ) (a : Peer) → slice_get roles (suc (suc (suc c))) ≡ Some a → (client : SerialClient) × (slice_get serial.client c ≡ Some client) × (Some client.pd ≡ a)
   client_named c a h =
@@ -135,62 +135,62 @@ module _ (plan : Plan) (valid : Valid plan) (serial : Serial) (net : plan.net �
       (n.0, n.1, ap Some n.2 ∙ m.2)
 
   -- each end of a part is a seat of the actor that has the part's job
-  name_seats : (trace : Trace) (job : Job) (a : Peer) (r : Role) (m : ℕ) → Named job a → PartEnd (job_part count trace job) r m → HasSeat rows (number a) r m
-  name_seats trace Of.Device a Consumer m h e = moved device a Consumer 1 m (seats_1 plan serial net blk has).1 (ap Some h) e
-  name_seats trace Of.Device a Producer m h e = moved device a Producer 0 m (seats_0 plan serial net blk has).0 (ap Some h) e
-  name_seats trace Of.Driver a Consumer m h (inl e) = moved (Some serial.driver) a Consumer 0 m (seats_0 plan serial net blk has).1 h e
-  name_seats trace Of.Driver a Consumer m h (inr e) = moved (Some serial.driver) a Consumer 3 m (seats_3 plan serial net blk has).1 h e
-  name_seats trace Of.Driver a Producer m h (inl e) = moved (Some serial.driver) a Producer 2 m (seats_2 plan serial net blk has).0 h e
-  name_seats trace Of.Driver a Producer m h (inr e) = moved (Some serial.driver) a Producer 1 m (seats_1 plan serial net blk has).0 h e
-  name_seats trace Of.Receiver a Consumer m h e = moved (Some serial.rx_virt) a Consumer 2 m (seats_2 plan serial net blk has).1 h e
+  name_seats : (trace : Trace) (job : Job) (a : Peer) (r : Role) (m : ℕ) → Named job a → PartEnd (job_part first count trace job) r m → HasSeat rows (number a) r m
+  name_seats trace Of.Device a Consumer m h e = moved device a Consumer m (seats_1 plan serial has first starts m e).1 (ap Some h)
+  name_seats trace Of.Device a Producer m h e = moved device a Producer m (seats_0 plan serial has first starts m e).0 (ap Some h)
+  name_seats trace Of.Driver a Consumer m h (inl e) = moved (Some serial.driver) a Consumer m (seats_0 plan serial has first starts m e).1 h
+  name_seats trace Of.Driver a Consumer m h (inr e) = moved (Some serial.driver) a Consumer m (seats_3 plan serial has first starts m e).1 h
+  name_seats trace Of.Driver a Producer m h (inl e) = moved (Some serial.driver) a Producer m (seats_2 plan serial has first starts m e).0 h
+  name_seats trace Of.Driver a Producer m h (inr e) = moved (Some serial.driver) a Producer m (seats_1 plan serial has first starts m e).0 h
+  name_seats trace Of.Receiver a Consumer m h e = moved (Some serial.rx_virt) a Consumer m (seats_2 plan serial has first starts m e).1 h
   name_seats trace Of.Receiver a Producer m h e =
-      let g = second_get 4 count e.0 m e.1 in
+      let g = second_get (first + 4) count e.0 m e.1 in
       let client = there_is serial.client e.0 g.0 in
-      moved (Some serial.rx_virt) a Producer (4 + 2 * e.0) m (seats_rx plan serial net blk has e.0 client.0 client.1).0 h g.1
-  name_seats trace Of.Sender a Producer m h e = moved (Some serial.tx_virt) a Producer 3 m (seats_3 plan serial net blk has).0 h e
+      moved (Some serial.rx_virt) a Producer m (seats_rx plan serial has first starts e.0 m client.0 g.1 client.1).0 h
+  name_seats trace Of.Sender a Producer m h e = moved (Some serial.tx_virt) a Producer m (seats_3 plan serial has first starts m e).0 h
   name_seats trace Of.Sender a Consumer m h e =
-      let g = second_get 5 count e.0 m e.1 in
+      let g = second_get (first + 5) count e.0 m e.1 in
       let client = there_is serial.client e.0 g.0 in
-      moved (Some serial.tx_virt) a Consumer (5 + 2 * e.0) m (seats_tx plan serial net blk has e.0 client.0 client.1).1 h g.1
+      moved (Some serial.tx_virt) a Consumer m (seats_tx plan serial has first starts e.0 m client.0 g.1 client.1).1 h
   name_seats trace (Of.Client c) a Consumer m h e =
       let client = client_named c a h in
-      moved (Some client.0.pd) a Consumer (4 + 2 * c) m (seats_rx plan serial net blk has c client.0 client.1).1 (ap Some client.2) e
+      moved (Some client.0.pd) a Consumer m (seats_rx plan serial has first starts c m client.0 e client.1).1 (ap Some client.2)
   name_seats trace (Of.Client c) a Producer m h e =
       let client = client_named c a h in
-      moved (Some client.0.pd) a Producer (5 + 2 * c) m (seats_tx plan serial net blk has c client.0 client.1).0 (ap Some client.2) e
+      moved (Some client.0.pd) a Producer m (seats_tx plan serial has first starts c m client.0 e client.1).0 (ap Some client.2)
 
-  known_seat : (job : Job) (a : Peer) → Named job a → within count job × HasSeat rows (number a) (known_role job) (known_queue job)
-  known_seat Of.Device a h = (tt, moved device a Producer 0 0 (seats_0 plan serial net blk has).0 (ap Some h) refl)
-  known_seat Of.Driver a h = (tt, moved (Some serial.driver) a Consumer 0 0 (seats_0 plan serial net blk has).1 h refl)
-  known_seat Of.Receiver a h = (tt, moved (Some serial.rx_virt) a Consumer 2 2 (seats_2 plan serial net blk has).1 h refl)
-  known_seat Of.Sender a h = (tt, moved (Some serial.tx_virt) a Producer 3 3 (seats_3 plan serial net blk has).0 h refl)
+  known_seat : (job : Job) (a : Peer) → Named job a → within count job × HasSeat rows (number a) (known_role job) (known_queue first job)
+  known_seat Of.Device a h = (tt, moved device a Producer first (seats_0 plan serial has first starts first refl).0 (ap Some h))
+  known_seat Of.Driver a h = (tt, moved (Some serial.driver) a Consumer first (seats_0 plan serial has first starts first refl).1 h)
+  known_seat Of.Receiver a h = (tt, moved (Some serial.rx_virt) a Consumer (first + 2) (seats_2 plan serial has first starts (first + 2) refl).1 h)
+  known_seat Of.Sender a h = (tt, moved (Some serial.tx_virt) a Producer (first + 3) (seats_3 plan serial has first starts (first + 3) refl).0 h)
   known_seat (Of.Client c) a h =
       let client = client_named c a h in
-      (there_below serial.client c client.0 client.1, moved (Some client.0.pd) a Consumer (4 + 2 * c) (4 + 2 * c) (seats_rx plan serial net blk has c client.0 client.1).1 (ap Some client.2) refl)
+      (there_below serial.client c client.0 client.1, moved (Some client.0.pd) a Consumer (first + 4 + 2 * c) (seats_rx plan serial has first starts c (first + 4 + 2 * c) client.0 refl client.1).1 (ap Some client.2))
 
-  named_job : (job : Job) (a : Peer) → Named job a → HasJob rows count (number a) job
+  named_job : (job : Job) (a : Peer) → Named job a → HasJob rows first count (number a) job
   named_job job a h = let s = known_seat job a h in (s.0, (s.1.row, s.1.there, s.1.owner))
 
   -- each actor has a job
-  pub some_job : (k : ℕ) → k < length (actors_of plan) → SomeJob rows count k
+  pub some_job : (k : ℕ) → k < length (actors_of plan) → SomeJob rows first count k
   some_job k lt =
       let w = who plan valid serial net blk has k lt in
       elim w.2 [
-        | inl device ↦ (Of.Device, subst (λ m. HasJob rows count m Of.Device) w.1 (named_job Of.Device w.0 (sym device)))
-        | inr role ↦ (of_role role.0, subst (λ m. HasJob rows count m (of_role role.0)) w.1 (named_job (of_role role.0) w.0 (named_role role.0 w.0 role.1)))
+        | inl device ↦ (Of.Device, subst (λ m. HasJob rows first count m Of.Device) w.1 (named_job Of.Device w.0 (sym device)))
+        | inr role ↦ (of_role role.0, subst (λ m. HasJob rows first count m (of_role role.0)) w.1 (named_job (of_role role.0) w.0 (named_role role.0 w.0 role.1)))
       ]
 
   seat_owner : (k j : ℕ) (r : Role) (n : ℕ) → HasSeat rows k r n → IsOwner rows n r j → k ≡ j
   seat_owner k j r n s o = sym s.owner ∙ (ap (λ row. owner_of row r) (some_is (sym s.there ∙ o.1)) ∙ o.2)
 
-  job_from_name : (job : Job) (a : Peer) (k : ℕ) → Named job a → HasJob rows count k job → number a ≡ k
-  job_from_name job a k named h = seat_owner (number a) k (known_role job) (known_queue job) (known_seat job a named).1 h.1
+  job_from_name : (job : Job) (a : Peer) (k : ℕ) → Named job a → HasJob rows first count k job → number a ≡ k
+  job_from_name job a k named h = seat_owner (number a) k (known_role job) (known_queue first job) (known_seat job a named).1 h.1
 
   role_named : (c : ℕ) (client : SerialClient) → slice_get serial.client c ≡ Some client → slice_get roles (suc (suc (suc c))) ≡ Some (Some client.pd)
   role_named c client at = map_get Some (map pd_of serial.client) c client.pd (map_get pd_of serial.client c client at)
 
   -- who has a job of a number
-  job_name : (job : Job) (k : ℕ) → HasJob rows count k job → (a : Peer) × Named job a × (number a ≡ k)
+  job_name : (job : Job) (k : ℕ) → HasJob rows first count k job → (a : Peer) × Named job a × (number a ≡ k)
   job_name Of.Device k h = (device, refl, job_from_name Of.Device device k refl h)
   job_name Of.Driver k h = (Some serial.driver, refl, job_from_name Of.Driver (Some serial.driver) k refl h)
   job_name Of.Receiver k h = (Some serial.rx_virt, refl, job_from_name Of.Receiver (Some serial.rx_virt) k refl h)
@@ -211,7 +211,7 @@ module _ (plan : Plan) (valid : Valid plan) (serial : Serial) (net : plan.net �
   same_job i a b (Of.Client c) e p h = ap of_role (role_is i (suc (suc (suc c))) a b e p h)
 
   -- the actor of a role has its job and no other
-  job_of_role : (i : ℕ) (a : Peer) (job : Job) → slice_get roles i ≡ Some a → HasJob rows count (number a) job → job ≡ of_role i
+  job_of_role : (i : ℕ) (a : Peer) (job : Job) → slice_get roles i ≡ Some a → HasJob rows first count (number a) job → job ≡ of_role i
   job_of_role i a job p h =
       let n = job_name job (number a) h in
       let e : n.0 ≡ a = one_peer plan valid serial net blk has n.0 a (named_acts job n.0 n.1) (role_is_actor plan valid serial net blk has i a p) n.2 in
@@ -224,75 +224,74 @@ module _ (plan : Plan) (valid : Valid plan) (serial : Serial) (net : plan.net �
   device_job b Of.Sender e h = absurd (not_role plan valid serial net blk has 2 (h ∙ ap Some e))
   device_job b (Of.Client c) e h = absurd (not_role plan valid serial net blk has (suc (suc (suc c))) (h ∙ ap Some e))
 
-  job_of_device : (job : Job) → HasJob rows count (number device) job → job ≡ Of.Device
+  job_of_device : (job : Job) → HasJob rows first count (number device) job → job ≡ Of.Device
   job_of_device job h =
       let n = job_name job (number device) h in
       let e : n.0 ≡ device = one_peer plan valid serial net blk has n.0 device (named_acts job n.0 n.1) (device_acts plan valid serial net blk has) n.2 in
       device_job n.0 job e n.1
 
   -- with the actors that the rows give
-  module _ (trace : Trace) (actors : List Actor) (cast : AreCast rows count (length (actors_of plan)) trace actors) where
-    job_seats : (k : ℕ) (job : Job) (r : Role) (m : ℕ) → HasJob rows count k job → PartEnd (job_part count trace job) r m → HasSeat rows k r m
+  module _ (trace : Trace) (actors : List Actor) (cast : AreCast rows first count (length (actors_of plan)) trace actors) where
+    job_seats : (k : ℕ) (job : Job) (r : Role) (m : ℕ) → HasJob rows first count k job → PartEnd (job_part first count trace job) r m → HasSeat rows k r m
     job_seats k job r m h e = let n = job_name job k h in subst (λ j. HasSeat rows j r m) n.2 (name_seats trace job n.0 r m n.1 e)
 
     -- a seat of the actor of a name is an end of the part with its job
-    by_role : (i : ℕ) (a : Peer) (r : Role) (n k : ℕ) (row : QueueRow) (job : Job) → slice_get roles i ≡ Some a → HasSeat rows (number a) r n → slice_get rows n ≡ Some row → owner_of row r ≡ k → HasJob rows count k job → PartEnd (job_part count trace (of_role i)) r n → PartEnd (job_part count trace job) r n
+    by_role : (i : ℕ) (a : Peer) (r : Role) (n k : ℕ) (row : QueueRow) (job : Job) → slice_get roles i ≡ Some a → HasSeat rows (number a) r n → slice_get rows n ≡ Some row → owner_of row r ≡ k → HasJob rows first count k job → PartEnd (job_part first count trace (of_role i)) r n → PartEnd (job_part first count trace job) r n
     by_role i a r n k row job p s there own held end =
         let same : number a ≡ k = sym s.owner ∙ (ap (λ q. owner_of q r) (some_is (sym s.there ∙ there)) ∙ own) in
-        let is : job ≡ of_role i = job_of_role i a job p (subst (λ j. HasJob rows count j job) (sym same) held) in
-        subst (λ j. PartEnd (job_part count trace j) r n) (sym is) end
+        let is : job ≡ of_role i = job_of_role i a job p (subst (λ j. HasJob rows first count j job) (sym same) held) in
+        subst (λ j. PartEnd (job_part first count trace j) r n) (sym is) end
 
-    by_device : (r : Role) (n k : ℕ) (row : QueueRow) (job : Job) → HasSeat rows (number device) r n → slice_get rows n ≡ Some row → owner_of row r ≡ k → HasJob rows count k job → PartEnd (job_part count trace Of.Device) r n → PartEnd (job_part count trace job) r n
+    by_device : (r : Role) (n k : ℕ) (row : QueueRow) (job : Job) → HasSeat rows (number device) r n → slice_get rows n ≡ Some row → owner_of row r ≡ k → HasJob rows first count k job → PartEnd (job_part first count trace Of.Device) r n → PartEnd (job_part first count trace job) r n
     by_device r n k row job s there own held end =
         let same : number device ≡ k = sym s.owner ∙ (ap (λ q. owner_of q r) (some_is (sym s.there ∙ there)) ∙ own) in
-        let is : job ≡ Of.Device = job_of_device job (subst (λ j. HasJob rows count j job) (sym same) held) in
-        subst (λ j. PartEnd (job_part count trace j) r n) (sym is) end
+        let is : job ≡ Of.Device = job_of_device job (subst (λ j. HasJob rows first count j job) (sym same) held) in
+        subst (λ j. PartEnd (job_part first count trace j) r n) (sym is) end
 
-    client_end : (c m k : ℕ) (r : Role) (row : QueueRow) (job : Job) → c < count → (m ≡ 2 * c) ⊎ (m ≡ suc (2 * c)) → slice_get rows (suc (suc (suc (suc m)))) ≡ Some row → owner_of row r ≡ k → HasJob rows count k job → PartEnd (job_part count trace job) r (suc (suc (suc (suc m))))
-    client_end c m k r row job lt (inl e) there own held =
+    client_end : (c n k : ℕ) (r : Role) (row : QueueRow) (job : Job) → c < count → (n ≡ first + 4 + 2 * c) ⊎ (n ≡ first + 5 + 2 * c) → slice_get rows n ≡ Some row → owner_of row r ≡ k → HasJob rows first count k job → PartEnd (job_part first count trace job) r n
+    client_end c n k Producer row job lt (inl e) there own held =
         let client = there_is serial.client c lt in
-        let n : suc (suc (suc (suc m))) ≡ 4 + 2 * c = omega (arith, e) in
-        let at : slice_get rows (4 + 2 * c) ≡ Some row = ap (slice_get rows) (sym n) ∙ there in
-        subst (λ i. PartEnd (job_part count trace job) r i) (sym n) (go client.0 client.1 r at own)
-      where
-        go : (client : SerialClient) → slice_get serial.client c ≡ Some client → (r : Role) → slice_get rows (4 + 2 * c) ≡ Some row → owner_of row r ≡ k → PartEnd (job_part count trace job) r (4 + 2 * c)
-        go client h Producer at own = by_role 1 (Some serial.rx_virt) Producer (4 + 2 * c) k row job refl (seats_rx plan serial net blk has c client h).0 at own held (c, second_there 4 count c lt)
-        go client h Consumer at own = by_role (suc (suc (suc c))) (Some client.pd) Consumer (4 + 2 * c) k row job (role_named c client h) (seats_rx plan serial net blk has c client h).1 at own held refl
-    client_end c m k r row job lt (inr e) there own held =
+        by_role 1 (Some serial.rx_virt) Producer n k row job refl (seats_rx plan serial has first starts c n client.0 e client.1).0 there own held (c, second_there (first + 4) count c lt ∙ ap Some (sym e))
+    client_end c n k Consumer row job lt (inl e) there own held =
         let client = there_is serial.client c lt in
-        let n : suc (suc (suc (suc m))) ≡ 5 + 2 * c = omega (arith, e) in
-        let at : slice_get rows (5 + 2 * c) ≡ Some row = ap (slice_get rows) (sym n) ∙ there in
-        subst (λ i. PartEnd (job_part count trace job) r i) (sym n) (go client.0 client.1 r at own)
-      where
-        go : (client : SerialClient) → slice_get serial.client c ≡ Some client → (r : Role) → slice_get rows (5 + 2 * c) ≡ Some row → owner_of row r ≡ k → PartEnd (job_part count trace job) r (5 + 2 * c)
-        go client h Consumer at own = by_role 2 (Some serial.tx_virt) Consumer (5 + 2 * c) k row job refl (seats_tx plan serial net blk has c client h).1 at own held (c, second_there 5 count c lt)
-        go client h Producer at own = by_role (suc (suc (suc c))) (Some client.pd) Producer (5 + 2 * c) k row job (role_named c client h) (seats_tx plan serial net blk has c client h).0 at own held refl
+        by_role (suc (suc (suc c))) (Some client.0.pd) Consumer n k row job (role_named c client.0 client.1) (seats_rx plan serial has first starts c n client.0 e client.1).1 there own held e
+    client_end c n k Consumer row job lt (inr e) there own held =
+        let client = there_is serial.client c lt in
+        by_role 2 (Some serial.tx_virt) Consumer n k row job refl (seats_tx plan serial has first starts c n client.0 e client.1).1 there own held (c, second_there (first + 5) count c lt ∙ ap Some (sym e))
+    client_end c n k Producer row job lt (inr e) there own held =
+        let client = there_is serial.client c lt in
+        by_role (suc (suc (suc c))) (Some client.0.pd) Producer n k row job (role_named c client.0 client.1) (seats_tx plan serial has first starts c n client.0 e client.1).0 there own held e
 
-    row_end : (n k : ℕ) (r : Role) (row : QueueRow) (job : Job) → slice_get rows n ≡ Some row → owner_of row r ≡ k → HasJob rows count k job → PartEnd (job_part count trace job) r n
-    row_end zero k Producer row job there own held = by_device Producer 0 k row job (seats_0 plan serial net blk has).0 there own held refl
-    row_end zero k Consumer row job there own held = by_role 0 (Some serial.driver) Consumer 0 k row job refl (seats_0 plan serial net blk has).1 there own held (inl refl)
-    row_end (suc zero) k Producer row job there own held = by_role 0 (Some serial.driver) Producer 1 k row job refl (seats_1 plan serial net blk has).0 there own held (inr refl)
-    row_end (suc zero) k Consumer row job there own held = by_device Consumer 1 k row job (seats_1 plan serial net blk has).1 there own held refl
-    row_end (suc (suc zero)) k Producer row job there own held = by_role 0 (Some serial.driver) Producer 2 k row job refl (seats_2 plan serial net blk has).0 there own held (inl refl)
-    row_end (suc (suc zero)) k Consumer row job there own held = by_role 1 (Some serial.rx_virt) Consumer 2 k row job refl (seats_2 plan serial net blk has).1 there own held refl
-    row_end (suc (suc (suc zero))) k Producer row job there own held = by_role 2 (Some serial.tx_virt) Producer 3 k row job refl (seats_3 plan serial net blk has).0 there own held refl
-    row_end (suc (suc (suc zero))) k Consumer row job there own held = by_role 0 (Some serial.driver) Consumer 3 k row job refl (seats_3 plan serial net blk has).1 there own held (inr refl)
-    row_end (suc (suc (suc (suc m)))) k r row job there own held =
-        let lt = there_below rows (suc (suc (suc (suc m)))) row there in
-        let size : length rows ≡ 4 + 2 * count = row_count plan serial net blk has in
-        let h = halves m count (omega (arith, lt, size)) in
-        client_end h.0 m k r row job h.1 h.2 there own held
+    -- by the number of a queue in its class
+    class_end : (m n k : ℕ) (r : Role) (row : QueueRow) (job : Job) → n ≡ first + m → slice_get rows n ≡ Some row → owner_of row r ≡ k → HasJob rows first count k job → PartEnd (job_part first count trace job) r n
+    class_end zero n k Producer row job is there own held = let e : n ≡ first = omega (arith, is) in by_device Producer n k row job (seats_0 plan serial has first starts n e).0 there own held e
+    class_end zero n k Consumer row job is there own held = let e : n ≡ first = omega (arith, is) in by_role 0 (Some serial.driver) Consumer n k row job refl (seats_0 plan serial has first starts n e).1 there own held (inl e)
+    class_end (suc zero) n k Producer row job is there own held = by_role 0 (Some serial.driver) Producer n k row job refl (seats_1 plan serial has first starts n is).0 there own held (inr is)
+    class_end (suc zero) n k Consumer row job is there own held = by_device Consumer n k row job (seats_1 plan serial has first starts n is).1 there own held is
+    class_end (suc (suc zero)) n k Producer row job is there own held = by_role 0 (Some serial.driver) Producer n k row job refl (seats_2 plan serial has first starts n is).0 there own held (inl is)
+    class_end (suc (suc zero)) n k Consumer row job is there own held = by_role 1 (Some serial.rx_virt) Consumer n k row job refl (seats_2 plan serial has first starts n is).1 there own held is
+    class_end (suc (suc (suc zero))) n k Producer row job is there own held = by_role 2 (Some serial.tx_virt) Producer n k row job refl (seats_3 plan serial has first starts n is).0 there own held is
+    class_end (suc (suc (suc zero))) n k Consumer row job is there own held = by_role 0 (Some serial.driver) Consumer n k row job refl (seats_3 plan serial has first starts n is).1 there own held (inr is)
+    class_end (suc (suc (suc (suc m)))) n k r row job is there own held =
+        let lt = there_below rows n row there in
+        let size : length rows ≡ 4 + 2 * count = row_count plan serial has first starts net blk in
+        let none : first ≡ 0 = first_none plan serial has first starts net blk in
+        let h = halves m count (omega (arith, lt, size, is, none)) in
+        client_end h.0 n k r row job h.1 (elim h.2 [ inl e ↦ inl (omega (arith, is, e)) | inr e ↦ inr (omega (arith, is, e)) ]) there own held
+
+    row_end : (n k : ℕ) (r : Role) (row : QueueRow) (job : Job) → slice_get rows n ≡ Some row → owner_of row r ≡ k → HasJob rows first count k job → PartEnd (job_part first count trace job) r n
+    row_end n k r row job = let none : first ≡ 0 = first_none plan serial has first starts net blk in class_end n n k r row job (omega (arith, none))
 
     pub seated : length actors ≤ 65536 → AreSeated rows actors
     seated few = record {
       new = λ k x at. (cast.each k x at).new;
-      apart = λ k x at. let c = cast.each k x at in apart_of x (subst ApartIn (sym c.part) (job_apart count trace c.job));
+      apart = λ k x at. let c = cast.each k x at in apart_of x (subst ApartIn (sym c.part) (job_apart first count trace c.job));
       seats = λ k x at r m end. let c = cast.each k x at in job_seats k c.job r m c.has (subst (λ p. PartEnd p r m) c.part (to_part x r m end));
       ends = λ k x at n row there r own. let c = cast.each k x at in from_part x r n (subst (λ p. PartEnd p r n) (sym c.part) (row_end n k r row c.job there own c.has));
-      split = λ k x at n a b. let c = cast.each k x at in job_split count trace c.job n (subst (λ p. PartEnd p Consumer n) c.part (to_part x Consumer n a)) (subst (λ p. PartEnd p Producer n) c.part (to_part x Producer n b));
+      split = λ k x at n a b. let c = cast.each k x at in job_split first count trace c.job n (subst (λ p. PartEnd p Consumer n) c.part (to_part x Consumer n a)) (subst (λ p. PartEnd p Producer n) c.part (to_part x Producer n b));
       places = has_places plan valid;
-      numbered = let size : length rows ≡ 4 + 2 * count = row_count plan serial net blk has in let c = client_count plan valid serial net blk has in let most : count ≤ 8 = c.1 in omega (arith, size, most);
-      peers = λ m row at r. let o = owner_named plan serial net blk has m row at r in
+      numbered = let size : length rows ≡ 4 + 2 * count = row_count plan serial has first starts net blk in let c = client_count plan valid serial net blk has in let most : count ≤ 8 = c.1 in omega (arith, size, most);
+      peers = λ m row at r. let o = owner_named plan serial has first starts net blk m row at r in
           let e : owner_of row r ≡ number o.0 = o.1 in
           let lt = number_below plan valid serial net blk has o.0 in
           let n : length actors ≡ length (actors_of plan) = cast.count_is in
@@ -301,33 +300,33 @@ module _ (plan : Plan) (valid : Valid plan) (serial : Serial) (net : plan.net �
     }
 
     -- what the actor of a number is
-    part_at : (k : ℕ) (job : Job) → k < length (actors_of plan) → ((j : Job) → HasJob rows count k j → j ≡ job) → slice_get (map part_of actors) k ≡ Some (job_part count trace job)
+    part_at : (k : ℕ) (job : Job) → k < length (actors_of plan) → ((j : Job) → HasJob rows first count k j → j ≡ job) → slice_get (map part_of actors) k ≡ Some (job_part first count trace job)
     part_at k job lt only =
         let n : length actors ≡ length (actors_of plan) = cast.count_is in
         let x = there_is actors k (omega (arith, lt, n)) in
         let c = cast.each k x.0 x.1 in
-        map_get part_of actors k x.0 x.1 ∙ ap Some (c.part ∙ ap (job_part count trace) (only c.job c.has))
+        map_get part_of actors k x.0 x.1 ∙ ap Some (c.part ∙ ap (job_part first count trace) (only c.job c.has))
 
-    role_part : (i : ℕ) (a : Peer) → slice_get roles i ≡ Some a → slice_get (map part_of actors) (number a) ≡ Some (job_part count trace (of_role i))
+    role_part : (i : ℕ) (a : Peer) → slice_get roles i ≡ Some a → slice_get (map part_of actors) (number a) ≡ Some (job_part first count trace (of_role i))
     role_part i a h = part_at (number a) (of_role i) (number_below plan valid serial net blk has a) (λ j g. job_of_role i a j h g)
 
-    module _ (first : ℕ) (numbers : List ℕ) (device_owner : (IsOwner rows) 0 Producer first) (owners : AreClients rows count numbers) where
+    module _ (place : ℕ) (numbers : List ℕ) (device_owner : IsOwner rows first Producer place) (owners : AreClients rows first count numbers) where
       abbrev state : Setting
-      state = begun rows actors (crew_of (Some first) numbers)
+      state = begun rows actors (crew_of (Some place) numbers)
 
       clients_are : numbers ≡ map (λ (c : SerialClient). number (Some c.pd)) serial.client
       clients_are = same_lists numbers (map (λ (c : SerialClient). number (Some c.pd)) serial.client) (owners.count ∙ sym (length-map serial.client (λ (c : SerialClient). number (Some c.pd))))
           (λ c k j p q.
           let m = map_from (λ (x : SerialClient). number (Some x.pd)) serial.client c j q in
-          sym (seat_owner (number (Some m.0.pd)) k Consumer (4 + 2 * c) (seats_rx plan serial net blk has c m.0 m.1).1 (owners.each c k p)) ∙ m.2)
+          sym (seat_owner (number (Some m.0.pd)) k Consumer (first + 4 + 2 * c) (seats_rx plan serial has first starts c (first + 4 + 2 * c) m.0 refl m.1).1 (owners.each c k p)) ∙ m.2)
 
-      pub has_serial : HasSerial 0 plan serial trace state
+      pub has_serial : HasSerial first plan serial trace state
       has_serial = record {
-        device_is = ap Some (sym (seat_owner (number device) first Producer 0 (seats_0 plan serial net blk has).0 device_owner));
+        device_is = ap Some (sym (seat_owner (number device) place Producer first (seats_0 plan serial has first starts first refl).0 device_owner));
         clients_are = clients_are;
         device = part_at (number device) Of.Device (number_below plan valid serial net blk has device) job_of_device;
         driver = role_part 0 (Some serial.driver) refl;
         receiver = role_part 1 (Some serial.rx_virt) refl;
         sender = role_part 2 (Some serial.tx_virt) refl;
-        client = λ c client script at said. role_part (suc (suc (suc c))) (Some client.pd) (role_named c client at) ∙ ap (λ o. Some (ClientPart (4 + 2 * c) (5 + 2 * c) (unwrap_or o []))) said;
+        client = λ c client script at said. role_part (suc (suc (suc c))) (Some client.pd) (role_named c client at) ∙ ap (λ o. Some (ClientPart (first + 4 + 2 * c) (first + 5 + 2 * c) (unwrap_or o []))) said;
       }

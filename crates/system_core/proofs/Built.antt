@@ -21,20 +21,20 @@ use Rattle.actor_set.specs.declared.actor.Actor.{Actor}
 use Rattle.system_core.specs.Shows.{Crew}
 use Rattle.system_core.specs.States.{begun, crew_of, started}
 use Rattle.system_core.specs.Seats.{AreSeated}
-use Rattle.system_core.specs.Builds.{unplayed, IsBuilt, HasSerial}
+use Rattle.system_core.specs.Builds.{unplayed, first_serial, IsBuilt, HasSerial}
 use Rattle.system_core.specs.Jobs.{IsOwner, SomeJob, AreCast, AreClients}
 use Rattle.system_core.proofs.Scenes.{bare_scene}
 use Rattle.system_core.proofs.Named.{domains_few, client_count}
-use Rattle.system_core.proofs.SerialRows.{row_count}
+use Rattle.system_core.proofs.SerialRows.{row_count, first_none}
 use Rattle.system_core.proofs.Building.{some_job, seated, has_serial}
-use Rattle.system_core.proofs.Begun.{first_is, no_queues, no_actors}
+use Rattle.system_core.proofs.Begun.{no_queues, no_actors}
 
 some_is : {X : Type 0} {a b : X} → Some a ≡ Some b → a ≡ b
 some_is h = cc
 
--- the producer of the first row
-pub first_owner : (all : List QueueRow) (n : ℕ) (row : QueueRow) → 4 + 2 * n ≤ length all → row ≡ get_or all 0 row → IsOwner all 0 Producer row.producer.0
-first_owner rows n row room is = (row, slice_get_read rows (length rows) 0 row refl (omega (arith, room)) is, refl)
+-- the producer of the first row of the class
+pub first_owner : (all : List QueueRow) (first n : ℕ) (row : QueueRow) → first + 4 + 2 * n ≤ length all → row ≡ get_or all first row → IsOwner all first Producer row.producer.0
+first_owner rows first n row room is = (row, slice_get_read rows (length rows) first row refl (omega (arith, room)) is, refl)
 
 pub layout_queues : (plan : Plan) (layout : Layout) → layout ≡ layout_of plan → layout.queues ≡ queues_of plan
 unfolding layout_of
@@ -45,14 +45,14 @@ unfolding layout_of
 layout_actors plan layout h = ap (λ (l : Layout). l.actors) h
 
 -- a plan that can be played has neither of these classes
-pub no_net : (plan : Plan) → unplayed plan ≡ None → plan.net ≡ None
+no_net : (plan : Plan) → unplayed plan ≡ None → plan.net ≡ None
 no_net plan h = go plan.net (if is_some plan.blk then Some At.Blk else None) h
   where
     go : (net : Option Net) (rest : Option Place) → (if is_some net then Some At.Net else rest) ≡ None → net ≡ None
     go None rest h = refl
     go (Some n) rest h = cc
 
-pub no_blk : (plan : Plan) → unplayed plan ≡ None → plan.blk ≡ None
+no_blk : (plan : Plan) → unplayed plan ≡ None → plan.blk ≡ None
 no_blk plan h = go plan.net plan.blk h
   where
     go : (net : Option Net) (blk : Option Blk) → (if is_some net then Some At.Net else (if is_some blk then Some At.Blk else None)) ≡ None → blk ≡ None
@@ -63,7 +63,13 @@ no_blk plan h = go plan.net plan.blk h
 pub actors_few : (plan : Plan) → Valid plan → length (actors_of plan) ≤ 66
 actors_few plan valid = few_actors plan (domains_few plan valid)
 
-module _ (plan : Plan) (valid : Valid plan) (net : plan.net ≡ None) (blk : plan.blk ≡ None) where
+module _ (plan : Plan) (valid : Valid plan) (played : unplayed plan ≡ None) where
+  net : plan.net ≡ None
+  net = no_net plan played
+
+  blk : plan.blk ≡ None
+  blk = no_blk plan played
+
   -- with the serial class
   module _ (serial : Serial) (has : plan.serial ≡ Some serial) where
     pub some_clients : 0 < length serial.client
@@ -72,34 +78,41 @@ module _ (plan : Plan) (valid : Valid plan) (net : plan.net ≡ None) (blk : pla
     pub few_clients : length serial.client ≤ 8
     few_clients = (client_count plan valid serial net blk has).1
 
-    pub rows_room : 4 + 2 * length serial.client ≤ length (queues_of plan)
-    rows_room = let n = row_count plan serial net blk has in omega (arith, n)
+    rows_room : (first : ℕ) → first_serial plan ≡ first → (first + 4 + 2 * length serial.client ≤ length (queues_of plan)) × (length (queues_of plan) ≤ 65536)
+    rows_room first starts =
+        let n = row_count plan serial has first starts net blk in
+        let none = first_none plan serial has first starts net blk in
+        let few = few_clients in
+        (omega (arith, n, none), omega (arith, n, few))
 
-    pub jobs : (k : ℕ) → k < length (actors_of plan) → SomeJob (queues_of plan) (length serial.client) k
-    jobs = some_job plan valid serial net blk has
+    pub first_small : first_serial plan ≤ 65535
+    first_small = let none : first_serial plan ≡ 0 = first_none plan serial has (first_serial plan) refl net blk in omega (arith, none)
 
     -- at rows, counts and numbers that are those of the plan
-    module _ (trace : Trace) (rows : List QueueRow) (clients count : ℕ) (rows_are : rows ≡ queues_of plan) (clients_are : clients ≡ length serial.client) (count_is : count ≡ length (actors_of plan)) where
-      pub rows_there : 4 + 2 * clients ≤ length rows
-      rows_there = rw (rows_are, clients_are) rows_room
+    module _ (trace : Trace) (rows : List QueueRow) (first clients count : ℕ) (rows_are : rows ≡ queues_of plan) (first_is : first ≡ first_serial plan) (clients_are : clients ≡ length serial.client) (count_is : count ≡ length (actors_of plan)) where
+      pub rows_there : first + 4 + 2 * clients ≤ length rows
+      rows_there = rw (rows_are, clients_are) (rows_room first (sym first_is)).0
 
-      pub jobs_there : (k : ℕ) → k < count → SomeJob rows clients k
-      jobs_there = rw (rows_are, clients_are, count_is) jobs
+      pub rows_few : length rows ≤ 65536
+      rows_few = rw rows_are (rows_room first (sym first_is)).1
 
-      module _ (actors : List Actor) (cast : AreCast rows clients count trace actors) where
-        cast_of : AreCast (queues_of plan) (length serial.client) (length (actors_of plan)) trace actors
+      pub jobs_there : (k : ℕ) → k < count → SomeJob rows first clients k
+      jobs_there = rw (rows_are, clients_are, count_is) (some_job plan valid serial net blk has first (sym first_is))
+
+      module _ (actors : List Actor) (cast : AreCast rows first clients count trace actors) where
+        cast_of : AreCast (queues_of plan) first (length serial.client) (length (actors_of plan)) trace actors
         cast_of = rw (rows_are, clients_are, count_is) at cast
 
         pub are_seated : AreSeated rows actors
-        are_seated = rw rows_are (seated plan valid serial net blk has trace actors cast_of
+        are_seated = rw rows_are (seated plan valid serial net blk has first (sym first_is) trace actors cast_of
             (let n : length actors ≡ length (actors_of plan) = cast_of.count_is in let few = actors_few plan valid in omega (arith, n, few)))
 
-        module _ (device : ℕ) (numbers : List ℕ) (owner : (IsOwner rows) 0 Producer device) (owners : AreClients rows clients numbers) where
+        module _ (device : ℕ) (numbers : List ℕ) (owner : IsOwner rows first Producer device) (owners : AreClients rows first clients numbers) where
           abbrev crew : Crew
           crew = crew_of (Some device) numbers
 
-          serial_begun : HasSerial 0 plan serial trace (begun rows actors crew)
-          serial_begun = rw rows_are (has_serial plan valid serial net blk has trace actors cast_of device numbers (rw rows_are at owner) (rw (rows_are, clients_are) at owners))
+          serial_begun : HasSerial first plan serial trace (begun rows actors crew)
+          serial_begun = rw rows_are (has_serial plan valid serial net blk has first (sym first_is) trace actors cast_of device numbers (rw rows_are at owner) (rw (rows_are, clients_are) at owners))
 
           pub is_built : IsBuilt plan trace (started rows actors crew)
           is_built = record {
@@ -107,7 +120,7 @@ module _ (plan : Plan) (valid : Valid plan) (net : plan.net ≡ None) (blk : pla
               rows = rows_are;
               count = length-map actors part_of ∙ cast_of.count_is;
               scene = bare_scene plan trace (map part_of actors) net blk;
-              serial = λ s is. subst (λ n. HasSerial n plan s trace (begun rows actors crew)) (sym (first_is plan net)) (subst (λ (x : Serial). HasSerial 0 plan x trace (begun rows actors crew)) (some_is (sym has ∙ is)) serial_begun);
+              serial = λ s is. subst (λ n. HasSerial n plan s trace (begun rows actors crew)) first_is (subst (λ (x : Serial). HasSerial first plan x trace (begun rows actors crew)) (some_is (sym has ∙ is)) serial_begun);
               nobody = λ none. let no : None ≡ Some serial = sym none ∙ has in cc;
             };
             begins = refl;

@@ -51,25 +51,25 @@ pub queue_count : (qs : List QueueId) (first count : ℕ) → numbers qs ≡ eve
 queue_count qs first count is = sym (length-map qs (λ (q : QueueId). q.0)) ∙ (ap length is ∙ second_length first count)
 
 -- one actor more
-pub cast_more : (rows : List QueueRow) (clients k : ℕ) (trace : Trace) (actors new : List Actor) (x : Actor) → AreCast rows clients k trace actors → new ≡ actors ++ x ∷ [] → IsCast rows clients trace k x → AreCast rows clients (k + 1) trace new
-cast_more rows clients k trace actors new x old is one = record {
+pub cast_more : (rows : List QueueRow) (first clients k : ℕ) (trace : Trace) (actors new : List Actor) (x : Actor) → AreCast rows first clients k trace actors → new ≡ actors ++ x ∷ [] → IsCast rows first clients trace k x → AreCast rows first clients (k + 1) trace new
+cast_more rows first clients k trace actors new x old is one = record {
   count_is = let n : length actors ≡ k = old.count_is in let m : length new ≡ length actors + 1 = ap length is ∙ length-append actors (x ∷ []) in omega (arith, n, m);
   each = λ j y at. elim (added_cases actors x y j (ap (λ xs. slice_get xs j) (sym is) ∙ at)) [
     | inl h ↦ old.each j y h
     | inr h ↦
         let n : length actors ≡ k = old.count_is in
         let e : k ≡ j = sym n ∙ sym h.1 in
-        subst (λ m. IsCast rows clients trace m y) e (subst (IsCast rows clients trace k) h.0 one)
+        subst (λ m. IsCast rows first clients trace m y) e (subst (IsCast rows first clients trace k) h.0 one)
   ];
 }
 
 -- one client more at whose queue the actor doesn't take
-pub none_yet : (rows : List QueueRow) (k actor n : ℕ) (row : QueueRow) → ((j : ℕ) → j < k → IsOwner rows (4 + 2 * j) Consumer actor → ⊥) → n ≡ 4 + 2 * k → slice_get rows n ≡ Some row → (row.consumer.0 ≡ actor → ⊥)
-    → (j : ℕ) → j < k + 1 → IsOwner rows (4 + 2 * j) Consumer actor → ⊥
-none_yet rows k actor n row before is there differs j lt o = elim (cases_lt j k) [
+pub none_yet : (rows : List QueueRow) (first k actor n : ℕ) (row : QueueRow) → ((j : ℕ) → j < k → IsOwner rows (first + 4 + 2 * j) Consumer actor → ⊥) → n ≡ first + 4 + 2 * k → slice_get rows n ≡ Some row → (row.consumer.0 ≡ actor → ⊥)
+    → (j : ℕ) → j < k + 1 → IsOwner rows (first + 4 + 2 * j) Consumer actor → ⊥
+none_yet rows first k actor n row before is there differs j lt o = elim (cases_lt j k) [
   | inl less ↦ before j less o
   | inr more ↦
-      let e : 4 + 2 * j ≡ n = omega (arith, lt, more, is) in
+      let e : first + 4 + 2 * j ≡ n = omega (arith, lt, more, is) in
       let same : o.0 ≡ row = some_is (sym o.1 ∙ (ap (slice_get rows) e ∙ there)) in
       differs (ap (λ (r : QueueRow). r.consumer.0) (sym same) ∙ o.2)
 ]

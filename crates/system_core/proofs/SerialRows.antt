@@ -1,4 +1,4 @@
-use Rattle.std.proofs.Common.{◌≡◌, ◌+◌, ◌*◌, ◌++◌, ℕ, zero, suc, Some, None, Option, List, [], ◌∷◌, length, codes, slice_get, refl, sym, ap, ◌∙◌, subst, arith}
+use Rattle.std.proofs.Common.{◌≡◌, ◌+◌, ◌*◌, ◌++◌, ℕ, zero, suc, Some, None, Option, List, [], ◌∷◌, length, length-append, codes, slice_get, refl, sym, ap, ◌∙◌, subst, arith}
 use Rattle.std.proofs.lemmas.List.{append-nil}
 use Rattle.cargo_core.specs.declared.item.QueueKind.TheVariants as Kind
 use Rattle.wire_core.specs.declared.names.ActorId.{ActorId}
@@ -6,10 +6,13 @@ use Rattle.wire_core.specs.declared.names.QueueRow.{QueueRow}
 use Rattle.wire_core.specs.Ends.{Role, Consumer, Producer}
 use Rattle.wire_core.specs.Journal.{owner_of}
 use Rattle.sdf_plan.specs.declared.plan.Plan.{Plan}
+use Rattle.sdf_plan.specs.declared.plan.Net.{Net}
 use Rattle.sdf_plan.specs.declared.plan.Serial.{Serial}
 use Rattle.sdf_plan.specs.declared.plan.SerialClient.{SerialClient}
-use Rattle.region_layout.specs.Rows.{actor_named, uart_number, device_queue, only_queue, queue_in, client_name, each_client, uart_queues, shared_serial_queues, serial_client_queues, net_queues, serial_queues, blk_queues, queues_of}
+use Rattle.sdf_check.proofs.ListLemmas.{get-left, get-right}
+use Rattle.region_layout.specs.Rows.{actor_named, uart_number, device_queue, only_queue, queue_in, client_name, each_client, uart_queues, shared_serial_queues, serial_client_queues, net_queues, serial_queues, blk_queues, queues_of, queue_pair, eth_rx_queues, eth_tx_queues, net_rx_queues, net_tx_queues, net_client_queues, lease_queues, client_rx_queues, client_tx_queues}
 use Rattle.std.specs.Option.{option_map_or}
+use Rattle.system_core.specs.Builds.{first_serial}
 use Rattle.system_core.specs.Seats.{HasSeat}
 use Rattle.play_core.proofs.Lists.{some_is}
 use Rattle.system_core.proofs.Named.{Peer, peer_number}
@@ -42,7 +45,29 @@ each_row : {C : Type 0} (P : QueueRow → Type 0) (rows : ℕ → C → List Que
 each_row P rows all from [] n row h = cc
 each_row P rows all from (y ∷ ys) n row h = row_in P (rows from y) (each_client rows (from + 1) ys) (all from y) (each_row P rows all (from + 1) ys) n row h
 
-module _ (plan : Plan) (serial : Serial) (net : plan.net ≡ None) (blk : plan.blk ≡ None) (has : plan.serial ≡ Some serial) where
+-- how many rows there are where each client has so many
+each_count : {C T : Type 0} (rows : ℕ → C → List T) (many : ℕ) (times : ℕ → ℕ) → times 0 ≡ 0 → ((n : ℕ) → times (suc n) ≡ many + times n) → ((c : ℕ) (x : C) → length (rows c x) ≡ many) → (from : ℕ) (clients : List C) → length (each_client rows from clients) ≡ times (length clients)
+each_count rows many times none more each from [] = sym none
+each_count rows many times none more each from (x ∷ xs) =
+    let here : length (rows from x) ≡ many = each from x in
+    let rest : length (each_client rows (from + 1) xs) ≡ times (length xs) = each_count rows many times none more each (from + 1) xs in
+    let both : length (rows from x ++ each_client rows (from + 1) xs) ≡ length (rows from x) + length (each_client rows (from + 1) xs) = length-append (rows from x) (each_client rows (from + 1) xs) in
+    let next : times (suc (length xs)) ≡ many + times (length xs) = more (length xs) in
+    omega (arith, here, rest, both, next)
+
+-- the network's queues are as many as stand before those of the serial class
+pub first_after : (plan : Plan) (net : Net) → plan.net ≡ Some net → first_serial plan ≡ 8 + 6 * length net.client
+unfolding net_queues eth_rx_queues eth_tx_queues net_rx_queues net_tx_queues net_client_queues lease_queues client_rx_queues client_tx_queues queue_pair
+first_after plan net has =
+    let all : first_serial plan ≡ length (net_queues plan net) = ap (λ o. length (option_map_or (net_queues plan) o [])) has in
+    let each : length (each_client (net_client_queues plan net) 0 net.client) ≡ 6 * length net.client = each_count (net_client_queues plan net) 6 (λ n. 6 * n) refl (λ n. omega arith) (λ c x. refl) 0 net.client in
+    let front : List QueueRow = eth_rx_queues plan net ++ eth_tx_queues plan net ++ net_rx_queues plan net ++ net_tx_queues plan net in
+    let eight : length front ≡ 8 = refl in
+    let sum : length (net_queues plan net) ≡ length front + length (each_client (net_client_queues plan net) 0 net.client) = length-append front (each_client (net_client_queues plan net) 0 net.client) in
+    omega (arith, all, each, eight, sum)
+
+-- the rows of the serial class, from its first queue on
+module _ (plan : Plan) (serial : Serial) (has : plan.serial ≡ Some serial) (first : ℕ) (starts : first_serial plan ≡ first) where
   abbrev uart : ActorId
   uart = uart_number plan
 
@@ -70,19 +95,31 @@ module _ (plan : Plan) (serial : Serial) (net : plan.net ≡ None) (blk : plan.b
   abbrev clients : List QueueRow
   clients = each_client (serial_client_queues plan serial) 0 serial.client
 
-  rows_are : queues_of plan ≡ row_0 ∷ row_1 ∷ row_2 ∷ row_3 ∷ clients
+  abbrev class_rows : List QueueRow
+  class_rows = row_0 ∷ row_1 ∷ row_2 ∷ row_3 ∷ clients
+
+  abbrev before : List QueueRow
+  before = option_map_or (net_queues plan) plan.net []
+
+  abbrev behind : List QueueRow
+  behind = option_map_or (blk_queues plan) plan.blk []
+
+  rows_are : queues_of plan ≡ before ++ class_rows ++ behind
   unfolding queues_of serial_queues uart_queues shared_serial_queues
-  rows_are =
-      ap (λ o. option_map_or (net_queues plan) o [] ++ option_map_or (serial_queues plan) plan.serial [] ++ option_map_or (blk_queues plan) plan.blk []) net
-      ∙ (ap (λ o. option_map_or (serial_queues plan) o [] ++ option_map_or (blk_queues plan) plan.blk []) has
-      ∙ (ap (λ o. serial_queues plan serial ++ option_map_or (blk_queues plan) o []) blk ∙ append-nil (serial_queues plan serial)))
+  rows_are = ap (λ o. before ++ option_map_or (serial_queues plan) o [] ++ behind) has
 
   two_rows : (c : ℕ) (client : SerialClient) → serial_client_queues plan serial c client ≡ client_rx c client ∷ client_tx c client ∷ []
   unfolding serial_client_queues
   two_rows c client = refl
 
-  at_row : (n : ℕ) (row : QueueRow) → slice_get (row_0 ∷ row_1 ∷ row_2 ∷ row_3 ∷ clients) n ≡ Some row → slice_get (queues_of plan) n ≡ Some row
-  at_row n row h = ap (λ rs. slice_get rs n) rows_are ∙ h
+  -- a row of the class by its number among all
+  at_row : (n m : ℕ) (row : QueueRow) → n ≡ first + m → slice_get class_rows m ≡ Some row → slice_get (queues_of plan) n ≡ Some row
+  at_row n m row is h =
+      let front : length before ≡ first = starts in
+      let e : length before + m ≡ n = omega (arith, is, front) in
+      ap (λ rs. slice_get rs n) rows_are
+      ∙ subst (λ k. slice_get (before ++ class_rows ++ behind) k ≡ Some row) e
+          (get-left (before ++ class_rows) behind (length before + m) row (get-right before class_rows m row h))
 
   -- the two seats at a queue
   seats_at : (n : ℕ) (region : Option ℕ) (offset : ℕ) (name : List ℕ) (from to : ActorId) (capacity : ℕ) → slice_get (queues_of plan) n ≡ Some (queue_in plan region offset name Kind.Byte from to capacity)
@@ -93,17 +130,17 @@ module _ (plan : Plan) (serial : Serial) (net : plan.net ≡ None) (blk : plan.b
   abbrev pub Seat : ActorId → Role → ℕ → Type 0
   Seat a r n = HasSeat (queues_of plan) a.0 r n
 
-  pub seats_0 : Seat uart Producer 0 × Seat (named serial.driver) Consumer 0
-  seats_0 = seats_at 0 _ _ _ _ _ _ (at_row 0 row_0 refl)
+  pub seats_0 : (n : ℕ) → n ≡ first → Seat uart Producer n × Seat (named serial.driver) Consumer n
+  seats_0 n is = seats_at n _ _ _ _ _ _ (at_row n 0 row_0 (omega (arith, is)) refl)
 
-  pub seats_1 : Seat (named serial.driver) Producer 1 × Seat uart Consumer 1
-  seats_1 = seats_at 1 _ _ _ _ _ _ (at_row 1 row_1 refl)
+  pub seats_1 : (n : ℕ) → n ≡ first + 1 → Seat (named serial.driver) Producer n × Seat uart Consumer n
+  seats_1 n is = seats_at n _ _ _ _ _ _ (at_row n 1 row_1 is refl)
 
-  pub seats_2 : Seat (named serial.driver) Producer 2 × Seat (named serial.rx_virt) Consumer 2
-  seats_2 = seats_at 2 _ _ _ _ _ _ (at_row 2 row_2 refl)
+  pub seats_2 : (n : ℕ) → n ≡ first + 2 → Seat (named serial.driver) Producer n × Seat (named serial.rx_virt) Consumer n
+  seats_2 n is = seats_at n _ _ _ _ _ _ (at_row n 2 row_2 is refl)
 
-  pub seats_3 : Seat (named serial.tx_virt) Producer 3 × Seat (named serial.driver) Consumer 3
-  seats_3 = seats_at 3 _ _ _ _ _ _ (at_row 3 row_3 refl)
+  pub seats_3 : (n : ℕ) → n ≡ first + 3 → Seat (named serial.tx_virt) Producer n × Seat (named serial.driver) Consumer n
+  seats_3 n is = seats_at n _ _ _ _ _ _ (at_row n 3 row_3 is refl)
 
   both_rows : (c : ℕ) (client : SerialClient) → slice_get serial.client c ≡ Some client → (slice_get clients (2 * c) ≡ Some (client_rx c client)) × (slice_get clients (suc (2 * c)) ≡ Some (client_tx c client))
   both_rows c client h =
@@ -111,14 +148,11 @@ module _ (plan : Plan) (serial : Serial) (net : plan.net ≡ None) (blk : plan.b
       let e : 0 + c ≡ c = omega arith in
       (r.0 ∙ ap (λ k. Some (client_rx k client)) e, r.1 ∙ ap (λ k. Some (client_tx k client)) e)
 
-  at_client : (n m : ℕ) (row : QueueRow) → n ≡ suc (suc (suc (suc m))) → slice_get clients m ≡ Some row → slice_get (queues_of plan) n ≡ Some row
-  at_client n m row e h = ap (slice_get (queues_of plan)) e ∙ at_row (suc (suc (suc (suc m)))) row h
+  pub seats_rx : (c n : ℕ) (client : SerialClient) → n ≡ first + 4 + 2 * c → slice_get serial.client c ≡ Some client → Seat (named serial.rx_virt) Producer n × Seat (named client.pd) Consumer n
+  seats_rx c n client is h = seats_at n _ _ _ _ _ _ (at_row n (suc (suc (suc (suc (2 * c))))) (client_rx c client) (omega (arith, is)) (both_rows c client h).0)
 
-  pub seats_rx : (c : ℕ) (client : SerialClient) → slice_get serial.client c ≡ Some client → Seat (named serial.rx_virt) Producer (4 + 2 * c) × Seat (named client.pd) Consumer (4 + 2 * c)
-  seats_rx c client h = seats_at (4 + 2 * c) _ _ _ _ _ _ (at_client (4 + 2 * c) (2 * c) (client_rx c client) (omega arith) (both_rows c client h).0)
-
-  pub seats_tx : (c : ℕ) (client : SerialClient) → slice_get serial.client c ≡ Some client → Seat (named client.pd) Producer (5 + 2 * c) × Seat (named serial.tx_virt) Consumer (5 + 2 * c)
-  seats_tx c client h = seats_at (5 + 2 * c) _ _ _ _ _ _ (at_client (5 + 2 * c) (suc (2 * c)) (client_tx c client) (omega arith) (both_rows c client h).1)
+  pub seats_tx : (c n : ℕ) (client : SerialClient) → n ≡ first + 5 + 2 * c → slice_get serial.client c ≡ Some client → Seat (named client.pd) Producer n × Seat (named serial.tx_virt) Consumer n
+  seats_tx c n client is h = seats_at n _ _ _ _ _ _ (at_row n (suc (suc (suc (suc (suc (2 * c)))))) (client_tx c client) (omega (arith, is)) (both_rows c client h).1)
 
   -- each owner of a queue is the device or a domain of a name
   abbrev IsNamed : QueueRow → Type 0
@@ -137,25 +171,28 @@ module _ (plan : Plan) (serial : Serial) (net : plan.net ≡ None) (blk : plan.b
       go (suc zero) h = subst IsNamed (some_is h) (named_queue _ _ _ (Some client.pd) (Some serial.tx_virt) _)
       go (suc (suc n)) h = cc
 
-  pub owner_named : (n : ℕ) (row : QueueRow) → slice_get (queues_of plan) n ≡ Some row → IsNamed row
-  owner_named n row h = go n (ap (λ rs. slice_get rs n) (sym rows_are) ∙ h)
-    where
-      go : (n : ℕ) → slice_get (row_0 ∷ row_1 ∷ row_2 ∷ row_3 ∷ clients) n ≡ Some row → IsNamed row
-      go zero h = subst IsNamed (some_is h) (named_queue _ _ _ None (Some serial.driver) _)
-      go (suc zero) h = subst IsNamed (some_is h) (named_queue _ _ _ (Some serial.driver) None _)
-      go (suc (suc zero)) h = subst IsNamed (some_is h) (named_queue _ _ _ (Some serial.driver) (Some serial.rx_virt) _)
-      go (suc (suc (suc zero))) h = subst IsNamed (some_is h) (named_queue _ _ _ (Some serial.tx_virt) (Some serial.driver) _)
-      go (suc (suc (suc (suc n)))) h = each_row IsNamed (serial_client_queues plan serial) named_client 0 serial.client n row h
+  -- in a plan with the serial class alone these are all rows, and begin with number 0
+  module _ (net : plan.net ≡ None) (blk : plan.blk ≡ None) where
+    all_rows : queues_of plan ≡ class_rows
+    all_rows =
+        rows_are ∙ (ap (λ o. option_map_or (net_queues plan) o [] ++ class_rows ++ behind) net
+        ∙ (ap (λ o. class_rows ++ option_map_or (blk_queues plan) o []) blk ∙ append-nil class_rows))
 
-  each_length : (from : ℕ) (cs : List SerialClient) → length (each_client (serial_client_queues plan serial) from cs) ≡ 2 * length cs
-  each_length from [] = refl
-  each_length from (c ∷ cs) =
-      let r = each_length (from + 1) cs in
-      let is : each_client (serial_client_queues plan serial) from (c ∷ cs) ≡ client_rx from c ∷ client_tx from c ∷ each_client (serial_client_queues plan serial) (from + 1) cs = ap (λ (l : List QueueRow). l ++ each_client (serial_client_queues plan serial) (from + 1) cs) (two_rows from c) in
-      rw (is, r) (omega arith)
+    pub first_none : first ≡ 0
+    first_none = sym starts ∙ ap (λ o. length (option_map_or (net_queues plan) o [])) net
 
-  pub row_count : length (queues_of plan) ≡ 4 + 2 * length serial.client
-  row_count =
-      let whole : length (queues_of plan) ≡ suc (suc (suc (suc (length clients)))) = ap length rows_are in
-      let each : length clients ≡ 2 * length serial.client = each_length 0 serial.client in
-      omega (arith, whole, each)
+    pub owner_named : (n : ℕ) (row : QueueRow) → slice_get (queues_of plan) n ≡ Some row → IsNamed row
+    owner_named n row h = go n (ap (λ rs. slice_get rs n) (sym all_rows) ∙ h)
+      where
+        go : (n : ℕ) → slice_get class_rows n ≡ Some row → IsNamed row
+        go zero h = subst IsNamed (some_is h) (named_queue _ _ _ None (Some serial.driver) _)
+        go (suc zero) h = subst IsNamed (some_is h) (named_queue _ _ _ (Some serial.driver) None _)
+        go (suc (suc zero)) h = subst IsNamed (some_is h) (named_queue _ _ _ (Some serial.driver) (Some serial.rx_virt) _)
+        go (suc (suc (suc zero))) h = subst IsNamed (some_is h) (named_queue _ _ _ (Some serial.tx_virt) (Some serial.driver) _)
+        go (suc (suc (suc (suc n)))) h = each_row IsNamed (serial_client_queues plan serial) named_client 0 serial.client n row h
+
+    pub row_count : length (queues_of plan) ≡ 4 + 2 * length serial.client
+    row_count =
+        let whole : length (queues_of plan) ≡ suc (suc (suc (suc (length clients)))) = ap length all_rows in
+        let each : length clients ≡ 2 * length serial.client = each_count (serial_client_queues plan serial) 2 (λ n. 2 * n) refl (λ n. omega arith) (λ c x. ap length (two_rows c x)) 0 serial.client in
+        omega (arith, whole, each)

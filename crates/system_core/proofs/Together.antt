@@ -1,4 +1,4 @@
-use Rattle.std.proofs.Common.{◌≡◌, ◌≤◌, ◌++◌, ℕ, Some, None, List, [], length, map, slice_get, sym, ap, ◌∙◌, subst, arith}
+use Rattle.std.proofs.Common.{◌≡◌, ◌≤◌, ◌++◌, ℕ, Some, None, List, [], length, map, slice_get, refl, sym, ap, ◌∙◌, subst, arith}
 use Rattle.std.proofs.lemmas.List.{length-map}
 use Rattle.wire_core.specs.declared.names.QueueRow.{QueueRow}
 use Rattle.wire_core.specs.declared.names.Entry.{Entry}
@@ -28,7 +28,7 @@ use Rattle.system_core.specs.Builds.{IsBuilt, IsCastOf, BeginsAnew, HasSerial, s
 use Rattle.system_core.specs.PlanPlays.{IsPlayed, ShowsWhole}
 use Rattle.system_core.proofs.Calm.{calm_actor}
 use Rattle.system_core.proofs.Scripts.{scripts_length}
-use Rattle.system_core.proofs.Begun.{There, first_is, serial_there, shows_in_part, shows_whole}
+use Rattle.system_core.proofs.Begun.{There, serial_there, shows_in_part, shows_whole}
 
 -- what is said of a part of the serial class, as one of all
 row_as : (s : Setting) (m : Moved) (p : SerialPart) → (sheet_in s (serial_part p)).row m → RowAt m p
@@ -97,19 +97,22 @@ module _ (old new : Shown) (seed limit : ℕ) (none : old.journal ≡ []) (playe
       subst (λ z. PickedFrom (runs z) seed [] new.journal) (sym played.setting)
       (subst (λ j. PickedFrom (runs old.setting) seed [] j) more_is (subst (λ j. PickedFrom (runs old.setting) seed j played.more) none played.picked))
 
-  module _ (plan : Plan) (trace : Trace) (net : plan.net ≡ None) (blk : plan.blk ≡ None) (read : IsReadFor plan trace) (built : IsBuilt plan trace old) (stands : StandsLawful new) (part : LawInPart) (whole : LawWhole) where
+  module _ (plan : Plan) (trace : Trace) (read : IsReadFor plan trace) (built : IsBuilt plan trace old) (stands : StandsLawful new) (part : LawInPart) (whole : LawWhole) where
     cast_is : IsCastOf plan trace new.setting
     cast_is = subst (IsCastOf plan trace) (sym played.setting) built.cast
 
     module _ (serial : Serial) (has : plan.serial ≡ Some serial) where
-      class_is : HasSerial 0 plan serial trace new.setting
-      class_is = subst (λ n. HasSerial n plan serial trace new.setting) (first_is plan net) (cast_is.serial serial has)
+      abbrev class : SerialClass
+      class = serial_class (first_serial plan) (length serial.client) trace
+
+      class_is : HasSerial (first_serial plan) plan serial trace new.setting
+      class_is = cast_is.serial serial has
 
       says : length trace.says ≡ length serial.client
       says = scripts_length plan serial trace has read
 
-      there : IsSerial (There new.setting) (hostile_in new.setting) new.setting.rows (serial_class 0 (length serial.client) trace)
-      there = serial_there plan serial net blk has trace new.setting cast_is.rows stands.fitted.places class_is says
+      there : IsSerial (There new.setting) (hostile_in new.setting) new.setting.rows class
+      there = serial_there plan serial has (first_serial plan) refl trace new.setting cast_is.rows stands.fitted.places class_is says
 
     pub together : IsPlayed plan trace seed limit new
     together = record {
@@ -118,7 +121,7 @@ module _ (old new : Shown) (seed limit : ℕ) (none : old.journal ≡ []) (playe
       picked = picked_is;
       within = subst (λ j. length j ≤ limit) more_is played.within;
       stands = stands;
-      arrives = λ serial has. subst (λ n. EachMoment (λ j. ArrivesInPart (serial_class n (length serial.client) trace) (moved_in new.setting j)) new.journal) (sym (first_is plan net)) (arrives new stands (serial_class 0 (length serial.client) trace) (there serial has) part);
-      shows = λ serial has. shows_in_part plan serial trace new (class_is serial has) (says serial has) stands.told (arrives_now new stands (serial_class 0 (length serial.client) trace) (there serial has) part);
-      whole = λ quiet serial has. shows_whole plan serial trace new (class_is serial has) (says serial has) stands.told (arrives_whole new stands (serial_class 0 (length serial.client) trace) (there serial has) whole quiet);
+      arrives = λ serial has. arrives new stands (class serial has) (there serial has) part;
+      shows = λ serial has. shows_in_part plan serial (first_serial plan) trace new (class_is serial has) (says serial has) stands.told (arrives_now new stands (class serial has) (there serial has) part);
+      whole = λ quiet serial has. shows_whole plan serial (first_serial plan) trace new (class_is serial has) (says serial has) stands.told (arrives_whole new stands (class serial has) (there serial has) whole quiet);
     }

@@ -24,13 +24,13 @@ within clients Of.Receiver = Unit {0}
 within clients Of.Sender = Unit {0}
 within clients (Of.Client c) = c < clients
 
--- the queue, and its end, by which the job of an actor is known
-abbrev pub known_queue : Job → ℕ
-known_queue Of.Device = 0
-known_queue Of.Driver = 0
-known_queue Of.Receiver = 2
-known_queue Of.Sender = 3
-known_queue (Of.Client c) = 4 + 2 * c
+-- the queue, and its end, by which the job of an actor is known, in a class with this first queue
+abbrev pub known_queue : ℕ → Job → ℕ
+known_queue first Of.Device = first
+known_queue first Of.Driver = first
+known_queue first Of.Receiver = first + 2
+known_queue first Of.Sender = first + 3
+known_queue first (Of.Client c) = first + 4 + 2 * c
 
 abbrev pub known_role : Job → Role
 known_role Of.Device = Producer
@@ -39,33 +39,35 @@ known_role Of.Receiver = Consumer
 known_role Of.Sender = Producer
 known_role (Of.Client c) = Consumer
 
--- actor k has this job
-abbrev pub HasJob : List QueueRow → ℕ → ℕ → Job → Type 0
-HasJob rows clients k job = within clients job × IsOwner rows (known_queue job) (known_role job) k
+-- actor k has this job, in a class with this first queue and so many clients
+abbrev pub HasJob : List QueueRow → ℕ → ℕ → ℕ → Job → Type 0
+HasJob rows first clients k job =
+    within clients job × IsOwner rows (known_queue first job) (known_role job) k
 
-abbrev pub SomeJob : List QueueRow → ℕ → ℕ → Type 0
-SomeJob rows clients k = (job : Job) × HasJob rows clients k job
+abbrev pub SomeJob : List QueueRow → ℕ → ℕ → ℕ → Type 0
+SomeJob rows first clients k = (job : Job) × HasJob rows first clients k job
 
 -- the part of an actor of a job
-abbrev pub job_part : ℕ → Trace → Job → Part
-job_part clients trace Of.Device = UartPart 0 1 trace.input
-job_part clients trace Of.Driver = DriverPart 0 1 2 3
-job_part clients trace Of.Receiver = RxPart 2 (every_second 4 clients)
-job_part clients trace Of.Sender = TxPart 3 (every_second 5 clients)
-job_part clients trace (Of.Client c) = ClientPart (4 + 2 * c) (5 + 2 * c) (unwrap_or (slice_get trace.says c) [])
+abbrev pub job_part : ℕ → ℕ → Trace → Job → Part
+job_part first clients trace Of.Device = UartPart first (first + 1) trace.input
+job_part first clients trace Of.Driver = DriverPart first (first + 1) (first + 2) (first + 3)
+job_part first clients trace Of.Receiver = RxPart (first + 2) (every_second (first + 4) clients)
+job_part first clients trace Of.Sender = TxPart (first + 3) (every_second (first + 5) clients)
+job_part first clients trace (Of.Client c) =
+    ClientPart (first + 4 + 2 * c) (first + 5 + 2 * c) (unwrap_or (slice_get trace.says c) [])
 
 -- an actor in its start state with a job that the rows give it
-pub record IsCast (rows : List QueueRow) (clients : ℕ) (trace : Trace) (k : ℕ) (x : Actor) : Type 0 where
+pub record IsCast (rows : List QueueRow) (first clients : ℕ) (trace : Trace) (k : ℕ) (x : Actor) : Type 0 where
   pub job : Job
-  pub has : HasJob rows clients k job
+  pub has : HasJob rows first clients k job
   pub new : IsNew x
-  pub part : part_of x ≡ job_part clients trace job
+  pub part : part_of x ≡ job_part first clients trace job
 
-pub record AreCast (rows : List QueueRow) (clients count : ℕ) (trace : Trace) (actors : List Actor) : Type 0 where
+pub record AreCast (rows : List QueueRow) (first clients count : ℕ) (trace : Trace) (actors : List Actor) : Type 0 where
   pub count_is : length actors ≡ count
-  pub each : (k : ℕ) (x : Actor) → slice_get actors k ≡ Some x → IsCast rows clients trace k x
+  pub each : (k : ℕ) (x : Actor) → slice_get actors k ≡ Some x → IsCast rows first clients trace k x
 
 -- the actors that take from the first queue of each client
-pub record AreClients (rows : List QueueRow) (clients : ℕ) (numbers : List ℕ) : Type 0 where
+pub record AreClients (rows : List QueueRow) (first clients : ℕ) (numbers : List ℕ) : Type 0 where
   pub count : length numbers ≡ clients
-  pub each : (c k : ℕ) → slice_get numbers c ≡ Some k → IsOwner rows (4 + 2 * c) Consumer k
+  pub each : (c k : ℕ) → slice_get numbers c ≡ Some k → IsOwner rows (first + 4 + 2 * c) Consumer k

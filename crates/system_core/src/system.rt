@@ -21,7 +21,7 @@ ghost use Rattle.system_core.specs.Asking.{IsAsked};
 ghost use Rattle.system_core.specs.Builds.{unplayed, IsBuilt};
 ghost use Rattle.system_core.specs.PlanPlays.{IsPlayed, HasEnded};
 
-use crate::build::{cast, client_numbers, copies};
+use crate::build::{cast, client_numbers, copies, first_serial};
 use crate::running::Running;
 use actor_set::Actor;
 use cargo_core::{Bytes, Memory, Series};
@@ -246,11 +246,12 @@ impl System {
         let Some(serial) = &plan.serial else {
             return System::start(alloc, rows, Vec::new(alloc), None, Vec::new(alloc));
         };
+        let first = first_serial(plan);
         let clients = serial.client.len() as u16;
         let count = layout.actors().len() as u16;
-        let device = rows[0].producer.0;
-        let numbers = client_numbers(alloc, &rows, clients)?;
-        let actors = cast(alloc, &rows, clients, count, trace)?;
+        let device = rows[first as usize].producer.0;
+        let numbers = client_numbers(alloc, &rows, first, clients)?;
+        let actors = cast(alloc, &rows, first, clients, count, trace)?;
         System::start(alloc, rows, actors, Some(device), numbers)
     }
 

@@ -1,8 +1,7 @@
-use Rattle.system_core.proofs.Built.{no_net, no_blk}
 use Rattle.system_core.proofs.Together.{together}
 use Rattle.system_core.proofs.system.System.played.Goals as goal
 
 pub returns-clause-played : goal.returns-clause-played
 returns-clause-played c =
-    together c.in_ok-system.system c.play.new.self c.args.seed c.args.limit c.in_ok-system.ensures.built.journal c.in_ok-ending.ensures.played c.args.plan.now c.args.trace.now (no_net c.args.plan.now c.requires.played) (no_blk c.args.plan.now c.requires.played) c.requires.trace c.in_ok-system.ensures.built c.in_ok-ending.ensures.stands
+    together c.in_ok-system.system c.play.new.self c.args.seed c.args.limit c.in_ok-system.ensures.built.journal c.in_ok-ending.ensures.played c.args.plan.now c.args.trace.now c.requires.trace c.in_ok-system.ensures.built c.in_ok-ending.ensures.stands
     c.serial_law.ensures.part c.serial_law.ensures.whole
