@@ -1,18 +1,26 @@
 //! Plays descriptions. A row of the input is `FILE | SEED | STEPS | LINE | LINE`: a description,
-//! the seed, the most steps, and the lines of a trace for it. For each row one line is written: how
-//! the play ended, what was sent on the line, and what each client recorded. Bytes are written as
-//! runs, `3*61` for 616161; where several clients speak, the line is written as how often each byte
-//! stands in it, since their bytes come in any order.
+//! the seed, the most steps, and the lines of a trace for it. `FILE with NAME as OTHER` stands for
+//! the plan in which a domain has another name, also one that no text spells, as `@uart`, the
+//! serial device's own. For each row one line is written: how the play ended, what was sent on the
+//! line, and what each client recorded. Bytes are written as runs, `3*61` for 616161; where several
+//! clients speak, the line is written as how often each byte stands in it, since their bytes come
+//! in any order.
 #![tactic(auto)]
 
-ghost use Rattle.std.specs.Prelude.{◌≡◌, ◌<◌, ◌≤◌, IfOk, length, None};
+ghost use Rattle.std.specs.Prelude.{◌≡◌, ◌<◌, ◌≤◌, IfOk, IfSome, length, None};
 ghost use Rattle.sdf_check.specs.Valid.{Valid};
+ghost use Rattle.sdf_plan.specs.Elements.{IsNumbered};
 ghost use Rattle.sdf_model.specs.Counts.{text_most};
 ghost use Rattle.system_core.specs.Builds.{unplayed};
 ghost use Rattle.trace_text.specs.Traces.{IsReadFor};
 
+mod naming;
+mod numbering;
+
 use cargo_core::Memory;
 use expect_core::{Report, input_of};
+use naming::rename_domain;
+use numbering::is_numbered;
 use region_layout::lay_out;
 use sdf_check::check;
 use sdf_model::{TEXT_MOST, read_description};
@@ -22,14 +30,34 @@ use std::{fs, io};
 use system_core::{Ending, System, unplayed};
 use trace_text::{Trace, TraceFault, read_trace};
 
-// The plan that a text spells, where no rule is broken.
-fn judged(alloc: Global, text: &str) -> Result<Plan, SdfFault>
+// The plan that a text spells, with another name of a domain where a row gives one as
+// `NAME as OTHER`; None where its lists have too many elements.
+fn read_with_names(alloc: Global, text: &str, names: Option<&str>) -> Result<Option<Plan>, SdfFault>
     requires { length text.now ≤ text_most }
-    ensures { IfOk result Valid }
+    ensures { IfOk result (λ plan. IfSome plan IsNumbered) }
 {
     let plan = read_description(alloc, text.as_bytes())?;
+    let Some((old, new)) = names.and_then(|names| names.split_once(" as ")) else {
+        return Ok(Some(plan));
+    };
+    let plan = rename_domain(alloc, plan, old, new)?;
+    if is_numbered(&plan) {
+        Ok(Some(plan))
+    } else {
+        Ok(None)
+    }
+}
+
+// That plan, where no rule is broken.
+fn judged(alloc: Global, text: &str, names: Option<&str>) -> Result<Option<Plan>, SdfFault>
+    requires { length text.now ≤ text_most }
+    ensures { IfOk result (λ plan. IfSome plan Valid) }
+{
+    let Some(plan) = read_with_names(alloc, text, names)? else {
+        return Ok(None);
+    };
     check(alloc, &plan)?;
-    Ok(plan)
+    Ok(Some(plan))
 }
 
 // Bytes as runs of one value.
@@ -143,12 +171,20 @@ fn play_lines(
 }
 
 // What a play of a description's text comes to.
-fn answer(alloc: Global, text: &str, seed: u64, steps: u64, lines: &str) -> Result<String, Memory> {
+fn answer(
+    alloc: Global,
+    text: &str,
+    names: Option<&str>,
+    seed: u64,
+    steps: u64,
+    lines: &str,
+) -> Result<String, Memory> {
     if text.len() > TEXT_MOST {
         return Ok(String::from_str(alloc, "too long\n")?);
     }
-    match judged(alloc, text) {
-        Ok(plan) => play_lines(alloc, &plan, seed, steps, lines),
+    match judged(alloc, text, names) {
+        Ok(Some(plan)) => play_lines(alloc, &plan, seed, steps, lines),
+        Ok(None) => Ok(String::from_str(alloc, "too many\n")?),
         Err(SdfFault::Refused(_)) => Ok(String::from_str(alloc, "refused\n")?),
         Err(SdfFault::Memory(memory)) => Err(memory),
     }
@@ -173,10 +209,14 @@ fn row(rt: &HostRuntime, row: &str) -> io::Result<()> {
         return rt.println("no row");
     };
     let (steps, lines) = rest.split_once(" | ").unwrap_or((rest, ""));
+    let (name, names) = match name.split_once(" with ") {
+        Some((name, names)) => (name, Some(names)),
+        None => (name, None),
+    };
     let text = fs::read_to_string(rt, name)?;
     let seed = seed.parse::<u64>().unwrap_or(0);
     let steps = steps.parse::<u64>().unwrap_or(0);
-    match answer(rt.alloc(), text.as_str(), seed, steps, lines) {
+    match answer(rt.alloc(), text.as_str(), names, seed, steps, lines) {
         Ok(line) => rt.print(line.as_str()),
         Err(_) => rt.println("no memory"),
     }
