@@ -9,8 +9,7 @@ use Rattle.sdf_check.specs.Names.{place_of}
 use Rattle.sdf_check.proofs.ListLemmas.{get-left}
 use Rattle.sdf_check.proofs.RuleLemmas.{position-None}
 use Rattle.region_layout.specs.Rows.{acts}
-use Rattle.play_core.proofs.Lists.{some_is, map_from}
-use Rattle.play_core.proofs.Lists.{there_below}
+use Rattle.play_core.proofs.Lists.{some_is, map_from, there_below}
 use Rattle.system_core.proofs.WalkPlaces.{Stands}
 
 pub option_cases : {T : Type 0} (o : Option T) → (o ≡ None) ⊎ ((x : T) × (o ≡ Some x))

@@ -2,7 +2,7 @@ use Rattle.std.proofs.Common.{◌≡◌, ◌⊎◌, ◌+◌, ◌*◌, ◌<◌, �
 use Rattle.std.proofs.lemmas.List.{length-map}
 use Rattle.wire_core.specs.declared.names.QueueRow.{QueueRow}
 use Rattle.wire_core.specs.Ends.{Role, Consumer, Producer}
-use Rattle.wire_core.specs.Journal.{owner_of}
+use Rattle.wire_core.specs.Journal.{start_history, owner_of}
 use Rattle.turn_kit.specs.ManyEnds.{intake_queues, outlet_queues}
 use Rattle.sdf_plan.specs.declared.plan.Plan.{Plan}
 use Rattle.sdf_plan.specs.declared.plan.Serial.{Serial}
@@ -21,8 +21,7 @@ use Rattle.system_core.specs.Builds.{HasSerial, first_serial}
 use Rattle.system_core.specs.Jobs.{IsOwner, within, known_queue, known_role, HasJob, SomeJob, job_part, AreCast, AreClients}
 use Rattle.system_core.specs.declared.build.Job.{Job}
 use Rattle.system_core.specs.declared.build.Job.TheVariants as Of
-use Rattle.play_core.proofs.Lists.{some_is, map_get, map_from}
-use Rattle.play_core.proofs.Lists.{there_is, there_below}
+use Rattle.play_core.proofs.Lists.{some_is, map_get, map_from, there_is, there_below}
 use Rattle.system_core.proofs.PartEnds.{PartEnd, to_part, from_part, number_there}
 use Rattle.system_core.proofs.WalkPlaces.{Stands}
 use Rattle.system_core.proofs.Apart.{one_place}
@@ -312,7 +311,7 @@ module _ (plan : Plan) (valid : Valid plan) (serial : Serial) (net : plan.net �
 
     module _ (place : ℕ) (numbers : List ℕ) (device_owner : IsOwner rows first Producer place) (owners : AreClients rows first count numbers) where
       abbrev state : Setting
-      state = begun rows actors (crew_of (Some place) numbers)
+      state = begun (start_history rows) rows actors (crew_of (Some place) numbers)
 
       clients_are : numbers ≡ map (λ (c : SerialClient). number (Some c.pd)) serial.client
       clients_are = same_lists numbers (map (λ (c : SerialClient). number (Some c.pd)) serial.client) (owners.count ∙ sym (length-map serial.client (λ (c : SerialClient). number (Some c.pd))))

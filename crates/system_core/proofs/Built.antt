@@ -3,6 +3,7 @@ use Rattle.std.proofs.lemmas.List.{length-map}
 use Rattle.std.proofs.lemmas.Option.{slice_get_read}
 use Rattle.wire_core.specs.declared.names.QueueRow.{QueueRow}
 use Rattle.wire_core.specs.Ends.{Producer}
+use Rattle.wire_core.specs.Journal.{start_history}
 use Rattle.sdf_plan.specs.declared.plan.Plan.{Plan}
 use Rattle.sdf_plan.specs.declared.plan.Net.{Net}
 use Rattle.sdf_plan.specs.declared.plan.Serial.{Serial}
@@ -28,9 +29,7 @@ use Rattle.system_core.proofs.Named.{domains_few, client_count}
 use Rattle.system_core.proofs.SerialRows.{row_count, first_none}
 use Rattle.system_core.proofs.Building.{some_job, seated, has_serial}
 use Rattle.system_core.proofs.Begun.{no_queues, no_actors}
-
-some_is : {X : Type 0} {a b : X} → Some a ≡ Some b → a ≡ b
-some_is h = cc
+use Rattle.play_core.proofs.Lists.{some_is}
 
 -- the producer of the first row of the class
 pub first_owner : (all : List QueueRow) (first n : ℕ) (row : QueueRow) → first + 4 + 2 * n ≤ length all → row ≡ get_or all first row → IsOwner all first Producer row.producer.0
@@ -111,16 +110,16 @@ module _ (plan : Plan) (valid : Valid plan) (played : unplayed plan ≡ None) wh
           abbrev crew : Crew
           crew = crew_of (Some device) numbers
 
-          serial_begun : HasSerial first plan serial trace (begun rows actors crew)
+          serial_begun : HasSerial first plan serial trace (begun (start_history rows) rows actors crew)
           serial_begun = rw rows_are (has_serial plan valid serial net blk has first (sym first_is) trace actors cast_of device numbers (rw rows_are at owner) (rw (rows_are, clients_are) at owners))
 
-          pub is_built : IsBuilt plan trace (started rows actors crew)
+          pub is_built : IsBuilt plan trace (started (start_history rows) rows actors crew)
           is_built = record {
             cast = record {
               rows = rows_are;
               count = length-map actors part_of ∙ cast_of.count_is;
               scene = bare_scene plan trace (map part_of actors) net blk;
-              serial = λ s is. subst (λ n. HasSerial n plan s trace (begun rows actors crew)) first_is (subst (λ (x : Serial). HasSerial first plan x trace (begun rows actors crew)) (some_is (sym has ∙ is)) serial_begun);
+              serial = λ s is. subst (λ n. HasSerial n plan s trace (begun (start_history rows) rows actors crew)) first_is (subst (λ (x : Serial). HasSerial first plan x trace (begun (start_history rows) rows actors crew)) (some_is (sym has ∙ is)) serial_begun);
               nobody = λ none. let no : None ≡ Some serial = sym none ∙ has in cc;
             };
             begins = refl;
@@ -143,7 +142,7 @@ module _ (plan : Plan) (valid : Valid plan) (played : unplayed plan ≡ None) wh
         few = omega arith;
       })
 
-      pub none_built : (trace : Trace) → IsBuilt plan trace (started rows [] (crew_of None []))
+      pub none_built : (trace : Trace) → IsBuilt plan trace (started (start_history rows) rows [] (crew_of None []))
       none_built trace = record {
         cast = record {
           rows = rows_are;

@@ -3,7 +3,9 @@ use Rattle.std.proofs.lemmas.List.{length-map}
 use Rattle.std.proofs.lemmas.Option.{slice_get-get_or}
 use Rattle.wire_core.specs.declared.names.QueueRow.{QueueRow}
 use Rattle.wire_core.specs.Ends.{Consumer, Producer}
-use Rattle.wire_core.specs.Journal.{owner_of}
+use Rattle.wire_core.specs.Queues.{starts}
+use Rattle.wire_core.specs.Journal.{History, start_history, owner_of}
+use Rattle.wire_core.proofs.BellTheorem.{starts_hold, starts_flow}
 use Rattle.wire_core.specs.Sizes.{IsCapacity, AreSized}
 use Rattle.play_core.specs.Moved.{Seat}
 use Rattle.play_core.specs.Sheets.{Scene, IsSeat}
@@ -11,11 +13,14 @@ use Rattle.play_core.proofs.Lists.{map_from, there_is}
 use Rattle.actor_set.specs.Parts.{Part}
 use Rattle.actor_set.specs.Actors.{part_of}
 use Rattle.actor_set.specs.declared.actor.Actor.{Actor}
-use Rattle.system_core.specs.Kinds.{sheet, scene_of}
+use Rattle.system_core.specs.Kinds.{sheet, scene_of, hostiles}
 use Rattle.system_core.specs.Shows.{Crew}
 use Rattle.system_core.specs.States.{begun}
 use Rattle.system_core.specs.Seats.{AreSeated}
 use Rattle.system_core.specs.Lawful.{IsFitted}
+use Rattle.system_core.specs.Systems.{GoesOn}
+use Rattle.system_core.proofs.Starting.{start_holds}
+use Rattle.system_core.proofs.Seating.{seated_start}
 use Rattle.system_core.proofs.PartEnds.{PartEnd, to_part, from_part, end_seat, seat_end}
 
 -- the queues have sizes that wires take
@@ -26,7 +31,7 @@ pub are_sized : (rows : List QueueRow) → length rows ≤ 65536 → ((n : ℕ) 
 are_sized rows few places = record { few = few; capacities = capacities rows places }
 
 -- seated actors fit the rows
-module _ (rows : List QueueRow) (actors : List Actor) (serial : Crew) (s : AreSeated rows actors) where
+module _ (history : History) (rows : List QueueRow) (actors : List Actor) (serial : Crew) (s : AreSeated rows actors) where
   abbrev scene : Scene
   scene = scene_of (map part_of actors)
 
@@ -48,7 +53,7 @@ module _ (rows : List QueueRow) (actors : List Actor) (serial : Crew) (s : AreSe
       let y = there_is actors row.producer.0 (s.peers n row at Producer) in
       s.split row.producer.0 y.0 y.1 n (s.ends row.producer.0 y.0 y.1 n row at Consumer (sym same)) (s.ends row.producer.0 y.0 y.1 n row at Producer refl)
 
-  pub seated_fit : IsFitted (begun rows actors serial)
+  pub seated_fit : IsFitted (begun history rows actors serial)
   seated_fit = record {
     peopled = λ n row at r. subst (λ m. owner_of row r < m) (sym (length-map actors part_of)) (s.peers n row at r);
     seated = end_given;
@@ -56,3 +61,11 @@ module _ (rows : List QueueRow) (actors : List Actor) (serial : Crew) (s : AreSe
     split = two_owners;
     places = s.places;
   }
+
+-- the start state goes on from a history in which nothing happened
+pub start_goes : (rows : List QueueRow) (actors : List Actor) (serial : Crew) → AreSeated rows actors → GoesOn (begun (start_history rows) rows actors serial) (starts rows) actors
+start_goes rows actors serial s = record {
+  fitted = seated_fit (start_history rows) rows actors serial s;
+  before = record { bells_hold = starts_hold (hostiles (map part_of actors)) rows; flows = starts_flow (hostiles (map part_of actors)) rows };
+  holds = start_holds rows actors (seated_start rows actors s);
+}

@@ -5,7 +5,7 @@ use Rattle.wire_core.specs.Queues.{Queue}
 use Rattle.wire_core.specs.declared.names.QueueRow.{QueueRow}
 use Rattle.wire_core.specs.declared.names.Entry.{Entry}
 use Rattle.wire_core.specs.Journal.{History}
-use Rattle.wire_core.proofs.BellTheorem.{bells_hold, queues_flow, starts_hold, starts_flow}
+use Rattle.wire_core.proofs.BellTheorem.{bells_hold, queues_flow}
 use Rattle.play_core.specs.Moved.{moved}
 use Rattle.play_core.proofs.Lists.{map_alike}
 use Rattle.serial_law.specs.Bytes.{bytes_in}
@@ -56,8 +56,8 @@ module _ (a : Inside) (i : IsSystem a) where
     fitted = i.fitted;
     lawful = record {
       legal = i.holds.legal;
-      bells_hold = bells_hold (hostile_in (setting_of a)) (setting_of a).history a.rows.items a.journal.items (starts_hold (hostile_in (setting_of a)) a.rows.items) i.holds.legal;
-      flows = queues_flow (hostile_in (setting_of a)) (setting_of a).history a.rows.items a.journal.items (starts_flow (hostile_in (setting_of a)) a.rows.items) i.holds.legal;
+      bells_hold = bells_hold (hostile_in (setting_of a)) (setting_of a).history a.rows.items a.journal.items i.before.bells_hold i.holds.legal;
+      flows = queues_flow (hostile_in (setting_of a)) (setting_of a).history a.rows.items a.journal.items i.before.flows i.holds.legal;
       rows_hold = i.rows_hold;
       brisk = i.brisk;
     };

@@ -21,8 +21,7 @@ use Rattle.sdf_check.specs.Valid.{Valid, broken}
 use Rattle.sdf_check.proofs.NamedLemmas.{named-none}
 use Rattle.region_layout.specs.Rows.{acts, actors_of, actor_named, acting_count, uart_number}
 use Rattle.system_core.specs.Builds.{number_named}
-use Rattle.play_core.proofs.Lists.{some_is, map_get, map_from}
-use Rattle.play_core.proofs.Lists.{there_is, there_below}
+use Rattle.play_core.proofs.Lists.{some_is, map_get, map_from, there_is, there_below}
 use Rattle.system_core.proofs.WalkPlaces.{Stands, stands_left, stands_right, walk_domain, walk_serial, walk_client}
 use Rattle.system_core.proofs.Apart.{option_cases, AreApart, added_cases, name_of, acting_names, acting_apart, acting_there, acting_from, place_there, place_is, apart_some}
 

@@ -25,12 +25,9 @@ use Rattle.play_core.specs.Runs.{called_from}
 use Rattle.wire_core.specs.Marks.{no_drops, since_from}
 use Rattle.turn_kit.specs.Pace.{pendings, IsCalled}
 use Rattle.wire_core.proofs.Sinces.{eqb_apart}
-use Rattle.play_core.proofs.Lists.{map_get, map_from}
+use Rattle.play_core.proofs.Lists.{some_is, map_get, map_from}
 
 -- Each actor's round is its ends, and an actor that is called has a notification pending at one of them.
-
-some_is : {X : Type 0} {a b : X} → Some a ≡ Some b → a ≡ b
-some_is h = cc
 
 -- an end of the actor, at which it doesn't drop
 abbrev IsPostOf : Actor → Post → Type 0

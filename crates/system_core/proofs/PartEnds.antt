@@ -9,11 +9,8 @@ use Rattle.actor_set.specs.declared.actor.Actor.TheVariants as Kinds
 use Rattle.play_core.specs.Moved.{Seat}
 use Rattle.play_core.specs.Wants.{intake, outlet}
 use Rattle.play_core.specs.Sheets.{Scene}
-use Rattle.play_core.proofs.Lists.{map_get, map_from}
+use Rattle.play_core.proofs.Lists.{some_is, map_get, map_from}
 use Rattle.system_core.specs.Kinds.{sheet}
-
-some_same : {X : Type 0} {a b : X} → Some a ≡ Some b → a ≡ b
-some_same h = cc
 
 -- one of a part's ends
 abbrev pub PartEnd : Part → Role → ℕ → Type 0
@@ -30,12 +27,12 @@ PartEnd (ClientPart rx tx script) Producer n = n ≡ tx
 
 pub number_there : (qs : List QueueId) (k : ℕ) (q : QueueId) (n : ℕ) → slice_get qs k ≡ Some q → n ≡ q.0 → slice_get (numbers qs) k ≡ Some n
 number_there [] k q n h e = cc
-number_there (a ∷ qs) zero q n h e = let f : a ≡ q = some_same h in ap Some (ap (λ (x : QueueId). x.0) f ∙ sym e)
+number_there (a ∷ qs) zero q n h e = let f : a ≡ q = some_is h in ap Some (ap (λ (x : QueueId). x.0) f ∙ sym e)
 number_there (a ∷ qs) (suc k) q n h e = number_there qs k q n h e
 
 pub queue_there : (qs : List QueueId) (k n : ℕ) → slice_get (numbers qs) k ≡ Some n → (q : QueueId) × (slice_get qs k ≡ Some q) × (n ≡ q.0)
 queue_there [] k n h = cc
-queue_there (a ∷ qs) zero n h = (a, refl, sym (some_same h))
+queue_there (a ∷ qs) zero n h = (a, refl, sym (some_is h))
 queue_there (a ∷ qs) (suc k) n h = queue_there qs k n h
 
 -- an actor's ends are those of its part
@@ -91,18 +88,18 @@ as_end : (p : Part) (a b : Seat) → a ≡ b → PartEnd p a.role a.queue → Pa
 as_end p a b e h = subst (λ (x : Seat). PartEnd p x.role x.queue) e h
 
 pub seat_end : (scene : Scene) (p : Part) (i : ℕ) (x : Seat) → slice_get (sheet scene p).ends i ≡ Some x → PartEnd p x.role x.queue
-seat_end scene (UartPart rx tx input) zero x at = as_end (UartPart rx tx input) (intake tx) x (some_same at) refl
-seat_end scene (UartPart rx tx input) (suc zero) x at = as_end (UartPart rx tx input) (outlet rx) x (some_same at) refl
+seat_end scene (UartPart rx tx input) zero x at = as_end (UartPart rx tx input) (intake tx) x (some_is at) refl
+seat_end scene (UartPart rx tx input) (suc zero) x at = as_end (UartPart rx tx input) (outlet rx) x (some_is at) refl
 seat_end scene (UartPart rx tx input) (suc (suc i)) x at = cc
-seat_end scene (DriverPart device_rx device_tx rx tx) zero x at = as_end (DriverPart device_rx device_tx rx tx) (intake device_rx) x (some_same at) (inl refl)
-seat_end scene (DriverPart device_rx device_tx rx tx) (suc zero) x at = as_end (DriverPart device_rx device_tx rx tx) (outlet rx) x (some_same at) (inl refl)
-seat_end scene (DriverPart device_rx device_tx rx tx) (suc (suc zero)) x at = as_end (DriverPart device_rx device_tx rx tx) (intake tx) x (some_same at) (inr refl)
-seat_end scene (DriverPart device_rx device_tx rx tx) (suc (suc (suc zero))) x at = as_end (DriverPart device_rx device_tx rx tx) (outlet device_tx) x (some_same at) (inr refl)
+seat_end scene (DriverPart device_rx device_tx rx tx) zero x at = as_end (DriverPart device_rx device_tx rx tx) (intake device_rx) x (some_is at) (inl refl)
+seat_end scene (DriverPart device_rx device_tx rx tx) (suc zero) x at = as_end (DriverPart device_rx device_tx rx tx) (outlet rx) x (some_is at) (inl refl)
+seat_end scene (DriverPart device_rx device_tx rx tx) (suc (suc zero)) x at = as_end (DriverPart device_rx device_tx rx tx) (intake tx) x (some_is at) (inr refl)
+seat_end scene (DriverPart device_rx device_tx rx tx) (suc (suc (suc zero))) x at = as_end (DriverPart device_rx device_tx rx tx) (outlet device_tx) x (some_is at) (inr refl)
 seat_end scene (DriverPart device_rx device_tx rx tx) (suc (suc (suc (suc i)))) x at = cc
-seat_end scene (RxPart rx clients) zero x at = as_end (RxPart rx clients) (intake rx) x (some_same at) refl
+seat_end scene (RxPart rx clients) zero x at = as_end (RxPart rx clients) (intake rx) x (some_is at) refl
 seat_end scene (RxPart rx clients) (suc i) x at = let m = map_from outlet clients i x at in as_end (RxPart rx clients) (outlet m.0) x m.2 (i, m.1)
-seat_end scene (TxPart tx clients) zero x at = as_end (TxPart tx clients) (outlet tx) x (some_same at) refl
+seat_end scene (TxPart tx clients) zero x at = as_end (TxPart tx clients) (outlet tx) x (some_is at) refl
 seat_end scene (TxPart tx clients) (suc i) x at = let m = map_from intake clients i x at in as_end (TxPart tx clients) (intake m.0) x m.2 (i, m.1)
-seat_end scene (ClientPart rx tx script) zero x at = as_end (ClientPart rx tx script) (intake rx) x (some_same at) refl
-seat_end scene (ClientPart rx tx script) (suc zero) x at = as_end (ClientPart rx tx script) (outlet tx) x (some_same at) refl
+seat_end scene (ClientPart rx tx script) zero x at = as_end (ClientPart rx tx script) (intake rx) x (some_is at) refl
+seat_end scene (ClientPart rx tx script) (suc zero) x at = as_end (ClientPart rx tx script) (outlet tx) x (some_is at) refl
 seat_end scene (ClientPart rx tx script) (suc (suc i)) x at = cc

@@ -5,6 +5,7 @@ use Rattle.std.proofs.lemmas.Bool.Decides.{nat_tests}
 use Rattle.play_core.specs.Runs.{places_from}
 use Rattle.system_core.specs.Runnings.{with_number, without, with_if}
 use Rattle.system_core.proofs.Rising.{without_other}
+use Rattle.play_core.proofs.Lists.{some_is}
 
 -- all of them are at least k
 abbrev pub AtLeast : ℕ → List ℕ → Type 0
@@ -59,9 +60,6 @@ places_unset k (suc i) m (false ∷ bs) e lt = places_unset (k + 1) i m bs (omeg
 pub places_kept : (runs : Bool) (i : ℕ) (bs : List Bool) → i < length bs → places_from 0 (slice_set bs i runs) ≡ with_if runs i (places_from 0 bs)
 places_kept true i bs lt = places_set 0 i i bs (omega arith) lt
 places_kept false i bs lt = places_unset 0 i i bs (omega arith) lt
-
-some_is : {m n : ℕ} → Some m ≡ Some n → m ≡ n
-some_is h = cc
 
 get_at_least : (k : ℕ) (xs : List ℕ) → AtLeast k xs → (p m : ℕ) → slice_get xs p ≡ Some m → k ≤ m
 get_at_least k [] h p m at = cc

@@ -26,7 +26,6 @@ use Rattle.serial_virt.specs.declared.tx.SerialVirtTx.{SerialVirtTx}
 use Rattle.serial_law.specs.Bytes.{bytes_in, byte_items}
 use Rattle.system_core.proofs.PartEnds.{queue_there}
 use Rattle.play_core.proofs.Merges.{merge_map}
-use Rattle.system_core.proofs.SystemStep.{some_eq}
 use Rattle.actor_set.specs.Parts.{Part}
 use Rattle.play_core.specs.Moved.{moved}
 use Rattle.play_core.specs.Sheets.{Scene, RowsHold}
@@ -35,6 +34,7 @@ use Rattle.actor_set.specs.Actors.{ActorStandsFor, part_of, numbers}
 use Rattle.system_core.specs.Systems.{Holds}
 use Rattle.actor_set.specs.declared.actor.Actor.{Actor}
 use Rattle.actor_set.specs.declared.actor.Actor.TheVariants as Kinds
+use Rattle.play_core.proofs.Lists.{some_is}
 
 pub items_of_bytes : (bs : List ℕ) → items_of (map byte_cargo bs) ≡ byte_items bs
 items_of_bytes [] = refl
@@ -59,7 +59,7 @@ split_at n bs = sym (map-append (λ b. ItemOf.Byte b) (take n bs) (drop n bs)) �
 -- what stands in a mapped list comes from the list
 pub map_back : (f : Actor → Part) (xs : List Actor) (k : ℕ) (p : Part) → slice_get (map f xs) k ≡ Some p → (x : Actor) × (slice_get xs k ≡ Some x) × (f x ≡ p)
 map_back f [] k p h = cc
-map_back f (a ∷ xs) zero p h = (a, refl, some_eq h)
+map_back f (a ∷ xs) zero p h = (a, refl, some_is h)
 map_back f (a ∷ xs) (suc k) p h = map_back f xs k p h
 
 module _ (scene : Scene) (history : History) (rows : List QueueRow) (w : List Queue) (actors : List Actor) (journal : List Entry) (h : Holds history rows w actors journal) where

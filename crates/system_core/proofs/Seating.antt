@@ -32,9 +32,8 @@ use Rattle.actor_set.specs.declared.actor.Actor.{Actor}
 use Rattle.actor_set.specs.declared.actor.Actor.TheVariants as Kinds
 use Rattle.system_core.specs.Seats.{IsNew, HasApartEnds, HasSeat, AreSeated}
 use Rattle.system_core.specs.Starts.{AreStarting}
-use Rattle.system_core.proofs.SystemStep.{some_eq}
 use Rattle.system_core.proofs.Paces.{start_round}
-use Rattle.play_core.proofs.Lists.{map_get, map_from}
+use Rattle.play_core.proofs.Lists.{there_below, some_is, map_get, map_from}
 
 abbrev start_end : Role → End
 start_end Consumer = record { owned = true; kind = Kind.Byte; waiter = Wait.Busy; ringer = Rung.Free; looked = false }
@@ -42,13 +41,8 @@ start_end Producer = record { owned = true; kind = Kind.Byte; waiter = Wait.Off;
 
 queue_starts : (rows : List QueueRow) (n : ℕ) (row : QueueRow) → slice_get rows n ≡ Some row → queue_at (starts rows) n ≡ start_queue row
 queue_starts [] n row h = cc
-queue_starts (a ∷ rows) zero row h = ap start_queue (some_eq h)
+queue_starts (a ∷ rows) zero row h = ap start_queue (some_is h)
 queue_starts (a ∷ rows) (suc n) row h = queue_starts rows n row h
-
-row_below : (rows : List QueueRow) (n : ℕ) (row : QueueRow) → slice_get rows n ≡ Some row → n < length rows
-row_below [] n row h = cc
-row_below (a ∷ rows) zero row h = omega arith
-row_below (a ∷ rows) (suc n) row h = let r = row_below rows n row h in omega arith
 
 end_is : (r : Role) → end_of true Kind.Byte start_bells r ≡ start_end r
 end_is Consumer = refl
@@ -60,7 +54,7 @@ module _ (rows : List QueueRow) (k : ℕ) where
 
   seat_end : (r : Role) (n : ℕ) → HasSeat rows k r n → ends r n ≡ start_end r
   seat_end r n s =
-      let lt : n < length (starts rows) = subst (λ m. n < m) (sym (length-map rows start_queue)) (row_below rows n s.row s.there) in
+      let lt : n < length (starts rows) = subst (λ m. n < m) (sym (length-map rows start_queue)) (there_below rows n s.row s.there) in
       ap (λ b. end_of b (queue_at (starts rows) n).kind (queue_at (starts rows) n).bells r) (lt-ltb n (length (starts rows)) lt)
       ∙ (ap (λ q. end_of true q.kind q.bells r) (queue_starts rows n s.row s.there)
       ∙ (ap (λ x. end_of true x start_bells r) s.kind ∙ end_is r))
@@ -145,7 +139,7 @@ nothing_owed false c h = refl
 
 none_taken : (qs : List QueueId) (k : ℕ) (l : List Cargo) → slice_get (map (λ (q : QueueId). []) qs) k ≡ Some l → l ≡ []
 none_taken [] k l h = cc
-none_taken (q ∷ qs) zero l h = sym (some_eq h)
+none_taken (q ∷ qs) zero l h = sym (some_is h)
 none_taken (q ∷ qs) (suc k) l h = none_taken qs k l h
 
 new_stands : (x : Actor) → IsNew x → ActorStandsFor x nothing_passed
@@ -164,7 +158,7 @@ pub seated_start : (rows : List QueueRow) (actors : List Actor) → AreSeated ro
 seated_start rows actors s = record {
   fits = λ k x at. new_fits rows k x (s.new k x at) (s.apart k x at) (s.seats k x at);
   stands = λ k x at. new_stands x (s.new k x at);
-  owners = λ k x at r n own row there. let seat = s.seats k x at r n own in ap (λ q. owner_of q r) (some_eq (sym there ∙ seat.there)) ∙ seat.owner;
+  owners = λ k x at r n own row there. let seat = s.seats k x at r n own in ap (λ q. owner_of q r) (some_is (sym there ∙ seat.there)) ∙ seat.owner;
   rounds = λ k x at. start_round x (s.apart k x at) (s.split k x at);
   peers = s.peers;
   few = s.few;

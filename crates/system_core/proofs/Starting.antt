@@ -4,7 +4,7 @@ use Rattle.std.proofs.lemmas.Option.{slice_get_read}
 use Rattle.wire_core.specs.declared.names.QueueRow.{QueueRow}
 use Rattle.wire_core.specs.Lists.{nothing_passed}
 use Rattle.wire_core.specs.Queues.{Queue, starts, queue_at, is_pending}
-use Rattle.wire_core.specs.Journal.{start_track, start_history, IsShown}
+use Rattle.wire_core.specs.Journal.{History, start_track, start_history, IsShown}
 use Rattle.wire_core.proofs.BellTheorem.{start_is}
 use Rattle.turn_kit.specs.Pace.{pendings}
 use Rattle.turn_kit.proofs.Pacing.{paced_anew}
@@ -21,8 +21,7 @@ use Rattle.system_core.proofs.Calm.{manner_at}
 use Rattle.system_core.specs.Runnings.{with_number}
 use Rattle.system_core.specs.Starts.{AreStarting}
 use Rattle.system_core.specs.Systems.{Holds}
-use Rattle.system_core.proofs.SystemStep.{some_eq}
-use Rattle.play_core.proofs.Lists.{map_get}
+use Rattle.play_core.proofs.Lists.{some_is, map_get}
 use Rattle.system_core.proofs.Rising.{with_above}
 use Rattle.system_core.proofs.Places.{places_few}
 use Rattle.play_core.proofs.Flags.{flag_at, flags_length}
@@ -30,7 +29,7 @@ use Rattle.system_core.proofs.RunsNow.{idle_here}
 
 starts_shown : (rows : List QueueRow) (n : ℕ) (row : QueueRow) → slice_get rows n ≡ Some row → IsShown row (queue_at (starts rows) n) start_track
 starts_shown [] n row h = cc
-starts_shown (a ∷ rows) zero row h = let e : a ≡ row = some_eq h in record { kind = ap (λ (r : QueueRow). r.kind) e; capacity = ap (λ (r : QueueRow). r.capacity) e; producer = ap (λ (r : QueueRow). r.producer.0) e; consumer = ap (λ (r : QueueRow). r.consumer.0) e; lists = refl; bells = refl }
+starts_shown (a ∷ rows) zero row h = let e : a ≡ row = some_is h in record { kind = ap (λ (r : QueueRow). r.kind) e; capacity = ap (λ (r : QueueRow). r.capacity) e; producer = ap (λ (r : QueueRow). r.producer.0) e; consumer = ap (λ (r : QueueRow). r.consumer.0) e; lists = refl; bells = refl }
 starts_shown (a ∷ rows) (suc n) row h = starts_shown rows n row h
 
 nothing_there : (rows : List QueueRow) (n : ℕ) → (queue_at (starts rows) n).entries ≡ []
@@ -84,7 +83,7 @@ take_all (suc n) (x ∷ xs) le = ap (λ ys. x ∷ ys) (take_all n xs (omega arit
 
 get_there : (xs : List Bool) (k : ℕ) (b : Bool) → slice_get xs k ≡ Some b → (k < length xs) × (get_or xs k b ≡ b)
 get_there [] k b h = cc
-get_there (x ∷ xs) zero b h = (omega arith, some_eq h)
+get_there (x ∷ xs) zero b h = (omega arith, some_is h)
 get_there (x ∷ xs) (suc k) b h = let r = get_there xs k b h in let lt : k < length xs = r.0 in (omega arith, r.1)
 
 take_with : (bs : List Bool) (k : ℕ) (b : Bool) → slice_get bs k ≡ Some b → take (k + 1) bs ≡ take k bs ++ b ∷ []
@@ -120,27 +119,27 @@ list_room bs k list room b at is le =
 pub list_whole : (bs : List Bool) (k : ℕ) (list : List ℕ) → length bs ≤ k → list ≡ places_from 0 (take k bs) → list ≡ places_from 0 bs
 list_whole bs k list le is = is ∙ ap (places_from 0) (take_all k bs le)
 
--- with what the actors want at the start
-module _ (rows : List QueueRow) (actors : List Actor) (scene : Scene) where
+-- with what the actors want before the first call
+module _ (history : History) (rows : List QueueRow) (actors : List Actor) (scene : Scene) where
   abbrev pub cast : List Part
   cast = map part_of actors
 
   abbrev pub wanted : Needful
-  wanted = needful (sheet scene) cast (moved (start_history rows) [])
+  wanted = needful (sheet scene) cast (moved history [])
 
   abbrev pub flags : List Bool
-  flags = flags_from (manners cast) 0 (start_history rows) rows wanted []
+  flags = flags_from (manners cast) 0 history rows wanted []
 
   pub flags_many : length flags ≡ length actors
-  flags_many = flags_length (manners cast) 0 (start_history rows) rows wanted [] ∙ simp length-map
+  flags_many = flags_length (manners cast) 0 history rows wanted [] ∙ simp length-map
 
-  -- whether an actor is runnable at the start
-  pub flag_start : (world : List Queue) (k : ℕ) (x : Actor) (idle : Bool) → AreStarting rows actors → world ≡ starts rows → k < length actors → x ≡ slice_index_or actors k x → idle ≡ idles (manner_of (part_of x)) (actor_rests x) (is_pending k world) → slice_get flags k ≡ Some (not idle)
-  flag_start world k x idle s w lt at is =
+  -- whether an actor is runnable then
+  pub flag_start : (world : List Queue) (k : ℕ) (x : Actor) (idle : Bool) → Holds history rows world actors [] → k < length actors → x ≡ slice_index_or actors k x → idle ≡ idles (manner_of (part_of x)) (actor_rests x) (is_pending k world) → slice_get flags k ≡ Some (not idle)
+  flag_start world k x idle holds lt at is =
       let here : slice_get actors k ≡ Some x = slice_get_read actors _ k x refl lt at in
-      let runs : Manner → Bool = λ m. is_runnable m k ((sheet scene (part_of x)).wants (moved (start_history rows) [])) (start_history rows) rows [] in
-      let said : idle ≡ not (runs (manner_of (part_of x))) = is ∙ (ap (λ v. idles (manner_of (part_of x)) (actor_rests x) (is_pending k v)) w ∙ idle_here scene (start_history rows) rows (starts rows) actors [] (start_holds rows actors s) k x here) in
-      flag_at (manners cast) 0 (start_history rows) rows wanted [] k k ((sheet scene (part_of x)).wants (moved (start_history rows) [])) (omega arith) (map_get (λ p. (sheet scene p).wants (moved (start_history rows) [])) cast k (part_of x) (map_get part_of actors k x here)) ∙ ap Some (ap runs (manner_at cast k (part_of x) (map_get part_of actors k x here)) ∙ (twice (runs (manner_of (part_of x))) ∙ ap not (sym said)))
+      let runs : Manner → Bool = λ m. is_runnable m k ((sheet scene (part_of x)).wants (moved history [])) history rows [] in
+      let said : idle ≡ not (runs (manner_of (part_of x))) = is ∙ idle_here scene history rows world actors [] holds k x here in
+      flag_at (manners cast) 0 history rows wanted [] k k ((sheet scene (part_of x)).wants (moved history [])) (omega arith) (map_get (λ p. (sheet scene p).wants (moved history [])) cast k (part_of x) (map_get part_of actors k x here)) ∙ ap Some (ap runs (manner_at cast k (part_of x) (map_get part_of actors k x here)) ∙ (twice (runs (manner_of (part_of x))) ∙ ap not (sym said)))
     where
       twice : (b : Bool) → b ≡ not (not b)
       twice true = refl

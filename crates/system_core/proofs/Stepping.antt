@@ -18,7 +18,7 @@ use Rattle.play_core.specs.Moved.{moved}
 use Rattle.play_core.specs.Wants.{Want, Needful, all_settled}
 use Rattle.play_core.specs.Sheets.{Scene, AreSeated, needful, RowsHold}
 use Rattle.play_core.specs.Runs.{called_from, is_runnable, flags_from, places_from, runnable, rung_at}
-use Rattle.play_core.proofs.Lists.{map_get, there_is}
+use Rattle.play_core.proofs.Lists.{some_is, map_get, there_is}
 use Rattle.play_core.proofs.Flags.{differs_at, differs_twice, flag_at, flags_length, rung_owns}
 use Rattle.play_core.proofs.Tables.{others_run}
 use Rattle.actor_set.specs.Parts.{Part}
@@ -33,7 +33,7 @@ use Rattle.system_core.specs.Asking.{IsAsked}
 use Rattle.system_core.specs.Systems.{Holds}
 use Rattle.system_core.proofs.Calm.{calm_manner, manner_at, sheet_own}
 use Rattle.system_core.proofs.RowsNow.{rows_now}
-use Rattle.system_core.proofs.SystemStep.{step_holds, map_same, entry_of, some_eq}
+use Rattle.system_core.proofs.SystemStep.{step_holds, map_same, entry_of}
 use Rattle.system_core.proofs.RunsNow.{idle_here, rests_here}
 use Rattle.system_core.proofs.PartEnds.{from_part, seat_end}
 use Rattle.system_core.proofs.Paces.{called_end, nobody_since}
@@ -41,7 +41,7 @@ use Rattle.system_core.proofs.Places.{places_kept, places_clear, places_so, plac
 
 pub set_same : {X : Type 0} (xs : List X) (k : ℕ) (b : X) → slice_get xs k ≡ Some b → slice_set xs k b ≡ xs
 set_same [] k b h = refl
-set_same (x ∷ xs) zero b h = ap (λ y. y ∷ xs) (sym (some_eq h))
+set_same (x ∷ xs) zero b h = ap (λ y. y ∷ xs) (sym (some_is h))
 set_same (x ∷ xs) (suc k) b h = ap (λ ys. x ∷ ys) (set_same xs k b h)
 
 not_not : (b : Bool) → b ≡ not (not b)
@@ -167,7 +167,7 @@ module _ (history : History) (rows : List QueueRow) (w v : List Queue) (actors :
       let d = there_is (flag journal) m (omega arith) in
       let few : length (slice_set (flag journal) k (not idle)) ≡ length (flag journal) = length-set (flag journal) k (not idle) in
       let z = asked m refl in
-      ap (places_from 0) (differs_twice (flag journal) (flag after_) k m (not idle) _ d.0 runs lengths (flag_of history rows cast journal k (part_of x) cast_here) d.1 (caller_then idle is) (asked_then m z.0 runs z.1 z.2) (λ i away apart. others i away (λ h. apart (some_eq (sym h ∙ rung)))))
+      ap (places_from 0) (differs_twice (flag journal) (flag after_) k m (not idle) _ d.0 runs lengths (flag_of history rows cast journal k (part_of x) cast_here) d.1 (caller_then idle is) (asked_then m z.0 runs z.1 z.2) (λ i away apart. others i away (λ h. apart (some_is (sym h ∙ rung)))))
       ∙ (places_kept runs m (slice_set (flag journal) k (not idle)) (omega arith)
       ∙ ap (with_if runs m) (cleared (flag journal) k place idle at))
 
@@ -192,7 +192,7 @@ module _ (history : History) (rows : List QueueRow) (serial : Crew) (w : List Qu
   runs_called fitted old here at rest =
       let part : slice_get (map part_of actors) k ≡ Some (part_of x) = map_get part_of actors k x here in
       let so = places_so 0 k k place (flags history rows (map part_of actors) journal) (omega arith) at in
-      let flag : is_runnable Calm k (wanted history rows (map part_of actors) (part_of x) journal) history rows journal ≡ true = subst (λ m. is_runnable m k (wanted history rows (map part_of actors) (part_of x) journal) history rows journal ≡ true) (calm_manner (map part_of actors) k) (some_eq (sym (flag_of history rows (map part_of actors) journal k (part_of x) part) ∙ so)) in
+      let flag : is_runnable Calm k (wanted history rows (map part_of actors) (part_of x) journal) history rows journal ≡ true = subst (λ m. is_runnable m k (wanted history rows (map part_of actors) (part_of x) journal) history rows journal ≡ true) (calm_manner (map part_of actors) k) (some_is (sym (flag_of history rows (map part_of actors) journal k (part_of x) part) ∙ so)) in
       let settled : all_settled history journal (wanted history rows (map part_of actors) (part_of x) journal) ≡ true = sym (rests_here (scene_of (map part_of actors)) history rows w actors journal old k x here) ∙ rest in
       called_end k x history rows journal
       (λ n row there r owner. let g = fitted.ends k (part_of x) part (record { queue = n; role = r }) (row, there, owner) in from_part x r n (seat_end (scene_of (map part_of actors)) (part_of x) g.0 (record { queue = n; role = r }) g.1))
@@ -233,7 +233,7 @@ module _ (history : History) (rows : List QueueRow) (serial : Crew) (w v : List 
       let pressed = runs_called history rows serial w actors journal k x place fitted old here at' in
       let new = step_holds history rows w v actors journal k x x' e here old own st turned pressed fits part in
       let cast_is = map_same part_of actors k x x' here part in
-      let y_same : y ≡ x' = some_eq (sym (slice_get_read (slice_set actors k x') _ k y refl (subst (λ n. k < n) (sym (length-set actors k x')) lt) y_is) ∙ slice_get_written actors k x x' here) in
+      let y_same : y ≡ x' = some_is (sym (slice_get_read (slice_set actors k x') _ k y refl (subst (λ n. k < n) (sym (length-set actors k x')) lt) y_is) ∙ slice_get_written actors k x x' here) in
       let then_is = running_then history rows w v actors journal k x x' e row here old fitted.seated own st turned pressed fits part there rung woken idle place (sym rung_is) asked (idle_is ∙ ap (λ a. idles (manner_of (part_of a)) (actor_rests a) (is_pending k v)) y_same) at' in
       let list_is : with_option rung woken (removed_if idle list place) ≡ runs setting (journal ++ entry_of k e ∷ []) = ap (λ l. with_option rung woken (removed_if idle l place)) running ∙ sym then_is in
       record {

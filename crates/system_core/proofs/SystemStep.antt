@@ -35,15 +35,13 @@ use Rattle.system_core.specs.Systems.{Holds}
 use Rattle.actor_set.specs.declared.actor.Actor.{Actor}
 use Rattle.system_core.proofs.Beside.{fits_beside, stands_beside}
 use Rattle.system_core.proofs.PartEnds.{same_part}
+use Rattle.play_core.proofs.Lists.{some_is}
 
 pub no_row : QueueRow
 no_row = record { name = []; kind = Kind.Byte; capacity = 0; producer = record { 0 = 0 }; consumer = record { 0 = 0 }; region = None; offset = 0 }
 
 abbrev pub entry_of : ℕ → Event → Entry
 entry_of k e = record { actor = record { 0 = k }; event = e }
-
-pub some_eq : {X : Type 0} {a b : X} → Some a ≡ Some b → a ≡ b
-some_eq h = cc
 
 -- what the lists with the entry added show
 taken_more : (o : Op) (ts : List Item) (item : List Item) (c xs : List Cargo) → item ≡ items_of c → items_of xs ≡ ts → items_of (xs ++ if_taken o c) ≡ taken_after ts o item
@@ -81,7 +79,7 @@ sent_shown true t e c xs item h = sent_more e.op t.sent (option_to_list e.item) 
 -- where one actor's part stays, all parts stay
 pub map_same : (f : Actor → Part) (xs : List Actor) (k : ℕ) (x x' : Actor) → slice_get xs k ≡ Some x → f x' ≡ f x → map f (slice_set xs k x') ≡ map f xs
 map_same f [] k x x' at same = refl
-map_same f (a ∷ xs) zero x x' at same = let e : a ≡ x = some_eq at in ap (λ b. b ∷ map f xs) (same ∙ ap f (sym e))
+map_same f (a ∷ xs) zero x x' at same = let e : a ≡ x = some_is at in ap (λ b. b ∷ map f xs) (same ∙ ap f (sym e))
 map_same f (a ∷ xs) (suc k) x x' at same = ap (λ bs. f a ∷ bs) (map_same f xs k x x' at same)
 
 still_there : (es ss ts : List Cargo) → ss ≡ ts ++ es → ss ++ [] ≡ (ts ++ []) ++ es
@@ -155,14 +153,14 @@ module _ (history : History) (rows : List QueueRow) (w v : List Queue) (actors :
   changes = moves w deed v st.happened
 
   fits' : FitsActor (end_at v) x' → (j : ℕ) (y : Actor) → slice_get (slice_set actors k x') j ≡ Some y → ((eqb j k ≡ true) × (j ≡ k)) ⊎ ((eqb j k ≡ false) × (j ≢ k)) → FitsActor (end_at v) y
-  fits' new j y at (inl same) = let e : x' ≡ y = some_eq (sym (slice_get_written actors k x x' here) ∙ (ap (slice_get (slice_set actors k x')) (sym same.1) ∙ at)) in subst (FitsActor (end_at v)) e new
+  fits' new j y at (inl same) = let e : x' ≡ y = some_is (sym (slice_get_written actors k x x' here) ∙ (ap (slice_get (slice_set actors k x')) (sym same.1) ∙ at)) in subst (FitsActor (end_at v)) e new
   fits' new j y at (inr away) =
       let was : slice_get actors j ≡ Some y = sym (slice_get_beside actors k j x' away.1) ∙ at in
       fits_beside (end_at w) (end_at v) changes.kinds y (λ r n theirs. changes.others r n (λ a b. apart j y was away.1 (subst (λ r'. ActorEnd y r' e.queue.0) a (subst (ActorEnd y r) b theirs)))) (old.fits j y was)
 
   stands' : (j : ℕ) (y : Actor) → slice_get (slice_set actors k x') j ≡ Some y → ((eqb j k ≡ true) × (j ≡ k)) ⊎ ((eqb j k ≡ false) × (j ≢ k)) → ActorStandsFor y passed'
   unfolding passed' deed
-  stands' j y at (inl same) = let e : x' ≡ y = some_eq (sym (slice_get_written actors k x x' here) ∙ (ap (slice_get (slice_set actors k x')) (sym same.1) ∙ at)) in subst (λ a. ActorStandsFor a passed') e (st.kept old.passed (old.stands k x here))
+  stands' j y at (inl same) = let e : x' ≡ y = some_is (sym (slice_get_written actors k x x' here) ∙ (ap (slice_get (slice_set actors k x')) (sym same.1) ∙ at)) in subst (λ a. ActorStandsFor a passed') e (st.kept old.passed (old.stands k x here))
   stands' j y at (inr away) =
       let was : slice_get actors j ≡ Some y = sym (slice_get_beside actors k j x' away.1) ∙ at in
       stands_beside old.passed passed' y
@@ -171,7 +169,7 @@ module _ (history : History) (rows : List QueueRow) (w v : List Queue) (actors :
       (old.stands j y was)
 
   owners' : part_of x' ≡ part_of x → (j : ℕ) (y : Actor) → slice_get (slice_set actors k x') j ≡ Some y → ((eqb j k ≡ true) × (j ≡ k)) ⊎ ((eqb j k ≡ false) × (j ≢ k)) → (r : Role) (n : ℕ) → ActorEnd y r n → (row : QueueRow) → slice_get rows n ≡ Some row → owner_of row r ≡ j
-  owners' part j y at (inl same) r n theirs row rat = let e : y ≡ x' = some_eq (sym at ∙ (ap (slice_get (slice_set actors k x')) same.1 ∙ slice_get_written actors k x x' here)) in old.owners k x here r n (same_part x x' r n part (subst (λ a. ActorEnd a r n) e theirs)) row rat ∙ sym same.1
+  owners' part j y at (inl same) r n theirs row rat = let e : y ≡ x' = some_is (sym at ∙ (ap (slice_get (slice_set actors k x')) same.1 ∙ slice_get_written actors k x x' here)) in old.owners k x here r n (same_part x x' r n part (subst (λ a. ActorEnd a r n) e theirs)) row rat ∙ sym same.1
   owners' part j y at (inr away) r n theirs row rat = old.owners j y (sym (slice_get_beside actors k j x' away.1) ∙ at) r n theirs row rat
 
   abbrev hostile : Hostiles
@@ -198,7 +196,7 @@ module _ (history : History) (rows : List QueueRow) (w v : List Queue) (actors :
 
   paced' : (j : ℕ) (y : Actor) → slice_get (slice_set actors k x') j ≡ Some y → hostile j ≡ false → ((eqb j k ≡ true) × (j ≡ k)) ⊎ ((eqb j k ≡ false) × (j ≢ k)) → Paced (pendings history (journal ++ entry_of k e ∷ [])) (since no_drops j (journal ++ entry_of k e ∷ [])) (actor_round y)
   paced' j y at calm (inl same) =
-      let is : x' ≡ y = some_eq (sym (slice_get_written actors k x x' here) ∙ (ap (slice_get (slice_set actors k x')) (sym same.1) ∙ at)) in
+      let is : x' ≡ y = some_is (sym (slice_get_written actors k x x' here) ∙ (ap (slice_get (slice_set actors k x')) (sym same.1) ∙ at)) in
       let was = old.paced k x here (subst (λ i. hostile i ≡ false) same.1 calm) in
       let now = pace_own hostile no_drops history rows journal (entry_of k e) legal' (calm_row (map part_of actors) legal'.row) (actor_round x) (actor_round x') was turn (post_waits x e turn.place turn.posted.post turn.posted.there) runs in
       subst (λ i. Paced (pendings history (journal ++ entry_of k e ∷ [])) (since no_drops i (journal ++ entry_of k e ∷ [])) (actor_round y)) (sym same.1) (subst (λ a. Paced (pendings history (journal ++ entry_of k e ∷ [])) (since no_drops k (journal ++ entry_of k e ∷ [])) (actor_round a)) is now)

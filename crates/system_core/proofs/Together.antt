@@ -25,7 +25,7 @@ use Rattle.system_core.specs.Shows.{Setting, Shown, manner_in, hostile_in, sheet
 use Rattle.system_core.specs.Plays.{Played, runnable_now}
 use Rattle.system_core.specs.Lawful.{StandsLawful}
 use Rattle.system_core.specs.Builds.{IsBuilt, IsCastOf, BeginsAnew, HasSerial, serial_class, first_serial}
-use Rattle.system_core.specs.PlanPlays.{IsPlayed, ShowsWhole}
+use Rattle.system_core.specs.PlanPlays.{IsPlayed, IsPlayedOn}
 use Rattle.system_core.proofs.Calm.{calm_actor}
 use Rattle.system_core.proofs.Scripts.{scripts_length}
 use Rattle.system_core.proofs.Begun.{There, serial_there, shows_in_part, shows_whole}
@@ -114,10 +114,9 @@ module _ (old new : Shown) (seed limit : ℕ) (none : old.journal ≡ []) (playe
       there : IsSerial (There new.setting) (hostile_in new.setting) new.setting.rows class
       there = serial_there plan serial has (first_serial plan) refl trace new.setting cast_is.rows stands.fitted.places class_is says
 
-    pub together : IsPlayed plan trace seed limit new
-    together = record {
+    on : IsPlayedOn plan trace seed limit new
+    on = record {
       cast = cast_is;
-      begins = subst BeginsAnew (sym played.setting) built.begins;
       picked = picked_is;
       within = subst (λ j. length j ≤ limit) more_is played.within;
       stands = stands;
@@ -125,3 +124,6 @@ module _ (old new : Shown) (seed limit : ℕ) (none : old.journal ≡ []) (playe
       shows = λ serial has. shows_in_part plan serial (first_serial plan) trace new (class_is serial has) (says serial has) stands.told (arrives_now new stands (class serial has) (there serial has) part);
       whole = λ quiet serial has. shows_whole plan serial (first_serial plan) trace new (class_is serial has) (says serial has) stands.told (arrives_whole new stands (class serial has) (there serial has) whole quiet);
     }
+
+    pub together : IsPlayed plan trace seed limit new
+    together = record { begins = subst BeginsAnew (sym played.setting) built.begins; played = on }

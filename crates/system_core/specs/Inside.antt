@@ -3,14 +3,15 @@ use Rattle.std.specs.Prelude.{◌≡◌, ◌≤◌, length}
 use Rattle.wire_core.specs.Journal.{EachMoment}
 use Rattle.wire_core.specs.Marks.{no_drops, Brisk}
 use Rattle.system_core.specs.Shows.{Setting, Shown, hostile_in, runs, RowsStand}
-use Rattle.system_core.specs.States.{state_of, begun, crew_of}
+use Rattle.system_core.specs.States.{state_of, history_of, begun, crew_of}
 use Rattle.system_core.specs.Lawful.{IsFitted}
-use Rattle.system_core.specs.Systems.{Holds}
+use Rattle.system_core.specs.Systems.{Holds, HoldsBefore}
 use Rattle.system_core.specs.declared.system.System.TheInside.{Inside}
 
--- what stays the same: nothing happened before the journal begins
+-- what stays the same
 abbrev pub setting_of : Inside → Setting
-setting_of a = begun a.rows.items a.actors.items (crew_of a.device a.clients.items)
+setting_of a =
+    begun (history_of a.rows.items a.past.value.items) a.rows.items a.actors.items (crew_of a.device a.clients.items)
 
 -- the view
 abbrev pub shown_of : Inside → Shown
@@ -19,6 +20,7 @@ shown_of a = record { setting = setting_of a; journal = a.journal.items; state =
 -- the parts of a system belong together, and which actors are runnable is kept
 pub record IsSystem (a : Inside) : Type 0 where
   pub fitted : IsFitted (setting_of a)
+  pub before : HoldsBefore (setting_of a)
   pub holds : Holds (setting_of a).history a.rows.items a.world a.actors.items a.journal.items
   pub rows_hold : EachMoment (RowsStand (setting_of a)) a.journal.items
   pub brisk : Brisk (hostile_in (setting_of a)) no_drops a.journal.items

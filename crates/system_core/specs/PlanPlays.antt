@@ -27,17 +27,24 @@ pub record ShowsWhole (count : ℕ) (trace : Trace) (s : State) : Type 0 where
   pub records : (c : ℕ) (got : List ℕ) → slice_get s.serial c ≡ Some got → got ≡ input_of count c trace.input
   pub line : (said : List ℕ) × (s.line ≡ Some said) × Merge trace.says said
 
--- the system of a plan and a trace, after a seed picked its steps from the start state on, at most so many
-pub record IsPlayed (plan : Plan) (trace : Trace) (seed limit : ℕ) (s : Shown) : Type 0 where
+-- the system of a plan and a trace, whatever its queues had before its journal begins, after a seed
+-- picked its steps, at most so many
+pub record IsPlayedOn (plan : Plan) (trace : Trace) (seed limit : ℕ) (s : Shown) : Type 0 where
   pub cast : IsCastOf plan trace s.setting
-  pub begins : BeginsAnew s.setting
   pub picked : PickedFrom (runs s.setting) seed [] s.journal
   pub within : length s.journal ≤ limit
   pub stands : StandsLawful s
-  pub arrives : (serial : Serial) → plan.serial ≡ Some serial → EachMoment (λ j. ArrivesInPart (serial_class (first_serial plan) (length serial.client) trace) (moved_in s.setting j)) s.journal
+  pub arrives : (serial : Serial) → plan.serial ≡ Some serial → EachMoment (λ j.
+      ArrivesInPart (serial_class (first_serial plan) (length serial.client) trace) (moved_in s.setting j)) s.journal
   pub shows : (serial : Serial) → plan.serial ≡ Some serial → ShowsInPart (length serial.client) trace s.state
   -- where nobody is runnable, all arrived
-  pub whole : runnable_now s ≡ [] → (serial : Serial) → plan.serial ≡ Some serial → ShowsWhole (length serial.client) trace s.state
+  pub whole : runnable_now s ≡ [] → (serial : Serial) → plan.serial ≡ Some serial
+      → ShowsWhole (length serial.client) trace s.state
+
+-- the same from the start state on, before which nothing happened
+pub record IsPlayed (plan : Plan) (trace : Trace) (seed limit : ℕ) (s : Shown) : Type 0 where
+  pub begins : BeginsAnew s.setting
+  pub played : IsPlayedOn plan trace seed limit s
 
 -- it is quiet, or so many steps were made and it isn't
 abbrev pub HasEnded : ℕ → Shown → Ending → Type 0

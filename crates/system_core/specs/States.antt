@@ -1,8 +1,10 @@
 -- What is seen of actors as they are, and the state in which a system begins.
-use Rattle.std.specs.Prelude.{ℕ, Option, None, List, [], map, slice_get}
+use Rattle.std.specs.Prelude.{ℕ, false, Option, None, List, [], ◌∷◌, map, slice_get}
 use Rattle.std.specs.Option.{option_map, option_map_or}
 use Rattle.wire_core.specs.declared.names.QueueRow.{QueueRow}
-use Rattle.wire_core.specs.Journal.{start_history}
+use Rattle.wire_core.specs.Journal.{Track, History, start_history}
+use Rattle.wire_core.specs.Queues.{items_of}
+use Rattle.spsc_queue.specs.Known.Ends.{EndedIs}
 use Rattle.actor_set.specs.Actors.{part_of}
 use Rattle.actor_set.specs.declared.actor.Actor.{Actor}
 use Rattle.actor_set.specs.declared.actor.Actor.TheVariants as Kinds
@@ -24,14 +26,35 @@ record_from actors k = option_map_or record_of (slice_get actors k) []
 abbrev pub state_of : List Actor → Crew → State
 state_of actors serial = record { wire = None; net = []; line = option_map (record_from actors) serial.device; serial = map (record_from actors) serial.clients; blk = []; pools = []; bad = 0 }
 
--- these queues and these actors, of which nothing happened before the journal begins
-abbrev pub begun : List QueueRow → List Actor → Crew → Setting
-begun rows actors serial = record { history = start_history rows; rows = rows; cast = map part_of actors; serial = serial }
+-- what an ended ring shows of its queue: nobody looked since
+abbrev pub track_of : EndedIs → Track
+track_of e = record {
+  sent = items_of e.producer.entries;
+  taken = items_of e.consumer.entries;
+  bells = record { forward = e.forward; backward = e.backward; seen = false; roomed = false };
+  consumer = record { noes = e.consumer.noes; steps = e.consumer.steps };
+  producer = record { noes = e.producer.noes; steps = e.producer.steps };
+}
+
+-- what the queues had before the journal begins: what the rings show that the system was made from;
+-- where it was made from none, nothing happened
+abbrev pub history_of : List QueueRow → List EndedIs → History
+history_of rows [] = start_history rows
+history_of rows (ring ∷ rings) = map track_of (ring ∷ rings)
+
+-- these queues and these actors, with what the queues had before the journal begins
+abbrev pub begun : History → List QueueRow → List Actor → Crew → Setting
+begun history rows actors serial =
+    record { history = history; rows = rows; cast = map part_of actors; serial = serial }
 
 -- a device and clients
 abbrev pub crew_of : Option ℕ → List ℕ → Crew
 crew_of device clients = record { device = device; clients = clients }
 
--- a system in which nothing happened yet
-abbrev pub started : List QueueRow → List Actor → Crew → Shown
-started rows actors serial = record { setting = begun rows actors serial; journal = []; state = state_of actors serial }
+-- a system whose journal begins with this history
+abbrev pub started : History → List QueueRow → List Actor → Crew → Shown
+started history rows actors serial = record {
+  setting = begun history rows actors serial;
+  journal = [];
+  state = state_of actors serial;
+}

@@ -1,15 +1,17 @@
 -- The invariant of a system at play: history, queues, actors and journal belong together.
-use Rattle.std.specs.Prelude.{◌≡◌, ◌<◌, ◌≤◌, ℕ, false, Some, List, ◌++◌, length, map, slice_get}
+use Rattle.std.specs.Prelude.{◌≡◌, ◌<◌, ◌≤◌, ℕ, false, Some, List, [], ◌++◌, length, map, slice_get}
 use Rattle.wire_core.specs.declared.names.QueueRow.{QueueRow}
 use Rattle.wire_core.specs.declared.names.Entry.{Entry}
 use Rattle.wire_core.specs.Ends.{Role}
 use Rattle.wire_core.specs.Lists.{Passed}
 use Rattle.wire_core.specs.Queues.{Queue, queue_at, end_at, items_of}
-use Rattle.wire_core.specs.Journal.{History, track, IsShown, LegalJournal, owner_of}
+use Rattle.wire_core.specs.Journal.{History, track, IsShown, LegalJournal, BellsHold, QueuesFlow, owner_of}
 use Rattle.wire_core.specs.Marks.{no_drops, since}
 use Rattle.turn_kit.specs.Pace.{Paced, pendings}
 use Rattle.actor_set.specs.Actors.{FitsActor, ActorStandsFor, ActorEnd, part_of, actor_round}
 use Rattle.system_core.specs.Kinds.{hostiles}
+use Rattle.system_core.specs.Shows.{Setting, hostile_in}
+use Rattle.system_core.specs.Lawful.{IsFitted}
 use Rattle.actor_set.specs.declared.actor.Actor.{Actor}
 
 -- the history, the queues, the actors and the journal belong together
@@ -31,3 +33,15 @@ pub record Holds (history : History) (rows : List QueueRow) (world : List Queue)
   pub peers : (n : ℕ) (row : QueueRow) → slice_get rows n ≡ Some row → (r : Role) → owner_of row r < length actors
   pub few : length actors ≤ 65536
   pub legal : LegalJournal (hostiles (map part_of actors)) history rows journal
+
+-- bells and queues hold before the journal begins
+pub record HoldsBefore (s : Setting) : Type 0 where
+  pub bells_hold : BellsHold (hostile_in s) s.history s.rows []
+  pub flows : QueuesFlow (hostile_in s) s.history s.rows []
+
+-- queues and actors, as they are, go on from this history: the start state from one in which nothing
+-- happened
+pub record GoesOn (s : Setting) (world : List Queue) (actors : List Actor) : Type 0 where
+  pub fitted : IsFitted s
+  pub before : HoldsBefore s
+  pub holds : Holds s.history s.rows world actors []

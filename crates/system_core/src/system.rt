@@ -2,7 +2,8 @@
 //! above actors and descriptions, since a plan and a trace say who acts.
 ghost use Rattle.std.specs.Prelude.{◌≡◌, ◌<◌, ◌≤◌, ℕ, List, length, map, OnOk, OnErr, IfOk, slice_get, Some, None, []};
 ghost use Rattle.std.specs.Option.{option_map};
-ghost use Rattle.wire_core.specs.Queues.{is_pending, starts};
+ghost use Rattle.wire_core.specs.Queues.{is_pending};
+ghost use Rattle.wire_core.specs.Journal.{start_history};
 ghost use Rattle.play_core.specs.Runs.{rung_at};
 ghost use Rattle.actor_set.specs.Actors.{actor_rests, part_of};
 ghost use Rattle.trace_text.specs.Traces.{IsReadFor};
@@ -10,8 +11,8 @@ ghost use Rattle.region_layout.specs.Layouts.{layout_of};
 ghost use Rattle.sdf_check.specs.Valid.{Valid};
 ghost use Rattle.system_core.specs.Kinds.{manner_of, idles};
 ghost use Rattle.system_core.specs.Shows.{runs};
-ghost use Rattle.system_core.specs.States.{record_of, record_from, begun, crew_of, started};
-ghost use Rattle.system_core.specs.Starts.{AreStarting};
+ghost use Rattle.system_core.specs.States.{record_of, record_from, history_of, begun, crew_of, started};
+ghost use Rattle.system_core.specs.Systems.{Holds, GoesOn};
 ghost use Rattle.system_core.specs.Seats.{AreSeated};
 ghost use Rattle.system_core.specs.Lawful.{StandsLawful};
 ghost use Rattle.system_core.specs.Reports.{report_of};
@@ -30,8 +31,10 @@ use plain_wires::World;
 use region_layout::Layout;
 use sdf_plan::{Place, Plan};
 use serial_law::serial_law;
+use spsc_queue::Ended;
 use std::alloc::Global;
 use std::marker::Model;
+use std::snapshot::Snapshot;
 use trace_text::Trace;
 use wire_core::{ActorId, Entry, Op, QueueRow, Side, next_seed, place_of};
 
@@ -54,6 +57,9 @@ pub struct System {
     clients: Vec<u16>,
     running: Running,
     journal: Vec<Entry>,
+    // The rings that the system was made from, with what their queues had before the journal begins. It stands in
+    // proofs alone.
+    past: Snapshot<Vec<Ended>>,
 }
 
 impl Model for System {
@@ -126,16 +132,17 @@ fn note(running: &mut Running, place: usize, idle: bool, rung: Option<u16>, runs
     }
 }
 
-// The runnable actors at the start.
+// The runnable actors before the first call, where the queues had this past.
 fn first_running(
     alloc: Global,
     rows: &[QueueRow],
     world: &World,
     actors: &[Actor],
+    past: &Snapshot<Vec<Ended>>,
 ) -> Result<Running, Memory>
-    requires starting { AreStarting rows.now actors.now }
-    requires world { world.now ≡ starts rows.now }
-    ensures list { IfOk result (λ r. r.list ≡ runs (begun rows.now actors.now (crew_of None [])) []) }
+    requires { Holds (history_of rows.now past.now.value.items) rows.now world.now actors.now [] }
+    ensures list { IfOk result (λ r. r.list
+        ≡ runs (begun (history_of rows.now past.now.value.items) rows.now actors.now (crew_of None [])) []) }
     ensures room { IfOk result (λ r. length actors.now ≤ r.room) }
 {
     let mut running = Running::with_room(alloc, actors.len())?;
@@ -191,8 +198,8 @@ fn records(alloc: Global, actors: &[Actor], clients: &[u16]) -> Result<Series<By
 }
 
 impl System {
-    /// A system in its start state: actors in theirs, each with the ends that the rows give it. `device` is the place of the serial device among
-    /// the actors, `clients` the places of the serial clients in their order.
+    /// A system in its start state: actors in theirs, each with the ends that the rows give it. `device` is the place
+    /// of the serial device among the actors, `clients` the places of the serial clients in their order.
     pub fn start(
         alloc: Global,
         rows: Vec<QueueRow>,
@@ -201,11 +208,32 @@ impl System {
         clients: Vec<u16>,
     ) -> Result<System, Memory>
         requires { AreSeated rows.items actors.items }
-        ensures state { IfOk result (λ s. s ≡ started rows.items actors.items (crew_of device clients.items)) }
+        ensures state { IfOk result (λ s. s
+            ≡ started (start_history rows.items) rows.items actors.items (crew_of device clients.items)) }
         ensures stands { IfOk result StandsLawful }
     {
         let world = World::new(alloc, &rows)?;
-        let running = first_running(alloc, &rows, &world, &actors)?;
+        let none: Vec<Ended> = Vec::new(alloc);
+        System::begin(alloc, rows, world, actors, device, clients, Snapshot::of(&none))
+    }
+
+    // A system whose queues and actors go on from what rings had that came to their end; where there are none, from
+    // the start state.
+    fn begin(
+        alloc: Global,
+        rows: Vec<QueueRow>,
+        world: World,
+        actors: Vec<Actor>,
+        device: Option<u16>,
+        clients: Vec<u16>,
+        past: Snapshot<Vec<Ended>>,
+    ) -> Result<System, Memory>
+        requires { GoesOn (begun (history_of rows.items past.value.items) rows.items actors.items (crew_of device clients.items)) world actors.items }
+        ensures state { IfOk result (λ s. s
+            ≡ started (history_of rows.items past.value.items) rows.items actors.items (crew_of device clients.items)) }
+        ensures stands { IfOk result StandsLawful }
+    {
+        let running = first_running(alloc, &rows, &world, &actors, &past)?;
         let system = System {
             alloc,
             rows,
@@ -215,6 +243,7 @@ impl System {
             clients,
             running,
             journal: Vec::new(alloc),
+            past,
         };
         system.stand();
         Ok(system)

@@ -2,23 +2,23 @@ use Rattle.std.proofs.Common.{◌≡◌, ◌<◌, ◌++◌, [], ◌∷◌, refl,
 use Rattle.std.proofs.lemmas.List.{length-map}
 use Rattle.std.specs.Vec.{vec_len}
 use Rattle.std.proofs.lemmas.Option.{slice_get_read, slice_get_within}
-use Rattle.wire_core.specs.Journal.{start_history, EachMoment}
+use Rattle.wire_core.specs.Journal.{EachMoment}
 use Rattle.actor_set.specs.Actors.{part_of}
 use Rattle.wire_core.specs.Marks.{no_drops, Brisk}
 use Rattle.system_core.specs.Shows.{Shown, hostile_in, runs, RowsStand}
-use Rattle.system_core.specs.States.{begun, crew_of}
+use Rattle.system_core.specs.States.{history_of, begun, crew_of}
 use Rattle.system_core.specs.Lawful.{IsFitted}
 use Rattle.system_core.specs.Inside.{setting_of}
 use Rattle.system_core.proofs.SystemStep.{entry_of}
 use Rattle.system_core.specs.Plays.{runnable_now}
 use Rattle.system_core.specs.Asking.{IsAsked}
-use Rattle.system_core.specs.Systems.{Holds}
+use Rattle.system_core.specs.Systems.{Holds, HoldsBefore}
 use Rattle.system_core.proofs.Stepping.{runs_below, rung_there, set_same, system_then}
 use Rattle.system_core.proofs.system.System.step_at.Goals as goal
 
 pub index_mut-actor-requires : goal.index_mut-actor-requires
 index_mut-actor-requires c =
-    let below = runs_below (start_history c.self.inside.rows.items) c.self.inside.rows.items (map part_of c.self.inside.actors.items) c.self.inside.journal.items c.args.place c.at-number.result (rw c.self.invariant.running at c.at-number.ensures) in
+    let below = runs_below (history_of c.self.inside.rows.items c.self.inside.past.value.items) c.self.inside.rows.items (map part_of c.self.inside.actors.items) c.self.inside.journal.items c.args.place c.at-number.result (rw c.self.invariant.running at c.at-number.ensures) in
     let size = length-map c.self.inside.actors.items part_of in
     let lt : c.at-number.result < length c.self.inside.actors.items = omega (arith, below, size) in
     let v : vec_len c.self.inside.actors ≡ length c.self.inside.actors.items = c.self.inside.actors.ok.0 in
@@ -26,14 +26,14 @@ index_mut-actor-requires c =
 
 pub step-requires : goal.step-requires
 step-requires c =
-    let below = runs_below (start_history c.self.inside.rows.items) c.self.inside.rows.items (map part_of c.self.inside.actors.items) c.self.inside.journal.items c.args.place c.at-number.result (rw c.self.invariant.running at c.at-number.ensures) in
+    let below = runs_below (history_of c.self.inside.rows.items c.self.inside.past.value.items) c.self.inside.rows.items (map part_of c.self.inside.actors.items) c.self.inside.journal.items c.args.place c.at-number.result (rw c.self.invariant.running at c.at-number.ensures) in
     let size = length-map c.self.inside.actors.items part_of in
     let lt : c.at-number.result < length c.self.inside.actors.items = omega (arith, below, size) in
     c.self.invariant.holds.fits c.at-number.result c.index_mut-actor.result.now (slice_get_read c.self.inside.actors.items _ c.at-number.result c.index_mut-actor.result.now refl lt c.index_mut-actor.ensures.value)
 
 pub index-actor-requires : goal.index-actor-requires
 index-actor-requires c =
-    let below = runs_below (start_history c.self.inside.rows.items) c.self.inside.rows.items (map part_of c.self.inside.actors.items) c.self.inside.journal.items c.args.place c.at-number.result (rw c.self.invariant.running at c.at-number.ensures) in
+    let below = runs_below (history_of c.self.inside.rows.items c.self.inside.past.value.items) c.self.inside.rows.items (map part_of c.self.inside.actors.items) c.self.inside.journal.items c.args.place c.at-number.result (rw c.self.invariant.running at c.at-number.ensures) in
     let size = length-map c.self.inside.actors.items part_of in
     let lt : c.at-number.result < length c.self.inside.actors.items = omega (arith, below, size) in
     let v : vec_len c.self.inside.actors ≡ length c.self.inside.actors.items = c.self.inside.actors.ok.0 in
@@ -42,15 +42,16 @@ index-actor-requires c =
 -- after want of memory nothing changed
 pub invariant_of-self-in_err-event : goal.invariant_of-self-in_err-event
 invariant_of-self-in_err-event c =
-    let below = runs_below (start_history c.self.inside.rows.items) c.self.inside.rows.items (map part_of c.self.inside.actors.items) c.self.inside.journal.items c.args.place c.at-number.result (rw c.self.invariant.running at c.at-number.ensures) in
+    let below = runs_below (history_of c.self.inside.rows.items c.self.inside.past.value.items) c.self.inside.rows.items (map part_of c.self.inside.actors.items) c.self.inside.journal.items c.args.place c.at-number.result (rw c.self.invariant.running at c.at-number.ensures) in
     let size = length-map c.self.inside.actors.items part_of in
     let lt : c.at-number.result < length c.self.inside.actors.items = omega (arith, below, size) in
     let here : slice_get c.self.inside.actors.items c.at-number.result ≡ Some c.index_mut-actor.result.now = slice_get_read c.self.inside.actors.items _ c.at-number.result c.index_mut-actor.result.now refl lt c.index_mut-actor.ensures.value in
     let set : slice_set c.self.inside.actors.items c.at-number.result c.step.new.self ≡ c.self.inside.actors.items = ap (slice_set c.self.inside.actors.items c.at-number.result) c.in_err-event.ensures.unchanged ∙ set_same c.self.inside.actors.items c.at-number.result c.index_mut-actor.result.now here in
-    let same : begun c.self.inside.rows.items (slice_set c.self.inside.actors.items c.at-number.result c.step.new.self) (crew_of c.self.inside.device c.self.inside.clients.items) ≡ setting_of c.self.inside = ap (λ xs. begun c.self.inside.rows.items xs (crew_of c.self.inside.device c.self.inside.clients.items)) set in
+    let same : begun (history_of c.self.inside.rows.items c.self.inside.past.value.items) c.self.inside.rows.items (slice_set c.self.inside.actors.items c.at-number.result c.step.new.self) (crew_of c.self.inside.device c.self.inside.clients.items) ≡ setting_of c.self.inside = ap (λ xs. begun (history_of c.self.inside.rows.items c.self.inside.past.value.items) c.self.inside.rows.items xs (crew_of c.self.inside.device c.self.inside.clients.items)) set in
     record {
       fitted = subst IsFitted (sym same) c.self.invariant.fitted;
-      holds = rw (c.in_err-event.ensures.no_call, c.in_ok-reserve.ensures.items) (subst (λ xs. Holds (start_history c.self.inside.rows.items) c.self.inside.rows.items c.self.inside.world xs c.self.inside.journal.items) (sym set) c.self.invariant.holds);
+      before = subst HoldsBefore (sym same) c.self.invariant.before;
+      holds = rw (c.in_err-event.ensures.no_call, c.in_ok-reserve.ensures.items) (subst (λ xs. Holds (history_of c.self.inside.rows.items c.self.inside.past.value.items) c.self.inside.rows.items c.self.inside.world xs c.self.inside.journal.items) (sym set) c.self.invariant.holds);
       rows_hold = rw c.in_ok-reserve.ensures.items (subst (λ z. EachMoment (RowsStand z) c.self.inside.journal.items) (sym same) c.self.invariant.rows_hold);
       brisk = rw c.in_ok-reserve.ensures.items (subst (λ z. Brisk (hostile_in z) no_drops c.self.inside.journal.items) (sym same) c.self.invariant.brisk);
       running = rw c.in_ok-reserve.ensures.items (c.self.invariant.running ∙ ap (λ z. runs z c.self.inside.journal.items) (sym same));
@@ -64,16 +65,17 @@ pub is_runnable-runs-requires : goal.is_runnable-runs-requires
 is_runnable-runs-requires c k rung = rw c.deref.ensures.value (rung_there _ _ _ c.self.inside.actors.items _ c.self.invariant.holds c.at-number.result c.step.new.self c.in_ok-event.event c.index-row.result.now k c.in_ok-event.ensures.stepped.happened.there c.index-row.ensures (sym c.rung-rung.ensures ∙ rung))
 
 pub note-requires-clause-room : goal.note-requires-clause-room
-note-requires-clause-room c = (system_then (start_history c.self.inside.rows.items) c.self.inside.rows.items (crew_of c.self.inside.device c.self.inside.clients.items) c.self.inside.world c.step.new.wires c.self.inside.actors.items c.self.inside.journal.items c.at-number.result c.index_mut-actor.result.now c.step.new.self c.index-actor.result.now c.in_ok-event.event c.index-row.result.now c.rung-rung.result c.is_runnable-runs.result c.is_idle-idle.result c.args.place c.self.inside.running.list c.self.inside.running.room
+note-requires-clause-room c = (system_then (history_of c.self.inside.rows.items c.self.inside.past.value.items) c.self.inside.rows.items (crew_of c.self.inside.device c.self.inside.clients.items) c.self.inside.world c.step.new.wires c.self.inside.actors.items c.self.inside.journal.items c.at-number.result c.index_mut-actor.result.now c.step.new.self c.index-actor.result.now c.in_ok-event.event c.index-row.result.now c.rung-rung.result c.is_runnable-runs.result c.is_idle-idle.result c.args.place c.self.inside.running.list c.self.inside.running.room
     c.self.invariant.fitted c.self.invariant.holds c.self.invariant.rows_hold c.self.invariant.running c.self.invariant.room c.self.invariant.brisk c.at-number.ensures c.index_mut-actor.ensures.value c.in_ok-event.ensures.own c.in_ok-event.ensures.stepped c.in_ok-event.ensures.turned c.step.ensures.fits c.step.ensures.part c.index-actor.ensures c.index-row.ensures c.is_idle-idle.ensures c.rung-rung.ensures (subst (λ xs. IsAsked xs c.step.new.wires c.rung-rung.result c.is_runnable-runs.result) c.deref.ensures.value c.is_runnable-runs.ensures)).few
 
 pub invariant_of-self-2 : goal.invariant_of-self-2
 invariant_of-self-2 c =
-    let s = system_then (start_history c.self.inside.rows.items) c.self.inside.rows.items (crew_of c.self.inside.device c.self.inside.clients.items) c.self.inside.world c.step.new.wires c.self.inside.actors.items c.self.inside.journal.items c.at-number.result c.index_mut-actor.result.now c.step.new.self c.index-actor.result.now c.in_ok-event.event c.index-row.result.now c.rung-rung.result c.is_runnable-runs.result c.is_idle-idle.result c.args.place c.self.inside.running.list c.self.inside.running.room
+    let s = system_then (history_of c.self.inside.rows.items c.self.inside.past.value.items) c.self.inside.rows.items (crew_of c.self.inside.device c.self.inside.clients.items) c.self.inside.world c.step.new.wires c.self.inside.actors.items c.self.inside.journal.items c.at-number.result c.index_mut-actor.result.now c.step.new.self c.index-actor.result.now c.in_ok-event.event c.index-row.result.now c.rung-rung.result c.is_runnable-runs.result c.is_idle-idle.result c.args.place c.self.inside.running.list c.self.inside.running.room
     c.self.invariant.fitted c.self.invariant.holds c.self.invariant.rows_hold c.self.invariant.running c.self.invariant.room c.self.invariant.brisk c.at-number.ensures c.index_mut-actor.ensures.value c.in_ok-event.ensures.own c.in_ok-event.ensures.stepped c.in_ok-event.ensures.turned c.step.ensures.fits c.step.ensures.part c.index-actor.ensures c.index-row.ensures c.is_idle-idle.ensures c.rung-rung.ensures (subst (λ xs. IsAsked xs c.step.new.wires c.rung-rung.result c.is_runnable-runs.result) c.deref.ensures.value c.is_runnable-runs.ensures) in
-    let same : begun c.self.inside.rows.items (slice_set c.self.inside.actors.items c.at-number.result c.step.new.self) (crew_of c.self.inside.device c.self.inside.clients.items) ≡ setting_of c.self.inside = ap (λ cast. record { history = start_history c.self.inside.rows.items; rows = c.self.inside.rows.items; cast = cast; serial = crew_of c.self.inside.device c.self.inside.clients.items }) s.cast_is in
+    let same : begun (history_of c.self.inside.rows.items c.self.inside.past.value.items) c.self.inside.rows.items (slice_set c.self.inside.actors.items c.at-number.result c.step.new.self) (crew_of c.self.inside.device c.self.inside.clients.items) ≡ setting_of c.self.inside = ap (λ cast. record { history = history_of c.self.inside.rows.items c.self.inside.past.value.items; rows = c.self.inside.rows.items; cast = cast; serial = crew_of c.self.inside.device c.self.inside.clients.items }) s.cast_is in
     record {
       fitted = subst IsFitted (sym same) c.self.invariant.fitted;
+      before = subst HoldsBefore (sym same) c.self.invariant.before;
       holds = rw (c.push_reserved.ensures.items, c.in_ok-reserve.ensures.items) s.holds;
       rows_hold = rw (c.push_reserved.ensures.items, c.in_ok-reserve.ensures.items) (subst (λ z. EachMoment (RowsStand z) (c.self.inside.journal.items ++ entry_of c.at-number.result c.in_ok-event.event ∷ [])) (sym same) s.rows_hold);
       brisk = rw (c.push_reserved.ensures.items, c.in_ok-reserve.ensures.items) (subst (λ z. Brisk (hostile_in z) no_drops (c.self.inside.journal.items ++ entry_of c.at-number.result c.in_ok-event.event ∷ [])) (sym same) s.brisk);
@@ -83,14 +85,14 @@ invariant_of-self-2 c =
 
 pub returns-clause-ok : goal.returns-clause-ok
 returns-clause-ok c =
-    let s = system_then (start_history c.self.inside.rows.items) c.self.inside.rows.items (crew_of c.self.inside.device c.self.inside.clients.items) c.self.inside.world c.step.new.wires c.self.inside.actors.items c.self.inside.journal.items c.at-number.result c.index_mut-actor.result.now c.step.new.self c.index-actor.result.now c.in_ok-event.event c.index-row.result.now c.rung-rung.result c.is_runnable-runs.result c.is_idle-idle.result c.args.place c.self.inside.running.list c.self.inside.running.room
+    let s = system_then (history_of c.self.inside.rows.items c.self.inside.past.value.items) c.self.inside.rows.items (crew_of c.self.inside.device c.self.inside.clients.items) c.self.inside.world c.step.new.wires c.self.inside.actors.items c.self.inside.journal.items c.at-number.result c.index_mut-actor.result.now c.step.new.self c.index-actor.result.now c.in_ok-event.event c.index-row.result.now c.rung-rung.result c.is_runnable-runs.result c.is_idle-idle.result c.args.place c.self.inside.running.list c.self.inside.running.room
     c.self.invariant.fitted c.self.invariant.holds c.self.invariant.rows_hold c.self.invariant.running c.self.invariant.room c.self.invariant.brisk c.at-number.ensures c.index_mut-actor.ensures.value c.in_ok-event.ensures.own c.in_ok-event.ensures.stepped c.in_ok-event.ensures.turned c.step.ensures.fits c.step.ensures.part c.index-actor.ensures c.index-row.ensures c.is_idle-idle.ensures c.rung-rung.ensures (subst (λ xs. IsAsked xs c.step.new.wires c.rung-rung.result c.is_runnable-runs.result) c.deref.ensures.value c.is_runnable-runs.ensures) in
     record {
       actor = c.at-number.result;
       there = subst (λ (s : Shown). slice_get (runnable_now s) c.args.place ≡ Some c.at-number.result) c.self.view_is (rw (← c.self.invariant.running) c.at-number.ensures);
       appends = record {
         event = c.in_ok-event.event;
-        setting = ap (λ cast. record { history = start_history c.self.inside.rows.items; rows = c.self.inside.rows.items; cast = cast; serial = crew_of c.self.inside.device c.self.inside.clients.items }) s.cast_is ∙ ap (λ (s : Shown). s.setting) c.self.view_is;
+        setting = ap (λ cast. record { history = history_of c.self.inside.rows.items c.self.inside.past.value.items; rows = c.self.inside.rows.items; cast = cast; serial = crew_of c.self.inside.device c.self.inside.clients.items }) s.cast_is ∙ ap (λ (s : Shown). s.setting) c.self.view_is;
         journal = c.push_reserved.ensures.items ∙ rw (c.in_ok-reserve.ensures.items, ap (λ (s : Shown). s.journal) c.self.view_is) refl;
       };
     }
