@@ -1,6 +1,6 @@
-use Rattle.std.proofs.Common.{◌≡◌, ◌≢◌, ◌⊎◌, ◌==◌, ◌+◌, ℕ, Bool, true, false, not, cond, ◌&&◌, ◌||◌, Some, List, [], ◌∷◌, ◌++◌, length, length-set, slice_get, slice_set, subst, refl, sym, ap, ◌∙◌, arith, inl, inr, zero, suc}
+use Rattle.std.proofs.Common.{◌≡◌, ◌≢◌, ◌⊎◌, ◌==◌, ◌+◌, ℕ, Bool, true, false, not, cond, if◌then◌else◌, ◌&&◌, ◌||◌, Some, None, List, [], ◌∷◌, ◌++◌, length, length-set, slice_get, slice_set, subst, refl, sym, ap, ◌∙◌, arith, inl, inr, zero, suc}
 use Rattle.std.proofs.Math.Dec.{eqb}
-use Rattle.std.proofs.lemmas.Bool.{eq-eqb}
+use Rattle.std.proofs.lemmas.Bool.{eq-eqb, eqb-true}
 use Rattle.std.proofs.lemmas.Bool.Decides.{eqb_tells}
 use Rattle.wire_core.specs.declared.names.QueueRow.{QueueRow}
 use Rattle.wire_core.specs.declared.names.Entry.{Entry}
@@ -10,7 +10,7 @@ use Rattle.wire_core.specs.declared.names.Op.{Op}
 use Rattle.wire_core.specs.declared.names.Op.TheVariants as Do
 use Rattle.wire_core.specs.declared.names.Answer.{Answer}
 use Rattle.wire_core.specs.declared.names.Answer.TheVariants.{Done, Yes, No}
-use Rattle.wire_core.specs.Ends.{Role, Consumer, Producer, role_of}
+use Rattle.wire_core.specs.Ends.{Role, Consumer, Producer, role_of, waiting_role}
 use Rattle.wire_core.specs.Queues.{Bells, calls, bells_after}
 use Rattle.wire_core.specs.Journal.{History, MayCall, track, track_after, history_at, if_on, owner_of}
 use Rattle.wire_core.proofs.Tracks.{track_from-append}
@@ -18,7 +18,7 @@ use Rattle.wire_core.proofs.Places.{slice_get_written, slice_get_beside}
 use Rattle.play_core.specs.Wants.{Want, Needful, bells_settled, want_settled, all_settled}
 use Rattle.wire_core.proofs.Sinces.{eqb_apart}
 use Rattle.play_core.specs.Manners.{Manner, Calm, Hostile, Manners, calls_of, is_hostile, hostile_by}
-use Rattle.play_core.specs.Runs.{called_from, is_runnable, flags_from, rung_at}
+use Rattle.play_core.specs.Runs.{called_from, is_runnable, flags_from, rung_at, other_owner, reaches, reach_of}
 use Rattle.play_core.proofs.Lists.{some_is}
 
 -- lists of one length that agree at each place
@@ -109,8 +109,21 @@ calls_rung row b (Do.Wake s) a i rung = cc
 calls_rung row b (Do.Ring Forward) a i rung = rw (eq-eqb row.consumer.0 i (some_is rung)) refl
 calls_rung row b (Do.Ring Backward) a i rung = rw (eq-eqb row.producer.0 i (some_is rung)) (true_after (row.consumer.0 == i && b.forward.pending))
 
+-- a call that rings reaches
+rung_reaches : (o : Op) (row : QueueRow) (i : ℕ) → rung_at o row ≡ Some i → reaches o ≡ true
+rung_reaches Do.See row i rung = cc
+rung_reaches Do.Room row i rung = cc
+rung_reaches Do.Take row i rung = cc
+rung_reaches Do.Put row i rung = cc
+rung_reaches (Do.Ask s) row i rung = cc
+rung_reaches (Do.Waive s) row i rung = cc
+rung_reaches (Do.Wanted s) row i rung = cc
+rung_reaches (Do.Settle s) row i rung = cc
+rung_reaches (Do.Wake s) row i rung = cc
+rung_reaches (Do.Ring s) row i rung = refl
+
 -- one of the two owners is rung, or nobody
-pub rung_owns : (o : Op) (row : QueueRow) (i : ℕ) → rung_at o row ≡ Some i → (r : Role) × (owner_of row r ≡ i)
+rung_owns : (o : Op) (row : QueueRow) (i : ℕ) → rung_at o row ≡ Some i → (r : Role) × (owner_of row r ≡ i)
 rung_owns Do.See row i rung = cc
 rung_owns Do.Room row i rung = cc
 rung_owns Do.Take row i rung = cc
@@ -120,8 +133,30 @@ rung_owns (Do.Waive s) row i rung = cc
 rung_owns (Do.Wanted s) row i rung = cc
 rung_owns (Do.Settle s) row i rung = cc
 rung_owns (Do.Wake s) row i rung = cc
-rung_owns (Do.Ring Forward) row i rung = (Consumer, some_is rung)
-rung_owns (Do.Ring Backward) row i rung = (Producer, some_is rung)
+rung_owns (Do.Ring s) row i rung = (waiting_role s, some_is rung)
+
+-- the other owner of a queue is one of the two
+other_owns : (row : QueueRow) (k : ℕ) → (r : Role) × (owner_of row r ≡ other_owner row k)
+other_owns row k = go (row.producer.0 == k)
+  where
+    go : (b : Bool) → (r : Role) × (owner_of row r ≡ (if b then row.consumer.0 else row.producer.0))
+    go true = (Consumer, refl)
+    go false = (Producer, refl)
+
+-- an owner beside actor k, which is one too, is the other
+other_is : (row : QueueRow) (k i : ℕ) (x r : Role) → owner_of row x ≡ k → owner_of row r ≡ i → i ≢ k → other_owner row k ≡ i
+other_is row k i Consumer Consumer own is away = absurd (away (sym is ∙ own))
+other_is row k i Producer Producer own is away = absurd (away (sym is ∙ own))
+other_is row k i Producer Consumer own is away = rw (eq-eqb row.producer.0 k own) is
+other_is row k i Consumer Producer own is away = rw (eqb_apart row.producer.0 k (λ same. away (sym is ∙ same))) is
+
+-- whom a call reaches is one of the two owners
+pub reach_owns : (o : Op) (row : QueueRow) (k i : ℕ) → reach_of o row k ≡ Some i → (r : Role) × (owner_of row r ≡ i)
+reach_owns o row k i reach = go (reaches o || not (owner_of row (role_of o) == k)) reach
+  where
+    go : (b : Bool) → (if b then Some (other_owner row k) else None) ≡ Some i → (r : Role) × (owner_of row r ≡ i)
+    go true h = let o = other_owns row k in (o.0, o.1 ∙ some_is h)
+    go false h = cc
 
 -- a call leaves the other end as settled as it was
 other_settled : (b : Bells) (o : Op) (a : Answer) (r : Role) (need : Bool) → (r ≡ role_of o → ⊥) → bells_settled (bells_after b o a) r need ≡ bells_settled b r need
@@ -247,13 +282,25 @@ module _ (manner : Manners) (history : History) (rows : List QueueRow) (journal 
       go Calm c = let called = called_now i rung in rw called (true_after (not (all_settled history then_ ws)))
       go (Hostile done) c = cc
 
-  -- an actor that owns neither end of the queue isn't the caller
-  pub strangers_apart : (i : ℕ) → ((r : Role) → owner_of row r ≡ i → ⊥) → k ≡ i → ⊥
-  strangers_apart i stranger same = stranger may.some.0 (may.some.1 ∙ same)
+  -- the call isn't made at the end of an actor that isn't the caller and isn't reached, nor does it ring it
+  pub unreached : (i : ℕ) → i ≢ k → (reach_of e.op row k ≡ Some i → ⊥) → (IsAt i → ⊥) × (rung_at e.op row ≡ Some i → ⊥)
+  unreached i away quiet = go (reaches e.op) (owner_of row (role_of e.op) == k) refl refl
+    where
+      -- it is no owner, where the other one is reached
+      stranger : reach_of e.op row k ≡ Some (other_owner row k) → (r : Role) → owner_of row r ≡ i → ⊥
+      stranger reach r is = quiet (reach ∙ ap Some (other_is row k i may.some.0 r may.some.1 is away))
 
-  pub strangers_unrung : (i : ℕ) → ((r : Role) → owner_of row r ≡ i → ⊥) → rung_at e.op row ≡ Some i → ⊥
-  strangers_unrung i stranger rung = let o = rung_owns e.op row i rung in stranger o.0 o.1
+      apart : reach_of e.op row k ≡ Some (other_owner row k) → (IsAt i → ⊥) × (rung_at e.op row ≡ Some i → ⊥)
+      apart reach = (stranger reach (role_of e.op), λ rung. let o = rung_owns e.op row i rung in stranger reach o.0 o.1)
+
+      go : (b own : Bool) → reaches e.op ≡ b → (owner_of row (role_of e.op) == k) ≡ own → (IsAt i → ⊥) × (rung_at e.op row ≡ Some i → ⊥)
+      go true own is at = apart (rw is refl)
+      go false false is at = apart (rw (is, at) refl)
+      go false true is at = (
+        λ here. away (sym here ∙ eqb-true (owner_of row (role_of e.op)) k at),
+        λ rung. let no : true ≡ false = sym (rung_reaches e.op row i rung) ∙ is in cc,
+      )
 
   -- so it stays runnable or not
-  pub runnable_beside : (i : ℕ) (ws : List Want) → ((r : Role) → owner_of row r ≡ i → ⊥) → ((p : ℕ) (w : Want) → slice_get ws p ≡ Some w → w.queue ≡ e.queue.0 → ⊥) → is_runnable (manner i) i ws history rows then_ ≡ is_runnable (manner i) i ws history rows journal
-  runnable_beside i ws stranger off = runnable_still i ws (stranger (role_of e.op)) (strangers_unrung i stranger) (λ h same. strangers_apart i stranger same) (λ p w at q r. off p w at q)
+  pub runnable_apart : (i : ℕ) (ws : List Want) → i ≢ k → (reach_of e.op row k ≡ Some i → ⊥) → ((p : ℕ) (w : Want) → slice_get ws p ≡ Some w → w.queue ≡ e.queue.0 → w.role ≡ role_of e.op → ⊥) → is_runnable (manner i) i ws history rows then_ ≡ is_runnable (manner i) i ws history rows journal
+  runnable_apart i ws away quiet off = let u = unreached i away quiet in runnable_still i ws u.0 u.1 (λ h same. away (sym same)) off

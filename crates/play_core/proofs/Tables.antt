@@ -13,11 +13,11 @@ use Rattle.wire_core.proofs.Tracks.{track_from-append}
 use Rattle.play_core.specs.Moved.{Moved, Seat, moved, went, AreAlike}
 use Rattle.play_core.specs.Wants.{Want, seat_of}
 use Rattle.play_core.specs.Manners.{Manners, hostile_by}
-use Rattle.play_core.specs.Runs.{is_runnable, flags_from, rung_at}
+use Rattle.play_core.specs.Runs.{is_runnable, reach_of}
 use Rattle.play_core.specs.Sheets.{Sheet, IsOwn, AreSeated, needful, RowsHold}
 use Rattle.play_core.specs.Still.{Plays}
 use Rattle.play_core.proofs.Lists.{some_is, map_get}
-use Rattle.play_core.proofs.Flags.{entry_of, flag_at, runnable_still, strangers_apart, strangers_unrung}
+use Rattle.play_core.proofs.Flags.{entry_of, unreached, runnable_apart}
 
 -- what went through an end of a queue with this track
 abbrev tracked : Track → Role → List Item
@@ -104,33 +104,16 @@ module _ {P : Type 0} (sheet : P → Sheet) (own : (p : P) → IsOwn (sheet p)) 
   wants_at p j = (sheet p).wants (moved history j)
 
   -- what an actor wants, at whose ends the call isn't made, stays
-  pub others_want : (i : ℕ) (p : P) → slice_get cast i ≡ Some p → (IsHere i → ⊥) → wants_at p after_ ≡ wants_at p journal
+  others_want : (i : ℕ) (p : P) → slice_get cast i ≡ Some p → (IsHere i → ⊥) → wants_at p after_ ≡ wants_at p journal
   others_want i p at away = wants_still history journal k e (sheet p) (own p) (untouched i p at away)
 
-  -- and its row goes on to hold
-  pub others_hold : (i : ℕ) (p : P) → slice_get cast i ≡ Some p → (IsHere i → ⊥) → (sheet p).row (moved history journal) → (sheet p).row (moved history after_)
-  others_hold i p at away holds = row_still history journal k e (sheet p) (own p) (untouched i p at away) holds
-
-  -- where it isn't rung, and if it is hostile isn't the caller, it stays runnable or not
-  pub others_run : (i : ℕ) (p : P) → slice_get cast i ≡ Some p → (IsHere i → ⊥) → (rung_at e.op row ≡ Some i → ⊥) → (hostile_by manner i ≡ true → k ≡ i → ⊥) → is_runnable (manner i) i (wants_at p after_) history rows after_ ≡ is_runnable (manner i) i (wants_at p journal) history rows journal
-  others_run i p at away quiet apart =
-      ap (λ ws. is_runnable (manner i) i ws history rows after_) (others_want i p at away)
-      ∙ runnable_still manner history rows journal k e row there may i (wants_at p journal) away quiet apart
-      (λ a w is q r. untouched i p at away (a, seat_of w, want_seat (sheet p) (own p) (moved history journal) a w is, q, r))
-
-  -- so does an actor that owns neither end of the queue
-  pub strangers_run : (i : ℕ) (p : P) → slice_get cast i ≡ Some p → ((r : Role) → owner_of row r ≡ i → ⊥) → is_runnable (manner i) i (wants_at p after_) history rows after_ ≡ is_runnable (manner i) i (wants_at p journal) history rows journal
-  strangers_run i p at stranger = others_run i p at (stranger (role_of e.op)) (strangers_unrung manner history rows journal k e row there may i stranger) (λ h same. strangers_apart manner history rows journal k e row there may i stranger same)
-
-  abbrev flags_at : List Entry → List Bool
-  flags_at j = flags_from manner 0 history rows (needful sheet cast (moved history j)) j
-
-  -- and in the list of all
-  pub strangers_flag : (i : ℕ) (p : P) → slice_get cast i ≡ Some p → ((r : Role) → owner_of row r ≡ i → ⊥) → slice_get (flags_at after_) i ≡ slice_get (flags_at journal) i
-  strangers_flag i p at stranger =
-      flag_at manner 0 history rows (needful sheet cast (moved history after_)) after_ i i (wants_at p after_) (omega arith) (map_get (λ p. wants_at p after_) cast i p at)
-      ∙ (ap Some (strangers_run i p at stranger)
-      ∙ sym (flag_at manner 0 history rows (needful sheet cast (moved history journal)) journal i i (wants_at p journal) (omega arith) (map_get (λ p. wants_at p journal) cast i p at)))
+  -- an actor that isn't the caller and isn't reached stays runnable or not
+  pub others_run : (i : ℕ) (p : P) → slice_get cast i ≡ Some p → i ≢ k → (reach_of e.op row k ≡ Some i → ⊥) → is_runnable (manner i) i (wants_at p after_) history rows after_ ≡ is_runnable (manner i) i (wants_at p journal) history rows journal
+  others_run i p at away quiet =
+      let here = (unreached manner history rows journal k e row there may i away quiet).0 in
+      ap (λ ws. is_runnable (manner i) i ws history rows after_) (others_want i p at here)
+      ∙ runnable_apart manner history rows journal k e row there may i (wants_at p journal) away quiet
+      (λ a w is q r. untouched i p at here (a, seat_of w, want_seat (sheet p) (own p) (moved history journal) a w is, q, r))
 
 -- one of the cast, which isn't hostile, plays its sheet
 pub plays_there : {P : Type 0} (sheet : P → Sheet) (hostile : Hostiles) (cast : List P) (m : Moved) → RowsHold sheet hostile cast m → (k : ℕ) (p : P) → hostile k ≡ false → slice_get cast k ≡ Some p → Plays hostile (needful sheet cast m) m (sheet p)

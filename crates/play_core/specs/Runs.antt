@@ -1,10 +1,10 @@
 -- Which actors may be picked to make the next call, by what each of them wants.
-use Rattle.std.specs.Prelude.{◌+◌, ◌||◌, ℕ, Bool, true, false, not, Option, Some, None, List, [], ◌∷◌}
+use Rattle.std.specs.Prelude.{◌+◌, ◌==◌, ◌||◌, ℕ, Bool, true, false, not, if◌then◌else◌, Option, Some, None, List, [], ◌∷◌}
 use Rattle.wire_core.specs.declared.names.QueueRow.{QueueRow}
 use Rattle.wire_core.specs.declared.names.Entry.{Entry}
 use Rattle.wire_core.specs.declared.names.Op.{Op}
 use Rattle.wire_core.specs.declared.names.Op.TheVariants as Do
-use Rattle.wire_core.specs.Ends.{waiting_role}
+use Rattle.wire_core.specs.Ends.{role_of, waiting_role}
 use Rattle.wire_core.specs.Queues.{calls}
 use Rattle.wire_core.specs.Journal.{History, track, owner_of}
 use Rattle.play_core.specs.Wants.{Want, Needful, all_settled}
@@ -54,3 +54,27 @@ rung_at Do.See row = None
 rung_at Do.Room row = None
 rung_at Do.Take row = None
 rung_at Do.Put row = None
+
+-- the other owner of a queue
+abbrev pub other_owner : QueueRow → ℕ → ℕ
+other_owner row k = if row.producer.0 == k then row.consumer.0 else row.producer.0
+
+-- a call at an end of its own may change for the other owner whether that one is runnable: it stores
+-- a word of that one's notifications
+abbrev pub reaches : Op → Bool
+reaches (Do.Ring s) = true
+reaches (Do.Ask s) = false
+reaches (Do.Waive s) = false
+reaches (Do.Wake s) = false
+reaches (Do.Wanted s) = false
+reaches (Do.Settle s) = false
+reaches Do.See = false
+reaches Do.Room = false
+reaches Do.Take = false
+reaches Do.Put = false
+
+-- beside actor k, which makes a call on a queue of this row, the one for which the call may change
+-- whether it is runnable: the other owner, where the call reaches it or is made at its end
+abbrev pub reach_of : Op → QueueRow → ℕ → Option ℕ
+reach_of op row k =
+    if reaches op || not (owner_of row (role_of op) == k) then Some (other_owner row k) else None

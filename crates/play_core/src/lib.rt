@@ -3,16 +3,17 @@
 //! so that a law on a class waits for no description.
 #![tactic(auto)]
 
-ghost use Rattle.std.specs.Prelude.{◌≡◌, ◌≤◌, ◌++◌, ℕ, Bool, true, false, List, [], ◌∷◌, Some, length, slice_get};
+ghost use Rattle.std.specs.Prelude.{◌≡◌, ◌≢◌, ◌≤◌, ◌++◌, ℕ, Bool, true, false, List, [], ◌∷◌, Some, length, slice_get};
 ghost use Rattle.cargo_core.specs.Lists.{Merge, PrefixMerge};
 ghost use Rattle.wire_core.specs.declared.names.QueueRow.{QueueRow};
 ghost use Rattle.wire_core.specs.declared.names.Entry.{Entry};
 ghost use Rattle.wire_core.specs.declared.names.Event.{Event};
+ghost use Rattle.wire_core.specs.declared.names.Op.{Op};
 ghost use Rattle.wire_core.specs.Ends.{Role, role_of};
 ghost use Rattle.wire_core.specs.Journal.{History, Hostiles, MayCall, is_calm, track, owner_of};
 ghost use Rattle.play_core.specs.Wants.{Want, Needful};
 ghost use Rattle.play_core.specs.Manners.{Manners, hostile_by};
-ghost use Rattle.play_core.specs.Runs.{is_runnable, rung_at};
+ghost use Rattle.play_core.specs.Runs.{is_runnable, rung_at, reach_of};
 ghost use Rattle.play_core.specs.Resting.{QueueRests, QueuePays, is_due};
 ghost use Rattle.play_core.specs.Totals.{total};
 ghost use Rattle.play_core.specs.Still.{IsQuiet, IsStill, Needs, Owes};
@@ -36,15 +37,16 @@ pub fn quiet_law()
         → QueuePays row (track history n journal) needed due }
 {}
 
-/// A call on a queue, whoever may make it, changes who is runnable only among the two owners of its
-/// row: an actor that owns neither end, and of whose ends none is at that queue, stays runnable or
-/// not; one that is rung is runnable, unless it is hostile.
+/// A call on a queue, whoever may make it, changes who is runnable only for its caller and for whom
+/// it reaches: any other actor, of whose ends none is the one at which it is made, stays runnable
+/// or not; one that is rung is runnable, unless it is hostile.
 pub fn step_law()
-    ensures strangers { (manner : Manners) (history : History) (rows : List QueueRow) (journal : List Entry) (k : ℕ) (e : Event) (row : QueueRow)
+    ensures apart { (manner : Manners) (history : History) (rows : List QueueRow) (journal : List Entry) (k : ℕ) (e : Event) (row : QueueRow)
         → slice_get rows e.queue.0 ≡ Some row → MayCall (hostile_by manner) row (role_of e.op) k
-        → (i : ℕ) (wants : List Want) → ((r : Role) → owner_of row r ≡ i → ⊥)
-        → ((p : ℕ) (w : Want) → slice_get wants p ≡ Some w → w.queue ≡ e.queue.0 → ⊥)
+        → (i : ℕ) (wants : List Want) → i ≢ k → (reach_of e.op row k ≡ Some i → ⊥)
+        → ((p : ℕ) (w : Want) → slice_get wants p ≡ Some w → w.queue ≡ e.queue.0 → w.role ≡ role_of e.op → ⊥)
         → is_runnable (manner i) i wants history rows (journal ++ record { actor = record { 0 = k }; event = e } ∷ []) ≡ is_runnable (manner i) i wants history rows journal }
+    ensures reach { (op : Op) (row : QueueRow) (k i : ℕ) → reach_of op row k ≡ Some i → (r : Role) × (owner_of row r ≡ i) }
     ensures rung { (manner : Manners) (history : History) (rows : List QueueRow) (journal : List Entry) (k : ℕ) (e : Event) (row : QueueRow)
         → slice_get rows e.queue.0 ≡ Some row → MayCall (hostile_by manner) row (role_of e.op) k
         → (i : ℕ) (wants : List Want) → hostile_by manner i ≡ false → rung_at e.op row ≡ Some i

@@ -119,7 +119,7 @@ module _ (plan : Plan) (serial : Serial) (has : plan.serial ≡ Some serial) (fi
       let e : length before + m ≡ n = omega (arith, is, front) in
       ap (λ rs. slice_get rs n) rows_are
       ∙ subst (λ k. slice_get (before ++ class_rows ++ behind) k ≡ Some row) e
-          (get-left (before ++ class_rows) behind (length before + m) row (get-right before class_rows m row h))
+      (get-left (before ++ class_rows) behind (length before + m) row (get-right before class_rows m row h))
 
   -- the two seats at a queue
   seats_at : (n : ℕ) (region : Option ℕ) (offset : ℕ) (name : List ℕ) (from to : ActorId) (capacity : ℕ) → slice_get (queues_of plan) n ≡ Some (queue_in plan region offset name Kind.Byte from to capacity)

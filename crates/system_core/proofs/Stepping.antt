@@ -17,9 +17,9 @@ use Rattle.turn_kit.proofs.Playing.{pace_few}
 use Rattle.play_core.specs.Moved.{moved}
 use Rattle.play_core.specs.Wants.{Want, Needful, all_settled}
 use Rattle.play_core.specs.Sheets.{Scene, AreSeated, needful, RowsHold}
-use Rattle.play_core.specs.Runs.{called_from, is_runnable, flags_from, places_from, runnable, rung_at}
+use Rattle.play_core.specs.Runs.{called_from, is_runnable, flags_from, places_from, runnable, reach_of}
 use Rattle.play_core.proofs.Lists.{some_is, map_get, there_is}
-use Rattle.play_core.proofs.Flags.{differs_at, differs_twice, flag_at, flags_length, rung_owns}
+use Rattle.play_core.proofs.Flags.{differs_at, differs_twice, flag_at, flags_length, reach_owns}
 use Rattle.play_core.proofs.Tables.{others_run}
 use Rattle.actor_set.specs.Parts.{Part}
 use Rattle.actor_set.specs.Actors.{FitsActor, ActorStandsFor, ActorEnd, ActorTurned, actor_round, actor_rests, part_of}
@@ -121,13 +121,13 @@ module _ (history : History) (rows : List QueueRow) (w v : List Queue) (actors :
   cast_here : slice_get cast k ≡ Some (part_of x)
   cast_here = map_get part_of actors k x here
 
-  others : (i : ℕ) → i ≢ k → (rung_at e.op row ≡ Some i → ⊥) → slice_get (flag after_) i ≡ slice_get (flag journal) i
+  others : (i : ℕ) → i ≢ k → (reach_of e.op row k ≡ Some i → ⊥) → slice_get (flag after_) i ≡ slice_get (flag journal) i
   others i away quiet = others_case (get_case cast i)
     where
       others_case : ((p : Part) × (slice_get cast i ≡ Some p)) ⊎ (length cast ≤ i) → slice_get (flag after_) i ≡ slice_get (flag journal) i
       others_case (inl p) =
           flag_of history rows cast after_ i p.0 p.1
-          ∙ (ap Some (others_run (sheet (scene_of cast)) (sheet_own (scene_of cast)) (manners cast) history rows cast seated journal k e row there may i p.0 p.1 (λ is. away (sym is ∙ owner)) quiet (λ h same. away (sym same)))
+          ∙ (ap Some (others_run (sheet (scene_of cast)) (sheet_own (scene_of cast)) (manners cast) history rows cast seated journal k e row there may i p.0 p.1 away quiet)
           ∙ sym (flag_of history rows cast journal i p.0 p.1))
       others_case (inr past) =
           get_past (flag after_) i (let n = flags_count history rows cast after_ in omega arith)
@@ -149,14 +149,14 @@ module _ (history : History) (rows : List QueueRow) (w v : List Queue) (actors :
   caller_then : (idle : Bool) → idle ≡ idles (manner_of (part_of x')) (actor_rests x') (is_pending k v) → slice_get (flag after_) k ≡ Some (not idle)
   caller_then idle is = asked_then k x' (not idle) (slice_get_written actors k x x' here) (ap not is)
 
-  rung_below : (m : ℕ) → rung_at e.op row ≡ Some m → m < length cast
+  rung_below : (m : ℕ) → reach_of e.op row k ≡ Some m → m < length cast
   rung_below m rung =
-      let o = rung_owns e.op row m rung in
+      let o = reach_owns e.op row k m rung in
       let lt : m < length actors = subst (λ n. n < length actors) o.1 (old.peers e.queue.0 row there o.0) in
       subst (λ n. m < n) (sym (length-map actors part_of)) lt
 
   -- the runnable actors after the call
-  pub running_then : (rung : Option ℕ) (runs idle : Bool) (place : ℕ) → rung_at e.op row ≡ rung → IsAsked (slice_set actors k x') v rung runs → idle ≡ idles (manner_of (part_of x')) (actor_rests x') (is_pending k v) → slice_get (places_from 0 (flag journal)) place ≡ Some k
+  pub running_then : (rung : Option ℕ) (runs idle : Bool) (place : ℕ) → reach_of e.op row k ≡ rung → IsAsked (slice_set actors k x') v rung runs → idle ≡ idles (manner_of (part_of x')) (actor_rests x') (is_pending k v) → slice_get (places_from 0 (flag journal)) place ≡ Some k
       → places_from 0 (flag after_) ≡ with_option rung runs (removed_if idle (places_from 0 (flag journal)) place)
   running_then None runs idle place rung asked is at =
       ap (places_from 0) (differs_at (flag journal) (flag after_) k (not idle) _ lengths (flag_of history rows cast journal k (part_of x) cast_here) (caller_then idle is) (λ i away. others i away (λ h. let no : None ≡ Some i = sym rung ∙ h in cc)))
@@ -172,10 +172,10 @@ module _ (history : History) (rows : List QueueRow) (w v : List Queue) (actors :
       ∙ ap (with_if runs m) (cleared (flag journal) k place idle at))
 
 -- who is rung is one of the actors
-pub rung_there : (history : History) (rows : List QueueRow) (w : List Queue) (actors : List Actor) (journal : List Entry) → Holds history rows w actors journal → (k : ℕ) (x : Actor) (e : Event) (row : QueueRow) (m : ℕ) → e.queue.0 < length w → row ≡ slice_index_or rows e.queue.0 row → rung_at e.op row ≡ Some m → m < length (slice_set actors k x)
+pub rung_there : (history : History) (rows : List QueueRow) (w : List Queue) (actors : List Actor) (journal : List Entry) → Holds history rows w actors journal → (k : ℕ) (x : Actor) (e : Event) (row : QueueRow) (m : ℕ) → e.queue.0 < length w → row ≡ slice_index_or rows e.queue.0 row → reach_of e.op row k ≡ Some m → m < length (slice_set actors k x)
 rung_there history rows w actors journal old k x e row m within is rung =
     let there : slice_get rows e.queue.0 ≡ Some row = slice_get_read rows _ e.queue.0 row refl (subst (λ n. e.queue.0 < n) old.size within) is in
-    let o = rung_owns e.op row m rung in
+    let o = reach_owns e.op row k m rung in
     let lt : m < length actors = subst (λ n. n < length actors) o.1 (old.peers e.queue.0 row there o.0) in
     rw length-set lt
 
@@ -221,7 +221,7 @@ module _ (history : History) (rows : List QueueRow) (serial : Crew) (w v : List 
 
   pub system_then : IsFitted setting → Holds history rows w actors journal → EachMoment (RowsStand setting) journal → list ≡ runs setting journal → length actors ≤ room → Brisk (hostile_in setting) no_drops journal
       → slice_get list place ≡ Some k → x ≡ slice_index_or actors k x → ActorEnd x (role_of e.op) e.queue.0 → Stepped ActorStandsFor Happens w v x x' e → ActorTurned x e x' → FitsActor (end_at v) x' → part_of x' ≡ part_of x
-      → y ≡ slice_index_or (slice_set actors k x') k y → row ≡ slice_index_or rows e.queue.0 row → idle ≡ idles (manner_of (part_of y)) (actor_rests y) (is_pending k v) → rung ≡ rung_at e.op row → IsAsked (slice_set actors k x') v rung woken
+      → y ≡ slice_index_or (slice_set actors k x') k y → row ≡ slice_index_or rows e.queue.0 row → idle ≡ idles (manner_of (part_of y)) (actor_rests y) (is_pending k v) → rung ≡ reach_of e.op row k → IsAsked (slice_set actors k x') v rung woken
       → StepThen setting v (slice_set actors k x') (journal ++ entry_of k e ∷ []) (with_option rung woken (removed_if idle list place)) room
   system_then fitted old rows_old running le brisk at x_is own st turned fits part y_is row_is idle_is rung_is asked =
       let at' : slice_get (runs setting journal) place ≡ Some k = rw (← running) at in

@@ -133,13 +133,7 @@ fn client(alloc: Global, first: u16, client: u16, trace: &Trace) -> Result<Seria
 }
 
 // The actor of a job.
-fn actor(
-    alloc: Global,
-    job: Job,
-    first: u16,
-    clients: u16,
-    trace: &Trace,
-) -> Result<Actor, Memory>
+fn actor(alloc: Global, job: Job, first: u16, clients: u16, trace: &Trace) -> Result<Actor, Memory>
     requires some { 0 < clients }
     requires few { clients ≤ 8 }
     requires numbered { first + 4 + 2 * clients ≤ 65536 }

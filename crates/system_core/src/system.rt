@@ -3,8 +3,9 @@
 ghost use Rattle.std.specs.Prelude.{◌≡◌, ◌<◌, ◌≤◌, ℕ, List, length, map, OnOk, OnErr, IfOk, slice_get, Some, None, []};
 ghost use Rattle.std.specs.Option.{option_map};
 ghost use Rattle.wire_core.specs.Queues.{is_pending};
-ghost use Rattle.wire_core.specs.Journal.{start_history};
-ghost use Rattle.play_core.specs.Runs.{rung_at};
+ghost use Rattle.wire_core.specs.Ends.{role_of};
+ghost use Rattle.wire_core.specs.Journal.{start_history, owner_of};
+ghost use Rattle.play_core.specs.Runs.{other_owner, reaches, reach_of};
 ghost use Rattle.actor_set.specs.Actors.{actor_rests, part_of};
 ghost use Rattle.trace_text.specs.Traces.{IsReadFor};
 ghost use Rattle.region_layout.specs.Layouts.{layout_of};
@@ -94,38 +95,74 @@ fn is_idle(actor: &Actor, world: &World, place: ActorId) -> bool
     actor.at_rest() && !world.is_pending(place)
 }
 
-// The actor whose pending word a call on a queue sets, if it sets one.
-fn rung(op: Op, row: &QueueRow) -> Option<u16>
-    ensures { result ≡ rung_at op row.now }
+// The owner of the end of a queue at which a call is made.
+fn end_owner(row: &QueueRow, op: Op) -> u16
+    ensures { result ≡ owner_of row.now (role_of op) }
 {
     match op {
-        Op::Ring(Side::Forward) => Some(row.consumer.0),
-        Op::Ring(Side::Backward) => Some(row.producer.0),
-        _ => None,
+        Op::See | Op::Take => row.consumer.0,
+        Op::Room | Op::Put => row.producer.0,
+        Op::Ask(side) | Op::Waive(side) | Op::Wake(side) => match side {
+            Side::Forward => row.consumer.0,
+            Side::Backward => row.producer.0,
+        },
+        Op::Wanted(side) | Op::Settle(side) | Op::Ring(side) => match side {
+            Side::Forward => row.producer.0,
+            Side::Backward => row.consumer.0,
+        },
     }
 }
 
-// Whether the actor that was rung is runnable now.
-fn is_runnable(actors: &[Actor], world: &World, rung: Option<u16>) -> bool
-    requires { (k : ℕ) → rung ≡ Some k → k < length actors.now }
-    ensures { IsAsked actors.now world.now rung result }
+// The other owner of a queue.
+fn other_owner(row: &QueueRow, actor: u16) -> u16
+    ensures { result ≡ other_owner row.now actor }
 {
-    match rung {
+    if row.producer.0 == actor {
+        row.consumer.0
+    } else {
+        row.producer.0
+    }
+}
+
+// Whether a call at an end of its own may change for the other owner whether that one is runnable.
+fn reaches(op: Op) -> bool
+    ensures { result ≡ reaches op }
+{
+    matches!(op, Op::Ring(_))
+}
+
+// The other owner of a queue, where a call of this actor may change whether that one is runnable.
+fn reach(op: Op, row: &QueueRow, caller: u16) -> Option<u16>
+    ensures { result ≡ reach_of op row.now caller }
+{
+    if reaches(op) || end_owner(row, op) != caller {
+        Some(other_owner(row, caller))
+    } else {
+        None
+    }
+}
+
+// Whether the other owner that a call reaches is runnable now.
+fn is_runnable(actors: &[Actor], world: &World, other: Option<u16>) -> bool
+    requires { (k : ℕ) → other ≡ Some k → k < length actors.now }
+    ensures { IsAsked actors.now world.now other result }
+{
+    match other {
         Some(actor) => !is_idle(&actors[actor as usize], world, ActorId(actor)),
         None => false,
     }
 }
 
-// Takes out the actor at a place where it is idle, and keeps the one that was rung where it is runnable.
-fn note(running: &mut Running, place: usize, idle: bool, rung: Option<u16>, runs: bool)
+// Takes out the actor at a place where it is idle, and keeps the other owner that a call reaches where it is runnable.
+fn note(running: &mut Running, place: usize, idle: bool, other: Option<u16>, runs: bool)
     requires there { place < length running.old.list }
-    requires room { length (with_option rung runs (removed_if idle running.old.list place)) ≤ running.old.room }
-    ensures { running.new ≡ record running.old { list = with_option rung runs (removed_if idle running.old.list place) } }
+    requires room { length (with_option other runs (removed_if idle running.old.list place)) ≤ running.old.room }
+    ensures { running.new ≡ record running.old { list = with_option other runs (removed_if idle running.old.list place) } }
 {
     if idle {
         running.remove(place);
     }
-    match rung {
+    match other {
         Some(actor) if runs => running.add(actor),
         Some(actor) => running.take_out(actor),
         None => {}
@@ -214,7 +251,15 @@ impl System {
     {
         let world = World::new(alloc, &rows)?;
         let none: Vec<Ended> = Vec::new(alloc);
-        System::begin(alloc, rows, world, actors, device, clients, Snapshot::of(&none))
+        System::begin(
+            alloc,
+            rows,
+            world,
+            actors,
+            device,
+            clients,
+            Snapshot::of(&none),
+        )
     }
 
     // A system whose queues and actors go on from what rings had that came to their end; where there are none, from
@@ -331,9 +376,9 @@ impl System {
         let actor = &self.actors[number as usize];
         let idle = is_idle(actor, &self.world, ActorId(number));
         let row = &self.rows[event.queue.0 as usize];
-        let rung = rung(event.op, row);
-        let runs = is_runnable(&self.actors, &self.world, rung);
-        note(&mut self.running, place, idle, rung, runs);
+        let other = reach(event.op, row, number);
+        let runs = is_runnable(&self.actors, &self.world, other);
+        note(&mut self.running, place, idle, other, runs);
         Ok(())
     }
 

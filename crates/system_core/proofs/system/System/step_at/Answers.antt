@@ -62,16 +62,16 @@ pub note-requires-clause-there : goal.note-requires-clause-there
 note-requires-clause-there c = slice_get_within c.self.inside.running.list c.args.place c.at-number.result c.at-number.ensures
 
 pub is_runnable-runs-requires : goal.is_runnable-runs-requires
-is_runnable-runs-requires c k rung = rw c.deref.ensures.value (rung_there _ _ _ c.self.inside.actors.items _ c.self.invariant.holds c.at-number.result c.step.new.self c.in_ok-event.event c.index-row.result.now k c.in_ok-event.ensures.stepped.happened.there c.index-row.ensures (sym c.rung-rung.ensures ∙ rung))
+is_runnable-runs-requires c k rung = rw c.deref.ensures.value (rung_there _ _ _ c.self.inside.actors.items _ c.self.invariant.holds c.at-number.result c.step.new.self c.in_ok-event.event c.index-row.result.now k c.in_ok-event.ensures.stepped.happened.there c.index-row.ensures (sym c.reach-other.ensures ∙ rung))
 
 pub note-requires-clause-room : goal.note-requires-clause-room
-note-requires-clause-room c = (system_then (history_of c.self.inside.rows.items c.self.inside.past.value.items) c.self.inside.rows.items (crew_of c.self.inside.device c.self.inside.clients.items) c.self.inside.world c.step.new.wires c.self.inside.actors.items c.self.inside.journal.items c.at-number.result c.index_mut-actor.result.now c.step.new.self c.index-actor.result.now c.in_ok-event.event c.index-row.result.now c.rung-rung.result c.is_runnable-runs.result c.is_idle-idle.result c.args.place c.self.inside.running.list c.self.inside.running.room
-    c.self.invariant.fitted c.self.invariant.holds c.self.invariant.rows_hold c.self.invariant.running c.self.invariant.room c.self.invariant.brisk c.at-number.ensures c.index_mut-actor.ensures.value c.in_ok-event.ensures.own c.in_ok-event.ensures.stepped c.in_ok-event.ensures.turned c.step.ensures.fits c.step.ensures.part c.index-actor.ensures c.index-row.ensures c.is_idle-idle.ensures c.rung-rung.ensures (subst (λ xs. IsAsked xs c.step.new.wires c.rung-rung.result c.is_runnable-runs.result) c.deref.ensures.value c.is_runnable-runs.ensures)).few
+note-requires-clause-room c = (system_then (history_of c.self.inside.rows.items c.self.inside.past.value.items) c.self.inside.rows.items (crew_of c.self.inside.device c.self.inside.clients.items) c.self.inside.world c.step.new.wires c.self.inside.actors.items c.self.inside.journal.items c.at-number.result c.index_mut-actor.result.now c.step.new.self c.index-actor.result.now c.in_ok-event.event c.index-row.result.now c.reach-other.result c.is_runnable-runs.result c.is_idle-idle.result c.args.place c.self.inside.running.list c.self.inside.running.room
+    c.self.invariant.fitted c.self.invariant.holds c.self.invariant.rows_hold c.self.invariant.running c.self.invariant.room c.self.invariant.brisk c.at-number.ensures c.index_mut-actor.ensures.value c.in_ok-event.ensures.own c.in_ok-event.ensures.stepped c.in_ok-event.ensures.turned c.step.ensures.fits c.step.ensures.part c.index-actor.ensures c.index-row.ensures c.is_idle-idle.ensures c.reach-other.ensures (subst (λ xs. IsAsked xs c.step.new.wires c.reach-other.result c.is_runnable-runs.result) c.deref.ensures.value c.is_runnable-runs.ensures)).few
 
 pub invariant_of-self-2 : goal.invariant_of-self-2
 invariant_of-self-2 c =
-    let s = system_then (history_of c.self.inside.rows.items c.self.inside.past.value.items) c.self.inside.rows.items (crew_of c.self.inside.device c.self.inside.clients.items) c.self.inside.world c.step.new.wires c.self.inside.actors.items c.self.inside.journal.items c.at-number.result c.index_mut-actor.result.now c.step.new.self c.index-actor.result.now c.in_ok-event.event c.index-row.result.now c.rung-rung.result c.is_runnable-runs.result c.is_idle-idle.result c.args.place c.self.inside.running.list c.self.inside.running.room
-    c.self.invariant.fitted c.self.invariant.holds c.self.invariant.rows_hold c.self.invariant.running c.self.invariant.room c.self.invariant.brisk c.at-number.ensures c.index_mut-actor.ensures.value c.in_ok-event.ensures.own c.in_ok-event.ensures.stepped c.in_ok-event.ensures.turned c.step.ensures.fits c.step.ensures.part c.index-actor.ensures c.index-row.ensures c.is_idle-idle.ensures c.rung-rung.ensures (subst (λ xs. IsAsked xs c.step.new.wires c.rung-rung.result c.is_runnable-runs.result) c.deref.ensures.value c.is_runnable-runs.ensures) in
+    let s = system_then (history_of c.self.inside.rows.items c.self.inside.past.value.items) c.self.inside.rows.items (crew_of c.self.inside.device c.self.inside.clients.items) c.self.inside.world c.step.new.wires c.self.inside.actors.items c.self.inside.journal.items c.at-number.result c.index_mut-actor.result.now c.step.new.self c.index-actor.result.now c.in_ok-event.event c.index-row.result.now c.reach-other.result c.is_runnable-runs.result c.is_idle-idle.result c.args.place c.self.inside.running.list c.self.inside.running.room
+    c.self.invariant.fitted c.self.invariant.holds c.self.invariant.rows_hold c.self.invariant.running c.self.invariant.room c.self.invariant.brisk c.at-number.ensures c.index_mut-actor.ensures.value c.in_ok-event.ensures.own c.in_ok-event.ensures.stepped c.in_ok-event.ensures.turned c.step.ensures.fits c.step.ensures.part c.index-actor.ensures c.index-row.ensures c.is_idle-idle.ensures c.reach-other.ensures (subst (λ xs. IsAsked xs c.step.new.wires c.reach-other.result c.is_runnable-runs.result) c.deref.ensures.value c.is_runnable-runs.ensures) in
     let same : begun (history_of c.self.inside.rows.items c.self.inside.past.value.items) c.self.inside.rows.items (slice_set c.self.inside.actors.items c.at-number.result c.step.new.self) (crew_of c.self.inside.device c.self.inside.clients.items) ≡ setting_of c.self.inside = ap (λ cast. record { history = history_of c.self.inside.rows.items c.self.inside.past.value.items; rows = c.self.inside.rows.items; cast = cast; serial = crew_of c.self.inside.device c.self.inside.clients.items }) s.cast_is in
     record {
       fitted = subst IsFitted (sym same) c.self.invariant.fitted;
@@ -85,8 +85,8 @@ invariant_of-self-2 c =
 
 pub returns-clause-ok : goal.returns-clause-ok
 returns-clause-ok c =
-    let s = system_then (history_of c.self.inside.rows.items c.self.inside.past.value.items) c.self.inside.rows.items (crew_of c.self.inside.device c.self.inside.clients.items) c.self.inside.world c.step.new.wires c.self.inside.actors.items c.self.inside.journal.items c.at-number.result c.index_mut-actor.result.now c.step.new.self c.index-actor.result.now c.in_ok-event.event c.index-row.result.now c.rung-rung.result c.is_runnable-runs.result c.is_idle-idle.result c.args.place c.self.inside.running.list c.self.inside.running.room
-    c.self.invariant.fitted c.self.invariant.holds c.self.invariant.rows_hold c.self.invariant.running c.self.invariant.room c.self.invariant.brisk c.at-number.ensures c.index_mut-actor.ensures.value c.in_ok-event.ensures.own c.in_ok-event.ensures.stepped c.in_ok-event.ensures.turned c.step.ensures.fits c.step.ensures.part c.index-actor.ensures c.index-row.ensures c.is_idle-idle.ensures c.rung-rung.ensures (subst (λ xs. IsAsked xs c.step.new.wires c.rung-rung.result c.is_runnable-runs.result) c.deref.ensures.value c.is_runnable-runs.ensures) in
+    let s = system_then (history_of c.self.inside.rows.items c.self.inside.past.value.items) c.self.inside.rows.items (crew_of c.self.inside.device c.self.inside.clients.items) c.self.inside.world c.step.new.wires c.self.inside.actors.items c.self.inside.journal.items c.at-number.result c.index_mut-actor.result.now c.step.new.self c.index-actor.result.now c.in_ok-event.event c.index-row.result.now c.reach-other.result c.is_runnable-runs.result c.is_idle-idle.result c.args.place c.self.inside.running.list c.self.inside.running.room
+    c.self.invariant.fitted c.self.invariant.holds c.self.invariant.rows_hold c.self.invariant.running c.self.invariant.room c.self.invariant.brisk c.at-number.ensures c.index_mut-actor.ensures.value c.in_ok-event.ensures.own c.in_ok-event.ensures.stepped c.in_ok-event.ensures.turned c.step.ensures.fits c.step.ensures.part c.index-actor.ensures c.index-row.ensures c.is_idle-idle.ensures c.reach-other.ensures (subst (λ xs. IsAsked xs c.step.new.wires c.reach-other.result c.is_runnable-runs.result) c.deref.ensures.value c.is_runnable-runs.ensures) in
     record {
       actor = c.at-number.result;
       there = subst (λ (s : Shown). slice_get (runnable_now s) c.args.place ≡ Some c.at-number.result) c.self.view_is (rw (← c.self.invariant.running) c.at-number.ensures);
