@@ -21,7 +21,7 @@ use Rattle.net_owners.proofs.Few.{few, named}
 number_is : (w : Window) (k : ℕ) → 0 < w.size → number_at w (w.base + k * w.size) ≡ k
 number_is w k some = ap (λ a. a / w.size) (add-sub_cancel_left w.base (k * w.size)) ∙ mul-div_cancel k some
 
-at_address : (w : Window) (k : ℕ) → 0 < w.size → k < w.buffers → buffer_at (w ∷ []) (w.base + k * w.size) ≡ Some (record { pool = w.pool; no = k })
+pub at_address : (w : Window) (k : ℕ) → 0 < w.size → k < w.buffers → buffer_at (w ∷ []) (w.base + k * w.size) ≡ Some (record { pool = w.pool; no = k })
 at_address w k some lt =
     let begins : begins_at w (w.base + k * w.size) ≡ true = rw (number_is w k some, lt-ltb k w.buffers lt, eq-eqb (w.base + k * w.size) (w.base + k * w.size) refl) refl in
     rw (begins, number_is w k some) refl
