@@ -18,7 +18,6 @@ use Rattle.sdf_plan.specs.declared.plan.Blk.{Blk}
 use Rattle.sdf_plan.specs.declared.plan.BlkClient.{BlkClient}
 use Rattle.sdf_check.specs.Names.{region_names, region_named, net_domains, net_client_domains, serial_domains, serial_client_domains, blk_domains, blk_client_domains}
 use Rattle.sdf_check.specs.ClassRules.{AreJoined, IsGranted, HasStranger, class_domains, net_names, serial_names, blk_names}
-use Rattle.sdf_check.specs.Shares.{net_links, net_client_links, serial_links, serial_client_links, blk_links, blk_client_links, net_rights, net_client_rights, serial_rights, serial_client_rights, blk_rights, blk_client_rights}
 use Rattle.sdf_check.specs.Valid.{Valid}
 use Rattle.sdf_check.proofs.SweepLemmas.{some-inj}
 use Rattle.region_layout.specs.Rows.{actors_of, actor_named, queue_in, queue_pair, queue_span, each_client, eth_rx_queues, eth_tx_queues, net_rx_queues, net_tx_queues, lease_queues, client_rx_queues, client_tx_queues, net_client_queues, net_queues, uart_queues, shared_serial_queues, serial_client_queues, serial_queues, disk_queues, shared_blk_queues, blk_client_queues, blk_queues, queues_of}
@@ -139,17 +138,17 @@ module _ (plan : Plan) (valid : Valid plan) where
 
     rx : Linking plan net.rx_queues net.driver net.rx_virt
     rx = linking plan net.rx_queues net.driver net.rx_virt
-        (link-kept plan (net_links net) 0 (net.driver, net.rx_virt) (λ s. net-channels plan valid net is (inl s)) refl)
-        (right-kept plan (net_rights net) 0 (net.driver, net.rx_queues, true) (λ s. net-rights plan valid net is (inl s)) refl)
-        (right-kept plan (net_rights net) 1 (net.rx_virt, net.rx_queues, true) (λ s. net-rights plan valid net is (inl s)) refl)
-        (λ s. net-strangers plan valid net is (inr (inl s))) (head 0 net.driver refl) (head 1 net.rx_virt refl)
+        (link-kept plan (net.driver, net.rx_virt) (λ never. net-channels plan valid net is (inl (4, never))))
+        (right-kept plan (net.driver, net.rx_queues, true) (λ never. net-rights plan valid net is (inl (4, inl never))))
+        (right-kept plan (net.rx_virt, net.rx_queues, true) (λ never. net-rights plan valid net is (inl (4, inr never))))
+        (λ s. net-strangers plan valid net is (inl (4, s))) (head 0 net.driver refl) (head 1 net.rx_virt refl)
 
     tx : Linking plan net.tx_queues net.tx_virt net.driver
     tx = linking plan net.tx_queues net.tx_virt net.driver
-        (link-kept plan (net_links net) 1 (net.tx_virt, net.driver) (λ s. net-channels plan valid net is (inl s)) refl)
-        (right-kept plan (net_rights net) 2 (net.tx_virt, net.tx_queues, true) (λ s. net-rights plan valid net is (inl s)) refl)
-        (right-kept plan (net_rights net) 3 (net.driver, net.tx_queues, true) (λ s. net-rights plan valid net is (inl s)) refl)
-        (λ s. net-strangers plan valid net is (inr (inr s))) (head 2 net.tx_virt refl) (head 0 net.driver refl)
+        (link-kept plan (net.tx_virt, net.driver) (λ never. net-channels plan valid net is (inl (6, never))))
+        (right-kept plan (net.tx_virt, net.tx_queues, true) (λ never. net-rights plan valid net is (inl (6, inl never))))
+        (right-kept plan (net.driver, net.tx_queues, true) (λ never. net-rights plan valid net is (inl (6, inr never))))
+        (λ s. net-strangers plan valid net is (inl (6, s))) (head 2 net.tx_virt refl) (head 0 net.driver refl)
 
     module _ (c : ℕ) (x : NetClient) (there : slice_get net.client c ≡ Some x) where
       own : (k : ℕ) (name : List ℕ) → slice_get (net_client_domains x) k ≡ Some name → Acts plan name
@@ -158,24 +157,24 @@ module _ (plan : Plan) (valid : Valid plan) where
 
       lease : Linking plan x.lease_queues net.rx_virt x.copier
       lease = linking plan x.lease_queues net.rx_virt x.copier
-          (link-kept plan (net_client_links net x) 0 (net.rx_virt, x.copier) (net-client-channels plan valid net is c x there) refl)
-          (right-kept plan (net_client_rights net x) 0 (net.rx_virt, x.lease_queues, true) (net-client-rights plan valid net is c x there) refl)
-          (right-kept plan (net_client_rights net x) 1 (x.copier, x.lease_queues, true) (net-client-rights plan valid net is c x there) refl)
-          (λ s. net-client-strangers plan valid net is c x there (inl (inl s))) (head 1 net.rx_virt refl) (own 1 x.copier refl)
+          (link-kept plan (net.rx_virt, x.copier) (λ never. net-client-channels plan valid net is c x there (inl (0, never))))
+          (right-kept plan (net.rx_virt, x.lease_queues, true) (λ never. net-client-rights plan valid net is c x there (inl (0, inl never))))
+          (right-kept plan (x.copier, x.lease_queues, true) (λ never. net-client-rights plan valid net is c x there (inl (0, inr never))))
+          (λ s. net-client-strangers plan valid net is c x there (inl (0, s))) (head 1 net.rx_virt refl) (own 1 x.copier refl)
 
       client_rx : Linking plan x.rx_queues x.copier x.pd
       client_rx = linking plan x.rx_queues x.copier x.pd
-          (link-kept plan (net_client_links net x) 1 (x.copier, x.pd) (net-client-channels plan valid net is c x there) refl)
-          (right-kept plan (net_client_rights net x) 2 (x.copier, x.rx_queues, true) (net-client-rights plan valid net is c x there) refl)
-          (right-kept plan (net_client_rights net x) 3 (x.pd, x.rx_queues, true) (net-client-rights plan valid net is c x there) refl)
-          (λ s. net-client-strangers plan valid net is c x there (inl (inr (inr s)))) (own 1 x.copier refl) (own 0 x.pd refl)
+          (link-kept plan (x.copier, x.pd) (λ never. net-client-channels plan valid net is c x there (inl (2, never))))
+          (right-kept plan (x.copier, x.rx_queues, true) (λ never. net-client-rights plan valid net is c x there (inl (2, inl never))))
+          (right-kept plan (x.pd, x.rx_queues, true) (λ never. net-client-rights plan valid net is c x there (inl (2, inr never))))
+          (λ s. net-client-strangers plan valid net is c x there (inl (2, s))) (own 1 x.copier refl) (own 0 x.pd refl)
 
       client_tx : Linking plan x.tx_queues x.pd net.tx_virt
       client_tx = linking plan x.tx_queues x.pd net.tx_virt
-          (link-kept plan (net_client_links net x) 2 (x.pd, net.tx_virt) (net-client-channels plan valid net is c x there) refl)
-          (right-kept plan (net_client_rights net x) 4 (x.pd, x.tx_queues, true) (net-client-rights plan valid net is c x there) refl)
-          (right-kept plan (net_client_rights net x) 5 (net.tx_virt, x.tx_queues, true) (net-client-rights plan valid net is c x there) refl)
-          (λ s. net-client-strangers plan valid net is c x there (inr (inr s))) (own 0 x.pd refl) (head 2 net.tx_virt refl)
+          (link-kept plan (x.pd, net.tx_virt) (λ never. net-client-channels plan valid net is c x there (inl (4, never))))
+          (right-kept plan (x.pd, x.tx_queues, true) (λ never. net-client-rights plan valid net is c x there (inl (4, inl never))))
+          (right-kept plan (net.tx_virt, x.tx_queues, true) (λ never. net-client-rights plan valid net is c x there (inl (4, inr never))))
+          (λ s. net-client-strangers plan valid net is c x there (inl (4, s))) (own 0 x.pd refl) (head 2 net.tx_virt refl)
 
       client_linked : All (IsLinked plan) (net_client_queues plan net c x)
       unfolding net_client_queues lease_queues client_rx_queues client_tx_queues
@@ -209,17 +208,17 @@ module _ (plan : Plan) (valid : Valid plan) where
 
     serial_rx : Linking plan serial.rx_queues serial.driver serial.rx_virt
     serial_rx = linking plan serial.rx_queues serial.driver serial.rx_virt
-        (link-kept plan (serial_links serial) 0 (serial.driver, serial.rx_virt) (λ s. serial-channels plan valid serial is (inl s)) refl)
-        (right-kept plan (serial_rights serial) 0 (serial.driver, serial.rx_queues, true) (serial-rights plan valid serial is) refl)
-        (right-kept plan (serial_rights serial) 1 (serial.rx_virt, serial.rx_queues, true) (serial-rights plan valid serial is) refl)
-        (λ s. serial-strangers plan valid serial is (inl s)) (serial_head 0 serial.driver refl) (serial_head 1 serial.rx_virt refl)
+        (link-kept plan (serial.driver, serial.rx_virt) (λ never. serial-channels plan valid serial is (inl (2, never))))
+        (right-kept plan (serial.driver, serial.rx_queues, true) (λ never. serial-rights plan valid serial is (inl (2, inl never))))
+        (right-kept plan (serial.rx_virt, serial.rx_queues, true) (λ never. serial-rights plan valid serial is (inl (2, inr never))))
+        (λ s. serial-strangers plan valid serial is (inl (2, s))) (serial_head 0 serial.driver refl) (serial_head 1 serial.rx_virt refl)
 
     serial_tx : Linking plan serial.tx_queues serial.tx_virt serial.driver
     serial_tx = linking plan serial.tx_queues serial.tx_virt serial.driver
-        (link-kept plan (serial_links serial) 1 (serial.tx_virt, serial.driver) (λ s. serial-channels plan valid serial is (inl s)) refl)
-        (right-kept plan (serial_rights serial) 2 (serial.tx_virt, serial.tx_queues, true) (serial-rights plan valid serial is) refl)
-        (right-kept plan (serial_rights serial) 3 (serial.driver, serial.tx_queues, true) (serial-rights plan valid serial is) refl)
-        (λ s. serial-strangers plan valid serial is (inr s)) (serial_head 2 serial.tx_virt refl) (serial_head 0 serial.driver refl)
+        (link-kept plan (serial.tx_virt, serial.driver) (λ never. serial-channels plan valid serial is (inl (3, never))))
+        (right-kept plan (serial.tx_virt, serial.tx_queues, true) (λ never. serial-rights plan valid serial is (inl (3, inl never))))
+        (right-kept plan (serial.driver, serial.tx_queues, true) (λ never. serial-rights plan valid serial is (inl (3, inr never))))
+        (λ s. serial-strangers plan valid serial is (inl (3, s))) (serial_head 2 serial.tx_virt refl) (serial_head 0 serial.driver refl)
 
     module _ (c : ℕ) (x : SerialClient) (there : slice_get serial.client c ≡ Some x) where
       serial_own : Acts plan x.pd
@@ -228,17 +227,17 @@ module _ (plan : Plan) (valid : Valid plan) where
 
       serial_client_rx : Linking plan x.rx_queues serial.rx_virt x.pd
       serial_client_rx = linking plan x.rx_queues serial.rx_virt x.pd
-          (link-kept plan (serial_client_links serial x) 0 (serial.rx_virt, x.pd) (serial-client-channels plan valid serial is c x there) refl)
-          (right-kept plan (serial_client_rights serial x) 0 (serial.rx_virt, x.rx_queues, true) (serial-client-rights plan valid serial is c x there) refl)
-          (right-kept plan (serial_client_rights serial x) 1 (x.pd, x.rx_queues, true) (serial-client-rights plan valid serial is c x there) refl)
-          (λ s. serial-client-strangers plan valid serial is c x there (inl s)) (serial_head 1 serial.rx_virt refl) serial_own
+          (link-kept plan (serial.rx_virt, x.pd) (λ never. serial-client-channels plan valid serial is c x there (inl (0, never))))
+          (right-kept plan (serial.rx_virt, x.rx_queues, true) (λ never. serial-client-rights plan valid serial is c x there (inl (0, inl never))))
+          (right-kept plan (x.pd, x.rx_queues, true) (λ never. serial-client-rights plan valid serial is c x there (inl (0, inr never))))
+          (λ s. serial-client-strangers plan valid serial is c x there (inl (0, s))) (serial_head 1 serial.rx_virt refl) serial_own
 
       serial_client_tx : Linking plan x.tx_queues x.pd serial.tx_virt
       serial_client_tx = linking plan x.tx_queues x.pd serial.tx_virt
-          (link-kept plan (serial_client_links serial x) 1 (x.pd, serial.tx_virt) (serial-client-channels plan valid serial is c x there) refl)
-          (right-kept plan (serial_client_rights serial x) 2 (x.pd, x.tx_queues, true) (serial-client-rights plan valid serial is c x there) refl)
-          (right-kept plan (serial_client_rights serial x) 3 (serial.tx_virt, x.tx_queues, true) (serial-client-rights plan valid serial is c x there) refl)
-          (λ s. serial-client-strangers plan valid serial is c x there (inr s)) serial_own (serial_head 2 serial.tx_virt refl)
+          (link-kept plan (x.pd, serial.tx_virt) (λ never. serial-client-channels plan valid serial is c x there (inl (1, never))))
+          (right-kept plan (x.pd, x.tx_queues, true) (λ never. serial-client-rights plan valid serial is c x there (inl (1, inl never))))
+          (right-kept plan (serial.tx_virt, x.tx_queues, true) (λ never. serial-client-rights plan valid serial is c x there (inl (1, inr never))))
+          (λ s. serial-client-strangers plan valid serial is c x there (inl (1, s))) serial_own (serial_head 2 serial.tx_virt refl)
 
       serial_client_linked : All (IsLinked plan) (serial_client_queues plan serial c x)
       unfolding serial_client_queues
@@ -265,10 +264,10 @@ module _ (plan : Plan) (valid : Valid plan) where
 
     shared : Linking plan blk.queues blk.virt blk.driver
     shared = linking plan blk.queues blk.virt blk.driver
-        (link-kept plan (blk_links blk) 0 (blk.virt, blk.driver) (λ s. blk-channels plan valid blk is (inl s)) refl)
-        (right-kept plan (blk_rights blk) 0 (blk.virt, blk.queues, true) (blk-rights plan valid blk is) refl)
-        (right-kept plan (blk_rights blk) 1 (blk.driver, blk.queues, true) (blk-rights plan valid blk is) refl)
-        (λ s. blk-strangers plan valid blk is (inl s)) (blk_head 1 blk.virt refl) (blk_head 0 blk.driver refl)
+        (link-kept plan (blk.virt, blk.driver) (λ never. blk-channels plan valid blk is (inl (2, never))))
+        (right-kept plan (blk.virt, blk.queues, true) (λ never. blk-rights plan valid blk is (inl (2, inl never))))
+        (right-kept plan (blk.driver, blk.queues, true) (λ never. blk-rights plan valid blk is (inl (2, inr never))))
+        (λ s. blk-strangers plan valid blk is (inl (2, s))) (blk_head 1 blk.virt refl) (blk_head 0 blk.driver refl)
 
     module _ (c : ℕ) (x : BlkClient) (there : slice_get blk.client c ≡ Some x) where
       blk_own : Acts plan x.pd
@@ -277,10 +276,10 @@ module _ (plan : Plan) (valid : Valid plan) where
 
       blk_client : Linking plan x.queues x.pd blk.virt
       blk_client = linking plan x.queues x.pd blk.virt
-          (link-kept plan (blk_client_links blk x) 0 (x.pd, blk.virt) (blk-client-channels plan valid blk is c x there) refl)
-          (right-kept plan (blk_client_rights blk x) 0 (x.pd, x.queues, true) (blk-client-rights plan valid blk is c x there) refl)
-          (right-kept plan (blk_client_rights blk x) 1 (blk.virt, x.queues, true) (blk-client-rights plan valid blk is c x there) refl)
-          (λ s. blk-client-strangers plan valid blk is c x there (inr s)) blk_own (blk_head 1 blk.virt refl)
+          (link-kept plan (x.pd, blk.virt) (λ never. blk-client-channels plan valid blk is c x there (inl (0, never))))
+          (right-kept plan (x.pd, x.queues, true) (λ never. blk-client-rights plan valid blk is c x there (inl (0, inl never))))
+          (right-kept plan (blk.virt, x.queues, true) (λ never. blk-client-rights plan valid blk is c x there (inl (0, inr never))))
+          (λ s. blk-client-strangers plan valid blk is c x there (inl (0, s))) blk_own (blk_head 1 blk.virt refl)
 
       blk_client_linked : All (IsLinked plan) (blk_client_queues plan blk c x)
       unfolding blk_client_queues

@@ -1,8 +1,8 @@
-use Rattle.std.proofs.Common.{◌≡◌, ℕ, suc, ◌+◌, ◌<◌, inl, inr, true, false, List, [], ◌∷◌, ◌++◌, length, map, Option, Some, None, slice_get, codes, refl, sym, ◌∙◌, subst, arith, add-zero}
+use Rattle.std.proofs.Common.{◌≡◌, ℕ, suc, ◌+◌, ◌<◌, inl, inr, true, false, List, [], ◌∷◌, ◌++◌, length, map, Option, Some, None, slice_get, codes, refl, sym, ap, ◌∙◌, subst, arith, add-zero}
 use Rattle.std.specs.List.{All, AllZip, Contains}
 use Rattle.std.specs.Option.{option_map_or}
 use Rattle.std.proofs.lemmas.List.{length-map}
-use Rattle.std.proofs.lemmas.List.Elements.{All-nil, All-cons, All-map, All-contains, All-weaker, Contains-append_left, Contains-append_right}
+use Rattle.std.proofs.lemmas.List.Elements.{All-nil, All-cons, All-append, All-map, All-contains, All-weaker, Contains-append_left, Contains-append_right}
 use Rattle.std.proofs.lemmas.Option.{slice_get-map}
 use Rattle.sdf_plan.specs.declared.plan.Plan.{Plan}
 use Rattle.sdf_plan.specs.declared.plan.Region.{Region}
@@ -11,9 +11,10 @@ use Rattle.sdf_plan.specs.declared.plan.Net.{Net}
 use Rattle.sdf_plan.specs.declared.plan.NetClient.{NetClient}
 use Rattle.sdf_plan.specs.declared.plan.Blk.{Blk}
 use Rattle.sdf_plan.specs.declared.plan.BlkClient.{BlkClient}
-use Rattle.sdf_check.specs.Names.{region_names, region_named, net_regions, net_client_regions, blk_regions, blk_client_regions}
+use Rattle.class_table.specs.declared.uses.Grant.{Grant}
+use Rattle.class_table.specs.Rows.{reads as granted_to_read}
+use Rattle.sdf_check.specs.Names.{region_names, region_named}
 use Rattle.sdf_check.specs.ClassRules.{IsGranted, HasStranger}
-use Rattle.sdf_check.specs.Shares.{net_rights, net_client_rights, blk_rights, blk_client_rights}
 use Rattle.sdf_check.specs.Valid.{Valid}
 use Rattle.sdf_check.proofs.SoughtLemmas.{here-some}
 use Rattle.sdf_check.proofs.SweepLemmas.{some-inj}
@@ -74,6 +75,11 @@ filled plan key writer others right fine = record {
   nobody_else = none-else plan key (writer ∷ others) fine;
 }
 
+-- the domains that must read the region of what is received
+granted-names : (clients : List NetClient) → map (λ (g : Grant (List ℕ)). g.domain) (map (λ (x : NetClient). granted_to_read x.copier) clients) ≡ map (λ (x : NetClient). x.copier) clients
+granted-names [] = refl
+granted-names (x ∷ rest) = ap (λ names. x.copier ∷ names) (granted-names rest)
+
 module _ (plan : Plan) (valid : Valid plan) where
   module _ (net : Net) (is : plan.net ≡ Some net) where
     abbrev copiers : List (List ℕ)
@@ -87,7 +93,14 @@ module _ (plan : Plan) (valid : Valid plan) where
         All-map (λ name. HoldsOf plan name (Reads net.rx_region)) (λ (c : NetClient). c.copier) net.client
         (all-each (λ (c : NetClient). HoldsOf plan c.copier (Reads net.rx_region)) net.client (λ k (c : NetClient) there.
         reads plan c.copier net.rx_region (not-false (IsGranted plan (c.copier, net.rx_region, false)) (granted plan (c.copier, net.rx_region, false))
-        (λ no. net-rights plan valid net is (inr (k, here-some (slice_get net.client k) c (λ (x : NetClient). IsGranted plan (x.copier, net.rx_region, false) → ⊥) there no))))))
+        (λ never. net-rights plan valid net is (inr (
+          0,
+          (
+            suc k,
+            here-some (slice_get (map (λ (x : NetClient). granted_to_read x.copier) net.client) k) (granted_to_read c.copier)
+                (λ (g : Grant (List ℕ)). IsGranted plan (g.domain, net.rx_region, g.writes) → ⊥) (slice_get-map (λ (x : NetClient). granted_to_read x.copier) net.client k ∙ rw there refl) never,
+          ),
+        ))))))
 
     reader : (name : List ℕ) → Contains (net.rx_virt ∷ copiers) name → Contains device_users name
     reader name there = Contains-append_left ((net.rx_virt ∷ copiers) ++ []) (net.driver ∷ []) name (Contains-append_left (net.rx_virt ∷ copiers) [] name there)
@@ -95,22 +108,24 @@ module _ (plan : Plan) (valid : Valid plan) where
     device_shared : IsSharedBy plan net.rx_region (net.rx_virt ∷ copiers) [] (net.driver ∷ [])
     device_shared = record {
       read = All-cons (λ name. HoldsOf plan name (Reads net.rx_region)) net.rx_virt copiers
-          (reads plan net.rx_virt net.rx_region (right-kept plan (net_rights net) 4 (net.rx_virt, net.rx_region, false) (λ s. net-rights plan valid net is (inl s)) refl)) copiers_read;
+          (reads plan net.rx_virt net.rx_region (right-kept plan (net.rx_virt, net.rx_region, false) (λ never. net-rights plan valid net is (inr (0, (0, never)))))) copiers_read;
       write = All-nil (λ name. HoldsOf plan name (Writes net.rx_region));
-      nobody_else = alone plan net.rx_region ((net.rx_virt ∷ net.driver ∷ []) ++ copiers) device_users (λ s. net-strangers plan valid net is (inl s))
-          (All-cons (Contains device_users) net.rx_virt (net.driver ∷ copiers) (reader net.rx_virt (contains-at (net.rx_virt ∷ copiers) 0 net.rx_virt refl))
-          (All-cons (Contains device_users) net.driver copiers (Contains-append_right ((net.rx_virt ∷ copiers) ++ []) (net.driver ∷ []) net.driver (contains-at (net.driver ∷ []) 0 net.driver refl))
-          (all-each (Contains device_users) copiers (λ k name at. reader name (contains-at (net.rx_virt ∷ copiers) (suc k) name at)))));
+      nobody_else = alone plan net.rx_region ((net.rx_virt ∷ copiers) ++ (net.driver ∷ [])) device_users
+          (λ s. net-strangers plan valid net is (inr (0, subst (λ ns. HasStranger plan net.rx_region ((net.rx_virt ∷ ns) ++ (net.driver ∷ []))) (sym (granted-names net.client)) s)))
+          (All-append (Contains device_users) (net.rx_virt ∷ copiers) (net.driver ∷ [])
+          (All-cons (Contains device_users) net.rx_virt copiers (reader net.rx_virt (contains-at (net.rx_virt ∷ copiers) 0 net.rx_virt refl))
+          (all-each (Contains device_users) copiers (λ k name at. reader name (contains-at (net.rx_virt ∷ copiers) (suc k) name at))))
+          (one-name (Contains device_users) net.driver (Contains-append_right ((net.rx_virt ∷ copiers) ++ []) (net.driver ∷ []) net.driver (contains-at (net.driver ∷ []) 0 net.driver refl))));
     }
 
     module _ (c : ℕ) (x : NetClient) (there : slice_get net.client c ≡ Some x) where
       received : IsSharedBy plan x.rx_region (x.pd ∷ []) (x.copier ∷ []) []
       received = record {
         read = one-name (λ name. HoldsOf plan name (Reads x.rx_region)) x.pd
-            (reads plan x.pd x.rx_region (right-kept plan (net_client_rights net x) 7 (x.pd, x.rx_region, false) (net-client-rights plan valid net is c x there) refl));
+            (reads plan x.pd x.rx_region (right-kept plan (x.pd, x.rx_region, false) (λ never. net-client-rights plan valid net is c x there (inr (0, (1, never))))));
         write = one-name (λ name. HoldsOf plan name (Writes x.rx_region)) x.copier
-            (writes plan x.copier x.rx_region (right-kept plan (net_client_rights net x) 6 (x.copier, x.rx_region, true) (net-client-rights plan valid net is c x there) refl));
-        nobody_else = alone plan x.rx_region (x.copier ∷ x.pd ∷ []) (x.pd ∷ x.copier ∷ []) (λ s. net-client-strangers plan valid net is c x there (inl (inr (inl s))))
+            (writes plan x.copier x.rx_region (right-kept plan (x.copier, x.rx_region, true) (λ never. net-client-rights plan valid net is c x there (inr (0, (0, never))))));
+        nobody_else = alone plan x.rx_region (x.copier ∷ x.pd ∷ []) (x.pd ∷ x.copier ∷ []) (λ s. net-client-strangers plan valid net is c x there (inr (0, s)))
             (All-cons (Contains (x.pd ∷ x.copier ∷ [])) x.copier (x.pd ∷ []) (contains-at (x.pd ∷ x.copier ∷ []) 1 x.copier refl)
             (one-name (Contains (x.pd ∷ x.copier ∷ [])) x.pd (contains-at (x.pd ∷ x.copier ∷ []) 0 x.pd refl)));
       }
@@ -118,15 +133,15 @@ module _ (plan : Plan) (valid : Valid plan) where
       to_send : IsSharedBy plan x.tx_region [] (x.pd ∷ []) (net.tx_virt ∷ net.driver ∷ [])
       to_send =
           filled plan x.tx_region x.pd (net.tx_virt ∷ net.driver ∷ [])
-          (right-kept plan (net_client_rights net x) 8 (x.pd, x.tx_region, true) (net-client-rights plan valid net is c x there) refl)
-          (λ s. net-client-strangers plan valid net is c x there (inr (inl s)))
+          (right-kept plan (x.pd, x.tx_region, true) (λ never. net-client-rights plan valid net is c x there (inr (1, (0, never)))))
+          (λ s. net-client-strangers plan valid net is c x there (inr (1, s)))
 
       client_reached : AllZip (IsReached plan) (net_client_pools plan c x) (net_client_users net c x)
       unfolding net_client_pools
       client_reached =
           let named = net_client_named plan net c x valid is there in
-          let rx = not-missed plan (net_client_regions x) 1 x.rx_region named refl in
-          let tx = not-missed plan (net_client_regions x) 3 x.tx_region named refl in (
+          let rx = not-missed plan x.rx_region (λ none. named (inr (0, none))) in
+          let tx = not-missed plan x.tx_region (λ none. named (inr (1, none))) in (
             reached plan x.rx_region (client_name (codes "net.") c (codes ".rx")) x.rx_buffers net_buffer rx.0 (x.pd ∷ []) (x.copier ∷ []) [] rx.1 received,
             (reached plan x.tx_region (client_name (codes "net.") c (codes ".tx")) x.tx_buffers net_buffer tx.0 [] (x.pd ∷ []) (net.tx_virt ∷ net.driver ∷ []) tx.1 to_send, tt),
           )
@@ -134,7 +149,7 @@ module _ (plan : Plan) (valid : Valid plan) where
     net_reached : AllZip (IsReached plan) (net_pools plan net) (net_users net)
     unfolding net_pools
     net_reached =
-        let rx = not-missed plan (net_regions net) 0 net.rx_region (net_named plan net valid is) refl in (
+        let rx = not-missed plan net.rx_region (λ none. (net_named plan net valid is) (inr (0, none))) in (
           reached plan net.rx_region (codes "net.rx") net.rx_buffers net_buffer rx.0 (net.rx_virt ∷ copiers) [] (net.driver ∷ []) rx.1 device_shared,
           zip-clients (IsReached plan) (net_client_pools plan) (net_client_users net) 0 net.client (λ k (x : NetClient) there.
               subst (λ n. AllZip (IsReached plan) (net_client_pools plan n x) (net_client_users net n x)) (let e : k ≡ 0 + k = omega arith in e) (client_reached k x there)),
@@ -144,21 +159,21 @@ module _ (plan : Plan) (valid : Valid plan) where
     blk_client_reached : (c : ℕ) (x : BlkClient) → slice_get blk.client c ≡ Some x → AllZip (IsReached plan) (blk_client_pools plan c x) (blk_client_users blk c x)
     unfolding blk_client_pools
     blk_client_reached c x there =
-        let named = not-missed plan (blk_client_regions x) 0 x.region (blk_client_named plan blk c x valid is there) refl in (
+        let named = not-missed plan x.region (λ none. (blk_client_named plan blk c x valid is there) (inr (0, none))) in (
           reached plan x.region (client_name (codes "blk.") c []) x.buffers blk_buffer named.0 [] (x.pd ∷ []) (blk.virt ∷ blk.driver ∷ []) named.1
               (filled plan x.region x.pd (blk.virt ∷ blk.driver ∷ [])
-              (right-kept plan (blk_client_rights blk x) 2 (x.pd, x.region, true) (blk-client-rights plan valid blk is c x there) refl)
-              (λ s. blk-client-strangers plan valid blk is c x there (inl s))),
+              (right-kept plan (x.pd, x.region, true) (λ never. blk-client-rights plan valid blk is c x there (inr (0, (0, never)))))
+              (λ s. blk-client-strangers plan valid blk is c x there (inr (0, s)))),
           tt,
         )
 
     blk_reached : AllZip (IsReached plan) (blk_pools plan blk) (blk_users blk)
     unfolding blk_pools
     blk_reached =
-        let named = not-missed plan (blk_regions blk) 1 blk.region (blk_named plan blk valid is) refl in (
+        let named = not-missed plan blk.region (λ none. (blk_named plan blk valid is) (inr (0, none))) in (
           reached plan blk.region (codes "blk") 1 blk_buffer named.0 [] (blk.virt ∷ []) (blk.driver ∷ []) named.1
               (filled plan blk.region blk.virt (blk.driver ∷ [])
-              (right-kept plan (blk_rights blk) 2 (blk.virt, blk.region, true) (blk-rights plan valid blk is) refl) (λ s. blk-strangers plan valid blk is (inr s))),
+              (right-kept plan (blk.virt, blk.region, true) (λ never. blk-rights plan valid blk is (inr (0, (0, never))))) (λ s. blk-strangers plan valid blk is (inr (0, s)))),
           zip-clients (IsReached plan) (blk_client_pools plan) (blk_client_users blk) 0 blk.client (λ k (x : BlkClient) there.
               subst (λ n. AllZip (IsReached plan) (blk_client_pools plan n x) (blk_client_users blk n x)) (let e : k ≡ 0 + k = omega arith in e) (blk_client_reached k x there)),
         )

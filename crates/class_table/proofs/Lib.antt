@@ -1,2 +1,3 @@
+pub mod At
 pub mod Numbered
 pub mod Whole

@@ -14,7 +14,8 @@ IsProgramOf For.NetClient program =
 IsProgramOf For.SerialDriver program = program ≡ codes "uart_driver"
 IsProgramOf For.SerialRxVirt program = program ≡ codes "serial_virt_rx"
 IsProgramOf For.SerialTxVirt program = program ≡ codes "serial_virt_tx"
-IsProgramOf For.SerialClient program = (program ≡ codes "serial_reader") ⊎ (program ≡ codes "serial_speaker")
+IsProgramOf For.SerialClient program =
+    (program ≡ codes "serial_reader") ⊎ (program ≡ codes "serial_speaker")
 IsProgramOf For.BlkDriver program = program ≡ codes "blk_driver"
 IsProgramOf For.BlkVirt program = program ≡ codes "blk_virt"
 IsProgramOf For.BlkClient program = program ≡ codes "blk_script"

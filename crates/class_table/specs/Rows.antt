@@ -49,12 +49,26 @@ across region from to = Way.Across (record { region = region; from = from; to = 
 -- a row of the table of queues
 abbrev pub queue : UseName Name → QueueKind → Ends Name → ℕ → ℕ → QueueUse Name
 queue name kind ends capacity holds =
-    record { name = name; kind = kind; ends = ends; behind = None; capacity = capacity; holds = holds }
+    record {
+      name = name;
+      kind = kind;
+      ends = ends;
+      behind = None;
+      capacity = capacity;
+      holds = holds;
+    }
 
 -- the row of a queue that stands behind one of a kind in its region
 abbrev pub queue_behind : QueueKind → UseName Name → QueueKind → Ends Name → ℕ → ℕ → QueueUse Name
 queue_behind first name kind ends capacity holds =
-    record { name = name; kind = kind; ends = ends; behind = Some first; capacity = capacity; holds = holds }
+    record {
+      name = name;
+      kind = kind;
+      ends = ends;
+      behind = Some first;
+      capacity = capacity;
+      holds = holds;
+    }
 
 -- a domain must map a region to read it, or to write it as well
 abbrev pub reads : Name → Grant Name
@@ -115,11 +129,13 @@ net_client_roles client = plays client.pd For.NetClient ∷ plays client.copier 
 
 abbrev pub net_client_queues : Net → ℕ → NetClient → List (QueueUse Name)
 net_client_queues net c client =
-    queue (of_net c (codes ".lease.active")) Kind.Net (across client.lease_queues net.rx_virt client.copier)
+    queue (of_net c (codes ".lease.active")) Kind.Net
+    (across client.lease_queues net.rx_virt client.copier)
     net.rx_capacity net.rx_buffers
     ∷ queue_behind Kind.Net (of_net c (codes ".lease.free")) Kind.Net
     (across client.lease_queues client.copier net.rx_virt) net.rx_capacity net.rx_buffers
-    ∷ queue (of_net c (codes ".rx.active")) Kind.Net (across client.rx_queues client.copier client.pd)
+    ∷ queue (of_net c (codes ".rx.active")) Kind.Net
+    (across client.rx_queues client.copier client.pd)
     client.rx_capacity client.rx_buffers
     ∷ queue_behind Kind.Net (of_net c (codes ".rx.free")) Kind.Net
     (across client.rx_queues client.pd client.copier) client.rx_capacity client.rx_buffers
@@ -152,9 +168,11 @@ abbrev pub serial_queues : Serial → List (QueueUse Name)
 serial_queues serial =
     queue (whole (codes "uart.rx")) Kind.Byte (Way.FromDevice serial.driver) serial.rx_capacity 0
     ∷ queue (whole (codes "uart.tx")) Kind.Byte (Way.ToDevice serial.driver) serial.tx_capacity 0
-    ∷ queue (whole (codes "serial.rx")) Kind.Byte (across serial.rx_queues serial.driver serial.rx_virt)
+    ∷ queue (whole (codes "serial.rx")) Kind.Byte
+    (across serial.rx_queues serial.driver serial.rx_virt)
     serial.rx_capacity 0
-    ∷ queue (whole (codes "serial.tx")) Kind.Byte (across serial.tx_queues serial.tx_virt serial.driver)
+    ∷ queue (whole (codes "serial.tx")) Kind.Byte
+    (across serial.tx_queues serial.tx_virt serial.driver)
     serial.tx_capacity 0 ∷ []
 
 -- a client of the serial class
@@ -184,7 +202,8 @@ blk_queues blk =
     (across blk.queues blk.driver blk.virt) blk.capacity (length blk.client) ∷ []
 
 abbrev pub blk_pools : Blk → List (PoolUse Name)
-blk_pools blk = pool (whole (codes "blk")) blk.region 1 blk_buffer (writes blk.virt ∷ []) (blk.driver ∷ []) ∷ []
+blk_pools blk = pool (whole (codes "blk")) blk.region 1 blk_buffer (writes blk.virt ∷ [])
+    (blk.driver ∷ []) ∷ []
 
 -- a client of the block class
 abbrev pub blk_client_roles : BlkClient → List (RoleUse Name)

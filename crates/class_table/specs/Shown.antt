@@ -1,6 +1,7 @@
 -- What the rows of the program show, whose texts stand behind references: the rows of the table.
-use Rattle.std.specs.Prelude.{ℕ, List, map}
-use Rattle.std.specs.Option.{option_map}
+use Rattle.std.specs.Prelude.{◌≡◌, ℕ, List, [], map}
+use Rattle.std.specs.Option.{option_map, option_map_or}
+use Rattle.sdf_plan.specs.declared.plan.Plan.{Plan}
 use denote.Ref.{Bor}
 use Rattle.class_table.specs.declared.uses.UseName.{UseName}
 use Rattle.class_table.specs.declared.uses.Link.{Link}
@@ -11,8 +12,9 @@ use Rattle.class_table.specs.declared.uses.QueueUse.{QueueUse}
 use Rattle.class_table.specs.declared.uses.Grant.{Grant}
 use Rattle.class_table.specs.declared.uses.PoolUse.{PoolUse}
 use Rattle.class_table.specs.declared.uses.ClassElement.{ClassElement}
+use Rattle.class_table.specs.declared.classes.Classes.{Classes}
 use Rattle.class_table.specs.Rows.{Name}
-use Rattle.class_table.specs.Table.{Element}
+use Rattle.class_table.specs.Table.{Element, net_elements, serial_elements, blk_elements}
 
 -- a text behind a reference
 abbrev pub Shelved : Type 0
@@ -66,3 +68,9 @@ element_shown e = record {
   queues = map queue_shown e.queues;
   pools = map pool_shown e.pools;
 }
+
+-- the elements of the classes are those of the table of a plan
+pub record AreClasses (classes : Classes) (plan : Plan) : Type 0 where
+  pub net : map element_shown classes.net ≡ option_map_or net_elements plan.net []
+  pub serial : map element_shown classes.serial ≡ option_map_or serial_elements plan.serial []
+  pub blk : map element_shown classes.blk ≡ option_map_or blk_elements plan.blk []

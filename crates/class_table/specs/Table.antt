@@ -82,7 +82,8 @@ abbrev pub net_elements : Net → List Element
 net_elements net = net_element net ∷ numbered (net_client_element net) 0 net.client
 
 abbrev pub serial_elements : Serial → List Element
-serial_elements serial = serial_element serial ∷ numbered (serial_client_element serial) 0 serial.client
+serial_elements serial = serial_element serial
+    ∷ numbered (serial_client_element serial) 0 serial.client
 
 abbrev pub blk_elements : Blk → List Element
 blk_elements blk = blk_element blk ∷ numbered (blk_client_element blk) 0 blk.client
@@ -113,8 +114,10 @@ OfElement plan _ P = ⊥
 abbrev pub class_part : Plan → List Place
 class_part plan =
     class_places At.Net (λ c. At.NetClient c) (option_map (λ (x : Net). length x.client) plan.net)
-    ++ class_places At.Serial (λ c. At.SerialClient c) (option_map (λ (x : Serial). length x.client) plan.serial)
-    ++ class_places At.Blk (λ c. At.BlkClient c) (option_map (λ (x : Blk). length x.client) plan.blk)
+    ++ class_places At.Serial (λ c. At.SerialClient c)
+    (option_map (λ (x : Serial). length x.client) plan.serial)
+    ++ class_places At.Blk (λ c. At.BlkClient c)
+    (option_map (λ (x : Blk). length x.client) plan.blk)
 
 -- so many roles, queues and pools
 pub record HasRows (e : Element) (a b c : ℕ) : Type 0 where

@@ -1,5 +1,5 @@
-//! That the table is whole: its places are those of the walk, and each element has as many roles, queues and
-//! pools as the tables of queues and pools give it.
+//! That the table is whole: its places are those of the walk, and each element has as many roles,
+//! queues and pools as the tables of queues and pools give it.
 ghost use Rattle.std.specs.Prelude.{◌≡◌, ◌++◌, ℕ, List, map};
 ghost use Rattle.sdf_plan.specs.declared.place.Place.{Place};
 ghost use Rattle.sdf_plan.specs.declared.plan.Plan.{Plan};
@@ -13,9 +13,10 @@ ghost use Rattle.sdf_plan.specs.Places.{walk};
 ghost use Rattle.sdf_plan.specs.Elements.{outline_of};
 ghost use Rattle.class_table.specs.Table.{Element, table_of, class_part, HasRows, net_element, net_client_element, serial_element, serial_client_element, blk_element, blk_client_element};
 
-/// The places of the table of a plan are the class part of the walk over it, with which the walk ends. The network class has 3 roles, 8 queues
-/// and 1 pool, and each of its clients 2, 6 and 2; the serial class 3, 4 and none, and a client 1, 2 and none; the
-/// block class 2, 4 and 1, and a client 1, 2 and 1.
+/// The places of the table of a plan are the class part of the walk over it, with which the walk
+/// ends. The network class has 3 roles, 8 queues and 1 pool, and each of its clients 2, 6 and 2;
+/// the serial class 3, 4 and none, and a client 1, 2 and none; the block class 2, 4 and 1, and a
+/// client 1, 2 and 1.
 pub fn table_law()
     ensures places { (plan : Plan) → map (λ (e : Element). e.place) (table_of plan)
         ≡ class_part plan }

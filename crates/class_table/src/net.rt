@@ -67,7 +67,8 @@ fn queues<'a>(alloc: Global, net: &'a Net) -> Result<Vec<QueueUse<&'a str>>, Mem
     Ok(queues)
 }
 
-/// Who must map the region of the buffers that the device fills: the receiving virtualiser and every copier.
+/// Who must map the region of the buffers that the device fills: the receiving virtualiser and
+/// every copier.
 fn receivers<'a>(
     alloc: Global,
     rx_virt: &'a str,

@@ -74,7 +74,8 @@ pub fn queue_behind<'a>(
     holds: u128,
 ) -> QueueUse<&'a str>
     ensures { queue_shown result
-        ≡ queue_behind first (use_name_shown name.entry) kind (ends_shown ends.entry) capacity holds }
+        ≡ queue_behind first (use_name_shown name.entry) kind
+        (ends_shown ends.entry) capacity holds }
 {
     QueueUse {
         name,

@@ -2,28 +2,34 @@
 ghost use Rattle.std.specs.Prelude.{◌≡◌, ◌<◌, ◌^◌, ◌++◌, [], length, map, IfOk, IfSome, OnOk};
 ghost use Rattle.std.specs.Option.{option_map_or};
 ghost use Rattle.sdf_plan.specs.Elements.{IsNumbered};
-ghost use Rattle.class_table.specs.Shown.{element_shown};
-ghost use Rattle.class_table.specs.Table.{table_of, net_elements, serial_elements, blk_elements, numbered, net_client_element, serial_client_element, blk_client_element};
+ghost use Rattle.class_table.specs.Shown.{element_shown, AreClasses};
+ghost use Rattle.class_table.specs.Table.{net_elements, serial_elements, blk_elements, numbered, net_client_element, serial_client_element, blk_client_element};
 
 use crate::blk::{blk_client_element, blk_element};
+use crate::classes::Classes;
 use crate::net::{net_client_element, net_element};
 use crate::serial::{serial_client_element, serial_element};
 use crate::uses::ClassElement;
-use cargo_core::Memory;
+use cargo_core::{Memory, Series};
 use sdf_plan::{Blk, BlkClient, Net, NetClient, Plan, Serial, SerialClient};
 use std::alloc::Global;
 
 /// The elements of the classes of a plan, in the order of the walk. Their texts are the plan's.
-#[tactic(auto, using(std::proofs::Common::append_assoc), unfolding(crate::specs::Table::table_of))]
-pub fn table_of<'a>(alloc: Global, plan: &'a Plan) -> Result<Vec<ClassElement<&'a str>>, Memory>
+pub fn classes_of<'a>(alloc: Global, plan: &'a Plan) -> Result<Classes<'a>, Memory>
     requires { IsNumbered plan.now }
-    ensures { IfOk result (λ table. map element_shown table.items ≡ table_of plan.now) }
+    ensures { IfOk result (λ classes. AreClasses classes plan.now) }
 {
-    let mut table = Vec::new(alloc);
-    add_net(alloc, &mut table, &plan.net)?;
-    add_serial(alloc, &mut table, &plan.serial)?;
-    add_blk(alloc, &mut table, &plan.blk)?;
-    Ok(table)
+    let mut net = Vec::new(alloc);
+    add_net(alloc, &mut net, &plan.net)?;
+    let mut serial = Vec::new(alloc);
+    add_serial(alloc, &mut serial, &plan.serial)?;
+    let mut blk = Vec::new(alloc);
+    add_blk(alloc, &mut blk, &plan.blk)?;
+    Ok(Classes {
+        net: Series::from_vec(net),
+        serial: Series::from_vec(serial),
+        blk: Series::from_vec(blk),
+    })
 }
 
 fn add_net<'a>(
@@ -52,7 +58,8 @@ fn add_net_clients<'a>(
     requires { length clients.now < 2 ^ 32 }
     ensures { OnOk result
         (map element_shown table.new.items
-        ≡ map element_shown table.old.items ++ numbered (net_client_element net.now) 0 clients.now) }
+        ≡ map element_shown table.old.items
+        ++ numbered (net_client_element net.now) 0 clients.now) }
 {
     for (at, client) in clients.iter().enumerate() {
         let number = at as u32;
@@ -87,7 +94,8 @@ fn add_serial_clients<'a>(
     requires { length clients.now < 2 ^ 32 }
     ensures { OnOk result
         (map element_shown table.new.items
-        ≡ map element_shown table.old.items ++ numbered (serial_client_element serial.now) 0 clients.now) }
+        ≡ map element_shown table.old.items
+        ++ numbered (serial_client_element serial.now) 0 clients.now) }
 {
     for (at, client) in clients.iter().enumerate() {
         let number = at as u32;
@@ -122,7 +130,8 @@ fn add_blk_clients<'a>(
     requires { length clients.now < 2 ^ 32 }
     ensures { OnOk result
         (map element_shown table.new.items
-        ≡ map element_shown table.old.items ++ numbered (blk_client_element blk.now) 0 clients.now) }
+        ≡ map element_shown table.old.items
+        ++ numbered (blk_client_element blk.now) 0 clients.now) }
 {
     for (at, client) in clients.iter().enumerate() {
         let number = at as u32;

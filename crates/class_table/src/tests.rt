@@ -1,7 +1,8 @@
-//! The table of a plan with the serial class alone, row by row against the tables of queues and pools.
+//! The table of a plan with the serial class alone, row by row against the tables of queues and
+//! pools.
 ghost use Rattle.sdf_plan.specs.Elements.{IsNumbered};
 
-use super::{Ends, QueueUse, table_of};
+use super::{Ends, QueueUse, classes_of};
 use cargo_core::{QueueKind, Series, Text};
 use sdf_plan::{Place, Plan, Serial, SerialClient};
 use std::alloc::Global;
@@ -64,15 +65,15 @@ fn goes(queue: Option<&QueueUse<&str>>, region: &str, from: &str, to: &str, capa
 #[test]
 fn serial_queues_go_where_the_tables_say(rt: HostRuntime) {
     let plan = plan(&rt, rt.alloc());
-    let table = table_of(rt.alloc(), &plan).expect(&rt, "memory");
-    assert!(&rt; table.len() == 2);
-    let class = &table[0];
+    let classes = classes_of(rt.alloc(), &plan).expect(&rt, "memory");
+    assert!(&rt; classes.serial.len() == 2 && classes.net.is_empty() && classes.blk.is_empty());
+    let class = classes.serial.get(0);
     assert!(&rt; class.place == Place::Serial);
     assert!(&rt; class.driver == Some("uart"));
     assert!(&rt; class.roles.len() == 3 && class.queues.len() == 4 && class.pools.is_empty());
     assert!(&rt; goes(class.queues.as_slice().get(2), "rxq", "uart", "ser_rx", 16));
     assert!(&rt; goes(class.queues.as_slice().get(3), "txq", "ser_tx", "uart", 64));
-    let client = &table[1];
+    let client = classes.serial.get(1);
     assert!(&rt; client.place == Place::SerialClient(0));
     assert!(&rt;
         goes(

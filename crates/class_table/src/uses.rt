@@ -82,7 +82,8 @@ pub struct ClassElement<T> {
     pub place: Place,
     /// The domains that it names, with their roles, in the order of its keys.
     pub roles: Series<RoleUse<T>>,
-    /// The domain that drives the device, which needs an interrupt: of a class, and not of a client.
+    /// The domain that drives the device, which needs an interrupt: of a class, and not of a
+    /// client.
     pub driver: Option<T>,
     /// Its queues, in the order of their numbers.
     pub queues: Series<QueueUse<T>>,

@@ -13,7 +13,7 @@ use Rattle.sdf_plan.specs.declared.plan.Serial.{Serial}
 use Rattle.sdf_plan.specs.declared.plan.Blk.{Blk}
 use Rattle.sdf_plan.specs.Elements.{outline_of}
 use Rattle.sdf_check.specs.ClassRules.{IsClientCount, IsBufferCount}
-use Rattle.sdf_check.specs.Valid.{Valid, broken}
+use Rattle.sdf_check.specs.Valid.{Valid, BreaksAtPlace}
 use Rattle.sdf_check.proofs.ListLemmas.{get-left, get-right}
 use Rattle.sdf_check.proofs.SoughtLemmas.{here-some}
 use Rattle.trace_text.specs.declared.trace.Trace.{Trace}
@@ -62,8 +62,8 @@ in_blk : (o : Outline) (place : Place) → IsIn place (class_places At.Blk (λ c
 in_blk o place there = in_right place (to_serial o) (class_places At.Blk (λ c. At.BlkClient c) o.blk) there
 
 -- no element of a valid plan passes a limit
-kept : (plan : Plan) (place : Place) → Valid plan → IsIn place (walk (outline_of plan)) → broken plan 30 place → ⊥
-kept plan place valid there bad = valid 30 (omega arith) (omega arith) there.0 place there.1 bad
+kept : (plan : Plan) (place : Place) → Valid plan → IsIn place (walk (outline_of plan)) → BreaksAtPlace plan 30 place → ⊥
+kept plan place valid there bad = valid 30 (omega arith) (omega arith) there.0 place there.1 (inl bad)
 
 not_above : (a b : ℕ) → (a < b → ⊥) → b ≤ a
 not_above a b past = ⊎_elim (λ (less : a < b). absurd (past less)) (λ (most : b ≤ a). most) (cases_lt a b)

@@ -15,19 +15,21 @@ use Rattle.sdf_plan.specs.declared.plan.Serial.{Serial}
 use Rattle.sdf_plan.specs.declared.plan.SerialClient.{SerialClient}
 use Rattle.sdf_plan.specs.declared.plan.Blk.{Blk}
 use Rattle.sdf_plan.specs.declared.plan.BlkClient.{BlkClient}
-use Rattle.sdf_check.specs.declared.role.Role.{Role}
-use Rattle.sdf_check.specs.declared.role.Role.TheVariants as For
+use Rattle.class_table.specs.declared.role.Role.{Role}
+use Rattle.class_table.specs.declared.role.Role.TheVariants as For
 use Rattle.sdf_check.specs.Names.{place_of, domain_names, domain_named, net_domains, net_client_domains, serial_domains, serial_client_domains, blk_domains, blk_client_domains}
-use Rattle.sdf_check.specs.Roles.{IsProgramOf, net_roles, net_client_roles, serial_roles, serial_client_roles, blk_roles, blk_client_roles}
-use Rattle.sdf_check.specs.ClassRules.{class_domains, net_names, serial_names, blk_names, the_domain, Plays, GivesWrongRole}
+use Rattle.class_table.specs.Roles.{IsProgramOf}
+use Rattle.class_table.specs.Rows.{plays}
+use Rattle.class_table.specs.Table.{Element, net_element, net_client_element, serial_element, serial_client_element, blk_element, blk_client_element}
+use Rattle.sdf_check.specs.ClassRules.{class_domains, net_names, serial_names, blk_names, the_domain, Plays}
 use Rattle.sdf_check.specs.Valid.{Valid}
 use Rattle.sdf_check.proofs.ListLemmas.{get-left}
 use Rattle.sdf_check.proofs.NamedLemmas.{named-none}
 use Rattle.sdf_check.proofs.SoughtLemmas.{here-some, some-here, none-here}
 use Rattle.sdf_check.proofs.SweepLemmas.{some-inj}
 use Rattle.region_layout.specs.Rows.{acts, devices_of, actors_of, actor_named, acting_count}
-use Rattle.region_layout.proofs.WalkLemmas.{IsIn, kept, net_walked, net_client_walked, serial_walked, serial_client_walked, blk_walked, blk_client_walked}
-use Rattle.region_layout.proofs.ValidLemmas.{not_of, not_of_part}
+use Rattle.region_layout.proofs.KeptLemmas.{net_keeps, net_client_keeps, serial_keeps, serial_client_keeps, blk_keeps, blk_client_keeps}
+use Rattle.region_layout.proofs.WalkLemmas.{IsIn}
 use Rattle.layout_laws.specs.Sound.{IsActor}
 use Rattle.std.proofs.lemmas.List.{length-map}
 use Rattle.layout_laws.proofs.Lists.{option_cases, get-below, all-names, all-class}
@@ -88,30 +90,26 @@ not-false true h = refl
 not-false false h = cc
 
 acts-or-plays-nothing : (plan : Plan) (name : List ℕ) (role : Role) (d : ℕ) (domain : Domain) → domain_named plan name ≡ Some d → slice_get plan.protection_domain d ≡ Some domain
-    → ((Plays plan (name, role) → ⊥) → ⊥) → (b : Bool) → acts domain ≡ b → IsIn name (acting_names plan.protection_domain)
-acts-or-plays-nothing plan name role d domain named at plays true is =
+    → ((Plays plan (plays name role) → ⊥) → ⊥) → (b : Bool) → acts domain ≡ b → IsIn name (acting_names plan.protection_domain)
+acts-or-plays-nothing plan name role d domain named at never true is =
     let got : slice_get (domain_names plan) d ≡ Some name = (found-at name (domain_names plan) d named).1 in
     let own : slice_get (domain_names plan) d ≡ Some domain.name = slice_get-map (λ (x : Domain). x.name) plan.protection_domain d ∙ rw at refl in
     let same : domain.name ≡ name = some-inj (sym own ∙ got) in
     subst (λ n. IsIn n (acting_names plan.protection_domain)) same (acting-there plan.protection_domain d domain at is)
-acts-or-plays-nothing plan name role d domain named at plays false is =
+acts-or-plays-nothing plan name role d domain named at never false is =
     let the : the_domain plan name ≡ Some domain = ap (option_and_then (λ k. slice_get plan.protection_domain k)) named ∙ at in
     let idle : domain.program ≡ codes "idle" = (bytes_eq-Decides domain.program (codes "idle")).0 (not-false (bytes_eq domain.program (codes "idle")) is) in
-    absurd (plays (λ p. idle_plays_nothing role (subst (IsProgramOf role) idle (some-here (the_domain plan name) domain (λ (x : Domain). IsProgramOf role x.program) the p))))
+    absurd (never (λ p. idle_plays_nothing role (subst (IsProgramOf role) idle (some-here (the_domain plan name) domain (λ (x : Domain). IsProgramOf role x.program) the p))))
 
 -- a name whose domain can't fail to play a role is that of an actor
-role-acts : (plan : Plan) (name : List ℕ) (role : Role) → ((Plays plan (name, role) → ⊥) → ⊥) → IsActor plan name
-role-acts plan name role plays = elim (option_cases (domain_named plan name)) [
-  | inl none ↦ absurd (plays (λ p. none-here (the_domain plan name) (λ (x : Domain). IsProgramOf role x.program) (ap (option_and_then (λ d. slice_get plan.protection_domain d)) none) p))
+role-acts : (plan : Plan) (name : List ℕ) (role : Role) → ((Plays plan (plays name role) → ⊥) → ⊥) → IsActor plan name
+role-acts plan name role never = elim (option_cases (domain_named plan name)) [
+  | inl none ↦ absurd (never (λ p. none-here (the_domain plan name) (λ (x : Domain). IsProgramOf role x.program) (ap (option_and_then (λ d. slice_get plan.protection_domain d)) none) p))
   | inr some ↦ elim (option_cases (slice_get plan.protection_domain some.0)) [
-    | inl none ↦ absurd (plays (λ p. none-here (the_domain plan name) (λ (x : Domain). IsProgramOf role x.program) (ap (option_and_then (λ d. slice_get plan.protection_domain d)) some.1 ∙ none) p))
-    | inr domain ↦ number-there plan name (acts-or-plays-nothing plan name role some.0 domain.0 some.1 domain.1 plays (acts domain.0) refl)
+    | inl none ↦ absurd (never (λ p. none-here (the_domain plan name) (λ (x : Domain). IsProgramOf role x.program) (ap (option_and_then (λ d. slice_get plan.protection_domain d)) some.1 ∙ none) p))
+    | inr domain ↦ number-there plan name (acts-or-plays-nothing plan name role some.0 domain.0 some.1 domain.1 never (acts domain.0) refl)
   ]
 ]
-
-role-of : (plan : Plan) (place : Place) (roles : List (List ℕ × Role)) (k : ℕ) (role : List ℕ × Role) → (GivesWrongRole plan place roles → ⊥) → slice_get roles k ≡ Some role → IsActor plan role.0
-role-of plan place roles k role fine there =
-    role-acts plan role.0 role.1 (λ never. fine (inl (k, here-some (slice_get roles k) role (λ r. Plays plan r → ⊥) there never)))
 
 one : (plan : Plan) (a : List ℕ) → IsActor plan a → All (IsActor plan) (a ∷ [])
 one plan a x = All-cons (IsActor plan) a [] x (All-nil (IsActor plan))
@@ -124,38 +122,35 @@ three plan a b c x y z = All-cons (IsActor plan) a (b ∷ c ∷ []) x (two plan 
 
 net_acts : (plan : Plan) → Valid plan → (net : Net) → plan.net ≡ Some net → All (IsActor plan) (net_domains net ++ flat_map net_client_domains net.client)
 net_acts plan valid net is =
-    let fine = not_of plan.net net (λ (x : Net). GivesWrongRole plan At.Net (net_roles x)) is (kept plan 21 At.Net valid (omega arith) (omega arith) (net_walked plan net is)) in
+    let fine = net_keeps plan 21 valid (omega arith) (omega arith) net is in
     All-append (IsActor plan) (net_domains net) (flat_map net_client_domains net.client)
     (three plan net.driver net.rx_virt net.tx_virt
-    (role-of plan At.Net (net_roles net) 0 (net.driver, For.NetDriver) fine refl) (role-of plan At.Net (net_roles net) 1 (net.rx_virt, For.NetRxVirt) fine refl)
-    (role-of plan At.Net (net_roles net) 2 (net.tx_virt, For.NetTxVirt) fine refl))
+    (role-acts plan net.driver For.NetDriver (λ never. fine (0, never))) (role-acts plan net.rx_virt For.NetRxVirt (λ never. fine (1, never)))
+    (role-acts plan net.tx_virt For.NetTxVirt (λ never. fine (2, never))))
     (all-names (IsActor plan) net_client_domains net.client (λ c client there.
-    let good = not_of_part plan.net net (λ (x : Net). x.client) c client (λ (x : NetClient). GivesWrongRole plan (At.NetClient c) (net_client_roles x)) is there
-    (kept plan 21 (At.NetClient c) valid (omega arith) (omega arith) (net_client_walked plan net c is (slice_get_within net.client c client there))) in
-    two plan client.pd client.copier (role-of plan (At.NetClient c) (net_client_roles client) 0 (client.pd, For.NetClient) good refl)
-    (role-of plan (At.NetClient c) (net_client_roles client) 1 (client.copier, For.NetCopier) good refl)))
+    let good = net_client_keeps plan 21 valid (omega arith) (omega arith) net c client is there in
+    two plan client.pd client.copier (role-acts plan client.pd For.NetClient (λ never. good (0, never)))
+    (role-acts plan client.copier For.NetCopier (λ never. good (1, never)))))
 
 serial_acts : (plan : Plan) → Valid plan → (serial : Serial) → plan.serial ≡ Some serial → All (IsActor plan) (serial_domains serial ++ flat_map serial_client_domains serial.client)
 serial_acts plan valid serial is =
-    let fine = not_of plan.serial serial (λ (x : Serial). GivesWrongRole plan At.Serial (serial_roles x)) is (kept plan 21 At.Serial valid (omega arith) (omega arith) (serial_walked plan serial is)) in
+    let fine = serial_keeps plan 21 valid (omega arith) (omega arith) serial is in
     All-append (IsActor plan) (serial_domains serial) (flat_map serial_client_domains serial.client)
     (three plan serial.driver serial.rx_virt serial.tx_virt
-    (role-of plan At.Serial (serial_roles serial) 0 (serial.driver, For.SerialDriver) fine refl) (role-of plan At.Serial (serial_roles serial) 1 (serial.rx_virt, For.SerialRxVirt) fine refl)
-    (role-of plan At.Serial (serial_roles serial) 2 (serial.tx_virt, For.SerialTxVirt) fine refl))
+    (role-acts plan serial.driver For.SerialDriver (λ never. fine (0, never))) (role-acts plan serial.rx_virt For.SerialRxVirt (λ never. fine (1, never)))
+    (role-acts plan serial.tx_virt For.SerialTxVirt (λ never. fine (2, never))))
     (all-names (IsActor plan) serial_client_domains serial.client (λ c client there.
-    let good = not_of_part plan.serial serial (λ (x : Serial). x.client) c client (λ (x : SerialClient). GivesWrongRole plan (At.SerialClient c) (serial_client_roles x)) is there
-    (kept plan 21 (At.SerialClient c) valid (omega arith) (omega arith) (serial_client_walked plan serial c is (slice_get_within serial.client c client there))) in
-    one plan client.pd (role-of plan (At.SerialClient c) (serial_client_roles client) 0 (client.pd, For.SerialClient) good refl)))
+    let good = serial_client_keeps plan 21 valid (omega arith) (omega arith) serial c client is there in
+    one plan client.pd (role-acts plan client.pd For.SerialClient (λ never. good (0, never)))))
 
 blk_acts : (plan : Plan) → Valid plan → (blk : Blk) → plan.blk ≡ Some blk → All (IsActor plan) (blk_domains blk ++ flat_map blk_client_domains blk.client)
 blk_acts plan valid blk is =
-    let fine = not_of plan.blk blk (λ (x : Blk). GivesWrongRole plan At.Blk (blk_roles x)) is (kept plan 21 At.Blk valid (omega arith) (omega arith) (blk_walked plan blk is)) in
+    let fine = blk_keeps plan 21 valid (omega arith) (omega arith) blk is in
     All-append (IsActor plan) (blk_domains blk) (flat_map blk_client_domains blk.client)
-    (two plan blk.driver blk.virt (role-of plan At.Blk (blk_roles blk) 0 (blk.driver, For.BlkDriver) fine refl) (role-of plan At.Blk (blk_roles blk) 1 (blk.virt, For.BlkVirt) fine refl))
+    (two plan blk.driver blk.virt (role-acts plan blk.driver For.BlkDriver (λ never. fine (0, never))) (role-acts plan blk.virt For.BlkVirt (λ never. fine (1, never))))
     (all-names (IsActor plan) blk_client_domains blk.client (λ c client there.
-    let good = not_of_part plan.blk blk (λ (x : Blk). x.client) c client (λ (x : BlkClient). GivesWrongRole plan (At.BlkClient c) (blk_client_roles x)) is there
-    (kept plan 21 (At.BlkClient c) valid (omega arith) (omega arith) (blk_client_walked plan blk c is (slice_get_within blk.client c client there))) in
-    one plan client.pd (role-of plan (At.BlkClient c) (blk_client_roles client) 0 (client.pd, For.BlkClient) good refl)))
+    let good = blk_client_keeps plan 21 valid (omega arith) (omega arith) blk c client is there in
+    one plan client.pd (role-acts plan client.pd For.BlkClient (λ never. good (0, never)))))
 
 -- each domain that a class element of a valid plan names
 pub class_acts : (plan : Plan) → Valid plan → All (IsActor plan) (class_domains plan)

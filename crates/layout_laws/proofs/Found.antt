@@ -10,7 +10,7 @@ use Rattle.sdf_plan.specs.declared.plan.Plan.{Plan}
 use Rattle.sdf_plan.specs.declared.plan.Region.{Region}
 use Rattle.sdf_check.specs.Names.{place_of, region_names, region_named}
 use Rattle.sdf_check.specs.Rules.{the_region}
-use Rattle.sdf_check.specs.ClassRules.{SomeOf, IsSmaller}
+use Rattle.sdf_check.specs.ClassRules.{IsSmaller}
 use Rattle.sdf_check.proofs.SoughtLemmas.{here-some}
 use Rattle.layout_laws.proofs.Lists.{there_is}
 
@@ -50,7 +50,3 @@ large-region plan key need r large is =
       ⊎_elim (λ (small : there.0.size < need). absurd (large (here-some (the_region plan key) there.0 (λ (x : Region). x.size < need) the small)))
           (λ (enough : need ≤ there.0.size). enough) (cases_lt there.0.size need),
     )
-
--- none of some needs fails
-pub no-need : (plan : Plan) (needs : List (List ℕ × ℕ)) (k : ℕ) (need : List ℕ × ℕ) → (SomeOf (IsSmaller plan) needs → ⊥) → slice_get needs k ≡ Some need → IsSmaller plan need → ⊥
-no-need plan needs k need fine there small = fine (k, here-some (slice_get needs k) need (IsSmaller plan) there small)

@@ -10,8 +10,7 @@ use Rattle.sdf_plan.specs.declared.plan.SerialClient.{SerialClient}
 use Rattle.sdf_plan.specs.declared.plan.Blk.{Blk}
 use Rattle.sdf_plan.specs.declared.plan.BlkClient.{BlkClient}
 use Rattle.sdf_check.specs.Names.{StandsBefore, net_regions, net_client_regions, serial_regions, serial_client_regions, blk_regions, blk_client_regions, net_domains, net_client_domains, serial_domains, serial_client_domains, blk_domains, blk_client_domains}
-use Rattle.sdf_check.specs.Roles.{net_roles, net_client_roles, serial_roles, serial_client_roles, blk_roles, blk_client_roles}
-use Rattle.sdf_check.specs.ClassRules.{RepeatsName, GivesWrongRole, class_regions, class_domains, net_names, serial_names, blk_names, NetStranger, NetClientStranger, SerialStranger, SerialClientStranger, BlkStranger, BlkClientStranger}
+use Rattle.sdf_check.specs.ClassRules.{RepeatsName, NamesDomainAgain, class_regions, class_domains, net_names, serial_names, blk_names}
 use Rattle.sdf_check.specs.Valid.{Valid}
 use Rattle.sdf_check.proofs.ListLemmas.{get-either}
 use Rattle.sdf_check.proofs.SoughtLemmas.{here-some}
@@ -80,39 +79,39 @@ blk_domains_at plan = serial_domains_at plan + length (serial_names serial_domai
 net_regions_once : (plan : Plan) → Valid plan → (net : Net) → plan.net ≡ Some net → Once (class_regions plan) 0 (net_regions net ++ flat_map net_client_regions net.client)
 net_regions_once plan valid net is =
     let all = class_regions plan in
-    let fine = not_of plan.net net (λ (x : Net). RepeatsName all 0 (net_regions x) ⊎ NetStranger plan x) is (kept plan 24 At.Net valid (omega arith) (omega arith) (net_walked plan net is)) in
-    once-both all 0 3 (net_regions net) (flat_map net_client_regions net.client) refl (once-kept all 0 (net_regions net) (λ twice. fine (inl twice)))
+    let fine = not_of plan.net net (λ (x : Net). RepeatsName all 0 (net_regions x)) is (kept plan 24 At.Net valid (omega arith) (omega arith) (net_walked plan net is)) in
+    once-both all 0 3 (net_regions net) (flat_map net_client_regions net.client) refl (once-kept all 0 (net_regions net) (λ twice. fine twice))
     (once-clients all net_client_regions 5 (λ k. 3 + 5 * k) net.client (λ c. refl) (λ k. omega arith) (λ c (client : NetClient) there.
     once-kept all (3 + 5 * c) (net_client_regions client) (λ twice.
     kept plan 24 (At.NetClient c) valid (omega arith) (omega arith) (net_client_walked plan net c is (slice_get_within net.client c client there))
-    (here-some plan.net net (λ (x : Net). IsSomeAnd (slice_get x.client c) (λ (y : NetClient). RepeatsName all (3 + 5 * c) (net_client_regions y) ⊎ NetClientStranger plan x y)) is
-    (here-some (slice_get net.client c) client (λ (y : NetClient). RepeatsName all (3 + 5 * c) (net_client_regions y) ⊎ NetClientStranger plan net y) there (inl twice))))))
+    (here-some plan.net net (λ (x : Net). IsSomeAnd (slice_get x.client c) (λ (y : NetClient). RepeatsName all (3 + 5 * c) (net_client_regions y))) is
+    (here-some (slice_get net.client c) client (λ (y : NetClient). RepeatsName all (3 + 5 * c) (net_client_regions y)) there twice)))))
 
 serial_regions_once : (plan : Plan) → Valid plan → (serial : Serial) → plan.serial ≡ Some serial
     → Once (class_regions plan) (serial_regions_at plan) (serial_regions serial ++ flat_map serial_client_regions serial.client)
 serial_regions_once plan valid serial is =
     let all = class_regions plan in
     let from = serial_regions_at plan in
-    let fine = not_of plan.serial serial (λ (x : Serial). RepeatsName all from (serial_regions x) ⊎ SerialStranger plan x) is (kept plan 24 At.Serial valid (omega arith) (omega arith) (serial_walked plan serial is)) in
-    once-both all from (from + 2 + 2 * 0) (serial_regions serial) (flat_map serial_client_regions serial.client) (omega arith) (once-kept all from (serial_regions serial) (λ twice. fine (inl twice)))
+    let fine = not_of plan.serial serial (λ (x : Serial). RepeatsName all from (serial_regions x)) is (kept plan 24 At.Serial valid (omega arith) (omega arith) (serial_walked plan serial is)) in
+    once-both all from (from + 2 + 2 * 0) (serial_regions serial) (flat_map serial_client_regions serial.client) (omega arith) (once-kept all from (serial_regions serial) (λ twice. fine twice))
     (once-clients all serial_client_regions 2 (λ k. from + 2 + 2 * k) serial.client (λ c. refl) (λ k. omega arith) (λ c (client : SerialClient) there.
     once-kept all (from + 2 + 2 * c) (serial_client_regions client) (λ twice.
     kept plan 24 (At.SerialClient c) valid (omega arith) (omega arith) (serial_client_walked plan serial c is (slice_get_within serial.client c client there))
-    (here-some plan.serial serial (λ (x : Serial). IsSomeAnd (slice_get x.client c) (λ (y : SerialClient). RepeatsName all (from + 2 + 2 * c) (serial_client_regions y) ⊎ SerialClientStranger plan x y)) is
-    (here-some (slice_get serial.client c) client (λ (y : SerialClient). RepeatsName all (from + 2 + 2 * c) (serial_client_regions y) ⊎ SerialClientStranger plan serial y) there (inl twice))))))
+    (here-some plan.serial serial (λ (x : Serial). IsSomeAnd (slice_get x.client c) (λ (y : SerialClient). RepeatsName all (from + 2 + 2 * c) (serial_client_regions y))) is
+    (here-some (slice_get serial.client c) client (λ (y : SerialClient). RepeatsName all (from + 2 + 2 * c) (serial_client_regions y)) there twice)))))
 
 blk_regions_once : (plan : Plan) → Valid plan → (blk : Blk) → plan.blk ≡ Some blk
     → Once (class_regions plan) (blk_regions_at plan) (blk_regions blk ++ flat_map blk_client_regions blk.client)
 blk_regions_once plan valid blk is =
     let all = class_regions plan in
     let from = blk_regions_at plan in
-    let fine = not_of plan.blk blk (λ (x : Blk). RepeatsName all from (blk_regions x) ⊎ BlkStranger plan x) is (kept plan 24 At.Blk valid (omega arith) (omega arith) (blk_walked plan blk is)) in
-    once-both all from (from + 2 + 2 * 0) (blk_regions blk) (flat_map blk_client_regions blk.client) (omega arith) (once-kept all from (blk_regions blk) (λ twice. fine (inl twice)))
+    let fine = not_of plan.blk blk (λ (x : Blk). RepeatsName all from (blk_regions x)) is (kept plan 24 At.Blk valid (omega arith) (omega arith) (blk_walked plan blk is)) in
+    once-both all from (from + 2 + 2 * 0) (blk_regions blk) (flat_map blk_client_regions blk.client) (omega arith) (once-kept all from (blk_regions blk) (λ twice. fine twice))
     (once-clients all blk_client_regions 2 (λ k. from + 2 + 2 * k) blk.client (λ c. refl) (λ k. omega arith) (λ c (client : BlkClient) there.
     once-kept all (from + 2 + 2 * c) (blk_client_regions client) (λ twice.
     kept plan 24 (At.BlkClient c) valid (omega arith) (omega arith) (blk_client_walked plan blk c is (slice_get_within blk.client c client there))
-    (here-some plan.blk blk (λ (x : Blk). IsSomeAnd (slice_get x.client c) (λ (y : BlkClient). RepeatsName all (from + 2 + 2 * c) (blk_client_regions y) ⊎ BlkClientStranger plan x y)) is
-    (here-some (slice_get blk.client c) client (λ (y : BlkClient). RepeatsName all (from + 2 + 2 * c) (blk_client_regions y) ⊎ BlkClientStranger plan blk y) there (inl twice))))))
+    (here-some plan.blk blk (λ (x : Blk). IsSomeAnd (slice_get x.client c) (λ (y : BlkClient). RepeatsName all (from + 2 + 2 * c) (blk_client_regions y))) is
+    (here-some (slice_get blk.client c) client (λ (y : BlkClient). RepeatsName all (from + 2 + 2 * c) (blk_client_regions y)) there twice)))))
 
 -- no two keys of class elements name one region
 pub regions_once : (plan : Plan) → Valid plan → NoNameTwice (class_regions plan)
@@ -127,36 +126,36 @@ regions_once plan valid =
 net_domains_once : (plan : Plan) → Valid plan → (net : Net) → plan.net ≡ Some net → Once (class_domains plan) 0 (net_domains net ++ flat_map net_client_domains net.client)
 net_domains_once plan valid net is =
     let all = class_domains plan in
-    let fine = not_of plan.net net (λ (x : Net). GivesWrongRole plan At.Net (net_roles x)) is (kept plan 21 At.Net valid (omega arith) (omega arith) (net_walked plan net is)) in
-    once-both all 0 3 (net_domains net) (flat_map net_client_domains net.client) refl (once-kept all 0 (net_domains net) (λ twice. fine (inr twice)))
+    let fine = not_of plan.net net (λ (x : Net). NamesDomainAgain plan At.Net (net_domains x)) is (kept plan 21 At.Net valid (omega arith) (omega arith) (net_walked plan net is)) in
+    once-both all 0 3 (net_domains net) (flat_map net_client_domains net.client) refl (once-kept all 0 (net_domains net) (λ twice. fine twice))
     (once-clients all net_client_domains 2 (λ k. 3 + 2 * k) net.client (λ c. refl) (λ k. omega arith) (λ c (client : NetClient) there.
-    let good = not_of_part plan.net net (λ (x : Net). x.client) c client (λ (x : NetClient). GivesWrongRole plan (At.NetClient c) (net_client_roles x)) is there
+    let good = not_of_part plan.net net (λ (x : Net). x.client) c client (λ (x : NetClient). NamesDomainAgain plan (At.NetClient c) (net_client_domains x)) is there
     (kept plan 21 (At.NetClient c) valid (omega arith) (omega arith) (net_client_walked plan net c is (slice_get_within net.client c client there))) in
-    once-kept all (3 + 2 * c) (net_client_domains client) (λ twice. good (inr twice))))
+    once-kept all (3 + 2 * c) (net_client_domains client) (λ twice. good twice)))
 
 serial_domains_once : (plan : Plan) → Valid plan → (serial : Serial) → plan.serial ≡ Some serial
     → Once (class_domains plan) (serial_domains_at plan) (serial_domains serial ++ flat_map serial_client_domains serial.client)
 serial_domains_once plan valid serial is =
     let all = class_domains plan in
     let from = serial_domains_at plan in
-    let fine = not_of plan.serial serial (λ (x : Serial). GivesWrongRole plan At.Serial (serial_roles x)) is (kept plan 21 At.Serial valid (omega arith) (omega arith) (serial_walked plan serial is)) in
-    once-both all from (from + 3 + 0) (serial_domains serial) (flat_map serial_client_domains serial.client) (omega arith) (once-kept all from (serial_domains serial) (λ twice. fine (inr twice)))
+    let fine = not_of plan.serial serial (λ (x : Serial). NamesDomainAgain plan At.Serial (serial_domains x)) is (kept plan 21 At.Serial valid (omega arith) (omega arith) (serial_walked plan serial is)) in
+    once-both all from (from + 3 + 0) (serial_domains serial) (flat_map serial_client_domains serial.client) (omega arith) (once-kept all from (serial_domains serial) (λ twice. fine twice))
     (once-clients all serial_client_domains 1 (λ k. from + 3 + k) serial.client (λ c. refl) (λ k. omega arith) (λ c (client : SerialClient) there.
-    let good = not_of_part plan.serial serial (λ (x : Serial). x.client) c client (λ (x : SerialClient). GivesWrongRole plan (At.SerialClient c) (serial_client_roles x)) is there
+    let good = not_of_part plan.serial serial (λ (x : Serial). x.client) c client (λ (x : SerialClient). NamesDomainAgain plan (At.SerialClient c) (serial_client_domains x)) is there
     (kept plan 21 (At.SerialClient c) valid (omega arith) (omega arith) (serial_client_walked plan serial c is (slice_get_within serial.client c client there))) in
-    once-kept all (from + 3 + c) (serial_client_domains client) (λ twice. good (inr twice))))
+    once-kept all (from + 3 + c) (serial_client_domains client) (λ twice. good twice)))
 
 blk_domains_once : (plan : Plan) → Valid plan → (blk : Blk) → plan.blk ≡ Some blk
     → Once (class_domains plan) (blk_domains_at plan) (blk_domains blk ++ flat_map blk_client_domains blk.client)
 blk_domains_once plan valid blk is =
     let all = class_domains plan in
     let from = blk_domains_at plan in
-    let fine = not_of plan.blk blk (λ (x : Blk). GivesWrongRole plan At.Blk (blk_roles x)) is (kept plan 21 At.Blk valid (omega arith) (omega arith) (blk_walked plan blk is)) in
-    once-both all from (from + 2 + 0) (blk_domains blk) (flat_map blk_client_domains blk.client) (omega arith) (once-kept all from (blk_domains blk) (λ twice. fine (inr twice)))
+    let fine = not_of plan.blk blk (λ (x : Blk). NamesDomainAgain plan At.Blk (blk_domains x)) is (kept plan 21 At.Blk valid (omega arith) (omega arith) (blk_walked plan blk is)) in
+    once-both all from (from + 2 + 0) (blk_domains blk) (flat_map blk_client_domains blk.client) (omega arith) (once-kept all from (blk_domains blk) (λ twice. fine twice))
     (once-clients all blk_client_domains 1 (λ k. from + 2 + k) blk.client (λ c. refl) (λ k. omega arith) (λ c (client : BlkClient) there.
-    let good = not_of_part plan.blk blk (λ (x : Blk). x.client) c client (λ (x : BlkClient). GivesWrongRole plan (At.BlkClient c) (blk_client_roles x)) is there
+    let good = not_of_part plan.blk blk (λ (x : Blk). x.client) c client (λ (x : BlkClient). NamesDomainAgain plan (At.BlkClient c) (blk_client_domains x)) is there
     (kept plan 21 (At.BlkClient c) valid (omega arith) (omega arith) (blk_client_walked plan blk c is (slice_get_within blk.client c client there))) in
-    once-kept all (from + 2 + c) (blk_client_domains client) (λ twice. good (inr twice))))
+    once-kept all (from + 2 + c) (blk_client_domains client) (λ twice. good twice)))
 
 -- no two keys of class elements name one domain
 pub domains_once : (plan : Plan) → Valid plan → NoNameTwice (class_domains plan)

@@ -10,19 +10,18 @@ use Rattle.sdf_plan.specs.declared.plan.Net.{Net}
 use Rattle.sdf_plan.specs.declared.plan.NetClient.{NetClient}
 use Rattle.sdf_plan.specs.declared.plan.Blk.{Blk}
 use Rattle.sdf_plan.specs.declared.plan.BlkClient.{BlkClient}
-use Rattle.sdf_check.specs.Names.{region_named, net_regions, net_client_regions, blk_regions, blk_client_regions}
-use Rattle.sdf_check.specs.Rules.{MissesRegion}
-use Rattle.sdf_check.specs.ClassRules.{IsSmaller, IsBufferCount}
-use Rattle.sdf_check.specs.Shares.{net_needs, net_client_needs, blk_needs, blk_client_needs}
+use Rattle.sdf_check.specs.Names.{region_named}
+use Rattle.class_table.specs.Table.{net_element, net_client_element, blk_element, blk_client_element}
+use Rattle.sdf_check.specs.ClassRules.{UsesNoRegion, IsSmaller, IsBufferCount}
 use Rattle.sdf_check.specs.Valid.{Valid}
 use Rattle.sdf_check.proofs.SoughtLemmas.{here-some}
 use Rattle.region_layout.specs.Bases.{bases_from, bases_of, floor_of, free_after}
 use Rattle.region_layout.specs.Rows.{pool_in, net_buffer, blk_buffer, net_client_pools, net_pools, blk_client_pools, blk_pools, pools_of, each_client, client_name}
-use Rattle.region_layout.proofs.WalkLemmas.{kept, net_walked, net_client_walked, blk_walked, blk_client_walked}
-use Rattle.region_layout.proofs.ValidLemmas.{not_of, not_of_part, net_counts, net_client_counts, blk_client_counts}
+use Rattle.region_layout.proofs.KeptLemmas.{net_keeps, net_client_keeps, blk_keeps, blk_client_keeps}
+use Rattle.region_layout.proofs.ValidLemmas.{net_counts, net_client_counts, blk_client_counts}
 use Rattle.layout_laws.specs.Sound.{IsSoundPool}
 use Rattle.layout_laws.proofs.Lists.{option_cases, all-clients, all-class}
-use Rattle.layout_laws.proofs.Found.{large-region, no-need}
+use Rattle.layout_laws.proofs.Found.{large-region}
 use Rattle.layout_laws.proofs.Queues.{net_fine, net_client_fine, blk_fine, blk_client_fine}
 
 -- there is a base for each region
@@ -35,9 +34,9 @@ unfolding bases_of
 all-based regions = based regions (floor_of regions)
 
 -- a region that isn't missed is there
-pub not-missed : (plan : Plan) (keys : List (List ℕ)) (k : ℕ) (key : List ℕ) → (MissesRegion plan keys → ⊥) → slice_get keys k ≡ Some key → (r : ℕ) × (region_named plan key ≡ Some r)
-not-missed plan keys k key fine there = elim (option_cases (region_named plan key)) [
-  | inl none ↦ absurd (fine (k, here-some (slice_get keys k) key (λ name. IsNone (region_named plan name)) there (ap is_some none)))
+pub not-missed : (plan : Plan) (key : List ℕ) → (IsNone (region_named plan key) → ⊥) → (r : ℕ) × (region_named plan key ≡ Some r)
+not-missed plan key fine = elim (option_cases (region_named plan key)) [
+  | inl none ↦ absurd (fine (ap is_some none))
   | inr some ↦ some
 ]
 
@@ -54,25 +53,19 @@ sound_pool plan key name buffers size r count is large =
       lies = rw is (here-some (slice_get plan.memory_region r) found.0 (λ (region : Region). size * buffers ≤ region.size) found.1 found.2);
     }
 
-pub net_named : (plan : Plan) (net : Net) → Valid plan → plan.net ≡ Some net → MissesRegion plan (net_regions net) → ⊥
-net_named plan net valid is =
-    not_of plan.net net (λ (x : Net). MissesRegion plan (net_regions x)) is (kept plan 13 At.Net valid (omega arith) (omega arith) (net_walked plan net is))
+pub net_named : (plan : Plan) (net : Net) → Valid plan → plan.net ≡ Some net → UsesNoRegion plan (net_element net) → ⊥
+net_named plan net valid is = net_keeps plan 13 valid (omega arith) (omega arith) net is
 
 pub net_client_named : (plan : Plan) (net : Net) (c : ℕ) (client : NetClient) → Valid plan → plan.net ≡ Some net → slice_get net.client c ≡ Some client
-    → MissesRegion plan (net_client_regions client) → ⊥
-net_client_named plan net c client valid is there =
-    not_of_part plan.net net (λ (x : Net). x.client) c client (λ (x : NetClient). MissesRegion plan (net_client_regions x)) is there
-    (kept plan 13 (At.NetClient c) valid (omega arith) (omega arith) (net_client_walked plan net c is (slice_get_within net.client c client there)))
+    → UsesNoRegion plan (net_client_element net c client) → ⊥
+net_client_named plan net c client valid is there = net_client_keeps plan 13 valid (omega arith) (omega arith) net c client is there
 
-pub blk_named : (plan : Plan) (blk : Blk) → Valid plan → plan.blk ≡ Some blk → MissesRegion plan (blk_regions blk) → ⊥
-blk_named plan blk valid is =
-    not_of plan.blk blk (λ (x : Blk). MissesRegion plan (blk_regions x)) is (kept plan 13 At.Blk valid (omega arith) (omega arith) (blk_walked plan blk is))
+pub blk_named : (plan : Plan) (blk : Blk) → Valid plan → plan.blk ≡ Some blk → UsesNoRegion plan (blk_element blk) → ⊥
+blk_named plan blk valid is = blk_keeps plan 13 valid (omega arith) (omega arith) blk is
 
 pub blk_client_named : (plan : Plan) (blk : Blk) (c : ℕ) (client : BlkClient) → Valid plan → plan.blk ≡ Some blk → slice_get blk.client c ≡ Some client
-    → MissesRegion plan (blk_client_regions client) → ⊥
-blk_client_named plan blk c client valid is there =
-    not_of_part plan.blk blk (λ (x : Blk). x.client) c client (λ (x : BlkClient). MissesRegion plan (blk_client_regions x)) is there
-    (kept plan 13 (At.BlkClient c) valid (omega arith) (omega arith) (blk_client_walked plan blk c is (slice_get_within blk.client c client there)))
+    → UsesNoRegion plan (blk_client_element blk c client) → ⊥
+blk_client_named plan blk c client valid is there = blk_client_keeps plan 13 valid (omega arith) (omega arith) blk c client is there
 
 net_client_sound : (plan : Plan) (net : Net) → Valid plan → plan.net ≡ Some net → (c : ℕ) (client : NetClient) → slice_get net.client c ≡ Some client
     → All (IsSoundPool plan) (net_client_pools plan c client)
@@ -81,25 +74,25 @@ net_client_sound plan net valid is c client there =
     let counts = net_client_counts plan net c client valid is there in
     let fine = net_client_fine plan net c client valid is there in
     let named = net_client_named plan net c client valid is there in
-    let rx = not-missed plan (net_client_regions client) 1 client.rx_region named refl in
-    let tx = not-missed plan (net_client_regions client) 3 client.tx_region named refl in
+    let rx = not-missed plan client.rx_region (λ none. named (inr (0, none))) in
+    let tx = not-missed plan client.tx_region (λ none. named (inr (1, none))) in
     let first = pool_in plan client.rx_region (client_name (codes "net.") c (codes ".rx")) client.rx_buffers net_buffer in
     let second = pool_in plan client.tx_region (client_name (codes "net.") c (codes ".tx")) client.tx_buffers net_buffer in
     All-cons (IsSoundPool plan) first (second ∷ [])
     (sound_pool plan client.rx_region (client_name (codes "net.") c (codes ".rx")) client.rx_buffers net_buffer rx.0 counts.0 rx.1
-    (no-need plan (net_client_needs net client) 1 (client.rx_region, 2048 * client.rx_buffers) fine refl))
+    (λ small. fine (inr (0, small))))
     (All-cons (IsSoundPool plan) second []
     (sound_pool plan client.tx_region (client_name (codes "net.") c (codes ".tx")) client.tx_buffers net_buffer tx.0 counts.1 tx.1
-    (no-need plan (net_client_needs net client) 3 (client.tx_region, 2048 * client.tx_buffers) fine refl))
+    (λ small. fine (inr (1, small))))
     (All-nil (IsSoundPool plan)))
 
 net_sound : (plan : Plan) → Valid plan → (net : Net) → plan.net ≡ Some net → All (IsSoundPool plan) (net_pools plan net)
 unfolding net_pools
 net_sound plan valid net is =
-    let rx = not-missed plan (net_regions net) 0 net.rx_region (net_named plan net valid is) refl in
+    let rx = not-missed plan net.rx_region (λ none. (net_named plan net valid is) (inr (0, none))) in
     All-cons (IsSoundPool plan) (pool_in plan net.rx_region (codes "net.rx") net.rx_buffers net_buffer) (each_client (net_client_pools plan) 0 net.client)
     (sound_pool plan net.rx_region (codes "net.rx") net.rx_buffers net_buffer rx.0 (net_counts plan net valid is).1 rx.1
-    (no-need plan (net_needs net) 0 (net.rx_region, 2048 * net.rx_buffers) (net_fine plan net valid is) refl))
+    (λ small. (net_fine plan net valid is) (inr (0, small))))
     (all-clients (IsSoundPool plan) (net_client_pools plan) 0 net.client
     (λ k (client : NetClient) there. subst (λ n. All (IsSoundPool plan) (net_client_pools plan n client)) (let e : k ≡ 0 + k = omega arith in e) (net_client_sound plan net valid is k client there)))
 
@@ -107,19 +100,19 @@ blk_client_sound : (plan : Plan) (blk : Blk) → Valid plan → plan.blk ≡ Som
     → All (IsSoundPool plan) (blk_client_pools plan c client)
 unfolding blk_client_pools
 blk_client_sound plan blk valid is c client there =
-    let named = not-missed plan (blk_client_regions client) 0 client.region (blk_client_named plan blk c client valid is there) refl in
+    let named = not-missed plan client.region (λ none. (blk_client_named plan blk c client valid is there) (inr (0, none))) in
     All-cons (IsSoundPool plan) (pool_in plan client.region (client_name (codes "blk.") c []) client.buffers blk_buffer) []
     (sound_pool plan client.region (client_name (codes "blk.") c []) client.buffers blk_buffer named.0 (blk_client_counts plan blk c client valid is there) named.1
-    (no-need plan (blk_client_needs client) 0 (client.region, 32768 * client.buffers) (blk_client_fine plan blk c client valid is there) refl))
+    (λ small. (blk_client_fine plan blk c client valid is there) (inr (0, small))))
     (All-nil (IsSoundPool plan))
 
 blk_sound : (plan : Plan) → Valid plan → (blk : Blk) → plan.blk ≡ Some blk → All (IsSoundPool plan) (blk_pools plan blk)
 unfolding blk_pools
 blk_sound plan valid blk is =
-    let named = not-missed plan (blk_regions blk) 1 blk.region (blk_named plan blk valid is) refl in
+    let named = not-missed plan blk.region (λ none. (blk_named plan blk valid is) (inr (0, none))) in
     All-cons (IsSoundPool plan) (pool_in plan blk.region (codes "blk") 1 blk_buffer) (each_client (blk_client_pools plan) 0 blk.client)
     (sound_pool plan blk.region (codes "blk") 1 blk_buffer named.0 (omega arith, omega arith) named.1
-    (no-need plan (blk_needs blk) 1 (blk.region, 32768) (blk_fine plan blk valid is) refl))
+    (λ small. (blk_fine plan blk valid is) (inr (0, small))))
     (all-clients (IsSoundPool plan) (blk_client_pools plan) 0 blk.client
     (λ k (client : BlkClient) there. subst (λ n. All (IsSoundPool plan) (blk_client_pools plan n client)) (let e : k ≡ 0 + k = omega arith in e) (blk_client_sound plan blk valid is k client there)))
 

@@ -1,6 +1,6 @@
-use Rattle.std.proofs.Common.{◌≡◌, ℕ, ◌+◌, ◌*◌, ◌/◌, ◌≤◌, List, [], ◌∷◌, ◌++◌, Some, None, slice_get, codes, refl, subst, arith}
+use Rattle.std.proofs.Common.{◌≡◌, ℕ, ◌+◌, ◌*◌, ◌/◌, ◌≤◌, inl, List, [], ◌∷◌, ◌++◌, Some, None, slice_get, codes, refl, subst, arith}
 use Rattle.std.specs.List.{All}
-use Rattle.std.specs.Option.{IsSomeAnd, option_map_or}
+use Rattle.std.specs.Option.{option_map_or}
 use Rattle.std.proofs.lemmas.List.Elements.{All-nil, All-cons, All-append}
 use Rattle.std.proofs.lemmas.Option.{slice_get_within, none-some}
 use Rattle.cargo_core.specs.declared.item.QueueKind.{QueueKind}
@@ -16,17 +16,18 @@ use Rattle.sdf_plan.specs.declared.plan.Blk.{Blk}
 use Rattle.sdf_plan.specs.declared.plan.BlkClient.{BlkClient}
 use Rattle.sdf_check.specs.Names.{region_named}
 use Rattle.sdf_check.specs.Rules.{IsMultiple}
-use Rattle.sdf_check.specs.ClassRules.{SomeOf, IsSmaller, IsCapacity}
-use Rattle.sdf_check.specs.Shares.{second_offset, net_queues_size, byte_queue_size, blk_queues_size, net_needs, net_client_needs, serial_needs, serial_client_needs, blk_needs, blk_client_needs}
+use Rattle.class_table.specs.Sizes.{second_offset}
+use Rattle.class_table.specs.Table.{net_element, net_client_element, serial_element, serial_client_element, blk_element, blk_client_element}
+use Rattle.sdf_check.specs.ClassRules.{IsSmaller, IsCapacity, LacksRoom}
 use Rattle.sdf_check.specs.Valid.{Valid}
 use Rattle.sdf_check.proofs.SoughtLemmas.{here-some}
 use Rattle.wire_core.specs.declared.names.ActorId.{ActorId}
 use Rattle.region_layout.specs.Rows.{actor_named, eth_number, uart_number, disk_number, entry_size, queue_span, queue_in, queue_pair, eth_rx_queues, eth_tx_queues, net_rx_queues, net_tx_queues, lease_queues, client_rx_queues, client_tx_queues, net_client_queues, net_queues, uart_queues, shared_serial_queues, serial_client_queues, serial_queues, disk_queues, shared_blk_queues, blk_client_queues, blk_queues, queues_of, each_client, client_name}
-use Rattle.region_layout.proofs.WalkLemmas.{kept, net_walked, net_client_walked, serial_walked, serial_client_walked, blk_walked, blk_client_walked}
-use Rattle.region_layout.proofs.ValidLemmas.{not_of, not_of_part, net_capacities, net_client_capacities, serial_capacities, serial_client_capacities, blk_capacity, blk_client_capacity}
+use Rattle.region_layout.proofs.KeptLemmas.{net_keeps, net_client_keeps, serial_keeps, serial_client_keeps, blk_keeps, blk_client_keeps}
+use Rattle.region_layout.proofs.ValidLemmas.{net_capacities, net_client_capacities, serial_capacities, serial_client_capacities, blk_capacity, blk_client_capacity}
 use Rattle.layout_laws.specs.Sound.{IsSoundQueue}
 use Rattle.layout_laws.proofs.Lists.{all-clients, all-class}
-use Rattle.layout_laws.proofs.Found.{large-region, no-need}
+use Rattle.layout_laws.proofs.Found.{large-region}
 
 -- a queue in no region
 free_queue : (plan : Plan) (name : List ℕ) (producer consumer : ActorId) (kind : QueueKind) (capacity : ℕ) → IsCapacity capacity → IsSoundQueue plan (queue_in plan None 0 name kind producer consumer capacity)
@@ -47,10 +48,10 @@ held_queue plan key name producer consumer kind offset capacity need is multiple
 }
 
 -- the one queue of a region
-only : (plan : Plan) (key name : List ℕ) (producer consumer : ActorId) (capacity : ℕ) → IsCapacity capacity → (IsSmaller plan (key, byte_queue_size capacity) → ⊥)
+only : (plan : Plan) (key name : List ℕ) (producer consumer : ActorId) (capacity : ℕ) → IsCapacity capacity → (IsSmaller plan (key, 0 + (64 + 1 * capacity)) → ⊥)
     → IsSoundQueue plan (queue_in plan (region_named plan key) 0 name Kind.Byte producer consumer capacity)
 only plan key name producer consumer capacity is large =
-    held_queue plan key name producer consumer Kind.Byte 0 capacity (byte_queue_size capacity) is (0, refl) (omega arith) large
+    held_queue plan key name producer consumer Kind.Byte 0 capacity (0 + (64 + 1 * capacity)) is (0, refl) (omega arith) large
 
 -- the two of a region
 pair : (plan : Plan) (key first second : List ℕ) (from to : ActorId) (kind back : QueueKind) (capacity : ℕ) → IsCapacity capacity
@@ -68,12 +69,12 @@ pair plan key first second from to kind back capacity is large room =
 room_above : (size rest : ℕ) → size ≤ second_offset size + rest
 room_above size rest = omega arith
 
-net_pair : (plan : Plan) (key first second : List ℕ) (from to : ActorId) (capacity : ℕ) → IsCapacity capacity → (IsSmaller plan (key, net_queues_size capacity) → ⊥)
+net_pair : (plan : Plan) (key first second : List ℕ) (from to : ActorId) (capacity : ℕ) → IsCapacity capacity → (IsSmaller plan (key, (second_offset (64 + 16 * capacity) + (64 + 16 * capacity))) → ⊥)
     → All (IsSoundQueue plan) (queue_pair plan key first Kind.Net second Kind.Net from to capacity)
 net_pair plan key first second from to capacity is large =
     pair plan key first second from to Kind.Net Kind.Net capacity is large (room_above (64 + 16 * capacity) (64 + 16 * capacity))
 
-blk_pair : (plan : Plan) (key first second : List ℕ) (from to : ActorId) (capacity : ℕ) → IsCapacity capacity → (IsSmaller plan (key, blk_queues_size capacity) → ⊥)
+blk_pair : (plan : Plan) (key first second : List ℕ) (from to : ActorId) (capacity : ℕ) → IsCapacity capacity → (IsSmaller plan (key, (second_offset (64 + 32 * capacity) + (64 + 16 * capacity))) → ⊥)
     → All (IsSoundQueue plan) (queue_pair plan key first Kind.Req second Kind.Resp from to capacity)
 blk_pair plan key first second from to capacity is large =
     pair plan key first second from to Kind.Req Kind.Resp capacity is large (room_above (64 + 32 * capacity) (64 + 16 * capacity))
@@ -85,36 +86,26 @@ both : (plan : Plan) (xs ys : List _) → All (IsSoundQueue plan) xs → All (Is
 both plan xs ys one other = All-append (IsSoundQueue plan) xs ys one other
 
 -- rule 27
-pub net_fine : (plan : Plan) (net : Net) → Valid plan → plan.net ≡ Some net → SomeOf (IsSmaller plan) (net_needs net) → ⊥
-net_fine plan net valid is =
-    not_of plan.net net (λ (x : Net). SomeOf (IsSmaller plan) (net_needs x)) is (kept plan 27 At.Net valid (omega arith) (omega arith) (net_walked plan net is))
+pub net_fine : (plan : Plan) (net : Net) → Valid plan → plan.net ≡ Some net → LacksRoom plan (net_element net) → ⊥
+net_fine plan net valid is = net_keeps plan 27 valid (omega arith) (omega arith) net is
 
 pub net_client_fine : (plan : Plan) (net : Net) (c : ℕ) (client : NetClient) → Valid plan → plan.net ≡ Some net → slice_get net.client c ≡ Some client
-    → SomeOf (IsSmaller plan) (net_client_needs net client) → ⊥
-net_client_fine plan net c client valid is there needs =
-    kept plan 27 (At.NetClient c) valid (omega arith) (omega arith) (net_client_walked plan net c is (slice_get_within net.client c client there))
-    (here-some plan.net net (λ (x : Net). IsSomeAnd (slice_get x.client c) (λ (y : NetClient). SomeOf (IsSmaller plan) (net_client_needs x y))) is
-    (here-some (slice_get net.client c) client (λ (y : NetClient). SomeOf (IsSmaller plan) (net_client_needs net y)) there needs))
+    → LacksRoom plan (net_client_element net c client) → ⊥
+net_client_fine plan net c client valid is there = net_client_keeps plan 27 valid (omega arith) (omega arith) net c client is there
 
-pub serial_fine : (plan : Plan) (serial : Serial) → Valid plan → plan.serial ≡ Some serial → SomeOf (IsSmaller plan) (serial_needs serial) → ⊥
-serial_fine plan serial valid is =
-    not_of plan.serial serial (λ (x : Serial). SomeOf (IsSmaller plan) (serial_needs x)) is (kept plan 27 At.Serial valid (omega arith) (omega arith) (serial_walked plan serial is))
+pub serial_fine : (plan : Plan) (serial : Serial) → Valid plan → plan.serial ≡ Some serial → LacksRoom plan (serial_element serial) → ⊥
+serial_fine plan serial valid is = serial_keeps plan 27 valid (omega arith) (omega arith) serial is
 
 pub serial_client_fine : (plan : Plan) (serial : Serial) (c : ℕ) (client : SerialClient) → Valid plan → plan.serial ≡ Some serial → slice_get serial.client c ≡ Some client
-    → SomeOf (IsSmaller plan) (serial_client_needs client) → ⊥
-serial_client_fine plan serial c client valid is there =
-    not_of_part plan.serial serial (λ (x : Serial). x.client) c client (λ (x : SerialClient). SomeOf (IsSmaller plan) (serial_client_needs x)) is there
-    (kept plan 27 (At.SerialClient c) valid (omega arith) (omega arith) (serial_client_walked plan serial c is (slice_get_within serial.client c client there)))
+    → LacksRoom plan (serial_client_element serial c client) → ⊥
+serial_client_fine plan serial c client valid is there = serial_client_keeps plan 27 valid (omega arith) (omega arith) serial c client is there
 
-pub blk_fine : (plan : Plan) (blk : Blk) → Valid plan → plan.blk ≡ Some blk → SomeOf (IsSmaller plan) (blk_needs blk) → ⊥
-blk_fine plan blk valid is =
-    not_of plan.blk blk (λ (x : Blk). SomeOf (IsSmaller plan) (blk_needs x)) is (kept plan 27 At.Blk valid (omega arith) (omega arith) (blk_walked plan blk is))
+pub blk_fine : (plan : Plan) (blk : Blk) → Valid plan → plan.blk ≡ Some blk → LacksRoom plan (blk_element blk) → ⊥
+blk_fine plan blk valid is = blk_keeps plan 27 valid (omega arith) (omega arith) blk is
 
 pub blk_client_fine : (plan : Plan) (blk : Blk) (c : ℕ) (client : BlkClient) → Valid plan → plan.blk ≡ Some blk → slice_get blk.client c ≡ Some client
-    → SomeOf (IsSmaller plan) (blk_client_needs client) → ⊥
-blk_client_fine plan blk c client valid is there =
-    not_of_part plan.blk blk (λ (x : Blk). x.client) c client (λ (x : BlkClient). SomeOf (IsSmaller plan) (blk_client_needs x)) is there
-    (kept plan 27 (At.BlkClient c) valid (omega arith) (omega arith) (blk_client_walked plan blk c is (slice_get_within blk.client c client there)))
+    → LacksRoom plan (blk_client_element blk c client) → ⊥
+blk_client_fine plan blk c client valid is there = blk_client_keeps plan 27 valid (omega arith) (omega arith) blk c client is there
 
 net_client_sound : (plan : Plan) (net : Net) → Valid plan → plan.net ≡ Some net → (c : ℕ) (client : NetClient) → slice_get net.client c ≡ Some client
     → All (IsSoundQueue plan) (net_client_queues plan net c client)
@@ -123,28 +114,26 @@ net_client_sound plan net valid is c client there =
     let caps = net_capacities plan net valid is in
     let own = net_client_capacities plan net c client valid is there in
     let fine = net_client_fine plan net c client valid is there in
-    let needs = net_client_needs net client in
     both plan (lease_queues plan net c client ++ client_rx_queues plan c client) (client_tx_queues plan net c client)
     (both plan (lease_queues plan net c client) (client_rx_queues plan c client)
     (net_pair plan client.lease_queues (client_name (codes "net.") c (codes ".lease.active")) (client_name (codes "net.") c (codes ".lease.free")) (actor_named plan net.rx_virt) (actor_named plan client.copier) net.rx_capacity caps.0
-    (no-need plan needs 0 (client.lease_queues, net_queues_size net.rx_capacity) fine refl))
+    (λ small. fine (inl (1, small))))
     (net_pair plan client.rx_queues (client_name (codes "net.") c (codes ".rx.active")) (client_name (codes "net.") c (codes ".rx.free")) (actor_named plan client.copier) (actor_named plan client.pd) client.rx_capacity own.0
-    (no-need plan needs 2 (client.rx_queues, net_queues_size client.rx_capacity) fine refl)))
+    (λ small. fine (inl (3, small)))))
     (net_pair plan client.tx_queues (client_name (codes "net.") c (codes ".tx.active")) (client_name (codes "net.") c (codes ".tx.free")) (actor_named plan client.pd) (actor_named plan net.tx_virt) client.tx_capacity own.1
-    (no-need plan needs 4 (client.tx_queues, net_queues_size client.tx_capacity) fine refl))
+    (λ small. fine (inl (5, small))))
 
 net_sound : (plan : Plan) → Valid plan → (net : Net) → plan.net ≡ Some net → All (IsSoundQueue plan) (net_queues plan net)
 unfolding net_queues eth_rx_queues eth_tx_queues net_rx_queues net_tx_queues
 net_sound plan valid net is =
     let caps = net_capacities plan net valid is in
     let fine = net_fine plan net valid is in
-    let needs = net_needs net in
     let eth_rx = two_of plan (queue_in plan None 0 (codes "eth.rx.free") Kind.Net (actor_named plan net.driver) (eth_number plan) net.rx_capacity) (queue_in plan None 0 (codes "eth.rx.active") Kind.Net (eth_number plan) (actor_named plan net.driver) net.rx_capacity)
     (free_queue plan (codes "eth.rx.free") (actor_named plan net.driver) (eth_number plan) Kind.Net net.rx_capacity caps.0) (free_queue plan (codes "eth.rx.active") (eth_number plan) (actor_named plan net.driver) Kind.Net net.rx_capacity caps.0) in
     let eth_tx = two_of plan (queue_in plan None 0 (codes "eth.tx.active") Kind.Net (actor_named plan net.driver) (eth_number plan) net.tx_capacity) (queue_in plan None 0 (codes "eth.tx.free") Kind.Net (eth_number plan) (actor_named plan net.driver) net.tx_capacity)
     (free_queue plan (codes "eth.tx.active") (actor_named plan net.driver) (eth_number plan) Kind.Net net.tx_capacity caps.1) (free_queue plan (codes "eth.tx.free") (eth_number plan) (actor_named plan net.driver) Kind.Net net.tx_capacity caps.1) in
-    let rx = net_pair plan net.rx_queues (codes "net.rx.active") (codes "net.rx.free") (actor_named plan net.driver) (actor_named plan net.rx_virt) net.rx_capacity caps.0 (no-need plan needs 1 (net.rx_queues, net_queues_size net.rx_capacity) fine refl) in
-    let tx = net_pair plan net.tx_queues (codes "net.tx.active") (codes "net.tx.free") (actor_named plan net.tx_virt) (actor_named plan net.driver) net.tx_capacity caps.1 (no-need plan needs 2 (net.tx_queues, net_queues_size net.tx_capacity) fine refl) in
+    let rx = net_pair plan net.rx_queues (codes "net.rx.active") (codes "net.rx.free") (actor_named plan net.driver) (actor_named plan net.rx_virt) net.rx_capacity caps.0 (λ small. fine (inl (5, small))) in
+    let tx = net_pair plan net.tx_queues (codes "net.tx.active") (codes "net.tx.free") (actor_named plan net.tx_virt) (actor_named plan net.driver) net.tx_capacity caps.1 (λ small. fine (inl (7, small))) in
     let clients = all-clients (IsSoundQueue plan) (net_client_queues plan net) 0 net.client
     (λ k (client : NetClient) there. subst (λ n. All (IsSoundQueue plan) (net_client_queues plan net n client)) (let e : k ≡ 0 + k = omega arith in e) (net_client_sound plan net valid is k client there)) in
     both plan (eth_rx_queues plan net ++ eth_tx_queues plan net ++ net_rx_queues plan net ++ net_tx_queues plan net) (each_client (net_client_queues plan net) 0 net.client)
@@ -161,9 +150,9 @@ serial_client_sound plan serial valid is c client there =
     two_of plan (queue_in plan (region_named plan client.rx_queues) 0 (client_name (codes "serial.") c (codes ".rx")) Kind.Byte (actor_named plan serial.rx_virt) (actor_named plan client.pd) client.rx_capacity)
     (queue_in plan (region_named plan client.tx_queues) 0 (client_name (codes "serial.") c (codes ".tx")) Kind.Byte (actor_named plan client.pd) (actor_named plan serial.tx_virt) client.tx_capacity)
     (only plan client.rx_queues (client_name (codes "serial.") c (codes ".rx")) (actor_named plan serial.rx_virt) (actor_named plan client.pd) client.rx_capacity own.0
-    (no-need plan (serial_client_needs client) 0 (client.rx_queues, byte_queue_size client.rx_capacity) fine refl))
+    (λ small. fine (inl (0, small))))
     (only plan client.tx_queues (client_name (codes "serial.") c (codes ".tx")) (actor_named plan client.pd) (actor_named plan serial.tx_virt) client.tx_capacity own.1
-    (no-need plan (serial_client_needs client) 1 (client.tx_queues, byte_queue_size client.tx_capacity) fine refl))
+    (λ small. fine (inl (1, small))))
 
 serial_sound : (plan : Plan) → Valid plan → (serial : Serial) → plan.serial ≡ Some serial → All (IsSoundQueue plan) (serial_queues plan serial)
 unfolding serial_queues uart_queues shared_serial_queues
@@ -175,9 +164,9 @@ serial_sound plan valid serial is =
     let shared = two_of plan (queue_in plan (region_named plan serial.rx_queues) 0 (codes "serial.rx") Kind.Byte (actor_named plan serial.driver) (actor_named plan serial.rx_virt) serial.rx_capacity)
     (queue_in plan (region_named plan serial.tx_queues) 0 (codes "serial.tx") Kind.Byte (actor_named plan serial.tx_virt) (actor_named plan serial.driver) serial.tx_capacity)
     (only plan serial.rx_queues (codes "serial.rx") (actor_named plan serial.driver) (actor_named plan serial.rx_virt) serial.rx_capacity caps.0
-    (no-need plan (serial_needs serial) 0 (serial.rx_queues, byte_queue_size serial.rx_capacity) fine refl))
+    (λ small. fine (inl (2, small))))
     (only plan serial.tx_queues (codes "serial.tx") (actor_named plan serial.tx_virt) (actor_named plan serial.driver) serial.tx_capacity caps.1
-    (no-need plan (serial_needs serial) 1 (serial.tx_queues, byte_queue_size serial.tx_capacity) fine refl)) in
+    (λ small. fine (inl (3, small)))) in
     let clients = all-clients (IsSoundQueue plan) (serial_client_queues plan serial) 0 serial.client
     (λ k (client : SerialClient) there. subst (λ n. All (IsSoundQueue plan) (serial_client_queues plan serial n client)) (let e : k ≡ 0 + k = omega arith in e) (serial_client_sound plan serial valid is k client there)) in
     both plan (uart_queues plan serial ++ shared_serial_queues plan serial) (each_client (serial_client_queues plan serial) 0 serial.client)
@@ -189,7 +178,7 @@ unfolding blk_client_queues
 blk_client_sound plan blk valid is c client there =
     blk_pair plan client.queues (client_name (codes "blk.") c (codes ".req")) (client_name (codes "blk.") c (codes ".resp")) (actor_named plan client.pd) (actor_named plan blk.virt) client.capacity
     (blk_client_capacity plan blk c client valid is there)
-    (no-need plan (blk_client_needs client) 1 (client.queues, blk_queues_size client.capacity) (blk_client_fine plan blk c client valid is there) refl)
+    (λ small. (blk_client_fine plan blk c client valid is there) (inl (1, small)))
 
 blk_sound : (plan : Plan) → Valid plan → (blk : Blk) → plan.blk ≡ Some blk → All (IsSoundQueue plan) (blk_queues plan blk)
 unfolding blk_queues disk_queues shared_blk_queues
@@ -198,7 +187,7 @@ blk_sound plan valid blk is =
     let disk = two_of plan (queue_in plan None 0 (codes "disk.req") Kind.Req (actor_named plan blk.driver) (disk_number plan) blk.capacity) (queue_in plan None 0 (codes "disk.resp") Kind.Resp (disk_number plan) (actor_named plan blk.driver) blk.capacity)
     (free_queue plan (codes "disk.req") (actor_named plan blk.driver) (disk_number plan) Kind.Req blk.capacity cap) (free_queue plan (codes "disk.resp") (disk_number plan) (actor_named plan blk.driver) Kind.Resp blk.capacity cap) in
     let shared = blk_pair plan blk.queues (codes "blk.req") (codes "blk.resp") (actor_named plan blk.virt) (actor_named plan blk.driver) blk.capacity cap
-    (no-need plan (blk_needs blk) 0 (blk.queues, blk_queues_size blk.capacity) (blk_fine plan blk valid is) refl) in
+    (λ small. (blk_fine plan blk valid is) (inl (3, small))) in
     let clients = all-clients (IsSoundQueue plan) (blk_client_queues plan blk) 0 blk.client
     (λ k (client : BlkClient) there. subst (λ n. All (IsSoundQueue plan) (blk_client_queues plan blk n client)) (let e : k ≡ 0 + k = omega arith in e) (blk_client_sound plan blk valid is k client there)) in
     both plan (disk_queues plan blk ++ shared_blk_queues plan blk) (each_client (blk_client_queues plan blk) 0 blk.client)

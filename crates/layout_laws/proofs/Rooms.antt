@@ -11,8 +11,7 @@ use Rattle.sdf_plan.specs.declared.plan.NetClient.{NetClient}
 use Rattle.sdf_check.specs.Valid.{Valid}
 use Rattle.sdf_check.proofs.ListLemmas.{get-left, get-right}
 use Rattle.region_layout.specs.Rows.{queue_in, queue_pair, each_client, eth_rx_queues, eth_tx_queues, net_rx_queues, net_tx_queues, lease_queues, client_rx_queues, client_tx_queues, net_client_queues, net_queues, serial_queues, blk_queues, queues_of, pool_in, net_client_pools, net_pools, blk_pools, pools_of, net_buffer}
-use Rattle.region_layout.proofs.WalkLemmas.{kept, net_walked, net_client_walked}
-use Rattle.region_layout.proofs.ValidLemmas.{not_of, not_of_part}
+use Rattle.region_layout.proofs.KeptLemmas.{net_keeps, net_client_keeps}
 use Rattle.layout_laws.specs.Sound.{HoldsPool, HasRooms}
 use Rattle.layout_laws.proofs.Lists.{there_is, each-at}
 
@@ -31,14 +30,13 @@ module _ (plan : Plan) (valid : Valid plan) (net : Net) (is : plan.net ≡ Some 
   -- what the rule on buffers gives
   device_room : net.rx_buffers ≤ net.rx_capacity
   device_room =
-      let fine = not_of plan.net net (λ (x : Net). (x.rx_capacity < x.rx_buffers) ⊎ (x.tx_capacity < sum_by (λ (c : NetClient). c.tx_buffers) x.client)) is (kept plan 26 At.Net valid (omega arith) (omega arith) (net_walked plan net is)) in
-      not_below net.rx_capacity net.rx_buffers (λ less. fine (inl less))
+      let fine = net_keeps plan 26 valid (omega arith) (omega arith) net is in
+      not_below net.rx_capacity net.rx_buffers (λ less. fine (0, less))
 
   client_rooms : (c : ℕ) (x : NetClient) → slice_get net.client c ≡ Some x → (x.rx_buffers ≤ x.rx_capacity) × (x.tx_buffers ≤ x.tx_capacity)
   client_rooms c x there =
-      let fine = not_of_part plan.net net (λ (y : Net). y.client) c x (λ (y : NetClient). (y.rx_capacity < y.rx_buffers) ⊎ (y.tx_capacity < y.tx_buffers)) is there
-      (kept plan 26 (At.NetClient c) valid (omega arith) (omega arith) (net_client_walked plan net c is (slice_get_within net.client c x there))) in
-      (not_below x.rx_capacity x.rx_buffers (λ less. fine (inl less)), not_below x.tx_capacity x.tx_buffers (λ less. fine (inr less)))
+      let fine = net_client_keeps plan 26 valid (omega arith) (omega arith) net c x is there in
+      (not_below x.rx_capacity x.rx_buffers (λ less. fine (2, less)), not_below x.tx_capacity x.tx_buffers (λ less. fine (4, less)))
 
   -- the queues and pools of the network class come first
   queue_at : (n : ℕ) (row : QueueRow) → slice_get (net_queues plan net) n ≡ Some row → slice_get (queues_of plan) n ≡ Some row

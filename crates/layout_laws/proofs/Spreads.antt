@@ -16,14 +16,13 @@ use Rattle.sdf_plan.specs.declared.plan.BlkClient.{BlkClient}
 use Rattle.sdf_check.specs.Names.{region_named, net_regions, net_client_regions, serial_regions, serial_client_regions, blk_regions, blk_client_regions}
 use Rattle.sdf_check.specs.Rules.{Range, Meets, MeetsEarlier}
 use Rattle.sdf_check.specs.ClassRules.{IsSmaller, class_regions, serial_names, blk_names}
-use Rattle.sdf_check.specs.Shares.{second_offset, net_queues_size, byte_queue_size, blk_queues_size, net_needs, net_client_needs, serial_needs, serial_client_needs, blk_needs, blk_client_needs}
+use Rattle.class_table.specs.Sizes.{second_offset}
 use Rattle.sdf_check.specs.Valid.{Valid}
 use Rattle.sdf_check.proofs.ListLemmas.{get-either}
 use Rattle.sdf_check.proofs.SweepLemmas.{some-inj, none-is-some}
 use Rattle.wire_core.specs.declared.names.ActorId.{ActorId}
 use Rattle.region_layout.specs.Rows.{actor_named, eth_number, uart_number, disk_number, entry_size, queue_span, queue_in, queue_pair, eth_rx_queues, eth_tx_queues, net_rx_queues, net_tx_queues, lease_queues, client_rx_queues, client_tx_queues, net_client_queues, net_queues, uart_queues, shared_serial_queues, serial_client_queues, serial_queues, disk_queues, shared_blk_queues, blk_client_queues, blk_queues, queues_of, pool_in, net_buffer, blk_buffer, net_client_pools, net_pools, blk_client_pools, blk_pools, pools_of, each_client, client_name}
 use Rattle.layout_laws.specs.Sound.{queue_range, pool_range, ranges_of}
-use Rattle.layout_laws.proofs.Found.{no-need}
 use Rattle.layout_laws.proofs.Queues.{net_fine, net_client_fine, serial_fine, serial_client_fine, blk_fine, blk_client_fine}
 use Rattle.layout_laws.proofs.Pools.{not-missed, net_named, net_client_named, blk_named, blk_client_named}
 use Rattle.layout_laws.proofs.Ranges.{base, Held, held-apart, Spread, spread-both, spread-clients, spread-class, spread-one, spread-two, spread-free, part_of, part-held, parts-apart}
@@ -50,12 +49,12 @@ unfolding queue_range queue_in
 two-devices plan low high first second from to other back capacity more =
     spread-free plan (queue_range plan) (NotPool plan) low high (queue_in plan None 0 first Kind.Byte from to capacity) (queue_in plan None 0 second Kind.Byte other back more) refl refl
 
-only : (plan : Plan) (key : ℕ) (region name : List ℕ) (from to : ActorId) (capacity : ℕ) → NotPool plan key → slice_get (class_regions plan) key ≡ Some region → (IsSmaller plan (region, byte_queue_size capacity) → ⊥)
+only : (plan : Plan) (key : ℕ) (region name : List ℕ) (from to : ActorId) (capacity : ℕ) → NotPool plan key → slice_get (class_regions plan) key ≡ Some region → (IsSmaller plan (region, 0 + (64 + 1 * capacity)) → ⊥)
     → QueueSpread plan key (key + 1) (queue_in plan (region_named plan region) 0 name Kind.Byte from to capacity ∷ [])
 unfolding queue_range queue_in
 only plan key region name from to capacity queue at large =
     spread-one plan (queue_range plan) (NotPool plan) key (queue_in plan (region_named plan region) 0 name Kind.Byte from to capacity) queue
-    (λ a is. part-held plan key region (byte_queue_size capacity) 0 (64 + 1 * capacity) a at large (omega arith) is)
+    (λ a is. part-held plan key region (0 + (64 + 1 * capacity)) 0 (64 + 1 * capacity) a at large (omega arith) is)
 
 pair : (plan : Plan) (key : ℕ) (region first second : List ℕ) (from to : ActorId) (kind back : QueueKind) (capacity : ℕ) → NotPool plan key → slice_get (class_regions plan) key ≡ Some region
     → (IsSmaller plan (region, second_offset (64 + entry_size kind * capacity) + (64 + entry_size back * capacity)) → ⊥)
@@ -84,7 +83,6 @@ net-client-queues : (plan : Plan) (net : Net) → Valid plan → plan.net ≡ So
 unfolding net_client_queues lease_queues client_rx_queues client_tx_queues
 net-client-queues plan net valid is c client there =
     let fine = net_client_fine plan net c client valid is there in
-    let needs = net_client_needs net client in
     let inside : c < length net.client = slice_get_within net.client c client there in
     let begins = serial-begins plan net is in
     let start = 3 + 5 * c in
@@ -94,13 +92,13 @@ net-client-queues plan net valid is c client there =
     let zeroth : start + 0 ≡ start = add-zero start in
     let lease = pair plan start client.lease_queues (client_name (codes "net.") c (codes ".lease.active")) (client_name (codes "net.") c (codes ".lease.free")) (actor_named plan net.rx_virt) (actor_named plan client.copier) Kind.Net Kind.Net net.rx_capacity
     (net-client-queue plan start c first (inl refl)) (subst (λ n. slice_get (class_regions plan) n ≡ Some client.lease_queues) zeroth (net-client-key plan net c 0 client client.lease_queues is there refl))
-    (no-need plan needs 0 (client.lease_queues, net_queues_size net.rx_capacity) fine refl) in
+    (λ small. fine (inl (1, small))) in
     let rx = pair plan (start + 2) client.rx_queues (client_name (codes "net.") c (codes ".rx.active")) (client_name (codes "net.") c (codes ".rx.free")) (actor_named plan client.copier) (actor_named plan client.pd) Kind.Net Kind.Net client.rx_capacity
     (net-client-queue plan (start + 2) c third (inr (inl refl))) (net-client-key plan net c 2 client client.rx_queues is there refl)
-    (no-need plan needs 2 (client.rx_queues, net_queues_size client.rx_capacity) fine refl) in
+    (λ small. fine (inl (3, small))) in
     let tx = pair plan (start + 4) client.tx_queues (client_name (codes "net.") c (codes ".tx.active")) (client_name (codes "net.") c (codes ".tx.free")) (actor_named plan client.pd) (actor_named plan net.tx_virt) Kind.Net Kind.Net client.tx_capacity
     (net-client-queue plan (start + 4) c fifth (inr (inr refl))) (net-client-key plan net c 4 client client.tx_queues is there refl)
-    (no-need plan needs 4 (client.tx_queues, net_queues_size client.tx_capacity) fine refl) in
+    (λ small. fine (inl (5, small))) in
     let ends : start + 4 + 1 ≡ 3 + 5 * suc c = omega arith in
     subst (λ n. QueueSpread plan start n (net_client_queues plan net c client)) ends
     (both plan start (start + 4) (start + 4 + 1) (lease_queues plan net c client ++ client_rx_queues plan c client) (client_tx_queues plan net c client) valid (omega arith) (omega arith)
@@ -115,16 +113,15 @@ net-spread : (plan : Plan) → Valid plan → (net : Net) → plan.net ≡ Some 
 unfolding net_queues eth_rx_queues eth_tx_queues net_rx_queues net_tx_queues
 net-spread plan valid net is =
     let fine = net_fine plan net valid is in
-    let needs = net_needs net in
     let begins = serial-begins plan net is in
     let one : 1 < serial_at plan = omega (arith, begins) in
     let two : 2 < serial_at plan = omega (arith, begins) in
     let eth_rx = device plan 0 1 (codes "eth.rx.free") (codes "eth.rx.active") (actor_named plan net.driver) (eth_number plan) (eth_number plan) (actor_named plan net.driver) Kind.Net Kind.Net net.rx_capacity in
     let eth_tx = device plan 1 1 (codes "eth.tx.active") (codes "eth.tx.free") (actor_named plan net.driver) (eth_number plan) (eth_number plan) (actor_named plan net.driver) Kind.Net Kind.Net net.tx_capacity in
     let rx = pair plan 1 net.rx_queues (codes "net.rx.active") (codes "net.rx.free") (actor_named plan net.driver) (actor_named plan net.rx_virt) Kind.Net Kind.Net net.rx_capacity (net-queue plan 1 one (inl refl)) (net-key plan net 1 net.rx_queues is refl)
-    (no-need plan needs 1 (net.rx_queues, net_queues_size net.rx_capacity) fine refl) in
+    (λ small. fine (inl (5, small))) in
     let tx = pair plan 2 net.tx_queues (codes "net.tx.active") (codes "net.tx.free") (actor_named plan net.tx_virt) (actor_named plan net.driver) Kind.Net Kind.Net net.tx_capacity (net-queue plan 2 two (inr refl)) (net-key plan net 2 net.tx_queues is refl)
-    (no-need plan needs 2 (net.tx_queues, net_queues_size net.tx_capacity) fine refl) in
+    (λ small. fine (inl (7, small))) in
     let clients = spread-clients plan (queue_range plan) (NotPool plan) (net_client_queues plan net) (λ k. 3 + 5 * k) 0 net.client valid (λ k. omega arith)
     (λ k (client : NetClient) there. subst (λ n. QueueSpread plan (3 + 5 * k) (3 + 5 * suc k) (net_client_queues plan net n client)) (sym (zero-add k)) (net-client-queues plan net valid is k client there)) in
     subst (λ n. QueueSpread plan 0 n (net_queues plan net)) (sym (net-count net) ∙ sym (zero-add (length (net_regions net ++ flat_map net_client_regions net.client))))
@@ -138,7 +135,6 @@ serial-client-queues : (plan : Plan) (serial : Serial) → Valid plan → plan.s
 unfolding serial_client_queues
 serial-client-queues plan serial valid is c client there =
     let fine = serial_client_fine plan serial c client valid is there in
-    let needs = serial_client_needs client in
     let inside : c < length serial.client = slice_get_within serial.client c client there in
     let ends = blk-begins plan serial is in
     let start = serial_at plan + 2 + 2 * c in
@@ -150,9 +146,9 @@ serial-client-queues plan serial valid is c client there =
     let second = queue_in plan (region_named plan client.tx_queues) 0 (client_name (codes "serial.") c (codes ".tx")) Kind.Byte (actor_named plan client.pd) (actor_named plan serial.tx_virt) client.tx_capacity in
     let rx = only plan start client.rx_queues (client_name (codes "serial.") c (codes ".rx")) (actor_named plan serial.rx_virt) (actor_named plan client.pd) client.rx_capacity (serial-queue plan start low high)
     (subst (λ n. slice_get (class_regions plan) n ≡ Some client.rx_queues) (add-zero start) (serial-client-key plan serial c 0 client client.rx_queues is there refl))
-    (no-need plan needs 0 (client.rx_queues, byte_queue_size client.rx_capacity) fine refl) in
+    (λ small. fine (inl (0, small))) in
     let tx = only plan (start + 1) client.tx_queues (client_name (codes "serial.") c (codes ".tx")) (actor_named plan client.pd) (actor_named plan serial.tx_virt) client.tx_capacity (serial-queue plan (start + 1) low' high')
-    (serial-client-key plan serial c 1 client client.tx_queues is there refl) (no-need plan needs 1 (client.tx_queues, byte_queue_size client.tx_capacity) fine refl) in
+    (serial-client-key plan serial c 1 client client.tx_queues is there refl) (λ small. fine (inl (1, small))) in
     let same : start + 1 + 1 ≡ serial_at plan + 2 + 2 * suc c = omega arith in
     subst (λ n. QueueSpread plan start n (first ∷ second ∷ [])) same
     (both plan start (start + 1) (start + 1 + 1) (first ∷ []) (second ∷ []) valid (omega arith) (omega arith) rx tx)
@@ -168,7 +164,6 @@ serial-spread : (plan : Plan) → Valid plan → (serial : Serial) → plan.seri
 unfolding serial_queues uart_queues shared_serial_queues
 serial-spread plan valid serial is =
     let fine = serial_fine plan serial valid is in
-    let needs = serial_needs serial in
     let from = serial_at plan in
     let ends : blk_at plan ≡ from + (2 + 2 * length serial.client) = ap (λ n. from + n) (counted plan serial is ∙ serial-count serial) in
     let low : from ≤ from = omega arith in
@@ -180,9 +175,9 @@ serial-spread plan valid serial is =
     let second = queue_in plan (region_named plan serial.tx_queues) 0 (codes "serial.tx") Kind.Byte (actor_named plan serial.tx_virt) (actor_named plan serial.driver) serial.tx_capacity in
     let rx = only plan from serial.rx_queues (codes "serial.rx") (actor_named plan serial.driver) (actor_named plan serial.rx_virt) serial.rx_capacity (serial-queue plan from low high)
     (subst (λ n. slice_get (class_regions plan) n ≡ Some serial.rx_queues) (add-zero from) (serial-key plan serial 0 serial.rx_queues is refl))
-    (no-need plan needs 0 (serial.rx_queues, byte_queue_size serial.rx_capacity) fine refl) in
+    (λ small. fine (inl (2, small))) in
     let tx = only plan (from + 1) serial.tx_queues (codes "serial.tx") (actor_named plan serial.tx_virt) (actor_named plan serial.driver) serial.tx_capacity (serial-queue plan (from + 1) low' high')
-    (serial-key plan serial 1 serial.tx_queues is refl) (no-need plan needs 1 (serial.tx_queues, byte_queue_size serial.tx_capacity) fine refl) in
+    (serial-key plan serial 1 serial.tx_queues is refl) (λ small. fine (inl (3, small))) in
     let shared : QueueSpread plan from (from + 1 + 1) (first ∷ second ∷ []) = both plan from (from + 1) (from + 1 + 1) (first ∷ []) (second ∷ []) valid (omega arith) (omega arith) rx tx in
     let middle : from + 1 + 1 ≡ from + 2 + 2 * 0 = omega arith in
     let shared' : QueueSpread plan from (from + 2 + 2 * 0) (first ∷ second ∷ []) = subst (λ n. QueueSpread plan from n (first ∷ second ∷ [])) middle shared in
@@ -204,7 +199,7 @@ blk-client-queues plan blk valid is c client there =
     let start = blk_at plan + 2 + 2 * c in
     let s = pair plan (start + 1) client.queues (client_name (codes "blk.") c (codes ".req")) (client_name (codes "blk.") c (codes ".resp")) (actor_named plan client.pd) (actor_named plan blk.virt) Kind.Req Kind.Resp client.capacity
     (blk-queue plan (start + 1) c (inr refl)) (blk-client-key plan blk c 1 client client.queues is there refl)
-    (no-need plan (blk_client_needs client) 1 (client.queues, blk_queues_size client.capacity) (blk_client_fine plan blk c client valid is there) refl) in (
+    (λ small. (blk_client_fine plan blk c client valid is there) (inl (1, small))) in (
       λ i x a at e.
           let w = s.0 i x a at e in
           let least : start ≤ w.0 = omega (arith, w.1) in
@@ -221,7 +216,7 @@ blk-spread plan valid blk is =
     let disk = device plan from from (codes "disk.req") (codes "disk.resp") (actor_named plan blk.driver) (disk_number plan) (disk_number plan) (actor_named plan blk.driver) Kind.Req Kind.Resp blk.capacity in
     let s = pair plan from blk.queues (codes "blk.req") (codes "blk.resp") (actor_named plan blk.virt) (actor_named plan blk.driver) Kind.Req Kind.Resp blk.capacity (blk-queue plan from 0 (inl refl))
     (subst (λ n. slice_get (class_regions plan) n ≡ Some blk.queues) (add-zero from) (blk-key plan blk 0 blk.queues is refl))
-    (no-need plan (blk_needs blk) 0 (blk.queues, blk_queues_size blk.capacity) (blk_fine plan blk valid is) refl) in
+    (λ small. (blk_fine plan blk valid is) (inl (3, small))) in
     let shared : QueueSpread plan from (from + 2 + 2 * 0) (shared_blk_queues plan blk) =
     (λ i x a at e. let w = s.0 i x a at e in let most : w.0 < from + 2 + 2 * 0 = omega (arith, w.2) in (w.0, w.1, most, w.3, w.4), s.1) in
     let clients = spread-clients plan (queue_range plan) (NotPool plan) (blk_client_queues plan blk) (λ k. from + 2 + 2 * k) 0 blk.client valid (λ k. omega arith)
@@ -267,21 +262,20 @@ net-client-pools : (plan : Plan) (net : Net) → Valid plan → plan.net ≡ Som
 unfolding net_client_pools
 net-client-pools plan net valid is c client there =
     let fine = net_client_fine plan net c client valid is there in
-    let needs = net_client_needs net client in
     let names = net_client_named plan net c client valid is there in
     let inside : c < length net.client = slice_get_within net.client c client there in
     let begins = serial-begins plan net is in
     let start = 3 + 5 * c in
     let second : start + 1 < serial_at plan = omega (arith, begins, inside) in
     let fourth : start + 3 < serial_at plan = omega (arith, begins, inside) in
-    let rx_at = not-missed plan (net_client_regions client) 1 client.rx_region names refl in
-    let tx_at = not-missed plan (net_client_regions client) 3 client.tx_region names refl in
+    let rx_at = not-missed plan client.rx_region (λ none. names (inr (0, none))) in
+    let tx_at = not-missed plan client.tx_region (λ none. names (inr (1, none))) in
     let one = pool_in plan client.rx_region (client_name (codes "net.") c (codes ".rx")) client.rx_buffers net_buffer in
     let other = pool_in plan client.tx_region (client_name (codes "net.") c (codes ".tx")) client.tx_buffers net_buffer in
     let rx = pool plan (start + 1) client.rx_region (client_name (codes "net.") c (codes ".rx")) client.rx_buffers net_buffer rx_at.0 (inl (second, inr (c, inl refl)))
-    (net-client-key plan net c 1 client client.rx_region is there refl) rx_at.1 (no-need plan needs 1 (client.rx_region, 2048 * client.rx_buffers) fine refl) in
+    (net-client-key plan net c 1 client client.rx_region is there refl) rx_at.1 (λ small. fine (inr (0, small))) in
     let tx = pool plan (start + 3) client.tx_region (client_name (codes "net.") c (codes ".tx")) client.tx_buffers net_buffer tx_at.0 (inl (fourth, inr (c, inr refl)))
-    (net-client-key plan net c 3 client client.tx_region is there refl) tx_at.1 (no-need plan needs 3 (client.tx_region, 2048 * client.tx_buffers) fine refl) in
+    (net-client-key plan net c 3 client client.tx_region is there refl) tx_at.1 (λ small. fine (inr (1, small))) in
     let joined : PoolSpread plan (start + 1) (start + 3 + 1) (one ∷ other ∷ []) =
     pools-both plan (start + 1) (start + 3) (start + 3 + 1) (one ∷ []) (other ∷ []) valid (omega arith) (omega arith)
     (λ i x a at e. let w = rx.0 i x a at e in let most : w.0 < start + 3 = omega (arith, w.2) in (w.0, w.1, most, w.3, w.4), rx.1) tx in (
@@ -298,10 +292,10 @@ unfolding net_pools
 net-pools plan valid net is =
     let begins = serial-begins plan net is in
     let none : 0 < serial_at plan = omega (arith, begins) in
-    let there = not-missed plan (net_regions net) 0 net.rx_region (net_named plan net valid is) refl in
+    let there = not-missed plan net.rx_region (λ none. (net_named plan net valid is) (inr (0, none))) in
     let one = pool_in plan net.rx_region (codes "net.rx") net.rx_buffers net_buffer in
     let s = pool plan 0 net.rx_region (codes "net.rx") net.rx_buffers net_buffer there.0 (inl (none, inl refl)) (net-key plan net 0 net.rx_region is refl) there.1
-    (no-need plan (net_needs net) 0 (net.rx_region, 2048 * net.rx_buffers) (net_fine plan net valid is) refl) in
+    (λ small. (net_fine plan net valid is) (inr (0, small))) in
     let clients = spread-clients plan pool_range (IsPool plan) (net_client_pools plan) (λ k. 3 + 5 * k) 0 net.client valid (λ k. omega arith)
     (λ k (client : NetClient) there. subst (λ n. PoolSpread plan (3 + 5 * k) (3 + 5 * suc k) (net_client_pools plan n client)) (sym (zero-add k)) (net-client-pools plan net valid is k client there)) in
     subst (λ n. PoolSpread plan 0 n (net_pools plan net)) (sym (net-count net) ∙ sym (zero-add (length (net_regions net ++ flat_map net_client_regions net.client))))
@@ -313,10 +307,10 @@ blk-client-pools : (plan : Plan) (blk : Blk) → Valid plan → plan.blk ≡ Som
 unfolding blk_client_pools
 blk-client-pools plan blk valid is c client there =
     let start = blk_at plan + 2 + 2 * c in
-    let at_region = not-missed plan (blk_client_regions client) 0 client.region (blk_client_named plan blk c client valid is there) refl in
+    let at_region = not-missed plan client.region (λ none. (blk_client_named plan blk c client valid is there) (inr (0, none))) in
     let s = pool plan start client.region (client_name (codes "blk.") c []) client.buffers blk_buffer at_region.0 (inr (omega arith, inr (c, refl)))
     (subst (λ n. slice_get (class_regions plan) n ≡ Some client.region) (add-zero start) (blk-client-key plan blk c 0 client client.region is there refl)) at_region.1
-    (no-need plan (blk_client_needs client) 0 (client.region, 32768 * client.buffers) (blk_client_fine plan blk c client valid is there) refl) in
+    (λ small. (blk_client_fine plan blk c client valid is there) (inr (0, small))) in
     (λ i x a at e. let w = s.0 i x a at e in let most : w.0 < blk_at plan + 2 + 2 * suc c = omega (arith, w.2) in (w.0, w.1, most, w.3, w.4), s.1)
 
 blk-pools : (plan : Plan) → Valid plan → (blk : Blk) → plan.blk ≡ Some blk
@@ -324,10 +318,10 @@ blk-pools : (plan : Plan) → Valid plan → (blk : Blk) → plan.blk ≡ Some b
 unfolding blk_pools
 blk-pools plan valid blk is =
     let from = blk_at plan in
-    let there = not-missed plan (blk_regions blk) 1 blk.region (blk_named plan blk valid is) refl in
+    let there = not-missed plan blk.region (λ none. (blk_named plan blk valid is) (inr (0, none))) in
     let one = pool_in plan blk.region (codes "blk") 1 blk_buffer in
     let s = pool plan (from + 1) blk.region (codes "blk") 1 blk_buffer there.0 (inr (omega arith, inl refl)) (blk-key plan blk 1 blk.region is refl) there.1
-    (no-need plan (blk_needs blk) 1 (blk.region, 32768) (blk_fine plan blk valid is) refl) in
+    (λ small. (blk_fine plan blk valid is) (inr (0, small))) in
     let first : PoolSpread plan from (from + 2 + 2 * 0) (one ∷ []) = (
       λ i x a at e.
           let w = s.0 i x a at e in

@@ -1,4 +1,5 @@
 pub mod BaseLemmas
+pub mod KeptLemmas
 pub mod NameLemmas
 pub mod RowLemmas
 pub mod DisjointLemmas

@@ -18,6 +18,7 @@ use Rattle.sdf_check.specs.Valid.{Valid}
 use Rattle.sdf_check.proofs.SoughtLemmas.{here-some}
 use Rattle.region_layout.specs.Bases.{AreGivenApart}
 use Rattle.region_layout.specs.Sizes.{IsSmallRegion, IsSmallNet, IsSmallSerial, IsSmallBlk, HasSmallNumbers}
+use Rattle.region_layout.proofs.KeptLemmas.{net_keeps, net_client_keeps, serial_keeps, serial_client_keeps, blk_keeps, blk_client_keeps}
 use Rattle.region_layout.proofs.WalkLemmas.{kept, region_walked, domain_walked, net_walked, net_client_walked, serial_walked, serial_client_walked, blk_walked, blk_client_walked}
 
 -- what doesn't hold of an element that is there
@@ -139,39 +140,32 @@ given_apart plan valid a b first second at other below there here given set =
 -- rule 25
 pub net_capacities : (plan : Plan) (net : Net) → Valid plan → plan.net ≡ Some net → IsCapacity net.rx_capacity × IsCapacity net.tx_capacity
 net_capacities plan net valid is =
-    let fine = not_of plan.net net (λ (x : Net). (IsCapacity x.rx_capacity → ⊥) ⊎ (IsCapacity x.tx_capacity → ⊥)) is
-    (kept plan 25 At.Net valid (omega arith) (omega arith) (net_walked plan net is)) in
-    (is_capacity net.rx_capacity (λ lacks. fine (inl lacks)), is_capacity net.tx_capacity (λ lacks. fine (inr lacks)))
+    let fine = net_keeps plan 25 valid (omega arith) (omega arith) net is in
+    (is_capacity net.rx_capacity (λ lacks. fine (0, lacks)), is_capacity net.tx_capacity (λ lacks. fine (2, lacks)))
 
 pub net_client_capacities : (plan : Plan) (net : Net) (c : ℕ) (client : NetClient) → Valid plan → plan.net ≡ Some net → slice_get net.client c ≡ Some client
     → IsCapacity client.rx_capacity × IsCapacity client.tx_capacity
 net_client_capacities plan net c client valid is there =
-    let fine = not_of_part plan.net net (λ (x : Net). x.client) c client (λ (x : NetClient). (IsCapacity x.rx_capacity → ⊥) ⊎ (IsCapacity x.tx_capacity → ⊥)) is there
-    (kept plan 25 (At.NetClient c) valid (omega arith) (omega arith) (net_client_walked plan net c is (slice_get_within net.client c client there))) in
-    (is_capacity client.rx_capacity (λ lacks. fine (inl lacks)), is_capacity client.tx_capacity (λ lacks. fine (inr lacks)))
+    let fine = net_client_keeps plan 25 valid (omega arith) (omega arith) net c client is there in
+    (is_capacity client.rx_capacity (λ lacks. fine (2, lacks)), is_capacity client.tx_capacity (λ lacks. fine (4, lacks)))
 
 pub serial_capacities : (plan : Plan) (serial : Serial) → Valid plan → plan.serial ≡ Some serial → IsCapacity serial.rx_capacity × IsCapacity serial.tx_capacity
 serial_capacities plan serial valid is =
-    let fine = not_of plan.serial serial (λ (x : Serial). (IsCapacity x.rx_capacity → ⊥) ⊎ (IsCapacity x.tx_capacity → ⊥)) is
-    (kept plan 25 At.Serial valid (omega arith) (omega arith) (serial_walked plan serial is)) in
-    (is_capacity serial.rx_capacity (λ lacks. fine (inl lacks)), is_capacity serial.tx_capacity (λ lacks. fine (inr lacks)))
+    let fine = serial_keeps plan 25 valid (omega arith) (omega arith) serial is in
+    (is_capacity serial.rx_capacity (λ lacks. fine (0, lacks)), is_capacity serial.tx_capacity (λ lacks. fine (1, lacks)))
 
 pub serial_client_capacities : (plan : Plan) (serial : Serial) (c : ℕ) (client : SerialClient) → Valid plan → plan.serial ≡ Some serial → slice_get serial.client c ≡ Some client
     → IsCapacity client.rx_capacity × IsCapacity client.tx_capacity
 serial_client_capacities plan serial c client valid is there =
-    let fine = not_of_part plan.serial serial (λ (x : Serial). x.client) c client (λ (x : SerialClient). (IsCapacity x.rx_capacity → ⊥) ⊎ (IsCapacity x.tx_capacity → ⊥)) is there
-    (kept plan 25 (At.SerialClient c) valid (omega arith) (omega arith) (serial_client_walked plan serial c is (slice_get_within serial.client c client there))) in
-    (is_capacity client.rx_capacity (λ lacks. fine (inl lacks)), is_capacity client.tx_capacity (λ lacks. fine (inr lacks)))
+    let fine = serial_client_keeps plan 25 valid (omega arith) (omega arith) serial c client is there in
+    (is_capacity client.rx_capacity (λ lacks. fine (0, lacks)), is_capacity client.tx_capacity (λ lacks. fine (1, lacks)))
 
 pub blk_capacity : (plan : Plan) (blk : Blk) → Valid plan → plan.blk ≡ Some blk → IsCapacity blk.capacity
-blk_capacity plan blk valid is =
-    is_capacity blk.capacity (not_of plan.blk blk (λ (x : Blk). IsCapacity x.capacity → ⊥) is
-    (kept plan 25 At.Blk valid (omega arith) (omega arith) (blk_walked plan blk is)))
+blk_capacity plan blk valid is = is_capacity blk.capacity (λ lacks. blk_keeps plan 25 valid (omega arith) (omega arith) blk is (0, lacks))
 
 pub blk_client_capacity : (plan : Plan) (blk : Blk) (c : ℕ) (client : BlkClient) → Valid plan → plan.blk ≡ Some blk → slice_get blk.client c ≡ Some client → IsCapacity client.capacity
 blk_client_capacity plan blk c client valid is there =
-    is_capacity client.capacity (not_of_part plan.blk blk (λ (x : Blk). x.client) c client (λ (x : BlkClient). IsCapacity x.capacity → ⊥) is there
-    (kept plan 25 (At.BlkClient c) valid (omega arith) (omega arith) (blk_client_walked plan blk c is (slice_get_within blk.client c client there))))
+    is_capacity client.capacity (λ lacks. blk_client_keeps plan 25 valid (omega arith) (omega arith) blk c client is there (0, lacks))
 
 -- rule 30 on clients and buffers
 pub net_counts : (plan : Plan) (net : Net) → Valid plan → plan.net ≡ Some net → IsClientCount (length net.client) × IsBufferCount net.rx_buffers

@@ -1,4 +1,4 @@
-use Rattle.std.proofs.Common.{◌≡◌, ℕ, zero, suc, ◌+◌, ◌<◌, ◌≤◌, List, [], ◌∷◌, ◌++◌, length, map, Option, Some, slice_get, refl, ap, sym, ◌∙◌, subst, arith, add-zero, zero-add}
+use Rattle.std.proofs.Common.{◌≡◌, ℕ, zero, suc, ◌+◌, ◌<◌, ◌≤◌, inl, inr, List, [], ◌∷◌, ◌++◌, length, map, Option, Some, slice_get, refl, ap, sym, ◌∙◌, subst, arith, add-zero, zero-add}
 use Rattle.std.specs.Option.{option_map}
 use Rattle.sdf_plan.specs.Places.{Outline, walk, places_from, domain_places, channel_places, class_places}
 use Rattle.sdf_plan.specs.declared.place.Place.{Place}
@@ -8,7 +8,8 @@ use Rattle.sdf_plan.specs.declared.plan.Net.{Net}
 use Rattle.sdf_plan.specs.declared.plan.Serial.{Serial}
 use Rattle.sdf_plan.specs.declared.plan.Blk.{Blk}
 use Rattle.sdf_plan.specs.Elements.{outline_of, domain_parts}
-use Rattle.sdf_check.specs.Valid.{Valid, broken, first_rule, last_rule}
+use Rattle.class_table.specs.Table.{OfElement}
+use Rattle.sdf_check.specs.Valid.{Valid, BreaksAtPlace, BreaksByRows, first_rule, last_rule}
 use Rattle.sdf_check.proofs.ListLemmas.{get-left, get-right}
 use Rattle.region_layout.proofs.NameLemmas.{length_map}
 
@@ -144,6 +145,10 @@ pub blk_client_walked : (plan : Plan) (blk : Blk) (c : ℕ) → plan.blk ≡ Som
 blk_client_walked plan blk c is less =
     in_blk plan (At.BlkClient c) (client_in At.Blk (λ c. At.BlkClient c) (outline_of plan).blk (length blk.client) c (blk_counted plan blk is) less)
 
--- an element of a valid plan breaks no rule
-pub kept : (plan : Plan) (rule : ℕ) (place : Place) → Valid plan → first_rule ≤ rule → rule ≤ last_rule → IsIn place (walk (outline_of plan)) → broken plan rule place → ⊥
-kept plan rule place valid from to there bad = valid rule from to there.0 place there.1 bad
+-- an element of a valid plan breaks no rule, neither by its place nor by its rows
+pub kept : (plan : Plan) (rule : ℕ) (place : Place) → Valid plan → first_rule ≤ rule → rule ≤ last_rule → IsIn place (walk (outline_of plan)) → BreaksAtPlace plan rule place → ⊥
+kept plan rule place valid from to there bad = valid rule from to there.0 place there.1 (inl bad)
+
+pub rows_kept : (plan : Plan) (rule : ℕ) (place : Place) → Valid plan → first_rule ≤ rule → rule ≤ last_rule → IsIn place (walk (outline_of plan))
+    → OfElement plan place (BreaksByRows plan rule) → ⊥
+rows_kept plan rule place valid from to there bad = valid rule from to there.0 place there.1 (inr bad)

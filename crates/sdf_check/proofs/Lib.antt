@@ -1,4 +1,5 @@
 pub mod NameLemmas
+pub mod RowLemmas
 pub mod RuleLemmas
 pub mod SweepLemmas
 pub mod UseLemmas

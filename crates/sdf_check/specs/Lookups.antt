@@ -8,7 +8,8 @@ use Rattle.sdf_check.specs.Names.{place_of}
 
 -- the map holds the place of the first of these names that is a name
 abbrev pub FindsPlaces : BTreeMap (Bor (List ℕ)) ℕ → List (List ℕ) → Type 0
-FindsPlaces places names = (name : List ℕ) → get_by (λ key. slice_cmp nat_cmp name key.now) places ≡ place_of name names
+FindsPlaces places names = (name : List ℕ)
+    → get_by (λ key. slice_cmp nat_cmp name key.now) places ≡ place_of name names
 
 -- the names behind references
 abbrev pub shown : List (Bor (List ℕ)) → List (List ℕ)

@@ -7,7 +7,8 @@ use Rattle.sdf_check.specs.Rules.{Range, MeetsEarlier, map_range}
 -- this is the first of the ranges that meets an earlier one, if one does
 abbrev pub IsFirstMeeting : List (Option Range) → Option ℕ → Type 0
 IsFirstMeeting ranges first =
-    MatchOption first ((k : ℕ) → MeetsEarlier ranges k → ⊥) (λ at. MeetsEarlier ranges at × ((k : ℕ) → k < at → MeetsEarlier ranges k → ⊥))
+    MatchOption first ((k : ℕ) → MeetsEarlier ranges k → ⊥)
+    (λ at. MeetsEarlier ranges at × ((k : ℕ) → k < at → MeetsEarlier ranges k → ⊥))
 
 -- for each of the first domains, the first of its maps that meets an earlier one
 abbrev pub AreFirstMapsUpTo : Plan → List (Option ℕ) → ℕ → Type 0

@@ -36,14 +36,16 @@ domain_named plan name = place_of name (domain_names plan)
 
 -- the value stands in a list before this place
 abbrev pub StandsBefore : {T : Type 0} → T → List T → ℕ → Type 0
-StandsBefore value values at = (earlier : ℕ) × (earlier < at) × (slice_get values earlier ≡ Some value)
+StandsBefore value values at = (earlier : ℕ) × (earlier < at)
+    × (slice_get values earlier ≡ Some value)
 
 -- the regions that a class element names, by its keys in the order of the key table
 abbrev pub net_regions : Net → List (List ℕ)
 net_regions net = net.rx_region ∷ net.rx_queues ∷ net.tx_queues ∷ []
 
 abbrev pub net_client_regions : NetClient → List (List ℕ)
-net_client_regions client = client.lease_queues ∷ client.rx_region ∷ client.rx_queues ∷ client.tx_region ∷ client.tx_queues ∷ []
+net_client_regions client = client.lease_queues ∷ client.rx_region ∷ client.rx_queues
+    ∷ client.tx_region ∷ client.tx_queues ∷ []
 
 abbrev pub serial_regions : Serial → List (List ℕ)
 serial_regions serial = serial.rx_queues ∷ serial.tx_queues ∷ []

@@ -5,6 +5,7 @@ use Rattle.std.specs.BTreeMap.{get}
 use Rattle.sdf_plan.specs.declared.place.Place.{Place}
 use Rattle.sdf_plan.specs.declared.place.Place.TheVariants as At
 use Rattle.sdf_plan.specs.declared.plan.Plan.{Plan}
+use Rattle.class_table.specs.Shown.{AreClasses}
 use Rattle.sdf_check.specs.declared.judge.Tables.{Tables}
 use Rattle.std.specs.Prelude.{◌+◌}
 use Rattle.sdf_check.specs.Lookups.{FindsPlaces}
@@ -27,14 +28,19 @@ OrPrior broken place = broken place ⊎ ((prior : Place) × IsPrior prior place 
 
 -- the tables are those of this plan
 pub record AreTables (tables : Tables) (plan : Plan) : Type 0 where
+  pub classes : AreClasses tables.classes plan
   pub given : IsFirstMeeting (map given_range plan.memory_region) tables.given
   pub maps : AreFirstMaps plan tables.maps
   pub uses : UsesUpTo (get use_cmp tables.uses) plan (length plan.channel) 0
   pub domains : FindsPlaces tables.named_domains.places (class_domains plan)
-  pub domains_to_serial : tables.named_domains.to_serial ≡ length (net_names net_domains net_client_domains plan)
+  pub domains_to_serial : tables.named_domains.to_serial
+      ≡ length (net_names net_domains net_client_domains plan)
   pub domains_to_blk : tables.named_domains.to_blk
-      ≡ length (net_names net_domains net_client_domains plan) + length (serial_names serial_domains serial_client_domains plan)
+      ≡ length (net_names net_domains net_client_domains plan)
+      + length (serial_names serial_domains serial_client_domains plan)
   pub regions : FindsPlaces tables.named_regions.places (class_regions plan)
-  pub regions_to_serial : tables.named_regions.to_serial ≡ length (net_names net_regions net_client_regions plan)
+  pub regions_to_serial : tables.named_regions.to_serial
+      ≡ length (net_names net_regions net_client_regions plan)
   pub regions_to_blk : tables.named_regions.to_blk
-      ≡ length (net_names net_regions net_client_regions plan) + length (serial_names serial_regions serial_client_regions plan)
+      ≡ length (net_names net_regions net_client_regions plan)
+      + length (serial_names serial_regions serial_client_regions plan)

@@ -18,5 +18,7 @@ HasUse plan d id c e = OfEnd plan c e (λ end. (domain_named plan end.pd ≡ Som
 -- of the ends before this one, the table has the first one for each domain and id
 pub record UsesUpTo (find : ℕ × ℕ → Option (ℕ × ℕ)) (plan : Plan) (channel at : ℕ) : Type 0 where
   pub found : (d id c e : ℕ) → find (d, id) ≡ Some (c, e)
-      → HasUse plan d id c e × IsEarlierEnd c e channel at × ((c' e' : ℕ) → IsEarlierEnd c' e' c e → HasUse plan d id c' e' → ⊥)
-  pub none : (d id : ℕ) → find (d, id) ≡ None → (c e : ℕ) → IsEarlierEnd c e channel at → HasUse plan d id c e → ⊥
+      → HasUse plan d id c e × IsEarlierEnd c e channel at
+      × ((c' e' : ℕ) → IsEarlierEnd c' e' c e → HasUse plan d id c' e' → ⊥)
+  pub none : (d id : ℕ) → find (d, id) ≡ None → (c e : ℕ) → IsEarlierEnd c e channel at
+      → HasUse plan d id c e → ⊥

@@ -1,5 +1,5 @@
 -- What a valid plan is, and the refusal of one that isn't: the rules by their numbers.
-use Rattle.std.specs.Prelude.{ℕ, ◌==◌, nat_lt, MatchBool, ⊤, Result, Ok, Err}
+use Rattle.std.specs.Prelude.{ℕ, ◌==◌, ◌⊎◌, nat_lt, MatchBool, ⊤, Result, Ok, Err}
 use Rattle.sdf_plan.specs.Places.{walk, KeepsRules, IsRefusal}
 use Rattle.sdf_plan.specs.declared.place.Place.{Place}
 use Rattle.sdf_plan.specs.declared.place.Refusal.{Refusal}
@@ -7,7 +7,8 @@ use Rattle.sdf_plan.specs.declared.place.SdfFault.{SdfFault}
 use Rattle.sdf_plan.specs.declared.place.SdfFault.TheVariants as Fault
 use Rattle.sdf_plan.specs.declared.plan.Plan.{Plan}
 use Rattle.sdf_plan.specs.Elements.{outline_of}
-use Rattle.sdf_check.specs.ClassRules.{HasWrongRole, MissesChannel, MissesRight, SharesRegion, HasBadCapacity, HasLowCapacity, HasSmallRegion, HasBadMac, HasBadPartition, IsPastLimit}
+use Rattle.class_table.specs.Table.{Element, OfElement}
+use Rattle.sdf_check.specs.ClassRules.{UsesNoRegion, UsesNoDomain, LacksOrTakesRole, GivesWrongRole, LacksChannel, LacksRight, IsSharedWithStranger, NamesRegionAgain, HasBadCapacity, HasLowCapacity, LacksRoom, HasBadMac, HasBadPartition, IsPastLimit}
 use Rattle.sdf_check.specs.Rules.{TakesName, IsPastLastDomain, HasPriorityTooHigh, HasPeriodTooShort, HasBadSize, HasBadPageSize, HasBadPhysAddr, MeetsGivenRange, NamesNoRegion, HasBadVaddr, MeetsMap, HasBadPerms, NamesNoDomain, HasIdTooHigh, TakesId, JoinsOneDomain}
 
 -- the first and the last rule that a plan is judged by
@@ -17,7 +18,8 @@ first_rule = 5
 abbrev pub last_rule : ℕ
 last_rule = 30
 
--- the element at the place breaks the rule of this number: one of those on any system, or one of those on its classes
+-- the element at the place breaks the rule of this number: one of those on any system, or one of
+-- those on its domains, ids and counts
 abbrev pub BreaksPlanRule : Plan → ℕ → Place → Type 0
 BreaksPlanRule plan rule place =
     MatchBool (rule == 5) (TakesName plan place) (
@@ -39,19 +41,33 @@ BreaksPlanRule plan rule place =
 
 abbrev pub BreaksClassRule : Plan → ℕ → Place → Type 0
 BreaksClassRule plan rule place =
-    MatchBool (rule == 21) (HasWrongRole plan place) (
-    MatchBool (rule == 22) (MissesChannel plan place) (
-    MatchBool (rule == 23) (MissesRight plan place) (
-    MatchBool (rule == 24) (SharesRegion plan place) (
-    MatchBool (rule == 25) (HasBadCapacity plan place) (
-    MatchBool (rule == 26) (HasLowCapacity plan place) (
-    MatchBool (rule == 27) (HasSmallRegion plan place) (
+    MatchBool (rule == 21) (LacksOrTakesRole plan place) (
+    MatchBool (rule == 24) (NamesRegionAgain plan place) (
     MatchBool (rule == 28) (HasBadMac plan place) (
     MatchBool (rule == 29) (HasBadPartition plan place) (
-    MatchBool (rule == 30) (IsPastLimit plan place) ⊥)))))))))
+    MatchBool (rule == 30) (IsPastLimit plan place) ⊥))))
+
+-- this rule is told of the place alone, and the element breaks it
+abbrev pub BreaksAtPlace : Plan → ℕ → Place → Type 0
+BreaksAtPlace plan rule place = MatchBool (nat_lt rule 21) (BreaksPlanRule plan rule place)
+    (BreaksClassRule plan rule place)
+
+-- this rule is told of the rows of an element of a class, and these break it
+abbrev pub BreaksByRows : Plan → ℕ → Element → Type 0
+BreaksByRows plan rule e =
+    MatchBool (rule == 13) (UsesNoRegion plan e) (
+    MatchBool (rule == 17) (UsesNoDomain plan e) (
+    MatchBool (rule == 21) (GivesWrongRole plan e) (
+    MatchBool (rule == 22) (LacksChannel plan e) (
+    MatchBool (rule == 23) (LacksRight plan e) (
+    MatchBool (rule == 24) (IsSharedWithStranger plan e) (
+    MatchBool (rule == 25) (HasBadCapacity e) (
+    MatchBool (rule == 26) (HasLowCapacity e) (
+    MatchBool (rule == 27) (LacksRoom plan e) ⊥))))))))
 
 abbrev pub broken : Plan → ℕ → Place → Type 0
-broken plan rule place = MatchBool (nat_lt rule 21) (BreaksPlanRule plan rule place) (BreaksClassRule plan rule place)
+broken plan rule place = BreaksAtPlace plan rule place
+    ⊎ OfElement plan place (BreaksByRows plan rule)
 
 -- a plan is valid where no element breaks a rule
 abbrev pub Valid : Plan → Type 0
@@ -59,7 +75,8 @@ Valid plan = KeepsRules (broken plan) (walk (outline_of plan)) first_rule last_r
 
 -- the least rule that a plan breaks, at the first element that breaks it
 abbrev pub IsRefused : Plan → Refusal → Type 0
-IsRefused plan refusal = IsRefusal (broken plan) (walk (outline_of plan)) first_rule last_rule refusal
+IsRefused plan refusal = IsRefusal (broken plan)
+    (walk (outline_of plan)) first_rule last_rule refusal
 
 -- this holds of the refusal, where the answer is one
 abbrev pub IfRefused : {T : Type 0} → Result T SdfFault → (Refusal → Type 0) → Type 0

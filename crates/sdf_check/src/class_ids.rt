@@ -26,9 +26,11 @@ fn has_mac(client: &NetClient, mac: Mac) -> bool
     }
 }
 
-// Whether a client before a place has this address. Where this is asked there are at most 63 clients.
+// Whether a client before a place has this address. Where this is asked there are at most 63
+// clients.
 fn mac_stands_before(clients: &Series<NetClient>, mac: Mac, until: u32) -> bool
-    ensures { IsTrue result ↔ StandsBefore (Some mac) (map (λ (other : NetClient). mac_of other.mac) clients.now) until }
+    ensures { IsTrue result ↔ StandsBefore (Some mac)
+        (map (λ (other : NetClient). mac_of other.mac) clients.now) until }
 {
     for at in 0..(until as usize).min(clients.len()) {
         if has_mac(clients.get(at), mac) {
@@ -57,9 +59,11 @@ pub fn has_bad_mac(judge: &Judge<'_>, place: Place) -> bool
     }
 }
 
-// Whether a client before a place has this partition. Where this is asked there are at most 63 clients.
+// Whether a client before a place has this partition. Where this is asked there are at most 63
+// clients.
 fn partition_stands_before(clients: &Series<BlkClient>, partition: u64, until: u32) -> bool
-    ensures { IsTrue result ↔ StandsBefore partition (map (λ (other : BlkClient). other.partition) clients.now) until }
+    ensures { IsTrue result ↔ StandsBefore partition
+        (map (λ (other : BlkClient). other.partition) clients.now) until }
 {
     for at in 0..(until as usize).min(clients.len()) {
         if clients.get(at).partition == partition {

@@ -1,20 +1,23 @@
 //! The judge, a plan with its names looked up, its tables, and the rules on any system that need no
 //! table.
-ghost use Rattle.std.specs.Prelude.{◌≡◌, ◌↔◌, ◌^◌, ℕ, List, map, length, IsTrue, Some, None, MatchOption, slice_get};
+ghost use Rattle.std.specs.Prelude.{◌≡◌, ◌↔◌, ◌^◌, ℕ, List, length, IsTrue, IsNone, Some, None, MatchOption, slice_get};
 ghost use Rattle.sdf_check.specs.Lookups.{FindsPlaces};
 ghost use Rattle.sdf_check.specs.Names.{region_names, domain_names, region_named, domain_named, StandsBefore};
-ghost use Rattle.sdf_check.specs.Rules.{TakesName, IsPastLastDomain, HasPriorityTooHigh, HasPeriodTooShort, HasBadSize, HasBadPageSize, HasBadPhysAddr, NamesNoRegion, HasBadVaddr, HasBadPerms, NamesNoDomain, HasIdTooHigh, JoinsOneDomain, MissesRegion, MissesDomain, the_region};
+ghost use Rattle.sdf_check.specs.Rules.{TakesName, IsPastLastDomain, HasPriorityTooHigh, HasPeriodTooShort, HasBadSize, HasBadPageSize, HasBadPhysAddr, NamesNoRegion, HasBadVaddr, HasBadPerms, NamesNoDomain, HasIdTooHigh, JoinsOneDomain, the_region};
 
 use crate::keys::Keys;
 use crate::names::{Places, place_of};
 use crate::numbers::{are_permissions, ends_above, is_multiple, is_page_size};
 use crate::uses::Uses;
-use cargo_core::{Series, Text};
+use cargo_core::Series;
+use class_table::Classes;
 use sdf_plan::{Place, Plan, Region};
 
-/// What is found out once about the ranges and the ids of a plan.
+/// What is found out once about a plan: its classes, its ranges and its ids.
 #[derive(Drop)]
 pub struct Tables<'a> {
+    /// The elements of the classes, with their rows.
+    pub classes: Classes<'a>,
     /// The first region whose given range meets an earlier one.
     pub given: Option<usize>,
     /// For each domain the first of its maps that meets an earlier one.
@@ -38,14 +41,16 @@ pub struct Judge<'a> {
 
 /// The element at a place in file order.
 pub fn at<T>(items: &Series<T>, number: u32) -> Option<&T>
-    ensures { MatchOption result (slice_get items.now number ≡ None) (λ item. slice_get items.now number ≡ Some item.now) }
+    ensures { MatchOption result (slice_get items.now number ≡ None)
+        (λ item. slice_get items.now number ≡ Some item.now) }
 {
     nth(items, number as usize)
 }
 
 /// The element at a place of a list.
 pub fn nth<T>(items: &Series<T>, at: usize) -> Option<&T>
-    ensures { MatchOption result (slice_get items.now at ≡ None) (λ item. slice_get items.now at ≡ Some item.now) }
+    ensures { MatchOption result (slice_get items.now at ≡ None)
+        (λ item. slice_get items.now at ≡ Some item.now) }
 {
     if at < items.len() {
         Some(items.get(at))
@@ -54,22 +59,17 @@ pub fn nth<T>(items: &Series<T>, at: usize) -> Option<&T>
     }
 }
 
-fn is_same(first: &str, second: &str) -> bool
+/// Whether two texts are equal.
+pub fn is_same(first: &str, second: &str) -> bool
     ensures { IsTrue result ↔ (first.now ≡ second.now) }
 {
     first == second
 }
 
-/// Whether two texts are equal.
-pub fn same_text(first: &Text, second: &Text) -> bool
-    ensures { IsTrue result ↔ (first.now ≡ second.now) }
-{
-    is_same(first.as_str(), second.as_str())
-}
-
 // Whether a name stands before a place.
 fn stands_before(places: &Places<'_>, name: &str, number: u32) -> bool
-    ensures { (names : List (List ℕ)) → FindsPlaces places.now names → (IsTrue result ↔ StandsBefore name.now names number) }
+    ensures { (names : List (List ℕ)) → FindsPlaces places.now names
+        → (IsTrue result ↔ StandsBefore name.now names number) }
 {
     match place_of(places, name) {
         Some(first) => first < number as usize,
@@ -78,31 +78,24 @@ fn stands_before(places: &Places<'_>, name: &str, number: u32) -> bool
 }
 
 impl Judge<'_> {
-    fn misses_region(&self, names: &[&str]) -> bool
-        ensures { IsTrue result ↔ MissesRegion self.now.plan.now (map (λ name. name.now) names.now) }
+    /// Whether no region has a name.
+    pub fn lacks_region(&self, name: &str) -> bool
+        ensures { IsTrue result ↔ IsNone (region_named self.now.plan.now name.now) }
     {
-        for name in names {
-            if place_of(&self.regions, *name).is_none() {
-                return true;
-            }
-        }
-        false
+        place_of(&self.regions, name).is_none()
     }
 
-    fn misses_domain(&self, names: &[&str]) -> bool
-        ensures { IsTrue result ↔ MissesDomain self.now.plan.now (map (λ name. name.now) names.now) }
+    /// Whether no domain has a name.
+    pub fn lacks_domain(&self, name: &str) -> bool
+        ensures { IsTrue result ↔ IsNone (domain_named self.now.plan.now name.now) }
     {
-        for name in names {
-            if place_of(&self.domains, *name).is_none() {
-                return true;
-            }
-        }
-        false
+        place_of(&self.domains, name).is_none()
     }
 
     /// The region that has a name.
     pub fn region(&self, name: &str) -> Option<&Region>
-        ensures { MatchOption result (the_region self.now.plan.now name.now ≡ None) (λ region. the_region self.now.plan.now name.now ≡ Some region.now) }
+        ensures { MatchOption result (the_region self.now.plan.now name.now ≡ None)
+            (λ region. the_region self.now.plan.now name.now ≡ Some region.now) }
     {
         match place_of(&self.regions, name) {
             Some(at) => self.plan.memory_region.as_slice().get(at),
@@ -268,61 +261,7 @@ impl Judge<'_> {
         match place {
             Place::Map(d, m) => match at(&self.plan.protection_domain, d) {
                 Some(domain) => match at(&domain.map, m) {
-                    Some(map) => self.misses_region(&[map.mr.as_str()]),
-                    None => false,
-                },
-                None => false,
-            },
-            Place::Net => match &self.plan.net {
-                Some(net) => {
-                    self.misses_region(&[
-                        net.rx_region.as_str(),
-                        net.rx_queues.as_str(),
-                        net.tx_queues.as_str(),
-                    ])
-                }
-                None => false,
-            },
-            Place::NetClient(c) => match &self.plan.net {
-                Some(net) => match at(&net.client, c) {
-                    Some(client) => self.misses_region(&[
-                        client.lease_queues.as_str(),
-                        client.rx_region.as_str(),
-                        client.rx_queues.as_str(),
-                        client.tx_region.as_str(),
-                        client.tx_queues.as_str(),
-                    ]),
-                    None => false,
-                },
-                None => false,
-            },
-            Place::Serial => match &self.plan.serial {
-                Some(serial) => self.misses_region(&[
-                    serial.rx_queues.as_str(),
-                    serial.tx_queues.as_str(),
-                ]),
-                None => false,
-            },
-            Place::SerialClient(c) => match &self.plan.serial {
-                Some(serial) => match at(&serial.client, c) {
-                    Some(client) => self.misses_region(&[
-                        client.rx_queues.as_str(),
-                        client.tx_queues.as_str(),
-                    ]),
-                    None => false,
-                },
-                None => false,
-            },
-            Place::Blk => match &self.plan.blk {
-                Some(blk) => self.misses_region(&[blk.queues.as_str(), blk.region.as_str()]),
-                None => false,
-            },
-            Place::BlkClient(c) => match &self.plan.blk {
-                Some(blk) => match at(&blk.client, c) {
-                    Some(client) => self.misses_region(&[
-                        client.region.as_str(),
-                        client.queues.as_str(),
-                    ]),
+                    Some(map) => self.lacks_region(map.mr.as_str()),
                     None => false,
                 },
                 None => false,
@@ -337,53 +276,7 @@ impl Judge<'_> {
         match place {
             Place::End(c, e) => match at(&self.plan.channel, c) {
                 Some(channel) => match at(&channel.end, e) {
-                    Some(end) => self.misses_domain(&[end.pd.as_str()]),
-                    None => false,
-                },
-                None => false,
-            },
-            Place::Net => match &self.plan.net {
-                Some(net) => self.misses_domain(&[
-                    net.driver.as_str(),
-                    net.rx_virt.as_str(),
-                    net.tx_virt.as_str(),
-                ]),
-                None => false,
-            },
-            Place::NetClient(c) => match &self.plan.net {
-                Some(net) => match at(&net.client, c) {
-                    Some(client) => self.misses_domain(&[
-                        client.pd.as_str(),
-                        client.copier.as_str(),
-                    ]),
-                    None => false,
-                },
-                None => false,
-            },
-            Place::Serial => match &self.plan.serial {
-                Some(serial) => {
-                    self.misses_domain(&[
-                        serial.driver.as_str(),
-                        serial.rx_virt.as_str(),
-                        serial.tx_virt.as_str(),
-                    ])
-                }
-                None => false,
-            },
-            Place::SerialClient(c) => match &self.plan.serial {
-                Some(serial) => match at(&serial.client, c) {
-                    Some(client) => self.misses_domain(&[client.pd.as_str()]),
-                    None => false,
-                },
-                None => false,
-            },
-            Place::Blk => match &self.plan.blk {
-                Some(blk) => self.misses_domain(&[blk.driver.as_str(), blk.virt.as_str()]),
-                None => false,
-            },
-            Place::BlkClient(c) => match &self.plan.blk {
-                Some(blk) => match at(&blk.client, c) {
-                    Some(client) => self.misses_domain(&[client.pd.as_str()]),
+                    Some(end) => self.lacks_domain(end.pd.as_str()),
                     None => false,
                 },
                 None => false,

@@ -2,20 +2,27 @@
 ghost use Rattle.std.specs.Prelude.{◌≡◌, ◌↔◌, ℕ, MatchOption, MatchResult, IsTrue, Ok, IfOk, OnOk};
 ghost use Rattle.std.specs.BTreeMap.{get};
 ghost use Rattle.sdf_plan.specs.Places.{walk, IsKept, IsFirstBroken};
+ghost use Rattle.class_table.specs.Shown.{element_shown, AreClasses};
+ghost use Rattle.class_table.specs.Table.{OfElement};
 ghost use Rattle.sdf_plan.specs.Elements.{outline_of, IsNumbered};
 ghost use Rattle.sdf_check.specs.Priors.{OrPrior, AreTables};
-ghost use Rattle.sdf_check.specs.Valid.{Valid, IsRefused, IfRefused, broken, BreaksPlanRule, BreaksClassRule};
+ghost use Rattle.sdf_check.specs.Valid.{Valid, IsRefused, IfRefused, broken, BreaksAtPlace, BreaksPlanRule, BreaksClassRule, BreaksByRows};
 
 use crate::class_ids::{has_bad_mac, has_bad_partition};
-use crate::class_maps::{has_wrong_role, misses_channel, misses_right, shares_region};
-use crate::class_sizes::{has_bad_capacity, has_low_capacity, has_small_region, is_past_limit};
+use crate::counts::is_past_limit;
 use crate::judge::{Judge, Tables};
 use crate::keys::{domain_keys, region_keys};
 use crate::names::{domains_by_name, regions_by_name};
+use crate::repeats::{lacks_or_takes_role, names_region_again};
+use crate::rows::{
+    gives_wrong_role, has_bad_capacity, has_low_capacity, is_shared_with_stranger, lacks_channel,
+    lacks_right, lacks_room, uses_no_domain, uses_no_region,
+};
 use crate::sought::{meets_given_range, meets_map, takes_id};
 use crate::tables::{first_given, first_maps};
 use crate::uses::uses_of;
 use cargo_core::{Memory, Series};
+use class_table::{ClassElement, Classes, classes_of};
 use sdf_plan::{Place, Plan, Refusal, SdfFault, places_of};
 use std::alloc::Global;
 
@@ -36,14 +43,17 @@ fn judge_of<'a>(alloc: Global, plan: &'a Plan) -> Result<Judge<'a>, Memory>
 }
 
 fn tables_of<'a>(alloc: Global, judge: &Judge<'a>) -> Result<Tables<'a>, Memory>
+    requires { IsNumbered judge.now.plan.now }
     ensures { IfOk result (λ tables. AreTables tables judge.now.plan.now) }
 {
+    let classes = classes_of(alloc, judge.plan)?;
     let given = first_given(alloc, judge.plan.memory_region.as_slice())?;
     let maps = Series::from_vec(first_maps(alloc, judge)?);
     let uses = uses_of(alloc, judge.plan, &judge.domains)?;
     let named_domains = domain_keys(alloc, judge.plan)?;
     let named_regions = region_keys(alloc, judge.plan)?;
     Ok(Tables {
+        classes,
         given,
         maps,
         uses,
@@ -52,7 +62,8 @@ fn tables_of<'a>(alloc: Global, judge: &Judge<'a>) -> Result<Tables<'a>, Memory>
     })
 }
 
-// Whether the element at a place breaks a rule on any system. Where no place prior to it does, the answer is exact.
+// Whether the element at a place breaks a rule on any system. Where no place prior to it does, the
+// answer is exact.
 fn breaks_plan_rule(judge: &Judge<'_>, tables: &Tables<'_>, rule: u8, place: Place) -> bool
     requires { AreTables tables.now judge.now.plan.now }
     ensures complete { BreaksPlanRule judge.now.plan.now rule place → IsTrue result }
@@ -79,19 +90,14 @@ fn breaks_plan_rule(judge: &Judge<'_>, tables: &Tables<'_>, rule: u8, place: Pla
     }
 }
 
-// Whether the element at a place breaks a rule on classes.
+// Whether the element at a place breaks a rule on domains, ids and counts.
 fn breaks_class_rule(judge: &Judge<'_>, tables: &Tables<'_>, rule: u8, place: Place) -> bool
     requires { AreTables tables.now judge.now.plan.now }
     ensures { IsTrue result ↔ BreaksClassRule judge.now.plan.now rule place }
 {
     match rule {
-        21 => has_wrong_role(judge, tables, place),
-        22 => misses_channel(judge, place),
-        23 => misses_right(judge, place),
-        24 => shares_region(judge, tables, place),
-        25 => has_bad_capacity(judge, place),
-        26 => has_low_capacity(judge, place),
-        27 => has_small_region(judge, place),
+        21 => lacks_or_takes_role(judge, tables, place),
+        24 => names_region_again(judge, tables, place),
         28 => has_bad_mac(judge, place),
         29 => has_bad_partition(judge, place),
         30 => is_past_limit(judge, place),
@@ -99,11 +105,12 @@ fn breaks_class_rule(judge: &Judge<'_>, tables: &Tables<'_>, rule: u8, place: Pl
     }
 }
 
-// Whether the element at a place breaks a rule. Where no place prior to it does, the answer is exact.
-fn breaks(judge: &Judge<'_>, tables: &Tables<'_>, rule: u8, place: Place) -> bool
+// Whether the element at a place breaks a rule that is told of the place alone. Where no place
+// prior to it does, the answer is exact.
+fn breaks_at_place(judge: &Judge<'_>, tables: &Tables<'_>, rule: u8, place: Place) -> bool
     requires { AreTables tables.now judge.now.plan.now }
-    ensures complete { broken judge.now.plan.now rule place → IsTrue result }
-    ensures sound { IsTrue result → OrPrior (broken judge.now.plan.now rule) place }
+    ensures complete { BreaksAtPlace judge.now.plan.now rule place → IsTrue result }
+    ensures sound { IsTrue result → OrPrior (BreaksAtPlace judge.now.plan.now rule) place }
 {
     if rule < 21 {
         breaks_plan_rule(judge, tables, rule, place)
@@ -112,12 +119,55 @@ fn breaks(judge: &Judge<'_>, tables: &Tables<'_>, rule: u8, place: Place) -> boo
     }
 }
 
+// Whether the rows of an element of a class break a rule.
+fn breaks_by_rows(judge: &Judge<'_>, rule: u8, element: &ClassElement<&str>) -> bool
+    ensures { IsTrue result ↔ BreaksByRows judge.now.plan.now rule (element_shown element.now) }
+{
+    match rule {
+        13 => uses_no_region(judge, element),
+        17 => uses_no_domain(judge, element),
+        21 => gives_wrong_role(judge, element),
+        22 => lacks_channel(judge, element),
+        23 => lacks_right(judge, element),
+        24 => is_shared_with_stranger(judge, element),
+        25 => has_bad_capacity(element),
+        26 => has_low_capacity(element),
+        27 => lacks_room(judge, element),
+        _ => false,
+    }
+}
+
+// Whether an element of a class stands at a place, and its rows break a rule.
+fn element_breaks(judge: &Judge<'_>, classes: &Classes<'_>, rule: u8, place: Place) -> bool
+    requires { AreClasses classes.now judge.now.plan.now }
+    ensures { IsTrue result ↔ OfElement judge.now.plan.now place
+        (BreaksByRows judge.now.plan.now rule) }
+{
+    match classes.at(place) {
+        Some(element) => breaks_by_rows(judge, rule, element),
+        None => false,
+    }
+}
+
+// Whether the element at a place breaks a rule. Where no place prior to it does, the answer is
+// exact.
+fn breaks(judge: &Judge<'_>, tables: &Tables<'_>, rule: u8, place: Place) -> bool
+    requires { AreTables tables.now judge.now.plan.now }
+    ensures complete { broken judge.now.plan.now rule place → IsTrue result }
+    ensures sound { IsTrue result → OrPrior (broken judge.now.plan.now rule) place }
+{
+    breaks_at_place(judge, tables, rule, place)
+        || element_breaks(judge, &tables.classes, rule, place)
+}
+
 // The first place that breaks a rule.
 fn first_broken(judge: &Judge<'_>, tables: &Tables<'_>, rule: u8, places: &[Place]) -> Option<Place>
     requires tables { AreTables tables.now judge.now.plan.now }
     requires all { places.now ≡ walk (outline_of judge.now.plan.now) }
-    ensures { MatchOption result (IsKept (broken judge.now.plan.now rule) (walk (outline_of judge.now.plan.now)))
-        (λ place. IsFirstBroken (broken judge.now.plan.now rule) (walk (outline_of judge.now.plan.now)) place) }
+    ensures { MatchOption result (IsKept (broken judge.now.plan.now rule)
+        (walk (outline_of judge.now.plan.now)))
+        (λ place. IsFirstBroken (broken judge.now.plan.now rule)
+        (walk (outline_of judge.now.plan.now)) place) }
 {
     for place in places {
         if breaks(judge, tables, rule, *place) {
@@ -143,9 +193,9 @@ fn refusal_of(alloc: Global, plan: &Plan) -> Result<Option<Refusal>, Memory>
     Ok(None)
 }
 
-/// Judges a plan by the rules on names, sizes, ranges, permissions, ids and classes. `Refused` has the least rule that
-/// an element breaks, and the first element that breaks it, in the order of the walk over a description. Want of
-/// memory may come at any plan.
+/// Judges a plan by the rules on names, sizes, ranges, permissions, ids and classes. `Refused` has
+/// the least rule that an element breaks, and the first element that breaks it, in the order of the
+/// walk over a description. Want of memory may come at any plan.
 pub fn check(alloc: Global, plan: &Plan) -> Result<(), SdfFault>
     requires { IsNumbered plan.now }
     ensures valid { OnOk result (Valid plan.now) }

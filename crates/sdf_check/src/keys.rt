@@ -11,8 +11,8 @@ use cargo_core::Memory;
 use sdf_plan::{Blk, Net, Plan, Serial};
 use std::alloc::Global;
 
-/// The names that class elements have at their keys, in the order of the walk: for each name its first key, counted
-/// from 0, and how many keys stand before the serial and the block class.
+/// The names that class elements have at their keys, in the order of the walk: for each name its
+/// first key, counted from 0, and how many keys stand before the serial and the block class.
 #[derive(Drop)]
 pub struct Keys<'a> {
     pub places: Places<'a>,
@@ -21,7 +21,9 @@ pub struct Keys<'a> {
 }
 
 fn push_net_domains<'a>(names: &mut Vec<&'a str>, net: &'a Net) -> Result<(), Memory>
-    ensures { OnOk result (shown names.new.items ≡ shown names.old.items ++ (net_domains net.now ++ flat_map net_client_domains net.now.client)) }
+    ensures { OnOk result (shown names.new.items
+        ≡ shown names.old.items ++ (net_domains net.now
+        ++ flat_map net_client_domains net.now.client)) }
 {
     names.extend_from_slice(&[
         net.driver.as_str(),
@@ -35,7 +37,9 @@ fn push_net_domains<'a>(names: &mut Vec<&'a str>, net: &'a Net) -> Result<(), Me
 }
 
 fn push_serial_domains<'a>(names: &mut Vec<&'a str>, serial: &'a Serial) -> Result<(), Memory>
-    ensures { OnOk result (shown names.new.items ≡ shown names.old.items ++ (serial_domains serial.now ++ flat_map serial_client_domains serial.now.client)) }
+    ensures { OnOk result (shown names.new.items
+        ≡ shown names.old.items ++ (serial_domains serial.now
+        ++ flat_map serial_client_domains serial.now.client)) }
 {
     names.extend_from_slice(&[
         serial.driver.as_str(),
@@ -49,7 +53,9 @@ fn push_serial_domains<'a>(names: &mut Vec<&'a str>, serial: &'a Serial) -> Resu
 }
 
 fn push_blk_domains<'a>(names: &mut Vec<&'a str>, blk: &'a Blk) -> Result<(), Memory>
-    ensures { OnOk result (shown names.new.items ≡ shown names.old.items ++ (blk_domains blk.now ++ flat_map blk_client_domains blk.now.client)) }
+    ensures { OnOk result (shown names.new.items
+        ≡ shown names.old.items ++ (blk_domains blk.now
+        ++ flat_map blk_client_domains blk.now.client)) }
 {
     names.extend_from_slice(&[blk.driver.as_str(), blk.virt.as_str()])?;
     for client in blk.client.as_slice() {
@@ -62,7 +68,8 @@ fn push_blk_domains<'a>(names: &mut Vec<&'a str>, blk: &'a Blk) -> Result<(), Me
 pub fn domain_keys<'a>(alloc: Global, plan: &'a Plan) -> Result<Keys<'a>, Memory>
     ensures { IfOk result (λ keys. FindsPlaces keys.places (class_domains plan.now)
         × (keys.to_serial ≡ length (net_names net_domains net_client_domains plan.now))
-        × (keys.to_blk ≡ length (net_names net_domains net_client_domains plan.now) + length (serial_names serial_domains serial_client_domains plan.now))) }
+        × (keys.to_blk ≡ length (net_names net_domains net_client_domains plan.now)
+        + length (serial_names serial_domains serial_client_domains plan.now))) }
 {
     let mut names = Vec::new(alloc);
     push_all_net_domains(&mut names, plan)?;
@@ -79,7 +86,8 @@ pub fn domain_keys<'a>(alloc: Global, plan: &'a Plan) -> Result<Keys<'a>, Memory
 }
 
 fn push_all_net_domains<'a>(names: &mut Vec<&'a str>, plan: &'a Plan) -> Result<(), Memory>
-    ensures { OnOk result (shown names.new.items ≡ shown names.old.items ++ net_names net_domains net_client_domains plan.now) }
+    ensures { OnOk result (shown names.new.items
+        ≡ shown names.old.items ++ net_names net_domains net_client_domains plan.now) }
 {
     if let Some(net) = &plan.net {
         push_net_domains(names, net)?;
@@ -88,7 +96,8 @@ fn push_all_net_domains<'a>(names: &mut Vec<&'a str>, plan: &'a Plan) -> Result<
 }
 
 fn push_all_serial_domains<'a>(names: &mut Vec<&'a str>, plan: &'a Plan) -> Result<(), Memory>
-    ensures { OnOk result (shown names.new.items ≡ shown names.old.items ++ serial_names serial_domains serial_client_domains plan.now) }
+    ensures { OnOk result (shown names.new.items
+        ≡ shown names.old.items ++ serial_names serial_domains serial_client_domains plan.now) }
 {
     if let Some(serial) = &plan.serial {
         push_serial_domains(names, serial)?;
@@ -97,7 +106,8 @@ fn push_all_serial_domains<'a>(names: &mut Vec<&'a str>, plan: &'a Plan) -> Resu
 }
 
 fn push_all_blk_domains<'a>(names: &mut Vec<&'a str>, plan: &'a Plan) -> Result<(), Memory>
-    ensures { OnOk result (shown names.new.items ≡ shown names.old.items ++ blk_names blk_domains blk_client_domains plan.now) }
+    ensures { OnOk result (shown names.new.items
+        ≡ shown names.old.items ++ blk_names blk_domains blk_client_domains plan.now) }
 {
     if let Some(blk) = &plan.blk {
         push_blk_domains(names, blk)?;
@@ -106,7 +116,9 @@ fn push_all_blk_domains<'a>(names: &mut Vec<&'a str>, plan: &'a Plan) -> Result<
 }
 
 fn push_net_regions<'a>(names: &mut Vec<&'a str>, net: &'a Net) -> Result<(), Memory>
-    ensures { OnOk result (shown names.new.items ≡ shown names.old.items ++ (net_regions net.now ++ flat_map net_client_regions net.now.client)) }
+    ensures { OnOk result (shown names.new.items
+        ≡ shown names.old.items ++ (net_regions net.now
+        ++ flat_map net_client_regions net.now.client)) }
 {
     names.extend_from_slice(&[
         net.rx_region.as_str(),
@@ -126,7 +138,9 @@ fn push_net_regions<'a>(names: &mut Vec<&'a str>, net: &'a Net) -> Result<(), Me
 }
 
 fn push_serial_regions<'a>(names: &mut Vec<&'a str>, serial: &'a Serial) -> Result<(), Memory>
-    ensures { OnOk result (shown names.new.items ≡ shown names.old.items ++ (serial_regions serial.now ++ flat_map serial_client_regions serial.now.client)) }
+    ensures { OnOk result (shown names.new.items
+        ≡ shown names.old.items ++ (serial_regions serial.now
+        ++ flat_map serial_client_regions serial.now.client)) }
 {
     names.extend_from_slice(&[serial.rx_queues.as_str(), serial.tx_queues.as_str()])?;
     for client in serial.client.as_slice() {
@@ -136,7 +150,9 @@ fn push_serial_regions<'a>(names: &mut Vec<&'a str>, serial: &'a Serial) -> Resu
 }
 
 fn push_blk_regions<'a>(names: &mut Vec<&'a str>, blk: &'a Blk) -> Result<(), Memory>
-    ensures { OnOk result (shown names.new.items ≡ shown names.old.items ++ (blk_regions blk.now ++ flat_map blk_client_regions blk.now.client)) }
+    ensures { OnOk result (shown names.new.items
+        ≡ shown names.old.items ++ (blk_regions blk.now
+        ++ flat_map blk_client_regions blk.now.client)) }
 {
     names.extend_from_slice(&[blk.queues.as_str(), blk.region.as_str()])?;
     for client in blk.client.as_slice() {
@@ -149,7 +165,8 @@ fn push_blk_regions<'a>(names: &mut Vec<&'a str>, blk: &'a Blk) -> Result<(), Me
 pub fn region_keys<'a>(alloc: Global, plan: &'a Plan) -> Result<Keys<'a>, Memory>
     ensures { IfOk result (λ keys. FindsPlaces keys.places (class_regions plan.now)
         × (keys.to_serial ≡ length (net_names net_regions net_client_regions plan.now))
-        × (keys.to_blk ≡ length (net_names net_regions net_client_regions plan.now) + length (serial_names serial_regions serial_client_regions plan.now))) }
+        × (keys.to_blk ≡ length (net_names net_regions net_client_regions plan.now)
+        + length (serial_names serial_regions serial_client_regions plan.now))) }
 {
     let mut names = Vec::new(alloc);
     push_all_net_regions(&mut names, plan)?;
@@ -166,7 +183,8 @@ pub fn region_keys<'a>(alloc: Global, plan: &'a Plan) -> Result<Keys<'a>, Memory
 }
 
 fn push_all_net_regions<'a>(names: &mut Vec<&'a str>, plan: &'a Plan) -> Result<(), Memory>
-    ensures { OnOk result (shown names.new.items ≡ shown names.old.items ++ net_names net_regions net_client_regions plan.now) }
+    ensures { OnOk result (shown names.new.items
+        ≡ shown names.old.items ++ net_names net_regions net_client_regions plan.now) }
 {
     if let Some(net) = &plan.net {
         push_net_regions(names, net)?;
@@ -175,7 +193,8 @@ fn push_all_net_regions<'a>(names: &mut Vec<&'a str>, plan: &'a Plan) -> Result<
 }
 
 fn push_all_serial_regions<'a>(names: &mut Vec<&'a str>, plan: &'a Plan) -> Result<(), Memory>
-    ensures { OnOk result (shown names.new.items ≡ shown names.old.items ++ serial_names serial_regions serial_client_regions plan.now) }
+    ensures { OnOk result (shown names.new.items
+        ≡ shown names.old.items ++ serial_names serial_regions serial_client_regions plan.now) }
 {
     if let Some(serial) = &plan.serial {
         push_serial_regions(names, serial)?;
@@ -184,7 +203,8 @@ fn push_all_serial_regions<'a>(names: &mut Vec<&'a str>, plan: &'a Plan) -> Resu
 }
 
 fn push_all_blk_regions<'a>(names: &mut Vec<&'a str>, plan: &'a Plan) -> Result<(), Memory>
-    ensures { OnOk result (shown names.new.items ≡ shown names.old.items ++ blk_names blk_regions blk_client_regions plan.now) }
+    ensures { OnOk result (shown names.new.items
+        ≡ shown names.old.items ++ blk_names blk_regions blk_client_regions plan.now) }
 {
     if let Some(blk) = &plan.blk {
         push_blk_regions(names, blk)?;

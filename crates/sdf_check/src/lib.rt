@@ -3,14 +3,14 @@
 
 mod class;
 mod class_ids;
-mod class_maps;
-mod class_sizes;
+mod counts;
 mod judge;
 mod judging;
 mod keys;
 mod names;
 mod numbers;
-mod role;
+mod repeats;
+mod rows;
 mod sizes;
 mod sought;
 mod sweep;

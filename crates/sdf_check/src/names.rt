@@ -13,7 +13,8 @@ pub type Places<'a> = BTreeMap<&'a str, usize>;
 
 // Notes the next name, whose place is `at`.
 fn note<'a>(places: &mut Places<'a>, name: &'a str, at: usize) -> Result<(), Memory>
-    ensures { OnOk result ((names : List (List ℕ)) → length names ≡ at → FindsPlaces places.old names → FindsPlaces places.new (names ++ name.now ∷ [])) }
+    ensures { OnOk result ((names : List (List ℕ)) → length names ≡ at
+        → FindsPlaces places.old names → FindsPlaces places.new (names ++ name.now ∷ [])) }
 {
     if !places.contains_key(name) {
         places.insert(name, at)?;
@@ -45,7 +46,8 @@ pub fn domains_by_name<'a>(alloc: Global, domains: &'a [Domain]) -> Result<Place
 
 /// The place of the first element that has this name.
 pub fn place_of(places: &Places<'_>, name: &str) -> Option<usize>
-    ensures { (names : List (List ℕ)) → FindsPlaces places.now names → result ≡ place_of name.now names }
+    ensures { (names : List (List ℕ)) → FindsPlaces places.now names
+        → result ≡ place_of name.now names }
 {
     places.get(name).copied()
 }

@@ -27,7 +27,8 @@ pub fn ends_above(base: u64, size: u64, limit: u64) -> bool
     base as u128 + size as u128 > limit as u128
 }
 
-/// Whether a text is made of `r`, `w` and `x`, each at most once, and is neither empty nor `w` alone.
+/// Whether a text is made of `r`, `w` and `x`, each at most once, and is neither empty nor `w`
+/// alone.
 pub fn are_permissions(perms: &str) -> bool
     ensures { IsTrue result ↔ ArePermissions perms.now }
 {
@@ -40,7 +41,8 @@ pub fn are_permissions(perms: &str) -> bool
 
 // Whether there is at most one of each letter and nothing else, and `r` or `x` among them.
 fn are_once(reads: usize, writes: usize, runs: usize, len: usize) -> bool
-    ensures { IsTrue result ↔ ((reads ≤ 1) × (writes ≤ 1) × (runs ≤ 1) × (reads + writes + runs ≡ len) × (0 < reads + runs)) }
+    ensures { IsTrue result ↔ ((reads ≤ 1) × (writes ≤ 1) × (runs ≤ 1)
+        × (reads + writes + runs ≡ len) × (0 < reads + runs)) }
 {
     reads <= 1 && writes <= 1 && runs <= 1 && reads + writes + runs == len && reads + runs > 0
 }

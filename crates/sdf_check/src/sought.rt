@@ -54,8 +54,8 @@ pub fn meets_map(judge: &Judge<'_>, tables: &Tables<'_>, place: Place) -> bool
     }
 }
 
-// Whether one of the first interrupts of a domain has this id. Where this is asked the ids are at most 62, and no two
-// of these interrupts have the same: at most 63 are looked at.
+// Whether one of the first interrupts of a domain has this id. Where this is asked the ids are at
+// most 62, and no two of these interrupts have the same: at most 63 are looked at.
 fn has_id_before(irqs: &Series<Irq>, id: u64, until: usize) -> bool
     ensures { IsTrue result ↔ StandsBefore id (map (λ (irq : Irq). irq.id) irqs.now) until }
 {
@@ -79,7 +79,8 @@ fn interrupt_has(judge: &Judge<'_>, domain: usize, id: u64) -> bool
 
 /// Whether an id was used before in the same domain.
 pub fn takes_id(judge: &Judge<'_>, uses: &Uses, place: Place) -> bool
-    requires { UsesUpTo (get use_cmp uses.now) judge.now.plan.now (length judge.now.plan.now.channel) 0 }
+    requires { UsesUpTo (get use_cmp uses.now) judge.now.plan.now
+        (length judge.now.plan.now.channel) 0 }
     ensures { IsTrue result ↔ TakesId judge.now.plan.now place }
 {
     match place {

@@ -30,8 +30,10 @@ fn last_before(kept: &Kept, end: u128) -> Option<Span>
 
 // Keeps the range at the next place, unless it meets one that is kept.
 fn keep(kept: &mut Kept, range: Option<Span>) -> Result<bool, Memory>
-    ensures { IfOk result (λ free. (ranges : List (Option Range)) → (at : ℕ) → Holds (get nat_cmp kept.old) ranges at → slice_get ranges at ≡ Some range
-        → MatchBool free (Holds (get nat_cmp kept.new) ranges (at + 1) × ¬ MeetsEarlier ranges at) (MeetsEarlier ranges at)) }
+    ensures { IfOk result (λ free. (ranges : List (Option Range)) → (at : ℕ)
+        → Holds (get nat_cmp kept.old) ranges at → slice_get ranges at ≡ Some range
+        → MatchBool free (Holds (get nat_cmp kept.new) ranges (at + 1) × ¬ MeetsEarlier ranges at)
+        (MeetsEarlier ranges at)) }
 {
     let Some((base, end)) = range else {
         return Ok(true);
@@ -49,9 +51,11 @@ fn keep(kept: &mut Kept, range: Option<Span>) -> Result<bool, Memory>
 // Whether the last range that begins before the end of this one ends above its base.
 fn meets_last(kept: &Kept, base: u128, end: u128) -> bool
     ensures { MatchBool result
-        ((start : ℕ) × (last : ℕ) × (get nat_cmp kept.now start ≡ Some last) × (start < end) × (base < last))
+        ((start : ℕ) × (last : ℕ) × (get nat_cmp kept.now start ≡ Some last) × (start < end)
+        × (base < last))
         ((start last : ℕ) → get nat_cmp kept.now start ≡ Some last → start < end
-        → (top : ℕ) × (limit : ℕ) × (get nat_cmp kept.now top ≡ Some limit) × (start ≤ top) × (limit ≤ base)) }
+        → (top : ℕ) × (limit : ℕ) × (get nat_cmp kept.now top ≡ Some limit) × (start ≤ top)
+        × (limit ≤ base)) }
 {
     match last_before(kept, end) {
         Some((_, last)) => last > base,

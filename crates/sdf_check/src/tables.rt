@@ -43,7 +43,8 @@ pub fn first_given(alloc: Global, regions: &[Region]) -> Result<Option<usize>, M
 
 // The first map of a domain that meets an earlier one.
 fn first_map(alloc: Global, judge: &Judge<'_>, maps: &[Map]) -> Result<Option<usize>, Memory>
-    ensures { IfOk result (λ first. IsFirstMeeting (map (map_range judge.now.plan.now) maps.now) first) }
+    ensures { IfOk result (λ first. IsFirstMeeting
+        (map (map_range judge.now.plan.now) maps.now) first) }
 {
     let mut ranges = Vec::new(alloc);
     for map in maps {

@@ -14,7 +14,8 @@ use sdf_plan::{Channel, End, Plan};
 use std::alloc::Global;
 use std::collections::BTreeMap;
 
-/// For each domain and id the first end that has them, as the places of the channel and of the end in it.
+/// For each domain and id the first end that has them, as the places of the channel and of the end
+/// in it.
 pub type Uses = BTreeMap<(usize, u64), (usize, usize)>;
 
 // Notes the end at these places.
@@ -25,8 +26,10 @@ fn note(
     channel: usize,
     at: usize,
 ) -> Result<(), Memory>
-    ensures { OnOk result ((plan : Plan) → FindsPlaces domains.now (domain_names plan) → OfEnd plan channel at (λ other. other ≡ end.now)
-        → UsesUpTo (get use_cmp uses.old) plan channel at → UsesUpTo (get use_cmp uses.new) plan channel (at + 1)) }
+    ensures { OnOk result ((plan : Plan) → FindsPlaces domains.now (domain_names plan)
+        → OfEnd plan channel at (λ other. other ≡ end.now)
+        → UsesUpTo (get use_cmp uses.old) plan channel at
+        → UsesUpTo (get use_cmp uses.new) plan channel (at + 1)) }
 {
     let Some(domain) = place_of(domains, end.pd.as_str()) else {
         return Ok(());
@@ -45,8 +48,10 @@ fn note_ends(
     channel: &Channel,
     number: usize,
 ) -> Result<(), Memory>
-    ensures { OnOk result ((plan : Plan) → FindsPlaces domains.now (domain_names plan) → OfChannel plan number (λ other. other ≡ channel.now)
-        → UsesUpTo (get use_cmp uses.old) plan number 0 → UsesUpTo (get use_cmp uses.new) plan (number + 1) 0) }
+    ensures { OnOk result ((plan : Plan) → FindsPlaces domains.now (domain_names plan)
+        → OfChannel plan number (λ other. other ≡ channel.now)
+        → UsesUpTo (get use_cmp uses.old) plan number 0
+        → UsesUpTo (get use_cmp uses.new) plan (number + 1) 0) }
 {
     for (at, end) in channel.end.as_slice().iter().enumerate() {
         note(uses, domains, end, number, at)?;
@@ -57,7 +62,8 @@ fn note_ends(
 /// The first end of each domain and id.
 pub fn uses_of(alloc: Global, plan: &Plan, domains: &Places<'_>) -> Result<Uses, Memory>
     requires { FindsPlaces domains.now (domain_names plan.now) }
-    ensures { IfOk result (λ uses. UsesUpTo (get use_cmp uses) plan.now (length plan.now.channel) 0) }
+    ensures { IfOk result (λ uses. UsesUpTo (get use_cmp uses) plan.now
+        (length plan.now.channel) 0) }
 {
     let mut uses = BTreeMap::new(alloc);
     for (number, channel) in plan.channel.as_slice().iter().enumerate() {

@@ -11,13 +11,15 @@ use Rattle.sdf_plan.specs.declared.plan.Plan.{Plan}
 use Rattle.sdf_plan.specs.declared.plan.Domain.{Domain}
 use Rattle.sdf_plan.specs.declared.plan.Serial.{Serial}
 use Rattle.sdf_plan.specs.declared.plan.SerialClient.{SerialClient}
-use Rattle.sdf_check.specs.declared.role.Role.{Role}
-use Rattle.sdf_check.specs.declared.role.Role.TheVariants as For
+use Rattle.class_table.specs.declared.role.Role.{Role}
+use Rattle.class_table.specs.declared.role.Role.TheVariants as For
 use Rattle.sdf_plan.specs.Elements.{outline_of, domain_parts}
-use Rattle.sdf_check.specs.Names.{place_of, domain_names, domain_named, serial_client_domains}
-use Rattle.sdf_check.specs.Roles.{IsProgramOf, serial_roles, serial_client_roles}
-use Rattle.sdf_check.specs.ClassRules.{class_domains, the_domain, Plays, GivesWrongRole, IsClientCount}
-use Rattle.sdf_check.specs.Valid.{Valid, broken}
+use Rattle.sdf_check.specs.Names.{place_of, domain_names, domain_named, serial_domains, serial_client_domains}
+use Rattle.class_table.specs.Roles.{IsProgramOf}
+use Rattle.class_table.specs.Rows.{plays}
+use Rattle.class_table.specs.Table.{OfElement, serial_element, serial_client_element}
+use Rattle.sdf_check.specs.ClassRules.{class_domains, the_domain, Plays, GivesWrongRole, NamesDomainAgain, IsClientCount}
+use Rattle.sdf_check.specs.Valid.{Valid, BreaksAtPlace, BreaksByRows}
 use Rattle.sdf_check.proofs.NamedLemmas.{named-none}
 use Rattle.region_layout.specs.Rows.{acts, actors_of, actor_named, acting_count, uart_number}
 use Rattle.system_core.specs.Builds.{number_named}
@@ -61,8 +63,11 @@ peer_number plan (Some a) = number_named plan a
 
 -- in a valid plan
 module _ (plan : Plan) (valid : Valid plan) where
-  kept : (n : ℕ) (p : Place) → 5 ≤ n → n ≤ 30 → Stands p (walk (outline_of plan)) → broken plan n p → ⊥
-  kept n p from to s b = valid n from to s.0 p s.1 b
+  kept : (n : ℕ) (p : Place) → 5 ≤ n → n ≤ 30 → Stands p (walk (outline_of plan)) → BreaksAtPlace plan n p → ⊥
+  kept n p from to s b = valid n from to s.0 p s.1 (inl b)
+
+  rows_kept : (n : ℕ) (p : Place) → 5 ≤ n → n ≤ 30 → Stands p (walk (outline_of plan)) → OfElement plan p (BreaksByRows plan n) → ⊥
+  rows_kept n p from to s b = valid n from to s.0 p s.1 (inr b)
 
   domain_stands : (d : ℕ) (domain : Domain) → slice_get plan.protection_domain d ≡ Some domain → Stands (At.Domain d) (walk (outline_of plan))
   domain_stands d domain h =
@@ -98,11 +103,11 @@ module _ (plan : Plan) (valid : Valid plan) where
   ]
 
   -- a name whose domain can't fail to play a role is that of one that acts
-  role_acts : (name : List ℕ) (role : Role) → ((Plays plan (name, role) → ⊥) → ⊥) → Stands name (acting_names plan.protection_domain)
-  role_acts name role plays = elim (option_cases (domain_named plan name)) [
-    | inl none ↦ absurd (plays (λ p. no_and (the_domain plan name) _ (ap (option_and_then (λ d. slice_get plan.protection_domain d)) none) p))
+  role_acts : (name : List ℕ) (role : Role) → ((Plays plan (plays name role) → ⊥) → ⊥) → Stands name (acting_names plan.protection_domain)
+  role_acts name role never = elim (option_cases (domain_named plan name)) [
+    | inl none ↦ absurd (never (λ p. no_and (the_domain plan name) _ (ap (option_and_then (λ d. slice_get plan.protection_domain d)) none) p))
     | inr some ↦ elim (option_cases (slice_get plan.protection_domain some.0)) [
-      | inl none ↦ absurd (plays (λ p. no_and (the_domain plan name) _ (ap (option_and_then (λ d. slice_get plan.protection_domain d)) some.1 ∙ none) p))
+      | inl none ↦ absurd (never (λ p. no_and (the_domain plan name) _ (ap (option_and_then (λ d. slice_get plan.protection_domain d)) some.1 ∙ none) p))
       | inr domain ↦ go some.0 domain.0 some.1 domain.1 (acts domain.0) refl
     ]
   ]
@@ -114,7 +119,7 @@ module _ (plan : Plan) (valid : Valid plan) where
       go d domain named at false is =
           let the : the_domain plan name ≡ Some domain = ap (option_and_then (λ k. slice_get plan.protection_domain k)) named ∙ at in
           let idle : domain.program ≡ codes "idle" = (bytes_eq-Decides domain.program (codes "idle")).0 (not_false (bytes_eq domain.program (codes "idle")) is) in
-          absurd (plays (λ p. idle_plays_nothing role (subst (IsProgramOf role) idle (subst (λ o. IsSomeAnd o (λ (x : Domain). IsProgramOf role x.program)) the p))))
+          absurd (never (λ p. idle_plays_nothing role (subst (IsProgramOf role) idle (subst (λ o. IsSomeAnd o (λ (x : Domain). IsProgramOf role x.program)) the p))))
         where
           not_false : (b : Bool) → not b ≡ false → b ≡ true
           not_false true h = refl
@@ -153,13 +158,23 @@ module _ (plan : Plan) (valid : Valid plan) where
         past : (IsClientCount (length serial.client) → ⊥) → ⊥
         past h = kept 30 At.Serial (omega arith) (omega arith) at_serial (some_and plan.serial serial _ has h)
 
-    wrong : GivesWrongRole plan At.Serial (serial_roles serial) → ⊥
-    wrong g = kept 21 At.Serial (omega arith) (omega arith) at_serial (some_and plan.serial serial _ has g)
+    wrong : GivesWrongRole plan (serial_element serial) → ⊥
+    wrong g = rows_kept 21 At.Serial (omega arith) (omega arith) at_serial (some_and plan.serial serial (λ (s : Serial). GivesWrongRole plan (serial_element s)) has g)
 
-    wrong_client : (c : ℕ) (client : SerialClient) → slice_get serial.client c ≡ Some client → GivesWrongRole plan (At.SerialClient c) (serial_client_roles client) → ⊥
+    wrong_client : (c : ℕ) (client : SerialClient) → slice_get serial.client c ≡ Some client → GivesWrongRole plan (serial_client_element serial c client) → ⊥
     wrong_client c client at g =
+        rows_kept 21 (At.SerialClient c) (omega arith) (omega arith) (at_client c client at)
+        (some_and plan.serial serial (λ (s : Serial). IsSomeAnd (slice_get s.client c) (λ (x : SerialClient). GivesWrongRole plan (serial_client_element s c x))) has
+        (some_and (slice_get serial.client c) client (λ (x : SerialClient). GivesWrongRole plan (serial_client_element serial c x)) at g))
+
+    again : NamesDomainAgain plan At.Serial (serial_domains serial) → ⊥
+    again g = kept 21 At.Serial (omega arith) (omega arith) at_serial (some_and plan.serial serial (λ (s : Serial). NamesDomainAgain plan At.Serial (serial_domains s)) has g)
+
+    client_again : (c : ℕ) (client : SerialClient) → slice_get serial.client c ≡ Some client → NamesDomainAgain plan (At.SerialClient c) (serial_client_domains client) → ⊥
+    client_again c client at g =
         kept 21 (At.SerialClient c) (omega arith) (omega arith) (at_client c client at)
-        (some_and plan.serial serial (λ (s : Serial). IsSomeAnd (slice_get s.client c) (λ (x : SerialClient). GivesWrongRole plan (At.SerialClient c) (serial_client_roles x))) has (some_and (slice_get serial.client c) client _ at g))
+        (some_and plan.serial serial (λ (s : Serial). IsSomeAnd (slice_get s.client c) (λ (x : SerialClient). NamesDomainAgain plan (At.SerialClient c) (serial_client_domains x))) has
+        (some_and (slice_get serial.client c) client (λ (x : SerialClient). NamesDomainAgain plan (At.SerialClient c) (serial_client_domains x)) at g))
 
     in_class : (i : ℕ) (a : List ℕ) → slice_get role_names i ≡ Some a → slice_get (class_domains plan) i ≡ Some a
     in_class i a h = ap (λ ns. slice_get ns i) names_are ∙ h
@@ -167,20 +182,20 @@ module _ (plan : Plan) (valid : Valid plan) where
     -- no domain has two roles
     roles_differ : AreApart role_names
     roles_differ i zero a lt p q = omega (arith, lt)
-    roles_differ i (suc zero) a lt p q = wrong (inr (1, (i, omega (arith, lt), in_class i serial.rx_virt (p ∙ sym q))))
-    roles_differ i (suc (suc zero)) a lt p q = wrong (inr (2, (i, omega (arith, lt), in_class i serial.tx_virt (p ∙ sym q))))
+    roles_differ i (suc zero) a lt p q = again (1, (i, omega (arith, lt), in_class i serial.rx_virt (p ∙ sym q)))
+    roles_differ i (suc (suc zero)) a lt p q = again (2, (i, omega (arith, lt), in_class i serial.tx_virt (p ∙ sym q)))
     roles_differ i (suc (suc (suc c))) a lt p q =
         let m = map_from pd_of serial.client c a q in
-        wrong_client c m.0 m.1 (inr (0, (i, omega (arith, lt), in_class i m.0.pd (p ∙ ap Some (sym m.2)))))
+        client_again c m.0 m.1 (0, (i, omega (arith, lt), in_class i m.0.pd (p ∙ ap Some (sym m.2))))
 
     -- and each is the role of one that acts
     role_acting : (i : ℕ) (a : List ℕ) → slice_get role_names i ≡ Some a → Stands a (acting_names plan.protection_domain)
-    role_acting zero a h = subst (λ n. Stands n (acting_names plan.protection_domain)) (some_is h) (role_acts serial.driver For.SerialDriver (λ n. wrong (inl (0, n))))
-    role_acting (suc zero) a h = subst (λ n. Stands n (acting_names plan.protection_domain)) (some_is h) (role_acts serial.rx_virt For.SerialRxVirt (λ n. wrong (inl (1, n))))
-    role_acting (suc (suc zero)) a h = subst (λ n. Stands n (acting_names plan.protection_domain)) (some_is h) (role_acts serial.tx_virt For.SerialTxVirt (λ n. wrong (inl (2, n))))
+    role_acting zero a h = subst (λ n. Stands n (acting_names plan.protection_domain)) (some_is h) (role_acts serial.driver For.SerialDriver (λ n. wrong (0, n)))
+    role_acting (suc zero) a h = subst (λ n. Stands n (acting_names plan.protection_domain)) (some_is h) (role_acts serial.rx_virt For.SerialRxVirt (λ n. wrong (1, n)))
+    role_acting (suc (suc zero)) a h = subst (λ n. Stands n (acting_names plan.protection_domain)) (some_is h) (role_acts serial.tx_virt For.SerialTxVirt (λ n. wrong (2, n)))
     role_acting (suc (suc (suc c))) a h =
         let m = map_from pd_of serial.client c a h in
-        subst (λ n. Stands n (acting_names plan.protection_domain)) m.2 (role_acts m.0.pd For.SerialClient (λ n. wrong_client c m.0 m.1 (inl (0, n))))
+        subst (λ n. Stands n (acting_names plan.protection_domain)) m.2 (role_acts m.0.pd For.SerialClient (λ n. wrong_client c m.0 m.1 (0, n)))
 
     abbrev uart : List ℕ
     uart = codes "@uart"

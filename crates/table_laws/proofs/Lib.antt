@@ -1,4 +1,3 @@
 pub mod Flat
-pub mod Rooms
 pub mod Same
-pub mod Strangers
+pub mod Regions

@@ -1,5 +1,5 @@
 -- The rows of the layout, and the domains that class elements name, are those of the table.
-use Rattle.std.proofs.Common.{◌≡◌, ℕ, List, [], ◌∷◌, ◌++◌, map, flat_map, Bool, false, Option, Some, None, refl, sym, ap, ◌∙◌}
+use Rattle.std.proofs.Common.{◌≡◌, ℕ, List, [], ◌∷◌, ◌++◌, map, flat_map, Option, Some, None, refl, sym, ap, ◌∙◌}
 use Rattle.std.specs.Option.{option_map_or}
 use Rattle.std.proofs.lemmas.List.{append-nil}
 use Rattle.sdf_plan.specs.declared.plan.Plan.{Plan}
@@ -11,12 +11,9 @@ use Rattle.sdf_plan.specs.declared.plan.Blk.{Blk}
 use Rattle.sdf_plan.specs.declared.plan.BlkClient.{BlkClient}
 use Rattle.sdf_check.specs.Names.{net_domains, net_client_domains, serial_domains, serial_client_domains, blk_domains, blk_client_domains}
 use Rattle.sdf_check.specs.ClassRules.{class_domains}
-use Rattle.sdf_check.specs.Shares.{net_rights}
-use Rattle.class_table.specs.declared.uses.Grant.{Grant}
-use Rattle.class_table.specs.Rows.{reads}
 use Rattle.class_table.specs.Table.{Element, table_of, net_element, net_client_element, net_elements, serial_client_element, serial_elements, blk_element, blk_client_element, blk_elements}
 use Rattle.region_layout.specs.Rows.{each_client, queue_pair, eth_rx_queues, eth_tx_queues, net_rx_queues, net_tx_queues, lease_queues, client_rx_queues, client_tx_queues, net_client_queues, net_queues, uart_queues, shared_serial_queues, serial_client_queues, serial_queues, disk_queues, shared_blk_queues, blk_client_queues, blk_queues, queues_of, net_client_pools, net_pools, blk_client_pools, blk_pools, pools_of}
-use Rattle.table_laws.specs.Ties.{queue_rows, pool_rows, domains_of, grants_of, copier_rights}
+use Rattle.table_laws.specs.Ties.{queue_rows, pool_rows, domains_of}
 use Rattle.table_laws.proofs.Flat.{flat-both, flat-numbered, flat-names, flat-nothing, flat-class}
 
 -- of a table, class by class
@@ -120,18 +117,3 @@ domains_same plan =
     (flat-class domains_of net_elements (λ (x : Net). net_domains x ++ flat_map net_client_domains x.client) plan.net net-domains)
     (flat-class domains_of serial_elements (λ (x : Serial). serial_domains x ++ flat_map serial_client_domains x.client) plan.serial serial-domains)
     (flat-class domains_of blk_elements (λ (x : Blk). blk_domains x ++ flat_map blk_client_domains x.client) plan.blk blk-domains)
-
--- the maps that the network class asks for
-abbrev asked : List ℕ → NetClient → List ℕ × List ℕ × Bool
-asked region client = (client.copier, region, false)
-
-abbrev granted : List ℕ → Grant (List ℕ) → List ℕ × List ℕ × Bool
-granted region g = (g.domain, region, g.writes)
-
-copiers : (region : List ℕ) (clients : List NetClient)
-    → map (asked region) clients ≡ map (granted region) (map (λ (c : NetClient). reads c.copier) clients) ++ []
-copiers region [] = refl
-copiers region (client ∷ rest) = ap (λ rights. asked region client ∷ rights) (copiers region rest)
-
-pub net-rights : (net : Net) → net_rights net ++ copier_rights net ≡ grants_of (net_element net)
-net-rights net = ap (λ rights. net_rights net ++ rights) (copiers net.rx_region net.client)

@@ -1,5 +1,5 @@
 -- What rules and layouts take from a row of the table of classes.
-use Rattle.std.specs.Prelude.{ℕ, ◌≤◌, All, Bool, true, false, List, [], ◌∷◌, ◌++◌, map, Option, Some, None}
+use Rattle.std.specs.Prelude.{ℕ, List, [], ◌∷◌, ◌++◌, map, Option, Some, None}
 use Rattle.std.specs.List.{flat_map}
 use Rattle.std.specs.Option.{option_map_or}
 use Rattle.std.specs.Fmt.{decimal}
@@ -10,21 +10,13 @@ use Rattle.wire_core.specs.declared.names.PoolRow.{PoolRow}
 use Rattle.sdf_plan.specs.declared.place.Place.{Place}
 use Rattle.sdf_plan.specs.declared.place.Place.TheVariants as At
 use Rattle.sdf_plan.specs.declared.plan.Plan.{Plan}
-use Rattle.sdf_plan.specs.declared.plan.Net.{Net}
-use Rattle.sdf_plan.specs.declared.plan.NetClient.{NetClient}
 use Rattle.sdf_check.specs.Names.{region_named}
-use Rattle.sdf_check.specs.ClassRules.{HasStranger}
-use Rattle.sdf_check.specs.declared.role.Role.TheVariants as Judged
-use Rattle.sdf_check.specs.declared.role.Role as InRules
-use Rattle.class_table.specs.declared.role.Role.{Role}
-use Rattle.class_table.specs.declared.role.Role.TheVariants as For
 use Rattle.class_table.specs.declared.uses.UseName.{UseName}
 use Rattle.class_table.specs.declared.uses.Link.{Link}
 use Rattle.class_table.specs.declared.uses.Ends.{Ends}
 use Rattle.class_table.specs.declared.uses.Ends.TheVariants as Way
 use Rattle.class_table.specs.declared.uses.RoleUse.{RoleUse}
 use Rattle.class_table.specs.declared.uses.QueueUse.{QueueUse}
-use Rattle.class_table.specs.declared.uses.Grant.{Grant}
 use Rattle.class_table.specs.declared.uses.PoolUse.{PoolUse}
 use Rattle.class_table.specs.Rows.{Name}
 use Rattle.class_table.specs.Table.{Element}
@@ -64,7 +56,8 @@ offset_behind (Some first) capacity = queue_span first capacity
 -- the row of the layout that a queue of the element at a place is, and that a pool is
 abbrev pub queue_row : Plan → Place → QueueUse Name → QueueRow
 queue_row plan place q =
-    queue_in plan (region_of plan q.ends) (offset_behind q.behind q.capacity) (text_of q.name) q.kind
+    queue_in plan (region_of plan q.ends) (offset_behind q.behind q.capacity)
+    (text_of q.name) q.kind
     (producer_of plan place q.ends) (consumer_of plan place q.ends) q.capacity
 
 abbrev pub pool_row : Plan → PoolUse Name → PoolRow
@@ -88,66 +81,7 @@ first_link _ _ = []
 abbrev pub queue_link : QueueUse Name → List (Link Name)
 queue_link q = first_link q.behind q.ends
 
--- the two domains of each region of queues
-abbrev pub links_of : Element → List (Name × Name)
-links_of e = map (λ (l : Link Name). (l.from, l.to)) (flat_map queue_link e.queues)
-
--- who must map which region, and whether to write there too: both domains of a link, and those that a pool names
-abbrev pub link_grants : Link Name → List (Name × Name × Bool)
-link_grants l = (l.from, l.region, true) ∷ (l.to, l.region, true) ∷ []
-
-abbrev pub pool_grants : PoolUse Name → List (Name × Name × Bool)
-pool_grants p = map (λ (g : Grant Name). (g.domain, p.region, g.writes)) p.must
-
-abbrev pub grants_of : Element → List (Name × Name × Bool)
-grants_of e = flat_map link_grants (flat_map queue_link e.queues) ++ flat_map pool_grants e.pools
-
--- the maps that the network class asks of its clients' copiers
-abbrev pub copier_rights : Net → List (Name × Name × Bool)
-copier_rights net = map (λ (c : NetClient). (c.copier, net.rx_region, false)) net.client
-
--- the role by which the rule on roles judges one of the table
-abbrev pub judged_as : Role → InRules.Role
-judged_as For.NetDriver = Judged.NetDriver
-judged_as For.NetRxVirt = Judged.NetRxVirt
-judged_as For.NetTxVirt = Judged.NetTxVirt
-judged_as For.NetCopier = Judged.NetCopier
-judged_as For.NetClient = Judged.NetClient
-judged_as For.SerialDriver = Judged.SerialDriver
-judged_as For.SerialRxVirt = Judged.SerialRxVirt
-judged_as For.SerialTxVirt = Judged.SerialTxVirt
-judged_as For.SerialClient = Judged.SerialClient
-judged_as For.BlkDriver = Judged.BlkDriver
-judged_as For.BlkVirt = Judged.BlkVirt
-judged_as For.BlkClient = Judged.BlkClient
-
--- the roles that an element gives, as that rule judges them
-abbrev pub roles_of : Element → List (Name × InRules.Role)
-roles_of e = map (λ (r : RoleUse Name). (r.domain, judged_as r.role)) e.roles
-
--- a region, with the domains that may map it: the two of a link, and those that must or may map a
--- pool
-abbrev pub link_share : Link Name → Name × List Name
-link_share l = (l.region, l.from ∷ l.to ∷ [])
-
-abbrev pub pool_share : PoolUse Name → Name × List Name
-pool_share p = (p.region, map (λ (g : Grant Name). g.domain) p.must ++ p.may)
-
-abbrev pub shares_of : Element → List (Name × List Name)
-shares_of e = map link_share (flat_map queue_link e.queues) ++ map pool_share e.pools
-
--- a domain that isn't among those of a share maps its region
-abbrev pub HasTrespasser : Plan → Name × List Name → Type 0
-HasTrespasser plan share = HasStranger plan share.0 share.1
-
--- the regions that an element uses
+-- the regions that an element uses: those of its queues, and those of its pools
 abbrev pub regions_of : Element → List Name
-regions_of e = map (λ (s : Name × List Name). s.0) (shares_of e)
-
--- a queue has an entry for whatever may come to stand there
-abbrev pub HasRoom : QueueUse Name → Type 0
-HasRoom q = q.holds ≤ q.capacity
-
--- each queue of an element has
-abbrev pub HasRooms : Element → Type 0
-HasRooms e = All HasRoom e.queues
+regions_of e = map (λ (l : Link Name). l.region) (flat_map queue_link e.queues)
+    ++ map (λ (p : PoolUse Name). p.region) e.pools

@@ -1,5 +1,5 @@
 use Rattle.std.proofs.Common.{◌≡◌}
-use Rattle.table_laws.proofs.Strangers.{net-regions, net-client-regions, blk-client-regions}
+use Rattle.table_laws.proofs.Regions.{net-regions, net-client-regions, blk-client-regions}
 use Rattle.table_laws.proofs.regions_tie.Goals as goal
 
 pub returns-clause-net : goal.returns-clause-net

@@ -14,3 +14,6 @@ loop-rule-preserved c = λ n first less.
     subst (λ (m : ℕ). IsKept (broken c.args.plan.now m) (walk (outline_of c.args.plan.now))) same
     (subst (λ (plan : Plan). IsKept (broken plan c.loop-rule.rule) (walk (outline_of plan))) c.in_ok-judge.ensures c.in_default.ensures))
     (cases_lt n c.loop-rule.rule)
+
+pub returns : goal.returns
+returns c = λ n first last. let below : n < c.loop-rule.rule = omega (arith, last, c.loop-rule-test.false) in c.loop-rule.invariant n first below

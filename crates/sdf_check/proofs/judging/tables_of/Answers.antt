@@ -6,6 +6,7 @@ use Rattle.sdf_check.proofs.judging.tables_of.Goals as goal
 
 pub returns : goal.returns
 returns c = record {
+  classes = c.in_ok-classes.ensures;
   given = subst (λ (regions : List Region). IsFirstMeeting (map given_range regions) c.in_ok-given.given) c.as_slice.ensures c.in_ok-given.ensures;
   maps = subst (λ (firsts : List (Option ℕ)). AreFirstMaps c.args.judge.now.plan.now firsts) (sym c.from_vec-maps.ensures) c.in_ok-first_maps.ensures;
   uses = c.in_ok-uses.ensures;

@@ -1,0 +1,14 @@
+use Rattle.class_table.specs.Shown.{pool_shown}
+use Rattle.sdf_check.specs.ClassRules.{IsStranger, allowed}
+use Rattle.sdf_check.proofs.LoopLemmas.{more-item, none_left-item, not-so}
+use Rattle.sdf_check.proofs.rows.pool_has_stranger.Goals as goal
+
+pub loop-domain-preserved : goal.loop-domain-preserved
+loop-domain-preserved c =
+    more-item (IsStranger c.args.pool.now.region.now (allowed (pool_shown c.args.pool.now))) c.args.judge.now.plan.now.protection_domain c.as_slice-domain-items.result.now c.loop-domain.domain-index c.domain-item.result
+    c.as_slice-domain-items.ensures c.loop-domain-test.true c.domain-item.is (not-so c.is_stranger.result c.is_stranger.ensures.1 c.if-is_stranger.false) c.loop-domain.invariant
+
+pub returns : goal.returns
+returns c =
+    none_left-item (IsStranger c.args.pool.now.region.now (allowed (pool_shown c.args.pool.now))) c.args.judge.now.plan.now.protection_domain c.as_slice-domain-items.result.now c.loop-domain.domain-index
+    c.as_slice-domain-items.ensures c.loop-domain-test.false c.loop-domain.invariant
