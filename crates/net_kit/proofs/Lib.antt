@@ -1,3 +1,9 @@
 pub mod Addresses
 pub mod Filling
 pub mod Counts
+pub mod TwoLists
+pub mod VirtTurns
+pub mod VirtFits
+pub mod Places
+pub mod Forgets
+pub mod Passing

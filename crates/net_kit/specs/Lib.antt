@@ -3,3 +3,4 @@ pub mod Entries
 pub mod Pools
 pub mod Stocks
 pub mod Recorders
+pub mod Virtualising

@@ -1,8 +1,28 @@
 //! What an entry of a network queue says, and how its buffer is filled.
 ghost use Rattle.std.specs.Prelude.{◌≡◌, ◌<◌, ◌^◌, length};
-ghost use Rattle.net_kit.specs.Entries.{frame_of, filled};
+ghost use Rattle.net_kit.specs.Entries.{frame_of, filled, addr_of, len_of};
 
 use cargo_core::{Body, Item, NetDesc};
+
+/// The address at which the buffer of an item begins; 0 where the item is of another class.
+pub fn address(item: &Item) -> u64
+    ensures { result ≡ addr_of item.now }
+{
+    match item {
+        Item::Net(desc) => desc.addr,
+        _ => 0,
+    }
+}
+
+/// The length of the frame that an item tells; 0 where the item is of another class.
+pub fn told_length(item: &Item) -> u16
+    ensures { result ≡ len_of item.now }
+{
+    match item {
+        Item::Net(desc) => desc.len,
+        _ => 0,
+    }
+}
 
 /// The frame of an entry: the first bytes of its page, as many as its length says and the page has. It is empty where the
 /// entry has no page. At most 65,535 bytes, since a length has 16 bits.
