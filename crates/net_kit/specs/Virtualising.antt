@@ -55,13 +55,15 @@ pub record SameVirt (old new : VirtEnds) : Type 0 where
   pub from_clients : from_queues new ≡ from_queues old
   pub to_clients : to_queues new ≡ to_queues old
 
--- ends in their start state
+-- a consuming end in its start state
 abbrev pub new_intake : QueueId → Intake
 new_intake q = record { queue = q; state = start_state Forward }
 
+-- a producing end in its start state
 abbrev pub new_outlet : QueueId → Outlet
 new_outlet q = record { queue = q; state = start_state Backward }
 
+-- a virtualiser's ends in their start state, of these queues
 pub record IsNewVirt (input output : QueueId) (from_clients to_clients : List QueueId)
     (v : VirtEnds) : Type 0 where
   pub input_is : v.input ≡ new_intake input
@@ -70,10 +72,11 @@ pub record IsNewVirt (input output : QueueId) (from_clients to_clients : List Qu
   pub to_is : v.to_clients.ends.items ≡ map new_outlet to_clients
   pub last : v.turn.last ≡ 65535
 
--- an end without its last look
+-- a consuming end without its last look
 abbrev pub intake_forgotten : Intake → Intake
 intake_forgotten i = record i { state = record i.state { look = None } }
 
+-- a producing end without its last look
 abbrev pub outlet_forgotten : Outlet → Outlet
 outlet_forgotten o = record o { state = record o.state { look = None } }
 
@@ -85,10 +88,11 @@ pub record VirtForgot (old new : VirtEnds) : Type 0 where
   pub to_clients : new.to_clients.ends.items ≡ map outlet_forgotten old.to_clients.ends.items
   pub turn : new.turn ≡ old.turn
 
--- the queues on which entries come, and those on which entries go
+-- the queues on which entries come, the driver's first
 abbrev pub virt_came : VirtEnds → List ℕ
 virt_came v = v.input.queue.0 ∷ map (λ q. q.0) (from_queues v)
 
+-- the queues on which entries go, the driver's first
 abbrev pub virt_went : VirtEnds → List ℕ
 virt_went v = v.output.queue.0 ∷ map (λ q. q.0) (to_queues v)
 
@@ -102,6 +106,7 @@ abbrev pub virt_needs : VirtEnds → (need owed : Bool) → (needs loads : ℕ �
 virt_needs v need owed needs loads = need ∷ owed
     ∷ (needs_from needs 0 (from_queues v) ++ needs_from loads 0 (to_queues v))
 
+-- all ends with what is needed and loaded, and whose turn it is
 abbrev pub virt_round : VirtEnds → (need owed : Bool) → (needs loads : ℕ → Bool) → Round
 virt_round v need owed needs loads = record {
   posts = virt_posts v;

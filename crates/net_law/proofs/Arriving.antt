@@ -1,9 +1,10 @@
-use Rattle.std.proofs.Common.{List, map, sym, ap, ◌∙◌, subst}
+use Rattle.std.proofs.Common.{◌≡◌, ◌==◌, ℕ, Bool, true, false, cond, List, [], ◌∷◌, map, refl, sym, ap, ◌∙◌, subst}
+use Rattle.std.specs.List.{filter}
 use Rattle.std.proofs.lemmas.List.{map-append}
 use Rattle.cargo_core.specs.Lists.{IsPrefix}
 use Rattle.frame_core.specs.declared.mac.Mac.{Mac}
 use Rattle.wire_core.specs.Deeds.{Cargo}
-use Rattle.wire_core.specs.Lists.{Passed}
+use Rattle.wire_core.specs.Lists.{Passed, if_there}
 use Rattle.turn_kit.specs.declared.pipe.Pipe.{Pipe}
 use Rattle.pipe_driver.specs.declared.pipes.Pipes.{Pipes}
 use Rattle.net_kit.specs.Entries.{frame_of, all_filled}
@@ -11,12 +12,23 @@ use Rattle.net_expect.specs.Expecting.{frames_for, is_for_client}
 use Rattle.eth_device.specs.declared.EthDevice.{EthDevice}
 use Rattle.net_copier.specs.Copying.{leased_bytes}
 use Rattle.net_copier.specs.declared.NetCopier.{NetCopier}
+use Rattle.net_virt_rx.specs.declared.NetVirtRx.{NetVirtRx}
+use Rattle.net_virt_rx.specs.Sharing.{leases_for, lease_of}
 use Rattle.net_client.specs.declared.NetClient.{NetClient}
 use Rattle.net_law.specs.Receiving.{IsReceiving, AreRoomy}
 use Rattle.net_law.proofs.Beginnings.{begins_on, begins_map, begins_filter}
 use Rattle.net_law.proofs.Filled.{frames_are, roomy_front}
 
-module _ (d : EthDevice) (p : Pipes (Pipes (Pipes Pipe))) (k : NetCopier) (c : NetClient) (mac : Mac) (passed : Passed) (h : IsReceiving d p k c mac passed) where
+-- the bytes of the leases that are due to a client are the frames for it
+leases_frames : (size : ℕ) (mac : Mac) (frames : List Cargo) → map leased_bytes (leases_for size mac frames) ≡ frames_for mac (map frame_of frames)
+leases_frames size mac [] = refl
+leases_frames size mac (c ∷ frames) = either (is_for_client mac (frame_of c)) ∙ ap (λ l. cond (is_for_client mac (frame_of c)) (frame_of c ∷ l) l) (leases_frames size mac frames)
+  where
+    either : (b : Bool) → map leased_bytes (map (lease_of size) (cond b (c ∷ filter (λ x. is_for_client mac (frame_of x)) frames) (filter (λ x. is_for_client mac (frame_of x)) frames))) ≡ cond b (frame_of c ∷ map leased_bytes (leases_for size mac frames)) (map leased_bytes (leases_for size mac frames))
+    either true = refl
+    either false = refl
+
+module _ (d : EthDevice) (p : Pipes (Pipes (Pipes Pipe))) (v : NetVirtRx) (k : NetCopier) (c : NetClient) (mac : Mac) (passed : Passed) (h : IsReceiving d p v k c mac passed) where
   abbrev active : List Cargo
   active = passed.taken p.rest.first.output.queue.0
 
@@ -32,13 +44,27 @@ module _ (d : EthDevice) (p : Pipes (Pipes (Pipes Pipe))) (k : NetCopier) (c : N
       let filled = all_filled d.frames (passed.taken d.free.queue.0) in
       begins_on (map frame_of active) (map frame_of filled) d.frames (begins_map frame_of active filled (begins_on active (passed.sent d.active.queue.0) filled from_driver h.device.filled)) (frames_are d.frames (passed.taken d.free.queue.0) h.room_at_device)
 
+  -- the leases that were put to the copier are of those that are for the client
+  shares : IsPrefix (map leased_bytes (passed.sent k.lease_input.queue.0)) (frames_for mac (map frame_of active))
+  shares =
+      let row = h.virtualiser in
+      let turn = row.turn v.ends.input.queue.0 in
+      let taken = passed.taken v.ends.input.queue.0 in
+      let sent = passed.sent k.lease_input.queue.0 in
+      let served = row.serves h.place mac k.lease_input.queue k.lease_output.queue h.address h.to_copier h.from_copier in
+      let leases = leases_for v.work.stock.size mac turn in
+      let in_turn : IsPrefix turn taken = (if_there (row.place == v.ends.input.queue.0) row.stray, sym (row.taken v.ends.input.queue.0)) in
+      let begun : IsPrefix (map leased_bytes sent) (frames_for mac (map frame_of turn)) = subst (λ l. IsPrefix (map leased_bytes sent) l) (leases_frames v.work.stock.size mac turn) (begins_map leased_bytes sent leases served.lends) in
+      subst (λ n. IsPrefix (map leased_bytes sent) (frames_for mac (map frame_of (passed.taken n)))) h.from_driver
+      (begins_on (map leased_bytes sent) (frames_for mac (map frame_of turn)) (frames_for mac (map frame_of taken)) begun (begins_filter (is_for_client mac) (map frame_of turn) (map frame_of taken) (begins_map frame_of turn taken in_turn)))
+
   -- what the copier took of leases are those frames that are for the client
   leased : IsPrefix (map leased_bytes (passed.taken k.lease_input.queue.0)) (frames_for mac d.frames)
   leased =
       let taken = passed.taken k.lease_input.queue.0 in
       let sent = passed.sent k.lease_input.queue.0 in
       begins_on (map leased_bytes taken) (map leased_bytes sent) (frames_for mac d.frames) (begins_map leased_bytes taken sent (h.hands_over k.lease_input.queue.0))
-      (begins_on (map leased_bytes sent) (frames_for mac (map frame_of active)) (frames_for mac d.frames) h.shares (begins_filter (is_for_client mac) (map frame_of active) d.frames device_frames))
+      (begins_on (map leased_bytes sent) (frames_for mac (map frame_of active)) (frames_for mac d.frames) shares (begins_filter (is_for_client mac) (map frame_of active) d.frames device_frames))
 
   -- and what it put are buffers with these
   copied : IsPrefix (map frame_of (passed.sent k.buffer_output.queue.0)) (map leased_bytes (passed.taken k.lease_input.queue.0))

@@ -1,5 +1,5 @@
 -- The network class on its way to one client, apart from any system: the rows of the actors on that way, and the queues between.
-use Rattle.std.specs.Prelude.{◌≡◌, ◌≤◌, ℕ, List, [], ◌∷◌, length, map}
+use Rattle.std.specs.Prelude.{◌≡◌, ◌≤◌, ℕ, Some, List, [], ◌∷◌, length, map, slice_get}
 use Rattle.cargo_core.specs.declared.item.Body.{Body}
 use Rattle.cargo_core.specs.declared.item.Body.TheVariants as Carried
 use Rattle.cargo_core.specs.declared.item.QueueKind.TheVariants as Kind
@@ -12,12 +12,13 @@ use Rattle.turn_kit.specs.declared.pipe.Pipe.{Pipe}
 use Rattle.pipe_driver.specs.Drivers.{PipesRow}
 use Rattle.pipe_driver.specs.declared.pipes.Pipes.{Pipes}
 use Rattle.eth_driver.specs.Four.{four_pipes}
-use Rattle.net_kit.specs.Entries.{frame_of}
-use Rattle.net_expect.specs.Expecting.{frames_for}
 use Rattle.eth_device.specs.Devices.{DeviceRow}
 use Rattle.eth_device.specs.declared.EthDevice.{EthDevice}
 use Rattle.net_copier.specs.Copying.{CopierRow, leased_bytes}
 use Rattle.net_copier.specs.declared.NetCopier.{NetCopier}
+use Rattle.net_kit.specs.Virtualising.{from_queues, to_queues}
+use Rattle.net_virt_rx.specs.Receiving.{RxRow}
+use Rattle.net_virt_rx.specs.declared.NetVirtRx.{NetVirtRx}
 use Rattle.net_client.specs.Clients.{ClientRow}
 use Rattle.net_client.specs.declared.NetClient.{NetClient}
 
@@ -41,18 +42,22 @@ AreRoomy [] cs = Unit {0}
 AreRoomy (bytes ∷ rest) [] = Unit {0}
 AreRoomy (bytes ∷ rest) (c ∷ cs) = IsRoomy bytes c × AreRoomy rest cs
 
--- a device, its driver, and a client with its copier, whose rows hold. Between them the leases that are put to the copier are of
--- those frames that are for the client, in their order; and each buffer that is filled is long enough
-pub record IsReceiving (d : EthDevice) (p : Pipes (Pipes (Pipes Pipe))) (k : NetCopier)
-    (c : NetClient) (mac : Mac) (passed : Passed) : Type 0 where
+-- a device, its driver, the receiving virtualiser, and a client with its copier, whose rows hold; the client is that at one place
+-- of the virtualiser's, and has this address; and each buffer that is filled is long enough
+pub record IsReceiving (d : EthDevice) (p : Pipes (Pipes (Pipes Pipe))) (v : NetVirtRx)
+    (k : NetCopier) (c : NetClient) (mac : Mac) (passed : Passed) : Type 0 where
   pub hands_over : HandsOver passed
   pub device : DeviceRow d passed
   pub driver : PipesRow (four_pipes p) passed
-  pub shares : IsPrefix (map leased_bytes (passed.sent k.lease_input.queue.0)) (frames_for mac
-      (map frame_of (passed.taken p.rest.first.output.queue.0)))
+  pub virtualiser : RxRow v passed
   pub copier : CopierRow k passed
   pub client : ClientRow c passed
   pub from_device : p.rest.first.input.queue.0 ≡ d.active.queue.0
+  pub from_driver : v.ends.input.queue.0 ≡ p.rest.first.output.queue.0
+  pub place : ℕ
+  pub address : slice_get v.work.macs.items place ≡ Some mac
+  pub to_copier : slice_get (to_queues v.ends) place ≡ Some k.lease_input.queue
+  pub from_copier : slice_get (from_queues v.ends) place ≡ Some k.lease_output.queue
   pub to_client : k.buffer_output.queue.0 ≡ c.frames.pipe.input.queue.0
   pub room_at_device : AreRoomy d.frames (passed.taken d.free.queue.0)
   pub room_at_copier : AreRoomy (map leased_bytes (passed.taken k.lease_input.queue.0))

@@ -10,12 +10,13 @@ ghost use Rattle.pipe_driver.specs.declared.pipes.Pipes.{Pipes};
 ghost use Rattle.net_expect.specs.Expecting.{frames_for};
 ghost use Rattle.eth_device.specs.declared.EthDevice.{EthDevice};
 ghost use Rattle.net_copier.specs.declared.NetCopier.{NetCopier};
+ghost use Rattle.net_virt_rx.specs.declared.NetVirtRx.{NetVirtRx};
 ghost use Rattle.net_client.specs.declared.NetClient.{NetClient};
 ghost use Rattle.net_law.specs.Receiving.{IsReceiving};
 
 /// A client's record is a beginning of the device's frames that are for it.
 pub fn receive_law()
-    ensures { (d : EthDevice) (p : Pipes (Pipes (Pipes Pipe))) (k : NetCopier) (c : NetClient)
-        (mac : Mac) (passed : Passed) → IsReceiving d p k c mac passed
+    ensures { (d : EthDevice) (p : Pipes (Pipes (Pipes Pipe))) (v : NetVirtRx) (k : NetCopier)
+        (c : NetClient) (mac : Mac) (passed : Passed) → IsReceiving d p v k c mac passed
         → IsPrefix c.frames.tape.shown (frames_for mac d.frames) }
 {}

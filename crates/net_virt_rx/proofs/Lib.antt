@@ -1,0 +1,8 @@
+pub mod Marking
+pub mod Naming
+pub mod Standing
+pub mod Working
+pub mod Moving
+pub mod Steps
+pub mod Rounds
+pub mod Emptiness
