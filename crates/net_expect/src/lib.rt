@@ -1,12 +1,12 @@
-//! Which frames of a device a network client must get. A frame without a whole header is for nobody; that a client gets the
+//! Which frames of a device a network client must get, and how an echo answers them. A frame without a whole header is for nobody; that a client gets the
 //! frames to its address and to all stations is sDDF's.
 #![tactic(auto)]
 
 ghost use Rattle.std.specs.Prelude.{◌≡◌, [], ◌∷◌, ◌++◌, IfOk, OnOk};
-ghost use Rattle.net_expect.specs.Expecting.{is_for_client, frames_for};
+ghost use Rattle.net_expect.specs.Expecting.{is_for_client, frames_for, answers_for};
 
 use cargo_core::{FrameLog, Memory};
-use frame_core::{Mac, is_for};
+use frame_core::{Mac, is_for, turn_round};
 use std::alloc::Global;
 
 /// The length of a frame's header, in bytes.
@@ -41,6 +41,30 @@ pub fn frames_for(alloc: Global, frames: &FrameLog, mac: Mac) -> Result<FrameLog
     Ok(log)
 }
 
+// Appends the answer to a frame, where that is for the client of an address.
+#[tactic(auto, using(crate::proofs::Choosing::kept, crate::proofs::Choosing::left))]
+fn append_answer(alloc: Global, log: &mut FrameLog, frame: &[u8], mac: Mac) -> Result<(), Memory>
+    ensures { OnOk result (log.new ≡ log.old ++ answers_for mac (frame.now ∷ [])) }
+{
+    if !is_for_client(frame, mac) {
+        return Ok(());
+    }
+    let mut answer = frame.to_vec(alloc)?;
+    turn_round(&mut answer, mac);
+    log.push(&answer)
+}
+
+/// The frames by which an echo of an address answers those that it must get, of those that the device receives.
+pub fn answers_for(alloc: Global, frames: &FrameLog, mac: Mac) -> Result<FrameLog, Memory>
+    ensures { IfOk result (λ log. log ≡ answers_for mac frames.now) }
+{
+    let mut log = FrameLog::new(alloc);
+    for at in 0..frames.len() {
+        append_answer(alloc, &mut log, frames.get(at), mac)?;
+    }
+    Ok(log)
+}
+
 #[cfg(test)]
 mod tests {
     use super::*;
@@ -57,6 +81,16 @@ mod tests {
         assert_eq!(rt; log.len(), 2);
         assert_eq!(rt; log.get(0)[5], 1);
         assert_eq!(rt; log.get(1)[5], 255);
+        let answers = answers_for(rt.alloc(), &frames, Mac([2, 0, 0, 0, 0, 2]))?;
+        assert_eq!(rt; answers.len(), 2);
+        assert_eq!(rt;
+            answers.get(0),
+            [2, 0, 0, 0, 0, 9, 2, 0, 0, 0, 0, 2, 8, 0].as_slice()
+        );
+        assert_eq!(rt;
+            answers.get(1),
+            [2, 0, 0, 0, 0, 9, 2, 0, 0, 0, 0, 2, 8, 0].as_slice()
+        );
         Ok(())
     }
 }
