@@ -1,4 +1,4 @@
-use Rattle.std.proofs.Common.{◌≡◌, ℕ, zero, suc, ◌+◌, ◌<◌, ◌≤◌, ◌⊎◌, inl, inr, Bool, true, false, cond, List, [], ◌∷◌, ◌++◌, length, map, Option, Some, None, option_map, Result, Ok, Err, IfOk, IfErr, refl, sym, ap, ◌∙◌, arith}
+use Rattle.std.proofs.Common.{◌≡◌, ℕ, zero, suc, ◌<◌, ◌≤◌, ◌⊎◌, inl, inr, Bool, true, false, cond, List, [], ◌∷◌, Option, Some, None, option_map, Result, Ok, Err, IfOk, IfErr, refl, sym, ap, ◌∙◌, arith}
 use Rattle.std.specs.List.{slice_get, find}
 use Rattle.std.proofs.lemmas.Option.{same_Some}
 use Rattle.toml.specs.Data.{Members}
@@ -8,9 +8,9 @@ use Rattle.sdf_plan.specs.declared.place.Place.TheVariants as At
 use Rattle.sdf_plan.specs.declared.place.Refusal.{Refusal}
 use Rattle.sdf_plan.specs.declared.place.SdfFault.{SdfFault}
 use Rattle.sdf_plan.specs.declared.place.SdfFault.TheVariants as Fault
-use Rattle.sdf_plan.specs.Places.{walk, IsKept, IsFirstBroken, KeepsRules, IsRefusal}
-use Rattle.sdf_model.specs.Keys.{breaks_with, keys_at}
-use Rattle.sdf_model.specs.Tree.{element_at, outline_of, IsDocument, places_of, places_in, breaks, IsNoDocument, BreaksText, IfRefused}
+use Rattle.sdf_plan.specs.Places.{IsKept, KeepsRules, IsRefusal}
+use Rattle.sdf_model.specs.Keys.{breaks_with}
+use Rattle.sdf_model.specs.Tree.{element_at, IsDocument, places_of, places_in, breaks, IsNoDocument, BreaksText, IfRefused}
 use Rattle.sdf_model.specs.Elements.{Seen, elements_of, first_broken, Judged}
 use Rattle.sdf_model.proofs.Found.{places, elements-walk, Every, every-at, Stands, elements-stand}
 

@@ -1,9 +1,8 @@
-use Rattle.std.proofs.Common.{◌≡◌, ℕ, zero, suc, ◌+◌, ◌<◌, ◌≤◌, List, [], ◌∷◌, ◌++◌, length, get_or, drop, map, Bor, refl, sym, ap, ◌∙◌, append_assoc, drop-cons, arith, BTreeMap, String, Global, add-one}
+use Rattle.std.proofs.Common.{◌≡◌, ℕ, ◌+◌, ◌<◌, List, [], ◌∷◌, ◌++◌, length, get_or, drop, map, Bor, sym, ap, ◌∙◌, append_assoc, BTreeMap, String, Global}
 use Rattle.std.proofs.lemmas.List.{drop-map, drop_more}
 use Rattle.toml.specs.declared.value.Value.{Value}
 use Rattle.toml.specs.Data.{Members}
 use Rattle.toml.specs.View.{table_view}
-use Rattle.sdf_plan.specs.declared.place.Place.{Place}
 use Rattle.sdf_model.specs.declared.element.Element.{Element}
 use Rattle.sdf_model.specs.Elements.{Seen, seen}
 

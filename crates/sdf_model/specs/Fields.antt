@@ -1,5 +1,5 @@
 -- What a field of a plan holds, by the row of its key: the value there, or what its absence means.
-use Rattle.std.specs.Prelude.{ℕ, Bool, true, false, List, [], codes, Option, unwrap_or}
+use Rattle.std.specs.Prelude.{ℕ, Bool, true, false, List, [], codes, unwrap_or}
 use Rattle.toml.specs.Data.{Members}
 use Rattle.sdf_model.specs.declared.key.Absent.{Absent}
 use Rattle.sdf_model.specs.declared.key.Absent.TheVariants as If

@@ -1,8 +1,6 @@
 -- The plan that a document spells, part by part, with every default filled in.
-use Rattle.std.specs.Prelude.{ℕ, ℤ, pos, negsuc, Bool, true, false, List, [], ◌∷◌, map, codes, Option, Some, None, option_map, option_and_then, unwrap_or}
-use Rattle.toml.specs.Data.{Data, Members, get_member, as_str, as_integer, as_bool}
-use Rattle.sdf_model.specs.declared.key.Absent.{Absent}
-use Rattle.sdf_model.specs.declared.key.Absent.TheVariants as If
+use Rattle.std.specs.Prelude.{ℕ, ℤ, pos, negsuc, Bool, true, List, [], map, codes, Option, Some, None, option_map, option_and_then, unwrap_or}
+use Rattle.toml.specs.Data.{Members, get_member, as_str, as_integer, as_bool}
 use Rattle.sdf_plan.specs.declared.plan.Plan.{Plan}
 use Rattle.sdf_plan.specs.declared.plan.Region.{Region}
 use Rattle.sdf_plan.specs.declared.plan.Domain.{Domain}

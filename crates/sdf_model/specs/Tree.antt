@@ -1,7 +1,7 @@
 -- The elements of a document by their places, and the rules that are read on the text.
-use Rattle.std.specs.Prelude.{◌≡◌, ℕ, Bool, true, false, if◌then◌else◌, ◌==◌, ◌⊎◌, List, [], ◌∷◌, length, map, slice_get, codes, Option, Some, None, IsTrue, option_map, option_and_then}
+use Rattle.std.specs.Prelude.{◌≡◌, ℕ, Bool, true, if◌then◌else◌, ◌⊎◌, List, [], ◌∷◌, length, map, slice_get, codes, Option, Some, None, option_map, option_and_then}
 use Rattle.std.specs.Str.{IsUtf8}
-use Rattle.toml.specs.Data.{Data, Items, Members, get_member, as_array, as_table}
+use Rattle.toml.specs.Data.{Items, Members, get_member, as_array, as_table}
 use Rattle.toml.specs.Text.{are_tables}
 use Rattle.toml.specs.Parse.{parse_document}
 use Rattle.sdf_plan.specs.declared.place.Place.{Place}

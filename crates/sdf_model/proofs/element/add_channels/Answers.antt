@@ -1,4 +1,4 @@
-use Rattle.std.proofs.Common.{refl, [], ◌∷◌, ◌++◌, map, codes, ap, ◌∙◌}
+use Rattle.std.proofs.Common.{refl, ◌∷◌, map, codes, ap, ◌∙◌}
 use Rattle.toml.specs.View.{table_view}
 use Rattle.sdf_plan.specs.declared.place.Place.TheVariants as At
 use Rattle.sdf_model.specs.Tree.{tables_at}

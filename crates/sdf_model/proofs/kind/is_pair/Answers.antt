@@ -1,6 +1,4 @@
-use Rattle.std.proofs.Common.{◌≡◌, true, sym, ◌∙◌}
-use Rattle.toml.specs.Text.{are_tables}
-use Rattle.toml.specs.View.{items_view}
+use Rattle.std.proofs.Common.{sym, ◌∙◌}
 use Rattle.sdf_model.proofs.Trees.{pair-tables}
 use Rattle.sdf_model.proofs.kind.is_pair.Goals as goal
 
