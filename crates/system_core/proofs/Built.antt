@@ -44,18 +44,11 @@ unfolding layout_of
 layout_actors plan layout h = ap (λ (l : Layout). l.actors) h
 
 -- a plan that can be played has neither of these classes
-no_net : (plan : Plan) → unplayed plan ≡ None → plan.net ≡ None
-no_net plan h = go plan.net (if is_some plan.blk then Some At.Blk else None) h
+neither : (plan : Plan) → unplayed plan ≡ None → (plan.net ≡ None) × (plan.blk ≡ None)
+neither plan h = go plan.net plan.blk h
   where
-    go : (net : Option Net) (rest : Option Place) → (if is_some net then Some At.Net else rest) ≡ None → net ≡ None
-    go None rest h = refl
-    go (Some n) rest h = cc
-
-no_blk : (plan : Plan) → unplayed plan ≡ None → plan.blk ≡ None
-no_blk plan h = go plan.net plan.blk h
-  where
-    go : (net : Option Net) (blk : Option Blk) → (if is_some net then Some At.Net else (if is_some blk then Some At.Blk else None)) ≡ None → blk ≡ None
-    go None None h = refl
+    go : (net : Option Net) (blk : Option Blk) → (if is_some net then Some At.Net else (if is_some blk then Some At.Blk else None)) ≡ None → (net ≡ None) × (blk ≡ None)
+    go None None h = (refl, refl)
     go None (Some b) h = cc
     go (Some n) blk h = cc
 
@@ -64,10 +57,10 @@ actors_few plan valid = few_actors plan (domains_few plan valid)
 
 module _ (plan : Plan) (valid : Valid plan) (played : unplayed plan ≡ None) where
   net : plan.net ≡ None
-  net = no_net plan played
+  net = (neither plan played).0
 
   blk : plan.blk ≡ None
-  blk = no_blk plan played
+  blk = (neither plan played).1
 
   -- with the serial class
   module _ (serial : Serial) (has : plan.serial ≡ Some serial) where

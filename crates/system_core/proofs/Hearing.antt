@@ -1,4 +1,4 @@
-use Rattle.std.proofs.Common.{◌≡◌, ℕ, Option, Some, None, List, [], map, slice_get, refl, sym, ap, ◌∙◌}
+use Rattle.std.proofs.Common.{◌≡◌, ◌<◌, arith, length, ℕ, Option, Some, None, List, [], map, slice_get, refl, sym, ap, ◌∙◌}
 use Rattle.std.specs.Option.{option_map, option_map_or}
 use Rattle.std.proofs.lemmas.Option.{slice_get-map}
 use Rattle.wire_core.specs.Queues.{Queue}
@@ -12,12 +12,14 @@ use Rattle.serial_law.specs.Bytes.{bytes_in}
 use Rattle.actor_set.specs.Actors.{ActorStandsFor, part_of}
 use Rattle.actor_set.specs.declared.actor.Actor.{Actor}
 use Rattle.actor_set.specs.declared.actor.Actor.TheVariants as Kinds
-use Rattle.system_core.specs.Shows.{Shown, hostile_in}
+use Rattle.system_core.specs.Shows.{hostile_in}
 use Rattle.system_core.specs.States.{record_of, record_from}
 use Rattle.system_core.specs.Lawful.{record_by, record_at, IsTold, StandsLawful}
 use Rattle.system_core.specs.Systems.{Holds}
 use Rattle.system_core.specs.Inside.{shown_of, setting_of, IsSystem}
 use Rattle.system_core.specs.declared.system.System.TheInside.{Inside}
+use Rattle.std.proofs.lemmas.List.{length-map}
+use Rattle.system_core.proofs.Stepping.{runs_below}
 use Rattle.system_core.proofs.RowsNow.{carried_in}
 
 module _ (history : History) (rows : List QueueRow) (w : List Queue) (actors : List Actor) (journal : List Entry) (h : Holds history rows w actors journal) where
@@ -49,6 +51,13 @@ module _ (a : Inside) (i : IsSystem a) where
       line : (device : Option ℕ) → option_map (record_from a.actors.items) device ≡ option_map (record_at (shown_of a)) device
       line None = refl
       line (Some k) = ap Some (heard k)
+
+  -- a runnable actor is one of its actors
+  pub runner_there : (place k : ℕ) → slice_get a.running.list place ≡ Some k → k < length a.actors.items
+  runner_there place k at =
+      let below = runs_below (setting_of a).history a.rows.items (map part_of a.actors.items) a.journal.items place k (rw i.running at at) in
+      let size = length-map a.actors.items part_of in
+      omega (arith, below, size)
 
   -- all that holds of a system
   pub stands_lawful : StandsLawful (shown_of a)

@@ -25,7 +25,8 @@ use Rattle.region_layout.specs.Rows.{acts, actors_of, actor_named, acting_count,
 use Rattle.system_core.specs.Builds.{number_named}
 use Rattle.play_core.proofs.Lists.{some_is, map_get, map_from, there_is, there_below}
 use Rattle.system_core.proofs.WalkPlaces.{Stands, stands_left, stands_right, walk_domain, walk_serial, walk_client}
-use Rattle.system_core.proofs.Apart.{option_cases, AreApart, added_cases, name_of, acting_names, acting_apart, acting_there, acting_from, place_there, place_is, apart_some}
+use Rattle.layout_laws.proofs.Lists.{option_cases}
+use Rattle.system_core.proofs.Apart.{AreApart, added_cases, name_of, acting_names, acting_apart, acting_there, acting_from, place_there, place_is, apart_some}
 
 some_and : {T : Type 0} (o : Option T) (x : T) (P : T → Type 0) → o ≡ Some x → P x → IsSomeAnd o P
 some_and o x P is p = subst (λ z. IsSomeAnd z P) (sym is) p

@@ -1,4 +1,4 @@
-use Rattle.std.proofs.Common.{◌≡◌, ℕ, zero, suc, Some, List, length, refl, ap, ◌∙◌}
+use Rattle.std.proofs.Common.{◌≡◌, ℕ, zero, suc, Some, length, refl, ap, ◌∙◌}
 use Rattle.sdf_plan.specs.declared.plan.Plan.{Plan}
 use Rattle.sdf_plan.specs.declared.plan.Serial.{Serial}
 use Rattle.trace_text.specs.declared.trace.Trace.{Trace}

@@ -9,41 +9,15 @@ use Rattle.sdf_plan.specs.declared.plan.Plan.{Plan}
 use Rattle.sdf_plan.specs.declared.plan.Net.{Net}
 use Rattle.sdf_plan.specs.declared.plan.Serial.{Serial}
 use Rattle.sdf_plan.specs.declared.plan.SerialClient.{SerialClient}
+use Rattle.std.proofs.lemmas.Option.{slice_get-get_or}
 use Rattle.sdf_check.proofs.ListLemmas.{get-left, get-right}
+use Rattle.layout_laws.proofs.Lists.{all-at, each-at, all-clients}
 use Rattle.region_layout.specs.Rows.{actor_named, uart_number, device_queue, only_queue, queue_in, client_name, each_client, uart_queues, shared_serial_queues, serial_client_queues, net_queues, serial_queues, blk_queues, queues_of, queue_pair, eth_rx_queues, eth_tx_queues, net_rx_queues, net_tx_queues, net_client_queues, lease_queues, client_rx_queues, client_tx_queues}
 use Rattle.std.specs.Option.{option_map_or}
 use Rattle.system_core.specs.Builds.{first_serial}
 use Rattle.system_core.specs.Seats.{HasSeat}
 use Rattle.play_core.proofs.Lists.{some_is}
 use Rattle.system_core.proofs.Named.{Peer, peer_number}
-
--- the two rows of each client
-client_rows : {C T : Type 0} (rows : ℕ → C → List T) (first second : ℕ → C → T) → ((c : ℕ) (x : C) → rows c x ≡ first c x ∷ second c x ∷ []) → (from : ℕ) (clients : List C) (c : ℕ) (x : C) → slice_get clients c ≡ Some x
-    → (slice_get (each_client rows from clients) (2 * c) ≡ Some (first (from + c) x)) × (slice_get (each_client rows from clients) (suc (2 * c)) ≡ Some (second (from + c) x))
-client_rows rows first second two from [] c x h = cc
-client_rows {C} {T} rows first second two from (y ∷ ys) zero x h =
-    let e : y ≡ x = cc in
-    let n : from + 0 ≡ from = omega arith in
-    let is : each_client rows from (y ∷ ys) ≡ first from y ∷ second from y ∷ each_client rows (from + 1) ys = ap (λ (l : List T). l ++ each_client rows (from + 1) ys) (two from y) in
-    (rw (is, n, sym e) refl, rw (is, n, sym e) refl)
-client_rows {C} {T} rows first second two from (y ∷ ys) (suc c) x h =
-    let r = client_rows rows first second two (from + 1) ys c x h in
-    let is : each_client rows from (y ∷ ys) ≡ first from y ∷ second from y ∷ each_client rows (from + 1) ys = ap (λ (l : List T). l ++ each_client rows (from + 1) ys) (two from y) in
-    let n : from + 1 + c ≡ from + suc c = omega arith in
-    let m : 2 * suc c ≡ suc (suc (2 * c)) = omega arith in
-    (rw (is, m) (r.0 ∙ ap (λ k. Some (first k x)) n), rw (is, m) (r.1 ∙ ap (λ k. Some (second k x)) n))
-
--- what holds of the rows of each client holds of them all
-row_in : (P : QueueRow → Type 0) (front back : List QueueRow) → ((n : ℕ) (row : QueueRow) → slice_get front n ≡ Some row → P row) → ((n : ℕ) (row : QueueRow) → slice_get back n ≡ Some row → P row)
-    → (n : ℕ) (row : QueueRow) → slice_get (front ++ back) n ≡ Some row → P row
-row_in P [] back f b n row h = b n row h
-row_in P (x ∷ xs) back f b zero row h = f 0 row h
-row_in P (x ∷ xs) back f b (suc n) row h = row_in P xs back (λ m r g. f (suc m) r g) b n row h
-
-each_row : {C : Type 0} (P : QueueRow → Type 0) (rows : ℕ → C → List QueueRow) → ((c : ℕ) (x : C) (n : ℕ) (row : QueueRow) → slice_get (rows c x) n ≡ Some row → P row)
-    → (from : ℕ) (clients : List C) (n : ℕ) (row : QueueRow) → slice_get (each_client rows from clients) n ≡ Some row → P row
-each_row P rows all from [] n row h = cc
-each_row P rows all from (y ∷ ys) n row h = row_in P (rows from y) (each_client rows (from + 1) ys) (all from y) (each_row P rows all (from + 1) ys) n row h
 
 -- how many rows there are where each client has so many
 each_count : {C T : Type 0} (rows : ℕ → C → List T) (many : ℕ) (times : ℕ → ℕ) → times 0 ≡ 0 → ((n : ℕ) → times (suc n) ≡ many + times n) → ((c : ℕ) (x : C) → length (rows c x) ≡ many) → (from : ℕ) (clients : List C) → length (each_client rows from clients) ≡ times (length clients)
@@ -142,17 +116,16 @@ module _ (plan : Plan) (serial : Serial) (has : plan.serial ≡ Some serial) (fi
   pub seats_3 : (n : ℕ) → n ≡ first + 3 → Seat (named serial.tx_virt) Producer n × Seat (named serial.driver) Consumer n
   seats_3 n is = seats_at n _ _ _ _ _ _ (at_row n 3 row_3 is refl)
 
-  both_rows : (c : ℕ) (client : SerialClient) → slice_get serial.client c ≡ Some client → (slice_get clients (2 * c) ≡ Some (client_rx c client)) × (slice_get clients (suc (2 * c)) ≡ Some (client_tx c client))
-  both_rows c client h =
-      let r = client_rows (serial_client_queues plan serial) client_rx client_tx two_rows 0 serial.client c client h in
-      let e : 0 + c ≡ c = omega arith in
-      (r.0 ∙ ap (λ k. Some (client_rx k client)) e, r.1 ∙ ap (λ k. Some (client_tx k client)) e)
+  client_row : (c i : ℕ) (client : SerialClient) (row : QueueRow) → slice_get serial.client c ≡ Some client → slice_get (serial_client_queues plan serial c client) i ≡ Some row → slice_get clients (2 * c + i) ≡ Some row
+  client_row c i client row there at =
+      let z : c ≡ 0 + c = omega arith in
+      each-at (serial_client_queues plan serial) 2 (λ k. 2 * k) 0 serial.client c i client row (λ k x. ap length (two_rows k x)) (omega arith) (λ k. omega arith) there (ap (λ k. slice_get (serial_client_queues plan serial k client) i) (sym z) ∙ at)
 
   pub seats_rx : (c n : ℕ) (client : SerialClient) → n ≡ first + 4 + 2 * c → slice_get serial.client c ≡ Some client → Seat (named serial.rx_virt) Producer n × Seat (named client.pd) Consumer n
-  seats_rx c n client is h = seats_at n _ _ _ _ _ _ (at_row n (suc (suc (suc (suc (2 * c))))) (client_rx c client) (omega (arith, is)) (both_rows c client h).0)
+  seats_rx c n client is h = seats_at n _ _ _ _ _ _ (at_row n (suc (suc (suc (suc (2 * c + 0))))) (client_rx c client) (omega (arith, is)) (client_row c 0 client (client_rx c client) h (ap (λ rs. slice_get rs 0) (two_rows c client))))
 
   pub seats_tx : (c n : ℕ) (client : SerialClient) → n ≡ first + 5 + 2 * c → slice_get serial.client c ≡ Some client → Seat (named client.pd) Producer n × Seat (named serial.tx_virt) Consumer n
-  seats_tx c n client is h = seats_at n _ _ _ _ _ _ (at_row n (suc (suc (suc (suc (suc (2 * c)))))) (client_tx c client) (omega (arith, is)) (both_rows c client h).1)
+  seats_tx c n client is h = seats_at n _ _ _ _ _ _ (at_row n (suc (suc (suc (suc (2 * c + 1))))) (client_tx c client) (omega (arith, is)) (client_row c 1 client (client_tx c client) h (ap (λ rs. slice_get rs 1) (two_rows c client))))
 
   -- each owner of a queue is the device or a domain of a name
   abbrev IsNamed : QueueRow → Type 0
@@ -189,7 +162,7 @@ module _ (plan : Plan) (serial : Serial) (has : plan.serial ≡ Some serial) (fi
         go (suc zero) h = subst IsNamed (some_is h) (named_queue _ _ _ (Some serial.driver) None _)
         go (suc (suc zero)) h = subst IsNamed (some_is h) (named_queue _ _ _ (Some serial.driver) (Some serial.rx_virt) _)
         go (suc (suc (suc zero))) h = subst IsNamed (some_is h) (named_queue _ _ _ (Some serial.tx_virt) (Some serial.driver) _)
-        go (suc (suc (suc (suc n)))) h = each_row IsNamed (serial_client_queues plan serial) named_client 0 serial.client n row h
+        go (suc (suc (suc (suc n)))) h = all-at IsNamed clients (all-clients IsNamed (serial_client_queues plan serial) 0 serial.client (λ c client there k d lt. named_client (0 + c) client k _ (slice_get-get_or (serial_client_queues plan serial (0 + c) client) k d lt))) n row h
 
     pub row_count : length (queues_of plan) ≡ 4 + 2 * length serial.client
     row_count =

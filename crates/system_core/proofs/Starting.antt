@@ -1,6 +1,6 @@
-use Rattle.std.proofs.Common.{◌≡◌, ◌<◌, ◌≤◌, ◌+◌, ℕ, Bool, true, false, not, Some, List, [], ◌∷◌, ◌++◌, length, map, take, slice_get, slice_index_or, get_or, length-append, length-take, refl, sym, ap, ◌∙◌, subst, arith, zero, suc, min}
-use Rattle.std.proofs.lemmas.List.{take_more, length-map, append-nil}
-use Rattle.std.proofs.lemmas.Option.{slice_get_read}
+use Rattle.std.proofs.Common.{◌≡◌, ◌<◌, ◌≤◌, ◌+◌, ℕ, Bool, true, false, not, Some, List, [], ◌∷◌, ◌++◌, length, map, take, slice_get, slice_index_or, length-append, length-take, refl, sym, ap, ◌∙◌, subst, arith, zero, suc, min}
+use Rattle.std.proofs.lemmas.List.{take_all, take_more, length-map, append-nil}
+use Rattle.std.proofs.lemmas.Option.{slice_get_read, get_or_from_slice_get}
 use Rattle.wire_core.specs.declared.names.QueueRow.{QueueRow}
 use Rattle.wire_core.specs.Lists.{nothing_passed}
 use Rattle.wire_core.specs.Queues.{Queue, starts, queue_at, is_pending}
@@ -21,11 +21,11 @@ use Rattle.system_core.proofs.Calm.{manner_at}
 use Rattle.system_core.specs.Runnings.{with_number}
 use Rattle.system_core.specs.Starts.{AreStarting}
 use Rattle.system_core.specs.Systems.{Holds}
-use Rattle.play_core.proofs.Lists.{some_is, map_get}
+use Rattle.play_core.proofs.Lists.{some_is, map_get, there_below}
 use Rattle.system_core.proofs.Rising.{with_above}
 use Rattle.system_core.proofs.Places.{places_few}
 use Rattle.play_core.proofs.Flags.{flag_at, flags_length}
-use Rattle.system_core.proofs.RunsNow.{idle_here}
+use Rattle.system_core.proofs.RunsNow.{idle_here, not_not}
 
 starts_shown : (rows : List QueueRow) (n : ℕ) (row : QueueRow) → slice_get rows n ≡ Some row → IsShown row (queue_at (starts rows) n) start_track
 starts_shown [] n row h = cc
@@ -75,22 +75,11 @@ places_push k m [] false e = refl
 places_push k m (true ∷ bs) b e = ap (λ xs. k ∷ xs) (places_push (k + 1) m bs b (omega arith))
 places_push k m (false ∷ bs) b e = places_push (k + 1) m bs b (omega arith)
 
-take_all : (n : ℕ) (xs : List Bool) → length xs ≤ n → take n xs ≡ xs
-take_all zero [] le = refl
-take_all (suc n) [] le = refl
-take_all zero (x ∷ xs) le = absurd (omega arith)
-take_all (suc n) (x ∷ xs) le = ap (λ ys. x ∷ ys) (take_all n xs (omega arith))
-
-get_there : (xs : List Bool) (k : ℕ) (b : Bool) → slice_get xs k ≡ Some b → (k < length xs) × (get_or xs k b ≡ b)
-get_there [] k b h = cc
-get_there (x ∷ xs) zero b h = (omega arith, some_is h)
-get_there (x ∷ xs) (suc k) b h = let r = get_there xs k b h in let lt : k < length xs = r.0 in (omega arith, r.1)
-
 take_with : (bs : List Bool) (k : ℕ) (b : Bool) → slice_get bs k ≡ Some b → take (k + 1) bs ≡ take k bs ++ b ∷ []
-take_with bs k b h = let g = get_there bs k b h in take_more bs k b g.0 ∙ ap (λ x. take k bs ++ x ∷ []) g.1
+take_with bs k b h = take_more bs k b (there_below bs k b h) ∙ ap (λ x. take k bs ++ x ∷ []) (get_or_from_slice_get bs k b b h)
 
 take_count : (bs : List Bool) (k : ℕ) (b : Bool) → slice_get bs k ≡ Some b → length (take k bs) ≡ k
-take_count bs k b h = let g = get_there bs k b h in let lt : k < length bs = g.0 in length-take k bs ∙ least k (length bs) (omega arith)
+take_count bs k b h = let lt : k < length bs = there_below bs k b h in length-take k bs ∙ least k (length bs) (omega arith)
   where
     least : (m n : ℕ) → m ≤ n → min m n ≡ m
     least m n le = omega arith
@@ -109,8 +98,7 @@ list_skipped bs k list at is =
 pub list_room : (bs : List Bool) (k : ℕ) (list : List ℕ) (room : ℕ) (b : Bool) → slice_get bs k ≡ Some b → list ≡ places_from 0 (take k bs) → length bs ≤ room → length (with_number k list) ≤ room
 list_room bs k list room b at is le =
     let n : length (take k bs) ≡ k = take_count bs k b at in
-    let g = get_there bs k b at in
-    let lt : k < length bs = g.0 in
+    let lt : k < length bs = there_below bs k b at in
     let f : length (places_from 0 (take k bs)) ≤ length (take k bs) = places_few 0 (take k bs) in
     let w : with_number k (places_from 0 (take k bs)) ≡ places_from 0 (take k bs) ++ k ∷ [] = with_last k (places_from 0 (take k bs)) (places_under 0 k (take k bs) (omega arith)) in
     let m : length (places_from 0 (take k bs) ++ k ∷ []) ≡ length (places_from 0 (take k bs)) + 1 = length-append (places_from 0 (take k bs)) (k ∷ []) in
@@ -139,8 +127,4 @@ module _ (history : History) (rows : List QueueRow) (actors : List Actor) (scene
       let here : slice_get actors k ≡ Some x = slice_get_read actors _ k x refl lt at in
       let runs : Manner → Bool = λ m. is_runnable m k ((sheet scene (part_of x)).wants (moved history [])) history rows [] in
       let said : idle ≡ not (runs (manner_of (part_of x))) = is ∙ idle_here scene history rows world actors [] holds k x here in
-      flag_at (manners cast) 0 history rows wanted [] k k ((sheet scene (part_of x)).wants (moved history [])) (omega arith) (map_get (λ p. (sheet scene p).wants (moved history [])) cast k (part_of x) (map_get part_of actors k x here)) ∙ ap Some (ap runs (manner_at cast k (part_of x) (map_get part_of actors k x here)) ∙ (twice (runs (manner_of (part_of x))) ∙ ap not (sym said)))
-    where
-      twice : (b : Bool) → b ≡ not (not b)
-      twice true = refl
-      twice false = refl
+      flag_at (manners cast) 0 history rows wanted [] k k ((sheet scene (part_of x)).wants (moved history [])) (omega arith) (map_get (λ p. (sheet scene p).wants (moved history [])) cast k (part_of x) (map_get part_of actors k x here)) ∙ ap Some (ap runs (manner_at cast k (part_of x) (map_get part_of actors k x here)) ∙ (not_not (runs (manner_of (part_of x))) ∙ ap not (sym said)))

@@ -1,6 +1,6 @@
-use Rattle.std.proofs.Common.{◌≡◌, ◌≢◌, ◌⊎◌, ◌<◌, ◌≤◌, ◌+◌, ℕ, Bool, true, false, not, ◌&&◌, ◌||◌, Option, Some, None, List, [], ◌∷◌, ◌++◌, length, length-set, slice_get, slice_set, slice_index_or, map, subst, refl, sym, ap, ◌∙◌, arith, inl, inr, zero, suc}
+use Rattle.std.proofs.Common.{◌≡◌, ◌≢◌, ◌⊎◌, ◌<◌, ◌≤◌, ◌+◌, ℕ, Bool, true, false, not, ◌||◌, Option, Some, None, List, [], ◌∷◌, ◌++◌, length, length-set, slice_get, slice_set, slice_index_or, map, subst, refl, sym, ap, ◌∙◌, arith, inl, inr, zero, suc}
 use Rattle.std.proofs.lemmas.List.{length-map}
-use Rattle.std.proofs.lemmas.Option.{slice_get_read}
+use Rattle.std.proofs.lemmas.Option.{slice_get_past, slice_get_read}
 use Rattle.wire_core.specs.declared.names.QueueRow.{QueueRow}
 use Rattle.wire_core.specs.declared.names.Entry.{Entry}
 use Rattle.wire_core.specs.declared.names.Event.{Event}
@@ -34,7 +34,7 @@ use Rattle.system_core.specs.Systems.{Holds}
 use Rattle.system_core.proofs.Calm.{calm_manner, manner_at, sheet_own}
 use Rattle.system_core.proofs.RowsNow.{rows_now}
 use Rattle.system_core.proofs.SystemStep.{step_holds, map_same, entry_of}
-use Rattle.system_core.proofs.RunsNow.{idle_here, rests_here}
+use Rattle.system_core.proofs.RunsNow.{idle_here, not_not, rests_here}
 use Rattle.system_core.proofs.PartEnds.{from_part, seat_end}
 use Rattle.system_core.proofs.Paces.{called_end, nobody_since}
 use Rattle.system_core.proofs.Places.{places_kept, places_clear, places_so, places_below, places_few}
@@ -44,19 +44,10 @@ set_same [] k b h = refl
 set_same (x ∷ xs) zero b h = ap (λ y. y ∷ xs) (sym (some_is h))
 set_same (x ∷ xs) (suc k) b h = ap (λ ys. x ∷ ys) (set_same xs k b h)
 
-not_not : (b : Bool) → b ≡ not (not b)
-not_not true = refl
-not_not false = refl
-
 get_case : {X : Type 0} (xs : List X) (i : ℕ) → ((y : X) × (slice_get xs i ≡ Some y)) ⊎ (length xs ≤ i)
 get_case [] i = inr (omega arith)
 get_case (x ∷ xs) zero = inl (x, refl)
 get_case (x ∷ xs) (suc i) = elim (get_case xs i) [ inl h ↦ inl h | inr h ↦ inr (omega arith) ]
-
-get_past : (xs : List Bool) (i : ℕ) → length xs ≤ i → slice_get xs i ≡ None
-get_past [] i le = refl
-get_past (x ∷ xs) zero le = absurd (omega arith)
-get_past (x ∷ xs) (suc i) le = get_past xs i (omega arith)
 
 -- the actors' places after one of them is idle or not
 cleared : (bs : List Bool) (k place : ℕ) (idle : Bool) → slice_get (places_from 0 bs) place ≡ Some k → places_from 0 (slice_set bs k (not idle)) ≡ removed_if idle (places_from 0 bs) place
@@ -130,8 +121,8 @@ module _ (history : History) (rows : List QueueRow) (w v : List Queue) (actors :
           ∙ (ap Some (others_run (sheet (scene_of cast)) (sheet_own (scene_of cast)) (manners cast) history rows cast seated journal k e row there may i p.0 p.1 away quiet)
           ∙ sym (flag_of history rows cast journal i p.0 p.1))
       others_case (inr past) =
-          get_past (flag after_) i (let n = flags_count history rows cast after_ in omega arith)
-          ∙ sym (get_past (flag journal) i (let n = flags_count history rows cast journal in omega arith))
+          slice_get_past (flag after_) i (let n = flags_count history rows cast after_ in omega arith)
+          ∙ sym (slice_get_past (flag journal) i (let n = flags_count history rows cast journal in omega arith))
 
   lengths : length (flag after_) ≡ length (flag journal)
   lengths = flags_count history rows cast after_ ∙ sym (flags_count history rows cast journal)

@@ -13,7 +13,7 @@ use Rattle.wire_core.specs.declared.names.Op.{Op}
 use Rattle.wire_core.specs.declared.names.Op.TheVariants as Do
 use Rattle.wire_core.specs.Deeds.{Deed, Cargo, cargo_of}
 use Rattle.wire_core.specs.Ends.{Role, Consumer, Producer, Moves, role_of}
-use Rattle.wire_core.specs.Lists.{Passed, Stepped, with_deed, taken_by, put_by, if_there, if_taken, if_put}
+use Rattle.wire_core.specs.Lists.{Passed, Stepped, with_deed, if_there, if_taken, if_put}
 use Rattle.wire_core.specs.Queues.{Queue, Happens, Carries, queue_at, no_queue, end_at, items_of, entries_after, after}
 use Rattle.wire_core.specs.Journal.{Track, track, track_after, sent_after, taken_after, History, Hostiles, history_at, if_on, IsShown, LegalEntry, LegalJournal, owner_of}
 use Rattle.wire_core.proofs.Moving.{moves}

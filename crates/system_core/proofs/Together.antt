@@ -1,49 +1,40 @@
-use Rattle.std.proofs.Common.{◌≡◌, ◌≤◌, ◌++◌, ℕ, Some, None, List, [], length, map, slice_get, refl, sym, ap, ◌∙◌, subst, arith}
+use Rattle.std.proofs.Common.{◌≡◌, ◌≤◌, ◌++◌, ℕ, Some, List, [], length, refl, sym, ap, ◌∙◌, subst, arith}
 use Rattle.std.proofs.lemmas.List.{length-map}
 use Rattle.wire_core.specs.declared.names.QueueRow.{QueueRow}
 use Rattle.wire_core.specs.declared.names.Entry.{Entry}
 use Rattle.wire_core.specs.Picks.{PickedFrom}
 use Rattle.wire_core.specs.Journal.{History, Hostiles, EachMoment, BellsHold, QueuesFlow}
-use Rattle.sdf_check.specs.Valid.{Valid}
 use Rattle.sdf_plan.specs.declared.plan.Plan.{Plan}
 use Rattle.sdf_plan.specs.declared.plan.Serial.{Serial}
 use Rattle.trace_text.specs.declared.trace.Trace.{Trace}
 use Rattle.trace_text.specs.Traces.{IsReadFor}
 use Rattle.play_core.specs.Moved.{Moved, moved}
 use Rattle.play_core.specs.Wants.{Needful}
-use Rattle.play_core.specs.Sheets.{needful}
+use Rattle.play_core.specs.Sheets.{Sheet, needful}
 use Rattle.play_core.specs.Still.{IsStill, Plays}
 use Rattle.play_core.proofs.Moments.{last_moment, each_moment}
 use Rattle.play_core.proofs.Quieting.{quiet_still}
 use Rattle.play_core.proofs.Tables.{plays_there}
-use Rattle.serial_law.specs.Parts.{SerialPart, SerialDevice, SerialDriver, SerialReceiver, SerialSender, SerialClient}
+use Rattle.serial_law.specs.Parts.{SerialPart}
 use Rattle.serial_law.specs.Table.{serial_sheet}
 use Rattle.serial_law.specs.Serial.{SerialClass, IsSerial, ArrivesInPart, ArrivesWhole}
 use Rattle.serial_law.proofs.Arrivals.{as_there, RowAt}
-use Rattle.system_core.specs.Kinds.{serial_part, sheet, scene_of}
+use Rattle.system_core.specs.Kinds.{serial_part, scene_of}
 use Rattle.system_core.specs.Shows.{Setting, Shown, manner_in, hostile_in, sheet_in, moved_in, runs, RowsStand}
 use Rattle.system_core.specs.Plays.{Played, runnable_now}
 use Rattle.system_core.specs.Lawful.{StandsLawful}
 use Rattle.system_core.specs.Builds.{IsBuilt, IsCastOf, BeginsAnew, HasSerial, serial_class, first_serial}
 use Rattle.system_core.specs.PlanPlays.{IsPlayed, IsPlayedOn}
-use Rattle.system_core.proofs.Calm.{calm_actor}
+use Rattle.system_core.proofs.Calm.{calm_actor, sheet_is}
 use Rattle.system_core.proofs.Scripts.{scripts_length}
 use Rattle.system_core.proofs.Begun.{There, serial_there, shows_in_part, shows_whole}
 
 -- what is said of a part of the serial class, as one of all
 row_as : (s : Setting) (m : Moved) (p : SerialPart) → (sheet_in s (serial_part p)).row m → RowAt m p
-row_as s m (SerialDevice rx tx input) h = h
-row_as s m (SerialDriver device_rx device_tx rx tx) h = h
-row_as s m (SerialReceiver rx clients) h = h
-row_as s m (SerialSender tx clients) h = h
-row_as s m (SerialClient rx tx script) h = h
+row_as s m p = subst (λ (t : Sheet). t.row m) (sheet_is (scene_of s.cast) p)
 
 plays_as : (s : Setting) (hostile : Hostiles) (actors : Needful) (m : Moved) (p : SerialPart) → Plays hostile actors m (sheet_in s (serial_part p)) → Plays hostile actors m (serial_sheet p)
-plays_as s hostile actors m (SerialDevice rx tx input) h = h
-plays_as s hostile actors m (SerialDriver device_rx device_tx rx tx) h = h
-plays_as s hostile actors m (SerialReceiver rx clients) h = h
-plays_as s hostile actors m (SerialSender tx clients) h = h
-plays_as s hostile actors m (SerialClient rx tx script) h = h
+plays_as s hostile actors m p = subst (Plays hostile actors m) (sheet_is (scene_of s.cast) p)
 
 -- the law of the serial class
 abbrev pub LawInPart : Type 0
@@ -87,7 +78,7 @@ module _ (s : Shown) (stands : StandsLawful s) (class : SerialClass) (there : Is
       (λ p at. plays_as s.setting (hostile_in s.setting) actors (moved_in s.setting s.journal) p (plays_there (sheet_in s.setting) (hostile_in s.setting) s.setting.cast (moved_in s.setting s.journal) (last_moment (RowsStand s.setting) s.journal stands.lawful.rows_hold) at.0 (serial_part p) (calm_actor s.setting.cast at.0) at.1))
       (hostile_in s.setting) s.setting.rows class there)
 
--- before it was played, a system was what it was built as
+-- a system of a plan and a trace, whatever its queues had before its journal begins
 module _ (old new : Shown) (seed limit : ℕ) (none : old.journal ≡ []) (played : Played old new seed limit) where
   more_is : played.more ≡ new.journal
   more_is = sym (played.journal ∙ ap (λ j. j ++ played.more) none)
@@ -97,9 +88,9 @@ module _ (old new : Shown) (seed limit : ℕ) (none : old.journal ≡ []) (playe
       subst (λ z. PickedFrom (runs z) seed [] new.journal) (sym played.setting)
       (subst (λ j. PickedFrom (runs old.setting) seed [] j) more_is (subst (λ j. PickedFrom (runs old.setting) seed j played.more) none played.picked))
 
-  module _ (plan : Plan) (trace : Trace) (read : IsReadFor plan trace) (built : IsBuilt plan trace old) (stands : StandsLawful new) (part : LawInPart) (whole : LawWhole) where
+  module _ (plan : Plan) (trace : Trace) (read : IsReadFor plan trace) (cast : IsCastOf plan trace old.setting) (stands : StandsLawful new) (part : LawInPart) (whole : LawWhole) where
     cast_is : IsCastOf plan trace new.setting
-    cast_is = subst (IsCastOf plan trace) (sym played.setting) built.cast
+    cast_is = subst (IsCastOf plan trace) (sym played.setting) cast
 
     module _ (serial : Serial) (has : plan.serial ≡ Some serial) where
       abbrev class : SerialClass
@@ -114,8 +105,8 @@ module _ (old new : Shown) (seed limit : ℕ) (none : old.journal ≡ []) (playe
       there : IsSerial (There new.setting) (hostile_in new.setting) new.setting.rows class
       there = serial_there plan serial has (first_serial plan) refl trace new.setting cast_is.rows stands.fitted.places class_is says
 
-    on : IsPlayedOn plan trace seed limit new
-    on = record {
+    pub played_on : IsPlayedOn plan trace seed limit new
+    played_on = record {
       cast = cast_is;
       picked = picked_is;
       within = subst (λ j. length j ≤ limit) more_is played.within;
@@ -125,5 +116,9 @@ module _ (old new : Shown) (seed limit : ℕ) (none : old.journal ≡ []) (playe
       whole = λ quiet serial has. shows_whole plan serial (first_serial plan) trace new (class_is serial has) (says serial has) stands.told (arrives_whole new stands (class serial has) (there serial has) whole quiet);
     }
 
-    pub together : IsPlayed plan trace seed limit new
-    together = record { begins = subst BeginsAnew (sym played.setting) built.begins; played = on }
+-- one that was built begins with nothing
+pub together : (old new : Shown) (seed limit : ℕ) → Played old new seed limit → (plan : Plan) (trace : Trace) → IsReadFor plan trace → IsBuilt plan trace old → StandsLawful new → LawInPart → LawWhole → IsPlayed plan trace seed limit new
+together old new seed limit played plan trace read built stands part whole = record {
+  begins = subst BeginsAnew (sym played.setting) built.begins;
+  played = played_on old new seed limit built.journal played plan trace read built.cast stands part whole;
+}

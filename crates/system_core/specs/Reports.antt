@@ -1,5 +1,5 @@
 -- The report of a system: its state, in the form that is printed.
-use Rattle.std.specs.Prelude.{◌==◌, ℕ, length}
+use Rattle.std.specs.Prelude.{◌==◌, length}
 use Rattle.expect_core.specs.declared.report.Report.{Report}
 use Rattle.system_core.specs.Shows.{Shown}
 use Rattle.system_core.specs.Plays.{runnable_now}

@@ -1,4 +1,4 @@
-use Rattle.std.proofs.Common.{◌≡◌, ◌+◌, ◌*◌, length, sym, ◌∙◌, ap, arith}
+use Rattle.std.proofs.Common.{arith}
 use Rattle.system_core.proofs.SerialRows.{first_after}
 use Rattle.system_core.proofs.build.first_serial.Goals as goal
 

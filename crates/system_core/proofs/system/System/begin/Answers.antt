@@ -1,4 +1,4 @@
-use Rattle.std.proofs.Common.{◌≡◌, ◌∙◌, ap, None, [], map, arith}
+use Rattle.std.proofs.Common.{◌∙◌, ap, None, [], map, arith}
 use Rattle.actor_set.specs.Actors.{part_of}
 use Rattle.system_core.specs.Kinds.{scene_of, hostiles}
 use Rattle.system_core.specs.States.{history_of, begun, crew_of}

@@ -1,4 +1,4 @@
-use Rattle.std.proofs.Common.{◌∙◌, ap, refl, sym}
+use Rattle.std.proofs.Common.{◌∙◌, ap}
 use Rattle.wire_core.specs.Queues.{starts}
 use Rattle.system_core.specs.States.{crew_of}
 use Rattle.system_core.proofs.Fitting.{are_sized, start_goes}

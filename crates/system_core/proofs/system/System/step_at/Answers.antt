@@ -13,38 +13,31 @@ use Rattle.system_core.proofs.SystemStep.{entry_of}
 use Rattle.system_core.specs.Plays.{runnable_now}
 use Rattle.system_core.specs.Asking.{IsAsked}
 use Rattle.system_core.specs.Systems.{Holds, HoldsBefore}
-use Rattle.system_core.proofs.Stepping.{runs_below, rung_there, set_same, system_then}
+use Rattle.system_core.proofs.Stepping.{rung_there, set_same, system_then}
+use Rattle.system_core.proofs.Hearing.{runner_there}
 use Rattle.system_core.proofs.system.System.step_at.Goals as goal
 
 pub index_mut-actor-requires : goal.index_mut-actor-requires
 index_mut-actor-requires c =
-    let below = runs_below (history_of c.self.inside.rows.items c.self.inside.past.value.items) c.self.inside.rows.items (map part_of c.self.inside.actors.items) c.self.inside.journal.items c.args.place c.at-number.result (rw c.self.invariant.running at c.at-number.ensures) in
-    let size = length-map c.self.inside.actors.items part_of in
-    let lt : c.at-number.result < length c.self.inside.actors.items = omega (arith, below, size) in
+    let lt : c.at-number.result < length c.self.inside.actors.items = runner_there c.self.inside c.self.invariant c.args.place c.at-number.result c.at-number.ensures in
     let v : vec_len c.self.inside.actors ≡ length c.self.inside.actors.items = c.self.inside.actors.ok.0 in
     omega arith
 
 pub step-requires : goal.step-requires
 step-requires c =
-    let below = runs_below (history_of c.self.inside.rows.items c.self.inside.past.value.items) c.self.inside.rows.items (map part_of c.self.inside.actors.items) c.self.inside.journal.items c.args.place c.at-number.result (rw c.self.invariant.running at c.at-number.ensures) in
-    let size = length-map c.self.inside.actors.items part_of in
-    let lt : c.at-number.result < length c.self.inside.actors.items = omega (arith, below, size) in
+    let lt : c.at-number.result < length c.self.inside.actors.items = runner_there c.self.inside c.self.invariant c.args.place c.at-number.result c.at-number.ensures in
     c.self.invariant.holds.fits c.at-number.result c.index_mut-actor.result.now (slice_get_read c.self.inside.actors.items _ c.at-number.result c.index_mut-actor.result.now refl lt c.index_mut-actor.ensures.value)
 
 pub index-actor-requires : goal.index-actor-requires
 index-actor-requires c =
-    let below = runs_below (history_of c.self.inside.rows.items c.self.inside.past.value.items) c.self.inside.rows.items (map part_of c.self.inside.actors.items) c.self.inside.journal.items c.args.place c.at-number.result (rw c.self.invariant.running at c.at-number.ensures) in
-    let size = length-map c.self.inside.actors.items part_of in
-    let lt : c.at-number.result < length c.self.inside.actors.items = omega (arith, below, size) in
+    let lt : c.at-number.result < length c.self.inside.actors.items = runner_there c.self.inside c.self.invariant c.args.place c.at-number.result c.at-number.ensures in
     let v : vec_len c.self.inside.actors ≡ length c.self.inside.actors.items = c.self.inside.actors.ok.0 in
     omega arith
 
 -- after want of memory nothing changed
 pub invariant_of-self-in_err-event : goal.invariant_of-self-in_err-event
 invariant_of-self-in_err-event c =
-    let below = runs_below (history_of c.self.inside.rows.items c.self.inside.past.value.items) c.self.inside.rows.items (map part_of c.self.inside.actors.items) c.self.inside.journal.items c.args.place c.at-number.result (rw c.self.invariant.running at c.at-number.ensures) in
-    let size = length-map c.self.inside.actors.items part_of in
-    let lt : c.at-number.result < length c.self.inside.actors.items = omega (arith, below, size) in
+    let lt : c.at-number.result < length c.self.inside.actors.items = runner_there c.self.inside c.self.invariant c.args.place c.at-number.result c.at-number.ensures in
     let here : slice_get c.self.inside.actors.items c.at-number.result ≡ Some c.index_mut-actor.result.now = slice_get_read c.self.inside.actors.items _ c.at-number.result c.index_mut-actor.result.now refl lt c.index_mut-actor.ensures.value in
     let set : slice_set c.self.inside.actors.items c.at-number.result c.step.new.self ≡ c.self.inside.actors.items = ap (slice_set c.self.inside.actors.items c.at-number.result) c.in_err-event.ensures.unchanged ∙ set_same c.self.inside.actors.items c.at-number.result c.index_mut-actor.result.now here in
     let same : begun (history_of c.self.inside.rows.items c.self.inside.past.value.items) c.self.inside.rows.items (slice_set c.self.inside.actors.items c.at-number.result c.step.new.self) (crew_of c.self.inside.device c.self.inside.clients.items) ≡ setting_of c.self.inside = ap (λ xs. begun (history_of c.self.inside.rows.items c.self.inside.past.value.items) c.self.inside.rows.items xs (crew_of c.self.inside.device c.self.inside.clients.items)) set in
