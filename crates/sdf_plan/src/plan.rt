@@ -1,9 +1,9 @@
 //! System descriptions as values: plans, and the parts that they are made of.
 use cargo_core::{Series, Text};
 
-/// A system description, with every default filled in. Its fields, like those of its parts, bear the
-/// names of the description's keys. The elements are those of the Microkit manual; `net`, `serial`
-/// and `blk` are this project's own, after the device classes of the sDDF design document.
+/// A system description, with every default filled in. Its fields, like those of its parts, bear
+/// the names of the description's keys. The elements are those of the Microkit manual; `net`,
+/// `serial` and `blk` are this project's own, after the device classes of the sDDF design document.
 #[derive(Debug, Drop)]
 pub struct Plan {
     pub version: u64,
