@@ -1,0 +1,3 @@
+pub mod Virtualisers
+pub mod Serving
+pub mod Receivers
