@@ -1,4 +1,4 @@
-use Rattle.std.proofs.Common.{◌≡◌, ℕ, ◌⊎◌, inr, List, Bool, false, Option, Some, slice_get, arith}
+use Rattle.std.proofs.Common.{◌≡◌, ℕ, List, Bool, Some, slice_get, arith}
 use Rattle.sdf_plan.specs.declared.plan.Plan.{Plan}
 use Rattle.sdf_plan.specs.declared.plan.Net.{Net}
 use Rattle.sdf_plan.specs.declared.plan.NetClient.{NetClient}

@@ -17,7 +17,8 @@ use Rattle.sdf_check.specs.Valid.{Valid}
 use Rattle.sdf_check.proofs.ListLemmas.{get-either, get-left, get-right}
 use Rattle.sdf_check.proofs.SweepLemmas.{some-inj}
 use Rattle.region_layout.specs.Bases.{round_up, bases_of}
-use Rattle.region_layout.specs.Rows.{entry_size, queue_in, queue_pair, queue_span, each_client, eth_rx_queues, eth_tx_queues, net_rx_queues, net_tx_queues, lease_queues, client_rx_queues, client_tx_queues, net_client_queues, net_queues, uart_queues, shared_serial_queues, serial_client_queues, serial_queues, disk_queues, shared_blk_queues, blk_client_queues, blk_queues, queues_of, pools_of}
+use Rattle.class_table.specs.Sizes.{entry_size}
+use Rattle.region_layout.specs.Rows.{queue_in, queue_pair, queue_span, each_client, eth_rx_queues, eth_tx_queues, net_rx_queues, net_tx_queues, lease_queues, client_rx_queues, client_tx_queues, net_client_queues, net_queues, uart_queues, shared_serial_queues, serial_client_queues, serial_queues, disk_queues, shared_blk_queues, blk_client_queues, blk_queues, queues_of, pools_of}
 use Rattle.layout_laws.specs.Sound.{queue_range, pool_range, ranges_of}
 use Rattle.layout_laws.proofs.Spreads.{rows_apart}
 use Rattle.access_laws.specs.Placing.{IsBehind, AreStacked}

@@ -1,9 +1,9 @@
 -- Where regions and queues are placed: each at the least place that is free when its turn comes.
+use Rattle.class_table.specs.Sizes.{entry_size}
 use Rattle.std.specs.Prelude.{◌≡◌, ℕ, ◌+◌, ◌*◌, ◌<◌, ◌≤◌, ◌⊎◌, List, Some, None, slice_get}
 use Rattle.wire_core.specs.declared.names.QueueRow.{QueueRow}
 use Rattle.sdf_plan.specs.declared.plan.Region.{Region}
 use Rattle.sdf_check.specs.Rules.{IsMultiple}
-use Rattle.region_layout.specs.Rows.{entry_size}
 
 -- an address from which on a region may be placed: it isn't below 0x40000000, nor the end of a range
 -- that is given, nor that of a region that was placed before

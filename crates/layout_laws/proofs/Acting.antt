@@ -3,24 +3,18 @@ use Rattle.std.specs.List.{All}
 use Rattle.std.specs.Option.{option_and_then}
 use Rattle.std.specs.Str.{bytes_eq}
 use Rattle.std.proofs.lemmas.List.Elements.{All-nil, All-cons, All-append}
-use Rattle.std.proofs.lemmas.Option.{slice_get_within, slice_get-map}
+use Rattle.std.proofs.lemmas.Option.{slice_get-map}
 use Rattle.std.proofs.lemmas.Slice.Eq.{bytes_eq-Decides}
-use Rattle.sdf_plan.specs.declared.place.Place.{Place}
-use Rattle.sdf_plan.specs.declared.place.Place.TheVariants as At
 use Rattle.sdf_plan.specs.declared.plan.Plan.{Plan}
 use Rattle.sdf_plan.specs.declared.plan.Domain.{Domain}
 use Rattle.sdf_plan.specs.declared.plan.Net.{Net}
-use Rattle.sdf_plan.specs.declared.plan.NetClient.{NetClient}
 use Rattle.sdf_plan.specs.declared.plan.Serial.{Serial}
-use Rattle.sdf_plan.specs.declared.plan.SerialClient.{SerialClient}
 use Rattle.sdf_plan.specs.declared.plan.Blk.{Blk}
-use Rattle.sdf_plan.specs.declared.plan.BlkClient.{BlkClient}
 use Rattle.class_table.specs.declared.role.Role.{Role}
 use Rattle.class_table.specs.declared.role.Role.TheVariants as For
 use Rattle.sdf_check.specs.Names.{place_of, domain_names, domain_named, net_domains, net_client_domains, serial_domains, serial_client_domains, blk_domains, blk_client_domains}
 use Rattle.class_table.specs.Roles.{IsProgramOf}
 use Rattle.class_table.specs.Rows.{plays}
-use Rattle.class_table.specs.Table.{Element, net_element, net_client_element, serial_element, serial_client_element, blk_element, blk_client_element}
 use Rattle.sdf_check.specs.ClassRules.{class_domains, net_names, serial_names, blk_names, the_domain, Plays}
 use Rattle.sdf_check.specs.Valid.{Valid}
 use Rattle.sdf_check.proofs.ListLemmas.{get-left}

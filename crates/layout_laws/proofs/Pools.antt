@@ -3,7 +3,6 @@ use Rattle.std.specs.List.{All}
 use Rattle.std.specs.Option.{IsNone, option_map_or}
 use Rattle.std.proofs.lemmas.List.Elements.{All-nil, All-cons, All-append}
 use Rattle.std.proofs.lemmas.Option.{slice_get_within, slice_get-get_or}
-use Rattle.sdf_plan.specs.declared.place.Place.TheVariants as At
 use Rattle.sdf_plan.specs.declared.plan.Plan.{Plan}
 use Rattle.sdf_plan.specs.declared.plan.Region.{Region}
 use Rattle.sdf_plan.specs.declared.plan.Net.{Net}

@@ -10,7 +10,8 @@ use Rattle.sdf_check.specs.Names.{StandsBefore}
 use Rattle.sdf_check.specs.Rules.{IsMultiple, Range}
 use Rattle.sdf_check.specs.ClassRules.{IsCapacity, IsBufferCount}
 use Rattle.region_layout.specs.Bases.{bases_of}
-use Rattle.region_layout.specs.Rows.{entry_size, acting_count, actors_of, actor_named, queues_of, pools_of}
+use Rattle.class_table.specs.Sizes.{entry_size}
+use Rattle.region_layout.specs.Rows.{acting_count, actors_of, actor_named, queues_of, pools_of}
 
 -- a queue begins at a multiple of 64, and its header and its entries end inside the region
 abbrev pub LiesIn : Plan → QueueRow → ℕ → Type 0

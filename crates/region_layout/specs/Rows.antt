@@ -15,6 +15,7 @@ use Rattle.sdf_plan.specs.declared.plan.Serial.{Serial}
 use Rattle.sdf_plan.specs.declared.plan.SerialClient.{SerialClient}
 use Rattle.sdf_plan.specs.declared.plan.Blk.{Blk}
 use Rattle.sdf_plan.specs.declared.plan.BlkClient.{BlkClient}
+use Rattle.class_table.specs.Sizes.{entry_size}
 use Rattle.sdf_check.specs.Names.{place_of, region_named}
 use Rattle.region_layout.specs.Bases.{round_up, bases_of}
 
@@ -57,13 +58,6 @@ uart_number plan = record { 0 = acting_count plan + one_if (is_some plan.net) }
 -- the number of the disk
 unfoldable pub disk_number : Plan → ActorId
 disk_number plan = record { 0 = acting_count plan + one_if (is_some plan.net) + one_if (is_some plan.serial) }
-
--- the bytes of an entry
-abbrev pub entry_size : QueueKind → ℕ
-entry_size Kind.Net = 16
-entry_size Kind.Byte = 1
-entry_size Kind.Req = 32
-entry_size Kind.Resp = 16
 
 -- the bytes of a region that a queue takes: a header of 64 bytes, its entries, and what is left up to a multiple of 64
 unfoldable pub queue_span : QueueKind → ℕ → ℕ

@@ -2,7 +2,8 @@
 ghost use Rattle.std.specs.Prelude.{Some, IfOk, ◌≡◌, ◌+◌, ◌^◌, ◌<◌, ◌≤◌, [], ◌∷◌, ◌++◌, OnOk};
 ghost use Rattle.std.specs.Option.{option_map_or};
 ghost use Rattle.sdf_check.specs.Names.{region_named};
-ghost use Rattle.region_layout.specs.Rows.{entry_size, queue_span, queue_in, queue_pair, eth_rx_queues, eth_tx_queues, net_rx_queues, net_tx_queues, lease_queues, client_rx_queues, client_tx_queues, net_client_queues, net_queues, uart_queues, shared_serial_queues, serial_client_queues, serial_queues, disk_queues, shared_blk_queues, blk_client_queues, blk_queues, queues_of, each_client};
+ghost use Rattle.class_table.specs.Sizes.{entry_size};
+ghost use Rattle.region_layout.specs.Rows.{queue_span, queue_in, queue_pair, eth_rx_queues, eth_tx_queues, net_rx_queues, net_tx_queues, lease_queues, client_rx_queues, client_tx_queues, net_client_queues, net_queues, uart_queues, shared_serial_queues, serial_client_queues, serial_queues, disk_queues, shared_blk_queues, blk_client_queues, blk_queues, queues_of, each_client};
 ghost use Rattle.region_layout.specs.Sizes.{IsSmallNet, IsSmallNetClient, IsSmallSerial, IsSmallSerialClient, IsSmallBlk, IsSmallBlkClient, HasSmallNumbers};
 
 use crate::actors::Names;
