@@ -20,7 +20,10 @@ pub record Moved : Type 0 where
 
 -- what history and journal show
 abbrev pub moved : History → List Entry → Moved
-moved history journal = record { sent = λ n. sent history n journal; taken = λ n. taken history n journal }
+moved history journal = record {
+  sent = λ n. sent history n journal;
+  taken = λ n. taken history n journal;
+}
 
 -- one end of a queue
 pub record Seat : Type 0 where
@@ -34,8 +37,12 @@ went m Producer n = m.sent n
 
 -- the same went through each of these ends
 abbrev pub AreAlike : List Seat → Moved → Moved → Type 0
-AreAlike seats a b = (i : ℕ) (s : Seat) → slice_get seats i ≡ Some s → went a s.role s.queue ≡ went b s.role s.queue
+AreAlike seats a b = (i : ℕ) (s : Seat) → slice_get seats i ≡ Some s
+    → went a s.role s.queue ≡ went b s.role s.queue
 
 -- the same with one item more that was put to queue n
 abbrev pub with_put : Moved → ℕ → Item → Moved
-with_put m n item = record { sent = λ k. if n == k then m.sent k ++ item ∷ [] else m.sent k; taken = m.taken }
+with_put m n item = record {
+  sent = λ k. if n == k then m.sent k ++ item ∷ [] else m.sent k;
+  taken = m.taken;
+}

@@ -13,7 +13,9 @@ use Rattle.play_core.specs.Manners.{Manner, Calm, Hostile, Manners, calls_of}
 -- a pending word of one of this actor's waiters is 1, at a queue from number n on
 abbrev pub called_from : ℕ → ℕ → History → List QueueRow → List Entry → Bool
 called_from actor n history [] journal = false
-called_from actor n history (row ∷ rows) journal = calls actor row.producer.0 row.consumer.0 (track history n journal).bells || called_from actor (n + 1) history rows journal
+called_from actor n history (row ∷ rows) journal =
+    calls actor row.producer.0 row.consumer.0 (track history n journal).bells
+    || called_from actor (n + 1) history rows journal
 
 -- actor k, which wants this, is runnable: a calm one where it isn't at rest, or a pending word of
 -- one of its waiters is 1; a hostile one where it isn't done
@@ -26,7 +28,8 @@ is_runnable (Hostile done) k ws history rows journal = not (done (calls_of k jou
 abbrev pub flags_from : Manners → ℕ → History → List QueueRow → Needful → List Entry → List Bool
 flags_from manner k history rows [] journal = []
 flags_from manner k history rows (ws ∷ actors) journal =
-    is_runnable (manner k) k ws history rows journal ∷ flags_from manner (k + 1) history rows actors journal
+    is_runnable (manner k) k ws history rows journal
+    ∷ flags_from manner (k + 1) history rows actors journal
 
 abbrev pub if_so : Bool → ℕ → List ℕ → List ℕ
 if_so true k ks = k ∷ ks
@@ -59,8 +62,8 @@ rung_at Do.Put row = None
 abbrev pub other_owner : QueueRow → ℕ → ℕ
 other_owner row k = if row.producer.0 == k then row.consumer.0 else row.producer.0
 
--- a call at an end of its own may change for the other owner whether that one is runnable: it stores
--- a word of that one's notifications
+-- a call at an end of its own may change for the other owner whether that one is runnable: it
+-- stores a word of that one's notifications
 abbrev pub reaches : Op → Bool
 reaches (Do.Ring s) = true
 reaches (Do.Ask s) = false

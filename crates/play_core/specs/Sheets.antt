@@ -42,7 +42,8 @@ CouldPut s m n = (item : Item) × s.row (with_put m n item)
 
 -- no end stands twice
 abbrev pub AreApart : List Seat → Type 0
-AreApart seats = (i j : ℕ) (s : Seat) → slice_get seats i ≡ Some s → slice_get seats j ≡ Some s → i ≡ j
+AreApart seats = (i j : ℕ) (s : Seat) → slice_get seats i ≡ Some s → slice_get seats j ≡ Some s
+    → i ≡ j
 
 -- a sheet speaks of its own ends alone
 pub record IsOwn (s : Sheet) : Type 0 where
@@ -62,7 +63,8 @@ pub record NeedsFollow (s : Sheet) : Type 0 where
 
 -- the row of each of these actors that isn't hostile holds
 abbrev pub RowsHold : {P : Type 0} → (P → Sheet) → Hostiles → List P → Moved → Type 0
-RowsHold {P} sheet hostile cast m = (k : ℕ) (p : P) → hostile k ≡ false → slice_get cast k ≡ Some p → (sheet p).row m
+RowsHold {P} sheet hostile cast m =
+    (k : ℕ) (p : P) → hostile k ≡ false → slice_get cast k ≡ Some p → (sheet p).row m
 
 -- what each of these actors wants
 abbrev pub needful : {P : Type 0} → (P → Sheet) → List P → Moved → Needful

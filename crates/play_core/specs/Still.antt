@@ -13,14 +13,16 @@ use Rattle.play_core.specs.Sheets.{Sheet}
 
 -- each queue's owners are among so many actors
 abbrev pub IsPeopled : List QueueRow → ℕ → Type 0
-IsPeopled rows count = (n : ℕ) (row : QueueRow) → slice_get rows n ≡ Some row → (r : Role) → owner_of row r < count
+IsPeopled rows count = (n : ℕ) (row : QueueRow) → slice_get rows n ≡ Some row → (r : Role)
+    → owner_of row r < count
 
 -- each queue can hold an entry
 abbrev pub HasPlaces : List QueueRow → Type 0
 HasPlaces rows = (n : ℕ) (row : QueueRow) → slice_get rows n ≡ Some row → 0 < row.capacity
 
 -- a system in which nobody is runnable
-pub record IsQuiet (manner : Manners) (history : History) (rows : List QueueRow) (actors : Needful) (journal : List Entry) : Type 0 where
+pub record IsQuiet (manner : Manners) (history : History) (rows : List QueueRow) (actors : Needful)
+    (journal : List Entry) : Type 0 where
   pub bells_hold : BellsHold (hostile_by manner) history rows journal
   pub flows : QueuesFlow (hostile_by manner) history rows journal
   pub peopled : IsPeopled rows (length actors)
@@ -28,7 +30,8 @@ pub record IsQuiet (manner : Manners) (history : History) (rows : List QueueRow)
 
 -- a moment at which no actor is runnable, but perhaps a hostile one: all ends are settled, and
 -- nobody is called
-pub record IsStill (hostile : Hostiles) (history : History) (rows : List QueueRow) (actors : Needful) (journal : List Entry) : Type 0 where
+pub record IsStill (hostile : Hostiles) (history : History) (rows : List QueueRow)
+    (actors : Needful) (journal : List Entry) : Type 0 where
   pub bells_hold : BellsHold hostile history rows journal
   pub flows : QueuesFlow hostile history rows journal
   pub peopled : IsPeopled rows (length actors)

@@ -52,4 +52,5 @@ want_settled history journal w = bells_settled (track history w.queue journal).b
 -- each of these ends is settled: an actor with these ends is at rest
 abbrev pub all_settled : History → List Entry → List Want → Bool
 all_settled history journal [] = true
-all_settled history journal (w ∷ ws) = want_settled history journal w && all_settled history journal ws
+all_settled history journal (w ∷ ws) =
+    want_settled history journal w && all_settled history journal ws

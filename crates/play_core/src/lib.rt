@@ -22,14 +22,18 @@ ghost use Rattle.play_core.specs.Still.{IsQuiet, IsStill, Needs, Owes};
 /// with no hostile end: no entry stands in it where its consumer needs one, and an entry is owed to
 /// it only where it is full.
 pub fn quiet_law()
-    ensures still { (manner : Manners) (history : History) (rows : List QueueRow) (actors : Needful) (journal : List Entry)
-        → IsQuiet manner history rows actors journal → IsStill (hostile_by manner) history rows actors journal }
-    ensures rests { (hostile : Hostiles) (history : History) (rows : List QueueRow) (actors : Needful) (journal : List Entry)
+    ensures still { (manner : Manners) (history : History) (rows : List QueueRow)
+        (actors : Needful) (journal : List Entry)
+        → IsQuiet manner history rows actors journal
+        → IsStill (hostile_by manner) history rows actors journal }
+    ensures rests { (hostile : Hostiles) (history : History) (rows : List QueueRow)
+        (actors : Needful) (journal : List Entry)
         → IsStill hostile history rows actors journal
         → (n : ℕ) (row : QueueRow) (needed owed : Bool) → slice_get rows n ≡ Some row
         → is_calm hostile row ≡ true → Needs hostile actors n needed → Owes hostile actors n owed
         → QueueRests row (track history n journal) needed owed }
-    ensures pays { (hostile : Hostiles) (history : History) (rows : List QueueRow) (actors : Needful) (journal : List Entry)
+    ensures pays { (hostile : Hostiles) (history : History) (rows : List QueueRow)
+        (actors : Needful) (journal : List Entry)
         → IsStill hostile history rows actors journal
         → (n : ℕ) (row : QueueRow) (needed : Bool) (due : ℕ) → slice_get rows n ≡ Some row
         → is_calm hostile row ≡ true → Needs hostile actors n needed
@@ -41,21 +45,29 @@ pub fn quiet_law()
 /// it reaches: any other actor, of whose ends none is the one at which it is made, stays runnable
 /// or not; one that is rung is runnable, unless it is hostile.
 pub fn step_law()
-    ensures apart { (manner : Manners) (history : History) (rows : List QueueRow) (journal : List Entry) (k : ℕ) (e : Event) (row : QueueRow)
+    ensures apart { (manner : Manners) (history : History) (rows : List QueueRow)
+        (journal : List Entry) (k : ℕ) (e : Event) (row : QueueRow)
         → slice_get rows e.queue.0 ≡ Some row → MayCall (hostile_by manner) row (role_of e.op) k
         → (i : ℕ) (wants : List Want) → i ≢ k → (reach_of e.op row k ≡ Some i → ⊥)
-        → ((p : ℕ) (w : Want) → slice_get wants p ≡ Some w → w.queue ≡ e.queue.0 → w.role ≡ role_of e.op → ⊥)
-        → is_runnable (manner i) i wants history rows (journal ++ record { actor = record { 0 = k }; event = e } ∷ []) ≡ is_runnable (manner i) i wants history rows journal }
-    ensures reach { (op : Op) (row : QueueRow) (k i : ℕ) → reach_of op row k ≡ Some i → (r : Role) × (owner_of row r ≡ i) }
-    ensures rung { (manner : Manners) (history : History) (rows : List QueueRow) (journal : List Entry) (k : ℕ) (e : Event) (row : QueueRow)
+        → ((p : ℕ) (w : Want) → slice_get wants p ≡ Some w → w.queue ≡ e.queue.0
+        → w.role ≡ role_of e.op → ⊥)
+        → is_runnable (manner i) i wants history rows
+        (journal ++ record { actor = record { 0 = k }; event = e } ∷ [])
+        ≡ is_runnable (manner i) i wants history rows journal }
+    ensures reach { (op : Op) (row : QueueRow) (k i : ℕ) → reach_of op row k ≡ Some i
+        → (r : Role) × (owner_of row r ≡ i) }
+    ensures rung { (manner : Manners) (history : History) (rows : List QueueRow)
+        (journal : List Entry) (k : ℕ) (e : Event) (row : QueueRow)
         → slice_get rows e.queue.0 ≡ Some row → MayCall (hostile_by manner) row (role_of e.op) k
         → (i : ℕ) (wants : List Want) → hostile_by manner i ≡ false → rung_at e.op row ≡ Some i
-        → is_runnable (manner i) i wants history rows (journal ++ record { actor = record { 0 = k }; event = e } ∷ []) ≡ true }
+        → is_runnable (manner i) i wants history rows
+        (journal ++ record { actor = record { 0 = k }; event = e } ∷ []) ≡ true }
 {}
 
 /// A merge of beginnings that has as many elements as the lists have together is a merge of the
 /// whole lists.
 pub fn merge_law()
-    ensures { (lists : List (List ℕ)) (all : List ℕ) → PrefixMerge lists all → total lists ≤ length all
+    ensures { (lists : List (List ℕ)) (all : List ℕ) → PrefixMerge lists all
+        → total lists ≤ length all
         → Merge lists all }
 {}

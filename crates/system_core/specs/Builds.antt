@@ -17,7 +17,8 @@ use Rattle.system_core.specs.Shows.{Setting, Shown}
 
 -- the first class of a plan that can't be played yet, if it has one
 abbrev pub unplayed : Plan → Option Place
-unplayed plan = if is_some plan.net then Some At.Net else (if is_some plan.blk then Some At.Blk else None)
+unplayed plan = if is_some plan.net then Some At.Net else
+    (if is_some plan.blk then Some At.Blk else None)
 
 -- the number of the domain of a name
 abbrev pub number_named : Plan → List ℕ → ℕ
@@ -32,8 +33,9 @@ every_second first (suc count) = first ∷ every_second (first + 2) count
 abbrev pub first_serial : Plan → ℕ
 first_serial plan = length (option_map_or (net_queues plan) plan.net [])
 
--- the serial class with so many clients, from its first queue on: two queues between device and driver, two between
--- driver and virtualisers, and then two for each client; with what a trace gives it
+-- the serial class with so many clients, from its first queue on: two queues between device and
+-- driver, two between driver and virtualisers, and then two for each client; with what a trace
+-- gives it
 abbrev pub serial_class : ℕ → ℕ → Trace → SerialClass
 serial_class first count trace = record {
   device_rx = first;
@@ -51,15 +53,21 @@ abbrev pub IsPart : Setting → ℕ → SerialPart → Type 0
 IsPart s number part = slice_get s.cast number ≡ Some (serial_part part)
 
 -- the actors of the serial class, each at its queues
-pub record HasSerial (first : ℕ) (plan : Plan) (serial : Serial) (trace : Trace) (s : Setting) : Type 0 where
+pub record HasSerial (first : ℕ) (plan : Plan) (serial : Serial) (trace : Trace)
+    (s : Setting) : Type 0 where
   pub device_is : s.serial.device ≡ Some (uart_number plan).0
   pub clients_are : s.serial.clients ≡ map (λ (c : Client). number_named plan c.pd) serial.client
   pub device : IsPart s (uart_number plan).0 (SerialDevice first (first + 1) trace.input)
-  pub driver : IsPart s (number_named plan serial.driver) (SerialDriver first (first + 1) (first + 2) (first + 3))
-  pub receiver : IsPart s (number_named plan serial.rx_virt) (SerialReceiver (first + 2) (every_second (first + 4) (length serial.client)))
-  pub sender : IsPart s (number_named plan serial.tx_virt) (SerialSender (first + 3) (every_second (first + 5) (length serial.client)))
-  pub client : (c : ℕ) (client : Client) (script : List ℕ) → slice_get serial.client c ≡ Some client → slice_get trace.says c ≡ Some script
-      → IsPart s (number_named plan client.pd) (SerialClient (first + 4 + 2 * c) (first + 5 + 2 * c) script)
+  pub driver : IsPart s (number_named plan serial.driver)
+      (SerialDriver first (first + 1) (first + 2) (first + 3))
+  pub receiver : IsPart s (number_named plan serial.rx_virt)
+      (SerialReceiver (first + 2) (every_second (first + 4) (length serial.client)))
+  pub sender : IsPart s (number_named plan serial.tx_virt)
+      (SerialSender (first + 3) (every_second (first + 5) (length serial.client)))
+  pub client : (c : ℕ) (client : Client) (script : List ℕ)
+      → slice_get serial.client c ≡ Some client → slice_get trace.says c ≡ Some script
+      → IsPart s (number_named plan client.pd)
+      (SerialClient (first + 4 + 2 * c) (first + 5 + 2 * c) script)
 
 -- nobody acts
 pub record HasNobody (s : Setting) : Type 0 where
@@ -82,7 +90,8 @@ pub record IsCastOf (plan : Plan) (trace : Trace) (s : Setting) : Type 0 where
   pub count : length s.cast ≡ length (actors_of plan)
   -- the scene in which their needs and rows are said
   pub scene : scene_of s.cast ≡ scene_for plan trace
-  pub serial : (serial : Serial) → plan.serial ≡ Some serial → HasSerial (first_serial plan) plan serial trace s
+  pub serial : (serial : Serial) → plan.serial ≡ Some serial
+      → HasSerial (first_serial plan) plan serial trace s
   pub nobody : plan.serial ≡ None → HasNobody s
 
 -- nothing happened before the journal begins

@@ -11,11 +11,16 @@ use Rattle.system_core.specs.declared.system.System.TheInside.{Inside}
 -- what stays the same
 abbrev pub setting_of : Inside → Setting
 setting_of a =
-    begun (history_of a.rows.items a.past.value.items) a.rows.items a.actors.items (crew_of a.device a.clients.items)
+    begun (history_of a.rows.items a.past.value.items) a.rows.items a.actors.items
+    (crew_of a.device a.clients.items)
 
 -- the view
 abbrev pub shown_of : Inside → Shown
-shown_of a = record { setting = setting_of a; journal = a.journal.items; state = state_of a.actors.items (crew_of a.device a.clients.items) }
+shown_of a = record {
+  setting = setting_of a;
+  journal = a.journal.items;
+  state = state_of a.actors.items (crew_of a.device a.clients.items);
+}
 
 -- the parts of a system belong together, and which actors are runnable is kept
 pub record IsSystem (a : Inside) : Type 0 where

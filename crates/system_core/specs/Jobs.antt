@@ -57,13 +57,15 @@ job_part first clients trace (Of.Client c) =
     ClientPart (first + 4 + 2 * c) (first + 5 + 2 * c) (unwrap_or (slice_get trace.says c) [])
 
 -- an actor in its start state with a job that the rows give it
-pub record IsCast (rows : List QueueRow) (first clients : ℕ) (trace : Trace) (k : ℕ) (x : Actor) : Type 0 where
+pub record IsCast (rows : List QueueRow) (first clients : ℕ) (trace : Trace) (k : ℕ)
+    (x : Actor) : Type 0 where
   pub job : Job
   pub has : HasJob rows first clients k job
   pub new : IsNew x
   pub part : part_of x ≡ job_part first clients trace job
 
-pub record AreCast (rows : List QueueRow) (first clients count : ℕ) (trace : Trace) (actors : List Actor) : Type 0 where
+pub record AreCast (rows : List QueueRow) (first clients count : ℕ) (trace : Trace)
+    (actors : List Actor) : Type 0 where
   pub count_is : length actors ≡ count
   pub each : (k : ℕ) (x : Actor) → slice_get actors k ≡ Some x → IsCast rows first clients trace k x
 

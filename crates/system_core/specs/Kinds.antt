@@ -40,7 +40,8 @@ scene_of cast = record { frames = flat_map frames_of cast; image = flat_map imag
 -- what is said of a part, in a scene
 abbrev pub sheet : Scene → Part → Sheet
 sheet scene (UartPart rx tx input) = serial_sheet (SerialDevice rx tx input)
-sheet scene (DriverPart device_rx device_tx rx tx) = serial_sheet (SerialDriver device_rx device_tx rx tx)
+sheet scene (DriverPart device_rx device_tx rx tx) =
+    serial_sheet (SerialDriver device_rx device_tx rx tx)
 sheet scene (RxPart rx clients) = serial_sheet (SerialReceiver rx clients)
 sheet scene (TxPart tx clients) = serial_sheet (SerialSender tx clients)
 sheet scene (ClientPart rx tx script) = serial_sheet (SerialClient rx tx script)

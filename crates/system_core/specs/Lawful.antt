@@ -1,5 +1,5 @@
--- What holds of every system, however it was built and played: its seats, its journal at each moment, and what is seen
--- of it.
+-- What holds of every system, however it was built and played: its seats, its journal at each
+-- moment, and what is seen of it.
 use Rattle.std.specs.Prelude.{◌≡◌, ℕ, Some, List, [], length, map, slice_get}
 use Rattle.std.specs.Option.{option_map, option_map_or}
 use Rattle.wire_core.specs.declared.names.QueueRow.{QueueRow}
@@ -21,14 +21,17 @@ pub record IsFitted (s : Setting) : Type 0 where
   -- each end of an actor is one that the rows give it
   pub seated : AreSeated (sheet_in s) s.rows s.cast
   -- and each that they give it is one of its ends
-  pub ends : (k : ℕ) (p : Part) → slice_get s.cast k ≡ Some p → (x : Seat) → IsSeat s.rows k x → (i : ℕ) × (slice_get (sheet_in s p).ends i ≡ Some x)
+  pub ends : (k : ℕ) (p : Part) → slice_get s.cast k ≡ Some p → (x : Seat) → IsSeat s.rows k x
+      → (i : ℕ) × (slice_get (sheet_in s p).ends i ≡ Some x)
   -- no actor has both ends of a queue
-  pub split : (n : ℕ) (row : QueueRow) → slice_get s.rows n ≡ Some row → row.producer.0 ≡ row.consumer.0 → ⊥
+  pub split : (n : ℕ) (row : QueueRow) → slice_get s.rows n ≡ Some row
+      → row.producer.0 ≡ row.consumer.0 → ⊥
   -- each queue can hold an entry
   pub places : (n : ℕ) (row : QueueRow) → slice_get s.rows n ≡ Some row → IsCapacity row.capacity
 
--- each queue hands over what was put, once and in order, each call is in discipline, at each moment bells, queues and
--- rows hold, and between two marks no actor but a hostile one makes more than 8 calls on an end
+-- each queue hands over what was put, once and in order, each call is in discipline, at each moment
+-- bells, queues and rows hold, and between two marks no actor but a hostile one makes more than 8
+-- calls on an end
 pub record IsLawful (s : Setting) (journal : List Entry) : Type 0 where
   pub legal : LegalJournal (hostile_in s) s.history s.rows journal
   pub bells_hold : EachMoment (BellsHold (hostile_in s) s.history s.rows) journal
@@ -46,7 +49,8 @@ record_by m (TxPart tx clients) = []
 
 -- the bytes that the actor at a place recorded
 abbrev pub record_at : Shown → ℕ → List ℕ
-record_at s k = option_map_or (record_by (moved_in s.setting s.journal)) (slice_get s.setting.cast k) []
+record_at s k = option_map_or (record_by (moved_in s.setting s.journal))
+    (slice_get s.setting.cast k) []
 
 -- line and records are what the journal says that device and clients took
 pub record IsTold (s : Shown) : Type 0 where

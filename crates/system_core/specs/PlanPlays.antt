@@ -15,16 +15,19 @@ use Rattle.system_core.specs.Builds.{IsCastOf, BeginsAnew, serial_class, first_s
 use Rattle.system_core.specs.declared.system.Ending.{Ending}
 use Rattle.system_core.specs.declared.system.Ending.TheVariants as Ends
 
--- each serial client recorded a beginning of its part of the input, and what was sent on the line is a merge of
--- beginnings of the scripts
+-- each serial client recorded a beginning of its part of the input, and what was sent on the line
+-- is a merge of beginnings of the scripts
 pub record ShowsInPart (count : ℕ) (trace : Trace) (s : State) : Type 0 where
   pub count_is : length s.serial ≡ count
-  pub records : (c : ℕ) (got : List ℕ) → slice_get s.serial c ≡ Some got → IsPrefix got (input_of count c trace.input)
+  pub records : (c : ℕ) (got : List ℕ) → slice_get s.serial c ≡ Some got
+      → IsPrefix got (input_of count c trace.input)
   pub line : (said : List ℕ) × (s.line ≡ Some said) × PrefixMerge trace.says said
 
--- each serial client recorded its whole part of the input, and what was sent on the line is a merge of the whole scripts
+-- each serial client recorded its whole part of the input, and what was sent on the line is a merge
+-- of the whole scripts
 pub record ShowsWhole (count : ℕ) (trace : Trace) (s : State) : Type 0 where
-  pub records : (c : ℕ) (got : List ℕ) → slice_get s.serial c ≡ Some got → got ≡ input_of count c trace.input
+  pub records : (c : ℕ) (got : List ℕ) → slice_get s.serial c ≡ Some got
+      → got ≡ input_of count c trace.input
   pub line : (said : List ℕ) × (s.line ≡ Some said) × Merge trace.says said
 
 -- the system of a plan and a trace, whatever its queues had before its journal begins, after a seed
@@ -35,8 +38,10 @@ pub record IsPlayedOn (plan : Plan) (trace : Trace) (seed limit : ℕ) (s : Show
   pub within : length s.journal ≤ limit
   pub stands : StandsLawful s
   pub arrives : (serial : Serial) → plan.serial ≡ Some serial → EachMoment (λ j.
-      ArrivesInPart (serial_class (first_serial plan) (length serial.client) trace) (moved_in s.setting j)) s.journal
-  pub shows : (serial : Serial) → plan.serial ≡ Some serial → ShowsInPart (length serial.client) trace s.state
+      ArrivesInPart (serial_class (first_serial plan) (length serial.client) trace)
+      (moved_in s.setting j)) s.journal
+  pub shows : (serial : Serial) → plan.serial ≡ Some serial
+      → ShowsInPart (length serial.client) trace s.state
   -- where nobody is runnable, all arrived
   pub whole : runnable_now s ≡ [] → (serial : Serial) → plan.serial ≡ Some serial
       → ShowsWhole (length serial.client) trace s.state

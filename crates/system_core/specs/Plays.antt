@@ -18,7 +18,8 @@ pub record Played (old new : Shown) (seed limit : ℕ) : Type 0 where
 
 -- so many steps were made, and some actor is runnable
 abbrev pub IsSpent : Shown → Shown → ℕ → Type 0
-IsSpent old new limit = (length new.journal ≡ length old.journal + limit) × (runnable_now new ≡ [] → ⊥)
+IsSpent old new limit = (length new.journal ≡ length old.journal + limit)
+    × (runnable_now new ≡ [] → ⊥)
 
 -- the actor at a place among the runnable ones made one call more
 pub record StepsAt (place : ℕ) (old new : Shown) : Type 0 where

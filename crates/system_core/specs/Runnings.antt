@@ -11,7 +11,8 @@ pub record Ascending : Type 0 where
 -- ascending numbers with one more, where it isn't there yet
 abbrev pub with_number : ℕ → List ℕ → List ℕ
 with_number k [] = k ∷ []
-with_number k (x ∷ xs) = if nat_lt k x then k ∷ x ∷ xs else (if k == x then x ∷ xs else x ∷ with_number k xs)
+with_number k (x ∷ xs) = if nat_lt k x then k ∷ x
+    ∷ xs else (if k == x then x ∷ xs else x ∷ with_number k xs)
 
 abbrev pub running_of : Inside → Ascending
 running_of r = record { list = r.list.items; room = vec_capacity r.list }

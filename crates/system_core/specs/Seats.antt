@@ -16,8 +16,10 @@ use Rattle.actor_set.specs.declared.actor.Actor.TheVariants as Kinds
 
 -- an actor in its start state
 abbrev pub IsNew : Actor → Type 0
-IsNew (Kinds.UartDevice x) = IsNewTerminal x.terminal.input.queue x.terminal.output.queue x.terminal.script x.terminal
-IsNew (Kinds.SerialClient x) = IsNewTerminal x.terminal.input.queue x.terminal.output.queue x.terminal.script x.terminal
+IsNew (Kinds.UartDevice x) =
+    IsNewTerminal x.terminal.input.queue x.terminal.output.queue x.terminal.script x.terminal
+IsNew (Kinds.SerialClient x) =
+    IsNewTerminal x.terminal.input.queue x.terminal.output.queue x.terminal.script x.terminal
 IsNew (Kinds.UartDriver x) = IsNewPipe x.driver.pipes.first.input.queue x.driver.pipes.first.output.queue x.driver.pipes.first × IsNewPipe x.driver.pipes.rest.input.queue x.driver.pipes.rest.output.queue x.driver.pipes.rest
 IsNew (Kinds.SerialVirtRx x) = IsNewRx x.input.queue (outlet_queues x.outputs) x
 IsNew (Kinds.SerialVirtTx x) = IsNewTx x.output.queue (intake_queues x.inputs) x
@@ -26,7 +28,9 @@ IsNew (Kinds.SerialVirtTx x) = IsNewTx x.output.queue (intake_queues x.inputs) x
 abbrev pub HasApartEnds : Actor → Type 0
 HasApartEnds (Kinds.UartDevice x) = Unit {0}
 HasApartEnds (Kinds.SerialClient x) = Unit {0}
-HasApartEnds (Kinds.UartDriver x) = (x.driver.pipes.first.input.queue.0 ≡ x.driver.pipes.rest.input.queue.0 → ⊥) × (x.driver.pipes.first.output.queue.0 ≡ x.driver.pipes.rest.output.queue.0 → ⊥)
+HasApartEnds (Kinds.UartDriver x) =
+    (x.driver.pipes.first.input.queue.0 ≡ x.driver.pipes.rest.input.queue.0 → ⊥)
+    × (x.driver.pipes.first.output.queue.0 ≡ x.driver.pipes.rest.output.queue.0 → ⊥)
 HasApartEnds (Kinds.SerialVirtRx x) = AreApart (outlet_queues x.outputs)
 HasApartEnds (Kinds.SerialVirtTx x) = AreApart (intake_queues x.inputs)
 
@@ -37,18 +41,23 @@ pub record HasSeat (rows : List QueueRow) (k : ℕ) (r : Role) (n : ℕ) : Type 
   pub owner : owner_of row r ≡ k
   pub kind : row.kind ≡ Kind.Byte
 
--- actors in their start state, each with the ends that the rows give it, and the owners of each queue are there
+-- actors in their start state, each with the ends that the rows give it, and the owners of each
+-- queue are there
 pub record AreSeated (rows : List QueueRow) (actors : List Actor) : Type 0 where
   pub new : (k : ℕ) (x : Actor) → slice_get actors k ≡ Some x → IsNew x
   pub apart : (k : ℕ) (x : Actor) → slice_get actors k ≡ Some x → HasApartEnds x
-  pub seats : (k : ℕ) (x : Actor) → slice_get actors k ≡ Some x → (r : Role) (n : ℕ) → ActorEnd x r n → HasSeat rows k r n
+  pub seats : (k : ℕ) (x : Actor) → slice_get actors k ≡ Some x → (r : Role) (n : ℕ)
+      → ActorEnd x r n → HasSeat rows k r n
   -- and each seat that the rows give an actor is one of its ends
-  pub ends : (k : ℕ) (x : Actor) → slice_get actors k ≡ Some x → (n : ℕ) (row : QueueRow) → slice_get rows n ≡ Some row → (r : Role) → owner_of row r ≡ k → ActorEnd x r n
+  pub ends : (k : ℕ) (x : Actor) → slice_get actors k ≡ Some x → (n : ℕ) (row : QueueRow)
+      → slice_get rows n ≡ Some row → (r : Role) → owner_of row r ≡ k → ActorEnd x r n
   -- no actor has both ends of a queue
-  pub split : (k : ℕ) (x : Actor) → slice_get actors k ≡ Some x → (n : ℕ) → ActorEnd x Consumer n → ActorEnd x Producer n → ⊥
+  pub split : (k : ℕ) (x : Actor) → slice_get actors k ≡ Some x → (n : ℕ) → ActorEnd x Consumer n
+      → ActorEnd x Producer n → ⊥
   -- each queue can hold an entry: its capacity is a power of two up to 32,768
   pub places : (n : ℕ) (row : QueueRow) → slice_get rows n ≡ Some row → IsCapacity row.capacity
   -- and each has a number of 16 bits
   pub numbered : length rows ≤ 65536
-  pub peers : (n : ℕ) (row : QueueRow) → slice_get rows n ≡ Some row → (r : Role) → owner_of row r < length actors
+  pub peers : (n : ℕ) (row : QueueRow) → slice_get rows n ≡ Some row → (r : Role)
+      → owner_of row r < length actors
   pub few : length actors ≤ 65536

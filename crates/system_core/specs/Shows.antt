@@ -1,4 +1,5 @@
--- What a system shows: what stays the same while it is played, its one journal, and what can be seen of it as it is.
+-- What a system shows: what stays the same while it is played, its one journal, and what can be
+-- seen of it as it is.
 use Rattle.std.specs.Prelude.{◌≡◌, ℕ, Option, List, [], ◌∷◌, ◌++◌}
 use Rattle.cargo_core.specs.declared.item.Reply.{Reply}
 use Rattle.wire_core.specs.declared.names.QueueRow.{QueueRow}
@@ -18,16 +19,16 @@ pub record Crew : Type 0 where
   pub device : Option ℕ
   pub clients : List ℕ
 
--- what stays the same while a system is played: what its queues had before its journal begins, its queues, its actors'
--- parts, and who is who in the serial class
+-- what stays the same while a system is played: what its queues had before its journal begins, its
+-- queues, its actors' parts, and who is who in the serial class
 pub record Setting : Type 0 where
   pub history : History
   pub rows : List QueueRow
   pub cast : List Part
   pub serial : Crew
 
--- what can be seen of a system: the wire, the line, what each client of each class recorded, where the pages are, and
--- what the virtualisers counted as bad; of a class that isn't there, nothing
+-- what can be seen of a system: the wire, the line, what each client of each class recorded, where
+-- the pages are, and what the virtualisers counted as bad; of a class that isn't there, nothing
 pub record State : Type 0 where
   pub wire : Option (List (List ℕ))
   pub net : List (List (List ℕ))
@@ -60,7 +61,8 @@ moved_in s journal = moved s.history journal
 -- the actors that are runnable after a journal
 abbrev pub runs : Setting → List Entry → List ℕ
 runs s journal =
-    runnable (manner_in s) s.history s.rows (needful (sheet_in s) s.cast (moved_in s journal)) journal
+    runnable (manner_in s) s.history s.rows
+    (needful (sheet_in s) s.cast (moved_in s journal)) journal
 
 -- each actor's row holds after a journal
 abbrev pub RowsStand : Setting → List Entry → Type 0

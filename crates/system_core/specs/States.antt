@@ -24,7 +24,15 @@ record_from actors k = option_map_or record_of (slice_get actors k) []
 
 -- what is seen of actors: there are no pages, and none of them counts what is bad
 abbrev pub state_of : List Actor → Crew → State
-state_of actors serial = record { wire = None; net = []; line = option_map (record_from actors) serial.device; serial = map (record_from actors) serial.clients; blk = []; pools = []; bad = 0 }
+state_of actors serial = record {
+  wire = None;
+  net = [];
+  line = option_map (record_from actors) serial.device;
+  serial = map (record_from actors) serial.clients;
+  blk = [];
+  pools = [];
+  bad = 0;
+}
 
 -- what an ended ring shows of its queue: nobody looked since
 abbrev pub track_of : EndedIs → Track

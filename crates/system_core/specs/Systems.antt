@@ -15,7 +15,8 @@ use Rattle.system_core.specs.Lawful.{IsFitted}
 use Rattle.actor_set.specs.declared.actor.Actor.{Actor}
 
 -- the history, the queues, the actors and the journal belong together
-pub record Holds (history : History) (rows : List QueueRow) (world : List Queue) (actors : List Actor) (journal : List Entry) : Type 0 where
+pub record Holds (history : History) (rows : List QueueRow) (world : List Queue)
+    (actors : List Actor) (journal : List Entry) : Type 0 where
   -- the entries that the actors stand for, with their bodies; history and journal show their items
   pub passed : Passed
   -- in each queue stands what was put there and wasn't taken
@@ -23,14 +24,18 @@ pub record Holds (history : History) (rows : List QueueRow) (world : List Queue)
   pub shows_taken : (n : ℕ) → items_of (passed.taken n) ≡ (track history n journal).taken
   pub shows_sent : (n : ℕ) → items_of (passed.sent n) ≡ (track history n journal).sent
   pub size : length world ≡ length rows
-  pub queues : (n : ℕ) (row : QueueRow) → slice_get rows n ≡ Some row → IsShown row (queue_at world n) (track history n journal)
+  pub queues : (n : ℕ) (row : QueueRow) → slice_get rows n ≡ Some row
+      → IsShown row (queue_at world n) (track history n journal)
   pub fits : (k : ℕ) (x : Actor) → slice_get actors k ≡ Some x → FitsActor (end_at world) x
   pub stands : (k : ℕ) (x : Actor) → slice_get actors k ≡ Some x → ActorStandsFor x passed
-  pub owners : (k : ℕ) (x : Actor) → slice_get actors k ≡ Some x → (r : Role) (n : ℕ) → ActorEnd x r n → (row : QueueRow) → slice_get rows n ≡ Some row → owner_of row r ≡ k
+  pub owners : (k : ℕ) (x : Actor) → slice_get actors k ≡ Some x → (r : Role) (n : ℕ)
+      → ActorEnd x r n → (row : QueueRow) → slice_get rows n ≡ Some row → owner_of row r ≡ k
   -- what each actor that isn't hostile did since its last mark
-  pub paced : (k : ℕ) (x : Actor) → slice_get actors k ≡ Some x → hostiles (map part_of actors) k ≡ false
+  pub paced : (k : ℕ) (x : Actor) → slice_get actors k ≡ Some x
+      → hostiles (map part_of actors) k ≡ false
       → Paced (pendings history journal) (since no_drops k journal) (actor_round x)
-  pub peers : (n : ℕ) (row : QueueRow) → slice_get rows n ≡ Some row → (r : Role) → owner_of row r < length actors
+  pub peers : (n : ℕ) (row : QueueRow) → slice_get rows n ≡ Some row → (r : Role)
+      → owner_of row r < length actors
   pub few : length actors ≤ 65536
   pub legal : LegalJournal (hostiles (map part_of actors)) history rows journal
 
@@ -39,8 +44,8 @@ pub record HoldsBefore (s : Setting) : Type 0 where
   pub bells_hold : BellsHold (hostile_in s) s.history s.rows []
   pub flows : QueuesFlow (hostile_in s) s.history s.rows []
 
--- queues and actors, as they are, go on from this history: the start state from one in which nothing
--- happened
+-- queues and actors, as they are, go on from this history: the start state from one in which
+-- nothing happened
 pub record GoesOn (s : Setting) (world : List Queue) (actors : List Actor) : Type 0 where
   pub fitted : IsFitted s
   pub before : HoldsBefore s

@@ -1,5 +1,5 @@
-//! The system at play: the queues of a layout with the actors at them, its steps, and what is seen of it. It stands here,
-//! above actors and descriptions, since a plan and a trace say who acts.
+//! The system at play: the queues of a layout with the actors at them, its steps, and what is seen
+//! of it. It stands here, above actors and descriptions, since a plan and a trace say who acts.
 ghost use Rattle.std.specs.Prelude.{◌≡◌, ◌<◌, ◌≤◌, ℕ, List, length, map, OnOk, OnErr, IfOk, slice_get, Some, None, []};
 ghost use Rattle.std.specs.Option.{option_map};
 ghost use Rattle.wire_core.specs.Queues.{is_pending};
@@ -46,8 +46,9 @@ pub enum Ending {
     Spent,
 }
 
-/// A system at play: the queues of its rows with what stands in them, its actors, and the one journal. Which actors are
-/// runnable is kept up to date, so that a step costs the ends of the actor that makes it.
+/// A system at play: the queues of its rows with what stands in them, its actors, and the one
+/// journal. Which actors are runnable is kept up to date, so that a step costs the ends of the
+/// actor that makes it.
 #[derive(Drop)]
 pub struct System {
     alloc: Global,
@@ -58,8 +59,8 @@ pub struct System {
     clients: Vec<u16>,
     running: Running,
     journal: Vec<Entry>,
-    // The rings that the system was made from, with what their queues had before the journal begins. It stands in
-    // proofs alone.
+    // The rings that the system was made from, with what their queues had before the journal
+    // begins. It stands in proofs alone.
     past: Snapshot<Vec<Ended>>,
 }
 
@@ -90,7 +91,8 @@ pub fn unplayed(plan: &Plan) -> Option<Place>
 
 // Whether the actor at a place isn't runnable.
 fn is_idle(actor: &Actor, world: &World, place: ActorId) -> bool
-    ensures { result ≡ idles (manner_of (part_of actor.now)) (actor_rests actor.now) (is_pending place.0 world.now) }
+    ensures { result ≡ idles (manner_of (part_of actor.now)) (actor_rests actor.now)
+        (is_pending place.0 world.now) }
 {
     actor.at_rest() && !world.is_pending(place)
 }
@@ -153,11 +155,16 @@ fn is_runnable(actors: &[Actor], world: &World, other: Option<u16>) -> bool
     }
 }
 
-// Takes out the actor at a place where it is idle, and keeps the other owner that a call reaches where it is runnable.
+// Takes out the actor at a place where it is idle, and keeps the other owner that a call reaches
+// where it is runnable.
 fn note(running: &mut Running, place: usize, idle: bool, other: Option<u16>, runs: bool)
     requires there { place < length running.old.list }
-    requires room { length (with_option other runs (removed_if idle running.old.list place)) ≤ running.old.room }
-    ensures { running.new ≡ record running.old { list = with_option other runs (removed_if idle running.old.list place) } }
+    requires room { length (with_option other runs (removed_if idle running.old.list place))
+        ≤ running.old.room }
+    ensures { running.new ≡ record running.old {
+      list = with_option other runs
+          (removed_if idle running.old.list place);
+    } }
 {
     if idle {
         running.remove(place);
@@ -179,7 +186,8 @@ fn first_running(
 ) -> Result<Running, Memory>
     requires { Holds (history_of rows.now past.now.value.items) rows.now world.now actors.now [] }
     ensures list { IfOk result (λ r. r.list
-        ≡ runs (begun (history_of rows.now past.now.value.items) rows.now actors.now (crew_of None [])) []) }
+        ≡ runs (begun (history_of rows.now past.now.value.items) rows.now actors.now
+        (crew_of None [])) []) }
     ensures room { IfOk result (λ r. length actors.now ≤ r.room) }
 {
     let mut running = Running::with_room(alloc, actors.len())?;
@@ -235,8 +243,9 @@ fn records(alloc: Global, actors: &[Actor], clients: &[u16]) -> Result<Series<By
 }
 
 impl System {
-    /// A system in its start state: actors in theirs, each with the ends that the rows give it. `device` is the place
-    /// of the serial device among the actors, `clients` the places of the serial clients in their order.
+    /// A system in its start state: actors in theirs, each with the ends that the rows give it.
+    /// `device` is the place of the serial device among the actors, `clients` the places of the
+    /// serial clients in their order.
     pub fn start(
         alloc: Global,
         rows: Vec<QueueRow>,
@@ -246,7 +255,8 @@ impl System {
     ) -> Result<System, Memory>
         requires { AreSeated rows.items actors.items }
         ensures state { IfOk result (λ s. s
-            ≡ started (start_history rows.items) rows.items actors.items (crew_of device clients.items)) }
+            ≡ started (start_history rows.items) rows.items actors.items
+            (crew_of device clients.items)) }
         ensures stands { IfOk result StandsLawful }
     {
         let world = World::new(alloc, &rows)?;
@@ -262,8 +272,8 @@ impl System {
         )
     }
 
-    // A system whose queues and actors go on from what rings had that came to their end; where there are none, from
-    // the start state.
+    // A system whose queues and actors go on from what rings had that came to their end; where
+    // there are none, from the start state.
     fn begin(
         alloc: Global,
         rows: Vec<QueueRow>,
@@ -273,9 +283,11 @@ impl System {
         clients: Vec<u16>,
         past: Snapshot<Vec<Ended>>,
     ) -> Result<System, Memory>
-        requires { GoesOn (begun (history_of rows.items past.value.items) rows.items actors.items (crew_of device clients.items)) world actors.items }
+        requires { GoesOn (begun (history_of rows.items past.value.items) rows.items actors.items
+            (crew_of device clients.items)) world actors.items }
         ensures state { IfOk result (λ s. s
-            ≡ started (history_of rows.items past.value.items) rows.items actors.items (crew_of device clients.items)) }
+            ≡ started (history_of rows.items past.value.items) rows.items actors.items
+            (crew_of device clients.items)) }
         ensures stands { IfOk result StandsLawful }
     {
         let running = first_running(alloc, &rows, &world, &actors, &past)?;
@@ -301,8 +313,8 @@ impl System {
         let _made = self.journal.len();
     }
 
-    /// The system of a plan in its start state: the actors and queues of its layout, with what a trace gives them. The plan
-    /// is one that can be played.
+    /// The system of a plan in its start state: the actors and queues of its layout, with what a
+    /// trace gives them. The plan is one that can be played.
     pub fn build(
         alloc: Global,
         plan: &Plan,
@@ -382,8 +394,8 @@ impl System {
         Ok(())
     }
 
-    /// Makes steps of actors that the seed picks, until none is runnable or so many were made. After want of memory the
-    /// journal holds the steps that were made.
+    /// Makes steps of actors that the seed picks, until none is runnable or so many were made.
+    /// After want of memory the journal holds the steps that were made.
     pub fn play(&mut self, seed: u64, limit: u64) -> Result<Ending, Memory>
         ensures played { Played self.old self.new seed limit }
         ensures stands { StandsLawful self.new }
@@ -417,8 +429,8 @@ impl System {
         }
     }
 
-    /// Builds the system of a plan and plays it by a seed until it is quiet or so many steps were made. The plan is one
-    /// that can be played.
+    /// Builds the system of a plan and plays it by a seed until it is quiet or so many steps were
+    /// made. The plan is one that can be played.
     pub fn played(
         alloc: Global,
         plan: &Plan,
