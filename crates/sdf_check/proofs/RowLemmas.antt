@@ -13,7 +13,7 @@ use Rattle.class_table.specs.Rows.{Name}
 use Rattle.class_table.specs.Shown.{Shelved, grant_shown, name_shown, pool_shown}
 use Rattle.class_table.specs.Table.{Element, OfElement, net_element, net_client_element, serial_element, serial_client_element, blk_element, blk_client_element}
 use Rattle.sdf_check.specs.ClassRules.{SomeOf, allowed}
-use Rattle.sdf_check.specs.Lookups.{shown}
+use Rattle.sdf_check.specs.Lookups.{names_shown}
 use Rattle.sdf_check.proofs.LoopLemmas.{not-so, some-append}
 use Rattle.sdf_check.proofs.UseLemmas.{some-map}
 
@@ -57,7 +57,7 @@ module _ (name : List ℕ) (pool : PoolUse Shelved) where
   named : SomeOf (λ (g : Grant Name). g.domain ≡ name) (map grant_shown pool.must) ↔ SomeOf (λ other. other ≡ name) must
   named = some-shown (λ other. other ≡ name) (λ (g : Grant Name). g.domain) (map grant_shown pool.must)
 
-  pub allowed-iff : (SomeOf (λ (g : Grant Shelved). g.domain.now ≡ name) pool.must ⊎ SomeOf (λ other. other ≡ name) (shown pool.may)) ↔ SomeOf (λ other. other ≡ name) (allowed (pool_shown pool))
+  pub allowed-iff : (SomeOf (λ (g : Grant Shelved). g.domain.now ≡ name) pool.must ⊎ SomeOf (λ other. other ≡ name) (names_shown pool.may)) ↔ SomeOf (λ other. other ≡ name) (allowed (pool_shown pool))
   allowed-iff = (
     λ e. (some-append (λ other. other ≡ name) must may).0 (⊎_elim (λ (s : SomeOf (λ (g : Grant Shelved). g.domain.now ≡ name) pool.must). inl (named.0 (granted.0 s)))
         (λ (s : SomeOf (λ other. other ≡ name) may). inr s) e),

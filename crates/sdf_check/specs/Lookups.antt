@@ -12,5 +12,5 @@ FindsPlaces places names = (name : List ℕ)
     → get_by (λ key. slice_cmp nat_cmp name key.now) places ≡ place_of name names
 
 -- the names behind references
-abbrev pub shown : List (Bor (List ℕ)) → List (List ℕ)
-shown names = map (λ (name : Bor (List ℕ)). name.now) names
+abbrev pub names_shown : List (Bor (List ℕ)) → List (List ℕ)
+names_shown names = map (λ (name : Bor (List ℕ)). name.now) names

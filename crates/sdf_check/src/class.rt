@@ -2,7 +2,7 @@
 ghost use Rattle.std.specs.Prelude.{◌≡◌, ◌↔◌, ◌<◌, ◌+◌, ◌^◌, ℕ, List, length, IsTrue, IsSomeAnd, Some, None, MatchOption};
 ghost use Rattle.sdf_check.specs.Names.{StandsBefore};
 ghost use Rattle.sdf_plan.specs.declared.plan.Map.{Map};
-ghost use Rattle.sdf_check.specs.Lookups.{FindsPlaces, shown};
+ghost use Rattle.sdf_check.specs.Lookups.{FindsPlaces, names_shown};
 ghost use Rattle.sdf_check.specs.ClassRules.{SomeOf, RepeatsName, the_domain, Joins, AreJoined, HasInterrupt, Grants, IsGranted, IsStranger, HasStranger, IsSmaller};
 ghost use Rattle.class_table.specs.Roles.{IsProgramOf};
 
@@ -28,7 +28,7 @@ fn the_domain<'b>(judge: &'b Judge<'_>, name: &str) -> Option<&'b Domain>
 pub fn repeats_name(keys: &Places<'_>, before: u128, names: &[&Text]) -> bool
     requires { before < 2 ^ 100 }
     ensures { (all : List (List ℕ)) → FindsPlaces keys.now all
-        → (IsTrue result ↔ RepeatsName all before (shown names.now)) }
+        → (IsTrue result ↔ RepeatsName all before (names_shown names.now)) }
 {
     for (key, name) in names.iter().enumerate() {
         if stands_before_key(keys, *name, before + key as u128) {
@@ -123,7 +123,7 @@ pub fn is_granted(judge: &Judge<'_>, name: &str, region: &str, writes: bool) -> 
 
 /// Whether a name is among others.
 pub fn is_among(name: &str, names: &[&str]) -> bool
-    ensures { IsTrue result ↔ SomeOf (λ other. other ≡ name.now) (shown names.now) }
+    ensures { IsTrue result ↔ SomeOf (λ other. other ≡ name.now) (names_shown names.now) }
 {
     for other in names {
         if is_same(*other, name) {
@@ -148,7 +148,7 @@ pub fn maps_region(maps: &[Map], region: &str) -> bool
 /// Whether a domain of none of these names maps a region. Where this is asked there are at most 63
 /// domains, and so at most 63 times as many keys as one element has.
 pub fn has_stranger(judge: &Judge<'_>, region: &str, allowed: &[&str]) -> bool
-    ensures { IsTrue result ↔ HasStranger judge.now.plan.now region.now (shown allowed.now) }
+    ensures { IsTrue result ↔ HasStranger judge.now.plan.now region.now (names_shown allowed.now) }
 {
     for domain in judge.plan.protection_domain.as_slice() {
         if is_outsider(domain, region, allowed) {
@@ -159,7 +159,7 @@ pub fn has_stranger(judge: &Judge<'_>, region: &str, allowed: &[&str]) -> bool
 }
 
 fn is_outsider(domain: &Domain, region: &str, allowed: &[&str]) -> bool
-    ensures { IsTrue result ↔ IsStranger region.now (shown allowed.now) domain.now }
+    ensures { IsTrue result ↔ IsStranger region.now (names_shown allowed.now) domain.now }
 {
     !is_among(domain.name.as_str(), allowed) && maps_region(domain.map.as_slice(), region)
 }

@@ -4,7 +4,7 @@ ghost use Rattle.std.specs.List.{flat_map};
 ghost use Rattle.sdf_check.specs.Lookups.{FindsPlaces};
 ghost use Rattle.sdf_check.specs.Names.{net_domains, net_client_domains, serial_domains, serial_client_domains, blk_domains, blk_client_domains, net_regions, net_client_regions, serial_regions, serial_client_regions, blk_regions, blk_client_regions};
 ghost use Rattle.sdf_check.specs.ClassRules.{class_domains, class_regions, net_names, serial_names, blk_names};
-ghost use Rattle.sdf_check.specs.Lookups.{shown};
+ghost use Rattle.sdf_check.specs.Lookups.{names_shown};
 
 use crate::names::{Places, places_by_name};
 use cargo_core::Memory;
@@ -21,8 +21,8 @@ pub struct Keys<'a> {
 }
 
 fn push_net_domains<'a>(names: &mut Vec<&'a str>, net: &'a Net) -> Result<(), Memory>
-    ensures { OnOk result (shown names.new.items
-        ≡ shown names.old.items ++ (net_domains net.now
+    ensures { OnOk result (names_shown names.new.items
+        ≡ names_shown names.old.items ++ (net_domains net.now
         ++ flat_map net_client_domains net.now.client)) }
 {
     names.extend_from_slice(&[
@@ -37,8 +37,8 @@ fn push_net_domains<'a>(names: &mut Vec<&'a str>, net: &'a Net) -> Result<(), Me
 }
 
 fn push_serial_domains<'a>(names: &mut Vec<&'a str>, serial: &'a Serial) -> Result<(), Memory>
-    ensures { OnOk result (shown names.new.items
-        ≡ shown names.old.items ++ (serial_domains serial.now
+    ensures { OnOk result (names_shown names.new.items
+        ≡ names_shown names.old.items ++ (serial_domains serial.now
         ++ flat_map serial_client_domains serial.now.client)) }
 {
     names.extend_from_slice(&[
@@ -53,8 +53,8 @@ fn push_serial_domains<'a>(names: &mut Vec<&'a str>, serial: &'a Serial) -> Resu
 }
 
 fn push_blk_domains<'a>(names: &mut Vec<&'a str>, blk: &'a Blk) -> Result<(), Memory>
-    ensures { OnOk result (shown names.new.items
-        ≡ shown names.old.items ++ (blk_domains blk.now
+    ensures { OnOk result (names_shown names.new.items
+        ≡ names_shown names.old.items ++ (blk_domains blk.now
         ++ flat_map blk_client_domains blk.now.client)) }
 {
     names.extend_from_slice(&[blk.driver.as_str(), blk.virt.as_str()])?;
@@ -86,8 +86,8 @@ pub fn domain_keys<'a>(alloc: Global, plan: &'a Plan) -> Result<Keys<'a>, Memory
 }
 
 fn push_all_net_domains<'a>(names: &mut Vec<&'a str>, plan: &'a Plan) -> Result<(), Memory>
-    ensures { OnOk result (shown names.new.items
-        ≡ shown names.old.items ++ net_names net_domains net_client_domains plan.now) }
+    ensures { OnOk result (names_shown names.new.items
+        ≡ names_shown names.old.items ++ net_names net_domains net_client_domains plan.now) }
 {
     if let Some(net) = &plan.net {
         push_net_domains(names, net)?;
@@ -96,8 +96,8 @@ fn push_all_net_domains<'a>(names: &mut Vec<&'a str>, plan: &'a Plan) -> Result<
 }
 
 fn push_all_serial_domains<'a>(names: &mut Vec<&'a str>, plan: &'a Plan) -> Result<(), Memory>
-    ensures { OnOk result (shown names.new.items
-        ≡ shown names.old.items ++ serial_names serial_domains serial_client_domains plan.now) }
+    ensures { OnOk result (names_shown names.new.items
+        ≡ names_shown names.old.items ++ serial_names serial_domains serial_client_domains plan.now) }
 {
     if let Some(serial) = &plan.serial {
         push_serial_domains(names, serial)?;
@@ -106,8 +106,8 @@ fn push_all_serial_domains<'a>(names: &mut Vec<&'a str>, plan: &'a Plan) -> Resu
 }
 
 fn push_all_blk_domains<'a>(names: &mut Vec<&'a str>, plan: &'a Plan) -> Result<(), Memory>
-    ensures { OnOk result (shown names.new.items
-        ≡ shown names.old.items ++ blk_names blk_domains blk_client_domains plan.now) }
+    ensures { OnOk result (names_shown names.new.items
+        ≡ names_shown names.old.items ++ blk_names blk_domains blk_client_domains plan.now) }
 {
     if let Some(blk) = &plan.blk {
         push_blk_domains(names, blk)?;
@@ -116,8 +116,8 @@ fn push_all_blk_domains<'a>(names: &mut Vec<&'a str>, plan: &'a Plan) -> Result<
 }
 
 fn push_net_regions<'a>(names: &mut Vec<&'a str>, net: &'a Net) -> Result<(), Memory>
-    ensures { OnOk result (shown names.new.items
-        ≡ shown names.old.items ++ (net_regions net.now
+    ensures { OnOk result (names_shown names.new.items
+        ≡ names_shown names.old.items ++ (net_regions net.now
         ++ flat_map net_client_regions net.now.client)) }
 {
     names.extend_from_slice(&[
@@ -138,8 +138,8 @@ fn push_net_regions<'a>(names: &mut Vec<&'a str>, net: &'a Net) -> Result<(), Me
 }
 
 fn push_serial_regions<'a>(names: &mut Vec<&'a str>, serial: &'a Serial) -> Result<(), Memory>
-    ensures { OnOk result (shown names.new.items
-        ≡ shown names.old.items ++ (serial_regions serial.now
+    ensures { OnOk result (names_shown names.new.items
+        ≡ names_shown names.old.items ++ (serial_regions serial.now
         ++ flat_map serial_client_regions serial.now.client)) }
 {
     names.extend_from_slice(&[serial.rx_queues.as_str(), serial.tx_queues.as_str()])?;
@@ -150,8 +150,8 @@ fn push_serial_regions<'a>(names: &mut Vec<&'a str>, serial: &'a Serial) -> Resu
 }
 
 fn push_blk_regions<'a>(names: &mut Vec<&'a str>, blk: &'a Blk) -> Result<(), Memory>
-    ensures { OnOk result (shown names.new.items
-        ≡ shown names.old.items ++ (blk_regions blk.now
+    ensures { OnOk result (names_shown names.new.items
+        ≡ names_shown names.old.items ++ (blk_regions blk.now
         ++ flat_map blk_client_regions blk.now.client)) }
 {
     names.extend_from_slice(&[blk.queues.as_str(), blk.region.as_str()])?;
@@ -183,8 +183,8 @@ pub fn region_keys<'a>(alloc: Global, plan: &'a Plan) -> Result<Keys<'a>, Memory
 }
 
 fn push_all_net_regions<'a>(names: &mut Vec<&'a str>, plan: &'a Plan) -> Result<(), Memory>
-    ensures { OnOk result (shown names.new.items
-        ≡ shown names.old.items ++ net_names net_regions net_client_regions plan.now) }
+    ensures { OnOk result (names_shown names.new.items
+        ≡ names_shown names.old.items ++ net_names net_regions net_client_regions plan.now) }
 {
     if let Some(net) = &plan.net {
         push_net_regions(names, net)?;
@@ -193,8 +193,8 @@ fn push_all_net_regions<'a>(names: &mut Vec<&'a str>, plan: &'a Plan) -> Result<
 }
 
 fn push_all_serial_regions<'a>(names: &mut Vec<&'a str>, plan: &'a Plan) -> Result<(), Memory>
-    ensures { OnOk result (shown names.new.items
-        ≡ shown names.old.items ++ serial_names serial_regions serial_client_regions plan.now) }
+    ensures { OnOk result (names_shown names.new.items
+        ≡ names_shown names.old.items ++ serial_names serial_regions serial_client_regions plan.now) }
 {
     if let Some(serial) = &plan.serial {
         push_serial_regions(names, serial)?;
@@ -203,8 +203,8 @@ fn push_all_serial_regions<'a>(names: &mut Vec<&'a str>, plan: &'a Plan) -> Resu
 }
 
 fn push_all_blk_regions<'a>(names: &mut Vec<&'a str>, plan: &'a Plan) -> Result<(), Memory>
-    ensures { OnOk result (shown names.new.items
-        ≡ shown names.old.items ++ blk_names blk_regions blk_client_regions plan.now) }
+    ensures { OnOk result (names_shown names.new.items
+        ≡ names_shown names.old.items ++ blk_names blk_regions blk_client_regions plan.now) }
 {
     if let Some(blk) = &plan.blk {
         push_blk_regions(names, blk)?;

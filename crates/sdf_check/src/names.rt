@@ -1,6 +1,6 @@
 //! The places of regions and domains by their names: of equal names, the first counts.
 ghost use Rattle.std.specs.Prelude.{◌≡◌, ◌∷◌, ◌++◌, List, [], ℕ, length, map, IfOk, OnOk, Option};
-ghost use Rattle.sdf_check.specs.Lookups.{FindsPlaces, shown};
+ghost use Rattle.sdf_check.specs.Lookups.{FindsPlaces, names_shown};
 ghost use Rattle.sdf_check.specs.Names.{place_of, region_names_of, domain_names_of};
 
 use cargo_core::Memory;
@@ -54,7 +54,7 @@ pub fn place_of(places: &Places<'_>, name: &str) -> Option<usize>
 
 /// The places of names in a list of them.
 pub fn places_by_name<'a>(alloc: Global, names: &[&'a str]) -> Result<Places<'a>, Memory>
-    ensures { IfOk result (λ places. FindsPlaces places (shown names.now)) }
+    ensures { IfOk result (λ places. FindsPlaces places (names_shown names.now)) }
 {
     let mut places = BTreeMap::new(alloc);
     for (at, name) in names.iter().enumerate() {

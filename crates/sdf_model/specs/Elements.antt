@@ -13,8 +13,8 @@ use Rattle.sdf_model.specs.Tree.{tables_at, table_at, breaks}
 abbrev pub Seen : Type 0
 Seen = Place × Members
 
-abbrev pub seen : Element → Seen
-seen element = (element.place, table_view element.table.now)
+abbrev pub place_and_members : Element → Seen
+place_and_members element = (element.place, table_view element.table.now)
 
 -- the place of the element with a number, in the list in which the given place is
 abbrev pub nth : Place → ℕ → Place

@@ -3,7 +3,7 @@ ghost use Rattle.std.specs.Prelude.{◌≡◌, ◌<◌, ◌≤◌, ◌^◌, ◌+
 ghost use Rattle.toml.specs.View.{table_view};
 ghost use Rattle.sdf_model.specs.Tree.{tables_at};
 ghost use Rattle.sdf_model.specs.Counts.{elements_of_members, elements_of_tables};
-ghost use Rattle.sdf_model.specs.Elements.{seen, nth, parts, domain_parts, channel_parts, class_parts, elements_of};
+ghost use Rattle.sdf_model.specs.Elements.{place_and_members, nth, parts, domain_parts, channel_parts, class_parts, elements_of};
 
 use crate::tree::{table_at, tables_at};
 use cargo_core::Memory;
@@ -22,7 +22,7 @@ pub(crate) struct Element<'a> {
 #[tactic(auto, unfolding(crate::specs::Elements::elements_of))]
 pub(crate) fn elements<'a>(alloc: Global, root: &'a Table) -> Result<Vec<Element<'a>>, Memory>
     requires { elements_of_members (table_view root.now) < 2 ^ 32 }
-    ensures { IfOk result (λ v. map seen v.items ≡ elements_of (table_view root.now)) }
+    ensures { IfOk result (λ v. map place_and_members v.items ≡ elements_of (table_view root.now)) }
 {
     let mut elements = Vec::new(alloc);
     elements.push(Element {
@@ -73,8 +73,8 @@ fn add_domains<'a>(
     domains: &[&'a Table],
 ) -> Result<(), Memory>
     requires { elements_of_tables (map (λ t. table_view t.now) domains.now) < 2 ^ 32 }
-    ensures { OnOk result (map seen elements.new.items
-        ≡ map seen elements.old.items
+    ensures { OnOk result (map place_and_members elements.new.items
+        ≡ map place_and_members elements.old.items
         ++ domain_parts 0 (map (λ t. table_view t.now) domains.now)) }
 {
     for (at, domain) in domains.iter().enumerate() {
@@ -96,8 +96,8 @@ fn add_channels<'a>(
     channels: &[&'a Table],
 ) -> Result<(), Memory>
     requires { elements_of_tables (map (λ t. table_view t.now) channels.now) < 2 ^ 32 }
-    ensures { OnOk result (map seen elements.new.items
-        ≡ map seen elements.old.items
+    ensures { OnOk result (map place_and_members elements.new.items
+        ≡ map place_and_members elements.old.items
         ++ channel_parts 0 (map (λ t. table_view t.now) channels.now)) }
 {
     for (at, channel) in channels.iter().enumerate() {
@@ -120,8 +120,8 @@ fn add_class<'a>(
     client: Place,
 ) -> Result<(), Memory>
     requires { IfSome class (λ t. elements_of_members (table_view t.now) < 2 ^ 32) }
-    ensures { OnOk result (map seen elements.new.items
-        ≡ map seen elements.old.items ++ class_parts place client
+    ensures { OnOk result (map place_and_members elements.new.items
+        ≡ map place_and_members elements.old.items ++ class_parts place client
         (option_map (λ t. table_view t.now) class.entry)) }
 {
     if let Some(table) = class {
@@ -140,8 +140,8 @@ fn add_list<'a>(
     first: Place,
 ) -> Result<(), Memory>
     requires { elements_of_members (table_view table.now) < 2 ^ 32 }
-    ensures { OnOk result (map seen elements.new.items
-        ≡ map seen elements.old.items
+    ensures { OnOk result (map place_and_members elements.new.items
+        ≡ map place_and_members elements.old.items
         ++ parts first 0 (tables_at key.now (table_view table.now))) }
 {
     add_parts(alloc, elements, &tables_at(alloc, table, key)?, first)
@@ -155,8 +155,8 @@ fn add_parts<'a>(
     first: Place,
 ) -> Result<(), Memory>
     requires { length tables.now ≤ 2 ^ 32 }
-    ensures { OnOk result (map seen elements.new.items
-        ≡ map seen elements.old.items
+    ensures { OnOk result (map place_and_members elements.new.items
+        ≡ map place_and_members elements.old.items
         ++ parts first 0 (map (λ t. table_view t.now) tables.now)) }
 {
     for (at, table) in tables.iter().enumerate() {

@@ -6,7 +6,7 @@ ghost use Rattle.std.specs.BTreeMap.{keys as keys_in};
 ghost use Rattle.toml.specs.View.{table_view};
 ghost use Rattle.sdf_model.specs.Keys.{row_of, is_lacking, is_misfit, breaks_with};
 ghost use Rattle.sdf_model.specs.Tree.{breaks};
-ghost use Rattle.sdf_model.specs.Elements.{seen, first_broken, Judged};
+ghost use Rattle.sdf_model.specs.Elements.{place_and_members, first_broken, Judged};
 
 use crate::element::Element;
 use crate::key::{self, Absent, Key};
@@ -18,8 +18,8 @@ use toml::Table;
 /// Judges the rules that are read on one element, each only where those before it are kept.
 pub(crate) fn judge(elements: &[Element]) -> Result<(), Refusal>
     ensures kept { OnOk result ((n : ℕ) → 2 ≤ n → n ≤ 4
-        → first_broken n (map seen elements.now) ≡ None) }
-    ensures broken { IfErr result (Judged (map seen elements.now)) }
+        → first_broken n (map place_and_members elements.now) ≡ None) }
+    ensures broken { IfErr result (Judged (map place_and_members elements.now)) }
 {
     for rule in 2..5 {
         if let Some(place) = first_broken(elements, rule) {
@@ -31,7 +31,7 @@ pub(crate) fn judge(elements: &[Element]) -> Result<(), Refusal>
 
 /// The first element that breaks a rule.
 fn first_broken(elements: &[Element], rule: u8) -> Option<Place>
-    ensures { result ≡ first_broken rule (map seen elements.now) }
+    ensures { result ≡ first_broken rule (map place_and_members elements.now) }
 {
     for element in elements {
         if breaks(rule, element.place, element.table) {

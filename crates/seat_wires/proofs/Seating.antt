@@ -15,7 +15,7 @@ use Rattle.wire_core.specs.Ends.{Role, Consumer, Producer, End, Moves, role_of, 
 use Rattle.spsc_queue.specs.declared.view.Half.{Half}
 use Rattle.spsc_queue.specs.Known.Ends.{EndIs}
 use Rattle.spsc_queue.specs.Rule.{Slot}
-use Rattle.spsc_queue.specs.Steps.{known_end, EndDid, Granted, looked, empty_if, tells_entry, tells_room, see_told, room_told, wanted, woken}
+use Rattle.spsc_queue.specs.Steps.{known_end, EndDid, Granted, after_look, empty_if, tells_entry, tells_room, see_told, room_told, after_wanted, after_wake}
 use Rattle.seat_wires.specs.Places.Are.{SeatsAre}
 use Rattle.seat_wires.specs.Places.{no_end, end_or, ends_of, seat_end, with_ends, SeatDid}
 
@@ -38,15 +38,15 @@ there_of [] q x e owned is same = cc
 there_of (a ∷ es) zero x e owned is same = ap (λ (z : Option EndIs). Some z) (sym is ∙ same)
 there_of (a ∷ es) (suc q) x e owned is same = there_of es q x e owned is same
 
-see_end : (b : Bool) (g : Option Slot) (h : Half) (r : ℕ) (kind : QueueKind) → Granted kind b g → known_end (looked b 1 r g h) ≡ end_after (known_end h) Do.See (answer_of b)
-see_end true g h r kind gr = ap (λ (z : Option Slot). known_end (looked true 1 r z h)) gr.1
-see_end false g h r kind gr = ap (λ (z : Option Slot). known_end (looked false 1 r z h)) gr
+see_end : (b : Bool) (g : Option Slot) (h : Half) (r : ℕ) (kind : QueueKind) → Granted kind b g → known_end (after_look b 1 r g h) ≡ end_after (known_end h) Do.See (answer_of b)
+see_end true g h r kind gr = ap (λ (z : Option Slot). known_end (after_look true 1 r z h)) gr.1
+see_end false g h r kind gr = ap (λ (z : Option Slot). known_end (after_look false 1 r z h)) gr
 
-room_end : (b : Bool) (h : Half) (r : ℕ) → known_end (looked b 0 r (empty_if b) h) ≡ end_after (known_end h) Do.Room (answer_of b)
+room_end : (b : Bool) (h : Half) (r : ℕ) → known_end (after_look b 0 r (empty_if b) h) ≡ end_after (known_end h) Do.Room (answer_of b)
 room_end true h r = refl
 room_end false h r = refl
 
-wanted_end : (w r : ℕ) (b : Bool) (h : Half) → nat_eq r 0 ≡ b → known_end (wanted w r h) ≡ end_after (known_end h) (Do.Wanted Forward) (answer_of (nat_eq r 0))
+wanted_end : (w r : ℕ) (b : Bool) (h : Half) → nat_eq r 0 ≡ b → known_end (after_wanted w r h) ≡ end_after (known_end h) (Do.Wanted Forward) (answer_of (nat_eq r 0))
 wanted_end w r b h e = refl
 
 -- the end that made the call is changed by the table

@@ -11,11 +11,11 @@ kept_of [] = None
 kept_of (b ∷ ds) = Some (length ds, number_of ds)
 
 -- an open selection: how many digits it has, and their number
-abbrev pub shown : Selection → ℕ × ℕ
-shown s = (s.digits, s.number)
+abbrev pub digits_and_number : Selection → ℕ × ℕ
+digits_and_number s = (s.digits, s.number)
 
 -- the switch, of n clients, stands after this input
 pub record StandsAfter (n : ℕ) (input : List ℕ) (s : Switch) : Type 0 where
   pub clients : s.clients ≡ n
   pub chosen : s.selected ≡ selected n (split_of input).pieces
-  pub opened : option_map shown s.opened ≡ kept_of (split_of input).rest
+  pub opened : option_map digits_and_number s.opened ≡ kept_of (split_of input).rest

@@ -6,12 +6,12 @@ use Rattle.cargo_core.specs.Items.{kind_of}
 use Rattle.wire_core.specs.Deeds.{Cargo}
 use Rattle.spsc_queue.specs.declared.view.View.{View}
 use Rattle.spsc_queue.specs.Rule.{Slot, wrap}
-use Rattle.spsc_queue.specs.Steps.{Seated, held, Granted, GrantedKind, with_producer, with_consumer, sent_one, took_one}
+use Rattle.spsc_queue.specs.Steps.{Seated, slots_held, Granted, GrantedKind, with_producer, with_consumer, sent_one, took_one}
 use Rattle.spsc_queue.proofs.Looks.{place_is, next_index}
 
 -- the slot that an end holds, by the index that it keeps
-pub held_here : (n len index capacity slot : ℕ) (g : Option Slot) (y : Slot) (m : List (ℕ × Slot)) → m ≡ held g (len % n) → g ≡ Some y → index ≡ wrap len → slot ≡ index % capacity → n ≡ capacity → 65536 % capacity ≡ 0 → m ≡ (slot, y) ∷ []
-held_here n len index capacity slot g y m holding gr at is size divides = holding ∙ (ap (λ (z : Option Slot). held z (len % n)) gr ∙ ap (λ (z : ℕ). (z, y) ∷ []) (ap (λ (z : ℕ). len % z) size ∙ (sym (place_is capacity len divides) ∙ (ap (λ (z : ℕ). z % capacity) (sym at) ∙ sym is))))
+pub held_here : (n len index capacity slot : ℕ) (g : Option Slot) (y : Slot) (m : List (ℕ × Slot)) → m ≡ slots_held g (len % n) → g ≡ Some y → index ≡ wrap len → slot ≡ index % capacity → n ≡ capacity → 65536 % capacity ≡ 0 → m ≡ (slot, y) ∷ []
+held_here n len index capacity slot g y m holding gr at is size divides = holding ∙ (ap (λ (z : Option Slot). slots_held z (len % n)) gr ∙ ap (λ (z : ℕ). (z, y) ∷ []) (ap (λ (z : ℕ). len % z) size ∙ (sym (place_is capacity len divides) ∙ (ap (λ (z : ℕ). z % capacity) (sym at) ∙ sym is))))
 
 -- as `exchange` asks it
 pub takes_first : (slot : ℕ) (y : Slot) (m : List (ℕ × Slot)) → m ≡ (slot, y) ∷ [] → m ≡ (slot, y) ∷ rest m
@@ -35,27 +35,27 @@ granted_kind kind true g h = ((λ e. (cc (h.1))), λ x e. (let same : h.0 ≡ x 
 granted_kind kind false g h = ((λ e. (cc (h))), λ x e. (cc (h)))
 
 -- the same slot with something else in it
-pub filled_here : (n len index capacity slot : ℕ) (g : Option Slot) (y z : Slot) (m : List (ℕ × Slot)) → m ≡ held g (len % n) → g ≡ Some y → index ≡ wrap len → slot ≡ index % capacity → n ≡ capacity → 65536 % capacity ≡ 0 → (slot, z) ∷ rest m ≡ (len % n, z) ∷ []
+pub filled_here : (n len index capacity slot : ℕ) (g : Option Slot) (y z : Slot) (m : List (ℕ × Slot)) → m ≡ slots_held g (len % n) → g ≡ Some y → index ≡ wrap len → slot ≡ index % capacity → n ≡ capacity → 65536 % capacity ≡ 0 → (slot, z) ∷ rest m ≡ (len % n, z) ∷ []
 filled_here n len index capacity slot g y z m holding gr at is size divides = let e = held_here n len index capacity slot g y m holding gr at is size divides in
     ap (λ (l : List (ℕ × Slot)). (slot, z) ∷ rest l) e ∙ ap (λ (k : ℕ). (k, z) ∷ []) (is ∙ (ap (λ (k : ℕ). k % capacity) at ∙ (place_is capacity len divides ∙ ap (λ (k : ℕ). len % k) (sym size))))
 
 module _ (me me2 m' : Seated) (index : ℕ) (x : Cargo) where
   -- what a put leaves to the producer
   pub put_after : (n : ℕ) → me2.0 ≡ me.0 → (m'.0 ≡ with_producer me2.0 (sent_one x me2.0.producer)) × (m'.1 ≡ []) → (me.0.produces ≡ true) × (me.0.consumes ≡ false) → index ≡ wrap (length me.0.producer.entries)
-      → ((m'.0.produces ≡ true) × (m'.0.consumes ≡ false)) × ((index + 1) % 65536 ≡ wrap (length m'.0.producer.entries)) × (m'.1 ≡ held m'.0.producer.grant n) × ((y : Cargo) → m'.0.producer.grant ≢ Some (Some y))
+      → ((m'.0.produces ≡ true) × (m'.0.consumes ≡ false)) × ((index + 1) % 65536 ≡ wrap (length m'.0.producer.entries)) × (m'.1 ≡ slots_held m'.0.producer.grant n) × ((y : Cargo) → m'.0.producer.grant ≢ Some (Some y))
   put_after n same did role at = let now : m'.0 ≡ with_producer me.0 (sent_one x me.0.producer) = did.0 ∙ ap (λ (v : View). with_producer v (sent_one x v.producer)) same in let len : ℕ = length me.0.producer.entries in (
     (ap (λ (v : View). v.produces) now ∙ role.0, ap (λ (v : View). v.consumes) now ∙ role.1),
     ap (λ (z : ℕ). wrap (z + 1)) at ∙ (next_index len ∙ ap wrap (sym (ap (λ (v : View). length v.producer.entries) now ∙ length-append me.0.producer.entries (x ∷ [])))),
-    did.1 ∙ ap (λ (v : View). held v.producer.grant n) (sym now),
+    did.1 ∙ ap (λ (v : View). slots_held v.producer.grant n) (sym now),
     λ y e. (let z : None ≡ Some (Some y) = sym (ap (λ (v : View). v.producer.grant) now) ∙ e in cc),
   )
 
   pub take_after : (n : ℕ) → me2.0 ≡ me.0 → (m'.0 ≡ with_consumer me2.0 (took_one x me2.0.consumer)) × (m'.1 ≡ []) → (me.0.consumes ≡ true) × (me.0.produces ≡ false) → index ≡ wrap (length me.0.consumer.entries)
-      → ((m'.0.consumes ≡ true) × (m'.0.produces ≡ false)) × ((index + 1) % 65536 ≡ wrap (length m'.0.consumer.entries)) × (m'.1 ≡ held m'.0.consumer.grant n) × (m'.0.consumer.grant ≡ None)
+      → ((m'.0.consumes ≡ true) × (m'.0.produces ≡ false)) × ((index + 1) % 65536 ≡ wrap (length m'.0.consumer.entries)) × (m'.1 ≡ slots_held m'.0.consumer.grant n) × (m'.0.consumer.grant ≡ None)
   take_after n same did role at = let now : m'.0 ≡ with_consumer me.0 (took_one x me.0.consumer) = did.0 ∙ ap (λ (v : View). with_consumer v (took_one x v.consumer)) same in let len : ℕ = length me.0.consumer.entries in (
     (ap (λ (v : View). v.consumes) now ∙ role.0, ap (λ (v : View). v.produces) now ∙ role.1),
     ap (λ (z : ℕ). wrap (z + 1)) at ∙ (next_index len ∙ ap wrap (sym (ap (λ (v : View). length v.consumer.entries) now ∙ length-append me.0.consumer.entries (x ∷ [])))),
-    did.1 ∙ ap (λ (v : View). held v.consumer.grant n) (sym now),
+    did.1 ∙ ap (λ (v : View). slots_held v.consumer.grant n) (sym now),
     ap (λ (v : View). v.consumer.grant) now,
   )
 

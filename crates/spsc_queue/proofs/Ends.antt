@@ -18,7 +18,7 @@ use Rattle.wire_core.specs.Deeds.{Cargo, answer_of}
 use Rattle.wire_core.specs.Ends.{is_clear, is_free_or_put, looked_waiter}
 use Rattle.spsc_queue.specs.declared.view.Half.{Half}
 use Rattle.spsc_queue.specs.Rule.{Slot, wrap, SlotsHold, EndsHold, forward_bell, backward_bell}
-use Rattle.spsc_queue.specs.Steps.{held, looked, empty_if, tells_room, tells_entry, sent_one, took_one, Granted, asked, waived, woken, wanted, settled, rung, sent_home}
+use Rattle.spsc_queue.specs.Steps.{slots_held, after_look, empty_if, tells_room, tells_entry, sent_one, took_one, Granted, asked, waived, after_wake, after_wanted, after_settle, after_ring, sent_home}
 use Rattle.spsc_queue.proofs.Places.{grants_room, takes_in, grants_entry, takes_out, room_comes_back, entry_comes_back}
 use Rattle.spsc_queue.proofs.Looks.{room_tells, entry_tells}
 use Rattle.wire_core.proofs.BellLemmas.{look_holds, ask_holds, waive_holds, wake_holds, wanted_holds, settle_holds, ring_holds, move_holds, beside_holds}
@@ -56,11 +56,11 @@ module _ (kind : QueueKind) (n : ℕ) (ws : List ℕ) (hs : List (maybe.Option S
 
   -- the seat has the slots m, and there is an act for the look that answers b at the word r
   abbrev pub LooksRoom : Bool → ℕ → List (ℕ × Slot) → Type 0
-  LooksRoom b r m = (a : Act Slot) × Valid hs m a × EndsHold kind n ws (homes_after hs m a) (looked b 0 r (empty_if b) p) c × (carried_after m a ≡ held (empty_if b) (length p.entries % n))
+  LooksRoom b r m = (a : Act Slot) × Valid hs m a × EndsHold kind n ws (homes_after hs m a) (after_look b 0 r (empty_if b) p) c × (carried_after m a ≡ slots_held (empty_if b) (length p.entries % n))
 
   -- the producer looks, and the slots are now hs'
   pub room_ends : (e : EndsHold kind n ws hs p c) (b : Bool) (r : ℕ) (hs' : List (maybe.Option Slot)) → is_clear p.waiter ≡ false → b ≡ nat_lt (length e.lists.left) n → SlotsHold n hs' (length c.entries) e.lists.left (empty_if b) c.grant
-      → EndsHold kind n ws hs' (looked b 0 r (empty_if b) p) c
+      → EndsHold kind n ws hs' (after_look b 0 r (empty_if b) p) c
   room_ends e b r hs' calm is slots = record {
     lists = record {
       left = e.lists.left;
@@ -84,7 +84,7 @@ module _ (kind : QueueKind) (n : ℕ) (ws : List ℕ) (hs : List (maybe.Option S
     };
   }
 
-  room_goes : (e : EndsHold kind n ws hs p c) (b : Bool) (r : ℕ) (g : Option Slot) → is_clear p.waiter ≡ false → b ≡ nat_lt (length e.lists.left) n → p.grant ≡ g → LooksRoom b r (held g (length p.entries % n))
+  room_goes : (e : EndsHold kind n ws hs p c) (b : Bool) (r : ℕ) (g : Option Slot) → is_clear p.waiter ≡ false → b ≡ nat_lt (length e.lists.left) n → p.grant ≡ g → LooksRoom b r (slots_held g (length p.entries % n))
   room_goes e true r None calm is gr = let room : length e.lists.left < n = ltb-true (length e.lists.left) n (sym is) in let slots = subst (λ (z : Option Slot). SlotsHold n hs (length c.entries) e.lists.left z c.grant) gr e.lists.slots in (
     takes (length p.entries % n) None,
     ap (get_elem? hs) (last_place e) ∙ slots.empty (length e.lists.left) (omega arith) room (λ _. refl),
@@ -133,13 +133,13 @@ module _ (kind : QueueKind) (n : ℕ) (ws : List ℕ) (hs : List (maybe.Option S
       }
 
   -- a load of the head by the producer
-  pub room_step : (e : EndsHold kind n ws hs p c) → is_clear p.waiter ≡ false → LooksRoom (tells_room n (length p.entries) (wrap (length c.entries))) (wrap (length c.entries)) (held p.grant (length p.entries % n))
+  pub room_step : (e : EndsHold kind n ws hs p c) → is_clear p.waiter ≡ false → LooksRoom (tells_room n (length p.entries) (wrap (length c.entries))) (wrap (length c.entries)) (slots_held p.grant (length p.entries % n))
   room_step e calm = let t : ℕ = length c.entries in let k : ℕ = length e.lists.left in
       room_goes e (tells_room n (length p.entries) (wrap t)) (wrap t) p.grant calm (ap (λ (z : ℕ). tells_room n z (wrap t)) (counts e) ∙ room_tells n t k e.lists.slots.within e.lists.few) refl
 
   -- the consumer looks, and the slots are now hs'
   pub see_ends : (e : EndsHold kind n ws hs p c) (b : Bool) (r : ℕ) (g : Option Slot) (hs' : List (maybe.Option Slot)) → is_clear c.waiter ≡ false → b ≡ nat_lt 0 (length e.lists.left) → SlotsHold n hs' (length c.entries) e.lists.left p.grant g
-      → EndsHold kind n ws hs' p (looked b 1 r g c)
+      → EndsHold kind n ws hs' p (after_look b 1 r g c)
   see_ends e b r g hs' calm is slots = record {
     lists = record {
       left = e.lists.left;
@@ -164,13 +164,13 @@ module _ (kind : QueueKind) (n : ℕ) (ws : List ℕ) (hs : List (maybe.Option S
   }
 
   abbrev pub LooksEntry : Bool → ℕ → List (ℕ × Slot) → Type 0
-  LooksEntry b r m = (a : Act Slot) × Valid hs m a × ((g : Option Slot) × Granted kind b g × EndsHold kind n ws (homes_after hs m a) p (looked b 1 r g c) × (carried_after m a ≡ held g (length c.entries % n)))
+  LooksEntry b r m = (a : Act Slot) × Valid hs m a × ((g : Option Slot) × Granted kind b g × EndsHold kind n ws (homes_after hs m a) p (after_look b 1 r g c) × (carried_after m a ≡ slots_held g (length c.entries % n)))
 
   -- the first entry has the kind
   first_kind : (e : EndsHold kind n ws hs p c) (x : Cargo) (xs : List Cargo) → e.lists.left ≡ x ∷ xs → kind_of x.0 ≡ kind
   first_kind e x xs is = let sent : p.entries ≡ c.entries ++ x ∷ xs = e.lists.sent ∙ ap (λ (z : List Cargo). c.entries ++ z) is in All-at (λ (z : Cargo). kind_of z.0 ≡ kind) c.entries x xs (subst (All (λ (z : Cargo). kind_of z.0 ≡ kind)) sent e.lists.kinds)
 
-  see_goes : (e : EndsHold kind n ws hs p c) (b : Bool) (r : ℕ) (g : Option Slot) (left : List Cargo) → is_clear c.waiter ≡ false → b ≡ nat_lt 0 (length e.lists.left) → c.grant ≡ g → e.lists.left ≡ left → LooksEntry b r (held g (length c.entries % n))
+  see_goes : (e : EndsHold kind n ws hs p c) (b : Bool) (r : ℕ) (g : Option Slot) (left : List Cargo) → is_clear c.waiter ≡ false → b ≡ nat_lt 0 (length e.lists.left) → c.grant ≡ g → e.lists.left ≡ left → LooksEntry b r (slots_held g (length c.entries % n))
   see_goes e b r (Some y) left calm is gr l = let o = e.lists.slots.to_consumer y gr in let some_left : b ≡ true = is ∙ (ap (λ (z : List Cargo). nat_lt 0 (length z)) o.2 ∙ lt-ltb 0 (suc (length (drop 1 e.lists.left))) (omega arith)) in (
     keeps,
     tt,
@@ -204,7 +204,7 @@ module _ (kind : QueueKind) (n : ℕ) (ws : List ℕ) (hs : List (maybe.Option S
       )
 
   -- a load of the tail by the consumer
-  pub see_step : (e : EndsHold kind n ws hs p c) → is_clear c.waiter ≡ false → LooksEntry (tells_entry (length c.entries) (wrap (length p.entries))) (wrap (length p.entries)) (held c.grant (length c.entries % n))
+  pub see_step : (e : EndsHold kind n ws hs p c) → is_clear c.waiter ≡ false → LooksEntry (tells_entry (length c.entries) (wrap (length p.entries))) (wrap (length p.entries)) (slots_held c.grant (length c.entries % n))
   see_step e calm = let t : ℕ = length c.entries in let k : ℕ = length e.lists.left in let within : k ≤ n = e.lists.slots.within in let few : n ≤ 32768 = e.lists.few in
       see_goes e (tells_entry t (wrap (length p.entries))) (wrap (length p.entries)) c.grant e.lists.left calm (ap (λ (z : ℕ). tells_entry t (wrap z)) (counts e) ∙ entry_tells t k (omega arith)) refl refl
 
@@ -272,34 +272,34 @@ module _ (kind : QueueKind) (n : ℕ) (ws : List ℕ) (hs : List (maybe.Option S
   waive_ends e = rebell e p (waived 1 c) (set ws 2 1) true e.shared.pending e.shared.flag_back e.shared.pending_back refl refl refl refl refl refl (ap (λ (z : List ℕ). set z 2 1) e.shared.words_are)
       (waive_holds (bell e.shared.flag e.shared.pending c.waiter p.ringer) (nat_lt 0 (length e.lists.left)) (length p.entries) e.shared.forward) e.shared.backward
 
-  wake_goes : (e : EndsHold kind n ws hs p c) (b : Bool) → e.shared.pending ≡ b → EndsHold kind n (set ws 3 0) hs p (woken 3 (bit b) c)
-  wake_goes e true is = rebell e p (woken 3 1 c) (set ws 3 0) e.shared.flag false e.shared.flag_back e.shared.pending_back refl refl refl refl refl refl (ap (λ (z : List ℕ). set z 3 0) e.shared.words_are)
+  wake_goes : (e : EndsHold kind n ws hs p c) (b : Bool) → e.shared.pending ≡ b → EndsHold kind n (set ws 3 0) hs p (after_wake 3 (bit b) c)
+  wake_goes e true is = rebell e p (after_wake 3 1 c) (set ws 3 0) e.shared.flag false e.shared.flag_back e.shared.pending_back refl refl refl refl refl refl (ap (λ (z : List ℕ). set z 3 0) e.shared.words_are)
       (wake_holds (bell e.shared.flag e.shared.pending c.waiter p.ringer) (nat_lt 0 (length e.lists.left)) (length p.entries) true is e.shared.forward) e.shared.backward
-  wake_goes e false is = rebell e p (woken 3 0 c) (set ws 3 0) e.shared.flag false e.shared.flag_back e.shared.pending_back refl refl refl refl refl refl (ap (λ (z : List ℕ). set z 3 0) e.shared.words_are)
+  wake_goes e false is = rebell e p (after_wake 3 0 c) (set ws 3 0) e.shared.flag false e.shared.flag_back e.shared.pending_back refl refl refl refl refl refl (ap (λ (z : List ℕ). set z 3 0) e.shared.words_are)
       (subst (λ (z : Bool). BellHolds (forward_bell e.shared.flag z p c) (nat_lt 0 (length e.lists.left)) (length p.entries)) is e.shared.forward) e.shared.backward
 
-  pub wake_ends : (e : EndsHold kind n ws hs p c) → EndsHold kind n (set ws 3 0) hs p (woken 3 (slice_index ws 3) c)
-  wake_ends e = subst (λ (z : ℕ). EndsHold kind n (set ws 3 0) hs p (woken 3 z c)) (ap (λ (z : List ℕ). slice_index z 3) (sym e.shared.words_are)) (wake_goes e e.shared.pending refl)
+  pub wake_ends : (e : EndsHold kind n ws hs p c) → EndsHold kind n (set ws 3 0) hs p (after_wake 3 (slice_index ws 3) c)
+  wake_ends e = subst (λ (z : ℕ). EndsHold kind n (set ws 3 0) hs p (after_wake 3 z c)) (ap (λ (z : List ℕ). slice_index z 3) (sym e.shared.words_are)) (wake_goes e e.shared.pending refl)
 
   -- a load of the word i changes no word
   pub same_words : (e : EndsHold kind n ws hs p c) → set ws 2 (slice_index ws 2) ≡ ws
   same_words e = ap (λ (z : List ℕ). set z 2 (slice_index z 2)) e.shared.words_are ∙ sym e.shared.words_are
 
-  wanted_goes : (e : EndsHold kind n ws hs p c) (b : Bool) → p.ringer ≡ Rung.Put → e.shared.flag ≡ b → EndsHold kind n ws hs (wanted 2 (bit b) p) c
-  wanted_goes e true put is = rebell e (wanted 2 1 p) c ws e.shared.flag e.shared.pending e.shared.flag_back e.shared.pending_back refl refl refl refl refl refl e.shared.words_are
+  wanted_goes : (e : EndsHold kind n ws hs p c) (b : Bool) → p.ringer ≡ Rung.Put → e.shared.flag ≡ b → EndsHold kind n ws hs (after_wanted 2 (bit b) p) c
+  wanted_goes e true put is = rebell e (after_wanted 2 1 p) c ws e.shared.flag e.shared.pending e.shared.flag_back e.shared.pending_back refl refl refl refl refl refl e.shared.words_are
       (wanted_holds (bell e.shared.flag e.shared.pending c.waiter p.ringer) (nat_lt 0 (length e.lists.left)) (length p.entries) true is put e.shared.forward) e.shared.backward
-  wanted_goes e false put is = rebell e (wanted 2 0 p) c ws e.shared.flag e.shared.pending e.shared.flag_back e.shared.pending_back refl refl refl refl refl refl e.shared.words_are
+  wanted_goes e false put is = rebell e (after_wanted 2 0 p) c ws e.shared.flag e.shared.pending e.shared.flag_back e.shared.pending_back refl refl refl refl refl refl e.shared.words_are
       (wanted_holds (bell e.shared.flag e.shared.pending c.waiter p.ringer) (nat_lt 0 (length e.lists.left)) (length p.entries) false is put e.shared.forward) e.shared.backward
 
-  pub wanted_ends : (e : EndsHold kind n ws hs p c) → p.ringer ≡ Rung.Put → EndsHold kind n (set ws 2 (slice_index ws 2)) hs (wanted 2 (slice_index ws 2) p) c
-  wanted_ends e put = subst (λ (z : ℕ × List ℕ). EndsHold kind n z.1 hs (wanted 2 z.0 p) c) (λ k. (ap (λ (z : List ℕ). slice_index z 2) (sym e.shared.words_are) k, sym (same_words e) k)) (wanted_goes e e.shared.flag put refl)
+  pub wanted_ends : (e : EndsHold kind n ws hs p c) → p.ringer ≡ Rung.Put → EndsHold kind n (set ws 2 (slice_index ws 2)) hs (after_wanted 2 (slice_index ws 2) p) c
+  wanted_ends e put = subst (λ (z : ℕ × List ℕ). EndsHold kind n z.1 hs (after_wanted 2 z.0 p) c) (λ k. (ap (λ (z : List ℕ). slice_index z 2) (sym e.shared.words_are) k, sym (same_words e) k)) (wanted_goes e e.shared.flag put refl)
 
-  pub settle_ends : (e : EndsHold kind n ws hs p c) → p.ringer ≡ Rung.Hot → EndsHold kind n (set ws 2 1) hs (settled 1 p) c
-  settle_ends e hot = rebell e (settled 1 p) c (set ws 2 1) true e.shared.pending e.shared.flag_back e.shared.pending_back refl refl refl refl refl refl (ap (λ (z : List ℕ). set z 2 1) e.shared.words_are)
+  pub settle_ends : (e : EndsHold kind n ws hs p c) → p.ringer ≡ Rung.Hot → EndsHold kind n (set ws 2 1) hs (after_settle 1 p) c
+  settle_ends e hot = rebell e (after_settle 1 p) c (set ws 2 1) true e.shared.pending e.shared.flag_back e.shared.pending_back refl refl refl refl refl refl (ap (λ (z : List ℕ). set z 2 1) e.shared.words_are)
       (settle_holds (bell e.shared.flag e.shared.pending c.waiter p.ringer) (nat_lt 0 (length e.lists.left)) (length p.entries) hot e.shared.forward) e.shared.backward
 
-  pub ring_ends : (e : EndsHold kind n ws hs p c) → p.ringer ≡ Rung.Ringing → EndsHold kind n (set ws 3 1) hs (rung 1 p) c
-  ring_ends e on = rebell e (rung 1 p) c (set ws 3 1) e.shared.flag true e.shared.flag_back e.shared.pending_back refl refl refl refl refl refl (ap (λ (z : List ℕ). set z 3 1) e.shared.words_are)
+  pub ring_ends : (e : EndsHold kind n ws hs p c) → p.ringer ≡ Rung.Ringing → EndsHold kind n (set ws 3 1) hs (after_ring 1 p) c
+  ring_ends e on = rebell e (after_ring 1 p) c (set ws 3 1) e.shared.flag true e.shared.flag_back e.shared.pending_back refl refl refl refl refl refl (ap (λ (z : List ℕ). set z 3 1) e.shared.words_are)
       (ring_holds (bell e.shared.flag e.shared.pending c.waiter p.ringer) (nat_lt 0 (length e.lists.left)) (length p.entries) on e.shared.forward) e.shared.backward
 
   -- the backward bell's calls
@@ -311,30 +311,30 @@ module _ (kind : QueueKind) (n : ℕ) (ws : List ℕ) (hs : List (maybe.Option S
   waive_back_ends e = rebell e (waived 1 p) c (set ws 4 1) e.shared.flag e.shared.pending true e.shared.pending_back refl refl refl refl refl refl (ap (λ (z : List ℕ). set z 4 1) e.shared.words_are) e.shared.forward
       (waive_holds (bell e.shared.flag_back e.shared.pending_back p.waiter c.ringer) (nat_lt (length e.lists.left) n) (length c.entries) e.shared.backward)
 
-  wake_back_goes : (e : EndsHold kind n ws hs p c) (b : Bool) → e.shared.pending_back ≡ b → EndsHold kind n (set ws 5 0) hs (woken 5 (bit b) p) c
-  wake_back_goes e true is = rebell e (woken 5 1 p) c (set ws 5 0) e.shared.flag e.shared.pending e.shared.flag_back false refl refl refl refl refl refl (ap (λ (z : List ℕ). set z 5 0) e.shared.words_are) e.shared.forward
+  wake_back_goes : (e : EndsHold kind n ws hs p c) (b : Bool) → e.shared.pending_back ≡ b → EndsHold kind n (set ws 5 0) hs (after_wake 5 (bit b) p) c
+  wake_back_goes e true is = rebell e (after_wake 5 1 p) c (set ws 5 0) e.shared.flag e.shared.pending e.shared.flag_back false refl refl refl refl refl refl (ap (λ (z : List ℕ). set z 5 0) e.shared.words_are) e.shared.forward
       (wake_holds (bell e.shared.flag_back e.shared.pending_back p.waiter c.ringer) (nat_lt (length e.lists.left) n) (length c.entries) true is e.shared.backward)
-  wake_back_goes e false is = rebell e (woken 5 0 p) c (set ws 5 0) e.shared.flag e.shared.pending e.shared.flag_back false refl refl refl refl refl refl (ap (λ (z : List ℕ). set z 5 0) e.shared.words_are) e.shared.forward
+  wake_back_goes e false is = rebell e (after_wake 5 0 p) c (set ws 5 0) e.shared.flag e.shared.pending e.shared.flag_back false refl refl refl refl refl refl (ap (λ (z : List ℕ). set z 5 0) e.shared.words_are) e.shared.forward
       (subst (λ (z : Bool). BellHolds (backward_bell e.shared.flag_back z p c) (nat_lt (length e.lists.left) n) (length c.entries)) is e.shared.backward)
 
-  pub wake_back_ends : (e : EndsHold kind n ws hs p c) → EndsHold kind n (set ws 5 0) hs (woken 5 (slice_index ws 5) p) c
-  wake_back_ends e = subst (λ (z : ℕ). EndsHold kind n (set ws 5 0) hs (woken 5 z p) c) (ap (λ (z : List ℕ). slice_index z 5) (sym e.shared.words_are)) (wake_back_goes e e.shared.pending_back refl)
+  pub wake_back_ends : (e : EndsHold kind n ws hs p c) → EndsHold kind n (set ws 5 0) hs (after_wake 5 (slice_index ws 5) p) c
+  wake_back_ends e = subst (λ (z : ℕ). EndsHold kind n (set ws 5 0) hs (after_wake 5 z p) c) (ap (λ (z : List ℕ). slice_index z 5) (sym e.shared.words_are)) (wake_back_goes e e.shared.pending_back refl)
 
-  wanted_back_goes : (e : EndsHold kind n ws hs p c) (b : Bool) → c.ringer ≡ Rung.Put → e.shared.flag_back ≡ b → EndsHold kind n ws hs p (wanted 4 (bit b) c)
-  wanted_back_goes e true put is = rebell e p (wanted 4 1 c) ws e.shared.flag e.shared.pending e.shared.flag_back e.shared.pending_back refl refl refl refl refl refl e.shared.words_are e.shared.forward
+  wanted_back_goes : (e : EndsHold kind n ws hs p c) (b : Bool) → c.ringer ≡ Rung.Put → e.shared.flag_back ≡ b → EndsHold kind n ws hs p (after_wanted 4 (bit b) c)
+  wanted_back_goes e true put is = rebell e p (after_wanted 4 1 c) ws e.shared.flag e.shared.pending e.shared.flag_back e.shared.pending_back refl refl refl refl refl refl e.shared.words_are e.shared.forward
       (wanted_holds (bell e.shared.flag_back e.shared.pending_back p.waiter c.ringer) (nat_lt (length e.lists.left) n) (length c.entries) true is put e.shared.backward)
-  wanted_back_goes e false put is = rebell e p (wanted 4 0 c) ws e.shared.flag e.shared.pending e.shared.flag_back e.shared.pending_back refl refl refl refl refl refl e.shared.words_are e.shared.forward
+  wanted_back_goes e false put is = rebell e p (after_wanted 4 0 c) ws e.shared.flag e.shared.pending e.shared.flag_back e.shared.pending_back refl refl refl refl refl refl e.shared.words_are e.shared.forward
       (wanted_holds (bell e.shared.flag_back e.shared.pending_back p.waiter c.ringer) (nat_lt (length e.lists.left) n) (length c.entries) false is put e.shared.backward)
 
-  pub wanted_back_ends : (e : EndsHold kind n ws hs p c) → c.ringer ≡ Rung.Put → EndsHold kind n (set ws 4 (slice_index ws 4)) hs p (wanted 4 (slice_index ws 4) c)
-  wanted_back_ends e put = subst (λ (z : ℕ × List ℕ). EndsHold kind n z.1 hs p (wanted 4 z.0 c)) (λ k. (ap (λ (z : List ℕ). slice_index z 4) (sym e.shared.words_are) k, sym (ap (λ (z : List ℕ). set z 4 (slice_index z 4)) e.shared.words_are ∙ sym e.shared.words_are) k)) (wanted_back_goes e e.shared.flag_back put refl)
+  pub wanted_back_ends : (e : EndsHold kind n ws hs p c) → c.ringer ≡ Rung.Put → EndsHold kind n (set ws 4 (slice_index ws 4)) hs p (after_wanted 4 (slice_index ws 4) c)
+  wanted_back_ends e put = subst (λ (z : ℕ × List ℕ). EndsHold kind n z.1 hs p (after_wanted 4 z.0 c)) (λ k. (ap (λ (z : List ℕ). slice_index z 4) (sym e.shared.words_are) k, sym (ap (λ (z : List ℕ). set z 4 (slice_index z 4)) e.shared.words_are ∙ sym e.shared.words_are) k)) (wanted_back_goes e e.shared.flag_back put refl)
 
-  pub settle_back_ends : (e : EndsHold kind n ws hs p c) → c.ringer ≡ Rung.Hot → EndsHold kind n (set ws 4 1) hs p (settled 1 c)
-  settle_back_ends e hot = rebell e p (settled 1 c) (set ws 4 1) e.shared.flag e.shared.pending true e.shared.pending_back refl refl refl refl refl refl (ap (λ (z : List ℕ). set z 4 1) e.shared.words_are) e.shared.forward
+  pub settle_back_ends : (e : EndsHold kind n ws hs p c) → c.ringer ≡ Rung.Hot → EndsHold kind n (set ws 4 1) hs p (after_settle 1 c)
+  settle_back_ends e hot = rebell e p (after_settle 1 c) (set ws 4 1) e.shared.flag e.shared.pending true e.shared.pending_back refl refl refl refl refl refl (ap (λ (z : List ℕ). set z 4 1) e.shared.words_are) e.shared.forward
       (settle_holds (bell e.shared.flag_back e.shared.pending_back p.waiter c.ringer) (nat_lt (length e.lists.left) n) (length c.entries) hot e.shared.backward)
 
-  pub ring_back_ends : (e : EndsHold kind n ws hs p c) → c.ringer ≡ Rung.Ringing → EndsHold kind n (set ws 5 1) hs p (rung 1 c)
-  ring_back_ends e on = rebell e p (rung 1 c) (set ws 5 1) e.shared.flag e.shared.pending e.shared.flag_back true refl refl refl refl refl refl (ap (λ (z : List ℕ). set z 5 1) e.shared.words_are) e.shared.forward
+  pub ring_back_ends : (e : EndsHold kind n ws hs p c) → c.ringer ≡ Rung.Ringing → EndsHold kind n (set ws 5 1) hs p (after_ring 1 c)
+  ring_back_ends e on = rebell e p (after_ring 1 c) (set ws 5 1) e.shared.flag e.shared.pending e.shared.flag_back true refl refl refl refl refl refl (ap (λ (z : List ℕ). set z 5 1) e.shared.words_are) e.shared.forward
       (ring_holds (bell e.shared.flag_back e.shared.pending_back p.waiter c.ringer) (nat_lt (length e.lists.left) n) (length c.entries) on e.shared.backward)
 
   -- new grants and slots, with the same entries, kinds, waiters and ringers
@@ -364,22 +364,22 @@ module _ (kind : QueueKind) (n : ℕ) (ws : List ℕ) (hs : List (maybe.Option S
   }
 
   -- a granted slot of the producer goes home
-  home_goes : (e : EndsHold kind n ws hs p c) (g : Option Slot) → p.grant ≡ g → EndsHold kind n ws (homes_after hs (held g (length p.entries % n)) gives) (sent_home p) c
+  home_goes : (e : EndsHold kind n ws hs p c) (g : Option Slot) → p.grant ≡ g → EndsHold kind n ws (homes_after hs (slots_held g (length p.entries % n)) gives) (sent_home p) c
   home_goes e None is = regrant e (sent_home p) c hs refl refl refl refl refl refl refl refl (subst (λ (z : Option Slot). SlotsHold n hs (length c.entries) e.lists.left z c.grant) is e.lists.slots)
   home_goes e (Some y) is = let slots = subst (λ (z : Option Slot). SlotsHold n hs (length c.entries) e.lists.left z c.grant) is e.lists.slots in let y_is : y ≡ None = (slots.to_producer y refl).0 in
       regrant e (sent_home p) c (set hs (length p.entries % n) (some y)) refl refl refl refl refl refl refl refl
       (subst (λ (z : Slot). SlotsHold n (set hs (length p.entries % n) (some z)) (length c.entries) e.lists.left None c.grant) (sym y_is) (room_comes_back n (length c.entries) hs e.lists.left c.grant (length p.entries % n) (last_place e) (subst (λ (z : Slot). SlotsHold n hs (length c.entries) e.lists.left (Some z) c.grant) y_is slots)))
 
-  pub home_ends : (e : EndsHold kind n ws hs p c) → EndsHold kind n ws (homes_after hs (held p.grant (length p.entries % n)) gives) (sent_home p) c
+  pub home_ends : (e : EndsHold kind n ws hs p c) → EndsHold kind n ws (homes_after hs (slots_held p.grant (length p.entries % n)) gives) (sent_home p) c
   home_ends e = home_goes e p.grant refl
 
   -- a granted slot of the consumer goes home
-  home_back_goes : (e : EndsHold kind n ws hs p c) (g : Option Slot) → c.grant ≡ g → EndsHold kind n ws (homes_after hs (held g (length c.entries % n)) gives) p (sent_home c)
+  home_back_goes : (e : EndsHold kind n ws hs p c) (g : Option Slot) → c.grant ≡ g → EndsHold kind n ws (homes_after hs (slots_held g (length c.entries % n)) gives) p (sent_home c)
   home_back_goes e None is = regrant e p (sent_home c) hs refl refl refl refl refl refl refl refl (subst (λ (z : Option Slot). SlotsHold n hs (length c.entries) e.lists.left p.grant z) is e.lists.slots)
   home_back_goes e (Some y) is = let t : ℕ = length c.entries in let i : ℕ = t % n in let o = e.lists.slots.to_consumer y is in let x : Cargo = o.0 in let xs : List Cargo = drop 1 e.lists.left in
       let slots = subst (λ (z : Option Slot × List Cargo). SlotsHold n hs t z.1 p.grant z.0) (λ k. ((is ∙ ap (λ (z : Slot). Some z) o.1) k, o.2 k)) e.lists.slots in
       regrant e p (sent_home c) (set hs i (some y)) refl refl refl refl refl refl refl refl
       (subst (λ (z : Slot × List Cargo). SlotsHold n (set hs i (some z.0)) t z.1 p.grant None) (λ k. (sym o.1 k, sym o.2 k)) (entry_comes_back n t hs x xs p.grant i (ap (λ (z : ℕ). z % n) (let z : t ≡ t + 0 = omega arith in z)) slots))
 
-  pub home_back_ends : (e : EndsHold kind n ws hs p c) → EndsHold kind n ws (homes_after hs (held c.grant (length c.entries % n)) gives) p (sent_home c)
+  pub home_back_ends : (e : EndsHold kind n ws hs p c) → EndsHold kind n ws (homes_after hs (slots_held c.grant (length c.entries % n)) gives) p (sent_home c)
   home_back_ends e = home_back_goes e c.grant refl

@@ -14,7 +14,7 @@ use Rattle.wire_core.specs.Ends.{Condition, role_of}
 use Rattle.wire_core.specs.Queues.{Queue, queue_after}
 use Rattle.spsc_queue.specs.declared.view.Half.{Half}
 use Rattle.spsc_queue.specs.Rule.{Slot, wrap, ListsHold, EndsHold}
-use Rattle.spsc_queue.specs.Steps.{empty_if, looked, Granted, tells_room, tells_entry, sent_one, took_one, woken, wanted, known_end, CallDid}
+use Rattle.spsc_queue.specs.Steps.{empty_if, after_look, Granted, tells_room, tells_entry, sent_one, took_one, after_wake, after_wanted, known_end, CallDid}
 use Rattle.spsc_queue.specs.Shown.{ring_queue, half_of, words_after, read_by, IsEvent}
 use Rattle.spsc_queue.proofs.Looks.{room_tells, entry_tells}
 use Rattle.spsc_queue.proofs.Calls.{granted_some}
@@ -52,11 +52,11 @@ module _ (kind : QueueKind) (n : ℕ) (hs : List (maybe.Option Slot)) (p c : Hal
   room_answers : tells_room n (length p.entries) (wrap (length c.entries)) ≡ nat_lt (length (drop (length c.entries) p.entries)) n
   room_answers = ap (λ (z : ℕ). tells_room n z (wrap (length c.entries))) counts ∙ (room_tells n (length c.entries) (length l.left) l.slots.within l.few ∙ ap (λ (z : List Cargo). nat_lt (length z) n) (sym left_is))
 
-  see_after : (b : Bool) (r : ℕ) (g : Option Slot) → Granted c.kind b g → ring_queue kind n words p (looked b 1 r g c) ≡ queue_after shown Do.See (answer_of b) []
-  see_after true r g h = subst (λ (z : Option Slot). ring_queue kind n words p (looked true 1 r z c) ≡ queue_after shown Do.See (answer_of true) []) (sym h.1) refl
-  see_after false r g h = subst (λ (z : Option Slot). ring_queue kind n words p (looked false 1 r z c) ≡ queue_after shown Do.See (answer_of false) []) (sym h) refl
+  see_after : (b : Bool) (r : ℕ) (g : Option Slot) → Granted c.kind b g → ring_queue kind n words p (after_look b 1 r g c) ≡ queue_after shown Do.See (answer_of b) []
+  see_after true r g h = subst (λ (z : Option Slot). ring_queue kind n words p (after_look true 1 r z c) ≡ queue_after shown Do.See (answer_of true) []) (sym h.1) refl
+  see_after false r g h = subst (λ (z : Option Slot). ring_queue kind n words p (after_look false 1 r z c) ≡ queue_after shown Do.See (answer_of false) []) (sym h) refl
 
-  room_after : (b : Bool) (r : ℕ) → ring_queue kind n words (looked b 0 r (empty_if b) p) c ≡ queue_after shown Do.Room (answer_of b) []
+  room_after : (b : Bool) (r : ℕ) → ring_queue kind n words (after_look b 0 r (empty_if b) p) c ≡ queue_after shown Do.Room (answer_of b) []
   room_after true r = refl
   room_after false r = refl
 
@@ -67,19 +67,19 @@ module _ (kind : QueueKind) (n : ℕ) (hs : List (maybe.Option Slot)) (p c : Hal
   put_after : (x : Cargo) → ring_queue kind n (words_after words p Do.Put) (sent_one x p) c ≡ queue_after shown Do.Put Done (x ∷ [])
   put_after x = let k = counts in let within : length c.entries ≤ length p.entries = omega arith in ap (λ (z : List Cargo). record (queue_after shown Do.Put Done (x ∷ [])) { entries = z }) (drop_short (length c.entries) p.entries (x ∷ []) within)
 
-  wake_after : (b : Bool) → b ≡ pending → ring_queue kind n (words_after words c (Do.Wake Forward)) p (woken 3 (bit b) c) ≡ queue_after shown (Do.Wake Forward) (answer_of (nat_eq (bit b) 1)) []
+  wake_after : (b : Bool) → b ≡ pending → ring_queue kind n (words_after words c (Do.Wake Forward)) p (after_wake 3 (bit b) c) ≡ queue_after shown (Do.Wake Forward) (answer_of (nat_eq (bit b) 1)) []
   wake_after true is = refl
   wake_after false is = ap (λ (z : Bool). record (queue_after shown (Do.Wake Forward) (answer_of false) []) { bells = record shown.bells { forward = record shown.bells.forward { pending = nat_eq (bit z) 1 } } }) is
 
-  wake_back_after : (b : Bool) → b ≡ pending_back → ring_queue kind n (words_after words p (Do.Wake Backward)) (woken 5 (bit b) p) c ≡ queue_after shown (Do.Wake Backward) (answer_of (nat_eq (bit b) 1)) []
+  wake_back_after : (b : Bool) → b ≡ pending_back → ring_queue kind n (words_after words p (Do.Wake Backward)) (after_wake 5 (bit b) p) c ≡ queue_after shown (Do.Wake Backward) (answer_of (nat_eq (bit b) 1)) []
   wake_back_after true is = refl
   wake_back_after false is = ap (λ (z : Bool). record (queue_after shown (Do.Wake Backward) (answer_of false) []) { bells = record shown.bells { backward = record shown.bells.backward { pending = nat_eq (bit z) 1 } } }) is
 
-  wanted_after : (b : Bool) → ring_queue kind n words (wanted 2 (bit b) p) c ≡ queue_after shown (Do.Wanted Forward) (answer_of (nat_eq (bit b) 0)) []
+  wanted_after : (b : Bool) → ring_queue kind n words (after_wanted 2 (bit b) p) c ≡ queue_after shown (Do.Wanted Forward) (answer_of (nat_eq (bit b) 0)) []
   wanted_after true = refl
   wanted_after false = refl
 
-  wanted_back_after : (b : Bool) → ring_queue kind n words p (wanted 4 (bit b) c) ≡ queue_after shown (Do.Wanted Backward) (answer_of (nat_eq (bit b) 0)) []
+  wanted_back_after : (b : Bool) → ring_queue kind n words p (after_wanted 4 (bit b) c) ≡ queue_after shown (Do.Wanted Backward) (answer_of (nat_eq (bit b) 0)) []
   wanted_back_after true = refl
   wanted_back_after false = refl
 

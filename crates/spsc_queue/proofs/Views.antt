@@ -13,7 +13,7 @@ use Rattle.wire_core.specs.Ends.{is_clear, is_free_or_put}
 use Rattle.spsc_queue.specs.declared.view.Half.{Half}
 use Rattle.spsc_queue.specs.declared.view.View.{View}
 use Rattle.spsc_queue.specs.Rule.{Slot, wrap, EndsHold, RingHolds}
-use Rattle.spsc_queue.specs.Steps.{Seated, held, roomed, put_done, tells_room, room_told, sent_one, with_producer, with_consumer, see_told, took_one, take_done, seen, tells_entry, Granted, producing_part, consuming_part, whole, memory_of, spent, sent_home, producer_home, consumer_home}
+use Rattle.spsc_queue.specs.Steps.{Seated, slots_held, room_done, put_done, tells_room, room_told, sent_one, with_producer, with_consumer, see_told, took_one, take_done, see_done, tells_entry, Granted, producing_part, consuming_part, whole, memory_of, spent, sent_home, producer_home, consumer_home}
 use Rattle.spsc_queue.proofs.Places.{below, one_more}
 use Rattle.spsc_queue.proofs.Ends.{LooksRoom, room_step, put_ends, LooksEntry, see_step, take_ends, home_ends, home_back_ends}
 
@@ -131,8 +131,8 @@ module _ (kind : QueueKind) (slots id : ℕ) (me : Seated) where
   producer_ends : (s : State Slot View) (r : RingHolds kind s) → length s.homes ≡ slots → get_elem? s.views id ≡ some me.0 → me.0.produces ≡ true → EndsHold kind slots s.words s.homes me.0.producer r.consuming.consumer
   producer_ends s r size at does = subst (λ (z : ℕ × View). EndsHold kind z.0 s.words s.homes z.1.producer r.consuming.consumer) (λ k. (size k, producer_is kind s r id me.0 at does k)) r.ends
 
-  pub room_allowed : me.0.produces ≡ true → me.0.consumes ≡ false → is_clear me.0.producer.waiter ≡ false → me.1 ≡ held me.0.producer.grant (length me.0.producer.entries % slots)
-      → Allows (RingHolds kind) slots id me 0 (λ n. n) (roomed (step slots 0 0 0 none) me)
+  pub room_allowed : me.0.produces ≡ true → me.0.consumes ≡ false → is_clear me.0.producer.waiter ≡ false → me.1 ≡ slots_held me.0.producer.grant (length me.0.producer.entries % slots)
+      → Allows (RingHolds kind) slots id me 0 (λ n. n) (room_done (step slots 0 0 0 none) me)
   room_allowed does not calm holding s r size at bound =
       let e = producer_ends s r size at does in let p : Half = me.0.producer in let c : Half = r.consuming.consumer in let t : ℕ = wrap (length c.entries) in let x : ℕ = slice_index s.words 0 in
       let word : t ≡ x = ap (λ (z : List ℕ). slice_index z 0) (sym e.shared.words_are) in
@@ -185,8 +185,8 @@ module _ (kind : QueueKind) (slots id : ℕ) (me : Seated) where
     (refl, refl),
   )
 
-  pub see_allowed : me.0.consumes ≡ true → me.0.produces ≡ false → is_clear me.0.consumer.waiter ≡ false → me.1 ≡ held me.0.consumer.grant (length me.0.consumer.entries % slots)
-      → Allows (RingHolds kind) slots id me 1 (λ n. n) (seen (step slots 1 0 0 none) me)
+  pub see_allowed : me.0.consumes ≡ true → me.0.produces ≡ false → is_clear me.0.consumer.waiter ≡ false → me.1 ≡ slots_held me.0.consumer.grant (length me.0.consumer.entries % slots)
+      → Allows (RingHolds kind) slots id me 1 (λ n. n) (see_done (step slots 1 0 0 none) me)
   see_allowed does not calm holding s r size at bound = let e = consumer_ends s r size at does in let c : Half = me.0.consumer in let p : Half = r.producing.producer in let t : ℕ = wrap (length p.entries) in let x : ℕ = slice_index s.words 1 in
       let word : t ≡ x = ap (λ (z : List ℕ). slice_index z 1) (sym e.shared.words_are) in let same : set s.words 1 x ≡ s.words = ap (λ (z : List ℕ). set z 1 (slice_index z 1)) e.shared.words_are ∙ sym e.shared.words_are in
       let go : LooksEntry kind slots s.words s.homes p c (tells_entry (length c.entries) x) x me.1 =
@@ -210,11 +210,11 @@ module _ (kind : QueueKind) (slots id : ℕ) (me : Seated) where
     (λ y other. (ap (λ (z : Cargo). with_consumer me.0 (took_one z c)) (same_grant x y (sym gr ∙ other)), ap (λ (z : List (ℕ × Slot)). rest z) holding)),
   )
 
-  rest_held : (g : Option Slot) (i : ℕ) → rest (held g i) ≡ []
+  rest_held : (g : Option Slot) (i : ℕ) → rest (slots_held g i) ≡ []
   rest_held None i = refl
   rest_held (Some y) i = refl
 
-  pub home_allowed : me.0.produces ≡ true → me.0.consumes ≡ false → me.1 ≡ held me.0.producer.grant (length me.0.producer.entries % slots) → Allows (RingHolds kind) slots id me 1 (λ n. n) (producer_home (step slots 1 0 0 none) me)
+  pub home_allowed : me.0.produces ≡ true → me.0.consumes ≡ false → me.1 ≡ slots_held me.0.producer.grant (length me.0.producer.entries % slots) → Allows (RingHolds kind) slots id me 1 (λ n. n) (producer_home (step slots 1 0 0 none) me)
   home_allowed does not holding s r size at bound = let e = producer_ends s r size at does in let p : Half = me.0.producer in let c : Half = r.consuming.consumer in let x : ℕ = slice_index s.words 1 in
       let same : set s.words 1 x ≡ s.words = ap (λ (z : List ℕ). set z 1 (slice_index z 1)) e.shared.words_are ∙ sym e.shared.words_are in (
         with_producer me.0 (sent_home p),
@@ -225,7 +225,7 @@ module _ (kind : QueueKind) (slots id : ℕ) (me : Seated) where
         (refl, ap (λ (z : List (ℕ × Slot)). rest z) holding ∙ rest_held p.grant (length p.entries % slots)),
       )
 
-  pub home_back_allowed : me.0.consumes ≡ true → me.0.produces ≡ false → me.1 ≡ held me.0.consumer.grant (length me.0.consumer.entries % slots) → Allows (RingHolds kind) slots id me 0 (λ n. n) (consumer_home (step slots 0 0 0 none) me)
+  pub home_back_allowed : me.0.consumes ≡ true → me.0.produces ≡ false → me.1 ≡ slots_held me.0.consumer.grant (length me.0.consumer.entries % slots) → Allows (RingHolds kind) slots id me 0 (λ n. n) (consumer_home (step slots 0 0 0 none) me)
   home_back_allowed does not holding s r size at bound = let e = consumer_ends s r size at does in let c : Half = me.0.consumer in let p : Half = r.producing.producer in let x : ℕ = slice_index s.words 0 in
       let same : set s.words 0 x ≡ s.words = ap (λ (z : List ℕ). set z 0 (slice_index z 0)) e.shared.words_are ∙ sym e.shared.words_are in (
         with_consumer me.0 (sent_home c),

@@ -22,9 +22,9 @@ abbrev pub Seated : Type 0
 Seated = Me Slot View
 
 -- the slots that an end holds
-abbrev pub held : Option Slot → ℕ → List (ℕ × Slot)
-held None k = []
-held (Some y) k = (k, y) ∷ []
+abbrev pub slots_held : Option Slot → ℕ → List (ℕ × Slot)
+slots_held None k = []
+slots_held (Some y) k = (k, y) ∷ []
 
 -- What `room` answers where it reads this head. The queue is full where the tail is n ahead of it.
 abbrev pub tells_room : ℕ → ℕ → ℕ → Bool
@@ -40,8 +40,8 @@ noes_more true n = n
 noes_more false n = n + 1
 
 -- the end after a look at the word w, which held r
-abbrev pub looked : Bool → ℕ → ℕ → Option Slot → Half → Half
-looked b w r g h = record h { waiter = looked_waiter h.waiter (answer_of b); grant = g; noes = noes_more b h.noes; steps = h.steps + 1; last_word = w; last_value = r }
+abbrev pub after_look : Bool → ℕ → ℕ → Option Slot → Half → Half
+after_look b w r g h = record h { waiter = looked_waiter h.waiter (answer_of b); grant = g; noes = noes_more b h.noes; steps = h.steps + 1; last_word = w; last_value = r }
 
 -- an empty slot is granted where the look answers yes
 abbrev pub empty_if : Bool → Option Slot
@@ -58,11 +58,11 @@ with_consumer v h = record v { consumer = h }
 
 -- the producer after a look for room that read r
 abbrev pub room_told : ℕ → Half → ℕ → Half
-room_told n h r = looked (tells_room n (length h.entries) r) 0 r (empty_if (tells_room n (length h.entries) r)) h
+room_told n h r = after_look (tells_room n (length h.entries) r) 0 r (empty_if (tells_room n (length h.entries) r)) h
 
 -- the step of `room`: a load of the head, which grants the slot at the tail where it answers yes
-abbrev pub roomed : Step Slot → Seated → ℕ → Seated → Type 0
-roomed st m r m' = (r < 65536) × (m'.0 ≡ with_producer m.0 (room_told st.slots m.0.producer r)) × (m'.1 ≡ held m'.0.producer.grant (length m.0.producer.entries % st.slots))
+abbrev pub room_done : Step Slot → Seated → ℕ → Seated → Type 0
+room_done st m r m' = (r < 65536) × (m'.0 ≡ with_producer m.0 (room_told st.slots m.0.producer r)) × (m'.1 ≡ slots_held m'.0.producer.grant (length m.0.producer.entries % st.slots))
 
 -- the producer after a put
 abbrev pub sent_one : Cargo → Half → Half
@@ -83,12 +83,12 @@ GrantedKind kind g = (g ≢ Some None) × ((x : Cargo) → g ≡ Some (Some x) �
 
 -- the consumer after a look for an entry that read r
 abbrev pub see_told : Option Slot → Half → ℕ → Half
-see_told g h r = looked (tells_entry (length h.entries) r) 1 r g h
+see_told g h r = after_look (tells_entry (length h.entries) r) 1 r g h
 
 -- the step of `see`: a load of the tail, which grants the slot at the head where it answers yes
-abbrev pub seen : Step Slot → Seated → ℕ → Seated → Type 0
-seen st m r m' = (g : Option Slot) × Granted m.0.consumer.kind (tells_entry (length m.0.consumer.entries) r) g
-    × (m'.0 ≡ with_consumer m.0 (see_told g m.0.consumer r)) × (m'.1 ≡ held g (length m.0.consumer.entries % st.slots))
+abbrev pub see_done : Step Slot → Seated → ℕ → Seated → Type 0
+see_done st m r m' = (g : Option Slot) × Granted m.0.consumer.kind (tells_entry (length m.0.consumer.entries) r) g
+    × (m'.0 ≡ with_consumer m.0 (see_told g m.0.consumer r)) × (m'.1 ≡ slots_held g (length m.0.consumer.entries % st.slots))
 
 -- the consumer after a take
 abbrev pub took_one : Cargo → Half → Half
@@ -115,20 +115,20 @@ abbrev pub waived : ℕ → Half → Half
 waived r h = record h { waiter = Wait.Off; steps = h.steps + 1 }
 
 -- a swap of the word w with 0
-abbrev pub woken : ℕ → ℕ → Half → Half
-woken w r h = record h { waiter = woken_waiter h.waiter (answer_of (nat_eq r 1)); steps = h.steps + 1; last_word = w; last_value = r }
+abbrev pub after_wake : ℕ → ℕ → Half → Half
+after_wake w r h = record h { waiter = woken_waiter h.waiter (answer_of (nat_eq r 1)); steps = h.steps + 1; last_word = w; last_value = r }
 
 -- a load of the word w
-abbrev pub wanted : ℕ → ℕ → Half → Half
-wanted w r h = record h { ringer = wanted_ringer (answer_of (nat_eq r 0)); steps = h.steps + 1; last_word = w; last_value = r }
+abbrev pub after_wanted : ℕ → ℕ → Half → Half
+after_wanted w r h = record h { ringer = wanted_ringer (answer_of (nat_eq r 0)); steps = h.steps + 1; last_word = w; last_value = r }
 
 -- a store of 1 to the flag, by the ringer
-abbrev pub settled : ℕ → Half → Half
-settled r h = record h { ringer = Rung.Ringing; steps = h.steps + 1 }
+abbrev pub after_settle : ℕ → Half → Half
+after_settle r h = record h { ringer = Rung.Ringing; steps = h.steps + 1 }
 
 -- a store of 1 to the pending word
-abbrev pub rung : ℕ → Half → Half
-rung r h = record h { ringer = Rung.Free; steps = h.steps + 1 }
+abbrev pub after_ring : ℕ → Half → Half
+after_ring r h = record h { ringer = Rung.Free; steps = h.steps + 1 }
 
 -- a granted slot goes home as it was
 abbrev pub sent_home : Half → Half
@@ -175,12 +175,12 @@ CallDid n h Do.Take r a c h' = (x : Cargo) × (c ≡ x ∷ []) × (h.grant ≡ S
 CallDid n h Do.Put r a c h' = (x : Cargo) × (c ≡ x ∷ []) × (h' ≡ sent_one x h) × (a ≡ Done) × (kind_of x.0 ≡ h.kind)
 CallDid n h (Do.Ask s) r a c h' = (h' ≡ asked 0 h) × (a ≡ Done) × (c ≡ [])
 CallDid n h (Do.Waive s) r a c h' = (h' ≡ waived 1 h) × (a ≡ Done) × (c ≡ [])
-CallDid n h (Do.Wake Forward) r a c h' = (h' ≡ woken 3 r h) × (a ≡ answer_of (nat_eq r 1)) × (c ≡ [])
-CallDid n h (Do.Wake Backward) r a c h' = (h' ≡ woken 5 r h) × (a ≡ answer_of (nat_eq r 1)) × (c ≡ [])
-CallDid n h (Do.Wanted Forward) r a c h' = (h' ≡ wanted 2 r h) × (a ≡ answer_of (nat_eq r 0)) × (c ≡ [])
-CallDid n h (Do.Wanted Backward) r a c h' = (h' ≡ wanted 4 r h) × (a ≡ answer_of (nat_eq r 0)) × (c ≡ [])
-CallDid n h (Do.Settle s) r a c h' = (h' ≡ settled 1 h) × (a ≡ Done) × (c ≡ [])
-CallDid n h (Do.Ring s) r a c h' = (h' ≡ rung 1 h) × (a ≡ Done) × (c ≡ [])
+CallDid n h (Do.Wake Forward) r a c h' = (h' ≡ after_wake 3 r h) × (a ≡ answer_of (nat_eq r 1)) × (c ≡ [])
+CallDid n h (Do.Wake Backward) r a c h' = (h' ≡ after_wake 5 r h) × (a ≡ answer_of (nat_eq r 1)) × (c ≡ [])
+CallDid n h (Do.Wanted Forward) r a c h' = (h' ≡ after_wanted 2 r h) × (a ≡ answer_of (nat_eq r 0)) × (c ≡ [])
+CallDid n h (Do.Wanted Backward) r a c h' = (h' ≡ after_wanted 4 r h) × (a ≡ answer_of (nat_eq r 0)) × (c ≡ [])
+CallDid n h (Do.Settle s) r a c h' = (h' ≡ after_settle 1 h) × (a ≡ Done) × (c ≡ [])
+CallDid n h (Do.Ring s) r a c h' = (h' ≡ after_ring 1 h) × (a ≡ Done) × (c ≡ [])
 
 -- the same, where what was read is what the end remembers as its last read
 abbrev pub EndDid : ℕ → Half → Op → Answer → List Cargo → Half → Type 0

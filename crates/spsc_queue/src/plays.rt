@@ -1,5 +1,5 @@
 //! What each kind of step on a ring tells the end that makes it, and how the first seat is split and the last is joined.
-ghost use Rattle.spsc_queue.specs.Steps.{roomed, put_done, seen, take_done, producer_turned, consumer_turned, asked, waived, woken, wanted, settled, rung, producer_home, consumer_home, producing_part, consuming_part, whole, memory_of, spent};
+ghost use Rattle.spsc_queue.specs.Steps.{room_done, put_done, see_done, take_done, producer_turned, consumer_turned, asked, waived, after_wake, after_wanted, after_settle, after_ring, producer_home, consumer_home, producing_part, consuming_part, whole, memory_of, spent};
 
 use crate::rule::Slot;
 use crate::view::View;
@@ -8,7 +8,7 @@ use atomic_table::{Join, Play, Split};
 pub(crate) struct Room;
 
 impl Play<Slot, View> for Room {
-    ghost then = { roomed };
+    ghost then = { room_done };
 }
 
 pub(crate) struct Put;
@@ -20,7 +20,7 @@ impl Play<Slot, View> for Put {
 pub(crate) struct See;
 
 impl Play<Slot, View> for See {
-    ghost then = { seen };
+    ghost then = { see_done };
 }
 
 pub(crate) struct Take;
@@ -44,25 +44,25 @@ impl Play<Slot, View> for Waive {
 pub(crate) struct Wake;
 
 impl Play<Slot, View> for Wake {
-    ghost then = { consumer_turned (woken 3) };
+    ghost then = { consumer_turned (after_wake 3) };
 }
 
 pub(crate) struct Wanted;
 
 impl Play<Slot, View> for Wanted {
-    ghost then = { producer_turned (wanted 2) };
+    ghost then = { producer_turned (after_wanted 2) };
 }
 
 pub(crate) struct Settle;
 
 impl Play<Slot, View> for Settle {
-    ghost then = { producer_turned settled };
+    ghost then = { producer_turned after_settle };
 }
 
 pub(crate) struct Ring;
 
 impl Play<Slot, View> for Ring {
-    ghost then = { producer_turned rung };
+    ghost then = { producer_turned after_ring };
 }
 
 pub(crate) struct AskBack;
@@ -80,25 +80,25 @@ impl Play<Slot, View> for WaiveBack {
 pub(crate) struct WakeBack;
 
 impl Play<Slot, View> for WakeBack {
-    ghost then = { producer_turned (woken 5) };
+    ghost then = { producer_turned (after_wake 5) };
 }
 
 pub(crate) struct WantedBack;
 
 impl Play<Slot, View> for WantedBack {
-    ghost then = { consumer_turned (wanted 4) };
+    ghost then = { consumer_turned (after_wanted 4) };
 }
 
 pub(crate) struct SettleBack;
 
 impl Play<Slot, View> for SettleBack {
-    ghost then = { consumer_turned settled };
+    ghost then = { consumer_turned after_settle };
 }
 
 pub(crate) struct RingBack;
 
 impl Play<Slot, View> for RingBack {
-    ghost then = { consumer_turned rung };
+    ghost then = { consumer_turned after_ring };
 }
 
 pub(crate) struct ProducerHome;

@@ -3,7 +3,7 @@ use Rattle.std.specs.Option.{option_and_then}
 use Rattle.trace_text.specs.declared.reader.Reader.{Reader}
 use Rattle.trace_text.specs.Texts.{number_of, data_of}
 use Rattle.trace_text.specs.Events.{Event, kept_if, with_number, with_data}
-use Rattle.trace_text.specs.Reading.{judged, is_refused, grown}
+use Rattle.trace_text.specs.Reading.{judged, is_refused, reader_after}
 
 -- why an event isn't taken
 abbrev pub Fails : Reader → Bool → Event → Type 0
@@ -25,7 +25,7 @@ kept_none r false event h = refl
 kept_none r true event (inl h) = cc
 kept_none r true event (inr h) = rw h refl
 
-pub kept_taken : (r : Reader) (holds : Bool) (event : Event) → holds ≡ true → is_refused r event ≡ false → judged r (kept_if holds (Some event)) ≡ Some (grown r event)
+pub kept_taken : (r : Reader) (holds : Bool) (event : Event) → holds ≡ true → is_refused r event ≡ false → judged r (kept_if holds (Some event)) ≡ Some (reader_after r event)
 kept_taken r holds event h taken = rw (h, taken) refl
 
 pub and_left : (a b : Bool) → a ≡ false → (a && b) ≡ false

@@ -2,7 +2,7 @@ use Rattle.std.proofs.Common.{◌≡◌, ◌↔◌, ℕ, List, IsTrue, Bor, subs
 use Rattle.class_table.specs.declared.uses.Grant.{Grant}
 use Rattle.class_table.specs.Shown.{Shelved}
 use Rattle.sdf_check.specs.ClassRules.{SomeOf}
-use Rattle.sdf_check.specs.Lookups.{shown}
+use Rattle.sdf_check.specs.Lookups.{names_shown}
 use Rattle.sdf_check.proofs.RowLemmas.{allowed-iff, second-asked}
 use Rattle.sdf_check.proofs.rows.allows.Goals as goal
 
@@ -17,5 +17,5 @@ pub returns-else-must_map : goal.returns-else-must_map
 returns-else-must_map c =
     let both = second-asked c.must_map.result c.is_among.result
     (subst (λ (gs : List (Grant Shelved)). IsTrue c.must_map.result ↔ SomeOf (λ g. g.domain.now ≡ c.args.name.now) gs) c.as_slice.ensures c.must_map.ensures) c.if-must_map.false
-    (subst (λ (ns : List (Bor (List ℕ))). IsTrue c.is_among.result ↔ SomeOf (λ other. other ≡ c.args.name.now) (shown ns)) c.as_slice-else-must_map.ensures c.is_among.ensures) in
+    (subst (λ (ns : List (Bor (List ℕ))). IsTrue c.is_among.result ↔ SomeOf (λ other. other ≡ c.args.name.now) (names_shown ns)) c.as_slice-else-must_map.ensures c.is_among.ensures) in
     (λ t. (allowed-iff c.args.name.now c.args.pool.now).0 (both.0 t), λ s. both.1 ((allowed-iff c.args.name.now c.args.pool.now).1 s))

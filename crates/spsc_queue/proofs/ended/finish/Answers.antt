@@ -10,7 +10,7 @@ use Rattle.wire_core.specs.Deeds.{Cargo}
 use Rattle.spsc_queue.specs.declared.view.View.{View}
 use Rattle.spsc_queue.specs.Known.Ends.{EndIs}
 use Rattle.spsc_queue.specs.Rule.{wrap, Slot, RingHolds, forward_bell, backward_bell}
-use Rattle.spsc_queue.specs.Steps.{Seated, held, whole, with_producer, with_consumer, sent_home}
+use Rattle.spsc_queue.specs.Steps.{Seated, slots_held, whole, with_producer, with_consumer, sent_home}
 use Rattle.spsc_queue.specs.Left.{entries_from}
 use Rattle.spsc_queue.proofs.Closing.{Closing, closes}
 use Rattle.spsc_queue.proofs.Views.{home_allowed, home_back_allowed, joins, remembers}
@@ -21,7 +21,7 @@ load-flag-requires c = let me = c.producer.inside.seat.me in let own : c.produce
   own,
   search rules,
   home_allowed c.ring.inside.table.shared.key c.ring.inside.table.shared.table_id.slots c.producer.inside.seat.id me c.producer.invariant.produces c.producer.invariant.consumes
-      (c.producer.invariant.holding ∙ ap (λ z. held me.0.producer.grant (length me.0.producer.entries % z.slots)) own),
+      (c.producer.invariant.holding ∙ ap (λ z. slots_held me.0.producer.grant (length me.0.producer.entries % z.slots)) own),
 )
 
 pub load-flag-requires-2 : goal.load-flag-requires-2
@@ -29,7 +29,7 @@ load-flag-requires-2 c = let me = c.consumer.inside.seat.me in let own : c.consu
   own,
   search rules,
   home_back_allowed c.ring.inside.table.shared.key c.ring.inside.table.shared.table_id.slots c.consumer.inside.seat.id me c.consumer.invariant.consumes c.consumer.invariant.produces
-      (c.consumer.invariant.holding ∙ ap (λ z. held me.0.consumer.grant (length me.0.consumer.entries % z.slots)) own),
+      (c.consumer.invariant.holding ∙ ap (λ z. slots_held me.0.consumer.grant (length me.0.consumer.entries % z.slots)) own),
 )
 
 pub join_seat-requires : goal.join_seat-requires
