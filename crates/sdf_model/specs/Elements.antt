@@ -13,6 +13,7 @@ use Rattle.sdf_model.specs.Tree.{tables_at, table_at, breaks}
 abbrev pub Seen : Type 0
 Seen = Place × Members
 
+-- an element of a document by its place and the members of its table
 abbrev pub place_and_members : Element → Seen
 place_and_members element = (element.place, table_view element.table.now)
 

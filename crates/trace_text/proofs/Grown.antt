@@ -9,7 +9,7 @@ use Rattle.sdf_plan.specs.declared.plan.Plan.{Plan}
 use Rattle.trace_text.specs.declared.reader.Reader.{Reader}
 use Rattle.trace_text.specs.Events.{Event, net_clients, serial_clients, blk_clients}
 use Rattle.trace_text.specs.Traces.{per_client, frames_in, input_in, sends_in, says_in, asks_in, image_after, image_of, trace_from, is_frame_line, is_request_line, is_disk_line, stream_bytes_in, is_out_of_place, is_bad_after}
-use Rattle.trace_text.specs.Reading.{grown_at, reader_after, is_refused, reader_after, judged, HasLists}
+use Rattle.trace_text.specs.Reading.{grown_at, reader_after, is_refused, reader_with, after_line, HasLists}
 
 -- one more event, and what it gives
 pub flat_more : {T : Type 0} (f : Event → List T) (events : List Event) (e : Event) → flat_map f (events ++ e ∷ []) ≡ flat_map f events ++ f e
@@ -84,7 +84,7 @@ assemble : (frames frames' : List (List ℕ)) (input input' : List ℕ) (sends s
 assemble f f' i i' s s' y y' k k' m m' a a' b b' d d' x x' e1 e2 e3 e4 e5 e6 e7 e8 e9 e10 = rw (e1, e2, e3, e4, e5, e6, e7, e8, e9, e10) refl
 
 -- the reader after one more event
-pub grown_after : (plan : Plan) (events : List Event) (e : Event) → reader_after (reader_after plan events) e ≡ reader_after plan (events ++ e ∷ [])
+pub grown_after : (plan : Plan) (events : List Event) (e : Event) → reader_with (reader_after plan events) e ≡ reader_after plan (events ++ e ∷ [])
 unfolding trace_from
 grown_after plan events Event.Skipped = assemble _ _ _ _ _ _ _ _ _ _ _ _ _ _ _ _ _ _ _ _
     (sym (flat_same frames_in events Event.Skipped refl))
@@ -187,16 +187,16 @@ refused_same plan events (Event.Patch at bytes) = refl
 refused_same plan events (Event.Request c ask) = refl
 
 -- a line that was taken
-pub taken_after : (plan : Plan) (events : List Event) (e : Option Event) (r : Reader) → judged (reader_after plan events) e ≡ Some r
+pub taken_after : (plan : Plan) (events : List Event) (e : Option Event) (r : Reader) → after_line (reader_after plan events) e ≡ Some r
     → (is_bad_after events e ≡ false) × (r ≡ reader_after plan (events ++ option_to_list e))
 taken_after plan events None r h = cc
 taken_after plan events (Some e) r h = elim (cases_Bool (is_refused (reader_after plan events) e)) [
   | inl is ↦ absurd (let none = rw is at h in cc)
-  | inr isnt ↦ (sym (refused_same plan events e) ∙ isnt, (let some = rw isnt at h in let same : reader_after (reader_after plan events) e ≡ r = cc in sym same ∙ grown_after plan events e))
+  | inr isnt ↦ (sym (refused_same plan events e) ∙ isnt, (let some = rw isnt at h in let same : reader_with (reader_after plan events) e ≡ r = cc in sym same ∙ grown_after plan events e))
 ]
 
 -- a line that was found bad
-pub bad_after : (plan : Plan) (events : List Event) (e : Option Event) → judged (reader_after plan events) e ≡ None → is_bad_after events e ≡ true
+pub bad_after : (plan : Plan) (events : List Event) (e : Option Event) → after_line (reader_after plan events) e ≡ None → is_bad_after events e ≡ true
 bad_after plan events None h = refl
 bad_after plan events (Some e) h = elim (cases_Bool (is_refused (reader_after plan events) e)) [
   | inl is ↦ sym (refused_same plan events e) ∙ is

@@ -9,7 +9,7 @@ use Rattle.trace_text.specs.declared.reader.Reader.{Reader}
 use Rattle.trace_text.specs.Texts.{lines_of}
 use Rattle.trace_text.specs.Events.{Event, meaning}
 use Rattle.trace_text.specs.Traces.{events_before, is_bad, is_bad_after, is_disk_line, trace_from, trace_of, HasNoBadLine, IsLeastBadLine}
-use Rattle.trace_text.specs.Reading.{reader_after, judged, HasLists}
+use Rattle.trace_text.specs.Reading.{reader_after, after_line, HasLists}
 use Rattle.trace_text.proofs.Judged.{and_left}
 use Rattle.trace_text.proofs.Forms.{equal_length}
 use Rattle.trace_text.proofs.Grown.{has_lists, taken_after, bad_after}
@@ -77,7 +77,7 @@ pub so_far_lists : (plan : Plan) (text rest : List ℕ) (number : ℕ) (reader :
 so_far_lists plan text rest number reader h = rw h.read (has_lists plan (events_before plan text number))
 
 pub so_far_more : (plan : Plan) (text rest line after : List ℕ) (number : ℕ) (reader reader' : Reader) → IsSoFar plan text rest number reader
-    → lines_of rest ≡ line ∷ lines_of after → length after < length rest → judged reader (meaning plan line) ≡ Some reader' → IsSoFar plan text after (number + 1) reader'
+    → lines_of rest ≡ line ∷ lines_of after → length after < length rest → after_line reader (meaning plan line) ≡ Some reader' → IsSoFar plan text after (number + 1) reader'
 so_far_more plan text rest line after number reader reader' h first shorter taken =
     let place = at_drop (lines_of text) number line (lines_of after) (h.lines ∙ first) in
     let step = taken_after plan (events_before plan text number) (meaning plan line) reader' (rw h.read at taken) in
@@ -91,7 +91,7 @@ so_far_more plan text rest line after number reader reader' h first shorter take
     }
 
 pub so_far_bad : (plan : Plan) (text rest line after : List ℕ) (number : ℕ) (reader : Reader) → IsSoFar plan text rest number reader
-    → lines_of rest ≡ line ∷ lines_of after → judged reader (meaning plan line) ≡ None → IsLeastBadLine plan text (number + 1)
+    → lines_of rest ≡ line ∷ lines_of after → after_line reader (meaning plan line) ≡ None → IsLeastBadLine plan text (number + 1)
 so_far_bad plan text rest line after number reader h first bad =
     let place = at_drop (lines_of text) number line (lines_of after) (h.lines ∙ first) in
     record {

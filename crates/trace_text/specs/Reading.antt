@@ -35,43 +35,43 @@ is_refused r (Event.Patch at bytes) =
 is_refused r (Event.Request c ask) = nat_le 1024 r.request_lines
 
 -- what the reader keeps after an event that it takes
-abbrev pub reader_after : Reader → Event → Reader
-reader_after r Event.Skipped = r
-reader_after r (Event.Rx frame) = record r {
+abbrev pub reader_with : Reader → Event → Reader
+reader_with r Event.Skipped = r
+reader_with r (Event.Rx frame) = record r {
   trace = record r.trace { frames = r.trace.frames ++ frame ∷ [] };
   frame_lines = r.frame_lines + 1;
 }
-reader_after r (Event.Send c frame) = record r {
+reader_with r (Event.Send c frame) = record r {
   trace = record r.trace { sends = grown_at r.trace.sends c (frame ∷ []) };
   frame_lines = r.frame_lines + 1;
 }
-reader_after r (Event.In bytes) = record r {
+reader_with r (Event.In bytes) = record r {
   trace = record r.trace { input = r.trace.input ++ bytes };
   stream_bytes = r.stream_bytes + length bytes;
 }
-reader_after r (Event.Say c bytes) = record r {
+reader_with r (Event.Say c bytes) = record r {
   trace = record r.trace { says = grown_at r.trace.says c bytes };
   stream_bytes = r.stream_bytes + length bytes;
 }
-reader_after r (Event.Disk sectors) = record r {
+reader_with r (Event.Disk sectors) = record r {
   trace = record r.trace { image = replicate (512 * sectors) 0 };
   disk_lines = r.disk_lines + 1;
 }
-reader_after r (Event.Patch at bytes) =
+reader_with r (Event.Patch at bytes) =
     record r { trace = record r.trace { image = replaced r.trace.image at bytes } }
-reader_after r (Event.Request c ask) = record r {
+reader_with r (Event.Request c ask) = record r {
   trace = record r.trace { asks = grown_at r.trace.asks c (ask ∷ []) };
   request_lines = r.request_lines + 1;
 }
 
 -- what the reader keeps after a line of this meaning: none where the line is bad
-abbrev pub judged : Reader → Option Event → Option Reader
-judged r None = None
-judged r (Some event) = if is_refused r event then None else Some (reader_after r event)
+abbrev pub after_line : Reader → Option Event → Option Reader
+after_line r None = None
+after_line r (Some event) = if is_refused r event then None else Some (reader_with r event)
 
 -- how a line was read: taken, or found bad
 abbrev pub IsRead : Reader → Reader → Bool → Option Event → Type 0
-IsRead old new good event = MatchBool good (judged old event ≡ Some new) (judged old event ≡ None)
+IsRead old new good event = MatchBool good (after_line old event ≡ Some new) (after_line old event ≡ None)
 
 -- a number that no line can use: it isn't there, or is 2 ^ 64 or more
 abbrev pub IsNoneOrHuge : Option ℕ → Type 0
