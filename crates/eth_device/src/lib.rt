@@ -7,7 +7,7 @@ ghost use Rattle.cargo_core.specs.Bodies.{buffers_of};
 ghost use Rattle.wire_core.specs.Ends.{role_of, Role, End};
 ghost use Rattle.wire_core.specs.Lists.{Passed, Stepped, nothing_passed};
 ghost use Rattle.wire_core.specs.Marks.{is_mark};
-ghost use Rattle.turn_kit.specs.Turns.{Turned, Posted, choice_of, chosen, last_after, is_at_rest};
+ghost use Rattle.turn_kit.specs.Turns.{Turned, Posted, choice_of, chosen_place, last_after, is_at_rest};
 ghost use Rattle.turn_kit.specs.Posts.{intake_post, outlet_post};
 ghost use Rattle.eth_device.specs.Devices.{FitsDevice, DeviceStandsFor, DeviceRow, DeviceBalances, DeviceEnd, SameDevice, IsNewDevice, is_filling, device_round, device_hand, device_forgotten};
 
@@ -88,7 +88,7 @@ impl EthDevice {
 
     // The end that is stepped now, in the order of buffers in, frames out, and the two of sending.
     fn choose(&mut self) -> usize
-        ensures place { result ≡ chosen (choice_of (device_round self.old)) }
+        ensures place { result ≡ chosen_place (choice_of (device_round self.old)) }
         ensures within { result < 4 }
         ensures after { self.new ≡ record self.old {
           turn = record {

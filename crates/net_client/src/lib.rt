@@ -8,7 +8,7 @@ ghost use Rattle.cargo_core.specs.Pages.{Paged};
 ghost use Rattle.wire_core.specs.Ends.{role_of, Role, End};
 ghost use Rattle.wire_core.specs.Lists.{Passed, Stepped, nothing_passed};
 ghost use Rattle.wire_core.specs.Marks.{is_mark};
-ghost use Rattle.turn_kit.specs.Turns.{Turned, Posted, choice_of, chosen, last_after, is_at_rest};
+ghost use Rattle.turn_kit.specs.Turns.{Turned, Posted, choice_of, chosen_place, last_after, is_at_rest};
 ghost use Rattle.turn_kit.specs.Posts.{intake_post, outlet_post};
 ghost use Rattle.net_kit.specs.Pools.{ArePool};
 ghost use Rattle.net_client.specs.Clients.{FitsClient, ClientStandsFor, ClientRow, ClientBalances, ClientEnd, SameClient, IsNewClient, is_giving, client_round, client_hand, client_forgotten};
@@ -96,7 +96,7 @@ impl NetClient {
 
     // The end that is stepped now, in the order of frames in, buffers out, and the two of sending.
     fn choose(&mut self) -> usize
-        ensures place { result ≡ chosen (choice_of (client_round self.old)) }
+        ensures place { result ≡ chosen_place (choice_of (client_round self.old)) }
         ensures within { result < 4 }
         ensures after { self.new ≡ record self.old {
           turn = record {

@@ -8,7 +8,7 @@ ghost use Rattle.wire_core.specs.Deeds.{Cargo};
 ghost use Rattle.wire_core.specs.Ends.{role_of, Role, End};
 ghost use Rattle.wire_core.specs.Lists.{Passed, Stepped, nothing_passed};
 ghost use Rattle.wire_core.specs.Marks.{is_mark};
-ghost use Rattle.turn_kit.specs.Turns.{Turned, Posted, choice_of, chosen, last_after, is_at_rest};
+ghost use Rattle.turn_kit.specs.Turns.{Turned, Posted, choice_of, chosen_place, last_after, is_at_rest};
 ghost use Rattle.turn_kit.specs.Posts.{intake_post, outlet_post};
 ghost use Rattle.net_copier.specs.Copying.{FitsCopier, CopierStandsFor, CopierRow, CopierBalances, CopierEnd, SameCopier, IsNewCopier, SameWork, IsAt, IsWork, is_copied, leased_bytes, is_stray, is_wanting, is_returning, copier_round, copier_hand, copier_forgotten};
 
@@ -135,7 +135,7 @@ impl NetCopier {
 
     // The end that is stepped now, in the order of leases in, buffers in, buffers out, leases out.
     fn choose(&mut self) -> usize
-        ensures place { result ≡ chosen (choice_of (copier_round self.old)) }
+        ensures place { result ≡ chosen_place (choice_of (copier_round self.old)) }
         ensures within { result < 4 }
         ensures after { self.new ≡ record self.old {
           turn = record {

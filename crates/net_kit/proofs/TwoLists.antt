@@ -3,14 +3,14 @@ use Rattle.std.proofs.Common.{◌≡◌, ◌+◌, ◌&&◌, ℕ, zero, suc, Bool
 use Rattle.wire_core.specs.declared.names.QueueId.{QueueId}
 use Rattle.wire_core.specs.declared.names.Event.{Event}
 use Rattle.turn_kit.specs.Table.{is_settled}
-use Rattle.turn_kit.specs.Turns.{Post, PostedAt, Choosing, offered, offered_from, settled_all}
+use Rattle.turn_kit.specs.Turns.{Post, PostedAt, Choosing, choice_with, offered_from, settled_all}
 use Rattle.turn_kit.specs.ManyEnds.{needs_from}
 
 -- offering ends changes no count
 pub offered_count : (c : Choosing) (place : ℕ) (ps : List Post) (ns : List Bool) → (offered_from c place ps ns).count ≡ c.count
 offered_count c place [] ns = refl
 offered_count c place (p ∷ ps) [] = refl
-offered_count c place (p ∷ ps) (n ∷ ns) = offered_count (offered c (record { queue = p.queue; place = place }) (is_settled p.state n)) (place + 1) ps ns
+offered_count c place (p ∷ ps) (n ∷ ns) = offered_count (choice_with c (record { queue = p.queue; place = place }) (is_settled p.state n)) (place + 1) ps ns
 
 -- one list is offered after the other
 pub offered_append : (c : Choosing) (place : ℕ) (ps qs : List Post) (ns ms : List Bool) → length ns ≡ length ps → offered_from c place (ps ++ qs) (ns ++ ms) ≡ offered_from (offered_from c place ps ns) (place + length ps) qs ms
@@ -18,7 +18,7 @@ offered_append c place [] qs [] ms e = ap (λ n. offered_from c n qs ms) (sym (a
 offered_append c place [] qs (n ∷ ns) ms e = absurd (omega (arith, e))
 offered_append c place (p ∷ ps) qs [] ms e = absurd (omega (arith, e))
 offered_append c place (p ∷ ps) qs (n ∷ ns) ms e =
-    let now : Choosing = offered c (record { queue = p.queue; place = place }) (is_settled p.state n) in
+    let now : Choosing = choice_with c (record { queue = p.queue; place = place }) (is_settled p.state n) in
     let on : place + 1 + length ps ≡ place + length (p ∷ ps) = omega arith in
     offered_append now (place + 1) ps qs ns ms (omega (arith, e)) ∙ ap (λ k. offered_from (offered_from now (place + 1) ps ns) k qs ms) on
 

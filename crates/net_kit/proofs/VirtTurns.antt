@@ -9,7 +9,7 @@ use Rattle.turn_kit.specs.declared.turns.Turn.{Turn}
 use Rattle.turn_kit.specs.declared.ends.Intake.{Intake}
 use Rattle.turn_kit.specs.declared.ends.Outlet.{Outlet}
 use Rattle.turn_kit.specs.Table.{is_settled}
-use Rattle.turn_kit.specs.Turns.{PostedAt, Turned, Choosing, choosing, offered, offered_from, choice_of, chosen, last_after, settled_all, is_at_rest}
+use Rattle.turn_kit.specs.Turns.{PostedAt, Turned, Choosing, choosing, choice_with, offered_from, choice_of, chosen_place, last_after, settled_all, is_at_rest}
 use Rattle.turn_kit.specs.Posts.{intake_post, outlet_post}
 use Rattle.turn_kit.specs.ManyEnds.{intake_posts, outlet_posts, needs_from}
 use Rattle.turn_kit.proofs.Offers.{get_need, later}
@@ -55,7 +55,7 @@ choice_count v need owed needs loads = offered_count (choosing (length (virt_pos
 
 -- the ends were offered in their order
 pub all_offered : (v : VirtEnds) (need owed a b : Bool) (needs loads : ℕ → Bool) (n : ℕ) (c0 c1 c2 c3 c4 : Choosing) → n ≡ 2 + length (from_queues v) + length (to_queues v) → a ≡ is_settled v.input.state need → b ≡ is_settled v.output.state owed
-    → c0 ≡ choosing n v.turn.last → c1 ≡ offered c0 (record { queue = v.input.queue.0; place = 0 }) a → c2 ≡ offered c1 (record { queue = v.output.queue.0; place = 1 }) b
+    → c0 ≡ choosing n v.turn.last → c1 ≡ choice_with c0 (record { queue = v.input.queue.0; place = 0 }) a → c2 ≡ choice_with c1 (record { queue = v.output.queue.0; place = 1 }) b
     → c3 ≡ offered_from c2 2 (intake_posts v.from_clients) (needs_from needs 0 (from_queues v)) → c4 ≡ offered_from c3 (2 + length (from_queues v)) (outlet_posts v.to_clients) (needs_from loads 0 (to_queues v)) → c4 ≡ choice_of (virt_round v need owed needs loads)
 all_offered v need owed a b needs loads n c0 c1 c2 c3 c4 count sa sb h0 h1 h2 h3 h4 =
     let q = queues_long v in
@@ -65,10 +65,10 @@ all_offered v need owed a b needs loads n c0 c1 c2 c3 c4 count sa sb h0 h1 h2 h3
     let long = posts_long v in
     let behind : 2 + length (from_queues v) ≡ 2 + length (intake_posts v.from_clients) = omega (arith, one) in
     let start : choosing n v.turn.last ≡ choosing (length (virt_posts v)) v.turn.last = ap (λ m. choosing m v.turn.last) (omega (arith, long, count)) in
-    let first : Choosing = offered (choosing (length (virt_posts v)) v.turn.last) (record { queue = v.input.queue.0; place = 0 }) (is_settled v.input.state need) in
-    let second : Choosing = offered first (record { queue = v.output.queue.0; place = 1 }) (is_settled v.output.state owed) in
-    let e1 : c1 ≡ first = h1 ∙ (ap (λ x. offered c0 (record { queue = v.input.queue.0; place = 0 }) x) sa ∙ ap (λ c. offered c (record { queue = v.input.queue.0; place = 0 }) (is_settled v.input.state need)) (h0 ∙ start)) in
-    let e2 : c2 ≡ second = h2 ∙ (ap (λ x. offered c1 (record { queue = v.output.queue.0; place = 1 }) x) sb ∙ ap (λ c. offered c (record { queue = v.output.queue.0; place = 1 }) (is_settled v.output.state owed)) e1) in
+    let first : Choosing = choice_with (choosing (length (virt_posts v)) v.turn.last) (record { queue = v.input.queue.0; place = 0 }) (is_settled v.input.state need) in
+    let second : Choosing = choice_with first (record { queue = v.output.queue.0; place = 1 }) (is_settled v.output.state owed) in
+    let e1 : c1 ≡ first = h1 ∙ (ap (λ x. choice_with c0 (record { queue = v.input.queue.0; place = 0 }) x) sa ∙ ap (λ c. choice_with c (record { queue = v.input.queue.0; place = 0 }) (is_settled v.input.state need)) (h0 ∙ start)) in
+    let e2 : c2 ≡ second = h2 ∙ (ap (λ x. choice_with c1 (record { queue = v.output.queue.0; place = 1 }) x) sb ∙ ap (λ c. choice_with c (record { queue = v.output.queue.0; place = 1 }) (is_settled v.output.state owed)) e1) in
     h4 ∙ (ap (λ c. offered_from c (2 + length (from_queues v)) (outlet_posts v.to_clients) (needs_from loads 0 (to_queues v))) (h3 ∙ ap (λ c. offered_from c 2 (intake_posts v.from_clients) (needs_from needs 0 (from_queues v))) e2)
     ∙ (ap (λ k. offered_from (offered_from second 2 (intake_posts v.from_clients) (needs_from needs 0 (from_queues v))) k (outlet_posts v.to_clients) (needs_from loads 0 (to_queues v))) behind
     ∙ sym (offered_append second 2 (intake_posts v.from_clients) (outlet_posts v.to_clients) (needs_from needs 0 (from_queues v)) (needs_from loads 0 (to_queues v)) as_many)))
@@ -107,7 +107,7 @@ needs_stay old new need owed need' owed' needs loads needs' loads' same h =
     ∙ ap (λ l. need ∷ owed ∷ (needs_from needs 0 (from_queues old) ++ l)) (needs_same loads loads' 0 (to_queues new) h.loads_stay ∙ ap (needs_from loads 0) same.to_clients)))
 
 -- an end of a virtualiser had its turn
-pub turned : (old mid new : VirtEnds) (t : Turn) (e : Event) (at : VirtEnd) (need owed need' owed' : Bool) (needs loads needs' loads' : ℕ → Bool) → mid ≡ record old { turn = t } → place_of old at ≡ chosen (choice_of (virt_round old need owed needs loads)) → IsThere old at
+pub turned : (old mid new : VirtEnds) (t : Turn) (e : Event) (at : VirtEnd) (need owed need' owed' : Bool) (needs loads needs' loads' : ℕ → Bool) → mid ≡ record old { turn = t } → place_of old at ≡ chosen_place (choice_of (virt_round old need owed needs loads)) → IsThere old at
     → PostedAt (virt_posts mid) (place_of mid at) (need_of need owed needs loads at) e (virt_posts new) → SameVirt mid new → new.turn ≡ mid.turn → t.last ≡ last_after (choice_of (virt_round old need owed needs loads)) → (is_mark e.op e.answer ≡ false → SameNeeds need owed need' owed' needs loads needs' loads')
     → Turned (virt_round old need owed needs loads) e (virt_round new need' owed' needs' loads')
 turned old mid new t e at need owed need' owed' needs loads needs' loads' after is there posted same turn last still =

@@ -7,7 +7,7 @@ ghost use Rattle.wire_core.specs.Ends.{Moves, Consumer, Producer, role_of};
 ghost use Rattle.wire_core.specs.Marks.{is_mark};
 ghost use Rattle.turn_kit.specs.Turns.{Posted};
 ghost use Rattle.turn_kit.specs.Posts.{intake_post, outlet_post};
-ghost use Rattle.turn_kit.specs.Pipes.{FitsPipe, IsNewPipe, came};
+ghost use Rattle.turn_kit.specs.Pipes.{FitsPipe, IsNewPipe, arrival};
 ghost use Rattle.net_kit.specs.Entries.{frame_of};
 ghost use Rattle.net_kit.specs.Recorders.{RecorderStandsFor};
 
@@ -60,23 +60,23 @@ impl Recorder {
         ensures on { result.queue ≡ self.old.pipe.input.queue }
         ensures role { role_of result.op ≡ Consumer }
         ensures did { W.did wires.old (deed_of result
-            (came self.old.pipe.load self.new.pipe.load)) wires.new }
+            (arrival self.old.pipe.load self.new.pipe.load)) wires.new }
         ensures moves { Moves (W.ends wires.old) result (W.ends wires.new) }
         ensures fits { FitsPipe (W.ends wires.new) self.new.pipe }
         ensures kept { (passed : Passed) → RecorderStandsFor self.old passed
             → RecorderStandsFor self.new (with_deed passed (deed_of result
-            (came self.old.pipe.load self.new.pipe.load))) }
+            (arrival self.old.pipe.load self.new.pipe.load))) }
         ensures load { option_to_list self.new.pipe.load
             ≡ option_to_list self.old.pipe.load ++ option_to_list
-            (came self.old.pipe.load self.new.pipe.load) }
+            (arrival self.old.pipe.load self.new.pipe.load) }
         ensures tape { self.new.tape.shown ≡ self.old.tape.shown ++ map frame_of (option_to_list
-            (came self.old.pipe.load self.new.pipe.load)) }
+            (arrival self.old.pipe.load self.new.pipe.load)) }
         ensures takes { (n : ℕ) → taken_by (deed_of result
-            (came self.old.pipe.load self.new.pipe.load)) n ≡ if_there
+            (arrival self.old.pipe.load self.new.pipe.load)) n ≡ if_there
             (self.old.pipe.input.queue.0 == n) (option_to_list
-            (came self.old.pipe.load self.new.pipe.load)) }
+            (arrival self.old.pipe.load self.new.pipe.load)) }
         ensures puts { (n : ℕ) → put_by (deed_of result
-            (came self.old.pipe.load self.new.pipe.load)) n ≡ [] }
+            (arrival self.old.pipe.load self.new.pipe.load)) n ≡ [] }
         ensures posted { Posted (intake_post self.old.pipe.input)
             (is_none self.old.pipe.load) result (intake_post self.new.pipe.input) }
         ensures still { is_mark result.op result.answer ≡ false → self.new.pipe.load

@@ -7,7 +7,7 @@ ghost use Rattle.wire_core.specs.Deeds.{deed_of, put_of};
 ghost use Rattle.wire_core.specs.Lists.{taken_by, put_by, if_there};
 ghost use Rattle.wire_core.specs.Ends.{role_of, Role, Consumer, Producer, End};
 ghost use Rattle.wire_core.specs.Marks.{is_mark};
-ghost use Rattle.turn_kit.specs.Turns.{PostedAt, choice_of, chosen, last_after, is_at_rest};
+ghost use Rattle.turn_kit.specs.Turns.{PostedAt, choice_of, chosen_place, last_after, is_at_rest};
 ghost use Rattle.net_kit.specs.Virtualising.{FitsVirt, VirtOwns, SameVirt, IsNewVirt, VirtForgot, new_intake, new_outlet, intake_forgotten, outlet_forgotten, from_queues, to_queues, virt_posts, virt_round, place_of, IsThere};
 
 use cargo_core::{Body, Item, Memory};
@@ -160,7 +160,7 @@ impl VirtEnds {
     ) -> VirtEnd
         requires from_clients { length (from_queues self.old) < 2 ^ 32 }
         requires to_clients { length (to_queues self.old) < 2 ^ 32 }
-        ensures place { place_of self.old result ≡ chosen (choice_of (virt_round self.old need owed
+        ensures place { place_of self.old result ≡ chosen_place (choice_of (virt_round self.old need owed
             (N.need needs.now) (L.need loads.now))) }
         ensures there { IsThere self.old result }
         ensures after { self.new ≡ record self.old {

@@ -19,7 +19,7 @@ use Rattle.wire_core.specs.Lists.{Passed, if_there, nothing_passed}
 use Rattle.wire_core.specs.Marks.{is_mark}
 use Rattle.turn_kit.specs.declared.turns.Turn.{Turn}
 use Rattle.turn_kit.specs.Hands.{bodies_of, bodies_at}
-use Rattle.turn_kit.specs.Turns.{PostedAt, Turned, Round, choice_of, chosen, last_after}
+use Rattle.turn_kit.specs.Turns.{PostedAt, Turned, Round, choice_of, chosen_place, last_after}
 use Rattle.turn_kit.proofs.Holding.{buffers-append}
 use Rattle.net_kit.specs.Pools.{given_entry, page_bodies}
 use Rattle.net_kit.specs.Stocks.{stock_list, stock_hand}
@@ -41,7 +41,7 @@ use Rattle.net_virt_rx.proofs.Steps.{queue_is, none_if}
 round_of : VirtEnds → Sharer → Round
 round_of ends w = virt_round ends (is_idle w) (is_some w.stock.next) (λ k. is_idle w) (λ k. slice_index_or w.owed k false)
 
-pub rx_turned : (v v1 mid new : NetVirtRx) (e : Event) (at : VirtEnd) (r : Option Cargo) → v1.ends ≡ v.ends → v1.work ≡ record v.work { ready = r } → place_of v1.ends at ≡ chosen (choice_of (rx_round v1)) → IsThere v1.ends at
+pub rx_turned : (v v1 mid new : NetVirtRx) (e : Event) (at : VirtEnd) (r : Option Cargo) → v1.ends ≡ v.ends → v1.work ≡ record v.work { ready = r } → place_of v1.ends at ≡ chosen_place (choice_of (rx_round v1)) → IsThere v1.ends at
     → mid ≡ record v1 { ends = record v1.ends { turn = record { last = last_after (choice_of (rx_round v1)) } } } → PostedAt (virt_posts mid.ends) (place_of mid.ends at) (need_of (is_idle mid.work) (is_some mid.work.stock.next) (λ k. is_idle mid.work) (λ k. slice_index_or mid.work.owed k false) at) e (virt_posts new.ends)
     → SameRx mid new → new.ends.turn ≡ mid.ends.turn → (is_mark e.op e.answer ≡ false → new.work ≡ mid.work) → Turned (rx_round v) e (rx_round new)
 unfolding round_of

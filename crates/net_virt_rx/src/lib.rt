@@ -8,7 +8,7 @@ ghost use Rattle.cargo_core.specs.Bodies.{buffers_of};
 ghost use Rattle.wire_core.specs.Ends.{role_of, Role, End};
 ghost use Rattle.wire_core.specs.Lists.{Passed, Stepped, nothing_passed};
 ghost use Rattle.wire_core.specs.Marks.{is_mark};
-ghost use Rattle.turn_kit.specs.Turns.{Turned, PostedAt, choice_of, chosen, last_after, is_at_rest};
+ghost use Rattle.turn_kit.specs.Turns.{Turned, PostedAt, choice_of, chosen_place, last_after, is_at_rest};
 ghost use Rattle.net_kit.specs.Pools.{ArePool};
 ghost use Rattle.net_kit.specs.Virtualising.{from_queues, to_queues, virt_posts, place_of, IsThere, need_of};
 ghost use Rattle.net_virt_rx.specs.Sharing.{IsSharer, is_idle, is_owing, sharer_hand, lent_many};
@@ -130,7 +130,7 @@ impl NetVirtRx {
         requires from_clients { length (from_queues self.old.ends) < 2 ^ 32 }
         requires to_clients { length (to_queues self.old.ends) < 2 ^ 32 }
         requires owed { length self.old.work.owed < 2 ^ 32 }
-        ensures place { place_of self.old.ends result ≡ chosen (choice_of (rx_round self.old)) }
+        ensures place { place_of self.old.ends result ≡ chosen_place (choice_of (rx_round self.old)) }
         ensures there { IsThere self.old.ends result }
         ensures after { self.new ≡ record self.old {
           ends = record self.old.ends {

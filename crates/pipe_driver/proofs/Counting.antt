@@ -1,6 +1,6 @@
 use Rattle.std.proofs.Common.{◌≡◌, ◌+◌, ◌*◌, ℕ, Bool, List, [], ◌∷◌, length, refl, sym, ap, ◌∙◌, suc, arith}
 use Rattle.turn_kit.specs.Table.{is_settled}
-use Rattle.turn_kit.specs.Turns.{Post, Choosing, offered, offered_from, choosing, choice_of}
+use Rattle.turn_kit.specs.Turns.{Post, Choosing, choice_with, offered_from, choosing, choice_of}
 use Rattle.turn_kit.specs.declared.pipe.Pipe.{Pipe}
 use Rattle.pipe_driver.specs.Drivers.{pipe_posts, pipe_needs, pipes_round}
 
@@ -18,7 +18,7 @@ need_count (p ∷ ps) = ap (λ (n : ℕ). suc (suc n)) (need_count ps)
 offered_count : (c : Choosing) (place : ℕ) (posts : List Post) (needs : List Bool) → (offered_from c place posts needs).count ≡ c.count
 offered_count c place [] needs = refl
 offered_count c place (p ∷ posts) [] = refl
-offered_count c place (p ∷ posts) (n ∷ needs) = offered_count (offered c (record { queue = p.queue; place = place }) (is_settled p.state n)) (place + 1) posts needs
+offered_count c place (p ∷ posts) (n ∷ needs) = offered_count (choice_with c (record { queue = p.queue; place = place }) (is_settled p.state n)) (place + 1) posts needs
 
 -- all ends were offered
 module _ (ps : List Pipe) (last n : ℕ) (c0 c1 : Choosing) (two : n ≡ 2 * length ps) (begun : c0 ≡ choosing n last) (all : c1 ≡ offered_from c0 0 (pipe_posts ps) (pipe_needs ps)) where

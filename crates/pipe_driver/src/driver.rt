@@ -4,7 +4,7 @@ ghost use Rattle.std.specs.Prelude.{◌≡◌, ◌<◌, ◌*◌, ◌^◌, ℕ, L
 ghost use Rattle.cargo_core.specs.Bodies.{buffers_of};
 ghost use Rattle.wire_core.specs.Ends.{role_of, Role, End};
 ghost use Rattle.wire_core.specs.Lists.{Passed, Stepped};
-ghost use Rattle.turn_kit.specs.Turns.{Turned, choice_of, chosen, last_after, is_at_rest};
+ghost use Rattle.turn_kit.specs.Turns.{Turned, choice_of, chosen_place, last_after, is_at_rest};
 ghost use Rattle.turn_kit.specs.declared.pipe.Pipe.{Pipe};
 ghost use Rattle.pipe_driver.specs.Drivers.{FitsPipes, PipesStandFor, PipesRow, PipesBalance, PipesEnd, inputs_of, outputs_of, pipes_round, pipes_hand, pipe_forgotten};
 
@@ -50,7 +50,7 @@ impl<P: PipeList> PipeDriver<P> {
     // The end that is stepped now: those of the first pipe come first, each input before its output.
     fn choose(&mut self) -> usize
         requires { length (P.list self.old.pipes) < 2 ^ 16 }
-        ensures place { result ≡ chosen (choice_of
+        ensures place { result ≡ chosen_place (choice_of
             (pipes_round (P.list self.old.pipes) self.old.turn.last)) }
         ensures within { result < 2 * length (P.list self.old.pipes) }
         ensures pipes { self.new.pipes ≡ self.old.pipes }

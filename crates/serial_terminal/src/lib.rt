@@ -8,7 +8,7 @@ ghost use Rattle.wire_core.specs.Ends.{role_of, Role, End};
 ghost use Rattle.wire_core.specs.Lists.{Passed, Stepped, nothing_passed};
 ghost use Rattle.turn_kit.specs.Table.{start_state};
 ghost use Rattle.wire_core.specs.Marks.{is_mark};
-ghost use Rattle.turn_kit.specs.Turns.{Turned, Posted, choice_of, chosen, last_after, is_at_rest};
+ghost use Rattle.turn_kit.specs.Turns.{Turned, Posted, choice_of, chosen_place, last_after, is_at_rest};
 ghost use Rattle.cargo_core.specs.Bodies.{buffers_of};
 ghost use Rattle.turn_kit.specs.Posts.{intake_post, outlet_post};
 ghost use Rattle.serial_switch.specs.Carried.{byte_cargo, bytes_carried};
@@ -99,7 +99,7 @@ impl Terminal {
 
     // The end that is stepped now: the input is the first, the output the second.
     fn choose(&mut self) -> usize
-        ensures place { result ≡ chosen (choice_of (terminal_round self.old)) }
+        ensures place { result ≡ chosen_place (choice_of (terminal_round self.old)) }
         ensures within { result < 2 }
         ensures after { self.new ≡ record self.old {
           turn =

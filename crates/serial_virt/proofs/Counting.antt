@@ -1,6 +1,6 @@
 use Rattle.std.proofs.Common.{◌≡◌, ◌+◌, ℕ, Bool, true, false, not, Option, Some, None, is_some, is_none, List, [], ◌∷◌, length, map, refl, ap, ◌∙◌, arith}
 use Rattle.std.proofs.lemmas.List.{length-map}
-use Rattle.turn_kit.specs.Turns.{Post, Choosing, offered, offered_from, choosing, choice_of}
+use Rattle.turn_kit.specs.Turns.{Post, Choosing, choice_with, offered_from, choosing, choice_of}
 use Rattle.turn_kit.specs.Table.{is_settled}
 use Rattle.turn_kit.specs.Posts.{intake_post}
 use Rattle.turn_kit.specs.ManyEnds.{intake_queues, intake_posts, needs_from}
@@ -13,7 +13,7 @@ use Rattle.serial_virt.specs.Sending.{tx_round}
 pub offered_count : (c : Choosing) (place : ℕ) (ps : List Post) (ns : List Bool) → (offered_from c place ps ns).count ≡ c.count
 offered_count c place [] ns = refl
 offered_count c place (p ∷ ps) [] = refl
-offered_count c place (p ∷ ps) (n ∷ ns) = offered_count (offered c (record { queue = p.queue; place = place }) (is_settled p.state n)) (place + 1) ps ns
+offered_count c place (p ∷ ps) (n ∷ ns) = offered_count (choice_with c (record { queue = p.queue; place = place }) (is_settled p.state n)) (place + 1) ps ns
 
 -- nothing is loaded
 pub free_is : (load : Option Cargo) (free : Bool) → is_some load ≡ not free → free ≡ is_none load
@@ -24,12 +24,12 @@ free_is (Some c) false h = refl
 
 -- the output of the sending virtualiser was offered, and then its inputs
 pub tx_choice : (v : SerialVirtTx) (b s : Bool) (n : ℕ) (c0 c1 c2 : Choosing) → b ≡ is_none v.load → s ≡ is_settled v.output.state (is_some v.load) → n ≡ 1 + length (intake_queues v.inputs) → c0 ≡ choosing n v.turn.last
-    → c1 ≡ offered c0 (record { queue = v.output.queue.0; place = 0 }) s → c2 ≡ offered_from c1 1 (intake_posts v.inputs) (needs_from (λ place. b) 0 (intake_queues v.inputs)) → c2 ≡ choice_of (tx_round v)
+    → c1 ≡ choice_with c0 (record { queue = v.output.queue.0; place = 0 }) s → c2 ≡ offered_from c1 1 (intake_posts v.inputs) (needs_from (λ place. b) 0 (intake_queues v.inputs)) → c2 ≡ choice_of (tx_round v)
 tx_choice v b s n c0 c1 c2 free settled count h0 h1 h2 =
     let long = length-map v.inputs.ends.items (λ (i : Intake). i.queue) in
     let posts = length-map v.inputs.ends.items intake_post in
     let all : n ≡ length (tx_round v).posts = omega (arith, count, long, posts) in
     h2 ∙ (ap (λ x. offered_from c1 1 (intake_posts v.inputs) (needs_from (λ place. x) 0 (intake_queues v.inputs))) free
     ∙ ap (λ c. offered_from c 1 (intake_posts v.inputs) (needs_from (λ place. is_none v.load) 0 (intake_queues v.inputs)))
-    (h1 ∙ (ap (λ x. offered c0 (record { queue = v.output.queue.0; place = 0 }) x) settled
-    ∙ ap (λ c. offered c (record { queue = v.output.queue.0; place = 0 }) (is_settled v.output.state (is_some v.load))) (h0 ∙ ap (λ m. choosing m v.turn.last) all))))
+    (h1 ∙ (ap (λ x. choice_with c0 (record { queue = v.output.queue.0; place = 0 }) x) settled
+    ∙ ap (λ c. choice_with c (record { queue = v.output.queue.0; place = 0 }) (is_settled v.output.state (is_some v.load))) (h0 ∙ ap (λ m. choosing m v.turn.last) all))))

@@ -5,7 +5,7 @@ use Rattle.wire_core.specs.declared.names.Event.{Event}
 use Rattle.turn_kit.specs.declared.turns.Turn.{Turn}
 use Rattle.wire_core.specs.Marks.{is_mark}
 use Rattle.turn_kit.specs.Posts.{outlet_post, intake_post}
-use Rattle.turn_kit.specs.Turns.{Turned, Posted, PostedAt, choice_of, chosen, last_after}
+use Rattle.turn_kit.specs.Turns.{Turned, Posted, PostedAt, choice_of, chosen_place, last_after}
 use Rattle.turn_kit.specs.ManyEnds.{intake_queues, intake_posts, outlet_queues, outlet_posts, needs_from, is_here}
 use Rattle.turn_kit.proofs.Offers.{first, later, get_need}
 use Rattle.turn_kit.proofs.Turning.{no_mark_at}
@@ -23,7 +23,7 @@ no_queue : QueueId
 no_queue = record { 0 = 0 }
 
 -- a client's end of the virtualiser had its turn
-pub tx_turned : (old mid new : SerialVirtTx) (t : Turn) (e : Event) (place k : ℕ) → mid ≡ record old { turn = t } → place ≡ chosen (choice_of (tx_round old)) → place ≡ suc k → k < length (intake_queues old.inputs)
+pub tx_turned : (old mid new : SerialVirtTx) (t : Turn) (e : Event) (place k : ℕ) → mid ≡ record old { turn = t } → place ≡ chosen_place (choice_of (tx_round old)) → place ≡ suc k → k < length (intake_queues old.inputs)
     → PostedAt (intake_posts mid.inputs) k (is_none mid.load) e (intake_posts new.inputs) → new.output ≡ mid.output → (is_mark e.op e.answer ≡ false → new.load ≡ mid.load) → tx_queues new ≡ tx_queues mid → new.turn ≡ mid.turn → t.last ≡ last_after (choice_of (tx_round old)) → Turned (tx_round old) e (tx_round new)
 tx_turned old mid new t e place k after is place_is there posted output still queues turn last =
     let inputs : mid.inputs ≡ old.inputs = ap (λ v. v.inputs) after in
@@ -63,7 +63,7 @@ owed_at_place : (v : SerialVirtRx) (k : ℕ) → k < length (outlet_queues v.out
 owed_at_place v k there = get_need (is_here (place_loaded v)) 0 (outlet_queues v.outputs) k (slice_index_or (outlet_queues v.outputs) k no_queue) (slice_get-get_or (outlet_queues v.outputs) k no_queue there) ∙ (ap (λ n. Some (is_here (place_loaded v) n)) (zero-add k) ∙ ap (λ b. Some b) (owed_here v.load v.to k))
 
 -- a client's end of the receiving virtualiser had its turn
-pub rx_turned : (old mid new : SerialVirtRx) (t : Turn) (e : Event) (place k : ℕ) → mid ≡ record old { turn = t } → place ≡ chosen (choice_of (rx_round old)) → place ≡ suc k → k < length (outlet_queues old.outputs)
+pub rx_turned : (old mid new : SerialVirtRx) (t : Turn) (e : Event) (place k : ℕ) → mid ≡ record old { turn = t } → place ≡ chosen_place (choice_of (rx_round old)) → place ≡ suc k → k < length (outlet_queues old.outputs)
     → PostedAt (outlet_posts mid.outputs) k (is_owed_at mid k) e (outlet_posts new.outputs) → new.input ≡ mid.input → (is_mark e.op e.answer ≡ false → new.load ≡ mid.load) → new.to ≡ mid.to → rx_queues new ≡ rx_queues mid → new.turn ≡ mid.turn → t.last ≡ last_after (choice_of (rx_round old)) → Turned (rx_round old) e (rx_round new)
 rx_turned old mid new t e place k after is place_is there posted input still to queues turn last =
     let posted' : PostedAt (outlet_posts old.outputs) k (is_owed_at old k) e (outlet_posts new.outputs) = subst (λ v. PostedAt (outlet_posts v.outputs) k (is_owed_at v k) e (outlet_posts new.outputs)) after posted in
@@ -84,7 +84,7 @@ rx_turned old mid new t e place k after is place_is there posted input still to 
     }
 
 -- the input of the receiving virtualiser had its turn
-pub rx_input_turned : (old mid new : SerialVirtRx) (t : Turn) (e : Event) (place : ℕ) → mid ≡ record old { turn = t } → place ≡ chosen (choice_of (rx_round old)) → place ≡ 0
+pub rx_input_turned : (old mid new : SerialVirtRx) (t : Turn) (e : Event) (place : ℕ) → mid ≡ record old { turn = t } → place ≡ chosen_place (choice_of (rx_round old)) → place ≡ 0
     → Posted (intake_post mid.input) (is_none mid.load) e (intake_post new.input) → new.outputs ≡ mid.outputs → (is_mark e.op e.answer ≡ false → new.load ≡ mid.load) → (is_mark e.op e.answer ≡ false → new.to ≡ mid.to) → new.turn ≡ mid.turn → t.last ≡ last_after (choice_of (rx_round old)) → Turned (rx_round old) e (rx_round new)
 rx_input_turned old mid new t e place after is place_is posted outputs still to turn last =
     let posted' : Posted (intake_post old.input) (is_none old.load) e (intake_post new.input) = subst (λ v. Posted (intake_post v.input) (is_none v.load) e (intake_post new.input)) after posted in
@@ -104,7 +104,7 @@ rx_input_turned old mid new t e place after is place_is posted outputs still to 
     }
 
 -- the output of the sending virtualiser had its turn
-pub tx_output_turned : (old mid new : SerialVirtTx) (t : Turn) (e : Event) (place : ℕ) → mid ≡ record old { turn = t } → place ≡ chosen (choice_of (tx_round old)) → place ≡ 0
+pub tx_output_turned : (old mid new : SerialVirtTx) (t : Turn) (e : Event) (place : ℕ) → mid ≡ record old { turn = t } → place ≡ chosen_place (choice_of (tx_round old)) → place ≡ 0
     → Posted (outlet_post mid.output) (is_some mid.load) e (outlet_post new.output) → new.inputs ≡ mid.inputs → (is_mark e.op e.answer ≡ false → new.load ≡ mid.load) → new.turn ≡ mid.turn → t.last ≡ last_after (choice_of (tx_round old)) → Turned (tx_round old) e (tx_round new)
 tx_output_turned old mid new t e place after is place_is posted inputs still turn last =
     let posted' : Posted (outlet_post old.output) (is_some old.load) e (outlet_post new.output) = subst (λ v. Posted (outlet_post v.output) (is_some v.load) e (outlet_post new.output)) after posted in

@@ -6,7 +6,7 @@ ghost use Rattle.cargo_core.specs.Items.{kind_of};
 ghost use Rattle.wire_core.specs.Ends.{role_of, Role, End, Producer, Consumer};
 ghost use Rattle.wire_core.specs.Lists.{Passed, Stepped, nothing_passed};
 ghost use Rattle.wire_core.specs.Marks.{is_mark};
-ghost use Rattle.turn_kit.specs.Turns.{Turned, Posted, PostedAt, choice_of, chosen, last_after, is_at_rest};
+ghost use Rattle.turn_kit.specs.Turns.{Turned, Posted, PostedAt, choice_of, chosen_place, last_after, is_at_rest};
 ghost use Rattle.turn_kit.specs.Posts.{intake_post};
 ghost use Rattle.cargo_core.specs.Bodies.{buffers_of};
 ghost use Rattle.turn_kit.specs.ManyEnds.{outlet_queues, outlet_posts};
@@ -117,7 +117,7 @@ impl SerialVirtRx {
 
     // The end that is stepped now: the input is the first, the clients follow in their order.
     fn choose(&mut self) -> usize
-        ensures place { result ≡ chosen (choice_of (rx_round self.old)) }
+        ensures place { result ≡ chosen_place (choice_of (rx_round self.old)) }
         ensures within { result < 1 + length (outlet_queues self.old.outputs) }
         ensures after { self.new ≡ record self.old {
           turn =

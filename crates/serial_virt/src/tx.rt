@@ -4,7 +4,7 @@ ghost use Rattle.std.specs.Prelude.{◌≡◌, ◌<◌, ◌+◌, ℕ, [], None, 
 ghost use Rattle.wire_core.specs.Ends.{role_of, Role, End, Producer, Consumer};
 ghost use Rattle.wire_core.specs.Lists.{Passed, Stepped, nothing_passed};
 ghost use Rattle.wire_core.specs.Marks.{is_mark};
-ghost use Rattle.turn_kit.specs.Turns.{Turned, Posted, PostedAt, choice_of, chosen, last_after, is_at_rest};
+ghost use Rattle.turn_kit.specs.Turns.{Turned, Posted, PostedAt, choice_of, chosen_place, last_after, is_at_rest};
 ghost use Rattle.turn_kit.specs.Posts.{outlet_post};
 ghost use Rattle.cargo_core.specs.Bodies.{buffers_of};
 ghost use Rattle.turn_kit.specs.ManyEnds.{intake_queues, intake_posts};
@@ -77,7 +77,7 @@ impl SerialVirtTx {
 
     // The end that is stepped now: the output is the first, the clients follow in their order.
     fn choose(&mut self) -> usize
-        ensures place { result ≡ chosen (choice_of (tx_round self.old)) }
+        ensures place { result ≡ chosen_place (choice_of (tx_round self.old)) }
         ensures within { result < 1 + length (intake_queues self.old.inputs) }
         ensures after { self.new ≡ record self.old {
           turn =

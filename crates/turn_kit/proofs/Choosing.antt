@@ -1,7 +1,7 @@
 use Rattle.std.proofs.Common.{◌≡◌, ◌⊎◌, ◌+◌, ◌<◌, ◌≤◌, ◌&&◌, ℕ, zero, suc, Bool, true, false, not, cond, nat_lt, Option, Some, None, List, [], ◌∷◌, slice_get, refl, sym, ap, ◌∙◌, subst, inl, inr, arith, add-zero, add-one}
 use Rattle.std.proofs.lemmas.Bool.{ltb-true, ltb-false}
 use Rattle.turn_kit.specs.Table.{is_settled}
-use Rattle.turn_kit.specs.Turns.{Post, Choosing, lower, lower_if, offered, offered_from, settled_all}
+use Rattle.turn_kit.specs.Turns.{Post, Choosing, lower, lower_if, choice_with, offered_from, settled_all}
 use Rattle.turn_kit.specs.declared.turns.Stand.{Stand}
 
 pub some_is : {X : Type 0} {a b : X} → Some a ≡ Some b → a ≡ b
@@ -25,7 +25,7 @@ is_any p n = true
 pub offered_best : (c : Choosing) (place : ℕ) (ps : List Post) (ns : List Bool) → offered_from c place ps ns ≡ record { count = c.count; last = c.last; unsettled = best is_loose c.unsettled place ps ns; after = best (is_late c.last) c.after place ps ns; first = best is_any c.first place ps ns }
 offered_best c place [] ns = refl
 offered_best c place (p ∷ ps) [] = refl
-offered_best c place (p ∷ ps) (n ∷ ns) = offered_best (offered c (record { queue = p.queue; place = place }) (is_settled p.state n)) (place + 1) ps ns
+offered_best c place (p ∷ ps) (n ∷ ns) = offered_best (choice_with c (record { queue = p.queue; place = place }) (is_settled p.state n)) (place + 1) ps ns
 
 -- one of the two is lower than both
 pub record Lower (x y z : Stand) : Type 0 where

@@ -2,7 +2,7 @@ use Rattle.std.proofs.Common.{◌≡◌, ◌+◌, ◌&&◌, ℕ, zero, suc, Bool
 use Rattle.wire_core.specs.declared.names.QueueId.{QueueId}
 use Rattle.wire_core.specs.declared.names.Event.{Event}
 use Rattle.turn_kit.specs.Table.{is_settled}
-use Rattle.turn_kit.specs.Turns.{Post, Posted, PostedAt, Choosing, offered, offered_from, settled_all}
+use Rattle.turn_kit.specs.Turns.{Post, Posted, PostedAt, Choosing, choice_with, offered_from, settled_all}
 use Rattle.turn_kit.specs.ManyEnds.{needs_from}
 
 -- so many ends were offered, and the others are left
@@ -22,10 +22,10 @@ module _ (c : Choosing) (base k k' : ℕ) (posts : List Post) (needs : List Bool
   one_on : base + k + 1 ≡ base + (k + 1) → suc k ≡ k' → offered_from c (base + k + 1) (drop (suc k) posts) (drop (suc k) needs) ≡ offered_from c (base + k') (drop k' posts) (drop k' needs)
   one_on e f = ap (λ n. offered_from c n (drop (suc k) posts) (drop (suc k) needs)) (e ∙ ap (λ m. base + m) (add-one k)) ∙ ap (λ m. offered_from c (base + m) (drop m posts) (drop m needs)) f
 
-pub offers_next : (c now : Choosing) (base k : ℕ) (posts : List Post) (needs : List Bool) (p : Post) (need : Bool) → slice_get posts k ≡ Some p → slice_get needs k ≡ Some need → OffersOn c now base k posts needs → OffersOn c (offered now (record { queue = p.queue; place = base + k }) (is_settled p.state need)) base (k + 1) posts needs
+pub offers_next : (c now : Choosing) (base k : ℕ) (posts : List Post) (needs : List Bool) (p : Post) (need : Bool) → slice_get posts k ≡ Some p → slice_get needs k ≡ Some need → OffersOn c now base k posts needs → OffersOn c (choice_with now (record { queue = p.queue; place = base + k }) (is_settled p.state need)) base (k + 1) posts needs
 offers_next c now base k posts needs p need at n h = record {
   count = h.count;
-  rest = h.rest ∙ (ap (λ ps. offered_from now (base + k) ps (drop k needs)) (drop_here posts k p at) ∙ (ap (λ ns. offered_from now (base + k) (p ∷ drop (suc k) posts) ns) (drop_here needs k need n) ∙ one_on (offered now (record { queue = p.queue; place = base + k }) (is_settled p.state need)) base k (k + 1) posts needs (add_assoc base k 1) (sym (add-one k))));
+  rest = h.rest ∙ (ap (λ ps. offered_from now (base + k) ps (drop k needs)) (drop_here posts k p at) ∙ (ap (λ ns. offered_from now (base + k) (p ∷ drop (suc k) posts) ns) (drop_here needs k need n) ∙ one_on (choice_with now (record { queue = p.queue; place = base + k }) (is_settled p.state need)) base k (k + 1) posts needs (add_assoc base k 1) (sym (add-one k))));
 }
 
 -- what a map has at a place
@@ -67,7 +67,7 @@ module _ {X : Type 0} (f : X → Post) (g : X → QueueId) (ends : List X) (k : 
   need_here = get_need need 0 (map g ends) k (g x) (get_map g ends k x there) ∙ ap (λ n. Some (need n)) (zero-add k)
 
 -- one end of a list more was offered
-pub end_next : {X : Type 0} (f : X → Post) (g : X → QueueId) (c now v : Choosing) (base k : ℕ) (ends : List X) (x : X) (need : ℕ → Bool) (q : ℕ) (s b : Bool) → slice_get ends k ≡ Some x → q ≡ (f x).queue → v ≡ offered now (record { queue = q; place = base + k }) s → s ≡ is_settled (f x).state b → b ≡ need k
+pub end_next : {X : Type 0} (f : X → Post) (g : X → QueueId) (c now v : Choosing) (base k : ℕ) (ends : List X) (x : X) (need : ℕ → Bool) (q : ℕ) (s b : Bool) → slice_get ends k ≡ Some x → q ≡ (f x).queue → v ≡ choice_with now (record { queue = q; place = base + k }) s → s ≡ is_settled (f x).state b → b ≡ need k
     → OffersOn c now base k (map f ends) (needs_from need 0 (map g ends)) → OffersOn c v base (k + 1) (map f ends) (needs_from need 0 (map g ends))
 end_next f g c now v base k ends x need q s b there p e t u on = rw (e, p, t, u) (offers_next c now base k (map f ends) (needs_from need 0 (map g ends)) (f x) (need k) (post_here f g ends k x need there) (need_here f g ends k x need there) on)
 

@@ -9,7 +9,7 @@ use Rattle.wire_core.proofs.Places.{slice_get_written, slice_get_beside}
 use Rattle.turn_kit.specs.Table.{next_op, state_after, is_settled}
 use Rattle.wire_core.specs.Marks.{is_mark}
 use Rattle.turn_kit.specs.Calls.{may_answer, calls_left, settling_left, is_moving}
-use Rattle.turn_kit.specs.Turns.{Post, Posted, is_drop, is_mark_at, forgotten_if, Round, Turned, IsRound, IsNext, choosing, choice_of, chosen, last_after, place_or, queue_or, is_at_rest, settled_all, Unsettled, calls_on}
+use Rattle.turn_kit.specs.Turns.{Post, Posted, is_drop, is_mark_at, forgotten_if, Round, Turned, IsRound, IsNext, choosing, choice_of, chosen_place, last_after, place_or, queue_or, is_at_rest, settled_all, Unsettled, calls_on}
 use Rattle.turn_kit.specs.declared.turns.Stand.{Stand}
 use Rattle.turn_kit.proofs.EveryState.{nearer, settles, moving_stays, moving_unsettled, and_left, and_right}
 use Rattle.turn_kit.proofs.Choosing.{some_is, best, best_none, is_loose, is_late, is_any, offered_best, Among, Found, found, rest_none, none_rest}
@@ -82,7 +82,7 @@ module _ (r : Round) (e : Event) (m : Round) (t : Turned r e m) (ok : IsRound r)
   choice_is = offered_best (choosing (length r.posts) r.last) 0 r.posts r.needs
 
   place_is : t.place ≡ place_or Loose (place_or Late (place_or First 0))
-  place_is = t.is_chosen ∙ ap chosen choice_is
+  place_is = t.is_chosen ∙ ap chosen_place choice_is
 
   last_is : m.last ≡ cond (is_none Loose) (queue_or Late (queue_or First r.last)) r.last
   last_is = t.last ∙ ap last_after choice_is

@@ -23,9 +23,9 @@ PipeStandsFor p passed =
     passed.taken p.input.queue.0 ≡ passed.sent p.output.queue.0 ++ option_to_list p.load
 
 -- what came in where nothing was loaded
-abbrev pub came : Option Cargo → Option Cargo → Option Cargo
-came None new = new
-came (Some old) new = None
+abbrev pub arrival : Option Cargo → Option Cargo → Option Cargo
+arrival None new = new
+arrival (Some old) new = None
 
 -- a pipe between these queues, in its start state
 pub record IsNewPipe (from to : QueueId) (p : Pipe) : Type 0 where

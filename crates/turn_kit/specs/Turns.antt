@@ -71,8 +71,8 @@ lower_if true x y = lower x y
 lower_if false x y = x
 
 -- one end more was offered
-abbrev pub offered : Choosing → Stand → Bool → Choosing
-offered c y settled = record c {
+abbrev pub choice_with : Choosing → Stand → Bool → Choosing
+choice_with c y settled = record c {
   unsettled = lower_if (not settled) c.unsettled y;
   after = lower_if (nat_lt c.last y.queue) c.after y;
   first = lower c.first y;
@@ -83,7 +83,7 @@ abbrev pub offered_from : Choosing → ℕ → List Post → List Bool → Choos
 offered_from c place [] needs = c
 offered_from c place (p ∷ ps) [] = c
 offered_from c place (p ∷ ps) (need ∷ needs) =
-    offered_from (offered c (record { queue = p.queue; place = place }) (is_settled p.state need))
+    offered_from (choice_with c (record { queue = p.queue; place = place }) (is_settled p.state need))
     (place + 1) ps needs
 
 abbrev pub choice_of : Round → Choosing
@@ -98,8 +98,8 @@ queue_or (Some x) n = x.queue
 queue_or None n = n
 
 -- the unsettled end with the lowest queue number; where all are settled, the next in rising queue number after the last
-abbrev pub chosen : Choosing → ℕ
-chosen c = place_or c.unsettled (place_or c.after (place_or c.first 0))
+abbrev pub chosen_place : Choosing → ℕ
+chosen_place c = place_or c.unsettled (place_or c.after (place_or c.first 0))
 
 -- the last is then the one that is chosen, where all are settled
 abbrev pub last_after : Choosing → ℕ
@@ -119,7 +119,7 @@ pub record PostedAt (old : List Post) (place : ℕ) (need : Bool) (e : Event) (n
 pub record Turned (old : Round) (e : Event) (new : Round) : Type 0 where
   pub place : ℕ
   pub need : Bool
-  pub is_chosen : place ≡ chosen (choice_of old)
+  pub is_chosen : place ≡ chosen_place (choice_of old)
   pub needed : slice_get old.needs place ≡ Some need
   pub posted : PostedAt old.posts place need e new.posts
   pub needs : is_mark_at posted.post e ≡ false → new.needs ≡ old.needs

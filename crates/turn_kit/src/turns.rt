@@ -1,7 +1,7 @@
 //! Which of an actor's ends is stepped.
 
 ghost use Rattle.std.specs.Prelude.{◌≡◌, ◌<◌};
-ghost use Rattle.turn_kit.specs.Turns.{choosing, lower, offered, chosen, last_after};
+ghost use Rattle.turn_kit.specs.Turns.{choosing, lower, choice_with, chosen_place, last_after};
 
 use std::marker::Model;
 use wire_core::QueueId;
@@ -54,7 +54,7 @@ impl Choice {
     /// Offers the end at a place; `settled` tells whether it is settled.
     pub fn offer(mut self, place: usize, queue: QueueId, settled: bool) -> Choice
         requires { place < self.count }
-        ensures { result ≡ offered self (record { queue = queue.0; place = place }) settled }
+        ensures { result ≡ choice_with self (record { queue = queue.0; place = place }) settled }
     {
         let end = Stand {
             queue: queue.0,
@@ -95,7 +95,7 @@ impl Turn {
     /// The place of the end that is stepped now.
     pub fn pass(&mut self, choice: Choice) -> usize
         requires { 0 < choice.count }
-        ensures place { result ≡ chosen choice }
+        ensures place { result ≡ chosen_place choice }
         ensures within { result < choice.count }
         ensures last { self.new.last ≡ last_after choice }
     {

@@ -1,5 +1,5 @@
 use Rattle.std.proofs.Common.{◌≡◌, false, slice_index_or, refl, ap, ◌∙◌}
-use Rattle.turn_kit.specs.Turns.{Round, choice_of, chosen, last_after}
+use Rattle.turn_kit.specs.Turns.{Round, choice_of, chosen_place, last_after}
 use Rattle.net_kit.specs.Virtualising.{virt_round}
 use Rattle.net_virt_rx.specs.Receiving.{rx_round}
 use Rattle.net_virt_rx.proofs.NetVirtRx.choose.Goals as goal
@@ -8,7 +8,7 @@ same_round : (c : goal.After-choose) → virt_round c.args.self.now.ends c.is_id
 same_round c = rw (c.is_idle-idle.ensures, c.is_some-owes.ensures, c.as_slice.ensures) refl
 
 pub returns-clause-place : goal.returns-clause-place
-returns-clause-place c = c.choose.ensures.place ∙ ap (λ (r : Round). chosen (choice_of r)) (same_round c)
+returns-clause-place c = c.choose.ensures.place ∙ ap (λ (r : Round). chosen_place (choice_of r)) (same_round c)
 
 pub returns-clause-after : goal.returns-clause-after
 returns-clause-after c = ap (λ e. record c.args.self.now { ends = e }) (c.choose.ensures.after ∙ ap (λ (r : Round). record c.args.self.now.ends { turn = record { last = last_after (choice_of r) } }) (same_round c))

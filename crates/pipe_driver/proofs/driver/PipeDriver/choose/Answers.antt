@@ -1,5 +1,5 @@
 use Rattle.std.proofs.Common.{ap, ◌∙◌, arith}
-use Rattle.turn_kit.specs.Turns.{chosen, last_after}
+use Rattle.turn_kit.specs.Turns.{chosen_place, last_after}
 use Rattle.pipe_driver.proofs.Counting.{pipes_choice, pipes_count}
 use Rattle.pipe_driver.proofs.driver.PipeDriver.choose.Goals as goal
 
@@ -9,7 +9,7 @@ pass-requires g c =
     omega (arith, e, c.ends.ensures.some)
 
 pub returns-clause-place : goal.returns-clause-place
-returns-clause-place g c = c.pass.ensures.place ∙ ap chosen (pipes_choice (g.P.PipeList.list c.args.self.now.pipes) c.args.self.now.turn.last c.ends.result c.begin-choice.result c.offer-choice.result c.ends.ensures.two c.begin-choice.ensures c.offer-choice.ensures)
+returns-clause-place g c = c.pass.ensures.place ∙ ap chosen_place (pipes_choice (g.P.PipeList.list c.args.self.now.pipes) c.args.self.now.turn.last c.ends.result c.begin-choice.result c.offer-choice.result c.ends.ensures.two c.begin-choice.ensures c.offer-choice.ensures)
 
 pub returns-clause-within : goal.returns-clause-within
 returns-clause-within g c =

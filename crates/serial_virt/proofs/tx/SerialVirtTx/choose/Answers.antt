@@ -2,7 +2,7 @@ use Rattle.std.proofs.Common.{◌≡◌, ◌+◌, ℕ, ◌∙◌, ap, arith}
 use Rattle.turn_kit.specs.Turns.{Choosing}
 use Rattle.turn_kit.specs.ManyEnds.{intake_posts, intake_queues, needs_from}
 use Rattle.turn_kit.specs.Table.{is_settled}
-use Rattle.turn_kit.specs.Turns.{chosen, last_after, choice_of}
+use Rattle.turn_kit.specs.Turns.{chosen_place, last_after, choice_of}
 use Rattle.serial_virt.specs.Sending.{tx_round}
 use Rattle.serial_virt.proofs.Counting.{offered_count, tx_choice, free_is}
 use Rattle.serial_virt.proofs.tx.SerialVirtTx.choose.Goals as goal
@@ -20,7 +20,7 @@ choice : (c : goal.After-pass-arg-1) → c.offer-choice-2.result ≡ choice_of (
 choice c = tx_choice c.args.self.now c.is_none-free.result c.settled.result (1 + c.len.result) c.begin.result c.offer-choice.result c.offer-choice-2.result (free_is c.args.self.now.load c.is_none-free.result c.is_none-free.ensures) (c.settled.ensures ∙ ap (λ b. is_settled c.args.self.now.output.state b) c.is_some.ensures) (ap (λ n. 1 + n) c.len.ensures.len) c.begin.ensures c.offer-choice.ensures c.offer-choice-2.ensures
 
 pub returns-clause-place : goal.returns-clause-place
-returns-clause-place c = c.pass.ensures.place ∙ ap chosen (choice c.before)
+returns-clause-place c = c.pass.ensures.place ∙ ap chosen_place (choice c.before)
 
 pub returns-clause-after : goal.returns-clause-after
 returns-clause-after c = ap (λ (l : ℕ). record c.args.self.now { turn = record { last = l } }) (c.pass.ensures.last ∙ ap last_after (choice c.before))
