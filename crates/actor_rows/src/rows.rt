@@ -1,7 +1,7 @@
 //! Rows of queues of bytes for one actor, as a layout would give them.
 
 ghost use Rattle.std.specs.Prelude.{◌≡◌, IfOk};
-ghost use Rattle.wire_core.specs.Sizes.{IsCapacity};
+ghost use Rattle.cargo_core.specs.Capacities.{IsCapacity};
 ghost use Rattle.actor_rows.specs.Hands.{AreByteQueues};
 
 use cargo_core::{Memory, QueueKind, Text};

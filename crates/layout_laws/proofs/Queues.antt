@@ -17,7 +17,8 @@ use Rattle.sdf_check.specs.Names.{region_named}
 use Rattle.sdf_check.specs.Rules.{IsMultiple}
 use Rattle.class_table.specs.Sizes.{entry_size, second_offset}
 use Rattle.class_table.specs.Table.{net_element, net_client_element, serial_element, serial_client_element, blk_element, blk_client_element}
-use Rattle.sdf_check.specs.ClassRules.{IsSmaller, IsCapacity, LacksRoom}
+use Rattle.cargo_core.specs.Capacities.{IsCapacity}
+use Rattle.sdf_check.specs.ClassRules.{IsSmaller, LacksRoom}
 use Rattle.sdf_check.specs.Valid.{Valid}
 use Rattle.sdf_check.proofs.SoughtLemmas.{here-some}
 use Rattle.wire_core.specs.declared.names.ActorId.{ActorId}

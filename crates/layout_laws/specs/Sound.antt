@@ -8,7 +8,8 @@ use Rattle.sdf_plan.specs.declared.plan.Plan.{Plan}
 use Rattle.sdf_plan.specs.declared.plan.Net.{Net}
 use Rattle.sdf_check.specs.Names.{StandsBefore}
 use Rattle.sdf_check.specs.Rules.{IsMultiple, Range}
-use Rattle.sdf_check.specs.ClassRules.{IsCapacity, IsBufferCount}
+use Rattle.cargo_core.specs.Capacities.{IsCapacity}
+use Rattle.sdf_check.specs.ClassRules.{IsBufferCount}
 use Rattle.region_layout.specs.Bases.{bases_of}
 use Rattle.class_table.specs.Sizes.{entry_size}
 use Rattle.region_layout.specs.Rows.{acting_count, actors_of, actor_named, queues_of, pools_of}

@@ -3,7 +3,7 @@
 ghost use Rattle.std.specs.Prelude.{◌≡◌, ◌<◌, length, IfOk};
 ghost use Rattle.wire_core.specs.Ends.{Producer};
 ghost use Rattle.wire_core.specs.Queues.{end_at};
-ghost use Rattle.wire_core.specs.Sizes.{IsCapacity};
+ghost use Rattle.cargo_core.specs.Capacities.{IsCapacity};
 
 use crate::World;
 use cargo_core::{Body, Item, QueueKind, Text};

@@ -13,7 +13,8 @@ use Rattle.sdf_plan.specs.declared.plan.SerialClient.{SerialClient}
 use Rattle.sdf_plan.specs.declared.plan.Blk.{Blk}
 use Rattle.sdf_plan.specs.declared.plan.BlkClient.{BlkClient}
 use Rattle.sdf_check.specs.Rules.{IsPageSize, IsMultiple, MeetsEarlier, given_range}
-use Rattle.sdf_check.specs.ClassRules.{IsCapacity, IsClientCount, IsBufferCount}
+use Rattle.cargo_core.specs.Capacities.{IsCapacity}
+use Rattle.sdf_check.specs.ClassRules.{IsClientCount, IsBufferCount}
 use Rattle.sdf_check.specs.Valid.{Valid}
 use Rattle.sdf_check.proofs.SoughtLemmas.{here-some}
 use Rattle.region_layout.specs.Bases.{AreGivenApart}

@@ -1,5 +1,6 @@
 -- The rules on the classes of a plan: roles, channels, maps, capacities, sizes, ids and counts.
 use Rattle.std.specs.Prelude.{◌≡◌, ◌≢◌, ℕ, ◌+◌, ◌*◌, ◌^◌, ◌<◌, ◌≤◌, ◌⊎◌, Bool, true, List, [], ◌∷◌, ◌++◌, length, map, Option, slice_get, codes, IsNone, IsSomeAnd, MatchBool}
+use Rattle.cargo_core.specs.Capacities.{IsCapacity}
 use Rattle.std.specs.List.{flat_map}
 use Rattle.std.specs.Option.{option_map_or, option_and_then}
 use Rattle.sdf_plan.specs.declared.plan.Domain.{Domain}
@@ -250,10 +251,6 @@ NamesRegionAgain plan (At.BlkClient c) =
     OfBlkClient plan c (λ client. RepeatsName (class_regions plan)
     (regions_before plan (At.BlkClient c)) (blk_client_regions client))
 NamesRegionAgain plan _ = ⊥
-
--- a power of two from 1 to 32,768
-abbrev pub IsCapacity : ℕ → Type 0
-IsCapacity n = (k : ℕ) × (k ≤ 15) × (n ≡ 2 ^ k)
 
 -- rule 25: the capacity of a queue is none
 abbrev pub HasBadCapacity : Element → Type 0

@@ -1,6 +1,7 @@
 //! Which capacities, counts and permissions a class may have.
 ghost use Rattle.std.specs.Prelude.{◌↔◌, IsTrue};
-ghost use Rattle.sdf_check.specs.ClassRules.{IsCapacity, IsClientCount, IsBufferCount, AllowUse};
+ghost use Rattle.cargo_core.specs.Capacities.{IsCapacity};
+ghost use Rattle.sdf_check.specs.ClassRules.{IsClientCount, IsBufferCount, AllowUse};
 
 use crate::numbers::count_of;
 

@@ -10,7 +10,8 @@ use lib.ListN as lists
 use Rattle.atomic_table.specs.Table.{opening}
 use Rattle.cargo_core.specs.declared.item.QueueKind.{QueueKind}
 use Rattle.spsc_queue.specs.declared.view.View.{View}
-use Rattle.spsc_queue.specs.Rule.{IsCapacity, Slot, EndsHold, RingHolds, first_view, first_producer, first_consumer}
+use Rattle.cargo_core.specs.Capacities.{IsCapacity}
+use Rattle.spsc_queue.specs.Rule.{Slot, EndsHold, RingHolds, first_view, first_producer, first_consumer}
 
 -- a capacity divides the numbers of an index
 pub capacity_fits : (n : ℕ) → IsCapacity n → (0 < n) × (n ≤ 32768) × (65536 % n ≡ 0)

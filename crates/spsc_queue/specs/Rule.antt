@@ -3,6 +3,7 @@ use Rattle.std.specs.Prelude.{◌≡◌, ℕ, ◌+◌, ◌%◌, ◌^◌, ◌<◌
 use mathlib.Core.Option.{some}
 use mathlib.Core.Option as maybe
 use lib.ListN.{get_elem?}
+use Rattle.cargo_core.specs.Capacities.{IsCapacity}
 use Rattle.atomic_table.specs.Table.{State}
 use Rattle.cargo_core.specs.declared.item.QueueKind.{QueueKind}
 use Rattle.cargo_core.specs.Items.{kind_of}
@@ -17,10 +18,6 @@ use Rattle.spsc_queue.specs.declared.view.View.{View}
 -- an empty place, or an entry
 abbrev pub Slot : Type 0
 Slot = Option Cargo
-
--- a power of two from 1 to 32,768, as a description's rule of capacities has it
-abbrev pub IsCapacity : ℕ → Type 0
-IsCapacity n = (k : ℕ) × (k ≤ 15) × (n ≡ 2 ^ k)
 
 -- an index as a word holds it: free running, by 16 bits
 abbrev pub wrap : ℕ → ℕ

@@ -1,6 +1,7 @@
 //! What the two ends of a ring share, and how a ring begins.
 ghost use Rattle.std.specs.Prelude.{◌≡◌, IfOk};
-ghost use Rattle.spsc_queue.specs.Rule.{IsCapacity, first_producer, first_consumer};
+ghost use Rattle.cargo_core.specs.Capacities.{IsCapacity};
+ghost use Rattle.spsc_queue.specs.Rule.{first_producer, first_consumer};
 
 use crate::consumer::Consumer;
 use crate::plays::TwoEnds;

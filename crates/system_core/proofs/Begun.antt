@@ -10,7 +10,8 @@ use Rattle.wire_core.specs.declared.names.QueueRow.{QueueRow}
 use Rattle.wire_core.specs.Ends.{Role}
 use Rattle.serial_switch.specs.Switching.{input_of}
 use Rattle.sdf_check.specs.Valid.{Valid}
-use Rattle.sdf_check.specs.ClassRules.{class_domains, IsCapacity}
+use Rattle.cargo_core.specs.Capacities.{IsCapacity}
+use Rattle.sdf_check.specs.ClassRules.{class_domains}
 use Rattle.trace_text.specs.declared.trace.Trace.{Trace}
 use Rattle.region_layout.specs.Rows.{queues_of, actors_of, uart_number}
 use Rattle.play_core.specs.Moved.{Moved}

@@ -6,7 +6,8 @@ use Rattle.wire_core.specs.Ends.{Consumer, Producer}
 use Rattle.wire_core.specs.Queues.{starts}
 use Rattle.wire_core.specs.Journal.{History, start_history, owner_of}
 use Rattle.wire_core.proofs.BellTheorem.{starts_hold, starts_flow}
-use Rattle.wire_core.specs.Sizes.{IsCapacity, AreSized}
+use Rattle.cargo_core.specs.Capacities.{IsCapacity}
+use Rattle.wire_core.specs.Sizes.{AreSized}
 use Rattle.play_core.specs.Moved.{Seat}
 use Rattle.play_core.specs.Sheets.{Scene, IsSeat}
 use Rattle.play_core.proofs.Lists.{map_from, there_is}

@@ -1,7 +1,7 @@
 use Rattle.std.proofs.Common.{◌≡◌, ℕ, Some, slice_get}
 use Rattle.wire_core.specs.declared.names.QueueRow.{QueueRow}
 use Rattle.sdf_plan.specs.declared.plan.Plan.{Plan}
-use Rattle.sdf_check.specs.ClassRules.{IsCapacity}
+use Rattle.cargo_core.specs.Capacities.{IsCapacity}
 use Rattle.sdf_check.specs.Valid.{Valid}
 use Rattle.region_layout.specs.Rows.{queues_of}
 use Rattle.layout_laws.specs.Sound.{IsSoundQueue}

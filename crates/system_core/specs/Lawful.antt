@@ -6,7 +6,7 @@ use Rattle.wire_core.specs.declared.names.QueueRow.{QueueRow}
 use Rattle.wire_core.specs.declared.names.Entry.{Entry}
 use Rattle.wire_core.specs.Journal.{LegalJournal, EachMoment, BellsHold, QueuesFlow}
 use Rattle.wire_core.specs.Marks.{no_drops, Brisk}
-use Rattle.sdf_check.specs.ClassRules.{IsCapacity}
+use Rattle.cargo_core.specs.Capacities.{IsCapacity}
 use Rattle.play_core.specs.Moved.{Moved, Seat}
 use Rattle.play_core.specs.Sheets.{AreSeated, IsSeat}
 use Rattle.play_core.specs.Still.{IsPeopled}

@@ -4,7 +4,7 @@ use Rattle.cargo_core.specs.declared.item.QueueKind.TheVariants as Kind
 use Rattle.wire_core.specs.declared.names.QueueRow.{QueueRow}
 use Rattle.wire_core.specs.Ends.{Role, Consumer, Producer}
 use Rattle.wire_core.specs.Journal.{owner_of}
-use Rattle.sdf_check.specs.ClassRules.{IsCapacity}
+use Rattle.cargo_core.specs.Capacities.{IsCapacity}
 use Rattle.turn_kit.specs.ManyEnds.{AreApart, intake_queues, outlet_queues}
 use Rattle.turn_kit.specs.Pipes.{IsNewPipe}
 use Rattle.serial_terminal.specs.Terminals.{IsNewTerminal}

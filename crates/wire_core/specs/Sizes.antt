@@ -1,11 +1,8 @@
 -- What queues can be made of: the sizes that a lock-free ring with indices of 16 bits takes too, so that every wiring of
 -- queues has one condition.
 use Rattle.std.specs.Prelude.{◌≡◌, ◌≤◌, ◌^◌, ℕ, List, length, All}
+use Rattle.cargo_core.specs.Capacities.{IsCapacity}
 use Rattle.wire_core.specs.declared.names.QueueRow.{QueueRow}
-
--- a power of two from 1 to 32,768
-abbrev pub IsCapacity : ℕ → Type 0
-IsCapacity n = (k : ℕ) × (k ≤ 15) × (n ≡ 2 ^ k)
 
 -- each queue has a number of 16 bits, and a capacity
 pub record AreSized (rows : List QueueRow) : Type 0 where

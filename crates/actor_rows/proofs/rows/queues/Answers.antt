@@ -1,7 +1,7 @@
 use Rattle.std.proofs.Common.{◌≡◌, length, ap, arith, rules, sym, subst}
 use Rattle.std.proofs.lemmas.List.Elements.{All-push, All-same}
 use Rattle.cargo_core.specs.declared.item.QueueKind.TheVariants as Kind
-use Rattle.wire_core.specs.Sizes.{IsCapacity}
+use Rattle.cargo_core.specs.Capacities.{IsCapacity}
 use Rattle.actor_rows.proofs.rows.queues.Goals as goal
 
 pub loop-place-preserved : goal.loop-place-preserved

@@ -1,6 +1,6 @@
 use Rattle.std.proofs.Common.{◌≡◌, length, All}
 use Rattle.cargo_core.specs.declared.item.QueueKind.TheVariants as Kind
-use Rattle.wire_core.specs.Sizes.{IsCapacity}
+use Rattle.cargo_core.specs.Capacities.{IsCapacity}
 use Rattle.actor_rows.proofs.rows.queues.Given as goal
 
 abbrev pub invariant-loop-place : goal.invariant-loop-place
