@@ -27,7 +27,8 @@ Reads region domain = Any (λ (m : Map). (m.mr ≡ region) × Contains m.perms 1
 
 -- it maps it, by one map, with `r` and with `w`, which is 119
 abbrev pub Writes : List ℕ → Domain → Type 0
-Writes region domain = Any (λ (m : Map). (m.mr ≡ region) × Contains m.perms 114 × Contains m.perms 119) domain.map
+Writes region domain = Any (λ (m : Map). (m.mr ≡ region) × Contains m.perms 114
+    × Contains m.perms 119) domain.map
 
 -- this holds of a domain that has this name
 abbrev pub HoldsOf : Plan → List ℕ → (Domain → Type 0) → Type 0
@@ -39,11 +40,13 @@ IsEnd channel at name = (end : End) × (slice_get channel.end at ≡ Some end) �
 
 -- a channel joins the domains of two names, whichever end stands first
 abbrev pub JoinsBoth : List ℕ → List ℕ → Channel → Type 0
-JoinsBoth a b channel = (IsEnd channel 0 a × IsEnd channel 1 b) ⊎ (IsEnd channel 0 b × IsEnd channel 1 a)
+JoinsBoth a b channel = (IsEnd channel 0 a × IsEnd channel 1 b)
+    ⊎ (IsEnd channel 0 b × IsEnd channel 1 a)
 
 -- the domains of some names read a region, those of others read and write it, those of yet others
 -- may map it, and no other domain maps it at all
-pub record IsSharedBy (plan : Plan) (region : List ℕ) (readers writers others : List (List ℕ)) : Type 0 where
+pub record IsSharedBy (plan : Plan) (region : List ℕ)
+    (readers writers others : List (List ℕ)) : Type 0 where
   pub read : All (λ name. HoldsOf plan name (Reads region)) readers
   pub write : All (λ name. HoldsOf plan name (Writes region)) writers
   pub nobody_else :
@@ -59,7 +62,8 @@ pub record IsLink (plan : Plan) (region from to : List ℕ) : Type 0 where
 abbrev pub IsLinked : Plan → QueueRow → Type 0
 IsLinked plan row =
     (r : ℕ) → row.region ≡ Some r → (region : Region) × (from : List ℕ) × (to : List ℕ)
-    × (slice_get plan.memory_region r ≡ Some region) × (slice_get (actors_of plan) row.producer.0 ≡ Some from)
+    × (slice_get plan.memory_region r ≡ Some region)
+        × (slice_get (actors_of plan) row.producer.0 ≡ Some from)
     × (slice_get (actors_of plan) row.consumer.0 ≡ Some to) × IsLink plan region.name from to
 
 -- who reaches a pool, by its name: the domains that read its buffers, those that read and fill
@@ -72,27 +76,37 @@ pub record Users : Type 0 where
 
 -- the users of a pool of this name
 abbrev pub reached_by : List ℕ → List (List ℕ) → List (List ℕ) → List (List ℕ) → Users
-reached_by pool readers writers others = record { pool = pool; readers = readers; writers = writers; others = others }
+reached_by pool readers writers others = record {
+  pool = pool;
+  readers = readers;
+  writers = writers;
+  others = others;
+}
 
 -- a network client's buffers to receive are filled by its copier, and those to send by itself
 abbrev pub net_client_users : Net → ℕ → NetClient → List Users
 net_client_users net c client =
     reached_by (client_name (codes "net.") c (codes ".rx")) (client.pd ∷ []) (client.copier ∷ []) []
-    ∷ reached_by (client_name (codes "net.") c (codes ".tx")) [] (client.pd ∷ []) (net.tx_virt ∷ net.driver ∷ []) ∷ []
+    ∷ reached_by (client_name (codes "net.") c (codes ".tx")) [] (client.pd ∷ [])
+        (net.tx_virt ∷ net.driver ∷ []) ∷ []
 
--- the buffers that the Ethernet device fills are read by the receiving virtualiser and by each copier
+-- the buffers that the Ethernet device fills are read by the receiving virtualiser and by each
+-- copier
 abbrev pub net_users : Net → List Users
 net_users net =
-    reached_by (codes "net.rx") (net.rx_virt ∷ map (λ (c : NetClient). c.copier) net.client) [] (net.driver ∷ [])
+    reached_by (codes "net.rx") (net.rx_virt ∷ map (λ (c : NetClient). c.copier) net.client) []
+        (net.driver ∷ [])
     ∷ each_client (net_client_users net) 0 net.client
 
 -- a block client reads and fills its buffers itself
 abbrev pub blk_client_users : Blk → ℕ → BlkClient → List Users
-blk_client_users blk c client = reached_by (client_name (codes "blk.") c []) [] (client.pd ∷ []) (blk.virt ∷ blk.driver ∷ []) ∷ []
+blk_client_users blk c client = reached_by (client_name (codes "blk.") c []) [] (client.pd ∷ [])
+    (blk.virt ∷ blk.driver ∷ []) ∷ []
 
 -- the virtualiser has a buffer of its own, for the partition table
 abbrev pub blk_users : Blk → List Users
-blk_users blk = reached_by (codes "blk") [] (blk.virt ∷ []) (blk.driver ∷ []) ∷ each_client (blk_client_users blk) 0 blk.client
+blk_users blk = reached_by (codes "blk") [] (blk.virt ∷ []) (blk.driver ∷ [])
+    ∷ each_client (blk_client_users blk) 0 blk.client
 
 -- the users of all pools, class by class
 abbrev pub users_of : Plan → List Users
@@ -101,7 +115,8 @@ users_of plan = option_map_or net_users plan.net [] ++ option_map_or blk_users p
 -- a pool has this name, and its region is shared by these users
 abbrev pub IsReached : Plan → PoolRow → Users → Type 0
 IsReached plan row who =
-    (region : Region) × (row.name ≡ who.pool) × (slice_get plan.memory_region row.region ≡ Some region)
+    (region : Region) × (row.name ≡ who.pool)
+        × (slice_get plan.memory_region row.region ≡ Some region)
     × IsSharedBy plan region.name who.readers who.writers who.others
 
 -- the domain of this name has an interrupt

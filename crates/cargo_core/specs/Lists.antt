@@ -13,7 +13,8 @@ replaced xs at from = take at xs ++ from ++ drop (at + length from) xs
 -- first element is the first of one of them, and its rest a merge of them with that element taken
 -- away
 pub data Merge {T : Type 0} : List (List T) → List T → Type 0 where
-  merge_none : (lists : List (List T)) → ((k : ℕ) (l : List T) → slice_get lists k ≡ Some l → l ≡ [])
+  merge_none : (lists : List (List T))
+      → ((k : ℕ) (l : List T) → slice_get lists k ≡ Some l → l ≡ [])
       → Merge lists []
   merge_next : (lists : List (List T)) (k : ℕ) (x : T) (l all : List T)
       → slice_get lists k ≡ Some (x ∷ l) → Merge (slice_set lists k l) all → Merge lists (x ∷ all)

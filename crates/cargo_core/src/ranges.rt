@@ -22,8 +22,8 @@ impl Range {
     }
 }
 
-/// A range of addresses for each client, in the order of the clients. No two of them meet, so that an
-/// address tells its client. A look-up takes a time that grows with the number of clients alone.
+/// A range of addresses for each client, in the order of the clients. No two of them meet, so that
+/// an address tells its client. A look-up takes a time that grows with the number of clients alone.
 #[derive(Debug, Drop)]
 pub struct Ranges {
     ranges: Vec<Range>,

@@ -1,5 +1,6 @@
-//! The programs of the clients. A serial client says its script and records what it gets: a reader is one whose script
-//! is empty, a speaker any other. The programs are this project's own; that a client has one queue each way is sDDF's.
+//! The programs of the clients. A serial client says its script and records what it gets: a reader
+//! is one whose script is empty, a speaker any other. The programs are this project's own; that a
+//! client has one queue each way is sDDF's.
 #![tactic(auto)]
 
 ghost use Rattle.std.specs.Prelude.{◌≡◌};
@@ -22,7 +23,8 @@ pub struct SerialClient {
 }
 
 impl SerialClient {
-    /// A client in its start state: it records what it takes from `rx`, and puts the bytes of `script` to `tx`.
+    /// A client in its start state: it records what it takes from `rx`, and puts the bytes of
+    /// `script` to `tx`.
     pub fn new(alloc: Global, rx: QueueId, tx: QueueId, script: Bytes) -> SerialClient
         ensures new { IsNewTerminal rx tx script result.terminal }
         ensures stands { TerminalStandsFor result.terminal nothing_passed }

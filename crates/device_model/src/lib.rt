@@ -1,5 +1,6 @@
-//! The devices of the modelled machine. A serial device receives given bytes in order, and sends what it is given on
-//! its line. That a device is an actor at the two ends of its driver's queues is this project's own.
+//! The devices of the modelled machine. A serial device receives given bytes in order, and sends
+//! what it is given on its line. That a device is an actor at the two ends of its driver's queues
+//! is this project's own.
 #![tactic(auto)]
 
 ghost use Rattle.std.specs.Prelude.{◌≡◌};
@@ -15,14 +16,16 @@ use std::alloc::Global;
 use std::ops::{Deref, DerefMut};
 use wire_core::QueueId;
 
-/// The serial device: a terminal that says its input to the driver, and whose record is what was sent on its line.
+/// The serial device: a terminal that says its input to the driver, and whose record is what was
+/// sent on its line.
 #[derive(Drop)]
 pub struct UartDevice {
     pub terminal: Terminal,
 }
 
 impl UartDevice {
-    /// A device in its start state: it puts the bytes of `input` to `rx`, and takes those of its line from `tx`.
+    /// A device in its start state: it puts the bytes of `input` to `rx`, and takes those of its
+    /// line from `tx`.
     pub fn new(alloc: Global, rx: QueueId, tx: QueueId, input: Bytes) -> UartDevice
         ensures new { IsNewTerminal tx rx input result.terminal }
         ensures stands { TerminalStandsFor result.terminal nothing_passed }

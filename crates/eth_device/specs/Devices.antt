@@ -34,7 +34,8 @@ tx_active d = d.wire.pipe.input.queue.0
 abbrev pub tx_free : EthDevice → ℕ
 tx_free d = d.wire.pipe.output.queue.0
 
--- its ends are its own, and as it keeps them; all are queues of the network, and each frame has at most 65,535 bytes
+-- its ends are its own, and as it keeps them; all are queues of the network, and each frame has at
+-- most 65,535 bytes
 pub record FitsDevice (ends : Role → ℕ → End) (d : EthDevice) : Type 0 where
   pub free : Agrees (ends Consumer (rx_free d)) d.free.state
   pub active : Agrees (ends Producer (rx_active d)) d.active.state
@@ -47,8 +48,8 @@ pub record FitsDevice (ends : Role → ℕ → End) (d : EthDevice) : Type 0 whe
   pub next : d.next ≤ length d.frames
   pub frames : All (λ frame. length frame < 2 ^ 16) d.frames
 
--- it filled each buffer that it took with the frame of its place, and put it or has it in its hand; and it recorded the
--- frames that it took
+-- it filled each buffer that it took with the frame of its place, and put it or has it in its hand;
+-- and it recorded the frames that it took
 pub record DeviceStandsFor (d : EthDevice) (passed : Passed) : Type 0 where
   pub filled : passed.sent (rx_active d) ++ option_to_list d.load ≡ all_filled d.frames
       (passed.taken (rx_free d))
@@ -56,8 +57,9 @@ pub record DeviceStandsFor (d : EthDevice) (passed : Passed) : Type 0 where
   pub next : d.next ≤ length d.frames
   pub sends : RecorderStandsFor d.wire passed
 
--- what it put are the buffers that it took in their order, each with the frame of its place and its length, and it took no more
--- buffers than there are frames; the buffers of what it sent go back as they came, and the wire is their frames
+-- what it put are the buffers that it took in their order, each with the frame of its place and its
+-- length, and it took no more buffers than there are frames; the buffers of what it sent go back as
+-- they came, and the wire is their frames
 pub record DeviceRow (d : EthDevice) (passed : Passed) : Type 0 where
   pub filled : IsPrefix (passed.sent (rx_active d)) (all_filled d.frames (passed.taken (rx_free d)))
   pub takes : length (passed.taken (rx_free d)) ≤ length d.frames
@@ -93,8 +95,8 @@ pub record IsNewDevice (rx_free rx_active tx_active tx_free : QueueId) (frames :
 abbrev pub is_filling : EthDevice → Bool
 is_filling d = is_none d.load && nat_lt d.next (length d.frames)
 
--- its ends: it needs a buffer while a frame is left, and owes the one that it filled; it needs what is to be sent while none
--- of it is in its hand
+-- its ends: it needs a buffer while a frame is left, and owes the one that it filled; it needs what
+-- is to be sent while none of it is in its hand
 abbrev pub device_round : EthDevice → Round
 device_round d = record {
   posts = intake_post d.free ∷ outlet_post d.active ∷ intake_post d.wire.pipe.input

@@ -1,5 +1,6 @@
-//! The Ethernet device of the modelled machine. It fills free buffers with given frames in order, and records on its wire the
-//! frames that it is given to send. That a device is an actor at the far ends of its driver's queues is this project's own.
+//! The Ethernet device of the modelled machine. It fills free buffers with given frames in order,
+//! and records on its wire the frames that it is given to send. That a device is an actor at the
+//! far ends of its driver's queues is this project's own.
 #![tactic(auto)]
 
 ghost use Rattle.std.specs.Prelude.{◌≡◌, ◌+◌, ◌<◌, ◌≤◌, ◌^◌, ℕ, IfOk, OnOk, OnErr, Some, true, false, is_none, is_some, length, slice_get};
@@ -17,7 +18,8 @@ use std::alloc::Global;
 use turn_kit::{Intake, Outlet, Turn, count_held};
 use wire_core::{Event, QueueId, Wires};
 
-/// The Ethernet device. It has put or holds in `load` the first `next` of its frames; `wire` takes what is to be sent.
+/// The Ethernet device. It has put or holds in `load` the first `next` of its frames; `wire` takes
+/// what is to be sent.
 #[derive(Drop)]
 pub struct EthDevice {
     pub free: Intake,
@@ -30,8 +32,9 @@ pub struct EthDevice {
 }
 
 impl EthDevice {
-    /// A device in its start state: it fills the buffers of `rx_free` with the frames, in order, and puts them to `rx_active`;
-    /// it records the frames of `tx_active`, and puts their buffers to `tx_free`. Each frame has at most 65,535 bytes.
+    /// A device in its start state: it fills the buffers of `rx_free` with the frames, in order,
+    /// and puts them to `rx_active`; it records the frames of `tx_active`, and puts their buffers
+    /// to `tx_free`. Each frame has at most 65,535 bytes.
     pub fn new(
         alloc: Global,
         rx_free: QueueId,
@@ -188,8 +191,8 @@ impl EthDevice {
         self.wire.step_output(wires)
     }
 
-    /// Makes one call on one of its ends. The memory of the wire is taken first; after want of memory no call was made and
-    /// nothing changed.
+    /// Makes one call on one of its ends. The memory of the wire is taken first; after want of
+    /// memory no call was made and nothing changed.
     pub fn step<W: Wires>(&mut self, wires: &mut W) -> Result<Event, Memory>
         requires { FitsDevice (W.ends wires.old) self.old }
         ensures fits { FitsDevice (W.ends wires.new) self.new }

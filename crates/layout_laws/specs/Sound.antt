@@ -28,7 +28,8 @@ pub record IsSoundQueue (plan : Plan) (row : QueueRow) : Type 0 where
 pub record IsSoundPool (plan : Plan) (row : PoolRow) : Type 0 where
   pub buffers : IsBufferCount row.buffers
   pub base : slice_get (bases_of plan.memory_region) row.region ≡ Some row.base
-  pub lies : IsSomeAnd (slice_get plan.memory_region row.region) (λ region. row.size * row.buffers ≤ region.size)
+  pub lies : IsSomeAnd (slice_get plan.memory_region row.region)
+      (λ region. row.size * row.buffers ≤ region.size)
 
 -- a name is that of the actor of its number, which is none of the devices
 abbrev pub IsActor : Plan → List ℕ → Type 0
@@ -59,13 +60,16 @@ pub record HasRooms (plan : Plan) (net : Net) : Type 0 where
 
 -- no name stands twice in a list
 abbrev pub NoNameTwice : List (List ℕ) → Type 0
-NoNameTwice names = (at : ℕ) (name : List ℕ) → slice_get names at ≡ Some name → StandsBefore name names at → ⊥
+NoNameTwice names = (at : ℕ) (name : List ℕ) → slice_get names at ≡ Some name
+    → StandsBefore name names at → ⊥
 
 -- the physical addresses that a queue takes, where it stands in a region, and those that a pool
 -- takes
 unfoldable pub queue_range : Plan → QueueRow → Option Range
 queue_range plan row =
-    option_map (λ r. (slice_index (bases_of plan.memory_region) r + row.offset, slice_index (bases_of plan.memory_region) r + row.offset + (64 + entry_size row.kind * row.capacity))) row.region
+    option_map (λ r. (slice_index (bases_of plan.memory_region) r + row.offset,
+        slice_index (bases_of plan.memory_region) r + row.offset
+        + (64 + entry_size row.kind * row.capacity))) row.region
 
 unfoldable pub pool_range : PoolRow → Option Range
 pool_range row = Some (row.base, row.base + row.size * row.buffers)

@@ -24,7 +24,8 @@ pub fn layout_law()
     ensures pools { (plan : Plan) → Valid plan → All (IsSoundPool plan) (pools_of plan) }
     ensures apart { (plan : Plan) → Valid plan → (k : ℕ) → ¬ MeetsEarlier (ranges_of plan) k }
     ensures owners { (plan : Plan) → Valid plan → All (IsOwned plan) (queues_of plan) }
-    ensures rooms { (plan : Plan) → Valid plan → (net : Net) → plan.net ≡ Some net → HasRooms plan net }
+    ensures rooms { (plan : Plan) → Valid plan → (net : Net) → plan.net ≡ Some net
+        → HasRooms plan net }
     ensures actors { (plan : Plan) → Valid plan → All (IsActor plan) (class_domains plan) }
     ensures domains { (plan : Plan) → Valid plan → NoNameTwice (class_domains plan) }
     ensures regions { (plan : Plan) → Valid plan → NoNameTwice (class_regions plan) }

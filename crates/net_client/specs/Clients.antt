@@ -49,8 +49,8 @@ pub record FitsClient (ends : Role → ℕ → End) (c : NetClient) : Type 0 whe
 abbrev pub client_owes : NetClient → List Cargo
 client_owes c = stock_list c.stock ++ option_to_list c.frames.pipe.load
 
--- it put its buffers in rising number and then those that it took, but for what it owes; it recorded the frames that it took;
--- and it sent nothing
+-- it put its buffers in rising number and then those that it took, but for what it owes; it
+-- recorded the frames that it took; and it sent nothing
 pub record ClientStandsFor (c : NetClient) (passed : Passed) : Type 0 where
   pub start : List Paged
   pub is_start : IsStart c.stock start
@@ -60,8 +60,8 @@ pub record ClientStandsFor (c : NetClient) (passed : Passed) : Type 0 where
   pub sends : passed.sent (tx_active c) ≡ []
   pub returned : passed.taken (tx_free c) ≡ []
 
--- the buffers that it put are its own in rising number and then those that it took, in their order and as they came; its
--- record is the frames that it took; and it sends nothing
+-- the buffers that it put are its own in rising number and then those that it took, in their order
+-- and as they came; its record is the frames that it took; and it sends nothing
 pub record ClientRow (c : NetClient) (passed : Passed) : Type 0 where
   pub start : List Paged
   pub is_start : IsStart c.stock start

@@ -1,5 +1,6 @@
-//! The programs of the network clients. A sink gives its buffers, records the frames that come in them, and gives them
-//! back. The programs are this project's own; that a client has two queues each way is sDDF's.
+//! The programs of the network clients. A sink gives its buffers, records the frames that come in
+//! them, and gives them back. The programs are this project's own; that a client has two queues
+//! each way is sDDF's.
 #![tactic(auto)]
 
 ghost use Rattle.std.specs.Prelude.{◌≡◌, ◌+◌, ◌-◌, ◌<◌, ◌≤◌, ◌^◌, [], ◌∷◌, ℕ, IfOk, OnErr, is_none, false, length};
@@ -19,9 +20,10 @@ use std::alloc::Global;
 use turn_kit::{Intake, Outlet, Turn, count_held};
 use wire_core::{Event, QueueId, Wires};
 
-/// A network client that sends nothing. `frames` moves what comes back to the queue of free buffers, and records it; `stock`
-/// has the receive buffers that it didn't give yet; `sent` and `send` are its ends for sending, and `spare` the buffers that
-/// it could send in, all of which stay in its hand.
+/// A network client that sends nothing. `frames` moves what comes back to the queue of free
+/// buffers, and records it; `stock` has the receive buffers that it didn't give yet; `sent` and
+/// `send` are its ends for sending, and `spare` the buffers that it could send in, all of which
+/// stay in its hand.
 #[derive(Drop)]
 pub struct NetClient {
     pub frames: Recorder,
@@ -33,8 +35,8 @@ pub struct NetClient {
 }
 
 impl NetClient {
-    /// A sink in its start state. `rx` and `tx` are each the queue of frames and then the queue of free buffers; the pages
-    /// are the client's buffers, in rising number.
+    /// A sink in its start state. `rx` and `tx` are each the queue of frames and then the queue of
+    /// free buffers; the pages are the client's buffers, in rising number.
     pub fn new(
         alloc: Global,
         rx: [QueueId; 2],
@@ -84,7 +86,8 @@ impl NetClient {
             && self.send.settled(false)
     }
 
-    /// How many buffers of a pool are in its hand: those that it has yet to put, and those that it could send in.
+    /// How many buffers of a pool are in its hand: those that it has yet to put, and those that it
+    /// could send in.
     pub fn held(&self, pool: PoolId) -> u32
         requires few { length self.now.stock.rest.items + length self.now.spare.items < 2 ^ 32 - 2 }
         ensures { result ≡ buffers_of pool (client_hand self.now) }
@@ -137,7 +140,8 @@ impl NetClient {
         self.frames.step_input(wires)
     }
 
-    // The next call where free buffers go: first those that it gives for the first time, in rising number.
+    // The next call where free buffers go: first those that it gives for the first time, in rising
+    // number.
     fn step_output<W: Wires>(&mut self, wires: &mut W) -> Event
         requires { FitsClient (W.ends wires.old) self.old }
         ensures fits { FitsClient (W.ends wires.new) self.new }
@@ -194,8 +198,8 @@ impl NetClient {
         self.send.step(wires, &mut nothing)
     }
 
-    /// Makes one call on one of its ends. The memory of the record is taken first; after want of memory no call was made
-    /// and nothing changed.
+    /// Makes one call on one of its ends. The memory of the record is taken first; after want of
+    /// memory no call was made and nothing changed.
     pub fn step<W: Wires>(&mut self, wires: &mut W) -> Result<Event, Memory>
         requires { FitsClient (W.ends wires.old) self.old }
         ensures fits { FitsClient (W.ends wires.new) self.new }

@@ -27,7 +27,8 @@ leased_bytes (item, Carried.Lease lease) = lease.bytes
 leased_bytes (item, Carried.Empty) = []
 leased_bytes (item, Carried.Page page) = []
 
--- an entry of the leases is out of turn where its body is no lease, or one of more than 65,535 bytes
+-- an entry of the leases is out of turn where its body is no lease, or one of more than 65,535
+-- bytes
 abbrev pub is_stray : Cargo → Bool
 is_stray (item, Carried.Lease lease) = nat_le 65536 (length lease.bytes)
 is_stray (item, Carried.Empty) = true
@@ -69,7 +70,8 @@ pub record IsWork (c : NetCopier) : Type 0 where
   pub lease : IfThere c.lease (IsAt c.stage)
   pub buffered : is_some c.buffer ≡ true → (is_some c.lease ≡ true) × (c.stage ≡ At.Taken)
 
--- the ends are the copier's own, and as it keeps them; all are queues of the network, and so are the entries in hand
+-- the ends are the copier's own, and as it keeps them; all are queues of the network, and so are
+-- the entries in hand
 pub record FitsCopier (ends : Role → ℕ → End) (c : NetCopier) : Type 0 where
   pub lease_input : Agrees (ends Consumer c.lease_input.queue.0) c.lease_input.state
   pub buffer_input : Agrees (ends Consumer c.buffer_input.queue.0) c.buffer_input.state
@@ -85,8 +87,9 @@ pub record FitsCopier (ends : Role → ℕ → End) (c : NetCopier) : Type 0 whe
   pub buffer : ForSome c.buffer (λ x. kind_of x.0 ≡ Kind.Net)
   pub work : IsWork c
 
--- each lease that it took went back, or is in its hand; each buffer that it took was filled with the lease of its place, and
--- was put, or is in its hand; and each buffer was put before its lease, which was in turn
+-- each lease that it took went back, or is in its hand; each buffer that it took was filled with
+-- the lease of its place, and was put, or is in its hand; and each buffer was put before its lease,
+-- which was in turn
 pub record CopierStandsFor (c : NetCopier) (passed : Passed) : Type 0 where
   pub leases : passed.taken c.lease_input.queue.0 ≡ passed.sent c.lease_output.queue.0
       ++ option_to_list c.lease
@@ -99,9 +102,10 @@ pub record CopierStandsFor (c : NetCopier) (passed : Passed) : Type 0 where
   pub in_turn : All (λ (x : Cargo). is_stray x ≡ false) (passed.sent c.lease_output.queue.0)
   pub work : IsWork c
 
--- of the leases that it took in turn, which are all but for one that came last: what it put are the client's buffers in their order, each with the bytes
--- and the length of the lease of its place; it took no more buffers than leases, gave leases back as they came, and no
--- more of them than it put buffers
+-- of the leases that it took in turn, which are all but for one that came last: what it put are the
+-- client's buffers in their order, each with the bytes and the length of the lease of its place; it
+-- took no more buffers than leases, gave leases back as they came, and no more of them than it put
+-- buffers
 pub record CopierRow (c : NetCopier) (passed : Passed) : Type 0 where
   pub leases : List Cargo
   pub stray : List Cargo
@@ -145,8 +149,8 @@ pub record SameWork (old new : NetCopier) : Type 0 where
   pub stage : new.stage ≡ old.stage
   pub buffer : new.buffer ≡ old.buffer
 
--- its ends: it needs a lease while it has none, and a buffer while it has a lease and took no buffer for it; it owes the
--- buffer that is filled, and then the lease
+-- its ends: it needs a lease while it has none, and a buffer while it has a lease and took no
+-- buffer for it; it owes the buffer that is filled, and then the lease
 abbrev pub copier_round : NetCopier → Round
 copier_round c = record {
   posts = intake_post c.lease_input ∷ intake_post c.buffer_input ∷ outlet_post c.buffer_output

@@ -1,5 +1,5 @@
-//! The copier of a network client: it copies each leased frame into one of the client's own buffers. That a client has a
-//! copier is sDDF's; the order of its turns is this project's own.
+//! The copier of a network client: it copies each leased frame into one of the client's own
+//! buffers. That a client has a copier is sDDF's; the order of its turns is this project's own.
 #![tactic(auto)]
 
 ghost use Rattle.std.specs.Prelude.{◌≡◌, ◌<◌, ℕ, Some, true, false, is_none, is_some, length};
@@ -53,8 +53,9 @@ fn stage_of(entry: &(Item, Body)) -> Stage
     }
 }
 
-/// Copies leased frames into a client's buffers. It takes a buffer only while it has a lease, and gives the lease back when
-/// the buffer is put. `stage` says how far it is with `lease`; `buffer` is filled, and is to be put.
+/// Copies leased frames into a client's buffers. It takes a buffer only while it has a lease, and
+/// gives the lease back when the buffer is put. `stage` says how far it is with `lease`; `buffer`
+/// is filled, and is to be put.
 #[derive(Drop)]
 pub struct NetCopier {
     pub lease_input: Intake,
@@ -126,7 +127,8 @@ impl NetCopier {
             && self.lease_output.settled(self.is_returning())
     }
 
-    /// How many buffers of a pool are in its hand: a client's buffer that it filled, or one that came out of turn.
+    /// How many buffers of a pool are in its hand: a client's buffer that it filled, or one that
+    /// came out of turn.
     pub fn held(&self, pool: PoolId) -> u32
         ensures { result ≡ buffers_of pool (copier_hand self.now) }
     {
@@ -214,7 +216,8 @@ impl NetCopier {
             (is_some self.old.buffer) result (outlet_post self.new.buffer_output) }
         ensures still { is_mark result.op result.answer ≡ false → SameWork self.old self.new }
         ensures others { self.new ≡ record self.old
-            { buffer_output = self.new.buffer_output; buffer = self.new.buffer; stage = self.new.stage } }
+            { buffer_output = self.new.buffer_output; buffer = self.new.buffer;
+                stage = self.new.stage } }
     {
         let event = self.buffer_output.step(wires, &mut self.buffer);
         if event.item.is_some() {

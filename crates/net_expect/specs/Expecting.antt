@@ -4,7 +4,8 @@ use Rattle.std.specs.List.{filter}
 use Rattle.frame_core.specs.declared.mac.Mac.{Mac}
 use Rattle.frame_core.specs.Frames.{is_frame_for, turned_round}
 
--- a frame is for the client of an address: it has a whole header, and goes to that address or to all stations
+-- a frame is for the client of an address: it has a whole header, and goes to that address or to
+-- all stations
 abbrev pub is_for_client : Mac → List ℕ → Bool
 is_for_client mac frame = nat_le 14 (length frame) && is_frame_for frame mac
 
@@ -12,11 +13,13 @@ is_for_client mac frame = nat_le 14 (length frame) && is_frame_for frame mac
 abbrev pub frames_for : Mac → List (List ℕ) → List (List ℕ)
 frames_for mac frames = filter (is_for_client mac) frames
 
--- the frames by which the client of an address answers those that it must get: each goes back to the station from which it came
+-- the frames by which the client of an address answers those that it must get: each goes back to
+-- the station from which it came
 abbrev pub answers_for : Mac → List (List ℕ) → List (List ℕ)
 answers_for mac frames = map (λ frame. turned_round frame mac) (frames_for mac frames)
 
--- what a client does with its frames: it sends nothing, the frames of its script, or an answer to each frame
+-- what a client does with its frames: it sends nothing, the frames of its script, or an answer to
+-- each frame
 pub data Program : Type 0 where
   Sink : Program
   Source : List (List ℕ) → Program

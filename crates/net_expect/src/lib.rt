@@ -1,5 +1,6 @@
-//! Which frames of a device a network client must get, and how an echo answers them. A frame without a whole header is for nobody; that a client gets the
-//! frames to its address and to all stations is sDDF's.
+//! Which frames of a device a network client must get, and how an echo answers them. A frame
+//! without a whole header is for nobody; that a client gets the frames to its address and to all
+//! stations is sDDF's.
 #![tactic(auto)]
 
 ghost use Rattle.std.specs.Prelude.{◌≡◌, [], ◌∷◌, ◌++◌, IfOk, OnOk};
@@ -54,7 +55,8 @@ fn append_answer(alloc: Global, log: &mut FrameLog, frame: &[u8], mac: Mac) -> R
     log.push(&answer)
 }
 
-/// The frames by which an echo of an address answers those that it must get, of those that the device receives.
+/// The frames by which an echo of an address answers those that it must get, of those that the
+/// device receives.
 pub fn answers_for(alloc: Global, frames: &FrameLog, mac: Mac) -> Result<FrameLog, Memory>
     ensures { IfOk result (λ log. log ≡ answers_for mac frames.now) }
 {

@@ -7,7 +7,8 @@ use Rattle.cargo_core.specs.declared.item.Body.TheVariants as Carried
 use Rattle.cargo_core.specs.Pages.{Paged}
 use Rattle.wire_core.specs.Deeds.{Cargo}
 
--- these are the buffers of a pool, each of one size, in rising number from 0 on, and they end at most at 2^62
+-- these are the buffers of a pool, each of one size, in rising number from 0 on, and they end at
+-- most at 2^62
 pub record ArePool (base : ℕ) (pool : PoolId) (size : ℕ) (pages : List Paged) : Type 0 where
   pub same_pool : (k : ℕ) (p : Paged) → slice_get pages k ≡ Some p → p.pool ≡ pool
   pub numbered : (k : ℕ) (p : Paged) → slice_get pages k ≡ Some p → p.no ≡ k
@@ -16,7 +17,8 @@ pub record ArePool (base : ℕ) (pool : PoolId) (size : ℕ) (pages : List Paged
   pub few : length pages < 2 ^ 32
   pub ends : base + length pages * size ≤ 2 ^ 62
 
--- the entry by which a buffer is given: the address at which it begins, no frame, and the buffer itself
+-- the entry by which a buffer is given: the address at which it begins, no frame, and the buffer
+-- itself
 abbrev pub given_entry : (base size : ℕ) → Paged → Cargo
 given_entry base size page = (
   ItemOf.Net

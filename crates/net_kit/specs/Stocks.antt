@@ -18,7 +18,8 @@ stock_list s = option_to_list s.next ++ map (given_entry s.base s.size) (reverse
 abbrev pub stock_hand : Stock → List Body
 stock_hand s = bodies_of (option_to_list s.next) ++ page_bodies s.rest.items
 
--- the next one is ready where any is left, it is an entry of the network, and each buffer has an address
+-- the next one is ready where any is left, it is an entry of the network, and each buffer has an
+-- address
 pub record IsStock (s : Stock) : Type 0 where
   pub ready : s.next ≡ None → s.rest.items ≡ []
   pub kind : ForSome s.next (λ c. kind_of c.0 ≡ Kind.Net)

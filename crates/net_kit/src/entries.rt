@@ -24,8 +24,8 @@ pub fn told_length(item: &Item) -> u16
     }
 }
 
-/// The frame of an entry: the first bytes of its page, as many as its length says and the page has. It is empty where the
-/// entry has no page. At most 65,535 bytes, since a length has 16 bits.
+/// The frame of an entry: the first bytes of its page, as many as its length says and the page has.
+/// It is empty where the entry has no page. At most 65,535 bytes, since a length has 16 bits.
 pub fn frame(entry: &(Item, Body)) -> &[u8]
     ensures frame { result.now ≡ frame_of entry.now }
     ensures short { length result.now < 2 ^ 16 }
@@ -40,8 +40,8 @@ pub fn frame(entry: &(Item, Body)) -> &[u8]
     }
 }
 
-/// Fills an entry with these bytes: it has their length, and they stand at the front of its page where that is long enough.
-/// Any other body goes on as it is.
+/// Fills an entry with these bytes: it has their length, and they stand at the front of its page
+/// where that is long enough. Any other body goes on as it is.
 pub fn fill(entry: (Item, Body), bytes: &[u8]) -> (Item, Body)
     requires { length bytes.now < 2 ^ 16 }
     ensures { result ≡ filled bytes.now entry }

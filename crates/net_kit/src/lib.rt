@@ -1,5 +1,5 @@
-//! What the actors of the network class share: the frame of an entry, buffers that are filled, buffers that are given at the
-//! start, pipes that record, and the ends of virtualisers.
+//! What the actors of the network class share: the frame of an entry, buffers that are filled,
+//! buffers that are given at the start, pipes that record, and the ends of virtualisers.
 #![tactic(auto)]
 
 mod entries;

@@ -28,7 +28,8 @@ pub struct Recorder {
 }
 
 impl Recorder {
-    /// A recorder between two queues, with its ends in their start state and nothing recorded. It takes no memory.
+    /// A recorder between two queues, with its ends in their start state and nothing recorded. It
+    /// takes no memory.
     pub fn new(alloc: Global, from: QueueId, to: QueueId) -> Recorder
         ensures pipe { IsNewPipe from to result.pipe }
         ensures tape { result.tape.shown ≡ [] }
@@ -50,7 +51,8 @@ impl Recorder {
         self.tape.reserve(LONGEST)
     }
 
-    /// The next call of the input. The frame of what it takes is recorded, into memory that was taken before.
+    /// The next call of the input. The frame of what it takes is recorded, into memory that was
+    /// taken before.
     pub fn step_input<W: Wires>(&mut self, wires: &mut W) -> Event
         requires fits { FitsPipe (W.ends wires.old) self.old.pipe }
         requires place { 0 < self.old.tape.places }

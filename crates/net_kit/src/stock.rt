@@ -10,8 +10,9 @@ use crate::pages_of;
 use cargo_core::{Body, Item, NetDesc, Page, PoolId};
 use turn_kit::count_held;
 
-/// Buffers that are to be given in rising number. `next` is the one that is given next, `rest` the others, the last of them
-/// first. They are the buffers of a pool, as many as `buffers` and each of `size` bytes; that of number 0 begins at `base`.
+/// Buffers that are to be given in rising number. `next` is the one that is given next, `rest` the
+/// others, the last of them first. They are the buffers of a pool, as many as `buffers` and each of
+/// `size` bytes; that of number 0 begins at `base`.
 #[derive(Drop)]
 pub struct Stock {
     pub next: Option<(Item, Body)>,
@@ -22,7 +23,8 @@ pub struct Stock {
     pub size: u64,
 }
 
-// The pool of some buffers, their size and their number. Where there is none, any pool and size will do.
+// The pool of some buffers, their size and their number. Where there is none, any pool and size
+// will do.
 fn described(pages: &Vec<Page>) -> (PoolId, u64, u32)
     requires { length pages.now.items < 2 ^ 32 }
     ensures kind { (base : ℕ) (pool : PoolId) (size : ℕ)

@@ -1,4 +1,5 @@
-//! All ends of a virtualiser: two at the driver's queues, and for each client one where entries come and one where they go.
+//! All ends of a virtualiser: two at the driver's queues, and for each client one where entries
+//! come and one where they go.
 ghost use Rattle.std.specs.Prelude.{◌≡◌, ◌==◌, ◌+◌, ◌<◌, ◌^◌, ◌++◌, ◌&&◌, ℕ, [], IfOk, IfSome, IsSome, length, map, is_some, slice_get, Some, None, true, false};
 ghost use Rattle.std.specs.Option.{ForSome, option_to_list};
 ghost use Rattle.cargo_core.specs.Items.{kind_of};
@@ -15,7 +16,8 @@ use std::alloc::Global;
 use turn_kit::{Choice, Intake, Intakes, Needs, Outlet, Outlets, Turn};
 use wire_core::{Event, QueueId, Wires};
 
-/// One of the ends of a virtualiser: the two at the driver's queues, and those of each client, by the client's place.
+/// One of the ends of a virtualiser: the two at the driver's queues, and those of each client, by
+/// the client's place.
 #[derive(Clone, Copy, Debug, PartialEq, Eq)]
 pub enum VirtEnd {
     Input,
@@ -103,8 +105,8 @@ impl VirtEnds {
         })
     }
 
-    /// Whether all ends are settled: those that are needed or loaded are told for the driver's two, and by the clients'
-    /// places for the others.
+    /// Whether all ends are settled: those that are needed or loaded are told for the driver's two,
+    /// and by the clients' places for the others.
     pub fn settled<N: Needs, L: Needs>(&self, need: bool, owed: bool, needs: &N, loads: &L) -> bool
         ensures { result ≡ is_at_rest (virt_round self.now need owed (N.need needs.now)
             (L.need loads.now)) }
@@ -160,7 +162,8 @@ impl VirtEnds {
     ) -> VirtEnd
         requires from_clients { length (from_queues self.old) < 2 ^ 32 }
         requires to_clients { length (to_queues self.old) < 2 ^ 32 }
-        ensures place { place_of self.old result ≡ chosen_place (choice_of (virt_round self.old need owed
+        ensures place { place_of self.old result
+            ≡ chosen_place (choice_of (virt_round self.old need owed
             (N.need needs.now) (L.need loads.now))) }
         ensures there { IsThere self.old result }
         ensures after { self.new ≡ record self.old {
@@ -219,7 +222,8 @@ impl VirtEnds {
         self.output.step(wires, load)
     }
 
-    /// The next call where entries come from the client at the place `k`. An entry is taken only where it is needed.
+    /// The next call where entries come from the client at the place `k`. An entry is taken only
+    /// where it is needed.
     pub fn step_from_client<W: Wires>(
         &mut self,
         wires: &mut W,
@@ -246,7 +250,8 @@ impl VirtEnds {
         self.from_clients.step(wires, k, need)
     }
 
-    /// The next call where entries go to the client at the place `k`. The load goes exactly at a put.
+    /// The next call where entries go to the client at the place `k`. The load goes exactly at a
+    /// put.
     pub fn step_to_client<W: Wires>(
         &mut self,
         wires: &mut W,

@@ -1,4 +1,5 @@
--- The network class on its way to one client, apart from any system: the rows of the actors on that way, and the queues between.
+-- The network class on its way to one client, apart from any system: the rows of the actors on that
+-- way, and the queues between.
 use Rattle.std.specs.Prelude.{◌≡◌, ◌≤◌, ℕ, Some, List, [], ◌∷◌, length, map, slice_get}
 use Rattle.cargo_core.specs.declared.item.Body.{Body}
 use Rattle.cargo_core.specs.declared.item.Body.TheVariants as Carried
@@ -42,8 +43,9 @@ AreRoomy [] cs = Unit {0}
 AreRoomy (bytes ∷ rest) [] = Unit {0}
 AreRoomy (bytes ∷ rest) (c ∷ cs) = IsRoomy bytes c × AreRoomy rest cs
 
--- a device, its driver, the receiving virtualiser, and a client with its copier, whose rows hold; the client is that at one place
--- of the virtualiser's, and has this address; and each buffer that is filled is long enough
+-- a device, its driver, the receiving virtualiser, and a client with its copier, whose rows hold;
+-- the client is that at one place of the virtualiser's, and has this address; and each buffer that
+-- is filled is long enough
 pub record IsReceiving (d : EthDevice) (p : Pipes (Pipes (Pipes Pipe))) (v : NetVirtRx)
     (k : NetCopier) (c : NetClient) (mac : Mac) (passed : Passed) : Type 0 where
   pub hands_over : HandsOver passed

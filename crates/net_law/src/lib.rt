@@ -1,5 +1,5 @@
-//! The network class apart from any system: what reaches a client, from the rows of the actors on the way and the law of the
-//! queues between them, at any moment.
+//! The network class apart from any system: what reaches a client, from the rows of the actors on
+//! the way and the law of the queues between them, at any moment.
 #![tactic(auto)]
 
 ghost use Rattle.cargo_core.specs.Lists.{IsPrefix};

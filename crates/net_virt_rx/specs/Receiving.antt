@@ -30,8 +30,8 @@ pub record FitsRx (ends : Role → ℕ → End) (v : NetVirtRx) : Type 0 where
   pub from_each : length (from_queues v.ends) ≡ length v.work.macs.items
   pub to_each : length (to_queues v.ends) ≡ length v.work.macs.items
 
--- an entry that was taken at the queue `place` is out of turn, by what was taken in turn and what was put: at the queue of frames,
--- or at one of those on which leases come back
+-- an entry that was taken at the queue `place` is out of turn, by what was taken in turn and what
+-- was put: at the queue of frames, or at one of those on which leases come back
 abbrev pub IsOutOfTurn : (input output : ℕ) (from_clients : List QueueId) → Sharer
     → (turn sent : Lists) → ℕ → Cargo → Type 0
 IsOutOfTurn input output from_clients w turn sent place c =
@@ -40,8 +40,9 @@ IsOutOfTurn input output from_clients w turn sent place c =
     × (place ≡ queue_at from_clients k)
     × (IsLeaseInTurn w.stock mac (turn input) (turn place) c → ⊥))
 
--- what it took is what came in turn and at most one entry, which came last; it stands for what came in turn and what it put; and
--- what it had at the start and what came is what went, what is in its hand, and what is lent
+-- what it took is what came in turn and at most one entry, which came last; it stands for what came
+-- in turn and what it put; and what it had at the start and what came is what went, what is in its
+-- hand, and what is lent
 pub record RxStands (input output : ℕ) (from_clients to_clients : List QueueId) (w : Sharer)
     (passed : Passed) : Type 0 where
   pub work : IsSharer w
@@ -64,9 +65,10 @@ abbrev pub RxStandsFor : NetVirtRx → Passed → Type 0
 RxStandsFor v passed = RxStands v.ends.input.queue.0 v.ends.output.queue.0 (from_queues v.ends)
     (to_queues v.ends) v.work passed
 
--- how a client is served, by what was taken in turn and what was put: it is given the leases of the frames for it, in their order,
--- and those of all frames but the last before another frame is taken; no more leases of a buffer come back than were due, of
--- a buffer at most one is due or out; and while one is, the buffer isn't given
+-- how a client is served, by what was taken in turn and what was put: it is given the leases of the
+-- frames for it, in their order, and those of all frames but the last before another frame is
+-- taken; no more leases of a buffer come back than were due, of a buffer at most one is due or out;
+-- and while one is, the buffer isn't given
 pub record IsServed (s : Stock) (mac : Mac) (frames earlier given shared back : List Cargo) :
     Type 0 where
   pub lends : IsPrefix shared (leases_for s.size mac frames)
@@ -79,9 +81,10 @@ pub record IsServed (s : Stock) (mac : Mac) (frames earlier given shared back : 
       < named 0 s.size b (leases_for s.size mac frames) → named s.base s.size b given
       ≤ named s.base s.size b frames
 
--- of what it took in turn, which is all but for one entry that came last: each frame came in one of its buffers; it gave all its
--- buffers in rising number, and each one later only after a frame came in it; and it serves each client. A frame is taken only
--- when no lease of the one before is owed: those of all but the last are given
+-- of what it took in turn, which is all but for one entry that came last: each frame came in one of
+-- its buffers; it gave all its buffers in rising number, and each one later only after a frame came
+-- in it; and it serves each client. A frame is taken only when no lease of the one before is owed:
+-- those of all but the last are given
 pub record RxRow (v : NetVirtRx) (passed : Passed) : Type 0 where
   pub start : List Paged
   pub is_start : IsStart v.work.stock start
@@ -109,7 +112,8 @@ pub record RxRow (v : NetVirtRx) (passed : Passed) : Type 0 where
       → IsServed v.work.stock mac (turn v.ends.input.queue.0) earlier
       (passed.sent v.ends.output.queue.0) (passed.sent q.0) (turn r.0)
 
--- what it had at the start and what came is what went, what is in its hand, and the buffers that are lent
+-- what it had at the start and what came is what went, what is in its hand, and the buffers that
+-- are lent
 pub record RxBalances (v : NetVirtRx) (passed : Passed) : Type 0 where
   pub start : List Paged
   pub is_start : IsStart v.work.stock start
@@ -132,7 +136,8 @@ pub record IsNewRx (active free : QueueId) (base : ℕ) (clients : List LeaseEnd
       (map (λ (c : LeaseEnds). c.active) clients) v.ends
   pub work : IsNewSharer base (map (λ (c : LeaseEnds). c.mac) clients) pages v.work
 
--- its ends: it needs frames and leases while it has no lease and no buffer in its hand, and owes buffers and leases
+-- its ends: it needs frames and leases while it has no lease and no buffer in its hand, and owes
+-- buffers and leases
 abbrev pub rx_round : NetVirtRx → Round
 rx_round v = virt_round v.ends (is_idle v.work) (is_some v.work.stock.next)
     (λ k. is_idle v.work) (λ k. slice_index_or v.work.owed k false)

@@ -1,5 +1,5 @@
--- What a receiving virtualiser has in its hand and has lent, and how it stands for the frames that came, the buffers that it gave
--- and the leases that went to each client and came back.
+-- What a receiving virtualiser has in its hand and has lent, and how it stands for the frames that
+-- came, the buffers that it gave and the leases that went to each client and came back.
 use Rattle.std.specs.Prelude.{◌≡◌, ◌+◌, ◌-◌, ◌*◌, ◌<◌, ◌≤◌, ◌^◌, ◌==◌, ◌&&◌, ℕ, zero, suc, Bool, true, false, not, nat_lt, is_some, is_none, Option, Some, None, List, [], ◌∷◌, ◌++◌, All, length, map, flat_map, take, slice_get, slice_index_or}
 use Rattle.std.specs.List.{filter}
 use Rattle.std.specs.Option.{option_to_list}
@@ -37,7 +37,8 @@ number_of (Carried.Page page) = page.no
 number_of (Carried.Lease lease) = lease.no
 number_of Carried.Empty = 0
 
--- the entry by which a buffer is lent: the offset at which it begins, and leave to read these bytes of it
+-- the entry by which a buffer is lent: the offset at which it begins, and leave to read these bytes
+-- of it
 abbrev pub lease_entry : (size number : ℕ) → List ℕ → Cargo
 lease_entry size number bytes = (
   ItemOf.Net (record { addr = number * size; len = length bytes }),
@@ -65,7 +66,8 @@ abbrev pub IsFrameInTurn : Stock → (frames given : List Cargo) → Cargo → T
 IsFrameInTurn s frames given c = IsBuffer s c × (named s.base s.size (number_of c.1) frames
     < named s.base s.size (number_of c.1) given)
 
--- a lease that comes back is in turn where it names, with its lease, a buffer of which a lease is out to that client
+-- a lease that comes back is in turn where it names, with its lease, a buffer of which a lease is
+-- out to that client
 abbrev pub IsLeaseInTurn : Stock → Mac → (frames back : List Cargo) → Cargo → Type 0
 IsLeaseInTurn s mac frames back (item, Carried.Lease lease) =
     (lease.no < s.buffers) × (addr_of item ≡ lease.no * s.size)
@@ -128,7 +130,8 @@ pub record Owes (w : Sharer) : Type 0 where
   pub within : w.shared < w.stock.buffers
   pub lent : 1 ≤ receivers_at w.lent w.shared
 
--- what it keeps fits together: the counts of lent buffers are the numbers of the clients to which a lease of them is out
+-- what it keeps fits together: the counts of lent buffers are the numbers of the clients to which a
+-- lease of them is out
 pub record IsSharer (w : Sharer) : Type 0 where
   pub stock : IsStock w.stock
   pub rest : length w.stock.rest.items < 2 ^ 32 - 1
@@ -156,7 +159,8 @@ loan_bodies (Some loan) = Carried.Page loan.0 ∷ []
 abbrev pub lent_bodies : List (Option Loan) → List Body
 lent_bodies lent = flat_map loan_bodies lent
 
--- the bodies in its hand that aren't lent: buffers that it has yet to give, and an entry that came out of turn
+-- the bodies in its hand that aren't lent: buffers that it has yet to give, and an entry that came
+-- out of turn
 abbrev pub sharer_hand : Sharer → List Body
 sharer_hand w = stock_hand w.stock ++ bodies_of (option_to_list w.stray)
 
@@ -169,9 +173,10 @@ pub record SameSharer (old new : Sharer) : Type 0 where
   pub stock : SameStock old.stock new.stock
   pub macs : new.macs ≡ old.macs
 
--- how it stands for the client at place k, by these frames, of which all but the last are `earlier`, and by the leases that were
--- shared to the client and came back: all are shared but one that is owed, those of the earlier frames among them; and a lease
--- of a buffer is out where it is due and didn't come back
+-- how it stands for the client at place k, by these frames, of which all but the last are
+-- `earlier`, and by the leases that were shared to the client and came back: all are shared but one
+-- that is owed, those of the earlier frames among them; and a lease of a buffer is out where it is
+-- due and didn't come back
 pub record ClientStands (w : Sharer) (k : ℕ) (mac : Mac)
     (frames earlier shared back : List Cargo) : Type 0 where
   pub lends : shared ++ owed_to w k ≡ leases_for w.stock.size mac frames
@@ -179,9 +184,9 @@ pub record ClientStands (w : Sharer) (k : ℕ) (mac : Mac)
   pub backs : (b : ℕ) → b < w.stock.buffers → named 0 w.stock.size b back + bit (is_out w b k)
       ≡ named 0 w.stock.size b (leases_for w.stock.size mac frames)
 
--- how it stands for the frames that came in turn, the buffers that it gave, and the leases of each client by its place: it gave its
--- buffers in rising number, and then those that came back; and each buffer was in its hand or is lent once more than a frame
--- came in it
+-- how it stands for the frames that came in turn, the buffers that it gave, and the leases of each
+-- client by its place: it gave its buffers in rising number, and then those that came back; and
+-- each buffer was in its hand or is lent once more than a frame came in it
 pub record SharerStands (w : Sharer) (start : List Paged) (frames given : List Cargo)
     (shared back : ℕ → List Cargo) : Type 0 where
   pub earlier : List Cargo

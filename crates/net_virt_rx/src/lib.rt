@@ -1,5 +1,6 @@
-//! The receiving virtualiser of the network: it lends each frame's buffer to the clients that the frame is for, and gives the buffer
-//! back when each of them returned its lease. That the network has one is sDDF's; its turns are this project's own.
+//! The receiving virtualiser of the network: it lends each frame's buffer to the clients that the
+//! frame is for, and gives the buffer back when each of them returned its lease. That the network
+//! has one is sDDF's; its turns are this project's own.
 #![tactic(auto)]
 
 ghost use Rattle.std.specs.Prelude.{◌≡◌, ◌+◌, ◌<◌, ◌^◌, ◌∷◌, [], ℕ, IfOk, OnErr, is_some, length, map, slice_index_or, true, false};
@@ -26,8 +27,8 @@ mod sharer;
 pub use receivers::Receivers;
 pub use sharer::Sharer;
 
-/// A client of the virtualiser: its address, the queue on which its leases go to its copier, and the one on which they come
-/// back.
+/// A client of the virtualiser: its address, the queue on which its leases go to its copier, and
+/// the one on which they come back.
 #[derive(Clone, Copy, Debug, PartialEq, Eq)]
 pub struct LeaseEnds {
     pub mac: Mac,
@@ -35,7 +36,8 @@ pub struct LeaseEnds {
     pub free: QueueId,
 }
 
-/// The receiving virtualiser. It takes a frame or a lease only while it has no lease and no buffer in its hand.
+/// The receiving virtualiser. It takes a frame or a lease only while it has no lease and no buffer
+/// in its hand.
 #[derive(Drop)]
 pub struct NetVirtRx {
     pub ends: VirtEnds,
@@ -76,8 +78,8 @@ fn free_of(alloc: Global, clients: &[LeaseEnds]) -> Result<Vec<QueueId>, Memory>
 }
 
 impl NetVirtRx {
-    /// A virtualiser in its start state. Frames come at `active`, and buffers go to `free`; the pages are all buffers of the
-    /// pool in rising number, the first of which begins at `base`.
+    /// A virtualiser in its start state. Frames come at `active`, and buffers go to `free`; the
+    /// pages are all buffers of the pool in rising number, the first of which begins at `base`.
     pub fn new(
         alloc: Global,
         active: QueueId,
@@ -130,7 +132,8 @@ impl NetVirtRx {
         requires from_clients { length (from_queues self.old.ends) < 2 ^ 32 }
         requires to_clients { length (to_queues self.old.ends) < 2 ^ 32 }
         requires owed { length self.old.work.owed < 2 ^ 32 }
-        ensures place { place_of self.old.ends result ≡ chosen_place (choice_of (rx_round self.old)) }
+        ensures place { place_of self.old.ends result
+            ≡ chosen_place (choice_of (rx_round self.old)) }
         ensures there { IsThere self.old.ends result }
         ensures after { self.new ≡ record self.old {
           ends = record self.old.ends {
@@ -259,8 +262,8 @@ impl NetVirtRx {
         }
     }
 
-    /// Makes one call on one of its ends. The memory of a lease that is owed is taken first; after want of memory no call was
-    /// made and nothing changed.
+    /// Makes one call on one of its ends. The memory of a lease that is owed is taken first; after
+    /// want of memory no call was made and nothing changed.
     pub fn step<W: Wires>(&mut self, wires: &mut W) -> Result<Event, Memory>
         requires { FitsRx (W.ends wires.old) self.old }
         ensures fits { FitsRx (W.ends wires.new) self.new }

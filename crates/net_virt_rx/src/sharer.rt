@@ -17,10 +17,11 @@ use net_kit::{Stock, address, frame, told_length};
 use std::alloc::Global;
 use turn_kit::count_held;
 
-/// What a receiving virtualiser has. `stock` are the buffers that it is to give, `macs` the clients' addresses. `owed` are the
-/// clients to which a lease of the buffer number `shared` is owed, whose frame has `len` bytes where its page has as many;
-/// `ready` is such a lease. `lent` has the pages that are lent, and `out` of each buffer the clients to which a lease of
-/// it is owed or out. After an entry came out of turn, which is `stray`, it takes and puts no more.
+/// What a receiving virtualiser has. `stock` are the buffers that it is to give, `macs` the
+/// clients' addresses. `owed` are the clients to which a lease of the buffer number `shared` is
+/// owed, whose frame has `len` bytes where its page has as many; `ready` is such a lease. `lent`
+/// has the pages that are lent, and `out` of each buffer the clients to which a lease of it is owed
+/// or out. After an entry came out of turn, which is `stray`, it takes and puts no more.
 #[derive(Drop)]
 pub struct Sharer {
     pub stock: Stock,
@@ -243,7 +244,8 @@ impl Sharer {
         self.lent.lend(page, receivers);
     }
 
-    // A frame came in turn: its buffer is lent to the clients that it is for. Where it is for none, the buffer is to be given.
+    // A frame came in turn: its buffer is lent to the clients that it is for. Where it is for none,
+    // the buffer is to be given.
     fn take_in(&mut self, entry: (Item, Body))
         requires work { IsSharer self.old }
         requires idle { is_idle self.old ≡ true }
@@ -273,8 +275,8 @@ impl Sharer {
         }
     }
 
-    /// A frame came. Its buffer is lent to the clients that the frame is for; where there is none, it is to be given again.
-    /// An entry out of turn strays.
+    /// A frame came. Its buffer is lent to the clients that the frame is for; where there is none,
+    /// it is to be given again. An entry out of turn strays.
     pub fn receive(&mut self, entry: (Item, Body))
         requires work { IsSharer self.old }
         requires idle { is_idle self.old ≡ true }
@@ -297,7 +299,8 @@ impl Sharer {
         }
     }
 
-    // A lease of a buffer came back from a client. The last one brings the buffer back, which is to be given.
+    // A lease of a buffer came back from a client. The last one brings the buffer back, which is to
+    // be given.
     fn give_back(&mut self, client: usize, no: u32)
         requires work { IsSharer self.old }
         requires idle { is_idle self.old ≡ true }

@@ -39,7 +39,8 @@ inputs_of ps = map (λ (p : Pipe). p.input.queue.0) ps
 abbrev pub outputs_of : List Pipe → List ℕ
 outputs_of ps = map (λ (p : Pipe). p.output.queue.0) ps
 
--- a driver's ends are its own, and as it keeps them; no two inputs are of one queue, and no two outputs
+-- a driver's ends are its own, and as it keeps them; no two inputs are of one queue, and no two
+-- outputs
 pub record FitsPipes (ends : Role → ℕ → End) (ps : List Pipe) : Type 0 where
   pub each : EachPipe (FitsPipe ends) ps
   pub inputs : AreDistinct (inputs_of ps)

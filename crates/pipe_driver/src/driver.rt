@@ -47,7 +47,8 @@ impl<P: PipeList> PipeDriver<P> {
         self.pipes.held(pool)
     }
 
-    // The end that is stepped now: those of the first pipe come first, each input before its output.
+    // The end that is stepped now: those of the first pipe come first, each input before its
+    // output.
     fn choose(&mut self) -> usize
         requires { length (P.list self.old.pipes) < 2 ^ 16 }
         ensures place { result ≡ chosen_place (choice_of

@@ -1,6 +1,7 @@
-//! Judges and lays out descriptions that are edited from others. A row of the input names a file with a description, or
-//! its layout as `layout of FILE`, and may replace fragments of it, each as ` | OLD => NEW`. For each row the program
-//! writes what an accepted description has, or its layout, or the rule that a refused one breaks and the place.
+//! Judges and lays out descriptions that are edited from others. A row of the input names a file
+//! with a description, or its layout as `layout of FILE`, and may replace fragments of it, each as
+//! ` | OLD => NEW`. For each row the program writes what an accepted description has, or its
+//! layout, or the rule that a refused one breaks and the place.
 #![tactic(auto)]
 
 ghost use Rattle.std.specs.Prelude.{◌≤◌, IfOk, length};
@@ -50,7 +51,8 @@ fn answer(alloc: Global, text: &str, lays_out: bool) -> Result<String, Memory> {
     }
 }
 
-// A text with the fragment replaced that an edit names; `None` where it doesn't stand there exactly once.
+// A text with the fragment replaced that an edit names; `None` where it doesn't stand there exactly
+// once.
 fn edited(alloc: Global, text: &str, edit: &str) -> Result<Option<String>, AllocError> {
     let Some((old, new)) = edit.split_once(" => ") else {
         return Ok(None);

@@ -21,7 +21,8 @@ base_at free region = unwrap_or region.phys_addr (round_up free region.page_size
 
 -- what is free behind a region: a region with a given base takes nothing of it
 abbrev pub free_after : ℕ → Region → ℕ
-free_after free region = if is_some region.phys_addr then free else round_up free region.page_size + region.size
+free_after free region = if is_some region.phys_addr then free else round_up free region.page_size
+    + region.size
 
 -- the bases of regions in file order, from what is free on
 abbrev pub bases_from : ℕ → List Region → List ℕ
@@ -34,16 +35,20 @@ bases_of regions = bases_from (floor_of regions) regions
 
 -- two regions have no address in common
 abbrev pub ArePartedBy : ℕ → Region → ℕ → Region → Type 0
-ArePartedBy base region other_base other = (base + region.size ≤ other_base) ⊎ (other_base + other.size ≤ base)
+ArePartedBy base region other_base other =
+    (base + region.size ≤ other_base) ⊎ (other_base + other.size ≤ base)
 
 -- no two regions have an address in common
 abbrev pub AreDisjoint : List Region → List ℕ → Type 0
 AreDisjoint regions bases =
-    (a b : ℕ) (first second : Region) (at other : ℕ) → a < b → slice_get regions a ≡ Some first → slice_get regions b ≡ Some second
-    → slice_get bases a ≡ Some at → slice_get bases b ≡ Some other → ArePartedBy at first other second
+    (a b : ℕ) (first second : Region) (at other : ℕ) → a < b → slice_get regions a ≡ Some first
+        → slice_get regions b ≡ Some second
+    → slice_get bases a ≡ Some at → slice_get bases b ≡ Some other
+        → ArePartedBy at first other second
 
 -- no two given ranges have an address in common
 abbrev pub AreGivenApart : List Region → Type 0
 AreGivenApart regions =
-    (a b : ℕ) (first second : Region) (at other : ℕ) → a < b → slice_get regions a ≡ Some first → slice_get regions b ≡ Some second
+    (a b : ℕ) (first second : Region) (at other : ℕ) → a < b → slice_get regions a ≡ Some first
+        → slice_get regions b ≡ Some second
     → first.phys_addr ≡ Some at → second.phys_addr ≡ Some other → ArePartedBy at first other second

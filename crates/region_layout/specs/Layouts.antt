@@ -6,4 +6,9 @@ use Rattle.region_layout.specs.Rows.{queues_of, pools_of, actors_of}
 
 -- the layout of a plan
 unfoldable pub layout_of : Plan → Layout
-layout_of plan = record { bases = bases_of plan.memory_region; queues = queues_of plan; pools = pools_of plan; actors = actors_of plan }
+layout_of plan = record {
+  bases = bases_of plan.memory_region;
+  queues = queues_of plan;
+  pools = pools_of plan;
+  actors = actors_of plan;
+}

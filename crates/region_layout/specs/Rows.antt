@@ -29,11 +29,13 @@ name_if there name = if there then name ∷ [] else []
 
 -- the devices of the classes that a plan has
 abbrev pub devices_of : Plan → List (List ℕ)
-devices_of plan = name_if (is_some plan.net) (codes "@eth") ++ name_if (is_some plan.serial) (codes "@uart") ++ name_if (is_some plan.blk) (codes "@disk")
+devices_of plan = name_if (is_some plan.net) (codes "@eth")
+    ++ name_if (is_some plan.serial) (codes "@uart") ++ name_if (is_some plan.blk) (codes "@disk")
 
 -- the actors: the domains that act, in file order, and the devices
 unfoldable pub actors_of : Plan → List (List ℕ)
-actors_of plan = map (λ (d : Domain). d.name) (filter acts plan.protection_domain) ++ devices_of plan
+actors_of plan = map (λ (d : Domain). d.name) (filter acts plan.protection_domain)
+    ++ devices_of plan
 
 -- the number of a domain that acts, by its name
 unfoldable pub actor_named : Plan → List ℕ → ActorId
@@ -43,7 +45,8 @@ actor_named plan name = record { 0 = unwrap_or (place_of name (actors_of plan)) 
 abbrev pub one_if : Bool → ℕ
 one_if there = if there then 1 else 0
 
--- how many domains act: the devices are numbered behind them, each behind those of the classes before its own
+-- how many domains act: the devices are numbered behind them, each behind those of the classes
+-- before its own
 abbrev pub acting_count : Plan → ℕ
 acting_count plan = length (filter acts plan.protection_domain)
 
@@ -57,14 +60,18 @@ uart_number plan = record { 0 = acting_count plan + one_if (is_some plan.net) }
 
 -- the number of the disk
 unfoldable pub disk_number : Plan → ActorId
-disk_number plan = record { 0 = acting_count plan + one_if (is_some plan.net) + one_if (is_some plan.serial) }
+disk_number plan = record {
+  0 = acting_count plan + one_if (is_some plan.net) + one_if (is_some plan.serial);
+}
 
--- the bytes of a region that a queue takes: a header of 64 bytes, its entries, and what is left up to a multiple of 64
+-- the bytes of a region that a queue takes: a header of 64 bytes, its entries, and what is left up
+-- to a multiple of 64
 unfoldable pub queue_span : QueueKind → ℕ → ℕ
 queue_span kind capacity = round_up (64 + entry_size kind * capacity) 64
 
 -- a queue between two actors, in a region from an offset on
-unfoldable pub queue_in : Plan → Option ℕ → ℕ → List ℕ → QueueKind → ActorId → ActorId → ℕ → QueueRow
+unfoldable pub queue_in : Plan → Option ℕ → ℕ → List ℕ → QueueKind → ActorId → ActorId → ℕ
+    → QueueRow
 queue_in plan region offset name kind producer consumer capacity = record {
   name = name;
   kind = kind;
@@ -77,17 +84,22 @@ queue_in plan region offset name kind producer consumer capacity = record {
 
 -- a queue that a device shares with its driver: it stands in no region
 abbrev pub device_queue : Plan → List ℕ → QueueKind → ActorId → ActorId → ℕ → QueueRow
-device_queue plan name kind producer consumer capacity = queue_in plan None 0 name kind producer consumer capacity
+device_queue plan name kind producer consumer capacity =
+    queue_in plan None 0 name kind producer consumer capacity
 
 -- the only queue of a region
 abbrev pub only_queue : Plan → List ℕ → List ℕ → QueueKind → ActorId → ActorId → ℕ → QueueRow
-only_queue plan key name kind producer consumer capacity = queue_in plan (region_named plan key) 0 name kind producer consumer capacity
+only_queue plan key name kind producer consumer capacity =
+    queue_in plan (region_named plan key) 0 name kind producer consumer capacity
 
--- the two queues of a region between two actors: the first from one to the other, the second behind it and back
-unfoldable pub queue_pair : Plan → List ℕ → List ℕ → QueueKind → List ℕ → QueueKind → ActorId → ActorId → ℕ → List QueueRow
+-- the two queues of a region between two actors: the first from one to the other, the second behind
+-- it and back
+unfoldable pub queue_pair : Plan → List ℕ → List ℕ → QueueKind → List ℕ → QueueKind → ActorId
+    → ActorId → ℕ → List QueueRow
 queue_pair plan key first kind second kind_back from to capacity =
     queue_in plan (region_named plan key) 0 first kind from to capacity
-    ∷ queue_in plan (region_named plan key) (queue_span kind capacity) second kind_back to from capacity ∷ []
+    ∷ queue_in plan (region_named plan key)
+        (queue_span kind capacity) second kind_back to from capacity ∷ []
 
 -- the name of a queue or a pool of a client
 abbrev pub client_name : List ℕ → ℕ → List ℕ → List ℕ
@@ -101,86 +113,120 @@ each_client rows c (client ∷ rest) = rows c client ++ each_client rows (c + 1)
 -- the queues between the Ethernet device and its driver
 unfoldable pub eth_rx_queues : Plan → Net → List QueueRow
 eth_rx_queues plan net =
-    device_queue plan (codes "eth.rx.free") Kind.Net (actor_named plan net.driver) (eth_number plan) net.rx_capacity
-    ∷ device_queue plan (codes "eth.rx.active") Kind.Net (eth_number plan) (actor_named plan net.driver) net.rx_capacity ∷ []
+    device_queue plan (codes "eth.rx.free") Kind.Net (actor_named plan net.driver)
+        (eth_number plan) net.rx_capacity
+    ∷ device_queue plan (codes "eth.rx.active") Kind.Net (eth_number plan)
+        (actor_named plan net.driver) net.rx_capacity ∷ []
 
 unfoldable pub eth_tx_queues : Plan → Net → List QueueRow
 eth_tx_queues plan net =
-    device_queue plan (codes "eth.tx.active") Kind.Net (actor_named plan net.driver) (eth_number plan) net.tx_capacity
-    ∷ device_queue plan (codes "eth.tx.free") Kind.Net (eth_number plan) (actor_named plan net.driver) net.tx_capacity ∷ []
+    device_queue plan (codes "eth.tx.active") Kind.Net (actor_named plan net.driver)
+        (eth_number plan) net.tx_capacity
+    ∷ device_queue plan (codes "eth.tx.free") Kind.Net (eth_number plan)
+        (actor_named plan net.driver) net.tx_capacity ∷ []
 
 -- the queues between the driver and each virtualiser of the network class
 unfoldable pub net_rx_queues : Plan → Net → List QueueRow
-net_rx_queues plan net = queue_pair plan net.rx_queues (codes "net.rx.active") Kind.Net (codes "net.rx.free") Kind.Net (actor_named plan net.driver) (actor_named plan net.rx_virt) net.rx_capacity
+net_rx_queues plan net = queue_pair plan net.rx_queues (codes "net.rx.active") Kind.Net
+    (codes "net.rx.free") Kind.Net (actor_named plan net.driver)
+    (actor_named plan net.rx_virt) net.rx_capacity
 
 unfoldable pub net_tx_queues : Plan → Net → List QueueRow
-net_tx_queues plan net = queue_pair plan net.tx_queues (codes "net.tx.active") Kind.Net (codes "net.tx.free") Kind.Net (actor_named plan net.tx_virt) (actor_named plan net.driver) net.tx_capacity
+net_tx_queues plan net = queue_pair plan net.tx_queues (codes "net.tx.active") Kind.Net
+    (codes "net.tx.free") Kind.Net (actor_named plan net.tx_virt)
+    (actor_named plan net.driver) net.tx_capacity
 
 -- the queues of a network client: of its leases, of what it receives, and of what it sends
 unfoldable pub lease_queues : Plan → Net → ℕ → NetClient → List QueueRow
 lease_queues plan net c client =
-    queue_pair plan client.lease_queues (client_name (codes "net.") c (codes ".lease.active")) Kind.Net (client_name (codes "net.") c (codes ".lease.free")) Kind.Net (actor_named plan net.rx_virt) (actor_named plan client.copier) net.rx_capacity
+    queue_pair plan client.lease_queues
+        (client_name (codes "net.") c (codes ".lease.active")) Kind.Net
+        (client_name (codes "net.") c (codes ".lease.free")) Kind.Net
+        (actor_named plan net.rx_virt) (actor_named plan client.copier) net.rx_capacity
 
 unfoldable pub client_rx_queues : Plan → ℕ → NetClient → List QueueRow
 client_rx_queues plan c client =
-    queue_pair plan client.rx_queues (client_name (codes "net.") c (codes ".rx.active")) Kind.Net (client_name (codes "net.") c (codes ".rx.free")) Kind.Net (actor_named plan client.copier) (actor_named plan client.pd) client.rx_capacity
+    queue_pair plan client.rx_queues (client_name (codes "net.") c (codes ".rx.active")) Kind.Net
+        (client_name (codes "net.") c (codes ".rx.free")) Kind.Net (actor_named plan client.copier)
+        (actor_named plan client.pd) client.rx_capacity
 
 unfoldable pub client_tx_queues : Plan → Net → ℕ → NetClient → List QueueRow
 client_tx_queues plan net c client =
-    queue_pair plan client.tx_queues (client_name (codes "net.") c (codes ".tx.active")) Kind.Net (client_name (codes "net.") c (codes ".tx.free")) Kind.Net (actor_named plan client.pd) (actor_named plan net.tx_virt) client.tx_capacity
+    queue_pair plan client.tx_queues (client_name (codes "net.") c (codes ".tx.active")) Kind.Net
+        (client_name (codes "net.") c (codes ".tx.free")) Kind.Net (actor_named plan client.pd)
+        (actor_named plan net.tx_virt) client.tx_capacity
 
 unfoldable pub net_client_queues : Plan → Net → ℕ → NetClient → List QueueRow
-net_client_queues plan net c client = lease_queues plan net c client ++ client_rx_queues plan c client ++ client_tx_queues plan net c client
+net_client_queues plan net c client =
+    lease_queues plan net c client ++ client_rx_queues plan c client
+    ++ client_tx_queues plan net c client
 
 -- the queues of the network class
 unfoldable pub net_queues : Plan → Net → List QueueRow
 net_queues plan net =
-    eth_rx_queues plan net ++ eth_tx_queues plan net ++ net_rx_queues plan net ++ net_tx_queues plan net ++ each_client (net_client_queues plan net) 0 net.client
+    eth_rx_queues plan net ++ eth_tx_queues plan net ++ net_rx_queues plan net
+        ++ net_tx_queues plan net ++ each_client (net_client_queues plan net) 0 net.client
 
 -- the queues between the serial device and its driver
 unfoldable pub uart_queues : Plan → Serial → List QueueRow
 uart_queues plan serial =
-    device_queue plan (codes "uart.rx") Kind.Byte (uart_number plan) (actor_named plan serial.driver) serial.rx_capacity
-    ∷ device_queue plan (codes "uart.tx") Kind.Byte (actor_named plan serial.driver) (uart_number plan) serial.tx_capacity ∷ []
+    device_queue plan (codes "uart.rx") Kind.Byte (uart_number plan)
+        (actor_named plan serial.driver) serial.rx_capacity
+    ∷ device_queue plan (codes "uart.tx") Kind.Byte (actor_named plan serial.driver)
+        (uart_number plan) serial.tx_capacity ∷ []
 
 -- the queues between the driver and the virtualisers of the serial class
 unfoldable pub shared_serial_queues : Plan → Serial → List QueueRow
 shared_serial_queues plan serial =
-    only_queue plan serial.rx_queues (codes "serial.rx") Kind.Byte (actor_named plan serial.driver) (actor_named plan serial.rx_virt) serial.rx_capacity
-    ∷ only_queue plan serial.tx_queues (codes "serial.tx") Kind.Byte (actor_named plan serial.tx_virt) (actor_named plan serial.driver) serial.tx_capacity ∷ []
+    only_queue plan serial.rx_queues (codes "serial.rx") Kind.Byte (actor_named plan serial.driver)
+        (actor_named plan serial.rx_virt) serial.rx_capacity
+    ∷ only_queue plan serial.tx_queues (codes "serial.tx") Kind.Byte
+        (actor_named plan serial.tx_virt) (actor_named plan serial.driver) serial.tx_capacity ∷ []
 
 -- the queues of a serial client
 unfoldable pub serial_client_queues : Plan → Serial → ℕ → SerialClient → List QueueRow
 serial_client_queues plan serial c client =
-    only_queue plan client.rx_queues (client_name (codes "serial.") c (codes ".rx")) Kind.Byte (actor_named plan serial.rx_virt) (actor_named plan client.pd) client.rx_capacity
-    ∷ only_queue plan client.tx_queues (client_name (codes "serial.") c (codes ".tx")) Kind.Byte (actor_named plan client.pd) (actor_named plan serial.tx_virt) client.tx_capacity ∷ []
+    only_queue plan client.rx_queues (client_name (codes "serial.") c (codes ".rx")) Kind.Byte
+        (actor_named plan serial.rx_virt) (actor_named plan client.pd) client.rx_capacity
+    ∷ only_queue plan client.tx_queues (client_name (codes "serial.") c (codes ".tx")) Kind.Byte
+        (actor_named plan client.pd) (actor_named plan serial.tx_virt) client.tx_capacity ∷ []
 
 -- the queues of the serial class
 unfoldable pub serial_queues : Plan → Serial → List QueueRow
-serial_queues plan serial = uart_queues plan serial ++ shared_serial_queues plan serial ++ each_client (serial_client_queues plan serial) 0 serial.client
+serial_queues plan serial = uart_queues plan serial ++ shared_serial_queues plan serial
+    ++ each_client (serial_client_queues plan serial) 0 serial.client
 
 -- the queues between the disk and its driver
 unfoldable pub disk_queues : Plan → Blk → List QueueRow
 disk_queues plan blk =
-    device_queue plan (codes "disk.req") Kind.Req (actor_named plan blk.driver) (disk_number plan) blk.capacity
-    ∷ device_queue plan (codes "disk.resp") Kind.Resp (disk_number plan) (actor_named plan blk.driver) blk.capacity ∷ []
+    device_queue plan (codes "disk.req") Kind.Req (actor_named plan blk.driver)
+        (disk_number plan) blk.capacity
+    ∷ device_queue plan (codes "disk.resp") Kind.Resp (disk_number plan)
+        (actor_named plan blk.driver) blk.capacity ∷ []
 
 -- the queues between the driver and the virtualiser of the block class
 unfoldable pub shared_blk_queues : Plan → Blk → List QueueRow
-shared_blk_queues plan blk = queue_pair plan blk.queues (codes "blk.req") Kind.Req (codes "blk.resp") Kind.Resp (actor_named plan blk.virt) (actor_named plan blk.driver) blk.capacity
+shared_blk_queues plan blk = queue_pair plan blk.queues (codes "blk.req") Kind.Req
+    (codes "blk.resp") Kind.Resp (actor_named plan blk.virt)
+    (actor_named plan blk.driver) blk.capacity
 
 -- the queues of a block client
 unfoldable pub blk_client_queues : Plan → Blk → ℕ → BlkClient → List QueueRow
 blk_client_queues plan blk c client =
-    queue_pair plan client.queues (client_name (codes "blk.") c (codes ".req")) Kind.Req (client_name (codes "blk.") c (codes ".resp")) Kind.Resp (actor_named plan client.pd) (actor_named plan blk.virt) client.capacity
+    queue_pair plan client.queues (client_name (codes "blk.") c (codes ".req")) Kind.Req
+        (client_name (codes "blk.") c (codes ".resp")) Kind.Resp (actor_named plan client.pd)
+        (actor_named plan blk.virt) client.capacity
 
 -- the queues of the block class
 unfoldable pub blk_queues : Plan → Blk → List QueueRow
-blk_queues plan blk = disk_queues plan blk ++ shared_blk_queues plan blk ++ each_client (blk_client_queues plan blk) 0 blk.client
+blk_queues plan blk = disk_queues plan blk ++ shared_blk_queues plan blk
+    ++ each_client (blk_client_queues plan blk) 0 blk.client
 
 -- all queues, class by class
 unfoldable pub queues_of : Plan → List QueueRow
-queues_of plan = option_map_or (net_queues plan) plan.net [] ++ option_map_or (serial_queues plan) plan.serial [] ++ option_map_or (blk_queues plan) plan.blk []
+queues_of plan = option_map_or (net_queues plan) plan.net []
+    ++ option_map_or (serial_queues plan) plan.serial []
+    ++ option_map_or (blk_queues plan) plan.blk []
 
 -- the bytes of a network buffer, and of a block buffer
 abbrev pub net_buffer : ℕ
@@ -201,18 +247,24 @@ pool_in plan key name buffers size = record {
 
 unfoldable pub net_client_pools : Plan → ℕ → NetClient → List PoolRow
 net_client_pools plan c client =
-    pool_in plan client.rx_region (client_name (codes "net.") c (codes ".rx")) client.rx_buffers net_buffer
-    ∷ pool_in plan client.tx_region (client_name (codes "net.") c (codes ".tx")) client.tx_buffers net_buffer ∷ []
+    pool_in plan client.rx_region (client_name (codes "net.") c
+        (codes ".rx")) client.rx_buffers net_buffer
+    ∷ pool_in plan client.tx_region (client_name (codes "net.") c
+        (codes ".tx")) client.tx_buffers net_buffer ∷ []
 
 unfoldable pub net_pools : Plan → Net → List PoolRow
-net_pools plan net = pool_in plan net.rx_region (codes "net.rx") net.rx_buffers net_buffer ∷ each_client (net_client_pools plan) 0 net.client
+net_pools plan net = pool_in plan net.rx_region (codes "net.rx") net.rx_buffers net_buffer
+    ∷ each_client (net_client_pools plan) 0 net.client
 
 unfoldable pub blk_client_pools : Plan → ℕ → BlkClient → List PoolRow
-blk_client_pools plan c client = pool_in plan client.region (client_name (codes "blk.") c []) client.buffers blk_buffer ∷ []
+blk_client_pools plan c client = pool_in plan client.region
+    (client_name (codes "blk.") c []) client.buffers blk_buffer ∷ []
 
 unfoldable pub blk_pools : Plan → Blk → List PoolRow
-blk_pools plan blk = pool_in plan blk.region (codes "blk") 1 blk_buffer ∷ each_client (blk_client_pools plan) 0 blk.client
+blk_pools plan blk = pool_in plan blk.region (codes "blk") 1 blk_buffer
+    ∷ each_client (blk_client_pools plan) 0 blk.client
 
 -- all pools, class by class
 unfoldable pub pools_of : Plan → List PoolRow
-pools_of plan = option_map_or (net_pools plan) plan.net [] ++ option_map_or (blk_pools plan) plan.blk []
+pools_of plan = option_map_or (net_pools plan) plan.net []
+    ++ option_map_or (blk_pools plan) plan.blk []

@@ -33,7 +33,8 @@ pub record IsSmallNet (net : Net) : Type 0 where
   pub rx_capacity : net.rx_capacity < 2 ^ 32
   pub tx_capacity : net.tx_capacity < 2 ^ 32
   pub rx_buffers : net.rx_buffers < 2 ^ 32
-  pub clients : (k : ℕ) (client : NetClient) → slice_get net.client k ≡ Some client → IsSmallNetClient client
+  pub clients : (k : ℕ) (client : NetClient) → slice_get net.client k ≡ Some client
+      → IsSmallNetClient client
 
 pub record IsSmallSerialClient (client : SerialClient) : Type 0 where
   pub rx_capacity : client.rx_capacity < 2 ^ 32
@@ -42,7 +43,8 @@ pub record IsSmallSerialClient (client : SerialClient) : Type 0 where
 pub record IsSmallSerial (serial : Serial) : Type 0 where
   pub rx_capacity : serial.rx_capacity < 2 ^ 32
   pub tx_capacity : serial.tx_capacity < 2 ^ 32
-  pub clients : (k : ℕ) (client : SerialClient) → slice_get serial.client k ≡ Some client → IsSmallSerialClient client
+  pub clients : (k : ℕ) (client : SerialClient) → slice_get serial.client k ≡ Some client
+      → IsSmallSerialClient client
 
 pub record IsSmallBlkClient (client : BlkClient) : Type 0 where
   pub capacity : client.capacity < 2 ^ 32
@@ -50,7 +52,8 @@ pub record IsSmallBlkClient (client : BlkClient) : Type 0 where
 
 pub record IsSmallBlk (blk : Blk) : Type 0 where
   pub capacity : blk.capacity < 2 ^ 32
-  pub clients : (k : ℕ) (client : BlkClient) → slice_get blk.client k ≡ Some client → IsSmallBlkClient client
+  pub clients : (k : ℕ) (client : BlkClient) → slice_get blk.client k ≡ Some client
+      → IsSmallBlkClient client
 
 -- the numbers of a plan for which rows have room
 pub record HasSmallNumbers (plan : Plan) : Type 0 where

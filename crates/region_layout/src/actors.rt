@@ -147,7 +147,8 @@ pub fn actors_of(alloc: Global, plan: &Plan) -> Result<Series<Text>, Memory>
 
 // The names of the domains that act.
 fn acting(alloc: Global, domains: &[Domain]) -> Result<Series<Text>, Memory>
-    ensures { IfOk result (λ names. names ≡ map (λ (d : Domain). d.name) (filter acts domains.now)) }
+    ensures { IfOk result (λ names. names
+        ≡ map (λ (d : Domain). d.name) (filter acts domains.now)) }
 {
     let mut names = Series::new(alloc);
     for domain in domains {

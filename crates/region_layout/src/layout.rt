@@ -50,7 +50,8 @@ impl Layout {
         self.pools.as_slice()
     }
 
-    /// The names of the actors, by their numbers: the domains that act, in file order, and the devices.
+    /// The names of the actors, by their numbers: the domains that act, in file order, and the
+    /// devices.
     pub fn actors(&self) -> &[Text]
         ensures { result.now ≡ self.now.actors }
     {
@@ -58,8 +59,8 @@ impl Layout {
     }
 }
 
-/// Lays a valid plan out, this project's own: the base of each region, the queues and the pools in them, and who acts.
-/// The only error is want of memory.
+/// Lays a valid plan out, this project's own: the base of each region, the queues and the pools in
+/// them, and who acts. The only error is want of memory.
 pub fn lay_out(alloc: Global, plan: &Plan) -> Result<Layout, Memory>
     requires { Valid plan.now }
     ensures layout { IfOk result (λ layout. layout ≡ layout_of plan.now) }

@@ -27,7 +27,8 @@ fn add_pool(
     size: u32,
 ) -> Result<(), Memory>
     requires { buffers < 2 ^ 32 }
-    ensures { OnOk result (into.new ≡ into.old ++ pool_in names.now.plan.now key.now name.now buffers size ∷ []) }
+    ensures { OnOk result (into.new ≡ into.old
+        ++ pool_in names.now.plan.now key.now name.now buffers size ∷ []) }
 {
     let region = names.region(key.as_str()).unwrap_or(0);
     let pool = PoolRow {
@@ -41,7 +42,8 @@ fn add_pool(
 }
 
 // Appends the pools of a network client.
-#[tactic(auto, using(std::proofs::Common::append_assoc), unfolding(crate::specs::Rows::net_client_pools))]
+#[tactic(auto, using(std::proofs::Common::append_assoc),
+    unfolding(crate::specs::Rows::net_client_pools))]
 fn add_net_client(
     alloc: Global,
     names: &Names<'_>,
@@ -50,7 +52,8 @@ fn add_net_client(
     client: &NetClient,
 ) -> Result<(), Memory>
     requires { IsSmallNetClient client.now }
-    ensures { OnOk result (into.new ≡ into.old ++ net_client_pools names.now.plan.now c client.now) }
+    ensures { OnOk result (into.new ≡ into.old
+        ++ net_client_pools names.now.plan.now c client.now) }
 {
     let rx = format!(in alloc; "net.{c}.rx")?;
     add_pool(
@@ -84,7 +87,8 @@ fn add_blk_client(
     client: &BlkClient,
 ) -> Result<(), Memory>
     requires { IsSmallBlkClient client.now }
-    ensures { OnOk result (into.new ≡ into.old ++ blk_client_pools names.now.plan.now c client.now) }
+    ensures { OnOk result (into.new ≡ into.old
+        ++ blk_client_pools names.now.plan.now c client.now) }
 {
     let name = format!(in alloc; "blk.{c}")?;
     add_pool(
@@ -106,7 +110,8 @@ fn add_net_clients(
     class: &Net,
 ) -> Result<(), Memory>
     requires { IsSmallNet class.now }
-    ensures { OnOk result (into.new ≡ into.old ++ each_client (net_client_pools names.now.plan.now) 0 class.now.client) }
+    ensures { OnOk result (into.new ≡ into.old
+        ++ each_client (net_client_pools names.now.plan.now) 0 class.now.client) }
 {
     for c in 0..class.client.len() {
         add_net_client(alloc, names, into, c, class.client.get(c))?;
@@ -145,7 +150,8 @@ fn add_net_class(
     class: &Option<Net>,
 ) -> Result<(), Memory>
     requires { (net : Net) → class.now ≡ Some net → IsSmallNet net }
-    ensures { OnOk result (into.new ≡ into.old ++ option_map_or (net_pools names.now.plan.now) class.now []) }
+    ensures { OnOk result (into.new ≡ into.old
+        ++ option_map_or (net_pools names.now.plan.now) class.now []) }
 {
     match class {
         Some(net) => add_net(alloc, names, into, net),
@@ -161,7 +167,8 @@ fn add_blk_clients(
     class: &Blk,
 ) -> Result<(), Memory>
     requires { IsSmallBlk class.now }
-    ensures { OnOk result (into.new ≡ into.old ++ each_client (blk_client_pools names.now.plan.now) 0 class.now.client) }
+    ensures { OnOk result (into.new ≡ into.old
+        ++ each_client (blk_client_pools names.now.plan.now) 0 class.now.client) }
 {
     for c in 0..class.client.len() {
         add_blk_client(alloc, names, into, c, class.client.get(c))?;
@@ -192,7 +199,8 @@ fn add_blk_class(
     class: &Option<Blk>,
 ) -> Result<(), Memory>
     requires { (blk : Blk) → class.now ≡ Some blk → IsSmallBlk blk }
-    ensures { OnOk result (into.new ≡ into.old ++ option_map_or (blk_pools names.now.plan.now) class.now []) }
+    ensures { OnOk result (into.new ≡ into.old
+        ++ option_map_or (blk_pools names.now.plan.now) class.now []) }
 {
     match class {
         Some(blk) => add_blk(alloc, names, into, blk),

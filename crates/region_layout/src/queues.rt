@@ -106,7 +106,8 @@ fn add_pair(
 }
 
 // Appends the queues of receiving between the Ethernet device and its driver.
-#[tactic(auto, using(std::proofs::Common::append_assoc), unfolding(crate::specs::Rows::eth_rx_queues))]
+#[tactic(auto, using(std::proofs::Common::append_assoc),
+    unfolding(crate::specs::Rows::eth_rx_queues))]
 fn add_eth_rx(
     alloc: Global,
     names: &Names<'_>,
@@ -136,7 +137,8 @@ fn add_eth_rx(
 }
 
 // Appends the queues of sending between the Ethernet device and its driver.
-#[tactic(auto, using(std::proofs::Common::append_assoc), unfolding(crate::specs::Rows::eth_tx_queues))]
+#[tactic(auto, using(std::proofs::Common::append_assoc),
+    unfolding(crate::specs::Rows::eth_tx_queues))]
 fn add_eth_tx(
     alloc: Global,
     names: &Names<'_>,
@@ -166,7 +168,8 @@ fn add_eth_tx(
 }
 
 // Appends the queues between the driver and the receiving virtualiser.
-#[tactic(auto, using(std::proofs::Common::append_assoc), unfolding(crate::specs::Rows::net_rx_queues))]
+#[tactic(auto, using(std::proofs::Common::append_assoc),
+    unfolding(crate::specs::Rows::net_rx_queues))]
 fn add_net_rx(
     alloc: Global,
     names: &Names<'_>,
@@ -191,7 +194,8 @@ fn add_net_rx(
 }
 
 // Appends the queues between the driver and the sending virtualiser.
-#[tactic(auto, using(std::proofs::Common::append_assoc), unfolding(crate::specs::Rows::net_tx_queues))]
+#[tactic(auto, using(std::proofs::Common::append_assoc),
+    unfolding(crate::specs::Rows::net_tx_queues))]
 fn add_net_tx(
     alloc: Global,
     names: &Names<'_>,
@@ -216,7 +220,8 @@ fn add_net_tx(
 }
 
 // Appends the queues of the leases of a network client.
-#[tactic(auto, using(std::proofs::Common::append_assoc), unfolding(crate::specs::Rows::lease_queues))]
+#[tactic(auto, using(std::proofs::Common::append_assoc),
+    unfolding(crate::specs::Rows::lease_queues))]
 fn add_lease(
     alloc: Global,
     names: &Names<'_>,
@@ -227,7 +232,8 @@ fn add_lease(
 ) -> Result<(), Memory>
     requires net { IsSmallNet net.now }
     requires client { IsSmallNetClient client.now }
-    ensures { OnOk result (into.new ≡ into.old ++ lease_queues names.now.plan.now net.now c client.now) }
+    ensures { OnOk result (into.new ≡ into.old
+        ++ lease_queues names.now.plan.now net.now c client.now) }
 {
     let first = format!(in alloc; "net.{c}.lease.active")?;
     let second = format!(in alloc; "net.{c}.lease.free")?;
@@ -246,7 +252,8 @@ fn add_lease(
 }
 
 // Appends the queues of what a network client receives.
-#[tactic(auto, using(std::proofs::Common::append_assoc), unfolding(crate::specs::Rows::client_rx_queues))]
+#[tactic(auto, using(std::proofs::Common::append_assoc),
+    unfolding(crate::specs::Rows::client_rx_queues))]
 fn add_client_rx(
     alloc: Global,
     names: &Names<'_>,
@@ -255,7 +262,8 @@ fn add_client_rx(
     client: &NetClient,
 ) -> Result<(), Memory>
     requires { IsSmallNetClient client.now }
-    ensures { OnOk result (into.new ≡ into.old ++ client_rx_queues names.now.plan.now c client.now) }
+    ensures { OnOk result (into.new ≡ into.old
+        ++ client_rx_queues names.now.plan.now c client.now) }
 {
     let first = format!(in alloc; "net.{c}.rx.active")?;
     let second = format!(in alloc; "net.{c}.rx.free")?;
@@ -274,7 +282,8 @@ fn add_client_rx(
 }
 
 // Appends the queues of what a network client sends.
-#[tactic(auto, using(std::proofs::Common::append_assoc), unfolding(crate::specs::Rows::client_tx_queues))]
+#[tactic(auto, using(std::proofs::Common::append_assoc),
+    unfolding(crate::specs::Rows::client_tx_queues))]
 fn add_client_tx(
     alloc: Global,
     names: &Names<'_>,
@@ -284,7 +293,8 @@ fn add_client_tx(
     client: &NetClient,
 ) -> Result<(), Memory>
     requires { IsSmallNetClient client.now }
-    ensures { OnOk result (into.new ≡ into.old ++ client_tx_queues names.now.plan.now net.now c client.now) }
+    ensures { OnOk result (into.new ≡ into.old
+        ++ client_tx_queues names.now.plan.now net.now c client.now) }
 {
     let first = format!(in alloc; "net.{c}.tx.active")?;
     let second = format!(in alloc; "net.{c}.tx.free")?;
@@ -303,7 +313,8 @@ fn add_client_tx(
 }
 
 // Appends the queues of a network client.
-#[tactic(auto, using(std::proofs::Common::append_assoc), unfolding(crate::specs::Rows::net_client_queues))]
+#[tactic(auto, using(std::proofs::Common::append_assoc),
+    unfolding(crate::specs::Rows::net_client_queues))]
 fn add_net_client(
     alloc: Global,
     names: &Names<'_>,
@@ -314,7 +325,8 @@ fn add_net_client(
 ) -> Result<(), Memory>
     requires net { IsSmallNet net.now }
     requires client { IsSmallNetClient client.now }
-    ensures { OnOk result (into.new ≡ into.old ++ net_client_queues names.now.plan.now net.now c client.now) }
+    ensures { OnOk result (into.new ≡ into.old
+        ++ net_client_queues names.now.plan.now net.now c client.now) }
 {
     add_lease(alloc, names, into, net, c, client)?;
     add_client_rx(alloc, names, into, c, client)?;
@@ -330,7 +342,8 @@ fn add_net_clients(
     class: &Net,
 ) -> Result<(), Memory>
     requires { IsSmallNet class.now }
-    ensures { OnOk result (into.new ≡ into.old ++ each_client (net_client_queues names.now.plan.now class.now) 0 class.now.client) }
+    ensures { OnOk result (into.new ≡ into.old
+        ++ each_client (net_client_queues names.now.plan.now class.now) 0 class.now.client) }
 {
     for c in 0..class.client.len() {
         add_net_client(alloc, names, into, class, c, class.client.get(c))?;
@@ -365,7 +378,8 @@ fn add_net_class(
     class: &Option<Net>,
 ) -> Result<(), Memory>
     requires { (net : Net) → class.now ≡ Some net → IsSmallNet net }
-    ensures { OnOk result (into.new ≡ into.old ++ option_map_or (net_queues names.now.plan.now) class.now []) }
+    ensures { OnOk result (into.new ≡ into.old
+        ++ option_map_or (net_queues names.now.plan.now) class.now []) }
 {
     match class {
         Some(net) => add_net(alloc, names, into, net),
@@ -374,7 +388,8 @@ fn add_net_class(
 }
 
 // Appends the queues between the serial device and its driver.
-#[tactic(auto, using(std::proofs::Common::append_assoc), unfolding(crate::specs::Rows::uart_queues))]
+#[tactic(auto, using(std::proofs::Common::append_assoc),
+    unfolding(crate::specs::Rows::uart_queues))]
 fn add_uart(
     alloc: Global,
     names: &Names<'_>,
@@ -403,7 +418,8 @@ fn add_uart(
 }
 
 // Appends the queues between the driver and the virtualisers of the serial class.
-#[tactic(auto, using(std::proofs::Common::append_assoc), unfolding(crate::specs::Rows::shared_serial_queues))]
+#[tactic(auto, using(std::proofs::Common::append_assoc),
+    unfolding(crate::specs::Rows::shared_serial_queues))]
 fn add_shared_serial(
     alloc: Global,
     names: &Names<'_>,
@@ -411,7 +427,8 @@ fn add_shared_serial(
     serial: &Serial,
 ) -> Result<(), Memory>
     requires { IsSmallSerial serial.now }
-    ensures { OnOk result (into.new ≡ into.old ++ shared_serial_queues names.now.plan.now serial.now) }
+    ensures { OnOk result (into.new ≡ into.old
+        ++ shared_serial_queues names.now.plan.now serial.now) }
 {
     let rx = Wanted {
         name: "serial.rx",
@@ -446,7 +463,8 @@ fn add_shared_serial(
 }
 
 // Appends the queues of a serial client.
-#[tactic(auto, using(std::proofs::Common::append_assoc), unfolding(crate::specs::Rows::serial_client_queues))]
+#[tactic(auto, using(std::proofs::Common::append_assoc),
+    unfolding(crate::specs::Rows::serial_client_queues))]
 fn add_serial_client(
     alloc: Global,
     names: &Names<'_>,
@@ -456,7 +474,8 @@ fn add_serial_client(
     client: &SerialClient,
 ) -> Result<(), Memory>
     requires { IsSmallSerialClient client.now }
-    ensures { OnOk result (into.new ≡ into.old ++ serial_client_queues names.now.plan.now serial.now c client.now) }
+    ensures { OnOk result (into.new ≡ into.old
+        ++ serial_client_queues names.now.plan.now serial.now c client.now) }
 {
     let name = format!(in alloc; "serial.{c}.rx")?;
     let rx = Wanted {
@@ -500,7 +519,8 @@ fn add_serial_clients(
     class: &Serial,
 ) -> Result<(), Memory>
     requires { IsSmallSerial class.now }
-    ensures { OnOk result (into.new ≡ into.old ++ each_client (serial_client_queues names.now.plan.now class.now) 0 class.now.client) }
+    ensures { OnOk result (into.new ≡ into.old
+        ++ each_client (serial_client_queues names.now.plan.now class.now) 0 class.now.client) }
 {
     for c in 0..class.client.len() {
         add_serial_client(alloc, names, into, class, c, class.client.get(c))?;
@@ -533,7 +553,8 @@ fn add_serial_class(
     class: &Option<Serial>,
 ) -> Result<(), Memory>
     requires { (serial : Serial) → class.now ≡ Some serial → IsSmallSerial serial }
-    ensures { OnOk result (into.new ≡ into.old ++ option_map_or (serial_queues names.now.plan.now) class.now []) }
+    ensures { OnOk result (into.new ≡ into.old
+        ++ option_map_or (serial_queues names.now.plan.now) class.now []) }
 {
     match class {
         Some(serial) => add_serial(alloc, names, into, serial),
@@ -542,7 +563,8 @@ fn add_serial_class(
 }
 
 // Appends the queues between the disk and its driver.
-#[tactic(auto, using(std::proofs::Common::append_assoc), unfolding(crate::specs::Rows::disk_queues))]
+#[tactic(auto, using(std::proofs::Common::append_assoc),
+    unfolding(crate::specs::Rows::disk_queues))]
 fn add_disk(
     alloc: Global,
     names: &Names<'_>,
@@ -571,7 +593,8 @@ fn add_disk(
 }
 
 // Appends the queues between the driver and the virtualiser of the block class.
-#[tactic(auto, using(std::proofs::Common::append_assoc), unfolding(crate::specs::Rows::shared_blk_queues))]
+#[tactic(auto, using(std::proofs::Common::append_assoc),
+    unfolding(crate::specs::Rows::shared_blk_queues))]
 fn add_shared_blk(
     alloc: Global,
     names: &Names<'_>,
@@ -596,7 +619,8 @@ fn add_shared_blk(
 }
 
 // Appends the queues of a block client.
-#[tactic(auto, using(std::proofs::Common::append_assoc), unfolding(crate::specs::Rows::blk_client_queues))]
+#[tactic(auto, using(std::proofs::Common::append_assoc),
+    unfolding(crate::specs::Rows::blk_client_queues))]
 fn add_blk_client(
     alloc: Global,
     names: &Names<'_>,
@@ -606,7 +630,8 @@ fn add_blk_client(
     client: &BlkClient,
 ) -> Result<(), Memory>
     requires { IsSmallBlkClient client.now }
-    ensures { OnOk result (into.new ≡ into.old ++ blk_client_queues names.now.plan.now blk.now c client.now) }
+    ensures { OnOk result (into.new ≡ into.old
+        ++ blk_client_queues names.now.plan.now blk.now c client.now) }
 {
     let first = format!(in alloc; "blk.{c}.req")?;
     let second = format!(in alloc; "blk.{c}.resp")?;
@@ -632,7 +657,8 @@ fn add_blk_clients(
     class: &Blk,
 ) -> Result<(), Memory>
     requires { IsSmallBlk class.now }
-    ensures { OnOk result (into.new ≡ into.old ++ each_client (blk_client_queues names.now.plan.now class.now) 0 class.now.client) }
+    ensures { OnOk result (into.new ≡ into.old
+        ++ each_client (blk_client_queues names.now.plan.now class.now) 0 class.now.client) }
 {
     for c in 0..class.client.len() {
         add_blk_client(alloc, names, into, class, c, class.client.get(c))?;
@@ -665,7 +691,8 @@ fn add_blk_class(
     class: &Option<Blk>,
 ) -> Result<(), Memory>
     requires { (blk : Blk) → class.now ≡ Some blk → IsSmallBlk blk }
-    ensures { OnOk result (into.new ≡ into.old ++ option_map_or (blk_queues names.now.plan.now) class.now []) }
+    ensures { OnOk result (into.new ≡ into.old
+        ++ option_map_or (blk_queues names.now.plan.now) class.now []) }
 {
     match class {
         Some(blk) => add_blk(alloc, names, into, blk),

@@ -1,6 +1,6 @@
-//! How fast bytes cross a ring: the words ENTRIES CAPACITY move so many bytes from one thread to another through one ring
-//! by looks and moves alone, and a third word `bells` moves them in the whole discipline. It prints how many arrived in
-//! order.
+//! How fast bytes cross a ring: the words ENTRIES CAPACITY move so many bytes from one thread to
+//! another through one ring by looks and moves alone, and a third word `bells` moves them in the
+//! whole discipline. It prints how many arrived in order.
 #![tactic(auto)]
 
 ghost use Rattle.std.specs.Prelude.{◌≤◌};

@@ -1,7 +1,8 @@
 //! What the words ask for.
 ghost use Rattle.std.specs.Prelude.{◌≡◌, ◌≤◌, ◌^◌, IfSome};
 
-// How many bytes are to cross a ring whose capacity is 2 to a power, and whether by the whole discipline.
+// How many bytes are to cross a ring whose capacity is 2 to a power, and whether by the whole
+// discipline.
 #[derive(Clone, Copy)]
 pub(crate) struct Order {
     pub(crate) entries: u32,

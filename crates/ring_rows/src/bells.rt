@@ -1,5 +1,6 @@
-//! The same ends, worked in the whole discipline: an end that can't go on asks for a notification, looks once more, and
-//! then takes notifications by looks alone; an end that moved an entry notifies where that is wanted.
+//! The same ends, worked in the whole discipline: an end that can't go on asks for a notification,
+//! looks once more, and then takes notifications by looks alone; an end that moved an entry
+//! notifies where that is wanted.
 ghost use Rattle.std.specs.Prelude.{◌≡◌, ◌≤◌, true, is_some, IfSome};
 ghost use Rattle.cargo_core.specs.declared.item.QueueKind.TheVariants as Kind;
 ghost use Rattle.wire_core.specs.declared.names.Ringer.TheVariants as Rung;
@@ -24,7 +25,8 @@ fn notify_consumer(producer: &mut Producer, ring: &Ring)
     }
 }
 
-// Whether there is room, at a look or behind a notification; None where none came within so many looks.
+// Whether there is room, at a look or behind a notification; None where none came within so many
+// looks.
 fn await_room(producer: &mut Producer, ring: &Ring, looks: u64) -> Option<bool>
     requires own { producer.old.ring ≡ ring.now.id }
     requires calm { is_busy_or_off producer.old.knows.waiter ≡ true }
@@ -51,7 +53,8 @@ fn await_room(producer: &mut Producer, ring: &Ring, looks: u64) -> Option<bool>
     None
 }
 
-/// A look, and where there is room a put, of which the consumer is notified if it wants that: whether the byte was put.
+/// A look, and where there is room a put, of which the consumer is notified if it wants that:
+/// whether the byte was put.
 pub fn give(producer: &mut Producer, ring: &Ring, byte: u8) -> bool
     requires own { producer.old.ring ≡ ring.now.id }
     requires calm { is_busy_or_off producer.old.knows.waiter ≡ true }
@@ -70,7 +73,8 @@ pub fn give(producer: &mut Producer, ring: &Ring, byte: u8) -> bool
     true
 }
 
-/// Puts so many bytes, the number of each modulo 251, and gives up after so many looks in vain: how many were put.
+/// Puts so many bytes, the number of each modulo 251, and gives up after so many looks in vain: how
+/// many were put.
 pub fn send_by_bells(producer: &mut Producer, ring: &Ring, count: u32, looks: u64) -> u32
     requires own { producer.old.ring ≡ ring.now.id }
     requires calm { is_busy_or_off producer.old.knows.waiter ≡ true }
@@ -111,7 +115,8 @@ fn notify_producer(consumer: &mut Consumer, ring: &Ring)
     }
 }
 
-// Whether an entry stands there, at a look or behind a notification; None where none came within so many looks.
+// Whether an entry stands there, at a look or behind a notification; None where none came within so
+// many looks.
 fn await_entry(consumer: &mut Consumer, ring: &Ring, looks: u64) -> Option<bool>
     requires own { consumer.old.ring ≡ ring.now.id }
     requires calm { is_busy_or_off consumer.old.knows.waiter ≡ true }
@@ -137,7 +142,8 @@ fn await_entry(consumer: &mut Consumer, ring: &Ring, looks: u64) -> Option<bool>
     None
 }
 
-/// A look, and where an entry stands there a take, of which the producer is notified if it wants that: what was taken.
+/// A look, and where an entry stands there a take, of which the producer is notified if it wants
+/// that: what was taken.
 pub fn get(consumer: &mut Consumer, ring: &Ring) -> Option<Item>
     requires own { consumer.old.ring ≡ ring.now.id }
     requires calm { is_busy_or_off consumer.old.knows.waiter ≡ true }

@@ -13,8 +13,10 @@ use std::thread::yield_now;
 pub fn byte_ring(alloc: Global, power: u32) -> Result<(Ring, Producer, Consumer), Memory>
     requires { power ≤ 15 }
     ensures ring { IfOk result (λ r. (r.0.kind ≡ Kind.Byte) × (r.0.id.slots ≡ 2 ^ power)) }
-    ensures producer { IfOk result (λ r. r.1 ≡ record { ring = r.0.id; knows = first_producer Kind.Byte }) }
-    ensures consumer { IfOk result (λ r. r.2 ≡ record { ring = r.0.id; knows = first_consumer Kind.Byte }) }
+    ensures producer { IfOk result (λ r. r.1
+        ≡ record { ring = r.0.id; knows = first_producer Kind.Byte }) }
+    ensures consumer { IfOk result (λ r. r.2
+        ≡ record { ring = r.0.id; knows = first_consumer Kind.Byte }) }
 {
     let capacity = 1u32 << power;
     open(alloc, QueueKind::Byte, capacity)
@@ -54,8 +56,8 @@ pub fn poll(consumer: &mut Consumer, ring: &Ring) -> Option<Item>
     Some(item)
 }
 
-/// Puts so many bytes, the number of each modulo 251, and looks again after each no, up to so many looks in all: how
-/// many were put.
+/// Puts so many bytes, the number of each modulo 251, and looks again after each no, up to so many
+/// looks in all: how many were put.
 pub fn send(producer: &mut Producer, ring: &Ring, count: u32, looks: u64) -> u32
     requires own { producer.old.ring ≡ ring.now.id }
     requires calm { is_busy_or_off producer.old.knows.waiter ≡ true }
@@ -81,7 +83,8 @@ pub fn send(producer: &mut Producer, ring: &Ring, count: u32, looks: u64) -> u32
     sent
 }
 
-/// Takes so many of those bytes, and looks again after each no, up to so many looks in all: how many came in order.
+/// Takes so many of those bytes, and looks again after each no, up to so many looks in all: how
+/// many came in order.
 pub fn take(consumer: &mut Consumer, ring: &Ring, count: u32, looks: u64) -> u32
     requires own { consumer.old.ring ≡ ring.now.id }
     requires calm { is_busy_or_off consumer.old.knows.waiter ≡ true }

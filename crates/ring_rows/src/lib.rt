@@ -1,5 +1,5 @@
-//! The ring, worked by hand: on one thread call by call, and by two threads. It stands apart, since the ring itself is
-//! proved without tests.
+//! The ring, worked by hand: on one thread call by call, and by two threads. It stands apart, since
+//! the ring itself is proved without tests.
 #![tactic(auto)]
 
 mod bells;

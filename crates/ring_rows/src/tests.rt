@@ -70,7 +70,8 @@ fn room_is_signalled_once(rt: HostRuntime) -> Result<(), Fail> {
     Ok(())
 }
 
-// Whether the largest ring takes as many bytes as it has places, refuses one more, and gives them back in order.
+// Whether the largest ring takes as many bytes as it has places, refuses one more, and gives them
+// back in order.
 fn fills_and_empties(ring: &Ring, producer: &mut Producer, consumer: &mut Consumer) -> bool
     requires producer { producer.old.ring ≡ ring.now.id }
     requires producer_is_calm { is_busy_or_off producer.old.knows.waiter ≡ true }

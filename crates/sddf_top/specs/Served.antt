@@ -13,7 +13,8 @@ use Rattle.sddf_top.specs.Readings.{ReadLast}
 
 -- the words were served over a shelf, which tells texts, what is left of the open one and how often
 -- it failed, and a sink, which tells what was written and how often it failed
-pub record IsServed {F K : Type 0} (text : F → List ℕ → Option (List ℕ)) (left : F → Option (List ℕ))
+pub record IsServed {F K : Type 0} (text : F → List ℕ → Option (List ℕ))
+    (left : F → Option (List ℕ))
     (reads : F → ℕ) (written : K → Option (List ℕ)) (writes : K → ℕ) (words : List (List ℕ))
     (shelf shelf' : F) (sink sink' : K) (status : Status) (played : Played) : Type 0 where
   -- the status, what was written and what was played: each only for its cause

@@ -49,7 +49,8 @@ pub fn serve_alone<F: Shelf, K: Sink>(
     sink: &mut K,
     played: &mut Played,
 ) -> Status
-    ensures { IsServed F.text F.left F.faults K.written K.faults (texts_of words.now) shelf.old shelf.new
+    ensures { IsServed F.text F.left F.faults K.written K.faults
+        (texts_of words.now) shelf.old shelf.new
         sink.old sink.new result played.new }
 {
     *played = Played::Nothing;
@@ -71,7 +72,8 @@ pub fn serve<R: Threads + Wait + Sync, F: Shelf, K: Sink, G: Gate + Sync>(
     gate: &G,
     played: &mut Played,
 ) -> Status
-    ensures { IsServed F.text F.left F.faults K.written K.faults (texts_of words.now) shelf.old shelf.new
+    ensures { IsServed F.text F.left F.faults K.written K.faults
+        (texts_of words.now) shelf.old shelf.new
         sink.old sink.new result played.new }
 {
     serve_alone(alloc, words, shelf, sink, played)

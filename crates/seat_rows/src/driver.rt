@@ -13,7 +13,8 @@ use std::alloc::Global;
 use uart_driver::UartDriver;
 use wire_core::QueueId;
 
-// The four ends of a driver that moves ring 0 to ring 1 and ring 2 to ring 3; None is the answer for want of memory.
+// The four ends of a driver that moves ring 0 to ring 1 and ring 2 to ring 3; None is the answer
+// for want of memory.
 fn seats_of<'a>(
     alloc: Global,
     rings: &'a [Ring],
@@ -39,7 +40,8 @@ fn seats_of<'a>(
     Some(seats)
 }
 
-/// A driver that moves ring 0 to ring 1 and ring 2 to ring 3, with its ends; None is the answer for want of memory.
+/// A driver that moves ring 0 to ring 1 and ring 2 to ring 3, with its ends; None is the answer for
+/// want of memory.
 #[tactic(auto, using(crate::proofs::Fitting::fits_new_driver))]
 pub fn seated_driver<'a>(
     alloc: Global,

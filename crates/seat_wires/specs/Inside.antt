@@ -6,7 +6,11 @@ use Rattle.seat_wires.specs.declared.seats.Seats.TheInside.{Inside}
 
 -- what contracts see of the ends of one actor
 abbrev pub seats_are : Inside → SeatsAre
-seats_are s = record { rings = s.rings.now; producers = s.producers.items; consumers = s.consumers.items }
+seats_are s = record {
+  rings = s.rings.now;
+  producers = s.producers.items;
+  consumers = s.consumers.items;
+}
 
 -- each end belongs to the ring at its place, and the places are numbers of queues
 pub record FitSeats (s : Inside) : Type 0 where

@@ -1,6 +1,6 @@
 pub mod Are
--- The ends of one actor: which stands where, what the actor knows of each, what it took and sent there, and what one
--- call changes.
+-- The ends of one actor: which stands where, what the actor knows of each, what it took and sent
+-- there, and what one call changes.
 use Rattle.std.specs.Prelude.{◌≡◌, ◌≢◌, ◌<◌, ℕ, Bool, true, false, List, [], ◌∷◌, length, slice_get, slice_set, Option, Some, None, is_some, nat_eq}
 use Rattle.cargo_core.specs.declared.item.QueueKind.{QueueKind}
 use Rattle.cargo_core.specs.declared.item.QueueKind.TheVariants as Kind
@@ -22,7 +22,13 @@ use Rattle.seat_wires.specs.Places.Are.{SeatsAre}
 
 -- stands for an end that is another's
 abbrev pub no_end : End
-no_end = record { owned = false; kind = Kind.Byte; waiter = Wait.Busy; ringer = Rung.Free; looked = false }
+no_end = record {
+  owned = false;
+  kind = Kind.Byte;
+  waiter = Wait.Busy;
+  ringer = Rung.Free;
+  looked = false;
+}
 
 -- what is known of an end that is there, or isn't
 abbrev pub end_known : Option EndIs → End
@@ -62,7 +68,9 @@ pub record SeatDid (old : SeatsAre) (d : Deed) (new : SeatsAre) : Type 0 where
   pub knows : Half
   pub there : slice_get (ends_of old (role_of d.event.op)) d.event.queue.0 ≡ Some (Some before)
   pub step : EndDid before.ring.slots before.knows d.event.op d.event.answer (cargo_of d) knows
-  pub after_is : new ≡ with_ends old (role_of d.event.op) (slice_set (ends_of old (role_of d.event.op)) d.event.queue.0 (Some (record { ring = before.ring; knows = knows })))
+  pub after_is : new ≡ with_ends old (role_of d.event.op)
+      (slice_set (ends_of old (role_of d.event.op)) d.event.queue.0
+      (Some (record { ring = before.ring; knows = knows })))
 
 -- what is known of the list of an end that is there, or isn't
 abbrev pub entries_known : Option EndIs → List Cargo
@@ -83,7 +91,8 @@ seats_sent s n = entries_or (slice_get s.producers n)
 
 -- each end belongs to the ring at its place
 abbrev pub EndsOn : List RingIs → List (Option EndIs) → Type 0
-EndsOn rings ends = (k : ℕ) (e : EndIs) → slice_get ends k ≡ Some (Some e) → (r : RingIs) × (slice_get rings k ≡ Some r) × (e.ring ≡ r.id)
+EndsOn rings ends = (k : ℕ) (e : EndIs) → slice_get ends k ≡ Some (Some e)
+    → (r : RingIs) × (slice_get rings k ≡ Some r) × (e.ring ≡ r.id)
 
 -- both lists have the same ends at the same places
 abbrev pub SameEnds : List (Option EndIs) → List (Option EndIs) → Type 0

@@ -37,7 +37,8 @@ ring_at x = ring_known (joined_get x)
 -- its ends stayed, their lists grew, and they made n word steps
 pub record Went (s : SeatsAre) (n : ℕ) (t : SeatsAre) : Type 0 where
   pub rings : t.rings ≡ s.rings
-  pub ends : (r : Role) (k : ℕ) → ring_at (slice_get (ends_of t r) k) ≡ ring_at (slice_get (ends_of s r) k)
+  pub ends : (r : Role) (k : ℕ) → ring_at (slice_get (ends_of t r) k)
+      ≡ ring_at (slice_get (ends_of s r) k)
   pub taken : (k : ℕ) → Begins (seats_taken s k) (seats_taken t k)
   pub sent : (k : ℕ) → Begins (seats_sent s k) (seats_sent t k)
   pub steps : seats_steps t ≡ seats_steps s + n

@@ -1,4 +1,5 @@
-//! The ends of one actor over rings. It stands between the ring and the actors, so that no actor names a ring.
+//! The ends of one actor over rings. It stands between the ring and the actors, so that no actor
+//! names a ring.
 #![tactic(auto)]
 
 mod laws;

@@ -1,5 +1,5 @@
-//! The ends of one actor over shared rings, as the calls of `Wires`: a step that is generic over `Wires` runs over a ring
-//! as it does over the world of lists.
+//! The ends of one actor over shared rings, as the calls of `Wires`: a step that is generic over
+//! `Wires` runs over a ring as it does over the world of lists.
 ghost use Rattle.std.specs.Prelude.{◌≡◌, ◌<◌, ◌≤◌, ℕ, [], length, slice_get, Some, None, OnOk, IfErr, IfSome, IfNone};
 ghost use Rattle.spsc_queue.specs.Known.Ends.{RingIs};
 ghost use Rattle.seat_wires.specs.Places.{seat_end, SeatDid, stands_at, EndsOn, SameEnds, SetsEnd};
@@ -11,9 +11,9 @@ use std::alloc::Global;
 use std::marker::Model;
 use wire_core::{Op, QueueId, Side, Wires};
 
-/// The ends of one actor over shared rings. The ends of the queue at a place, where they are its own, stand at that
-/// place, as the ring does. The ten calls are those of the ends, so each takes constant time and no memory, and waits
-/// for nobody.
+/// The ends of one actor over shared rings. The ends of the queue at a place, where they are its
+/// own, stand at that place, as the ring does. The ten calls are those of the ends, so each takes
+/// constant time and no memory, and waits for nobody.
 #[derive(Drop)]
 pub struct Seats<'a> {
     rings: &'a [Ring],
@@ -45,13 +45,16 @@ impl<'a> Seats<'a> {
         }
     }
 
-    /// Adds the producing end of the ring at a place. Err, which hands the end back, is the answer for want of memory.
+    /// Adds the producing end of the ring at a place. Err, which hands the end back, is the answer
+    /// for want of memory.
     pub fn add_producer(&mut self, q: QueueId, end: Producer) -> Result<(), Producer>
         requires on { (r : RingIs) × (slice_get self.old.rings q.0 ≡ Some r) × (end.ring ≡ r.id) }
         requires free { stands_at self.old.producers q.0 ≡ None }
         ensures ok { OnOk result (SetsEnd self.old.producers q.0 (Some end) self.new.producers) }
-        ensures err { IfErr result (λ e. (e ≡ end) × SameEnds self.old.producers self.new.producers) }
-        ensures rest { (self.new.consumers ≡ self.old.consumers) × (self.new.rings ≡ self.old.rings) }
+        ensures err { IfErr result (λ e. (e ≡ end)
+            × SameEnds self.old.producers self.new.producers) }
+        ensures rest { (self.new.consumers ≡ self.old.consumers)
+            × (self.new.rings ≡ self.old.rings) }
     {
         let place = q.0 as usize;
         if reach(&mut self.producers, place).is_err() {
@@ -63,11 +66,14 @@ impl<'a> Seats<'a> {
 
     /// Takes out a producing end, the one at the greatest place; None where none is left.
     pub fn next_producer(&mut self) -> Option<(QueueId, Producer)>
-        ensures some { IfSome result (λ r. (stands_at self.old.producers r.0.0 ≡ Some r.1) × SetsEnd self.old.producers r.0.0 None self.new.producers) }
-        ensures last { IfSome result (λ r. (n : ℕ) → r.0.0 < n → stands_at self.old.producers n ≡ None) }
+        ensures some { IfSome result (λ r. (stands_at self.old.producers r.0.0 ≡ Some r.1)
+            × SetsEnd self.old.producers r.0.0 None self.new.producers) }
+        ensures last { IfSome result (λ r. (n : ℕ) → r.0.0 < n
+            → stands_at self.old.producers n ≡ None) }
         ensures none { IfNone result ((n : ℕ) → stands_at self.old.producers n ≡ None) }
         ensures left { IfNone result ((n : ℕ) → stands_at self.new.producers n ≡ None) }
-        ensures rest { (self.new.consumers ≡ self.old.consumers) × (self.new.rings ≡ self.old.rings) }
+        ensures rest { (self.new.consumers ≡ self.old.consumers)
+            × (self.new.rings ≡ self.old.rings) }
     {
         match last_end(&mut self.producers) {
             Some((place, end)) => Some((QueueId(place as u16), end)),
@@ -75,13 +81,16 @@ impl<'a> Seats<'a> {
         }
     }
 
-    /// Adds the consuming end of the ring at a place. Err, which hands the end back, is the answer for want of memory.
+    /// Adds the consuming end of the ring at a place. Err, which hands the end back, is the answer
+    /// for want of memory.
     pub fn add_consumer(&mut self, q: QueueId, end: Consumer) -> Result<(), Consumer>
         requires on { (r : RingIs) × (slice_get self.old.rings q.0 ≡ Some r) × (end.ring ≡ r.id) }
         requires free { stands_at self.old.consumers q.0 ≡ None }
         ensures ok { OnOk result (SetsEnd self.old.consumers q.0 (Some end) self.new.consumers) }
-        ensures err { IfErr result (λ e. (e ≡ end) × SameEnds self.old.consumers self.new.consumers) }
-        ensures rest { (self.new.producers ≡ self.old.producers) × (self.new.rings ≡ self.old.rings) }
+        ensures err { IfErr result (λ e. (e ≡ end)
+            × SameEnds self.old.consumers self.new.consumers) }
+        ensures rest { (self.new.producers ≡ self.old.producers)
+            × (self.new.rings ≡ self.old.rings) }
     {
         let place = q.0 as usize;
         if reach(&mut self.consumers, place).is_err() {
@@ -93,11 +102,14 @@ impl<'a> Seats<'a> {
 
     /// Takes out a consuming end, the one at the greatest place; None where none is left.
     pub fn next_consumer(&mut self) -> Option<(QueueId, Consumer)>
-        ensures some { IfSome result (λ r. (stands_at self.old.consumers r.0.0 ≡ Some r.1) × SetsEnd self.old.consumers r.0.0 None self.new.consumers) }
-        ensures last { IfSome result (λ r. (n : ℕ) → r.0.0 < n → stands_at self.old.consumers n ≡ None) }
+        ensures some { IfSome result (λ r. (stands_at self.old.consumers r.0.0 ≡ Some r.1)
+            × SetsEnd self.old.consumers r.0.0 None self.new.consumers) }
+        ensures last { IfSome result (λ r. (n : ℕ) → r.0.0 < n
+            → stands_at self.old.consumers n ≡ None) }
         ensures none { IfNone result ((n : ℕ) → stands_at self.old.consumers n ≡ None) }
         ensures left { IfNone result ((n : ℕ) → stands_at self.new.consumers n ≡ None) }
-        ensures rest { (self.new.producers ≡ self.old.producers) × (self.new.rings ≡ self.old.rings) }
+        ensures rest { (self.new.producers ≡ self.old.producers)
+            × (self.new.rings ≡ self.old.rings) }
     {
         match last_end(&mut self.consumers) {
             Some((place, end)) => Some((QueueId(place as u16), end)),
@@ -113,7 +125,8 @@ impl<'a> Seats<'a> {
     ) -> Seats<'a>
         requires producers { EndsOn rings.now producers.items × (length producers.items ≤ 65536) }
         requires consumers { EndsOn rings.now consumers.items × (length consumers.items ≤ 65536) }
-        ensures { result ≡ record { rings = rings.now; producers = producers.items; consumers = consumers.items } }
+        ensures { result ≡ record { rings = rings.now; producers = producers.items;
+            consumers = consumers.items } }
     {
         Seats {
             rings,
@@ -124,8 +137,10 @@ impl<'a> Seats<'a> {
 
     /// Its ends again, each at its queue's place.
     pub fn into_ends(self) -> (Vec<Option<Producer>>, Vec<Option<Consumer>>)
-        ensures producers { (result.0.items ≡ self.entry.producers) × EndsOn self.entry.rings result.0.items × (length result.0.items ≤ 65536) }
-        ensures consumers { (result.1.items ≡ self.entry.consumers) × EndsOn self.entry.rings result.1.items × (length result.1.items ≤ 65536) }
+        ensures producers { (result.0.items ≡ self.entry.producers)
+            × EndsOn self.entry.rings result.0.items × (length result.0.items ≤ 65536) }
+        ensures consumers { (result.1.items ≡ self.entry.consumers)
+            × EndsOn self.entry.rings result.1.items × (length result.1.items ≤ 65536) }
     {
         let Seats {
             rings: _,

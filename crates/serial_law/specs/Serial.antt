@@ -23,7 +23,8 @@ pub record SerialClass : Type 0 where
 
 -- each actor of the class is there (There says how), each client with its two queues, and each
 -- queue is there, has no hostile end and can hold an entry
-pub record IsSerial (There : SerialPart → Type 0) (hostile : Hostiles) (rows : List QueueRow) (c : SerialClass) : Type 0 where
+pub record IsSerial (There : SerialPart → Type 0) (hostile : Hostiles) (rows : List QueueRow)
+    (c : SerialClass) : Type 0 where
   pub device : There (SerialDevice c.device_rx c.device_tx c.input)
   pub driver : There (SerialDriver c.device_rx c.device_tx c.rx c.tx)
   pub receiver : There (SerialReceiver c.rx c.client_rx)

@@ -16,7 +16,8 @@ pub record SharesOut (rx : ℕ) (clients : List ℕ) (m : Moved) : Type 0 where
   pub owed : List Item
   pub few : length owed ≤ 1
   pub given : (c q : ℕ) → slice_get clients c ≡ Some q
-      → m.sent q ++ (if owner == c then owed else []) ≡ byte_items (input_of (length clients) c (bytes_in (m.taken rx)))
+      → m.sent q ++ (if owner == c then owed else [])
+          ≡ byte_items (input_of (length clients) c (bytes_in (m.taken rx)))
 
 -- what was put, with at most one byte after it, is a merge of all that was taken
 pub record MergesAll (tx : ℕ) (clients : List ℕ) (m : Moved) : Type 0 where
@@ -27,17 +28,20 @@ pub record MergesAll (tx : ℕ) (clients : List ℕ) (m : Moved) : Type 0 where
 -- of all clients, of which those from number c on have these queues, some is owed a byte of these
 abbrev pub some_owed : (all : ℕ) (bytes : List ℕ) → ℕ → List ℕ → Moved → Bool
 some_owed all bytes c [] m = false
-some_owed all bytes c (q ∷ qs) m = is_owed (m.sent q) (input_of all c bytes) || some_owed all bytes (c + 1) qs m
+some_owed all bytes c (q ∷ qs) m = is_owed (m.sent q) (input_of all c bytes)
+    || some_owed all bytes (c + 1) qs m
 
 -- the ends at these clients' queues, each with room needed for what is owed to the client
 abbrev pub shares : (all : ℕ) (bytes : List ℕ) → ℕ → List ℕ → Moved → List Want
 shares all bytes c [] m = []
-shares all bytes c (q ∷ qs) m = outlet_want q (is_owed (m.sent q) (input_of all c bytes)) ∷ shares all bytes (c + 1) qs m
+shares all bytes c (q ∷ qs) m = outlet_want q (is_owed (m.sent q) (input_of all c bytes))
+    ∷ shares all bytes (c + 1) qs m
 
 -- as many bytes are due at each as the client's part has
 abbrev pub share_dues : (all : ℕ) (bytes : List ℕ) → ℕ → List ℕ → List Due
 share_dues all bytes c [] = []
-share_dues all bytes c (q ∷ qs) = record { queue = q; number = length (input_of all c bytes) } ∷ share_dues all bytes (c + 1) qs
+share_dues all bytes c (q ∷ qs) = record { queue = q; number = length (input_of all c bytes) }
+    ∷ share_dues all bytes (c + 1) qs
 
 -- how much was taken from these queues
 abbrev pub taken_count : List ℕ → Moved → ℕ
@@ -67,20 +71,24 @@ serial_sheet (SerialDriver device_rx device_tx rx tx) = record {
       ∷ intake_want tx (not (is_owed (m.sent device_tx) (m.taken tx)))
       ∷ outlet_want device_tx (is_owed (m.sent device_tx) (m.taken tx))
       ∷ [];
-  dues = λ m. record { queue = rx; number = length (m.taken device_rx) } ∷ record { queue = device_tx; number = length (m.taken tx) } ∷ [];
+  dues = λ m. record { queue = rx; number = length (m.taken device_rx) }
+      ∷ record { queue = device_tx; number = length (m.taken tx) } ∷ [];
   hand = λ pool. [];
 }
 serial_sheet (SerialReceiver rx clients) = record {
   ends = intake rx ∷ map outlet clients;
   row = λ m. SharesOut rx clients m;
-  wants = λ m. intake_want rx (not (some_owed (length clients) (bytes_in (m.taken rx)) 0 clients m)) ∷ shares (length clients) (bytes_in (m.taken rx)) 0 clients m;
+  wants = λ m. intake_want rx (not (some_owed (length clients)
+      (bytes_in (m.taken rx)) 0 clients m))
+      ∷ shares (length clients) (bytes_in (m.taken rx)) 0 clients m;
   dues = λ m. share_dues (length clients) (bytes_in (m.taken rx)) 0 clients;
   hand = λ pool. [];
 }
 serial_sheet (SerialSender tx clients) = record {
   ends = outlet tx ∷ map intake clients;
   row = λ m. MergesAll tx clients m;
-  wants = λ m. outlet_want tx (is_held tx clients m) ∷ map (λ q. intake_want q (not (is_held tx clients m))) clients;
+  wants = λ m. outlet_want tx (is_held tx clients m)
+      ∷ map (λ q. intake_want q (not (is_held tx clients m))) clients;
   dues = λ m. record { queue = tx; number = taken_count clients m } ∷ [];
   hand = λ pool. [];
 }

@@ -27,12 +27,15 @@ pub fn table_law()
 /// scripts. Where in addition nobody is runnable, each record is whole, and the line is a merge of
 /// the whole scripts.
 pub fn serial_law()
-    ensures part { (hostile : Hostiles) (history : History) (rows : List QueueRow) (journal : List Entry) (class : SerialClass)
+    ensures part { (hostile : Hostiles) (history : History) (rows : List QueueRow)
+        (journal : List Entry) (class : SerialClass)
         → QueuesFlow hostile history rows journal
         → IsSerial (λ p. (serial_sheet p).row (moved history journal)) hostile rows class
         → ArrivesInPart class (moved history journal) }
-    ensures whole { (hostile : Hostiles) (history : History) (rows : List QueueRow) (actors : Needful) (journal : List Entry) (class : SerialClass)
+    ensures whole { (hostile : Hostiles) (history : History) (rows : List QueueRow)
+        (actors : Needful) (journal : List Entry) (class : SerialClass)
         → IsStill hostile history rows actors journal
-        → IsSerial (λ p. Plays hostile actors (moved history journal) (serial_sheet p)) hostile rows class
+        → IsSerial (λ p. Plays hostile actors (moved history journal)
+            (serial_sheet p)) hostile rows class
         → ArrivesWhole class (moved history journal) }
 {}

@@ -61,7 +61,8 @@ terminal_round t = record {
   last = t.turn.last;
 }
 
--- the bodies in its hand: none, since it records what it takes, and makes what it puts in the same step
+-- the bodies in its hand: none, since it records what it takes, and makes what it puts in the same
+-- step
 abbrev pub terminal_hand : Terminal → List Body
 terminal_hand t = []
 

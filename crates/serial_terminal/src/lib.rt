@@ -1,5 +1,5 @@
-//! An actor that puts given bytes in order and records the bytes that come: what a serial device and a serial client
-//! have in common.
+//! An actor that puts given bytes in order and records the bytes that come: what a serial device
+//! and a serial client have in common.
 #![tactic(auto)]
 
 ghost use Rattle.std.specs.Prelude.{◌≡◌, ◌<◌, ◌≤◌, ◌+◌, ◌^◌, ℕ, [], ◌++◌, OnErr, IfOk, OnOk, slice_get, length, nat_lt, is_some, true, false};
@@ -157,8 +157,8 @@ impl Terminal {
         event
     }
 
-    /// Makes one call on one of its ends. The memory of the record is taken first; after want of memory no call was made
-    /// and nothing changed.
+    /// Makes one call on one of its ends. The memory of the record is taken first; after want of
+    /// memory no call was made and nothing changed.
     pub fn step<W: Wires>(&mut self, wires: &mut W) -> Result<Event, Memory>
         requires { FitsTerminal (W.ends wires.old) self.old }
         ensures fits { FitsTerminal (W.ends wires.new) self.new }

@@ -37,8 +37,8 @@ owed_to load owner k = if owner == k then option_to_list load else []
 abbrev pub clients_of : SerialVirtRx → ℕ
 clients_of v = length (outlet_queues v.outputs)
 
--- the switch has read all that was taken; each client was given its part of it, but for what is owed to it, and who is
--- owed a byte is there
+-- the switch has read all that was taken; each client was given its part of it, but for what is
+-- owed to it, and who is owed a byte is there
 pub record RxStandsFor (v : SerialVirtRx) (passed : Passed) : Type 0 where
   pub switched : StandsAfter (clients_of v) (bytes_carried (passed.taken v.input.queue.0)) v.switch
   pub to : is_some v.load ≡ true → v.to < clients_of v
@@ -46,7 +46,8 @@ pub record RxStandsFor (v : SerialVirtRx) (passed : Passed) : Type 0 where
       → passed.sent q.0 ++ owed_to v.load v.to k
       ≡ map byte_cargo (input_of (clients_of v) k (bytes_carried (passed.taken v.input.queue.0)))
 
--- each client was given its part of what was taken, but that over all clients at most one byte is owed
+-- each client was given its part of what was taken, but that over all clients at most one byte is
+-- owed
 pub record RxRow (v : SerialVirtRx) (passed : Passed) : Type 0 where
   pub owner : ℕ
   pub owed : List Cargo

@@ -1,6 +1,6 @@
-//! The virtualisers of the serial class: one shares a driver's received bytes out to the clients, by selections that
-//! stand in the input, and one merges the clients' bytes for the driver. That each way has a virtualiser is sDDF's; the
-//! selections are this project's own.
+//! The virtualisers of the serial class: one shares a driver's received bytes out to the clients,
+//! by selections that stand in the input, and one merges the clients' bytes for the driver. That
+//! each way has a virtualiser is sDDF's; the selections are this project's own.
 #![tactic(auto)]
 
 mod rx;

@@ -22,8 +22,8 @@ use std::alloc::Global;
 use turn_kit::{Intake, Outlet, Outlets, Turn, count_held};
 use wire_core::{Event, QueueId, Wires};
 
-/// Shares out what the driver received, by the selections that stand in it. `load` is the byte that it owes to the
-/// client at the place `to`; while that client has no room, it waits.
+/// Shares out what the driver received, by the selections that stand in it. `load` is the byte that
+/// it owes to the client at the place `to`; while that client has no room, it waits.
 #[derive(Drop)]
 pub struct SerialVirtRx {
     pub input: Intake,
@@ -73,7 +73,8 @@ fn read(switch: &mut Switch, taken: Option<(Item, Body)>) -> Option<(u32, u8)>
 }
 
 impl SerialVirtRx {
-    /// A virtualiser in its start state, which shares out what comes at `rx` to the clients, one queue a client.
+    /// A virtualiser in its start state, which shares out what comes at `rx` to the clients, one
+    /// queue a client.
     pub fn new(alloc: Global, rx: QueueId, clients: Vec<QueueId>) -> Result<SerialVirtRx, Memory>
         requires some { 0 < length clients.items }
         requires few { length clients.items < 2 ^ 32 }

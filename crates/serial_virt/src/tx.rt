@@ -47,7 +47,8 @@ fn forget_inputs(inputs: &mut Intakes)
 }
 
 impl SerialVirtTx {
-    /// A virtualiser in its start state, which moves what the clients put, one queue a client, to `tx`.
+    /// A virtualiser in its start state, which moves what the clients put, one queue a client, to
+    /// `tx`.
     pub fn new(alloc: Global, tx: QueueId, clients: Vec<QueueId>) -> Result<SerialVirtTx, Memory>
         requires { 0 < length clients.items }
         ensures new { IfOk result (λ v. IsNewTx tx clients.items v) }

@@ -15,12 +15,14 @@ use Rattle.spsc_queue.specs.Known.Ends.{EndIs, RingIs, EndedIs}
 use Rattle.spsc_queue.specs.Rule.{wrap, first_view}
 use Rattle.spsc_queue.specs.Steps.{slots_held, GrantedKind}
 
--- a producing end keeps the wrapped number of what it sent, and holds the slot that was granted to it
+-- a producing end keeps the wrapped number of what it sent, and holds the slot that was granted to
+-- it
 pub record IsProducer (p : Make.Inside) : Type 0 where
   pub produces : p.seat.me.0.produces ≡ true
   pub consumes : p.seat.me.0.consumes ≡ false
   pub index : p.tail ≡ wrap (length p.seat.me.0.producer.entries)
-  pub holding : p.seat.me.1 ≡ slots_held p.seat.me.0.producer.grant (length p.seat.me.0.producer.entries % p.seat.table_id.slots)
+  pub holding : p.seat.me.1 ≡ slots_held p.seat.me.0.producer.grant
+      (length p.seat.me.0.producer.entries % p.seat.table_id.slots)
   pub waiter : p.waiter ≡ p.seat.me.0.producer.waiter
   pub ringer : p.ringer ≡ p.seat.me.0.producer.ringer
   pub granted : (x : Cargo) → p.seat.me.0.producer.grant ≢ Some (Some x)
@@ -29,12 +31,14 @@ pub record IsProducer (p : Make.Inside) : Type 0 where
 abbrev pub producer_is : Make.Inside → EndIs
 producer_is p = record { ring = p.seat.table_id; knows = p.seat.me.0.producer }
 
--- a consuming end keeps the wrapped number of what it took, and holds the slot that was granted to it
+-- a consuming end keeps the wrapped number of what it took, and holds the slot that was granted to
+-- it
 pub record IsConsumer (p : Use.Inside) : Type 0 where
   pub consumes : p.seat.me.0.consumes ≡ true
   pub produces : p.seat.me.0.produces ≡ false
   pub index : p.head ≡ wrap (length p.seat.me.0.consumer.entries)
-  pub holding : p.seat.me.1 ≡ slots_held p.seat.me.0.consumer.grant (length p.seat.me.0.consumer.entries % p.seat.table_id.slots)
+  pub holding : p.seat.me.1 ≡ slots_held p.seat.me.0.consumer.grant
+      (length p.seat.me.0.consumer.entries % p.seat.table_id.slots)
   pub waiter : p.waiter ≡ p.seat.me.0.consumer.waiter
   pub ringer : p.ringer ≡ p.seat.me.0.consumer.ringer
   pub granted : GrantedKind p.seat.me.0.consumer.kind p.seat.me.0.consumer.grant
@@ -62,7 +66,14 @@ only_view (v ∷ vs) = v
 
 -- what a caller sees of an ended ring
 abbrev pub ended_is : Rest.Inside → EndedIs
-ended_is e = record { capacity = e.badge.table_id.slots; producer = (only_view e.badge.views).producer; consumer = (only_view e.badge.views).consumer; left = e.left.items; forward = e.forward; backward = e.backward }
+ended_is e = record {
+  capacity = e.badge.table_id.slots;
+  producer = (only_view e.badge.views).producer;
+  consumer = (only_view e.badge.views).consumer;
+  left = e.left.items;
+  forward = e.forward;
+  backward = e.backward;
+}
 
 -- one of its two bells
 abbrev pub ended_bell : EndedIs → Side → BellState

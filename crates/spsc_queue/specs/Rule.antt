@@ -1,4 +1,5 @@
--- The rule of a ring: its words, its slots and what its two ends know stand for one queue with its bells.
+-- The rule of a ring: its words, its slots and what its two ends know stand for one queue with its
+-- bells.
 use Rattle.std.specs.Prelude.{◌≡◌, ℕ, ◌+◌, ◌%◌, ◌^◌, ◌<◌, ◌≤◌, Bool, true, List, [], ◌∷◌, ◌++◌, length, drop, All, Option, Some, None, nat_lt}
 use mathlib.Core.Option.{some}
 use mathlib.Core.Option as maybe
@@ -25,25 +26,40 @@ wrap n = n % 65536
 
 -- The slots of a ring of n places, where t entries were taken and these are left.
 -- A slot that is granted to an end is away.
-pub record SlotsHold (n : ℕ) (homes : List (maybe.Option Slot)) (t : ℕ) (left : List Cargo) (producer consumer : Option Slot) : Type 0 where
+pub record SlotsHold (n : ℕ) (homes : List (maybe.Option Slot)) (t : ℕ) (left : List Cargo)
+    (producer consumer : Option Slot) : Type 0 where
   pub size : length homes ≡ n
   pub within : length left ≤ n
-  pub filled : (k : ℕ) (x : Cargo) → get_elem? left k ≡ some x → (k ≡ 0 → consumer ≡ None) → get_elem? homes ((t + k) % n) ≡ some (some (Some x))
-  pub empty : (k : ℕ) → length left ≤ k → k < n → (k ≡ length left → producer ≡ None) → get_elem? homes ((t + k) % n) ≡ some (some None)
+  pub filled : (k : ℕ) (x : Cargo) → get_elem? left k ≡ some x → (k ≡ 0 → consumer ≡ None)
+      → get_elem? homes ((t + k) % n) ≡ some (some (Some x))
+  pub empty : (k : ℕ) → length left ≤ k → k < n → (k ≡ length left → producer ≡ None)
+      → get_elem? homes ((t + k) % n) ≡ some (some None)
   pub to_producer : (y : Slot) → producer ≡ Some y → (y ≡ None) × (length left < n)
-  pub to_consumer : (y : Slot) → consumer ≡ Some y → (x : Cargo) × (y ≡ Some x) × (left ≡ x ∷ drop 1 left)
+  pub to_consumer : (y : Slot) → consumer ≡ Some y
+      → (x : Cargo) × (y ≡ Some x) × (left ≡ x ∷ drop 1 left)
 
 -- the bell of entries: its waiter is the consumer, its ringer the producer
 abbrev pub forward_bell : Bool → Bool → Half → Half → BellState
-forward_bell flag pending p c = record { flag = flag; pending = pending; waiter = c.waiter; ringer = p.ringer }
+forward_bell flag pending p c = record {
+  flag = flag;
+  pending = pending;
+  waiter = c.waiter;
+  ringer = p.ringer;
+}
 
 -- the bell of room: its waiter is the producer, its ringer the consumer
 abbrev pub backward_bell : Bool → Bool → Half → Half → BellState
-backward_bell flag pending p c = record { flag = flag; pending = pending; waiter = p.waiter; ringer = c.ringer }
+backward_bell flag pending p c = record {
+  flag = flag;
+  pending = pending;
+  waiter = p.waiter;
+  ringer = c.ringer;
+}
 
--- the lists and the slots: what was taken is a beginning of what was sent and at most n shorter, all of it is of the
--- ring's kind, and the rest lies in the slots
-pub record ListsHold (kind : QueueKind) (n : ℕ) (homes : List (maybe.Option Slot)) (p c : Half) : Type 0 where
+-- the lists and the slots: what was taken is a beginning of what was sent and at most n shorter,
+-- all of it is of the ring's kind, and the rest lies in the slots
+pub record ListsHold (kind : QueueKind) (n : ℕ) (homes : List (maybe.Option Slot))
+    (p c : Half) : Type 0 where
   pub left : List Cargo
   pub some_place : 0 < n
   pub few : n ≤ 32768
@@ -60,12 +76,16 @@ pub record WordsHold (n : ℕ) (words : List ℕ) (left : List Cargo) (p c : Hal
   pub pending : Bool
   pub flag_back : Bool
   pub pending_back : Bool
-  pub words_are : words ≡ wrap (length c.entries) ∷ wrap (length p.entries) ∷ bit flag ∷ bit pending ∷ bit flag_back ∷ bit pending_back ∷ []
-  pub forward : BellHolds (forward_bell flag pending p c) (nat_lt 0 (length left)) (length p.entries)
-  pub backward : BellHolds (backward_bell flag_back pending_back p c) (nat_lt (length left) n) (length c.entries)
+  pub words_are : words ≡ wrap (length c.entries) ∷ wrap (length p.entries) ∷ bit flag
+      ∷ bit pending ∷ bit flag_back ∷ bit pending_back ∷ []
+  pub forward : BellHolds (forward_bell flag pending p c) (nat_lt 0 (length left))
+      (length p.entries)
+  pub backward : BellHolds (backward_bell flag_back pending_back p c) (nat_lt (length left) n)
+      (length c.entries)
 
 -- what the two ends know, with the slots and the words
-pub record EndsHold (kind : QueueKind) (n : ℕ) (words : List ℕ) (homes : List (maybe.Option Slot)) (p c : Half) : Type 0 where
+pub record EndsHold (kind : QueueKind) (n : ℕ) (words : List ℕ) (homes : List (maybe.Option Slot))
+    (p c : Half) : Type 0 where
   pub lists : ListsHold kind n homes p c
   pub shared : WordsHold n words lists.left p c
 
@@ -85,12 +105,37 @@ pub record RingHolds (kind : QueueKind) (s : State Slot View) : Type 0 where
 
 -- what the producer of a new ring knows
 abbrev pub first_producer : QueueKind → Half
-first_producer k = record { entries = []; kind = k; waiter = Wait.Off; ringer = Rung.Free; grant = None; noes = 0; steps = 0; last_word = 0; last_value = 0 }
+first_producer k = record {
+  entries = [];
+  kind = k;
+  waiter = Wait.Off;
+  ringer = Rung.Free;
+  grant = None;
+  noes = 0;
+  steps = 0;
+  last_word = 0;
+  last_value = 0;
+}
 
 -- what the consumer of a new ring knows
 abbrev pub first_consumer : QueueKind → Half
-first_consumer k = record { entries = []; kind = k; waiter = Wait.Busy; ringer = Rung.Free; grant = None; noes = 0; steps = 0; last_word = 0; last_value = 0 }
+first_consumer k = record {
+  entries = [];
+  kind = k;
+  waiter = Wait.Busy;
+  ringer = Rung.Free;
+  grant = None;
+  noes = 0;
+  steps = 0;
+  last_word = 0;
+  last_value = 0;
+}
 
 -- what the one seat of a new ring knows, which has both roles
 abbrev pub first_view : QueueKind → View
-first_view k = record { produces = true; consumes = true; producer = first_producer k; consumer = first_consumer k }
+first_view k = record {
+  produces = true;
+  consumes = true;
+  producer = first_producer k;
+  consumer = first_consumer k;
+}

@@ -16,7 +16,8 @@ use Rattle.spsc_queue.specs.Rule.{wrap, forward_bell, backward_bell}
 abbrev pub is_set : List ℕ → ℕ → Bool
 is_set words w = nat_eq (slice_index words w) 1
 
--- the queue that the words and the two ends show; which actors they belong to a ring doesn't know, so they are 0
+-- the queue that the words and the two ends show; which actors they belong to a ring doesn't know,
+-- so they are 0
 abbrev pub ring_queue : QueueKind → ℕ → List ℕ → Half → Half → Queue
 ring_queue kind n words p c = record {
   kind = kind;
@@ -86,9 +87,12 @@ abbrev pub queue_with : Role → QueueKind → ℕ → List ℕ → Half → Hal
 queue_with Consumer kind n words p c h = ring_queue kind n words p h
 queue_with Producer kind n words p c h = ring_queue kind n words h c
 
--- A call on a ring is the queue law's next event: its answer is the law's at this step, it moves what the law moves, and
--- the queue that is shown after it is the law's.
-pub record IsEvent (kind : QueueKind) (n : ℕ) (words : List ℕ) (p c : Half) (o : Op) (a : Answer) (cargo : List Cargo) (h : Half) : Type 0 where
-  pub tells : Tells (is_filled (ring_queue kind n words p c)) (has_room (ring_queue kind n words p c)) (ring_queue kind n words p c).bells o a
+-- A call on a ring is the queue law's next event: its answer is the law's at this step, it moves
+-- what the law moves, and the queue that is shown after it is the law's.
+pub record IsEvent (kind : QueueKind) (n : ℕ) (words : List ℕ) (p c : Half) (o : Op) (a : Answer)
+    (cargo : List Cargo) (h : Half) : Type 0 where
+  pub tells : Tells (is_filled (ring_queue kind n words p c))
+      (has_room (ring_queue kind n words p c)) (ring_queue kind n words p c).bells o a
   pub carries : Carries (ring_queue kind n words p c) o cargo
-  pub after : queue_with (role_of o) kind n (words_after words (half_of (role_of o) p c) o) p c h ≡ queue_after (ring_queue kind n words p c) o a cargo
+  pub after : queue_with (role_of o) kind n (words_after words (half_of (role_of o) p c) o) p c h
+      ≡ queue_after (ring_queue kind n words p c) o a cargo

@@ -41,7 +41,14 @@ noes_more false n = n + 1
 
 -- the end after a look at the word w, which held r
 abbrev pub after_look : Bool → ℕ → ℕ → Option Slot → Half → Half
-after_look b w r g h = record h { waiter = looked_waiter h.waiter (answer_of b); grant = g; noes = noes_more b h.noes; steps = h.steps + 1; last_word = w; last_value = r }
+after_look b w r g h = record h {
+  waiter = looked_waiter h.waiter (answer_of b);
+  grant = g;
+  noes = noes_more b h.noes;
+  steps = h.steps + 1;
+  last_word = w;
+  last_value = r;
+}
 
 -- an empty slot is granted where the look answers yes
 abbrev pub empty_if : Bool → Option Slot
@@ -58,19 +65,27 @@ with_consumer v h = record v { consumer = h }
 
 -- the producer after a look for room that read r
 abbrev pub room_told : ℕ → Half → ℕ → Half
-room_told n h r = after_look (tells_room n (length h.entries) r) 0 r (empty_if (tells_room n (length h.entries) r)) h
+room_told n h r = after_look (tells_room n (length h.entries) r) 0 r
+    (empty_if (tells_room n (length h.entries) r)) h
 
 -- the step of `room`: a load of the head, which grants the slot at the tail where it answers yes
 abbrev pub room_done : Step Slot → Seated → ℕ → Seated → Type 0
-room_done st m r m' = (r < 65536) × (m'.0 ≡ with_producer m.0 (room_told st.slots m.0.producer r)) × (m'.1 ≡ slots_held m'.0.producer.grant (length m.0.producer.entries % st.slots))
+room_done st m r m' = (r < 65536) × (m'.0 ≡ with_producer m.0 (room_told st.slots m.0.producer r))
+    × (m'.1 ≡ slots_held m'.0.producer.grant (length m.0.producer.entries % st.slots))
 
 -- the producer after a put
 abbrev pub sent_one : Cargo → Half → Half
-sent_one x h = record h { entries = h.entries ++ x ∷ []; ringer = Rung.Put; grant = None; steps = h.steps + 1 }
+sent_one x h = record h {
+  entries = h.entries ++ x ∷ [];
+  ringer = Rung.Put;
+  grant = None;
+  steps = h.steps + 1;
+}
 
 -- the step of `put`: a store to the tail, at which the granted slot goes home filled
 abbrev pub put_done : Step Slot → Seated → ℕ → Seated → Type 0
-put_done st m r m' = (x : Cargo) → m.1 ≡ (length m.0.producer.entries % st.slots, Some x) ∷ [] → (m'.0 ≡ with_producer m.0 (sent_one x m.0.producer)) × (m'.1 ≡ [])
+put_done st m r m' = (x : Cargo) → m.1 ≡ (length m.0.producer.entries % st.slots, Some x) ∷ []
+    → (m'.0 ≡ with_producer m.0 (sent_one x m.0.producer)) × (m'.1 ≡ [])
 
 -- what `see` may grant: nothing where it answers no, and else an entry of the kind
 abbrev pub Granted : QueueKind → Bool → Option Slot → Type 0
@@ -87,16 +102,24 @@ see_told g h r = after_look (tells_entry (length h.entries) r) 1 r g h
 
 -- the step of `see`: a load of the tail, which grants the slot at the head where it answers yes
 abbrev pub see_done : Step Slot → Seated → ℕ → Seated → Type 0
-see_done st m r m' = (g : Option Slot) × Granted m.0.consumer.kind (tells_entry (length m.0.consumer.entries) r) g
-    × (m'.0 ≡ with_consumer m.0 (see_told g m.0.consumer r)) × (m'.1 ≡ slots_held g (length m.0.consumer.entries % st.slots))
+see_done st m r m' = (g : Option Slot)
+    × Granted m.0.consumer.kind (tells_entry (length m.0.consumer.entries) r) g
+    × (m'.0 ≡ with_consumer m.0 (see_told g m.0.consumer r))
+        × (m'.1 ≡ slots_held g (length m.0.consumer.entries % st.slots))
 
 -- the consumer after a take
 abbrev pub took_one : Cargo → Half → Half
-took_one x h = record h { entries = h.entries ++ x ∷ []; ringer = Rung.Put; grant = None; steps = h.steps + 1 }
+took_one x h = record h {
+  entries = h.entries ++ x ∷ [];
+  ringer = Rung.Put;
+  grant = None;
+  steps = h.steps + 1;
+}
 
 -- the step of `take`: a store to the head, at which the granted slot goes home empty
 abbrev pub take_done : Step Slot → Seated → ℕ → Seated → Type 0
-take_done st m r m' = (x : Cargo) → m.0.consumer.grant ≡ Some (Some x) → (m'.0 ≡ with_consumer m.0 (took_one x m.0.consumer)) × (m'.1 ≡ [])
+take_done st m r m' = (x : Cargo) → m.0.consumer.grant ≡ Some (Some x)
+    → (m'.0 ≡ with_consumer m.0 (took_one x m.0.consumer)) × (m'.1 ≡ [])
 
 -- a step that leaves the slots alone
 abbrev pub producer_turned : (ℕ → Half → Half) → Step Slot → Seated → ℕ → Seated → Type 0
@@ -116,11 +139,21 @@ waived r h = record h { waiter = Wait.Off; steps = h.steps + 1 }
 
 -- a swap of the word w with 0
 abbrev pub after_wake : ℕ → ℕ → Half → Half
-after_wake w r h = record h { waiter = woken_waiter h.waiter (answer_of (nat_eq r 1)); steps = h.steps + 1; last_word = w; last_value = r }
+after_wake w r h = record h {
+  waiter = woken_waiter h.waiter (answer_of (nat_eq r 1));
+  steps = h.steps + 1;
+  last_word = w;
+  last_value = r;
+}
 
 -- a load of the word w
 abbrev pub after_wanted : ℕ → ℕ → Half → Half
-after_wanted w r h = record h { ringer = wanted_ringer (answer_of (nat_eq r 0)); steps = h.steps + 1; last_word = w; last_value = r }
+after_wanted w r h = record h {
+  ringer = wanted_ringer (answer_of (nat_eq r 0));
+  steps = h.steps + 1;
+  last_word = w;
+  last_value = r;
+}
 
 -- a store of 1 to the flag, by the ringer
 abbrev pub after_settle : ℕ → Half → Half
@@ -164,21 +197,37 @@ spent = memory_of (first_view Kind.Byte)
 
 -- what its owner knows of an end
 abbrev pub known_end : Half → End
-known_end h = record { owned = true; kind = h.kind; waiter = h.waiter; ringer = h.ringer; looked = is_some h.grant }
+known_end h = record {
+  owned = true;
+  kind = h.kind;
+  waiter = h.waiter;
+  ringer = h.ringer;
+  looked = is_some h.grant;
+}
 
--- What one call makes of what an end knows, on a ring of n places, where its step read r: the answer, the entry that it
--- moved, and what the end knows then. Each row counts one step, and a look that answers no counts one no.
+-- What one call makes of what an end knows, on a ring of n places, where its step read r: the
+-- answer, the entry that it moved, and what the end knows then. Each row counts one step, and a
+-- look that answers no counts one no.
 abbrev pub CallDid : ℕ → Half → Op → ℕ → Answer → List Cargo → Half → Type 0
-CallDid n h Do.See r a c h' = (h' ≡ see_told h'.grant h r) × (a ≡ answer_of (tells_entry (length h.entries) r)) × (c ≡ []) × Granted h.kind (tells_entry (length h.entries) r) h'.grant
-CallDid n h Do.Room r a c h' = (h' ≡ room_told n h r) × (a ≡ answer_of (tells_room n (length h.entries) r)) × (c ≡ [])
-CallDid n h Do.Take r a c h' = (x : Cargo) × (c ≡ x ∷ []) × (h.grant ≡ Some (Some x)) × (h' ≡ took_one x h) × (a ≡ Done)
-CallDid n h Do.Put r a c h' = (x : Cargo) × (c ≡ x ∷ []) × (h' ≡ sent_one x h) × (a ≡ Done) × (kind_of x.0 ≡ h.kind)
+CallDid n h Do.See r a c h' = (h' ≡ see_told h'.grant h r)
+    × (a ≡ answer_of (tells_entry (length h.entries) r)) × (c ≡ [])
+    × Granted h.kind (tells_entry (length h.entries) r) h'.grant
+CallDid n h Do.Room r a c h' = (h' ≡ room_told n h r)
+    × (a ≡ answer_of (tells_room n (length h.entries) r)) × (c ≡ [])
+CallDid n h Do.Take r a c h' = (x : Cargo) × (c ≡ x ∷ []) × (h.grant ≡ Some (Some x))
+    × (h' ≡ took_one x h) × (a ≡ Done)
+CallDid n h Do.Put r a c h' = (x : Cargo) × (c ≡ x ∷ []) × (h' ≡ sent_one x h) × (a ≡ Done)
+    × (kind_of x.0 ≡ h.kind)
 CallDid n h (Do.Ask s) r a c h' = (h' ≡ asked 0 h) × (a ≡ Done) × (c ≡ [])
 CallDid n h (Do.Waive s) r a c h' = (h' ≡ waived 1 h) × (a ≡ Done) × (c ≡ [])
-CallDid n h (Do.Wake Forward) r a c h' = (h' ≡ after_wake 3 r h) × (a ≡ answer_of (nat_eq r 1)) × (c ≡ [])
-CallDid n h (Do.Wake Backward) r a c h' = (h' ≡ after_wake 5 r h) × (a ≡ answer_of (nat_eq r 1)) × (c ≡ [])
-CallDid n h (Do.Wanted Forward) r a c h' = (h' ≡ after_wanted 2 r h) × (a ≡ answer_of (nat_eq r 0)) × (c ≡ [])
-CallDid n h (Do.Wanted Backward) r a c h' = (h' ≡ after_wanted 4 r h) × (a ≡ answer_of (nat_eq r 0)) × (c ≡ [])
+CallDid n h (Do.Wake Forward) r a c h' =
+    (h' ≡ after_wake 3 r h) × (a ≡ answer_of (nat_eq r 1)) × (c ≡ [])
+CallDid n h (Do.Wake Backward) r a c h' =
+    (h' ≡ after_wake 5 r h) × (a ≡ answer_of (nat_eq r 1)) × (c ≡ [])
+CallDid n h (Do.Wanted Forward) r a c h' =
+    (h' ≡ after_wanted 2 r h) × (a ≡ answer_of (nat_eq r 0)) × (c ≡ [])
+CallDid n h (Do.Wanted Backward) r a c h' =
+    (h' ≡ after_wanted 4 r h) × (a ≡ answer_of (nat_eq r 0)) × (c ≡ [])
 CallDid n h (Do.Settle s) r a c h' = (h' ≡ after_settle 1 h) × (a ≡ Done) × (c ≡ [])
 CallDid n h (Do.Ring s) r a c h' = (h' ≡ after_ring 1 h) × (a ≡ Done) × (c ≡ [])
 

@@ -1,4 +1,5 @@
-//! The consuming end: each call is one step on one word of the ring, and the queue law's next event on its queue.
+//! The consuming end: each call is one step on one word of the ring, and the queue law's next event
+//! on its queue.
 ghost use Rattle.std.specs.Prelude.{◌≡◌, [], ◌∷◌};
 ghost use Rattle.cargo_core.specs.Items.{kind_of};
 ghost use Rattle.wire_core.specs.Deeds.{answer_of};
@@ -12,8 +13,8 @@ use cargo_core::{Body, Item};
 use std::marker::Model;
 use wire_core::{Answer, Op, Ringer, Side, Waiter};
 
-/// The end that takes entries. It keeps its own index and what it is about on the two bells; its calls take no memory
-/// and wait for nobody.
+/// The end that takes entries. It keeps its own index and what it is about on the two bells; its
+/// calls take no memory and wait for nobody.
 #[derive(Drop)]
 pub struct Consumer {
     pub(crate) seat: Place,
@@ -40,7 +41,8 @@ impl Consumer {
         requires own { self.old.ring ≡ ring.now.id }
         requires condition { Condition (known_end self.old.knows) Op.See }
         ensures own { self.new.ring ≡ self.old.ring }
-        ensures did { EndDid self.old.ring.slots self.old.knows Op.See (answer_of result) [] self.new.knows }
+        ensures did { EndDid self.old.ring.slots self.old.knows Op.See
+            (answer_of result) [] self.new.knows }
     {
         let tail = ring.table.shared.load::<plays::See>(&mut self.seat, TAIL);
         let has_entry = tail != u64::from(self.head);
@@ -50,13 +52,14 @@ impl Consumer {
         has_entry
     }
 
-    /// Takes the first entry, the next one of what was sent; its item has the ring's kind. The last look must have
-    /// answered yes, and is then used.
+    /// Takes the first entry, the next one of what was sent; its item has the ring's kind. The last
+    /// look must have answered yes, and is then used.
     pub fn take(&mut self, ring: &Ring) -> (Item, Body)
         requires own { self.old.ring ≡ ring.now.id }
         requires condition { Condition (known_end self.old.knows) Op.Take }
         ensures own { self.new.ring ≡ self.old.ring }
-        ensures did { EndDid self.old.ring.slots self.old.knows Op.Take Answer.Done (result ∷ []) self.new.knows }
+        ensures did { EndDid self.old.ring.slots self.old.knows Op.Take Answer.Done
+            (result ∷ []) self.new.knows }
         ensures kind { kind_of result.0 ≡ self.old.knows.kind }
     {
         let slot = usize::from(self.head % ring.capacity);
@@ -76,7 +79,8 @@ impl Consumer {
         requires own { self.old.ring ≡ ring.now.id }
         requires condition { Condition (known_end self.old.knows) (Op.Ask Side.Forward) }
         ensures own { self.new.ring ≡ self.old.ring }
-        ensures did { EndDid self.old.ring.slots self.old.knows (Op.Ask Side.Forward) Answer.Done [] self.new.knows }
+        ensures did { EndDid self.old.ring.slots self.old.knows
+            (Op.Ask Side.Forward) Answer.Done [] self.new.knows }
     {
         ring.table
             .shared
@@ -89,7 +93,8 @@ impl Consumer {
         requires own { self.old.ring ≡ ring.now.id }
         requires condition { Condition (known_end self.old.knows) (Op.Waive Side.Forward) }
         ensures own { self.new.ring ≡ self.old.ring }
-        ensures did { EndDid self.old.ring.slots self.old.knows (Op.Waive Side.Forward) Answer.Done [] self.new.knows }
+        ensures did { EndDid self.old.ring.slots self.old.knows
+            (Op.Waive Side.Forward) Answer.Done [] self.new.knows }
     {
         ring.table
             .shared
@@ -102,7 +107,8 @@ impl Consumer {
         requires own { self.old.ring ≡ ring.now.id }
         requires condition { Condition (known_end self.old.knows) (Op.Wake Side.Forward) }
         ensures own { self.new.ring ≡ self.old.ring }
-        ensures did { EndDid self.old.ring.slots self.old.knows (Op.Wake Side.Forward) (answer_of result) [] self.new.knows }
+        ensures did { EndDid self.old.ring.slots self.old.knows (Op.Wake Side.Forward)
+            (answer_of result) [] self.new.knows }
     {
         let pending = ring
             .table
@@ -120,7 +126,8 @@ impl Consumer {
         requires own { self.old.ring ≡ ring.now.id }
         requires condition { Condition (known_end self.old.knows) (Op.Wanted Side.Backward) }
         ensures own { self.new.ring ≡ self.old.ring }
-        ensures did { EndDid self.old.ring.slots self.old.knows (Op.Wanted Side.Backward) (answer_of result) [] self.new.knows }
+        ensures did { EndDid self.old.ring.slots self.old.knows (Op.Wanted Side.Backward)
+            (answer_of result) [] self.new.knows }
     {
         let flag = ring
             .table
@@ -136,7 +143,8 @@ impl Consumer {
         requires own { self.old.ring ≡ ring.now.id }
         requires condition { Condition (known_end self.old.knows) (Op.Settle Side.Backward) }
         ensures own { self.new.ring ≡ self.old.ring }
-        ensures did { EndDid self.old.ring.slots self.old.knows (Op.Settle Side.Backward) Answer.Done [] self.new.knows }
+        ensures did { EndDid self.old.ring.slots self.old.knows
+            (Op.Settle Side.Backward) Answer.Done [] self.new.knows }
     {
         ring.table
             .shared
@@ -149,7 +157,8 @@ impl Consumer {
         requires own { self.old.ring ≡ ring.now.id }
         requires condition { Condition (known_end self.old.knows) (Op.Ring Side.Backward) }
         ensures own { self.new.ring ≡ self.old.ring }
-        ensures did { EndDid self.old.ring.slots self.old.knows (Op.Ring Side.Backward) Answer.Done [] self.new.knows }
+        ensures did { EndDid self.old.ring.slots self.old.knows
+            (Op.Ring Side.Backward) Answer.Done [] self.new.knows }
     {
         ring.table
             .shared

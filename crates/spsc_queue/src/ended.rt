@@ -1,4 +1,5 @@
-//! How a ring comes to its end: both ends are given up, and what was sent, taken and left is known, with both bells.
+//! How a ring comes to its end: both ends are given up, and what was sent, taken and left is known,
+//! with both bells.
 ghost use Rattle.std.specs.Prelude.{◌≡◌, ◌<◌, ◌≤◌, ◌++◌, length, drop, nat_lt, slice_get, All, IfOk};
 ghost use Rattle.std.specs.Slots.{slots_len, slots_items, IsFull};
 ghost use Rattle.cargo_core.specs.Items.{kind_of};
@@ -21,8 +22,8 @@ use std::collections::VecDeque;
 use std::marker::Model;
 use wire_core::{BellState, Side};
 
-/// What is kept of a ring whose two ends were given up: what each of them knew last, the entries that were sent and
-/// not taken, and the two bells.
+/// What is kept of a ring whose two ends were given up: what each of them knew last, the entries
+/// that were sent and not taken, and the two bells.
 #[derive(Drop)]
 pub struct Ended {
     // The last seat, which knows what both ends knew.
@@ -43,7 +44,8 @@ impl Model for Ended {
 }
 
 impl Ended {
-    /// The first of the entries that are left, in the order in which they were sent; None where none is left.
+    /// The first of the entries that are left, in the order in which they were sent; None where
+    /// none is left.
     pub fn next(&mut self) -> Option<(Item, Body)>
         ensures first { result ≡ slice_get self.old.left 0 }
         ensures rest { self.new ≡ record self.old { left = drop 1 self.old.left } }
@@ -83,7 +85,8 @@ fn take_left(
 ) -> Result<VecDeque<(Item, Body)>, Memory>
     requires places { (slots_len closed.slots ≡ capacity) × (0 < capacity) }
     requires full { IsFull closed.slots }
-    ensures { IfOk result (λ v. v.items ≡ entries_from (slots_items closed.slots) capacity head capacity) }
+    ensures { IfOk result (λ v. v.items
+        ≡ entries_from (slots_items closed.slots) capacity head capacity) }
 {
     let places = usize::from(capacity);
     let mut left = match VecDeque::with_capacity(alloc, places) {
@@ -103,15 +106,21 @@ fn take_left(
     Ok(left)
 }
 
-/// Gives up both ends, so that neither can be used again, and takes apart what they shared. After Memory, the answer
-/// for want of memory alone, all three are gone.
+/// Gives up both ends, so that neither can be used again, and takes apart what they shared. After
+/// Memory, the answer for want of memory alone, all three are gone.
 pub fn finish(ring: Ring, producer: Producer, consumer: Consumer) -> Result<Ended, Memory>
     requires producer { producer.ring ≡ ring.id }
     requires consumer { consumer.ring ≡ ring.id }
-    ensures ends { IfOk result (λ e. (e.capacity ≡ ring.id.slots) × (e.producer ≡ sent_home producer.knows) × (e.consumer ≡ sent_home consumer.knows)) }
-    ensures rest { IfOk result (λ e. (producer.knows.entries ≡ consumer.knows.entries ++ e.left) × (length e.left ≤ ring.id.slots)) }
-    ensures kinds { IfOk result (λ e. (producer.knows.kind ≡ ring.kind) × (consumer.knows.kind ≡ ring.kind) × All (λ x. kind_of x.0 ≡ ring.kind) producer.knows.entries) }
-    ensures forward { IfOk result (λ e. (e.forward ≡ forward_bell e.forward.flag e.forward.pending producer.knows consumer.knows) × BellHolds e.forward (nat_lt 0 (length e.left)) (length producer.knows.entries)) }
+    ensures ends { IfOk result (λ e. (e.capacity ≡ ring.id.slots)
+        × (e.producer ≡ sent_home producer.knows) × (e.consumer ≡ sent_home consumer.knows)) }
+    ensures rest { IfOk result (λ e. (producer.knows.entries ≡ consumer.knows.entries ++ e.left)
+        × (length e.left ≤ ring.id.slots)) }
+    ensures kinds { IfOk result (λ e. (producer.knows.kind ≡ ring.kind)
+        × (consumer.knows.kind ≡ ring.kind)
+        × All (λ x. kind_of x.0 ≡ ring.kind) producer.knows.entries) }
+    ensures forward { IfOk result (λ e.
+        (e.forward ≡ forward_bell e.forward.flag e.forward.pending producer.knows consumer.knows)
+        × BellHolds e.forward (nat_lt 0 (length e.left)) (length producer.knows.entries)) }
     ensures backward { IfOk result (λ e. (e.backward ≡ backward_bell e.backward.flag e.backward.pending producer.knows consumer.knows) × BellHolds e.backward (nat_lt (length e.left) ring.id.slots) (length consumer.knows.entries)) }
 {
     let Ring {

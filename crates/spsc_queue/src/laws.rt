@@ -12,10 +12,18 @@ use crate::view::Half;
 use cargo_core::QueueKind;
 use wire_core::{Answer, Op};
 
-/// A new ring shows the queue law's start state. At any moment at which the ring rule holds, a call that meets its
-/// condition and does what its contract says, where it read the word that it looks at, is the queue law's next event on
-/// the queue that the ring shows: its answer and its entry are the law's, and the queue that is shown after it is too.
+/// A new ring shows the queue law's start state. At any moment at which the ring rule holds, a call
+/// that meets its condition and does what its contract says, where it read the word that it looks
+/// at, is the queue law's next event on the queue that the ring shows: its answer and its entry are
+/// the law's, and the queue that is shown after it is too.
 pub fn ring_law()
-    ensures start { (kind : QueueKind) (n : ℕ) → ring_queue kind n (0 ∷ 0 ∷ 0 ∷ 0 ∷ 1 ∷ 0 ∷ []) (first_producer kind) (first_consumer kind) ≡ record { kind = kind; capacity = n; producer = 0; consumer = 0; entries = []; bells = start_bells } }
-    ensures event { (kind : QueueKind) (n : ℕ) (words : List ℕ) (homes : List (maybe.Option Slot)) (p c : Half) (o : Op) (a : Answer) (cargo : List Cargo) (h : Half) → EndsHold kind n words homes p c → Condition (known_end (half_of (role_of o) p c)) o → CallDid n (half_of (role_of o) p c) o (read_by words o) a cargo h → IsEvent kind n words p c o a cargo h }
+    ensures start { (kind : QueueKind) (n : ℕ)
+        → ring_queue kind n (0 ∷ 0 ∷ 0 ∷ 0 ∷ 1 ∷ 0 ∷ []) (first_producer kind)
+        (first_consumer kind) ≡ record { kind = kind; capacity = n; producer = 0; consumer = 0;
+        entries = []; bells = start_bells } }
+    ensures event { (kind : QueueKind) (n : ℕ) (words : List ℕ) (homes : List (maybe.Option Slot))
+        (p c : Half) (o : Op) (a : Answer) (cargo : List Cargo) (h : Half)
+        → EndsHold kind n words homes p c → Condition (known_end (half_of (role_of o) p c)) o
+        → CallDid n (half_of (role_of o) p c) o (read_by words o) a cargo h
+        → IsEvent kind n words p c o a cargo h }
 {}

@@ -1,5 +1,6 @@
-//! The lock-free ring: a queue for one producer and one consumer, on words and slots that both share. It stands apart so
-//! that all that is concurrent about a queue is in one crate, in safe code over `atomic_table`.
+//! The lock-free ring: a queue for one producer and one consumer, on words and slots that both
+//! share. It stands apart so that all that is concurrent about a queue is in one crate, in safe
+//! code over `atomic_table`.
 #![tactic(auto)]
 
 mod both;

@@ -1,4 +1,5 @@
-//! The producing end: each call is one step on one word of the ring, and the queue law's next event on its queue.
+//! The producing end: each call is one step on one word of the ring, and the queue law's next event
+//! on its queue.
 ghost use Rattle.std.specs.Prelude.{◌≡◌, [], ◌∷◌};
 ghost use Rattle.cargo_core.specs.Items.{kind_of};
 ghost use Rattle.wire_core.specs.Deeds.{answer_of};
@@ -12,8 +13,8 @@ use cargo_core::{Body, Item};
 use std::marker::Model;
 use wire_core::{Answer, Op, Ringer, Side, Waiter};
 
-/// The end that puts entries. It keeps its own index and what it is about on the two bells; its calls take no memory
-/// and wait for nobody.
+/// The end that puts entries. It keeps its own index and what it is about on the two bells; its
+/// calls take no memory and wait for nobody.
 #[derive(Drop)]
 pub struct Producer {
     pub(crate) seat: Place,
@@ -40,7 +41,8 @@ impl Producer {
         requires own { self.old.ring ≡ ring.now.id }
         requires condition { Condition (known_end self.old.knows) Op.Room }
         ensures own { self.new.ring ≡ self.old.ring }
-        ensures did { EndDid self.old.ring.slots self.old.knows Op.Room (answer_of result) [] self.new.knows }
+        ensures did { EndDid self.old.ring.slots self.old.knows Op.Room
+            (answer_of result) [] self.new.knows }
     {
         let head = ring.table.shared.load::<plays::Room>(&mut self.seat, HEAD);
         let has_room = (head as u16).wrapping_add(ring.capacity) != self.tail;
@@ -50,13 +52,15 @@ impl Producer {
         has_room
     }
 
-    /// Puts an entry of the ring's kind behind the others. The last look must have answered yes, and is then used.
+    /// Puts an entry of the ring's kind behind the others. The last look must have answered yes,
+    /// and is then used.
     pub fn put(&mut self, ring: &Ring, item: Item, body: Body)
         requires own { self.old.ring ≡ ring.now.id }
         requires condition { Condition (known_end self.old.knows) Op.Put }
         requires kind { kind_of item ≡ self.old.knows.kind }
         ensures own { self.new.ring ≡ self.old.ring }
-        ensures did { EndDid self.old.ring.slots self.old.knows Op.Put Answer.Done ((item, body) ∷ []) self.new.knows }
+        ensures did { EndDid self.old.ring.slots self.old.knows Op.Put Answer.Done
+            ((item, body) ∷ []) self.new.knows }
     {
         let slot = usize::from(self.tail % ring.capacity);
         let next = self.tail.wrapping_add(1);
@@ -77,7 +81,8 @@ impl Producer {
         requires own { self.old.ring ≡ ring.now.id }
         requires condition { Condition (known_end self.old.knows) (Op.Wanted Side.Forward) }
         ensures own { self.new.ring ≡ self.old.ring }
-        ensures did { EndDid self.old.ring.slots self.old.knows (Op.Wanted Side.Forward) (answer_of result) [] self.new.knows }
+        ensures did { EndDid self.old.ring.slots self.old.knows (Op.Wanted Side.Forward)
+            (answer_of result) [] self.new.knows }
     {
         let flag = ring
             .table
@@ -93,7 +98,8 @@ impl Producer {
         requires own { self.old.ring ≡ ring.now.id }
         requires condition { Condition (known_end self.old.knows) (Op.Settle Side.Forward) }
         ensures own { self.new.ring ≡ self.old.ring }
-        ensures did { EndDid self.old.ring.slots self.old.knows (Op.Settle Side.Forward) Answer.Done [] self.new.knows }
+        ensures did { EndDid self.old.ring.slots self.old.knows
+            (Op.Settle Side.Forward) Answer.Done [] self.new.knows }
     {
         ring.table
             .shared
@@ -106,7 +112,8 @@ impl Producer {
         requires own { self.old.ring ≡ ring.now.id }
         requires condition { Condition (known_end self.old.knows) (Op.Ring Side.Forward) }
         ensures own { self.new.ring ≡ self.old.ring }
-        ensures did { EndDid self.old.ring.slots self.old.knows (Op.Ring Side.Forward) Answer.Done [] self.new.knows }
+        ensures did { EndDid self.old.ring.slots self.old.knows
+            (Op.Ring Side.Forward) Answer.Done [] self.new.knows }
     {
         ring.table
             .shared
@@ -119,7 +126,8 @@ impl Producer {
         requires own { self.old.ring ≡ ring.now.id }
         requires condition { Condition (known_end self.old.knows) (Op.Ask Side.Backward) }
         ensures own { self.new.ring ≡ self.old.ring }
-        ensures did { EndDid self.old.ring.slots self.old.knows (Op.Ask Side.Backward) Answer.Done [] self.new.knows }
+        ensures did { EndDid self.old.ring.slots self.old.knows
+            (Op.Ask Side.Backward) Answer.Done [] self.new.knows }
     {
         ring.table
             .shared
@@ -132,7 +140,8 @@ impl Producer {
         requires own { self.old.ring ≡ ring.now.id }
         requires condition { Condition (known_end self.old.knows) (Op.Waive Side.Backward) }
         ensures own { self.new.ring ≡ self.old.ring }
-        ensures did { EndDid self.old.ring.slots self.old.knows (Op.Waive Side.Backward) Answer.Done [] self.new.knows }
+        ensures did { EndDid self.old.ring.slots self.old.knows
+            (Op.Waive Side.Backward) Answer.Done [] self.new.knows }
     {
         ring.table
             .shared
@@ -145,7 +154,8 @@ impl Producer {
         requires own { self.old.ring ≡ ring.now.id }
         requires condition { Condition (known_end self.old.knows) (Op.Wake Side.Backward) }
         ensures own { self.new.ring ≡ self.old.ring }
-        ensures did { EndDid self.old.ring.slots self.old.knows (Op.Wake Side.Backward) (answer_of result) [] self.new.knows }
+        ensures did { EndDid self.old.ring.slots self.old.knows (Op.Wake Side.Backward)
+            (answer_of result) [] self.new.knows }
     {
         let pending = ring
             .table

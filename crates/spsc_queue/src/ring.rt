@@ -12,7 +12,8 @@ use std::alloc::Global;
 use std::marker::Model;
 use wire_core::{Ringer, Waiter};
 
-/// The words and the slots of a queue, which its two ends share by reference. It takes its room when it is opened.
+/// The words and the slots of a queue, which its two ends share by reference. It takes its room
+/// when it is opened.
 #[derive(Drop)]
 pub struct Ring {
     pub(crate) table: Board,
@@ -32,8 +33,9 @@ impl Model for Ring {
     ghost invariant = { IsRing };
 }
 
-/// A ring of that kind in its start state, with its two ends: it is empty, forward the consumer is busy and would be
-/// notified, backward the producer wants no notification. Memory is the answer for want of memory alone.
+/// A ring of that kind in its start state, with its two ends: it is empty, forward the consumer is
+/// busy and would be notified, backward the producer wants no notification. Memory is the answer
+/// for want of memory alone.
 pub fn open(
     alloc: Global,
     kind: QueueKind,
@@ -41,8 +43,10 @@ pub fn open(
 ) -> Result<(Ring, Producer, Consumer), Memory>
     requires { IsCapacity capacity }
     ensures ring { IfOk result (λ r. (r.0.kind ≡ kind) × (r.0.id.slots ≡ capacity)) }
-    ensures producer { IfOk result (λ r. r.1 ≡ record { ring = r.0.id; knows = first_producer kind }) }
-    ensures consumer { IfOk result (λ r. r.2 ≡ record { ring = r.0.id; knows = first_consumer kind }) }
+    ensures producer { IfOk result (λ r. r.1
+        ≡ record { ring = r.0.id; knows = first_producer kind }) }
+    ensures consumer { IfOk result (λ r. r.2
+        ≡ record { ring = r.0.id; knows = first_consumer kind }) }
 {
     let (table, mut seat) = Board::vacant(alloc, &[0, 0, 0, 0, 1, 0], capacity as usize, &kind)?;
     let other = table.shared.split_seat::<TwoEnds>(&mut seat);

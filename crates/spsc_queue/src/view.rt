@@ -3,9 +3,9 @@ use cargo_core::{Body, Item, QueueKind};
 use std::collections::LinkedList;
 use wire_core::{Ringer, Waiter};
 
-/// What one end knows. No value of it is made: it stands in proofs alone. `noes` counts the looks that answered no,
-/// `steps` the steps on words that its calls made. `last_word` is the word that the last read of these steps was of, and
-/// `last_value` what it read.
+/// What one end knows. No value of it is made: it stands in proofs alone. `noes` counts the looks
+/// that answered no, `steps` the steps on words that its calls made. `last_word` is the word that
+/// the last read of these steps was of, and `last_value` what it read.
 pub struct Half {
     /// What it sent or took, in order.
     pub entries: LinkedList<(Item, Body)>,
@@ -20,7 +20,8 @@ pub struct Half {
     pub last_value: u64,
 }
 
-/// What a seat knows, which is the producer's, the consumer's, or both at once. No value of it is made.
+/// What a seat knows, which is the producer's, the consumer's, or both at once. No value of it is
+/// made.
 pub struct View {
     pub produces: bool,
     pub consumes: bool,

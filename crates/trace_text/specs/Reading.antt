@@ -71,7 +71,8 @@ after_line r (Some event) = if is_refused r event then None else Some (reader_wi
 
 -- how a line was read: taken, or found bad
 abbrev pub IsRead : Reader → Reader → Bool → Option Event → Type 0
-IsRead old new good event = MatchBool good (after_line old event ≡ Some new) (after_line old event ≡ None)
+IsRead old new good event = MatchBool good (after_line old event ≡ Some new)
+    (after_line old event ≡ None)
 
 -- a number that no line can use: it isn't there, or is 2 ^ 64 or more
 abbrev pub IsNoneOrHuge : Option ℕ → Type 0

@@ -1,4 +1,5 @@
--- How many calls an end makes before it is settled or a mark comes, and which answer each call may have.
+-- How many calls an end makes before it is settled or a mark comes, and which answer each call may
+-- have.
 use Rattle.std.specs.Prelude.{◌+◌, ◌&&◌, ◌||◌, not, ℕ, Bool, true, false, Option, Some, None}
 use Rattle.wire_core.specs.declared.names.Op.{Op}
 use Rattle.wire_core.specs.declared.names.Op.TheVariants as Do

@@ -14,8 +14,8 @@ bodies_of cs = map (λ c. c.1) cs
 abbrev pub bodies_at : Lists → List ℕ → List Body
 bodies_at lists queues = flat_map (λ n. bodies_of (lists n)) queues
 
--- of each pool, what an actor had at the start and what came is what went, what is in its hand, and what it keeps for
--- good or lends
+-- of each pool, what an actor had at the start and what came is what went, what is in its hand, and
+-- what it keeps for good or lends
 abbrev pub Balances : (start came went hand kept : List Body) → Type 0
 Balances start came went hand kept =
     (pool : PoolId) → buffers_of pool start + buffers_of pool came ≡ buffers_of pool went

@@ -1,4 +1,5 @@
--- What an actor did since its last mark, by its turns alone: each actor that steps as `Turned` says keeps these claims.
+-- What an actor did since its last mark, by its turns alone: each actor that steps as `Turned` says
+-- keeps these claims.
 use Rattle.std.specs.Prelude.{◌≡◌, ◌⊎◌, ◌+◌, ◌≤◌, ℕ, true, Some, List, [], ◌++◌, length, slice_get}
 use Rattle.wire_core.specs.declared.names.Event.{Event}
 use Rattle.turn_kit.specs.Turns.{Post, Round, IsRound, is_at_rest, Unmarked, Unsettled, calls_on, WokenInVain}
@@ -9,9 +10,10 @@ pub record StandsSince (now : Round) (calls : List Event) : Type 0 where
   pub round : IsRound start
   pub made : Unmarked start calls now
 
--- the claims on them: first come the calls before which some end wasn't settled, at most 7 on each end; where at last all
--- are settled, they are at most 6 on each; from there the ends are stepped in their order, so that no end makes two calls
--- more than another, and two rounds later each has made a wake, which answered no and else would have been a mark
+-- the claims on them: first come the calls before which some end wasn't settled, at most 7 on each
+-- end; where at last all are settled, they are at most 6 on each; from there the ends are stepped
+-- in their order, so that no end makes two calls more than another, and two rounds later each has
+-- made a wake, which answered no and else would have been a mark
 pub record SinceClaims (start : Round) (calls : List Event) (now : Round) : Type 0 where
   pub mid : Round
   pub busy : List Event

@@ -1,5 +1,6 @@
--- What an actor did since its last mark, where it is stepped at rest only while a notification is pending at one of its
--- ends. It stands apart from its turns, since it says in addition how the queues stood.
+-- What an actor did since its last mark, where it is stepped at rest only while a notification is
+-- pending at one of its ends. It stands apart from its turns, since it says in addition how the
+-- queues stood.
 use Rattle.std.specs.Prelude.{◌≡◌, ◌⊎◌, ℕ, Bool, true, Some, List, [], ◌∷◌, ◌++◌, slice_get}
 use Rattle.wire_core.specs.declared.names.Event.{Event}
 use Rattle.wire_core.specs.declared.names.Entry.{Entry}
@@ -36,8 +37,8 @@ pub record Idled (pending : Pendings) (mid : Round) (idle : List Event) : Type 0
   pub called : IsCalled pending mid.posts
   pub unwoken : Unwoken called.post.queue called.post.side idle
 
--- what an actor at this round did since its last mark: calls while some end wasn't settled, then calls while all were,
--- since a notification was pending at one of them
+-- what an actor at this round did since its last mark: calls while some end wasn't settled, then
+-- calls while all were, since a notification was pending at one of them
 pub record Paced (pending : Pendings) (calls : List Event) (now : Round) : Type 0 where
   pub start : Round
   pub mid : Round

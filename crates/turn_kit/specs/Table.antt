@@ -1,4 +1,5 @@
--- The decision table of one end: its next call, by what its owner keeps of it, and what is kept after a call.
+-- The decision table of one end: its next call, by what its owner keeps of it, and what is kept
+-- after a call.
 use Rattle.std.specs.Prelude.{◌≡◌, Bool, true, false, not, ◌||◌, ◌&&◌, Option, Some, None}
 use Rattle.wire_core.specs.declared.names.Side.{Side}
 use Rattle.wire_core.specs.declared.names.Side.TheVariants.{Forward, Backward}

@@ -1,4 +1,5 @@
--- The turns of an actor: which of its ends is stepped, and what is said of steps without a mark among them.
+-- The turns of an actor: which of its ends is stepped, and what is said of steps without a mark
+-- among them.
 use Rattle.std.specs.Prelude.{◌≡◌, ◌⊎◌, ◌+◌, ◌<◌, ◌≤◌, ◌==◌, ◌&&◌, ◌||◌, ℕ, Bool, true, false, not, cond, nat_lt, Option, Some, None, is_none, List, [], ◌∷◌, length, slice_get, slice_set}
 use Rattle.wire_core.specs.declared.names.Event.{Event}
 use Rattle.wire_core.specs.declared.names.Side.{Side}
@@ -11,8 +12,8 @@ use Rattle.turn_kit.specs.declared.turns.Stand.{Stand}
 use Rattle.turn_kit.specs.Table.{next_op, state_after, is_settled}
 use Rattle.turn_kit.specs.Calls.{may_answer}
 
--- an end of an actor: its queue, the side on which it waits, whether its actor drops there in place of waiting, and what is
--- kept of it
+-- an end of an actor: its queue, the side on which it waits, whether its actor drops there in place
+-- of waiting, and what is kept of it
 pub record Post : Type 0 where
   pub queue : ℕ
   pub side : Side
@@ -42,15 +43,15 @@ pub record Posted (old : Post) (need : Bool) (e : Event) (new : Post) : Type 0 w
         (state_after old.state e.op e.answer);
   }
 
--- all ends of an actor, which of them are needed or loaded, and the queue of the end that it stepped last where all
--- were settled
+-- all ends of an actor, which of them are needed or loaded, and the queue of the end that it
+-- stepped last where all were settled
 pub record Round : Type 0 where
   pub posts : List Post
   pub needs : List Bool
   pub last : ℕ
 
--- what was found of the ends that were offered so far: the one with the lowest queue number of those that aren't
--- settled, of those with a higher queue number than the last, and of all
+-- what was found of the ends that were offered so far: the one with the lowest queue number of
+-- those that aren't settled, of those with a higher queue number than the last, and of all
 pub record Choosing : Type 0 where
   pub count : ℕ
   pub last : ℕ
@@ -83,7 +84,8 @@ abbrev pub offered_from : Choosing → ℕ → List Post → List Bool → Choos
 offered_from c place [] needs = c
 offered_from c place (p ∷ ps) [] = c
 offered_from c place (p ∷ ps) (need ∷ needs) =
-    offered_from (choice_with c (record { queue = p.queue; place = place }) (is_settled p.state need))
+    offered_from (choice_with c (record { queue = p.queue; place = place })
+        (is_settled p.state need))
     (place + 1) ps needs
 
 abbrev pub choice_of : Round → Choosing
@@ -97,7 +99,8 @@ abbrev pub queue_or : Option Stand → ℕ → ℕ
 queue_or (Some x) n = x.queue
 queue_or None n = n
 
--- the unsettled end with the lowest queue number; where all are settled, the next in rising queue number after the last
+-- the unsettled end with the lowest queue number; where all are settled, the next in rising queue
+-- number after the last
 abbrev pub chosen_place : Choosing → ℕ
 chosen_place c = place_or c.unsettled (place_or c.after (place_or c.first 0))
 
@@ -114,8 +117,8 @@ pub record PostedAt (old : List Post) (place : ℕ) (need : Bool) (e : Event) (n
   pub posted : Posted post need e moved
   pub after : new ≡ slice_set old place moved
 
--- one step of an actor: the chosen end makes its next call, the others stay, what is needed or loaded changes only at a
--- mark, and each end has its need afterwards
+-- one step of an actor: the chosen end makes its next call, the others stay, what is needed or
+-- loaded changes only at a mark, and each end has its need afterwards
 pub record Turned (old : Round) (e : Event) (new : Round) : Type 0 where
   pub place : ℕ
   pub need : Bool
@@ -172,7 +175,8 @@ abbrev pub IsWithin : ℕ → Option Stand → Type 0
 IsWithin count (Some x) = x.place < count
 IsWithin count None = Unit {0}
 
--- queue number x is the next after the last: the lowest of the higher ones, or the lowest of all where none is higher
+-- queue number x is the next after the last: the lowest of the higher ones, or the lowest of all
+-- where none is higher
 abbrev pub IsNext : ℕ → List Post → ℕ → Type 0
 IsNext last posts x =
     ((last < x) × ((k : ℕ) (p : Post) → slice_get posts k ≡ Some p → last < p.queue → x ≤ p.queue))

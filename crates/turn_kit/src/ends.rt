@@ -1,4 +1,5 @@
-//! The discipline of one end of a queue, consuming or producing: it makes the next call of the table.
+//! The discipline of one end of a queue, consuming or producing: it makes the next call of the
+//! table.
 
 ghost use Rattle.std.specs.Prelude.{◌≡◌, ◌==◌, ◌↔◌, ℕ, true, false, Some, None, IsSome, IfSome, option_to_list, is_some, [], ◌++◌};
 ghost use Rattle.std.specs.Option.{ForSome, option_map};
@@ -88,8 +89,8 @@ impl Intake {
         }
     }
 
-    /// Makes the next call of the table, where `need` says whether an entry is needed. An entry is answered exactly for
-    /// a take, and a take comes only where one is needed.
+    /// Makes the next call of the table, where `need` says whether an entry is needed. An entry is
+    /// answered exactly for a take, and a take comes only where one is needed.
     pub fn step<W: Wires>(&mut self, wires: &mut W, need: bool) -> (Event, Option<(Item, Body)>)
         requires { Agrees (W.ends wires.old Consumer self.old.queue.0) self.old.state }
         ensures queue { self.new.queue ≡ self.old.queue }

@@ -1,4 +1,5 @@
-//! Laws on the ends of an actor and their order, which no call has to show: they follow from the definitions alone.
+//! Laws on the ends of an actor and their order, which no call has to show: they follow from the
+//! definitions alone.
 
 ghost use Rattle.std.specs.Prelude.{◌≡◌, ◌+◌, ◌<◌, ◌≤◌, ℕ, Bool, true, false, Some, List, [], ◌∷◌, ◌++◌, length, slice_get};
 ghost use Rattle.turn_kit.specs.Table.{is_settled};
@@ -13,8 +14,8 @@ ghost use Rattle.wire_core.specs.Marks.{Drops, since, calls_after, calls_at};
 use crate::EndState;
 use wire_core::{Entry, Event, QueueRow};
 
-/// One end: while it isn't settled, each of its calls that is no mark brings it nearer, so it makes at most 7 before it
-/// is settled or a mark comes, and at most 6 until it is settled.
+/// One end: while it isn't settled, each of its calls that is no mark brings it nearer, so it makes
+/// at most 7 before it is settled or a mark comes, and at most 6 until it is settled.
 pub fn end_law()
     ensures seven { (k : EndState) (need : Bool) → calls_left k need ≤ 7 }
     ensures six { (k : EndState) (need : Bool) → settling_left k need ≤ 6 }
@@ -30,8 +31,9 @@ pub fn end_law()
         → is_mark_at p e ≡ false → is_settled p.state need ≡ true → is_settled q.state need ≡ true }
 {}
 
-/// Which end an actor steps: while some end isn't settled, one that isn't, with the lowest queue number of these; where
-/// all are settled, the next in rising queue number after the one that it stepped last in this way.
+/// Which end an actor steps: while some end isn't settled, one that isn't, with the lowest queue
+/// number of these; where all are settled, the next in rising queue number after the one that it
+/// stepped last in this way.
 pub fn turn_law()
     ensures unsettled { (r m : Round) (e : Event) → IsRound r → (t : Turned r e m)
         → is_at_rest r ≡ false → (is_settled t.posted.post.state t.need ≡ false)
@@ -43,10 +45,11 @@ pub fn turn_law()
         × IsNext r.last r.posts t.posted.post.queue }
 {}
 
-/// Each actor whose steps are turns keeps these. A mark is a take, a put, a wake that answers yes, or a look that answers no
-/// at an end where the actor drops. Between two marks, while some end isn't settled, it makes at most 7
-/// calls on each end; where at last all are settled, it has made at most 6 on each; then they stay settled until a mark;
-/// and within two rounds from there each end makes a wake, which is a mark where a notification is pending.
+/// Each actor whose steps are turns keeps these. A mark is a take, a put, a wake that answers yes,
+/// or a look that answers no at an end where the actor drops. Between two marks, while some end
+/// isn't settled, it makes at most 7 calls on each end; where at last all are settled, it has made
+/// at most 6 on each; then they stay settled until a mark; and within two rounds from there each
+/// end makes a wake, which is a mark where a notification is pending.
 pub fn mark_law()
     ensures seven { (r new : Round) (es : List Event) → IsRound r → Unsettled r es new
         → (k : ℕ) (p : Post) → slice_get r.posts k ≡ Some p → calls_on p.queue es ≤ 7 }
@@ -66,9 +69,11 @@ pub fn mark_law()
         → SinceClaims s.start calls now }
 {}
 
-/// Where each entry of a legal journal is a turn of an actor that wasn't at rest, or was called, the pace of all actors is
-/// kept: an actor begins, and goes on after each mark, with no calls since; its own turns and the entries of the others, on
-/// queues without a hostile end, keep what is known of it; and from this it follows that it made at most 8 calls on each end since its last mark.
+/// Where each entry of a legal journal is a turn of an actor that wasn't at rest, or was called,
+/// the pace of all actors is kept: an actor begins, and goes on after each mark, with no calls
+/// since; its own turns and the entries of the others, on queues without a hostile end, keep what
+/// is known of it; and from this it follows that it made at most 8 calls on each end since its last
+/// mark.
 pub fn pace_law()
     ensures begins { (pending : Pendings) (now : Round) → IsRound now → Paced pending [] now }
     ensures own { (hostile : Hostiles) (drops : Drops) (history : History) (rows : List QueueRow)

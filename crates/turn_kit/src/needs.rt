@@ -1,5 +1,5 @@
-//! Which ends of a list are needed, or loaded: each by its place, since a virtualiser owes several clients at once and
-//! needs some inputs only.
+//! Which ends of a list are needed, or loaded: each by its place, since a virtualiser owes several
+//! clients at once and needs some inputs only.
 
 ghost use Rattle.std.specs.Prelude.{◌≡◌, ℕ, Bool, false, slice_index_or};
 ghost use Rattle.turn_kit.specs.ManyEnds.{is_here};

@@ -45,7 +45,8 @@ impl Pipe {
         ensures output { self.new.output ≡ self.old.output }
         ensures on { result.queue ≡ self.old.input.queue }
         ensures role { role_of result.op ≡ Consumer }
-        ensures did { W.did wires.old (deed_of result (arrival self.old.load self.new.load)) wires.new }
+        ensures did { W.did wires.old (deed_of result
+            (arrival self.old.load self.new.load)) wires.new }
         ensures moves { Moves (W.ends wires.old) result (W.ends wires.new) }
         ensures fits { FitsPipe (W.ends wires.new) self.new }
         ensures kept { (passed : Passed) → PipeStandsFor self.old passed
@@ -53,7 +54,8 @@ impl Pipe {
             (deed_of result (arrival self.old.load self.new.load))) }
         ensures takes { (n : ℕ) → (n ≡ self.old.input.queue.0 → ⊥)
             → taken_by (deed_of result (arrival self.old.load self.new.load)) n ≡ [] }
-        ensures puts { (n : ℕ) → put_by (deed_of result (arrival self.old.load self.new.load)) n ≡ [] }
+        ensures puts { (n : ℕ) → put_by (deed_of result (arrival self.old.load self.new.load)) n
+            ≡ [] }
         ensures posted { Posted (intake_post self.old.input) (is_none self.old.load) result
             (intake_post self.new.input) }
         ensures still { is_mark result.op result.answer ≡ false → self.new.load ≡ self.old.load }

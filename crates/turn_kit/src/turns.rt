@@ -13,8 +13,9 @@ pub struct Stand {
     pub place: usize,
 }
 
-/// The order in which an actor steps its ends: the one that isn't settled and has the lowest queue number; where all
-/// are settled, the next in rising queue number after the one that was last stepped so, which is kept here.
+/// The order in which an actor steps its ends: the one that isn't settled and has the lowest queue
+/// number; where all are settled, the next in rising queue number after the one that was last
+/// stepped so, which is kept here.
 #[derive(Clone, Copy, Debug, PartialEq, Eq)]
 pub struct Turn {
     pub last: u16,

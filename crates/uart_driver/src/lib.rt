@@ -1,4 +1,5 @@
-//! The driver of a serial device: one pipe for what the device received, and one for what it is to send.
+//! The driver of a serial device: one pipe for what the device received, and one for what it is to
+//! send.
 #![tactic(auto)]
 
 ghost use Rattle.std.specs.Prelude.{◌≡◌};
@@ -15,8 +16,8 @@ use std::ops::{Deref, DerefMut};
 use turn_kit::Pipe;
 use wire_core::QueueId;
 
-/// The driver of a serial device: its first pipe moves what the device received, its second what it is to send. From
-/// sDDF's design document.
+/// The driver of a serial device: its first pipe moves what the device received, its second what it
+/// is to send. From sDDF's design document.
 #[derive(Drop)]
 pub struct UartDriver {
     pub driver: PipeDriver<Pipes<Pipe>>,

@@ -23,15 +23,24 @@ answer_of false = No
 
 -- a call that answers yes or no
 abbrev pub look_deed : QueueId → Op → Bool → Deed
-look_deed q o b = record { event = record { queue = q; op = o; answer = answer_of b; item = None }; body = None }
+look_deed q o b = record {
+  event = record { queue = q; op = o; answer = answer_of b; item = None };
+  body = None;
+}
 
 -- a call that answers nothing
 abbrev pub plain_deed : QueueId → Op → Deed
-plain_deed q o = record { event = record { queue = q; op = o; answer = Done; item = None }; body = None }
+plain_deed q o = record {
+  event = record { queue = q; op = o; answer = Done; item = None };
+  body = None;
+}
 
 -- a call that moves an entry
 abbrev pub move_deed : QueueId → Op → Cargo → Deed
-move_deed q o c = record { event = record { queue = q; op = o; answer = Done; item = Some c.0 }; body = Some c.1 }
+move_deed q o c = record {
+  event = record { queue = q; op = o; answer = Done; item = Some c.0 };
+  body = Some c.1;
+}
 
 abbrev pub joined : Option Item → Option Body → List Cargo
 joined (Some item) (Some body) = (item, body) ∷ []

@@ -70,8 +70,10 @@ is_free_or_put Rung.Ringing = false
 abbrev pub Condition : End → Op → Type 0
 Condition e Do.See = is_clear e.waiter ≡ false
 Condition e Do.Room = is_clear e.waiter ≡ false
-Condition e Do.Take = (is_clear e.waiter ≡ false) × (e.looked ≡ true) × (is_free_or_put e.ringer ≡ true)
-Condition e Do.Put = (is_clear e.waiter ≡ false) × (e.looked ≡ true) × (is_free_or_put e.ringer ≡ true)
+Condition e Do.Take = (is_clear e.waiter ≡ false) × (e.looked ≡ true)
+    × (is_free_or_put e.ringer ≡ true)
+Condition e Do.Put = (is_clear e.waiter ≡ false) × (e.looked ≡ true)
+    × (is_free_or_put e.ringer ≡ true)
 Condition e (Do.Ask s) = is_busy_or_off e.waiter ≡ true
 Condition e (Do.Waive s) = Unit {0}
 Condition e (Do.Wake s) = Unit {0}

@@ -21,8 +21,8 @@ pub record Tally : Type 0 where
   pub noes : ℕ
   pub steps : ℕ
 
--- what a history or a journal shows of a queue: the items that were put, those that were taken, the bells, and what
--- each end did
+-- what a history or a journal shows of a queue: the items that were put, those that were taken, the
+-- bells, and what each end did
 pub record Track : Type 0 where
   pub sent : List Item
   pub taken : List Item
@@ -35,9 +35,16 @@ no_tally = record { noes = 0; steps = 0 }
 
 -- nothing was put or taken, and no call was made
 abbrev pub start_track : Track
-start_track = record { sent = []; taken = []; bells = start_bells; consumer = no_tally; producer = no_tally }
+start_track = record {
+  sent = [];
+  taken = [];
+  bells = start_bells;
+  consumer = no_tally;
+  producer = no_tally;
+}
 
--- a history gives each queue's track before the journal begins; that of a system which was built has start tracks
+-- a history gives each queue's track before the journal begins; that of a system which was built
+-- has start tracks
 abbrev pub History : Type 0
 History = List Track
 
@@ -128,7 +135,8 @@ pub record IsShown (row : QueueRow) (q : Queue) (t : Track) : Type 0 where
 
 -- the item that a call moves: a take the next one that was put, a put one of the queue's kind
 abbrev pub CarriesItem : QueueKind → Track → Op → Option Item → Type 0
-CarriesItem k t Do.Take item = (i : Item) × (item ≡ Some i) × (slice_get t.sent (length t.taken) ≡ Some i)
+CarriesItem k t Do.Take item = (i : Item) × (item ≡ Some i)
+    × (slice_get t.sent (length t.taken) ≡ Some i)
 CarriesItem k t Do.Put item = (i : Item) × (item ≡ Some i) × (kind_of i ≡ k)
 CarriesItem k t Do.See item = item ≡ None
 CarriesItem k t Do.Room item = item ≡ None
@@ -160,26 +168,28 @@ is_sent t = nat_lt (length t.taken) (length t.sent)
 abbrev pub is_open : QueueRow → Track → Bool
 is_open row t = nat_lt (length t.sent) (length t.taken + row.capacity)
 
--- actor k may call at the end r of a queue of this row: it has an end of the queue, and unless it is hostile it has that
--- one
+-- actor k may call at the end r of a queue of this row: it has an end of the queue, and unless it
+-- is hostile it has that one
 pub record MayCall (hostile : Hostiles) (row : QueueRow) (r : Role) (k : ℕ) : Type 0 where
   pub some : (x : Role) × (owner_of row x ≡ k)
   pub own : hostile k ≡ false → owner_of row r ≡ k
 
--- the queue law and the discipline at one entry of a journal on a queue of this row, where t is the queue's track
--- just before it; the queue law is claimed of a queue with no hostile end
+-- the queue law and the discipline at one entry of a journal on a queue of this row, where t is the
+-- queue's track just before it; the queue law is claimed of a queue with no hostile end
 pub record Legal (hostile : Hostiles) (row : QueueRow) (t : Track) (e : Entry) : Type 0 where
   -- the call is made by an actor that may make it
   pub caller : MayCall hostile row (role_of e.event.op) e.actor.0
   -- the discipline: its condition holds
   pub condition : Condition (end_of true row.kind t.bells (role_of e.event.op)) e.event.op
   -- it answers by what was put and taken, and by the last stores
-  pub tells : is_calm hostile row ≡ true → Tells (is_sent t) (is_open row t) t.bells e.event.op e.event.answer
+  pub tells : is_calm hostile row ≡ true
+      → Tells (is_sent t) (is_open row t) t.bells e.event.op e.event.answer
   -- once and in order, and of the queue's kind
   pub carries : is_calm hostile row ≡ true → CarriesItem row.kind t e.event.op e.event.item
 
 -- an entry is legal where its queue is there and it is legal on it
-pub record LegalEntry (hostile : Hostiles) (history : History) (rows : List QueueRow) (before : List Entry) (e : Entry) : Type 0 where
+pub record LegalEntry (hostile : Hostiles) (history : History) (rows : List QueueRow)
+    (before : List Entry) (e : Entry) : Type 0 where
   pub row : QueueRow
   pub there : slice_get rows e.event.queue.0 ≡ Some row
   pub legal : Legal hostile row (track history e.event.queue.0 before) e
@@ -200,14 +210,17 @@ EachMoment P journal = P [] × EachEntry (λ before e. P (before ++ e ∷ [])) j
 abbrev pub LegalJournal : Hostiles → History → List QueueRow → List Entry → Type 0
 LegalJournal hostile history rows journal = EachEntry (LegalEntry hostile history rows) journal
 
--- the bell law of a queue: an entry that waits, or room that is waited for, is signalled or about to be
+-- the bell law of a queue: an entry that waits, or room that is waited for, is signalled or about
+-- to be
 pub record TrackHolds (row : QueueRow) (t : Track) : Type 0 where
   pub forward : BellHolds t.bells.forward (is_sent t) (length t.sent)
   pub backward : BellHolds t.bells.backward (is_open row t) (length t.taken)
 
 -- the bell law of each queue with no hostile end
 abbrev pub BellsHold : Hostiles → History → List QueueRow → List Entry → Type 0
-BellsHold hostile history rows journal = (n : ℕ) (row : QueueRow) → slice_get rows n ≡ Some row → is_calm hostile row ≡ true → TrackHolds row (track history n journal)
+BellsHold hostile history rows journal =
+    (n : ℕ) (row : QueueRow) → slice_get rows n ≡ Some row → is_calm hostile row ≡ true
+    → TrackHolds row (track history n journal)
 
 -- what was taken is a beginning of what was put, and at most the capacity behind it
 pub record Flows (row : QueueRow) (t : Track) : Type 0 where
@@ -215,4 +228,6 @@ pub record Flows (row : QueueRow) (t : Track) : Type 0 where
   pub within : length t.sent ≤ length t.taken + row.capacity
 
 abbrev pub QueuesFlow : Hostiles → History → List QueueRow → List Entry → Type 0
-QueuesFlow hostile history rows journal = (n : ℕ) (row : QueueRow) → slice_get rows n ≡ Some row → is_calm hostile row ≡ true → Flows row (track history n journal)
+QueuesFlow hostile history rows journal =
+    (n : ℕ) (row : QueueRow) → slice_get rows n ≡ Some row → is_calm hostile row ≡ true
+    → Flows row (track history n journal)

@@ -1,4 +1,5 @@
--- What an actor moved, queue by queue, and what one step of it adds: the words in which each actor's contract speaks.
+-- What an actor moved, queue by queue, and what one step of it adds: the words in which each
+-- actor's contract speaks.
 use Rattle.std.specs.Prelude.{◌==◌, ℕ, Bool, true, false, Option, List, [], ◌++◌}
 use Rattle.cargo_core.specs.declared.item.Body.{Body}
 use Rattle.wire_core.specs.declared.names.Event.{Event}
@@ -48,8 +49,8 @@ put_by d n = if_there (d.event.queue.0 == n) (if_put d.event.op (cargo_of d))
 abbrev pub with : Lists → Lists → Lists
 with old more n = old n ++ more n
 
--- what passed at the ends of an actor: for each queue the entries that it took there, those that it put there, and
--- those that it let go where a look there told that it can't put them
+-- what passed at the ends of an actor: for each queue the entries that it took there, those that it
+-- put there, and those that it let go where a look there told that it can't put them
 pub record Passed : Type 0 where
   pub taken : Lists
   pub sent : Lists
@@ -61,11 +62,18 @@ nothing_passed = record { taken = λ n. []; sent = λ n. []; dropped = λ n. [] 
 
 -- what this deed took and put is added, and nothing was dropped
 abbrev pub with_deed : Passed → Deed → Passed
-with_deed p d = record { taken = with p.taken (taken_by d); sent = with p.sent (put_by d); dropped = p.dropped }
+with_deed p d = record {
+  taken = with p.taken (taken_by d);
+  sent = with p.sent (put_by d);
+  dropped = p.dropped;
+}
 
 -- one step of an actor that stands for what passed at its ends:
--- one call happened, and whatever it stood for, it now stands for that with this event's entry added
-pub record Stepped {A W : Type 0} (StandsFor : A → Passed → Type 0) (did : W → Deed → W → Type 0) (wires wires' : W) (old new : A) (event : Event) : Type 0 where
+-- one call happened, and whatever it stood for, it now stands for that with this event's entry
+-- added
+pub record Stepped {A W : Type 0} (StandsFor : A → Passed → Type 0) (did : W → Deed → W → Type 0)
+    (wires wires' : W) (old new : A) (event : Event) : Type 0 where
   pub body : Option Body
   pub happened : did wires (record { event = event; body = body }) wires'
-  pub kept : (p : Passed) → StandsFor old p → StandsFor new (with_deed p (record { event = event; body = body }))
+  pub kept : (p : Passed) → StandsFor old p
+      → StandsFor new (with_deed p (record { event = event; body = body }))

@@ -1,5 +1,6 @@
--- Marks: where an actor gets somewhere, and how many calls it makes between two of them. They stand here, below all
--- actors, since a bound on the length of a journal follows from them and from what the queues show alone.
+-- Marks: where an actor gets somewhere, and how many calls it makes between two of them. They stand
+-- here, below all actors, since a bound on the length of a journal follows from them and from what
+-- the queues show alone.
 use Rattle.std.specs.Prelude.{◌≡◌, ◌==◌, ◌&&◌, ◌||◌, ◌+◌, ◌≤◌, ◌<◌, ℕ, zero, suc, Bool, true, false, cond, Some, List, [], ◌∷◌, ◌++◌, length, slice_get}
 use Rattle.wire_core.specs.declared.names.Event.{Event}
 use Rattle.wire_core.specs.declared.names.Entry.{Entry}
@@ -44,7 +45,8 @@ is_vain_look (Do.Wanted s) a = false
 is_vain_look (Do.Settle s) a = false
 is_vain_look (Do.Ring s) a = false
 
--- at which entries an actor drops what it had yet to put: looks that answer no, at ends where it doesn't wait
+-- at which entries an actor drops what it had yet to put: looks that answer no, at ends where it
+-- doesn't wait
 abbrev pub Drops : Type 0
 Drops = Entry → Bool
 
@@ -91,10 +93,11 @@ calls_at r n (e ∷ es) = bit (is_role (role_of e.op) r && (e.queue.0 == n)) + c
 
 -- since its last mark each actor that isn't hostile made at most 8 calls on each of its ends
 abbrev pub AreFew : Hostiles → Drops → List Entry → Type 0
-AreFew hostile drops journal = (a : ℕ) → hostile a ≡ false → (r : Role) (n : ℕ) → calls_at r n (since drops a journal) ≤ 8
+AreFew hostile drops journal = (a : ℕ) → hostile a ≡ false → (r : Role) (n : ℕ)
+    → calls_at r n (since drops a journal) ≤ 8
 
--- a journal is brisk where this is so at each moment: between two marks of an actor that follow each other, and after its
--- last one, it makes at most 8 calls on each of its ends
+-- a journal is brisk where this is so at each moment: between two marks of an actor that follow
+-- each other, and after its last one, it makes at most 8 calls on each of its ends
 abbrev pub Brisk : Hostiles → Drops → List Entry → Type 0
 Brisk hostile drops journal = EachMoment (AreFew hostile drops) journal
 
@@ -105,7 +108,8 @@ ends_of a (row ∷ rows) = bit (row.consumer.0 == a) + bit (row.producer.0 == a)
 
 -- each owner of an end is one of so many actors
 abbrev pub AreOwned : List QueueRow → ℕ → Type 0
-AreOwned rows actors = (n : ℕ) (row : QueueRow) → slice_get rows n ≡ Some row → (r : Role) → owner_of row r < actors
+AreOwned rows actors = (n : ℕ) (row : QueueRow) → slice_get rows n ≡ Some row → (r : Role)
+    → owner_of row r < actors
 
 abbrev pub sum_below : (ℕ → ℕ) → ℕ → ℕ
 sum_below f zero = 0

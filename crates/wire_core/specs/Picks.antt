@@ -10,11 +10,13 @@ next_seed x = (x * 6364136223846793005 + 1442695040888963407) % 2 ^ 64
 abbrev pub place_of : ℕ → ℕ → ℕ
 place_of x k = x / 2 ^ 33 % k
 
--- a journal that is picked by a seed, where runs gives the actors that may run after a journal: each entry's actor is
--- the one at the picked place among those that may run just before it
+-- a journal that is picked by a seed, where runs gives the actors that may run after a journal:
+-- each entry's actor is the one at the picked place among those that may run just before it
 abbrev pub PickedFrom : (List Entry → List ℕ) → ℕ → List Entry → List Entry → Type 0
 PickedFrom runs x before [] = Unit {0}
-PickedFrom runs x before (e ∷ es) = (slice_get (runs before) (place_of (next_seed x) (length (runs before))) ≡ Some e.actor.0) × PickedFrom runs (next_seed x) (before ++ e ∷ []) es
+PickedFrom runs x before (e ∷ es) =
+    (slice_get (runs before) (place_of (next_seed x) (length (runs before))) ≡ Some e.actor.0)
+    × PickedFrom runs (next_seed x) (before ++ e ∷ []) es
 
 -- the number after so many draws
 abbrev pub drawn : ℕ → List Entry → ℕ

@@ -26,7 +26,8 @@ pub record Bells : Type 0 where
   pub seen : Bool
   pub roomed : Bool
 
--- a queue: what it carries, how many entries it holds at most, the actors at its ends, what stands in it, and its bells
+-- a queue: what it carries, how many entries it holds at most, the actors at its ends, what stands
+-- in it, and its bells
 pub record Queue : Type 0 where
   pub kind : QueueKind
   pub capacity : ℕ
@@ -35,7 +36,8 @@ pub record Queue : Type 0 where
   pub entries : List Cargo
   pub bells : Bells
 
--- a bell at the start: forward the consumer is busy and would be notified, backward the producer wants no notification
+-- a bell at the start: forward the consumer is busy and would be notified, backward the producer
+-- wants no notification
 abbrev pub start_forward : BellState
 start_forward = record { flag = false; pending = false; waiter = Wait.Busy; ringer = Rung.Free }
 
@@ -43,16 +45,40 @@ abbrev pub start_backward : BellState
 start_backward = record { flag = true; pending = false; waiter = Wait.Off; ringer = Rung.Free }
 
 abbrev pub start_bells : Bells
-start_bells = record { forward = start_forward; backward = start_backward; seen = false; roomed = false }
+start_bells = record {
+  forward = start_forward;
+  backward = start_backward;
+  seen = false;
+  roomed = false;
+}
 
 -- the queue of a row in its start state
 abbrev pub start_queue : QueueRow → Queue
-start_queue row = record { kind = row.kind; capacity = row.capacity; producer = row.producer.0; consumer = row.consumer.0; entries = []; bells = start_bells }
+start_queue row = record {
+  kind = row.kind;
+  capacity = row.capacity;
+  producer = row.producer.0;
+  consumer = row.consumer.0;
+  entries = [];
+  bells = start_bells;
+}
 
 -- what an end's owner knows of it
 abbrev pub end_of : Bool → QueueKind → Bells → Role → End
-end_of mine k b Consumer = record { owned = mine; kind = k; waiter = b.forward.waiter; ringer = b.backward.ringer; looked = b.seen }
-end_of mine k b Producer = record { owned = mine; kind = k; waiter = b.backward.waiter; ringer = b.forward.ringer; looked = b.roomed }
+end_of mine k b Consumer = record {
+  owned = mine;
+  kind = k;
+  waiter = b.forward.waiter;
+  ringer = b.backward.ringer;
+  looked = b.seen;
+}
+end_of mine k b Producer = record {
+  owned = mine;
+  kind = k;
+  waiter = b.backward.waiter;
+  ringer = b.forward.ringer;
+  looked = b.roomed;
+}
 
 abbrev pub bell_of : Bells → Side → BellState
 bell_of b Forward = b.forward
@@ -69,16 +95,32 @@ waked b Done = b
 
 -- what a call does to the bells and looks
 abbrev pub bells_after : Bells → Op → Answer → Bells
-bells_after b Do.See a = record b { forward = record b.forward { waiter = looked_waiter b.forward.waiter a }; seen = is_yes a }
-bells_after b Do.Room a = record b { backward = record b.backward { waiter = looked_waiter b.backward.waiter a }; roomed = is_yes a }
-bells_after b Do.Take a = record b { seen = false; backward = record b.backward { ringer = Rung.Put } }
-bells_after b Do.Put a = record b { roomed = false; forward = record b.forward { ringer = Rung.Put } }
-bells_after b (Do.Ask s) a = with_bell b s (record (bell_of b s) { flag = false; waiter = Wait.Asked })
-bells_after b (Do.Waive s) a = with_bell b s (record (bell_of b s) { flag = true; waiter = Wait.Off })
+bells_after b Do.See a = record b {
+  forward = record b.forward { waiter = looked_waiter b.forward.waiter a };
+  seen = is_yes a;
+}
+bells_after b Do.Room a = record b {
+  backward = record b.backward { waiter = looked_waiter b.backward.waiter a };
+  roomed = is_yes a;
+}
+bells_after b Do.Take a = record b {
+  seen = false;
+  backward = record b.backward { ringer = Rung.Put };
+}
+bells_after b Do.Put a = record b {
+  roomed = false;
+  forward = record b.forward { ringer = Rung.Put };
+}
+bells_after b (Do.Ask s) a = with_bell b s
+    (record (bell_of b s) { flag = false; waiter = Wait.Asked })
+bells_after b (Do.Waive s) a = with_bell b s
+    (record (bell_of b s) { flag = true; waiter = Wait.Off })
 bells_after b (Do.Wake s) a = with_bell b s (waked (bell_of b s) a)
 bells_after b (Do.Wanted s) a = with_bell b s (record (bell_of b s) { ringer = wanted_ringer a })
-bells_after b (Do.Settle s) a = with_bell b s (record (bell_of b s) { flag = true; ringer = Rung.Ringing })
-bells_after b (Do.Ring s) a = with_bell b s (record (bell_of b s) { pending = true; ringer = Rung.Free })
+bells_after b (Do.Settle s) a = with_bell b s
+    (record (bell_of b s) { flag = true; ringer = Rung.Ringing })
+bells_after b (Do.Ring s) a = with_bell b s
+    (record (bell_of b s) { pending = true; ringer = Rung.Free })
 
 -- what a call does to what stands in the queue
 abbrev pub entries_after : List Cargo → Op → List Cargo → List Cargo
@@ -95,7 +137,14 @@ entries_after es (Do.Ring s) c = es
 
 -- the queue after a call
 abbrev pub queue_after : Queue → Op → Answer → List Cargo → Queue
-queue_after q o a c = record { kind = q.kind; capacity = q.capacity; producer = q.producer; consumer = q.consumer; entries = entries_after q.entries o c; bells = bells_after q.bells o a }
+queue_after q o a c = record {
+  kind = q.kind;
+  capacity = q.capacity;
+  producer = q.producer;
+  consumer = q.consumer;
+  entries = entries_after q.entries o c;
+  bells = bells_after q.bells o a;
+}
 
 abbrev pub after : Queue → Deed → Queue
 after q d = queue_after q d.event.op d.event.answer (cargo_of d)
@@ -145,7 +194,14 @@ pub record May (q : Queue) (d : Deed) : Type 0 where
 
 -- stands for a queue that is not there
 abbrev pub no_queue : Queue
-no_queue = record { kind = Kind.Byte; capacity = 0; producer = 0; consumer = 0; entries = []; bells = start_bells }
+no_queue = record {
+  kind = Kind.Byte;
+  capacity = 0;
+  producer = 0;
+  consumer = 0;
+  entries = [];
+  bells = start_bells;
+}
 
 abbrev pub queue_at : List Queue → ℕ → Queue
 queue_at w n = slice_index_or w n no_queue
@@ -166,7 +222,8 @@ starts rows = map start_queue rows
 
 -- a pending word of one of this actor's waiters is 1, at a queue of these owners
 abbrev pub calls : ℕ → ℕ → ℕ → Bells → Bool
-calls actor producer consumer b = (consumer == actor && b.forward.pending) || (producer == actor && b.backward.pending)
+calls actor producer consumer b = (consumer == actor && b.forward.pending)
+    || (producer == actor && b.backward.pending)
 
 abbrev pub is_called : ℕ → Queue → Bool
 is_called actor q = calls actor q.producer q.consumer q.bells

@@ -6,19 +6,30 @@ ghost use Rattle.wire_core.specs.Journal.{Track, History, Hostiles, start_track,
 
 use crate::{Entry, Event, QueueRow};
 
-/// The bell law: its three parts together hold of a queue at the start, and each call that meets its condition, and
-/// answers and moves what the queue law says, keeps them.
+/// The bell law: its three parts together hold of a queue at the start, and each call that meets
+/// its condition, and answers and moves what the queue law says, keeps them.
 pub fn bell_law()
     ensures start { (row : QueueRow) → TrackHolds row start_track }
-    ensures kept { (row : QueueRow) (t : Track) (e : Event) → TrackHolds row t → Condition (end_of true row.kind t.bells (role_of e.op)) e.op → Tells (is_sent t) (is_open row t) t.bells e.op e.answer → CarriesItem row.kind t e.op e.item → TrackHolds row (track_after t e) }
+    ensures kept { (row : QueueRow) (t : Track) (e : Event) → TrackHolds row t
+        → Condition (end_of true row.kind t.bells (role_of e.op)) e.op
+        → Tells (is_sent t) (is_open row t) t.bells e.op e.answer
+        → CarriesItem row.kind t e.op e.item → TrackHolds row (track_after t e) }
 {}
 
-/// At each moment of a legal journal the bell law holds of each queue with no hostile end, what was taken from it is a
-/// beginning of what was put, and what was put is at most the capacity longer; where this is so of the history, as it
-/// is of one in which nothing happened.
+/// At each moment of a legal journal the bell law holds of each queue with no hostile end, what was
+/// taken from it is a beginning of what was put, and what was put is at most the capacity longer;
+/// where this is so of the history, as it is of one in which nothing happened.
 pub fn journal_law()
-    ensures bells { (hostile : Hostiles) (history : History) (rows : List QueueRow) (journal : List Entry) → BellsHold hostile history rows [] → LegalJournal hostile history rows journal → EachMoment (BellsHold hostile history rows) journal }
-    ensures flows { (hostile : Hostiles) (history : History) (rows : List QueueRow) (journal : List Entry) → QueuesFlow hostile history rows [] → LegalJournal hostile history rows journal → EachMoment (QueuesFlow hostile history rows) journal }
-    ensures start_bells { (hostile : Hostiles) (rows : List QueueRow) → BellsHold hostile (start_history rows) rows [] }
-    ensures start_flows { (hostile : Hostiles) (rows : List QueueRow) → QueuesFlow hostile (start_history rows) rows [] }
+    ensures bells { (hostile : Hostiles) (history : History) (rows : List QueueRow)
+        (journal : List Entry) → BellsHold hostile history rows []
+        → LegalJournal hostile history rows journal
+        → EachMoment (BellsHold hostile history rows) journal }
+    ensures flows { (hostile : Hostiles) (history : History) (rows : List QueueRow)
+        (journal : List Entry) → QueuesFlow hostile history rows []
+        → LegalJournal hostile history rows journal
+        → EachMoment (QueuesFlow hostile history rows) journal }
+    ensures start_bells { (hostile : Hostiles) (rows : List QueueRow)
+        → BellsHold hostile (start_history rows) rows [] }
+    ensures start_flows { (hostile : Hostiles) (rows : List QueueRow)
+        → QueuesFlow hostile (start_history rows) rows [] }
 {}

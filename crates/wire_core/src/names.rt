@@ -9,17 +9,17 @@ pub struct QueueId(pub u16);
 #[derive(Clone, Copy, Debug, PartialEq, Eq)]
 pub struct ActorId(pub u16);
 
-/// Which bell of a queue: forward, the consumer waits for entries and the producer rings; backward, the producer
-/// waits for room and the consumer rings.
+/// Which bell of a queue: forward, the consumer waits for entries and the producer rings; backward,
+/// the producer waits for room and the consumer rings.
 #[derive(Clone, Copy, Debug, PartialEq, Eq)]
 pub enum Side {
     Forward,
     Backward,
 }
 
-/// What the end that waits on a bell is about. `Busy`: it looks and moves entries. `Asked`: it asked for a
-/// notification and has yet to look once more. `Clear`: it asked, looked and saw nothing, and waits. `Off`: it wants
-/// no notification. This project's own.
+/// What the end that waits on a bell is about. `Busy`: it looks and moves entries. `Asked`: it
+/// asked for a notification and has yet to look once more. `Clear`: it asked, looked and saw
+/// nothing, and waits. `Off`: it wants no notification. This project's own.
 #[derive(Clone, Copy, Debug, PartialEq, Eq)]
 pub enum Waiter {
     Busy,
@@ -28,9 +28,9 @@ pub enum Waiter {
     Off,
 }
 
-/// What the end that rings a bell is about. `Free`: nothing. `Put`: it moved an entry and has yet to ask whether a
-/// notification is wanted. `Hot`: one is wanted, and the flag stands yet. `Ringing`: the flag is withdrawn, and the
-/// notification is due. This project's own.
+/// What the end that rings a bell is about. `Free`: nothing. `Put`: it moved an entry and has yet
+/// to ask whether a notification is wanted. `Hot`: one is wanted, and the flag stands yet.
+/// `Ringing`: the flag is withdrawn, and the notification is due. This project's own.
 #[derive(Clone, Copy, Debug, PartialEq, Eq)]
 pub enum Ringer {
     Free,
@@ -39,8 +39,9 @@ pub enum Ringer {
     Ringing,
 }
 
-/// A call on an end of a queue. `Ask`, `Waive` and `Wanted` stand for request, cancel and require signal of sDDF's net
-/// queue header; `Settle` is this project's own (the trait `Wires` says what each does).
+/// A call on an end of a queue. `Ask`, `Waive` and `Wanted` stand for request, cancel and require
+/// signal of sDDF's net queue header; `Settle` is this project's own (the trait `Wires` says what
+/// each does).
 #[derive(Clone, Copy, Debug, PartialEq, Eq)]
 pub enum Op {
     See,
@@ -79,8 +80,8 @@ pub struct Entry {
     pub event: Event,
 }
 
-/// A bell of a queue. A flag of `false` says that the waiter wants a notification, one of `true` that it wants none;
-/// `pending` says that a notification stands there untaken.
+/// A bell of a queue. A flag of `false` says that the waiter wants a notification, one of `true`
+/// that it wants none; `pending` says that a notification stands there untaken.
 #[derive(Clone, Copy, Debug, PartialEq, Eq)]
 pub struct BellState {
     pub flag: bool,
@@ -89,8 +90,9 @@ pub struct BellState {
     pub ringer: Ringer,
 }
 
-/// A queue of a layout: its name, what it carries, how many entries it holds at most, the actors at its two ends, and
-/// the memory region in which its words lie, with the offset in bytes. A device's queue has no region.
+/// A queue of a layout: its name, what it carries, how many entries it holds at most, the actors at
+/// its two ends, and the memory region in which its words lie, with the offset in bytes. A device's
+/// queue has no region.
 #[derive(Debug, Drop)]
 pub struct QueueRow {
     pub name: Text,
@@ -102,8 +104,8 @@ pub struct QueueRow {
     pub offset: u64,
 }
 
-/// A pool of buffers of a layout: its name, the memory region in which it lies, the address of its first buffer, how
-/// many buffers it has, and how many bytes each of them has.
+/// A pool of buffers of a layout: its name, the memory region in which it lies, the address of its
+/// first buffer, how many buffers it has, and how many bytes each of them has.
 #[derive(Debug, Drop)]
 pub struct PoolRow {
     pub name: Text,

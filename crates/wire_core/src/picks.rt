@@ -2,8 +2,8 @@
 ghost use Rattle.std.specs.Prelude.{◌≡◌, ◌<◌};
 ghost use Rattle.wire_core.specs.Picks.{next_seed, place_of};
 
-/// The number that is drawn after `x`, whose low 64 bits are kept. The two constants are those of the linear
-/// congruential generator that Knuth's MMIX uses.
+/// The number that is drawn after `x`, whose low 64 bits are kept. The two constants are those of
+/// the linear congruential generator that Knuth's MMIX uses.
 pub fn next_seed(x: u64) -> u64
     ensures { result ≡ next_seed x }
 {

@@ -53,7 +53,8 @@ pub(super) fn full() -> &'static str {
  {name="b_d0", size=0x20000}, {name="b_d1", size=0x20000},
 ]
 protection_domain = [
- {name="eth", priority=101, budget=100, period=400, program="eth_driver", irq=[{irq=79, id=0, trigger="edge"}], map=[
+ {name="eth", priority=101, budget=100, period=400, program="eth_driver",
+     irq=[{irq=79, id=0, trigger="edge"}], map=[
   {mr="net_rxq", vaddr=0x2000000, perms="rw"}, {mr="net_txq", vaddr=0x2200000, perms="rw"}]},
  {name="net_rx", priority=99, program="net_virt_rx", map=[
   {mr="net_rxq", vaddr=0x2000000, perms="rw"}, {mr="net_rx", vaddr=0x2200000, perms="r"},
@@ -75,9 +76,11 @@ protection_domain = [
   {mr="txq1", vaddr=0x2400000, perms="rw"}, {mr="tx1", vaddr=0x2600000, perms="rw"}]},
  {name="uart", priority=100, program="uart_driver", irq=[{irq=33, id=0}], map=[
   {mr="s_rx", vaddr=0x2000000, perms="rw"}, {mr="s_tx", vaddr=0x2200000, perms="rw"}]},
- {name="ser_rx", priority=99, program="serial_virt_rx", map=[{mr="s_rx", vaddr=0x2000000, perms="rw"},
+ {name="ser_rx", priority=99, program="serial_virt_rx",
+     map=[{mr="s_rx", vaddr=0x2000000, perms="rw"},
   {mr="s_rx0", vaddr=0x2200000, perms="rw"}, {mr="s_rx1", vaddr=0x2400000, perms="rw"}]},
- {name="ser_tx", priority=99, program="serial_virt_tx", map=[{mr="s_tx", vaddr=0x2000000, perms="rw"},
+ {name="ser_tx", priority=99, program="serial_virt_tx",
+     map=[{mr="s_tx", vaddr=0x2000000, perms="rw"},
   {mr="s_tx0", vaddr=0x2200000, perms="rw"}, {mr="s_tx1", vaddr=0x2400000, perms="rw"}]},
  {name="term0", priority=1, program="serial_speaker", map=[
   {mr="s_rx0", vaddr=0x2000000, perms="rw"}, {mr="s_tx0", vaddr=0x2200000, perms="rw"}]},
@@ -115,8 +118,12 @@ rx_queues = "net_rxq"
 tx_capacity = 1024
 tx_queues = "net_txq"
 client = [
- {pd="app0", copier="copy0", mac="02:00:00:00:00:01", lease_queues="lease0", rx_region="rx0", rx_buffers=512, rx_capacity=512, rx_queues="rxq0", tx_region="tx0", tx_buffers=512, tx_capacity=512, tx_queues="txq0"},
- {pd="app1", copier="copy1", mac="02:00:00:00:00:02", lease_queues="lease1", rx_region="rx1", rx_buffers=512, rx_capacity=512, rx_queues="rxq1", tx_region="tx1", tx_buffers=512, tx_capacity=512, tx_queues="txq1"},
+ {pd="app0", copier="copy0", mac="02:00:00:00:00:01", lease_queues="lease0", rx_region="rx0",
+     rx_buffers=512, rx_capacity=512, rx_queues="rxq0", tx_region="tx0", tx_buffers=512,
+     tx_capacity=512, tx_queues="txq0"},
+ {pd="app1", copier="copy1", mac="02:00:00:00:00:02", lease_queues="lease1", rx_region="rx1",
+     rx_buffers=512, rx_capacity=512, rx_queues="rxq1", tx_region="tx1", tx_buffers=512,
+     tx_capacity=512, tx_queues="txq1"},
 ]
 [serial]
 driver = "uart"

@@ -16,8 +16,8 @@ pub record RingIs : Type 0 where
   pub id : TableId
   pub kind : QueueKind
 
--- what is kept of a ring that came to its end: its capacity, what its two ends knew last, what was sent and not taken,
--- and its two bells
+-- what is kept of a ring that came to its end: its capacity, what its two ends knew last, what was
+-- sent and not taken, and its two bells
 pub record EndedIs : Type 0 where
   pub capacity : ℕ
   pub producer : Half
