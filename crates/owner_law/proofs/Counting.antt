@@ -18,11 +18,11 @@ use Rattle.owner_law.specs.Census.{is_queued, is_held, is_lent, census, IsPool, 
 use Rattle.owner_law.proofs.Sums.{same_is}
 
 -- sums over the first numbers
-below_plus : (f g : ℕ → ℕ) (k : ℕ) → sum_below (λ n. f n + g n) k ≡ sum_below f k + sum_below g k
+pub below_plus : (f g : ℕ → ℕ) (k : ℕ) → sum_below (λ n. f n + g n) k ≡ sum_below f k + sum_below g k
 below_plus f g zero = refl
 below_plus f g (suc k) = omega (arith, below_plus f g k)
 
-below_same : (f g : ℕ → ℕ) (k : ℕ) → ((n : ℕ) → n < k → f n ≡ g n) → sum_below f k ≡ sum_below g k
+pub below_same : (f g : ℕ → ℕ) (k : ℕ) → ((n : ℕ) → n < k → f n ≡ g n) → sum_below f k ≡ sum_below g k
 below_same f g zero same = refl
 below_same f g (suc k) same = ap₂ (λ a b. a + b) (below_same f g k (λ n lt. same n (omega (arith, lt)))) (same k (omega arith))
 
@@ -30,7 +30,7 @@ below_none : (f : ℕ → ℕ) (k : ℕ) → ((n : ℕ) → n < k → f n ≡ 0)
 below_none f zero none = refl
 below_none f (suc k) none = omega (arith, below_none f k (λ n lt. none n (omega (arith, lt))), none k (omega arith))
 
-below_one : (f : ℕ → ℕ) (k x d : ℕ) → x < k → f x ≡ d → ((n : ℕ) → (x ≡ n → ⊥) → f n ≡ 0) → sum_below f k ≡ d
+pub below_one : (f : ℕ → ℕ) (k x d : ℕ) → x < k → f x ≡ d → ((n : ℕ) → (x ≡ n → ⊥) → f n ≡ 0) → sum_below f k ≡ d
 below_one f zero x d lt is none = absurd (omega (arith, lt))
 below_one f (suc k) x d lt is none = one_by (eqb_tells x k) (λ off. below_one f k x d (omega (arith, lt, off)) is none)
   where

@@ -7,10 +7,11 @@ use Rattle.play_core.specs.Moved.{Moved, Seat, AreAlike, with_put}
 use Rattle.play_core.specs.Wants.{Want, intake, outlet, intake_want, outlet_want}
 use Rattle.play_core.specs.Sheets.{Due, IsOwn, NeedsFollow, AreApart, due_want}
 use Rattle.play_core.proofs.Lists.{some_is, map_get, map_from, map_alike}
+use Rattle.play_core.proofs.Puts.{put_beside, copy_more, copy_shorter}
 use Rattle.serial_law.specs.Bytes.{bytes_in, byte_items, is_owed}
 use Rattle.serial_law.specs.Parts.{SerialPart, SerialDevice, SerialDriver, SerialReceiver, SerialSender, SerialClient}
 use Rattle.serial_law.specs.Table.{SharesOut, MergesAll, some_owed, shares, taken_count, is_held, serial_sheet}
-use Rattle.serial_law.proofs.Lists.{say_more, say_shorter, copy_more, copy_shorter, put_beside}
+use Rattle.serial_law.proofs.Lists.{say_more, say_shorter}
 use Rattle.serial_law.proofs.Shares.{share_from, shares_same, owed_same, count_same, share_seats, intake_seats, share_due, share_owed, share_only, merge_owed, merge_only}
 
 -- one end's list told otherwise

@@ -15,7 +15,7 @@ use Rattle.play_core.proofs.Lists.{some_is, map_get}
 use Rattle.play_core.proofs.Merges.{merge_total}
 use Rattle.serial_law.specs.Bytes.{bytes_in, byte_items, is_owed}
 use Rattle.serial_law.specs.Table.{SharesOut, MergesAll, some_owed, shares, share_dues, taken_count, is_held}
-use Rattle.serial_law.proofs.Lists.{put_here, put_beside}
+use Rattle.play_core.proofs.Puts.{put_here, put_beside}
 
 -- the end at a client's queue
 pub share_at : (all : ℕ) (bytes : List ℕ) (from : ℕ) (qs : List ℕ) (m : Moved) (c k q : ℕ) → k ≡ from + c → slice_get qs c ≡ Some q
