@@ -27,7 +27,7 @@ at_address w k some lt =
     rw (begins, number_is w k some) refl
 
 -- numbers of another pool, or of this one
-here_or_not : (s : Bool) (n k : ℕ) (rest : List ℕ) (more : ℕ) → more ≤ count_by (λ x. x == n) (cond s rest []) → bit (s && (k == n)) + more ≤ count_by (λ x. x == n) (cond s (k ∷ rest) [])
+pub here_or_not : (s : Bool) (n k : ℕ) (rest : List ℕ) (more : ℕ) → more ≤ count_by (λ x. x == n) (cond s rest []) → bit (s && (k == n)) + more ≤ count_by (λ x. x == n) (cond s (k ∷ rest) [])
 here_or_not true n k rest more le =
     let one : bit (k == n) ≡ cond {A = ℕ} (k == n) 1 0 = by (k == n) in
     omega (arith, le, one, sum_by-cons (λ x. cond {A = ℕ} (x == n) 1 0) k rest)

@@ -12,7 +12,7 @@ use Rattle.net_owners.specs.Ends.{NameBuffers}
 use Rattle.play_core.specs.Moved.{Moved}
 
 -- a length says nothing of the buffer
-address_still : (n : ℕ) (item : Item) → address_of (with_len n item) ≡ address_of item
+pub address_still : (n : ℕ) (item : Item) → address_of (with_len n item) ≡ address_of item
 address_still n (ItemOf.Net d) = refl
 address_still n (ItemOf.Byte b) = refl
 address_still n (ItemOf.Req r) = refl

@@ -4,3 +4,6 @@ pub mod Plain
 pub mod Counting
 pub mod Sharing
 pub mod Following
+pub mod Items
+pub mod Leasing
+pub mod Owning

@@ -1,14 +1,68 @@
 //! The table of the network's receive half, apart from any system: what is said of each kind of its
-//! actors, and that their needs follow from it.
+//! actors, that their needs follow from it, and that their own rows say it of items.
 #![tactic(auto)]
 
+ghost use Rattle.std.specs.Prelude.{◌≡◌, List, []};
+ghost use Rattle.wire_core.specs.Lists.{Passed};
+ghost use Rattle.play_core.specs.Moved.{Moved};
 ghost use Rattle.play_core.specs.Sheets.{Scene, IsOwn, NeedsFollow};
+ghost use Rattle.owner_law.specs.Things.{Naming};
+ghost use Rattle.owner_law.specs.Keeping.{PutsItsOwn};
+ghost use Rattle.turn_kit.specs.declared.pipe.Pipe.{Pipe};
+ghost use Rattle.pipe_driver.specs.Drivers.{PipesRow};
+ghost use Rattle.eth_device.specs.Devices.{DeviceRow};
+ghost use Rattle.eth_device.specs.declared.EthDevice.{EthDevice};
+ghost use Rattle.net_client.specs.Clients.{ClientRow};
+ghost use Rattle.net_client.specs.declared.NetClient.{NetClient};
+ghost use Rattle.net_copier.specs.Copying.{CopierRow};
+ghost use Rattle.net_copier.specs.declared.NetCopier.{NetCopier};
+ghost use Rattle.net_virt_rx.specs.Receiving.{RxRow};
+ghost use Rattle.net_virt_rx.specs.declared.NetVirtRx.{NetVirtRx};
+ghost use Rattle.net_owners.specs.Names.{PoolAt};
+ghost use Rattle.net_owners.specs.Ends.{AreItemsOf};
+ghost use Rattle.net_rx_owners.specs.Virtualiser.{TakesFrames};
 ghost use Rattle.net_parts.specs.Parts.{NetPart};
+ghost use Rattle.net_parts.specs.Rows.{frame_at};
 ghost use Rattle.net_parts.specs.Table.{net_sheet};
+ghost use Rattle.net_parts.specs.Naming.{NamesPart};
+ghost use Rattle.net_parts.specs.Playing.{device_part, driver_part, copier_part, sink_part, receiver_part, AreLeases};
 
 /// What is said of an actor speaks of its own ends alone, and an output is owed exactly where the
 /// actor's row would still hold after one more put there.
 pub fn table_law()
     ensures own { (scene : Scene) (p : NetPart) → IsOwn (net_sheet scene p) }
     ensures follow { (scene : Scene) (p : NetPart) → NeedsFollow (net_sheet scene p) }
+{}
+
+/// The rows of the actors, of entries with their bodies, say of the items what the table says. A
+/// copier's does where it took leases alone, each as long as its item says; the virtualiser's where
+/// the frames that it took are those of their places and none came out of turn. A buffer of the
+/// network has 2,048 bytes.
+pub fn row_law()
+    ensures device { (scene : Scene) (d : EthDevice) (passed : Passed) (m : Moved)
+        → d.frames ≡ scene.frames → AreItemsOf (net_sheet scene (device_part d)).ends passed m
+        → DeviceRow d passed → (net_sheet scene (device_part d)).row m }
+    ensures driver { (scene : Scene) (ps : List Pipe) (passed : Passed) (m : Moved)
+        → AreItemsOf (net_sheet scene (driver_part ps)).ends passed m → PipesRow ps passed
+        → (net_sheet scene (driver_part ps)).row m }
+    ensures receiver { (scene : Scene) (v : NetVirtRx) (passed : Passed) (m : Moved)
+        → v.work.stock.size ≡ 2048
+        → AreItemsOf (net_sheet scene (receiver_part v)).ends passed m
+        → TakesFrames (frame_at scene.frames) v passed
+        → (row : RxRow v passed) → row.stray ≡ [] → (net_sheet scene (receiver_part v)).row m }
+    ensures copier { (scene : Scene) (c : NetCopier) (passed : Passed) (m : Moved)
+        → AreItemsOf (net_sheet scene (copier_part c)).ends passed m
+        → AreLeases (passed.taken c.lease_input.queue.0)
+        → CopierRow c passed → (net_sheet scene (copier_part c)).row m }
+    ensures sink { (scene : Scene) (tx : PoolAt) (c : NetClient) (passed : Passed) (m : Moved)
+        → c.stock.base ≡ 0 → c.stock.size ≡ 2048
+        → AreItemsOf (net_sheet scene (sink_part tx c)).ends passed m
+        → ClientRow c passed → (net_sheet scene (sink_part tx c)).row m }
+{}
+
+/// What is said of an actor lets it put only buffers and leases that were in its hand, where its
+/// queues' items name them: the premise that each buffer has one owner.
+pub fn own_law()
+    ensures { (naming : Naming) (scene : Scene) (p : NetPart) → NamesPart naming scene p
+        → PutsItsOwn naming (net_sheet scene p) }
 {}

@@ -39,7 +39,7 @@ named_more : (base size b : ℕ) (xs ys : List Cargo) → named base size b xs �
 named_more base size b [] ys = omega arith
 named_more base size b (x ∷ xs) ys = let rest = named_more base size b xs ys in omega (arith, rest)
 
-leases_net : (size : ℕ) (mac : Mac) (cs : List Cargo) → AreNet (leases_for size mac cs)
+pub leases_net : (size : ℕ) (mac : Mac) (cs : List Cargo) → AreNet (leases_for size mac cs)
 leases_net size mac [] k c at = cc
 leases_net size mac (x ∷ cs) k c at = by (is_for_client mac (frame_of x)) k at (λ j is. leases_net size mac cs j c is)
   where

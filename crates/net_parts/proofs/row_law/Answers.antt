@@ -1,0 +1,18 @@
+use Rattle.net_parts.proofs.Items.{device_row, driver_row, copier_row, sink_row}
+use Rattle.net_parts.proofs.Leasing.{receiver_row}
+use Rattle.net_parts.proofs.row_law.Goals as goal
+
+pub returns-clause-device : goal.returns-clause-device
+returns-clause-device c = device_row
+
+pub returns-clause-driver : goal.returns-clause-driver
+returns-clause-driver c = driver_row
+
+pub returns-clause-receiver : goal.returns-clause-receiver
+returns-clause-receiver c = receiver_row
+
+pub returns-clause-copier : goal.returns-clause-copier
+returns-clause-copier c = copier_row
+
+pub returns-clause-sink : goal.returns-clause-sink
+returns-clause-sink c = sink_row
