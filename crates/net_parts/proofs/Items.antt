@@ -1,8 +1,7 @@
-use Rattle.std.proofs.Common.{◌≡◌, ◌+◌, ◌++◌, ◌<◌, ◌≤◌, ℕ, zero, suc, true, false, Some, List, [], ◌∷◌, All, length, map, slice_get, slice_index_or, refl, sym, ap, ap₂, ◌∙◌, subst, arith}
+use Rattle.std.proofs.Common.{◌≡◌, ◌+◌, ◌++◌, ℕ, zero, suc, true, false, Some, List, [], ◌∷◌, All, length, map, slice_get, refl, sym, ap, ap₂, ◌∙◌, subst, arith}
 use Rattle.std.proofs.lemmas.List.{append-nil, length-map, map-append}
 use Rattle.cargo_core.specs.Lists.{IsPrefix}
 use Rattle.cargo_core.specs.Pages.{Paged}
-use Rattle.cargo_core.specs.declared.item.Item.{Item}
 use Rattle.wire_core.specs.Deeds.{Cargo}
 use Rattle.wire_core.specs.Lists.{Passed}
 use Rattle.wire_core.specs.Queues.{items_of}
@@ -24,9 +23,9 @@ use Rattle.net_owners.specs.Names.{PoolAt, by_offset}
 use Rattle.net_owners.specs.Ends.{AreItemsOf, numbers_from}
 use Rattle.net_law.proofs.Beginnings.{begins_map}
 use Rattle.net_parts.specs.Parts.{Way}
-use Rattle.net_parts.specs.Rows.{FillsFrames, CopiesLeases, ReturnsBuffers, AllCopy, sized_items, given_item, given_items}
+use Rattle.net_parts.specs.Rows.{FillsFrames, CopiesLeases, ReturnsBuffers, sized_items, given_item, given_items}
 use Rattle.net_parts.specs.Table.{net_sheet}
-use Rattle.net_parts.specs.Playing.{device_part, driver_part, copier_part, sink_part, stock_pool, way_of, IsLease, AreLeases}
+use Rattle.net_parts.specs.Playing.{device_part, driver_part, copier_part, sink_part, stock_pool, AreLeases}
 use Rattle.net_parts.proofs.Pairs.{carry}
 
 pub all_at : {X : Type 0} (P : X → Type 0) (xs : List X) → All P xs → (k : ℕ) (x : X) → slice_get xs k ≡ Some x → P x

@@ -7,10 +7,8 @@ use Rattle.std.proofs.lemmas.Bool.Decides.{eqb_tells}
 use Rattle.std.proofs.lemmas.List.{append-nil}
 use Rattle.cargo_core.specs.Items.{kind_of}
 use Rattle.cargo_core.specs.Lists.{IsPrefix}
-use Rattle.cargo_core.specs.Pages.{Paged}
 use Rattle.cargo_core.specs.declared.item.Item.{Item}
 use Rattle.cargo_core.specs.declared.item.Item.TheVariants as ItemOf
-use Rattle.cargo_core.specs.declared.item.Body.{Body}
 use Rattle.cargo_core.specs.declared.item.Body.TheVariants as Carried
 use Rattle.cargo_core.specs.declared.item.QueueKind.TheVariants as Kind
 use Rattle.frame_core.specs.declared.mac.Mac.{Mac}
@@ -18,7 +16,7 @@ use Rattle.wire_core.specs.declared.names.QueueId.{QueueId}
 use Rattle.wire_core.specs.Deeds.{Cargo}
 use Rattle.wire_core.specs.Lists.{Passed, if_there}
 use Rattle.wire_core.specs.Queues.{items_of}
-use Rattle.play_core.specs.Moved.{Moved, Seat, went}
+use Rattle.play_core.specs.Moved.{Moved}
 use Rattle.play_core.specs.Sheets.{Scene}
 use Rattle.play_core.proofs.Lists.{some_is, map_from}
 use Rattle.owner_law.specs.Things.{Buffer, Window, names_in, times}
@@ -28,12 +26,12 @@ use Rattle.net_kit.specs.Pools.{given_entry}
 use Rattle.net_kit.specs.Virtualising.{from_queues, to_queues}
 use Rattle.net_kit.specs.declared.stock.Stock.{Stock}
 use Rattle.net_kit.proofs.TwoLists.{get_front}
-use Rattle.net_virt_rx.specs.Sharing.{IsBuffer, lease_of, leases_for, named}
+use Rattle.net_virt_rx.specs.Sharing.{IsBuffer, lease_of, leases_for}
 use Rattle.net_virt_rx.specs.Receiving.{RxRow, IsServed}
 use Rattle.net_virt_rx.specs.declared.NetVirtRx.{NetVirtRx}
 use Rattle.net_owners.specs.Names.{by_address, by_offset}
-use Rattle.net_owners.specs.Ends.{AreItemsOf, passed_at, stock_window}
-use Rattle.net_owners.specs.Lending.{Borrower, Lender, LenderRow, borrower_ends, lender_ends, names_where}
+use Rattle.net_owners.specs.Ends.{AreItemsOf, stock_window}
+use Rattle.net_owners.specs.Lending.{Lender, LenderRow, borrower_ends, lender_ends, names_where}
 use Rattle.net_rx_owners.specs.Virtualiser.{offset_window, rx_lender, borrowers, AreNet, TakesFrames}
 use Rattle.net_rx_owners.proofs.Receivers.{rx_lends, leases_net}
 use Rattle.net_rx_owners.proofs.Virtualisers.{names_of, times_named, times_outside, leases_names}

@@ -4,11 +4,10 @@ use Rattle.std.proofs.lemmas.List.Sums.{sum_by-cons, sum_by-append}
 use Rattle.cargo_core.specs.Lists.{IsPrefix}
 use Rattle.cargo_core.specs.declared.item.Item.{Item}
 use Rattle.frame_core.specs.declared.mac.Mac.{Mac}
-use Rattle.wire_core.specs.Bells.{bit}
 use Rattle.play_core.specs.Moved.{Moved, Seat}
 use Rattle.play_core.specs.Sheets.{Scene, Sheet}
 use Rattle.play_core.proofs.Lists.{map_from}
-use Rattle.owner_law.specs.Things.{Buffer, is_same, Window, Naming, Thing, Nothing, Whole, Frame, buffer_at, buffer_of, names_in, is_named, times, things_sent, things_taken, as_buffer, as_lease, lends, brings_leases}
+use Rattle.owner_law.specs.Things.{Buffer, Window, Naming, Thing, Nothing, Whole, Frame, buffer_at, buffer_of, names_in, is_named, times, things_sent, things_taken, as_buffer, as_lease, lends, brings_leases}
 use Rattle.owner_law.specs.Keeping.{Keeps, PutsItsOwn, at_start, all_taken, all_put, things_in, things_out}
 use Rattle.owner_law.proofs.Sums.{sum_flat}
 use Rattle.owner_law.proofs.Named.{carried, buffers_are, buffers_none, leases_are, leases_none, returns_are, returns_none, keeps_plain, times_few}
@@ -22,7 +21,7 @@ use Rattle.net_owners.proofs.Clients.{at_address, here_or_not}
 use Rattle.net_owners.proofs.Few.{address_still, either_are, either_none}
 use Rattle.net_owners.proofs.Lenders.{lender_keeps}
 use Rattle.net_parts.specs.Parts.{NetPart, NetDevice, NetDriver, NetReceiver, NetCopier, NetSink, Way, Lessee}
-use Rattle.net_parts.specs.Rows.{FillsFrames, CopiesLeases, ReturnsBuffers, SharesFrames, AllCopy, IsIn, AreIn, sized_items, given_item, given_items, frame_at, lease_item, leases_from, pool_hand, borrower_of, lender_of}
+use Rattle.net_parts.specs.Rows.{AllCopy, IsIn, AreIn, sized_items, given_item, given_items, frame_at, lease_item, leases_from, pool_hand, borrower_of, lender_of}
 use Rattle.net_parts.specs.Table.{net_sheet, way_ends}
 use Rattle.net_parts.specs.Naming.{NamesPart, NameWay}
 use Rattle.net_parts.proofs.Counting.{numbered, buffer_is}

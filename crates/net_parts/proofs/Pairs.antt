@@ -3,7 +3,7 @@ use Rattle.std.proofs.Math.Dec.{eqb}
 use Rattle.std.proofs.lemmas.Bool.Decides.{eqb_tells}
 use Rattle.cargo_core.specs.Lists.{IsPrefix}
 use Rattle.cargo_core.specs.declared.item.Item.{Item}
-use Rattle.play_core.specs.Moved.{Moved, Seat, with_put}
+use Rattle.play_core.specs.Moved.{Moved, with_put}
 use Rattle.play_core.specs.Wants.{Want, seat_of}
 use Rattle.play_core.proofs.Lists.{some_is}
 use Rattle.play_core.proofs.Puts.{put_here, put_beside, copy_more}

@@ -1,21 +1,20 @@
-use Rattle.std.proofs.Common.{◌≡◌, ◌≢◌, ◌+◌, ◌++◌, ◌≤◌, ◌<◌, ℕ, zero, suc, true, false, nat_lt, Some, List, [], ◌∷◌, length, map, flat_map, slice_get, length-append, refl, sym, ap, ◌∙◌, subst, arith}
+use Rattle.std.proofs.Common.{◌≡◌, ◌≢◌, ◌+◌, ◌++◌, ◌<◌, ℕ, zero, suc, true, false, nat_lt, Some, List, length, map, slice_get, length-append, refl, sym, ap, ◌∙◌, subst, arith}
 use Rattle.std.proofs.lemmas.Bool.{ltb-true, lt-ltb}
 use Rattle.std.proofs.lemmas.List.{length-map}
 use Rattle.cargo_core.specs.Lists.{IsPrefix}
 use Rattle.cargo_core.specs.declared.item.Item.{Item}
-use Rattle.play_core.specs.Moved.{Moved, Seat, AreAlike, with_put}
-use Rattle.play_core.specs.Wants.{Want, intake, outlet, intake_want, outlet_want}
+use Rattle.play_core.specs.Moved.{Moved, AreAlike}
+use Rattle.play_core.specs.Wants.{intake, outlet, intake_want, outlet_want}
 use Rattle.play_core.specs.Sheets.{Scene, Sheet, Due, CouldPut, IsOwn, NeedsFollow, AreApart, due_want}
 use Rattle.play_core.proofs.Lists.{some_is, map_from}
-use Rattle.play_core.proofs.Puts.{put_here, put_beside, copy_more, copy_shorter}
+use Rattle.play_core.proofs.Puts.{put_beside, copy_more, copy_shorter}
 use Rattle.play_core.proofs.Walks.{begins_few}
-use Rattle.owner_law.specs.Things.{Window}
 use Rattle.net_kit.specs.Entries.{len_of}
 use Rattle.net_owners.specs.Names.{PoolAt, by_offset}
 use Rattle.net_owners.specs.Ends.{numbers_from}
 use Rattle.net_parts.specs.Parts.{NetDevice, NetDriver, NetCopier, NetSink, Way}
-use Rattle.net_parts.specs.Rows.{FillsFrames, AllCopy, CopiesLeases, ReturnsBuffers, sized_items, given_item, given_items}
-use Rattle.net_parts.specs.Table.{net_sheet, is_short, way_ends, way_wants, way_due}
+use Rattle.net_parts.specs.Rows.{FillsFrames, CopiesLeases, ReturnsBuffers, sized_items, given_item, given_items}
+use Rattle.net_parts.specs.Table.{net_sheet, is_short, way_wants, way_due}
 use Rattle.net_parts.proofs.Fits.{Fits, AllFit, intake_fits, outlet_fits, pairs_fit, sheet_follows}
 use Rattle.net_parts.proofs.Pairs.{twice, twice_same, pair_first, pair_second, pair_seats, flat_alike, each_owed, carry, put_length, sized_length}
 

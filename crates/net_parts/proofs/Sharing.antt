@@ -1,4 +1,4 @@
-use Rattle.std.proofs.Common.{◌≡◌, ◌≢◌, ◌⊎◌, ◌||◌, ◌+◌, ◌*◌, ◌++◌, ◌≤◌, ◌<◌, ℕ, zero, suc, Bool, true, false, not, nat_lt, Some, List, [], ◌∷◌, length, map, flat_map, slice_get, sum_by, refl, sym, ap, ap₂, ◌∙◌, subst, arith, ltb-true, inl, inr}
+use Rattle.std.proofs.Common.{◌≡◌, ◌≢◌, ◌⊎◌, ◌||◌, ◌+◌, ◌*◌, ◌++◌, ◌≤◌, ◌<◌, ℕ, zero, suc, Bool, true, false, not, nat_lt, Some, List, [], ◌∷◌, length, flat_map, slice_get, sum_by, refl, sym, ap, ap₂, ◌∙◌, subst, arith, ltb-true, inl, inr}
 use Rattle.std.proofs.lemmas.Bool.{cases_lt, le-ltb, lt-ltb}
 use Rattle.cargo_core.specs.Lists.{IsPrefix}
 use Rattle.cargo_core.specs.declared.item.Item.{Item}
@@ -14,14 +14,14 @@ use Rattle.owner_law.specs.Keeping.{at_start}
 use Rattle.owner_law.proofs.Sums.{same_is}
 use Rattle.owner_law.proofs.Counting.{below_plus, below_same}
 use Rattle.net_owners.specs.Names.{PoolAt, by_address, by_offset}
-use Rattle.net_owners.specs.Lending.{Borrower, Lender, names_where, frames_taken, leases_due, leases_back}
+use Rattle.net_owners.specs.Lending.{Borrower, Lender, names_where, leases_due, leases_back}
 use Rattle.net_rx_owners.proofs.Serving.{same_sums}
 use Rattle.net_parts.specs.Parts.{NetReceiver, Lessee}
 use Rattle.net_parts.specs.Rows.{IsIn, AreIn, given_item, leases_from, pool_hand, borrower_of, lender_of, is_lent, SharesFrames}
 use Rattle.net_parts.specs.Table.{net_sheet, is_short, home_count, frees_due, leases_of, some_owed, is_busy, lessee_wants}
-use Rattle.net_parts.proofs.Fits.{Fits, AllFit, intake_fits, outlet_fits, pairs_fit, sheet_follows}
+use Rattle.net_parts.proofs.Fits.{AllFit, intake_fits, outlet_fits, pairs_fit, sheet_follows}
 use Rattle.net_parts.proofs.Pairs.{twice, twice_same, pair_first, pair_second, pair_seats, flat_alike, each_owed, put_length}
-use Rattle.net_parts.proofs.Counting.{get_snoc, below_less, below_few, below_more, below_rest, bit_few, numbered, named_self, named_other, buffer_is, count_in, times_none, times_snoc, start_some, start_few, due_none}
+use Rattle.net_parts.proofs.Counting.{get_snoc, below_less, below_few, below_more, below_rest, bit_few, numbered, named_other, buffer_is, count_in, times_none, times_snoc, start_some, start_few, due_none}
 
 -- the receiving virtualiser
 module _ (scene : Scene) (active free : ℕ) (pool : PoolAt) (clients : List Lessee) where

@@ -4,7 +4,6 @@ use Rattle.std.specs.Prelude.{◌≡◌, ℕ, false, Some, List, [], ◌∷◌, 
 use Rattle.frame_core.specs.declared.mac.Mac.{Mac}
 use Rattle.wire_core.specs.declared.names.QueueId.{QueueId}
 use Rattle.wire_core.specs.Deeds.{Cargo}
-use Rattle.wire_core.specs.Lists.{Passed}
 use Rattle.turn_kit.specs.declared.pipe.Pipe.{Pipe}
 use Rattle.net_kit.specs.Entries.{len_of}
 use Rattle.net_kit.specs.Virtualising.{from_queues, to_queues}

@@ -14,7 +14,7 @@ use Rattle.net_expect.specs.Expecting.{is_for_client}
 use Rattle.net_kit.specs.Entries.{addr_of, len_of, with_len}
 use Rattle.net_owners.specs.Names.{PoolAt, by_address, by_offset}
 use Rattle.net_owners.specs.Ends.{numbers_from}
-use Rattle.net_owners.specs.Lending.{Borrower, Lender, frames_taken, leases_due, leases_back, names_where}
+use Rattle.net_owners.specs.Lending.{Borrower, Lender, leases_due, leases_back, names_where}
 use Rattle.net_parts.specs.Parts.{Way, Lessee}
 
 -- items with these lengths, one by one, as far as both go
