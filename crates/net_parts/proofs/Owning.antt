@@ -83,7 +83,7 @@ module _ (naming : Naming) (m : Moved) where
       let n = names 0 w refl in
       let into = buffers_are naming m w.input (m.taken w.input) n.0 (as_buffer b) b n.1 refl (λ c. refl) in
       let out = either_are naming m w.output (m.sent w.output) n.0 (as_buffer b) b n.2 refl (λ c. refl) (λ c r. refl) in
-      omega (arith, way_came (as_buffer b) w ways, way_went (as_buffer b) w ways, into, out, few_of b n.0 (m.sent w.output) (m.taken w.input) (row 0 w refl), ways_buffers ways (λ k x at. names (suc k) x at) (λ k x at. row (suc k) x at) b)
+      omega (arith, way_came (as_buffer b) w ways, way_went (as_buffer b) w ways, into, out, few_of b n.0 (m.sent w.output) (m.taken w.input) (row zero w refl), ways_buffers ways (λ k x at. names (suc k) x at) (λ k x at. row (suc k) x at) b)
 
   ways_came_none : (ways : List Way) → AllNamed ways → (f : Thing → ℕ) → f Nothing ≡ 0 → ((c : Buffer) → f (Whole c) ≡ 0) → sum_by f (all_taken naming m (flat_map way_ends ways)) ≡ 0
   ways_came_none [] names f none whole = refl

@@ -14,10 +14,11 @@ NamePair naming ws a b = (naming a ≡ Buffers ws) × (naming b ≡ Buffers ws)
 
 -- a way's two queues name buffers in the same windows
 abbrev pub NameWay : Naming → Way → Type 0
-NameWay naming w = (ws : List Window) × (naming w.input ≡ Buffers ws) × NameBuffers ws (naming w.output)
+NameWay naming w = (ws : List Window) × (naming w.input ≡ Buffers ws)
+    × NameBuffers ws (naming w.output)
 
--- at an actor's queues: buffers at each pair of a device's, each way of a driver's and each pair of a
--- client's; frames, buffers and leases at a virtualiser's; and leases and buffers at a copier's
+-- at an actor's queues: buffers at each pair of a device's, each way of a driver's and each pair of
+-- a client's; frames, buffers and leases at a virtualiser's; and leases and buffers at a copier's
 abbrev pub NamesPart : Naming → Scene → NetPart → Type 0
 NamesPart naming scene (NetDevice rx_free rx_active tx_active tx_free) =
     ((rx : List Window) × NamePair naming rx rx_free rx_active)

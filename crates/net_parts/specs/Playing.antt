@@ -1,5 +1,5 @@
--- Which part each actor of the network's receive half plays, and what the laws ask of what passed at
--- its ends.
+-- Which part each actor of the network's receive half plays, and what the laws ask of what passed
+-- at its ends.
 use Rattle.std.specs.Prelude.{◌≡◌, ℕ, false, Some, List, [], ◌∷◌, length, map, slice_get}
 use Rattle.frame_core.specs.declared.mac.Mac.{Mac}
 use Rattle.wire_core.specs.declared.names.QueueId.{QueueId}

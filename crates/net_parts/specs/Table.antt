@@ -61,7 +61,8 @@ abbrev pub lessee_ends : Lessee → List Seat
 lessee_ends c = outlet c.active ∷ intake c.free ∷ []
 
 -- what is due to the client is owed, and a lease is needed while nothing is in hand
-abbrev pub lessee_wants : List (List ℕ) → PoolAt → (active : ℕ) → (busy : Bool) → Moved → Lessee → List Want
+abbrev pub lessee_wants : List (List ℕ) → PoolAt → (active : ℕ) → (busy : Bool) → Moved → Lessee
+    → List Want
 lessee_wants frames pool active busy m c =
     outlet_want c.active (is_short (m.sent c.active) (leases_of frames pool active m c))
     ∷ intake_want c.free (not busy) ∷ []
