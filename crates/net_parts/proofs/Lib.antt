@@ -7,3 +7,4 @@ pub mod Following
 pub mod Items
 pub mod Leasing
 pub mod Owning
+pub mod Turning

@@ -1,8 +1,9 @@
 -- The network's receive half without a system: its kinds of actor (Parts), what each may have put,
--- of items alone (Rows), their table (Table: `net_sheet`), and which part each actor plays
--- (Playing). What their items name (Naming) is for the owners of buffers.
+-- of items alone (Rows), their table (Table: `net_sheet`), what their items name (Naming), which
+-- part each actor plays (Playing), and their way round, of entries with bodies (Turning).
 pub mod Parts
 pub mod Rows
 pub mod Table
 pub mod Playing
 pub mod Naming
+pub mod Turning

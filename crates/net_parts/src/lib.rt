@@ -1,8 +1,12 @@
 //! The table of the network's receive half, apart from any system: what is said of each kind of its
-//! actors, that their needs follow from it, and that their own rows say it of items.
+//! actors, that their needs follow from it, and that their own rows say it of items, since nothing
+//! comes out of turn.
 #![tactic(auto)]
 
-ghost use Rattle.std.specs.Prelude.{◌≡◌, List, []};
+ghost use Rattle.std.specs.Prelude.{◌≡◌, ℕ, Some, List, [], slice_get};
+ghost use Rattle.cargo_core.specs.Lists.{IsPrefix};
+ghost use Rattle.frame_core.specs.declared.mac.Mac.{Mac};
+ghost use Rattle.wire_core.specs.Deeds.{Cargo};
 ghost use Rattle.wire_core.specs.Lists.{Passed};
 ghost use Rattle.play_core.specs.Moved.{Moved};
 ghost use Rattle.play_core.specs.Sheets.{Scene, IsOwn, NeedsFollow};
@@ -10,6 +14,9 @@ ghost use Rattle.owner_law.specs.Things.{Naming};
 ghost use Rattle.owner_law.specs.Keeping.{PutsItsOwn};
 ghost use Rattle.turn_kit.specs.declared.pipe.Pipe.{Pipe};
 ghost use Rattle.pipe_driver.specs.Drivers.{PipesRow};
+ghost use Rattle.pipe_driver.specs.declared.pipes.Pipes.{Pipes};
+ghost use Rattle.net_expect.specs.Expecting.{frames_for};
+ghost use Rattle.net_kit.specs.Entries.{frame_of};
 ghost use Rattle.eth_device.specs.Devices.{DeviceRow};
 ghost use Rattle.eth_device.specs.declared.EthDevice.{EthDevice};
 ghost use Rattle.net_client.specs.Clients.{ClientRow};
@@ -26,6 +33,7 @@ ghost use Rattle.net_parts.specs.Rows.{frame_at};
 ghost use Rattle.net_parts.specs.Table.{net_sheet};
 ghost use Rattle.net_parts.specs.Naming.{NamesPart};
 ghost use Rattle.net_parts.specs.Playing.{device_part, driver_part, copier_part, sink_part, receiver_part, AreLeases};
+ghost use Rattle.net_parts.specs.Turning.{IsReceiveHalf, IsClient};
 
 /// What is said of an actor speaks of its own ends alone, and an output is owed exactly where the
 /// actor's row would still hold after one more put there.
@@ -65,4 +73,25 @@ pub fn row_law()
 pub fn own_law()
     ensures { (naming : Naming) (scene : Scene) (p : NetPart) → NamesPart naming scene p
         → PutsItsOwn naming (net_sheet scene p) }
+{}
+
+/// On its way round nothing comes out of turn, whatever the clients do: not at the virtualiser,
+/// which takes the frames of their places; and a copier takes leases alone, each as long as its
+/// item says. Each client's record is a beginning of the device's frames that are for it.
+pub fn turn_law()
+    ensures turn { (d : EthDevice) (p : Pipes (Pipes (Pipes Pipe))) (v : NetVirtRx)
+        (copiers : List NetCopier) (passed : Passed)
+        → (h : IsReceiveHalf d p v copiers passed) → h.virtualiser.stray ≡ [] }
+    ensures frames { (d : EthDevice) (p : Pipes (Pipes (Pipes Pipe))) (v : NetVirtRx)
+        (copiers : List NetCopier) (passed : Passed) → IsReceiveHalf d p v copiers passed
+        → (k : ℕ) (c : Cargo) → slice_get (passed.taken v.ends.input.queue.0) k ≡ Some c
+        → frame_of c ≡ frame_at d.frames k }
+    ensures leases { (d : EthDevice) (p : Pipes (Pipes (Pipes Pipe))) (v : NetVirtRx)
+        (copiers : List NetCopier) (passed : Passed) → IsReceiveHalf d p v copiers passed
+        → (k : ℕ) (c : NetCopier) → slice_get copiers k ≡ Some c
+        → AreLeases (passed.taken c.lease_input.queue.0) }
+    ensures records { (d : EthDevice) (p : Pipes (Pipes (Pipes Pipe))) (v : NetVirtRx)
+        (copiers : List NetCopier) (passed : Passed) → IsReceiveHalf d p v copiers passed
+        → (k : ℕ) (mac : Mac) (c : NetClient) → IsClient v copiers k mac c passed
+        → IsPrefix c.frames.tape.shown (frames_for mac d.frames) }
 {}

@@ -35,7 +35,7 @@ get_first [] ys k x at = cc
 get_first (y ∷ xs) ys zero x at = at
 get_first (y ∷ xs) ys (suc k) x at = get_first xs ys k x at
 
-named_more : (base size b : ℕ) (xs ys : List Cargo) → named base size b xs ≤ named base size b (xs ++ ys)
+pub named_more : (base size b : ℕ) (xs ys : List Cargo) → named base size b xs ≤ named base size b (xs ++ ys)
 named_more base size b [] ys = omega arith
 named_more base size b (x ∷ xs) ys = let rest = named_more base size b xs ys in omega (arith, rest)
 

@@ -1,0 +1,14 @@
+use Rattle.net_parts.proofs.Turning.{all_in_turn, frames_of_places, copiers_take, records_begin}
+use Rattle.net_parts.proofs.turn_law.Goals as goal
+
+pub returns-clause-turn : goal.returns-clause-turn
+returns-clause-turn c = all_in_turn
+
+pub returns-clause-frames : goal.returns-clause-frames
+returns-clause-frames c = frames_of_places
+
+pub returns-clause-leases : goal.returns-clause-leases
+returns-clause-leases c = copiers_take
+
+pub returns-clause-records : goal.returns-clause-records
+returns-clause-records c = records_begin
