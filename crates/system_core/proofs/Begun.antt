@@ -21,13 +21,14 @@ use Rattle.serial_law.specs.Parts.{SerialPart}
 use Rattle.serial_law.specs.Bytes.{bytes_in}
 use Rattle.serial_law.specs.Serial.{SerialClass, IsSerial, ArrivesInPart, ArrivesWhole}
 use Rattle.actor_set.specs.Parts.{ClientPart}
-use Rattle.system_core.specs.Kinds.{serial_part}
+use Rattle.actor_law.specs.Kinds.{serial_part}
 use Rattle.system_core.specs.Shows.{Setting, Shown, hostile_in, moved_in}
-use Rattle.system_core.specs.Lawful.{record_by, record_at, IsTold}
-use Rattle.system_core.specs.Seats.{HasSeat}
+use Rattle.actor_law.specs.Records.{record_by}
+use Rattle.system_core.specs.Lawful.{record_at, IsTold}
+use Rattle.actor_law.specs.StartStates.{HasSeat}
 use Rattle.system_core.specs.Builds.{number_named, serial_class, first_serial, HasSerial}
 use Rattle.system_core.specs.PlanPlays.{ShowsInPart, ShowsWhole}
-use Rattle.system_core.proofs.Calm.{calm_row}
+use Rattle.actor_law.proofs.Calm.{calm_row}
 use Rattle.system_core.proofs.Apart.{acting_names, acting_from}
 use Rattle.system_core.proofs.Named.{has_role}
 use Rattle.system_core.proofs.SerialRows.{seats_0, seats_1, seats_2, seats_3, seats_rx, seats_tx}

@@ -16,13 +16,14 @@ use Rattle.actor_set.specs.declared.actor.Actor.{Actor}
 use Rattle.actor_set.specs.declared.actor.Actor.TheVariants as Kinds
 use Rattle.system_core.specs.Shows.{Setting}
 use Rattle.system_core.specs.States.{begun, crew_of}
-use Rattle.system_core.specs.Seats.{HasSeat, HasApartEnds, AreSeated}
+use Rattle.actor_law.specs.StartStates.{HasSeat, HasApartEnds}
+use Rattle.system_core.specs.Seats.{AreSeated}
 use Rattle.system_core.specs.Builds.{HasSerial, first_serial}
 use Rattle.system_core.specs.Jobs.{IsOwner, within, known_queue, known_role, HasJob, SomeJob, job_part, AreCast, AreClients}
 use Rattle.system_core.specs.declared.build.Job.{Job}
 use Rattle.system_core.specs.declared.build.Job.TheVariants as Of
 use Rattle.play_core.proofs.Lists.{some_is, map_get, map_from, there_is, there_below}
-use Rattle.system_core.proofs.PartEnds.{PartEnd, to_part, from_part, number_there}
+use Rattle.actor_law.proofs.PartEnds.{PartEnd, to_part, from_part, number_there}
 use Rattle.system_core.proofs.WalkPlaces.{Stands}
 use Rattle.system_core.proofs.Apart.{one_place}
 use Rattle.system_core.proofs.QueuePlaces.{has_places}

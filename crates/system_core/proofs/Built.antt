@@ -8,7 +8,6 @@ use Rattle.sdf_plan.specs.declared.plan.Plan.{Plan}
 use Rattle.sdf_plan.specs.declared.plan.Net.{Net}
 use Rattle.sdf_plan.specs.declared.plan.Serial.{Serial}
 use Rattle.sdf_plan.specs.declared.plan.Blk.{Blk}
-use Rattle.sdf_plan.specs.declared.place.Place.{Place}
 use Rattle.sdf_plan.specs.declared.place.Place.TheVariants as At
 use Rattle.std.specs.Prelude.{if◌then◌else◌}
 use Rattle.sdf_check.specs.Valid.{Valid}

@@ -8,35 +8,27 @@ use Rattle.wire_core.specs.Journal.{History}
 use Rattle.wire_core.proofs.BellTheorem.{bells_hold, queues_flow}
 use Rattle.play_core.specs.Moved.{moved}
 use Rattle.play_core.proofs.Lists.{map_alike}
-use Rattle.serial_law.specs.Bytes.{bytes_in}
-use Rattle.actor_set.specs.Actors.{ActorStandsFor, part_of}
+use Rattle.actor_set.specs.Actors.{part_of}
 use Rattle.actor_set.specs.declared.actor.Actor.{Actor}
-use Rattle.actor_set.specs.declared.actor.Actor.TheVariants as Kinds
+use Rattle.actor_law.specs.Records.{record_of, record_by}
 use Rattle.system_core.specs.Shows.{hostile_in}
-use Rattle.system_core.specs.States.{record_of, record_from}
-use Rattle.system_core.specs.Lawful.{record_by, record_at, IsTold, StandsLawful}
+use Rattle.system_core.specs.States.{record_from}
+use Rattle.system_core.specs.Lawful.{record_at, IsTold, StandsLawful}
 use Rattle.system_core.specs.Systems.{Holds}
 use Rattle.system_core.specs.Inside.{shown_of, setting_of, IsSystem}
 use Rattle.system_core.specs.declared.system.System.TheInside.{Inside}
 use Rattle.std.proofs.lemmas.List.{length-map}
 use Rattle.system_core.proofs.Stepping.{runs_below}
-use Rattle.system_core.proofs.RowsNow.{carried_in}
+use Rattle.actor_law.proofs.Rows.{heard_here}
+use Rattle.system_core.proofs.RunsNow.{items_here}
 
 module _ (history : History) (rows : List QueueRow) (w : List Queue) (actors : List Actor) (journal : List Entry) (h : Holds history rows w actors journal) where
-  -- what an actor keeps is what the journal says of its part
-  heard_here : (x : Actor) → ActorStandsFor x h.passed → record_of x ≡ record_by (moved history journal) (part_of x)
-  heard_here (Kinds.UartDevice x) st = st.record_is ∙ (carried_in (h.passed.taken x.terminal.input.queue.0) ∙ ap bytes_in (h.shows_taken x.terminal.input.queue.0))
-  heard_here (Kinds.SerialClient x) st = st.record_is ∙ (carried_in (h.passed.taken x.terminal.input.queue.0) ∙ ap bytes_in (h.shows_taken x.terminal.input.queue.0))
-  heard_here (Kinds.UartDriver x) st = refl
-  heard_here (Kinds.SerialVirtRx x) st = refl
-  heard_here (Kinds.SerialVirtTx x) st = refl
-
   pub same_heard : (k : ℕ) → record_from actors k ≡ option_map_or (record_by (moved history journal)) (slice_get (map part_of actors) k) []
   same_heard k = go (slice_get actors k) refl ∙ ap (λ o. option_map_or (record_by (moved history journal)) o []) (sym (slice_get-map part_of actors k))
     where
       go : (o : Option Actor) → slice_get actors k ≡ o → option_map_or record_of o [] ≡ option_map_or (record_by (moved history journal)) (option_map part_of o) []
       go None at = refl
-      go (Some x) at = heard_here x (h.stands k x at)
+      go (Some x) at = heard_here h.passed (moved history journal) (items_here history rows w actors journal h) x (h.stands k x at)
 
 module _ (a : Inside) (i : IsSystem a) where
   heard : (k : ℕ) → record_from a.actors.items k ≡ record_at (shown_of a) k

@@ -1,13 +1,7 @@
-pub mod Calm
-pub mod Rounds
 pub mod Rising
 pub mod Places
-pub mod Beside
-pub mod PartEnds
-pub mod Paces
 pub mod SystemStep
 pub mod Playing
-pub mod RowsNow
 pub mod RunsNow
 pub mod Stepping
 pub mod Starting

@@ -1,145 +1,32 @@
-use Rattle.std.proofs.Common.{◌≡◌, ◌<◌, ◌≤◌, ◌+◌, ℕ, Bool, true, false, not, ◌&&◌, ◌||◌, nat_lt, Option, Some, None, is_some, is_none, List, [], ◌∷◌, ◌++◌, map, length, length-append, length-take, slice_get, get_or, subst, refl, sym, ap, ◌∙◌, arith, suc, add-zero}
-use Rattle.std.specs.Option.{option_to_list}
+use Rattle.std.proofs.Common.{◌≡◌, ◌<◌, ◌+◌, ℕ, Bool, true, false, not, ◌&&◌, ◌||◌, Some, List, [], ◌∷◌, map, length, slice_get, get_or, subst, refl, ap, ◌∙◌, arith, suc, add-zero}
 use Rattle.std.specs.List.{list_any}
-use Rattle.std.proofs.lemmas.List.{length-map}
-use Rattle.std.proofs.lemmas.Bool.{lt-ltb, le-ltb}
 use Rattle.std.proofs.lemmas.Option.{slice_get-get_or}
-use Rattle.cargo_core.specs.declared.item.QueueKind.{QueueKind}
 use Rattle.wire_core.specs.declared.names.QueueRow.{QueueRow}
 use Rattle.wire_core.specs.declared.names.Entry.{Entry}
-use Rattle.wire_core.specs.Deeds.{Cargo}
-use Rattle.wire_core.specs.Ends.{Role, Consumer, Producer, End}
-use Rattle.wire_core.specs.Queues.{Bells, Queue, items_of, queue_at, end_at, end_of, is_called, is_pending}
-use Rattle.wire_core.specs.Journal.{History, IsShown, track}
-use Rattle.wire_core.proofs.Moving.{there_if_owned}
+use Rattle.wire_core.specs.Queues.{Queue, queue_at, is_called, is_pending}
+use Rattle.wire_core.specs.Journal.{History, Hostiles, IsShown, track}
 use Rattle.wire_core.proofs.Tracks.{shown_calls}
-use Rattle.turn_kit.specs.Table.{Agrees, is_settled}
-use Rattle.turn_kit.specs.Turns.{Post, settled_all, is_at_rest}
-use Rattle.turn_kit.specs.declared.end_state.EndState.{EndState}
-use Rattle.turn_kit.specs.Pipes.{PipeStandsFor}
-use Rattle.turn_kit.specs.declared.pipe.Pipe.{Pipe}
-use Rattle.serial_terminal.specs.Terminals.{FitsTerminal, TerminalStandsFor}
-use Rattle.serial_terminal.specs.declared.Terminal.{Terminal}
-use Rattle.std.proofs.Common.{◌⊎◌, ◌≢◌, nat_eq, if◌then◌else◌, inl, inr}
-use Rattle.std.specs.Option.{option_map}
-use Rattle.std.proofs.Math.Dec.{eqb}
-use Rattle.std.proofs.lemmas.Bool.Decides.{eqb_tells}
-use Rattle.wire_core.specs.declared.names.QueueId.{QueueId}
-use Rattle.turn_kit.specs.ManyEnds.{intake_queues, outlet_queues, is_here, needs_from}
-use Rattle.turn_kit.specs.Posts.{intake_post, outlet_post}
-use Rattle.turn_kit.specs.declared.ends.Intake.{Intake}
-use Rattle.turn_kit.specs.declared.ends.Outlet.{Outlet}
-use Rattle.serial_switch.specs.Carried.{byte_cargo, bytes_carried}
-use Rattle.serial_switch.specs.Switching.{input_of}
-use Rattle.system_core.proofs.RowsNow.{carried_in}
-use Rattle.play_core.proofs.Merges.{merge_total}
-use Rattle.play_core.specs.Totals.{total}
-use Rattle.serial_virt.specs.Receiving.{FitsRx, RxStandsFor, rx_round, owed_to, clients_of, place_loaded}
-use Rattle.serial_virt.specs.declared.rx.SerialVirtRx.{SerialVirtRx}
-use Rattle.serial_virt.specs.Sending.{FitsTx, TxStandsFor, tx_round}
-use Rattle.serial_virt.specs.declared.tx.SerialVirtTx.{SerialVirtTx}
-use Rattle.play_core.specs.Moved.{moved, sent, taken}
-use Rattle.play_core.specs.Wants.{Want, intake_want, end_settled, bells_settled, want_settled, all_settled}
+use Rattle.play_core.specs.Moved.{moved}
+use Rattle.play_core.specs.Wants.{all_settled}
 use Rattle.play_core.specs.Runs.{called_from, is_runnable}
-use Rattle.play_core.specs.Sheets.{Scene}
-use Rattle.serial_law.specs.Bytes.{bytes_in, is_owed}
-use Rattle.serial_law.specs.Table.{some_owed, shares, taken_count, is_held}
-use Rattle.system_core.specs.Kinds.{sheet, manner_of, idles}
-use Rattle.system_core.proofs.Calm.{calm_part}
-use Rattle.system_core.proofs.Rounds.{rests_is}
-use Rattle.actor_set.specs.Actors.{FitsActor, ActorStandsFor, part_of, actor_round, actor_rests, numbers}
-use Rattle.system_core.specs.Systems.{Holds}
+use Rattle.play_core.specs.Sheets.{Scene, RowsHold}
+use Rattle.play_core.proofs.Lists.{map_from}
+use Rattle.actor_set.specs.Actors.{part_of, actor_rests}
 use Rattle.actor_set.specs.declared.actor.Actor.{Actor}
-use Rattle.actor_set.specs.declared.actor.Actor.TheVariants as Kinds
+use Rattle.actor_law.specs.Kinds.{sheet, manner_of, idles}
+use Rattle.actor_law.specs.Showing.{HaveItems, HaveBells}
+use Rattle.actor_law.proofs.Calm.{calm_part}
+use Rattle.actor_law.proofs.Rows.{actor_row}
+use Rattle.actor_law.proofs.Rests.{both, rests}
+use Rattle.system_core.specs.Systems.{Holds}
 use Rattle.system_core.proofs.SystemStep.{no_row}
 
 pub not_not : (b : Bool) → b ≡ not (not b)
 not_not true = refl
 not_not false = refl
 
-pub both : {a b c d : Bool} → a ≡ b → c ≡ d → (a && c) ≡ (b && d)
-both e f = cc
-
-pub either : {a b c d : Bool} → a ≡ b → c ≡ d → (a || c) ≡ (b || d)
+either : {a b c d : Bool} → a ≡ b → c ≡ d → (a || c) ≡ (b || d)
 either e f = cc
-
-state_settled : (e : End) (k : EndState) (need : Bool) → Agrees e k → is_settled k need ≡ end_settled e.waiter e.ringer need
-state_settled e k need a = rw (a.ringer, a.waiter) refl
-
-same_settled : (mine : Bool) (k : QueueKind) (b : Bells) (r : Role) (need : Bool) → end_settled (end_of mine k b r).waiter (end_of mine k b r).ringer need ≡ bells_settled b r need
-same_settled mine k b Consumer need = refl
-same_settled mine k b Producer need = refl
-
-some_is : (sent taken : List Cargo) (load : Option Cargo) → taken ≡ sent ++ option_to_list load → is_some load ≡ nat_lt (length (items_of sent)) (length (items_of taken))
-some_is sent taken None h = sym (le-ltb _ _ (simp (length-map) (omega (arith, ap length h, length-append sent []))))
-some_is sent taken (Some c) h = sym (lt-ltb _ _ (simp (length-map) (omega (arith, ap length h, length-append sent (c ∷ [])))))
-
-none_is : (load : Option Cargo) → is_none load ≡ not (is_some load)
-none_is None = refl
-none_is (Some c) = refl
-
--- an actor's end as it keeps it, and what it needs there, as a part has it
-pub record Met (ends : Role → ℕ → End) (p : Post) (need : Bool) (w : Want) : Type 0 where
-  pub needs : need ≡ w.need
-  pub agrees : Agrees (ends w.role w.queue) p.state
-
-abbrev pub Meet : (Role → ℕ → End) → List Post → List Bool → List Want → Type 0
-Meet ends [] [] [] = Unit {0}
-Meet ends [] [] (w ∷ ws) = ⊥
-Meet ends [] (n ∷ ns) ws = ⊥
-Meet ends (p ∷ ps) [] ws = ⊥
-Meet ends (p ∷ ps) (n ∷ ns) [] = ⊥
-Meet ends (p ∷ ps) (n ∷ ns) (w ∷ ws) = Met ends p n w × Meet ends ps ns ws
-
--- what is owed to the client at a place, by how much was put to it
-owed_here : (load : Option Cargo) (to k n m : ℕ) → n + length (owed_to load to k) ≡ m → ((eqb to k ≡ true) × (to ≡ k)) ⊎ ((eqb to k ≡ false) × (to ≢ k)) → is_here (option_map (λ c. to) load) k ≡ nat_lt n m
-owed_here None to k n m e (inl t) = let f : length (owed_to None to k) ≡ 0 = ap (λ b. length (if b then option_to_list {X = Cargo} None else [])) t.0 in sym (le-ltb n m (omega (arith, e, f)))
-owed_here None to k n m e (inr t) = let f : length (owed_to None to k) ≡ 0 = ap (λ b. length (if b then option_to_list {X = Cargo} None else [])) t.0 in sym (le-ltb n m (omega (arith, e, f)))
-owed_here (Some c) to k n m e (inl t) = let f : length (owed_to (Some c) to k) ≡ 1 = ap (λ b. length (if b then option_to_list (Some c) else [])) t.0 in t.0 ∙ sym (lt-ltb n m (omega (arith, e, f)))
-owed_here (Some c) to k n m e (inr t) = let f : length (owed_to (Some c) to k) ≡ 0 = ap (λ b. length (if b then option_to_list (Some c) else [])) t.0 in t.0 ∙ sym (le-ltb n m (omega (arith, e, f)))
-
-held_is : (load : Option Cargo) (n m : ℕ) → n + length (option_to_list load) ≡ m → is_some load ≡ nat_lt n m
-held_is None n m e = sym (le-ltb n m (omega (arith, e)))
-held_is (Some c) n m e = sym (lt-ltb n m (omega (arith, e)))
-
-index_moves : (c k : ℕ) → c + suc k ≡ (c + 1) + k
-index_moves c k = omega arith
-
-shares_meet : (ends : Role → ℕ → End) (place : Option ℕ) (all : ℕ) (bytes : List ℕ) (c : ℕ) (os : List Outlet) (history : History) (journal : List Entry) → ((k : ℕ) (o : Outlet) → slice_get os k ≡ Some o → Agrees (ends Producer o.queue.0) o.state) → ((k : ℕ) (q : QueueId) → slice_get (map (λ (o : Outlet). o.queue) os) k ≡ Some q → is_here place (c + k) ≡ is_owed (sent history q.0 journal) (input_of all (c + k) bytes)) → Meet ends (map outlet_post os) (needs_from (is_here place) c (map (λ (o : Outlet). o.queue) os)) (shares all bytes c (numbers (map (λ (o : Outlet). o.queue) os)) (moved history journal))
-shares_meet ends place all bytes c [] history journal agrees owed = tt
-shares_meet ends place all bytes c (o ∷ os) history journal agrees owed =
-    let z : c + 0 ≡ c = omega arith in (
-      record { needs = subst (λ i. is_here place i ≡ is_owed (sent history o.queue.0 journal) (input_of all i bytes)) z (owed 0 o.queue refl); agrees = agrees 0 o refl },
-      shares_meet ends place all bytes (c + 1) os history journal (λ k x at. agrees (suc k) x at) (λ k q at. subst (λ i. is_here place i ≡ is_owed (sent history q.0 journal) (input_of all i bytes)) (index_moves c k) (owed (suc k) q at)),
-    )
-
-nobody_owed : (all : ℕ) (bytes : List ℕ) (c : ℕ) (qs : List QueueId) (history : History) (journal : List Entry) → ((k : ℕ) (q : QueueId) → slice_get qs k ≡ Some q → false ≡ is_owed (sent history q.0 journal) (input_of all (c + k) bytes)) → some_owed all bytes c (numbers qs) (moved history journal) ≡ false
-nobody_owed all bytes c [] history journal owed = refl
-nobody_owed all bytes c (q ∷ qs) history journal owed =
-    let z : c + 0 ≡ c = omega arith in
-    let e : is_owed (sent history q.0 journal) (input_of all c bytes) ≡ false = subst (λ i. is_owed (sent history q.0 journal) (input_of all i bytes) ≡ false) z (sym (owed 0 q refl)) in
-    rw (e, nobody_owed all bytes (c + 1) qs history journal (λ k x at. subst (λ i. false ≡ is_owed (sent history x.0 journal) (input_of all i bytes)) (index_moves c k) (owed (suc k) x at))) refl
-
-one_owed : (to all : ℕ) (bytes : List ℕ) (c : ℕ) (qs : List QueueId) (history : History) (journal : List Entry) → c ≤ to → to < c + length qs → ((k : ℕ) (q : QueueId) → slice_get qs k ≡ Some q → nat_eq to (c + k) ≡ is_owed (sent history q.0 journal) (input_of all (c + k) bytes)) → ((eqb to c ≡ true) × (to ≡ c)) ⊎ ((eqb to c ≡ false) × (to ≢ c)) → some_owed all bytes c (numbers qs) (moved history journal) ≡ true
-one_owed to all bytes c [] history journal le lt owed t = absurd (omega arith)
-one_owed to all bytes c (q ∷ qs) history journal le lt owed (inl t) =
-    let z : c + 0 ≡ c = omega arith in
-    let e : is_owed (sent history q.0 journal) (input_of all c bytes) ≡ true = sym (subst (λ i. nat_eq to i ≡ is_owed (sent history q.0 journal) (input_of all i bytes)) z (owed 0 q refl)) ∙ t.0 in
-    rw e refl
-one_owed to all bytes c (q ∷ qs) history journal le lt owed (inr t) =
-    rw (one_owed to all bytes (c + 1) qs history journal (omega (arith, t.1)) (omega arith) (λ k x at. subst (λ i. nat_eq to i ≡ is_owed (sent history x.0 journal) (input_of all i bytes)) (index_moves c k) (owed (suc k) x at)) (eqb_tells to (c + 1))) (or_true (is_owed (sent history q.0 journal) (input_of all c bytes)))
-  where
-    or_true : (b : Bool) → (b || true) ≡ true
-    or_true true = refl
-    or_true false = refl
-
-owed_some : (to : ℕ) (load : Option Cargo) (all : ℕ) (bytes : List ℕ) (c : ℕ) (qs : List QueueId) (history : History) (journal : List Entry) → (is_some load ≡ true → (c ≤ to) × (to < c + length qs)) → ((k : ℕ) (q : QueueId) → slice_get qs k ≡ Some q → is_here (option_map (λ x. to) load) (c + k) ≡ is_owed (sent history q.0 journal) (input_of all (c + k) bytes)) → some_owed all bytes c (numbers qs) (moved history journal) ≡ is_some load
-owed_some to None all bytes c qs history journal there owed = nobody_owed all bytes c qs history journal owed
-owed_some to (Some x) all bytes c qs history journal there owed = let t = there refl in one_owed to all bytes c qs history journal t.0 t.1 owed (eqb_tells to c)
-
-inputs_meet : (ends : Role → ℕ → End) (need need' : Bool) (c : ℕ) (is : List Intake) → need ≡ need' → ((k : ℕ) (i : Intake) → slice_get is k ≡ Some i → Agrees (ends Consumer i.queue.0) i.state) → Meet ends (map intake_post is) (needs_from (λ place. need) c (map (λ (i : Intake). i.queue) is)) (map (λ q. intake_want q need') (numbers (map (λ (i : Intake). i.queue) is)))
-inputs_meet ends need need' c [] same agrees = tt
-inputs_meet ends need need' c (i ∷ is) same agrees = (record { needs = same; agrees = agrees 0 i refl }, inputs_meet ends need need' (c + 1) is same (λ k x at. agrees (suc k) x at))
 
 -- whose waiters the queues call, as their tracks tell it
 called_queues : (actor n : ℕ) (history : History) (journal : List Entry) (rows : List QueueRow) (world : List Queue) → length world ≡ length rows → ((m : ℕ) (row : QueueRow) → slice_get rows m ≡ Some row → IsShown row (queue_at world m) (track history (n + m) journal)) → list_any (is_called actor) world ≡ called_from actor n history rows journal
@@ -153,95 +40,28 @@ called_queues actor n history journal (row ∷ rows) (q ∷ qs) size shown =
     moved : (n m : ℕ) → n + suc m ≡ (n + 1) + m
     moved n m = omega arith
 
+module _ (history : History) (rows : List QueueRow) (w : List Queue) (actors : List Actor) (journal : List Entry) (h : Holds history rows w actors journal) where
+  pub items_here : HaveItems h.passed (moved history journal)
+  items_here = record { taken = h.shows_taken; sent = h.shows_sent }
+
+  bells_here : HaveBells w history journal
+  bells_here n lt = (h.queues n (get_or rows n no_row) (slice_get-get_or rows n no_row (subst (λ m. n < m) h.size lt))).bells
+
 module _ (scene : Scene) (history : History) (rows : List QueueRow) (w : List Queue) (actors : List Actor) (journal : List Entry) (h : Holds history rows w actors journal) where
-  bells_here : (n : ℕ) (r : Role) → (end_at w r n).owned ≡ true → (queue_at w n).bells ≡ (track history n journal).bells
-  bells_here n r owned = (h.queues n (get_or rows n no_row) (slice_get-get_or rows n no_row (subst (λ m. n < m) h.size (there_if_owned w r n owned)))).bells
-
-  settled_here : (p : Post) (need : Bool) (x : Want) → Met (end_at w) p need x → is_settled p.state need ≡ want_settled history journal x
-  settled_here p need x m =
-      ap (is_settled p.state) m.needs
-      ∙ (state_settled (end_at w x.role x.queue) p.state x.need m.agrees
-      ∙ (same_settled (nat_lt x.queue (length w)) (queue_at w x.queue).kind (queue_at w x.queue).bells x.role x.need
-      ∙ ap (λ b. bells_settled b x.role x.need) (bells_here x.queue x.role m.agrees.owned)))
-
-  all_here : (ps : List Post) (needs : List Bool) (ws : List Want) → Meet (end_at w) ps needs ws → settled_all ps needs ≡ all_settled history journal ws
-  all_here [] [] [] m = refl
-  all_here [] [] (x ∷ ws) m = absurd m
-  all_here [] (n ∷ ns) ws m = absurd m
-  all_here (p ∷ ps) [] ws m = absurd m
-  all_here (p ∷ ps) (n ∷ ns) [] m = absurd m
-  all_here (p ∷ ps) (n ∷ ns) (x ∷ ws) m = both (settled_here p n x m.0) (all_here ps ns ws m.1)
-
-  said : (t : Terminal) → FitsTerminal (end_at w) t → TerminalStandsFor t h.passed → nat_lt t.next (length t.script) ≡ is_owed (sent history t.output.queue.0 journal) t.script
-  said t f st =
-      let n : length (track history t.output.queue.0 journal).sent ≡ t.next = rw (← h.shows_sent t.output.queue.0, st.sent_is) (simp (length-map, length-take) (omega (arith, f.next))) in
-      ap (λ m. nat_lt m (length t.script)) (sym n)
-
-  loaded : (p : Pipe) → PipeStandsFor p h.passed → is_some p.load ≡ is_owed (sent history p.output.queue.0 journal) (taken history p.input.queue.0 journal)
-  loaded p st = rw (← h.shows_sent p.output.queue.0, ← h.shows_taken p.input.queue.0) (some_is (h.passed.sent p.output.queue.0) (h.passed.taken p.input.queue.0) p.load st)
-
-  free : (p : Pipe) → PipeStandsFor p h.passed → is_none p.load ≡ not (is_owed (sent history p.output.queue.0 journal) (taken history p.input.queue.0 journal))
-  free p st = none_is p.load ∙ ap not (loaded p st)
-
-  rx_owed : (v : SerialVirtRx) → RxStandsFor v h.passed → (k : ℕ) (q : QueueId) → slice_get (outlet_queues v.outputs) k ≡ Some q → is_here (place_loaded v) (0 + k) ≡ is_owed (sent history q.0 journal) (input_of (clients_of v) (0 + k) (bytes_carried (h.passed.taken v.input.queue.0)))
-  rx_owed v st k q at =
-      let z : k ≡ 0 + k = omega arith in
-      let put : length (h.passed.sent q.0) ≡ length (track history q.0 journal).sent = sym (length-map (h.passed.sent q.0) (λ (c : Cargo). c.0)) ∙ ap length (h.shows_sent q.0) in
-      let all : length (h.passed.sent q.0) + length (owed_to v.load v.to k) ≡ length (input_of (clients_of v) k (bytes_carried (h.passed.taken v.input.queue.0))) = sym (length-append (h.passed.sent q.0) (owed_to v.load v.to k)) ∙ (ap length (st.given k q at) ∙ length-map (input_of (clients_of v) k (bytes_carried (h.passed.taken v.input.queue.0))) byte_cargo) in
-      subst (λ i. is_here (place_loaded v) i ≡ nat_lt (length (track history q.0 journal).sent) (length (input_of (clients_of v) i (bytes_carried (h.passed.taken v.input.queue.0))))) z (owed_here v.load v.to k (length (track history q.0 journal).sent) (length (input_of (clients_of v) k (bytes_carried (h.passed.taken v.input.queue.0)))) (omega arith) (eqb_tells v.to k))
-
-  rx_meets : (v : SerialVirtRx) → FitsRx (end_at w) v → RxStandsFor v h.passed → Meet (end_at w) (rx_round v).posts (rx_round v).needs ((sheet scene (part_of (Kinds.SerialVirtRx v))).wants (moved history journal))
-  rx_meets v f st =
-      let n : length (numbers (outlet_queues v.outputs)) ≡ clients_of v = simp length-map in
-      let heard : bytes_in (taken history v.input.queue.0 journal) ≡ bytes_carried (h.passed.taken v.input.queue.0) = sym (carried_in (h.passed.taken v.input.queue.0) ∙ ap bytes_in (h.shows_taken v.input.queue.0)) in
-      rw (n, heard) (
-        record { needs = none_is v.load ∙ ap not (sym (owed_some v.to v.load (clients_of v) (bytes_carried (h.passed.taken v.input.queue.0)) 0 (outlet_queues v.outputs) history journal (λ some. (omega arith, let lt = st.to some in omega arith)) (rx_owed v st))); agrees = f.input },
-        shares_meet (end_at w) (place_loaded v) (clients_of v) (bytes_carried (h.passed.taken v.input.queue.0)) 0 v.outputs.ends.items history journal f.outputs.agrees (rx_owed v st),
-      )
-
-  tx_held : (v : SerialVirtTx) → TxStandsFor v h.passed → is_some v.load ≡ is_held v.output.queue.0 (numbers (intake_queues v.inputs)) (moved history journal)
-  tx_held v st =
-      let all : length (h.passed.sent v.output.queue.0 ++ option_to_list v.load) ≡ total (map (λ (q : QueueId). h.passed.taken q.0) (intake_queues v.inputs)) = merge_total _ _ st in
-      let put : length (h.passed.sent v.output.queue.0) ≡ length (track history v.output.queue.0 journal).sent = sym (length-map (h.passed.sent v.output.queue.0) (λ (c : Cargo). c.0)) ∙ ap length (h.shows_sent v.output.queue.0) in
-      held_is v.load (length (track history v.output.queue.0 journal).sent) (taken_count (numbers (intake_queues v.inputs)) (moved history journal)) (let a = length-append (h.passed.sent v.output.queue.0) (option_to_list v.load) in let b = took_count (intake_queues v.inputs) in omega arith)
-    where
-      took_count : (qs : List QueueId) → total (map (λ (q : QueueId). h.passed.taken q.0) qs) ≡ taken_count (numbers qs) (moved history journal)
-      took_count [] = refl
-      took_count (q ∷ qs) =
-          let put : length (h.passed.taken q.0) ≡ length (track history q.0 journal).taken = sym (length-map (h.passed.taken q.0) (λ (c : Cargo). c.0)) ∙ ap length (h.shows_taken q.0) in
-          ap (λ n. n + total (map (λ (q : QueueId). h.passed.taken q.0) qs)) put ∙ ap (λ n. length (track history q.0 journal).taken + n) (took_count qs)
-
-  tx_meets : (v : SerialVirtTx) → FitsTx (end_at w) v → TxStandsFor v h.passed → Meet (end_at w) (tx_round v).posts (tx_round v).needs ((sheet scene (part_of (Kinds.SerialVirtTx v))).wants (moved history journal))
-  tx_meets v f st =
-      let held : is_some v.load ≡ is_held v.output.queue.0 (numbers (intake_queues v.inputs)) (moved history journal) = tx_held v st in
-      (record { needs = held; agrees = f.output }, inputs_meet (end_at w) (is_none v.load) (not (is_held v.output.queue.0 (numbers (intake_queues v.inputs)) (moved history journal))) 0 v.inputs.ends.items (none_is v.load ∙ ap not held) f.inputs.agrees)
-
-  meets : (x : Actor) → FitsActor (end_at w) x → ActorStandsFor x h.passed → Meet (end_at w) (actor_round x).posts (actor_round x).needs ((sheet scene (part_of x)).wants (moved history journal))
-  meets (Kinds.UartDevice x) f st = (record { needs = refl; agrees = f.input }, (record { needs = said x.terminal f st; agrees = f.output }, tt))
-  meets (Kinds.SerialClient x) f st = (record { needs = refl; agrees = f.input }, (record { needs = said x.terminal f st; agrees = f.output }, tt))
-  meets (Kinds.SerialVirtRx x) f st = rx_meets x f st
-  meets (Kinds.SerialVirtTx x) f st = tx_meets x f st
-  meets (Kinds.UartDriver x) f st = (
-    record { needs = free x.driver.pipes.first st.0; agrees = f.each.0.input },
-    (
-      record { needs = loaded x.driver.pipes.first st.0; agrees = f.each.0.output },
-      (
-        record { needs = free x.driver.pipes.rest st.1.0; agrees = f.each.1.0.input },
-        (record { needs = loaded x.driver.pipes.rest st.1.0; agrees = f.each.1.0.output }, tt),
-      ),
-    ),
-  )
+  -- each actor's row holds now
+  pub rows_now : (hostile : Hostiles) → RowsHold (sheet scene) hostile (map part_of actors) (moved history journal)
+  rows_now hostile k p calm at = let m = map_from part_of actors k p at in subst (λ q. (sheet scene q).row (moved history journal)) m.2 (actor_row scene h.passed (moved history journal) (items_here history rows w actors journal h) m.0 (h.stands k m.0 m.1))
 
   -- an actor is at rest where its part is
-  pub rests_here : (k : ℕ) (x : Actor) → slice_get actors k ≡ Some x → is_at_rest (actor_round x) ≡ all_settled history journal ((sheet scene (part_of x)).wants (moved history journal))
-  rests_here k x at = all_here (actor_round x).posts (actor_round x).needs ((sheet scene (part_of x)).wants (moved history journal)) (meets x (h.fits k x at) (h.stands k x at))
+  pub rests_here : (k : ℕ) (x : Actor) → slice_get actors k ≡ Some x → actor_rests x ≡ all_settled history journal ((sheet scene (part_of x)).wants (moved history journal))
+  rests_here k x at = rests history journal w (bells_here history rows w actors journal h) scene x h.passed (h.fits k x at) (h.stands k x at) (items_here history rows w actors journal h)
 
   pub called_here : (actor : ℕ) → is_pending actor w ≡ called_from actor 0 history rows journal
   called_here actor = called_queues actor 0 history journal rows w h.size (λ m row at. let e : m ≡ 0 + m = omega arith in subst (λ i. IsShown row (queue_at w m) (track history i journal)) e (h.queues m row at))
 
   -- whether an actor is idle is what the journal says of its part
   pub idle_here : (k : ℕ) (x : Actor) → slice_get actors k ≡ Some x → idles (manner_of (part_of x)) (actor_rests x) (is_pending k w) ≡ not (is_runnable (manner_of (part_of x)) k ((sheet scene (part_of x)).wants (moved history journal)) history rows journal)
-  idle_here k x at = rw (calm_part (part_of x)) (both (rests_is x ∙ rests_here k x at) (ap not (called_here k)) ∙ turned (all_settled history journal ((sheet scene (part_of x)).wants (moved history journal))) (called_from k 0 history rows journal))
+  idle_here k x at = rw (calm_part (part_of x)) (both (rests_here k x at) (ap not (called_here k)) ∙ turned (all_settled history journal ((sheet scene (part_of x)).wants (moved history journal))) (called_from k 0 history rows journal))
     where
       turned : (a b : Bool) → (a && not b) ≡ not (not a || b)
       turned true b = refl

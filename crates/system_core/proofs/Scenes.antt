@@ -3,7 +3,7 @@ use Rattle.std.specs.Prelude.{flat_map}
 use Rattle.sdf_plan.specs.declared.plan.Plan.{Plan}
 use Rattle.trace_text.specs.declared.trace.Trace.{Trace}
 use Rattle.actor_set.specs.Parts.{Part, UartPart, DriverPart, RxPart, TxPart, ClientPart}
-use Rattle.system_core.specs.Kinds.{frames_of, image_of, scene_of}
+use Rattle.actor_law.specs.Kinds.{frames_of, image_of, scene_of}
 use Rattle.system_core.specs.Builds.{scene_for}
 
 bare : (p : Part) → (frames_of p ≡ []) × (image_of p ≡ [])

@@ -16,8 +16,8 @@ use Rattle.play_core.specs.Wants.{Needful}
 use Rattle.play_core.specs.Sheets.{Scene, needful}
 use Rattle.actor_set.specs.Parts.{Part}
 use Rattle.play_core.specs.Manners.{Manner}
-use Rattle.system_core.specs.Kinds.{sheet, manner_of, manners, idles}
-use Rattle.system_core.proofs.Calm.{manner_at}
+use Rattle.actor_law.specs.Kinds.{sheet, manner_of, manners, idles}
+use Rattle.actor_law.proofs.Calm.{manner_at}
 use Rattle.system_core.specs.Runnings.{with_number}
 use Rattle.system_core.specs.Starts.{AreStarting}
 use Rattle.system_core.specs.Systems.{Holds}

@@ -1,16 +1,16 @@
-use Rattle.std.proofs.Common.{◌≡◌, ◌≢◌, ◌⊎◌, ◌<◌, ◌≤◌, ◌+◌, ℕ, Bool, true, false, not, ◌||◌, Option, Some, None, List, [], ◌∷◌, ◌++◌, length, length-set, slice_get, slice_set, slice_index_or, map, subst, refl, sym, ap, ◌∙◌, arith, inl, inr, zero, suc}
+use Rattle.std.proofs.Common.{◌≡◌, ◌≢◌, ◌⊎◌, ◌<◌, ◌≤◌, ◌+◌, ◌==◌, ℕ, Bool, true, false, not, ◌||◌, Option, Some, None, List, [], ◌∷◌, ◌++◌, length, length-set, slice_get, slice_set, slice_index_or, map, subst, refl, sym, ap, ◌∙◌, arith, inl, inr, zero, suc}
 use Rattle.std.proofs.lemmas.List.{length-map}
 use Rattle.std.proofs.lemmas.Option.{slice_get_past, slice_get_read}
 use Rattle.wire_core.specs.declared.names.QueueRow.{QueueRow}
 use Rattle.wire_core.specs.declared.names.Entry.{Entry}
 use Rattle.wire_core.specs.declared.names.Event.{Event}
-use Rattle.wire_core.specs.Ends.{role_of}
+use Rattle.wire_core.specs.Ends.{Role, role_of}
 use Rattle.wire_core.specs.Lists.{Stepped}
 use Rattle.wire_core.specs.Queues.{Queue, Happens, end_at, is_pending}
-use Rattle.wire_core.specs.Journal.{History, MayCall, EachMoment, owner_of}
+use Rattle.wire_core.specs.Journal.{History, Hostiles, MayCall, EachMoment, EachFrom, LegalEntry, owner_of}
 use Rattle.wire_core.proofs.Tracks.{EachFrom-append}
 use Rattle.wire_core.proofs.Places.{slice_get_written}
-use Rattle.wire_core.specs.Marks.{no_drops, since, calls_at, AreFew, Brisk}
+use Rattle.wire_core.specs.Marks.{no_drops, since, since_from, calls_at, AreFew, Brisk}
 use Rattle.turn_kit.specs.Turns.{is_at_rest}
 use Rattle.turn_kit.specs.Pace.{pendings, IsCalled}
 use Rattle.turn_kit.proofs.Playing.{pace_few}
@@ -25,18 +25,20 @@ use Rattle.actor_set.specs.Parts.{Part}
 use Rattle.actor_set.specs.Actors.{FitsActor, ActorStandsFor, ActorEnd, ActorTurned, actor_round, actor_rests, part_of}
 use Rattle.actor_set.specs.declared.actor.Actor.{Actor}
 use Rattle.play_core.specs.Manners.{Manner, Manners, Calm}
-use Rattle.system_core.specs.Kinds.{scene_of, sheet, manner_of, manners, hostiles, idles}
+use Rattle.actor_law.specs.Kinds.{scene_of, sheet, manner_of, manners, hostiles, idles}
 use Rattle.system_core.specs.Shows.{Crew, Setting, hostile_in, runs, RowsStand}
 use Rattle.system_core.specs.Lawful.{IsFitted}
 use Rattle.system_core.specs.Runnings.{removed_if, with_option, with_if}
 use Rattle.system_core.specs.Asking.{IsAsked}
 use Rattle.system_core.specs.Systems.{Holds}
-use Rattle.system_core.proofs.Calm.{calm_manner, manner_at, sheet_own}
-use Rattle.system_core.proofs.RowsNow.{rows_now}
+use Rattle.actor_law.proofs.Calm.{calm_manner, manner_at, sheet_own}
+use Rattle.system_core.proofs.RunsNow.{rows_now}
 use Rattle.system_core.proofs.SystemStep.{step_holds, map_same, entry_of}
 use Rattle.system_core.proofs.RunsNow.{idle_here, not_not, rests_here}
-use Rattle.system_core.proofs.PartEnds.{from_part, seat_end}
-use Rattle.system_core.proofs.Paces.{called_end, nobody_since}
+use Rattle.actor_law.proofs.PartEnds.{from_part, seat_end}
+use Rattle.actor_law.proofs.Paces.{called_end}
+use Rattle.actor_law.proofs.Rounds.{rests_is}
+use Rattle.wire_core.proofs.Sinces.{eqb_apart}
 use Rattle.system_core.proofs.Places.{places_kept, places_clear, places_so, places_below, places_few}
 
 pub set_same : {X : Type 0} (xs : List X) (k : ℕ) (b : X) → slice_get xs k ≡ Some b → slice_set xs k b ≡ xs
@@ -184,10 +186,18 @@ module _ (history : History) (rows : List QueueRow) (serial : Crew) (w : List Qu
       let part : slice_get (map part_of actors) k ≡ Some (part_of x) = map_get part_of actors k x here in
       let so = places_so 0 k k place (flags history rows (map part_of actors) journal) (omega arith) at in
       let flag : is_runnable Calm k (wanted history rows (map part_of actors) (part_of x) journal) history rows journal ≡ true = subst (λ m. is_runnable m k (wanted history rows (map part_of actors) (part_of x) journal) history rows journal ≡ true) (calm_manner (map part_of actors) k) (some_is (sym (flag_of history rows (map part_of actors) journal k (part_of x) part) ∙ so)) in
-      let settled : all_settled history journal (wanted history rows (map part_of actors) (part_of x) journal) ≡ true = sym (rests_here (scene_of (map part_of actors)) history rows w actors journal old k x here) ∙ rest in
+      let settled : all_settled history journal (wanted history rows (map part_of actors) (part_of x) journal) ≡ true = sym (rests_here (scene_of (map part_of actors)) history rows w actors journal old k x here) ∙ (rests_is x ∙ rest) in
       called_end k x history rows journal
       (λ n row there r owner. let g = fitted.ends k (part_of x) part (record { queue = n; role = r }) (row, there, owner) in from_part x r n (seat_end (scene_of (map part_of actors)) (part_of x) g.0 (record { queue = n; role = r }) g.1))
       (called_so (all_settled history journal (wanted history rows (map part_of actors) (part_of x) journal)) (called_from k 0 history rows journal) settled flag)
+
+-- who isn't there made no calls
+nobody_since : (hostile : Hostiles) (history : History) (rows : List QueueRow) (actors a : ℕ) (before es : List Entry) → ((n : ℕ) (row : QueueRow) → slice_get rows n ≡ Some row → (r : Role) → owner_of row r < actors) → actors ≤ a → EachFrom (LegalEntry hostile history rows) before es → since_from no_drops a [] es ≡ []
+nobody_since hostile history rows actors a before [] peers le l = refl
+nobody_since hostile history rows actors a before (e ∷ es) peers le l =
+    let lt : e.actor.0 < actors = subst (λ n. n < actors) l.0.legal.caller.some.1 (peers e.event.queue.0 l.0.row l.0.there l.0.legal.caller.some.0) in
+    let off : (e.actor.0 == a) ≡ false = eqb_apart e.actor.0 a (λ h. absurd (omega (arith, lt, le, h))) in
+    rw off (nobody_since hostile history rows actors a (before ++ e ∷ []) es peers le l.1)
 
 -- each actor made few calls since its last mark
 few_holds : (history : History) (rows : List QueueRow) (w : List Queue) (actors : List Actor) (journal : List Entry) → Holds history rows w actors journal → AreFew (hostiles (map part_of actors)) no_drops journal

@@ -25,16 +25,16 @@ use Rattle.wire_core.specs.Marks.{no_drops, since}
 use Rattle.turn_kit.specs.Turns.{Turned, is_at_rest}
 use Rattle.turn_kit.specs.Pace.{Paced, pendings, IsCalled}
 use Rattle.turn_kit.proofs.Playing.{pace_own, pace_beside}
-use Rattle.system_core.proofs.Calm.{calm_row}
-use Rattle.system_core.proofs.Paces.{post_end, post_waits}
+use Rattle.actor_law.proofs.Calm.{calm_row}
+use Rattle.actor_law.proofs.Paces.{post_end, post_waits}
 use Rattle.actor_set.specs.Actors.{FitsActor, ActorStandsFor, ActorEnd, ActorTurned, part_of, actor_round}
-use Rattle.system_core.proofs.Rounds.{turned_is}
+use Rattle.actor_law.proofs.Rounds.{turned_is}
 use Rattle.actor_set.specs.Parts.{Part}
-use Rattle.system_core.specs.Kinds.{hostiles}
+use Rattle.actor_law.specs.Kinds.{hostiles}
 use Rattle.system_core.specs.Systems.{Holds}
 use Rattle.actor_set.specs.declared.actor.Actor.{Actor}
-use Rattle.system_core.proofs.Beside.{fits_beside, stands_beside}
-use Rattle.system_core.proofs.PartEnds.{same_part}
+use Rattle.actor_law.proofs.Beside.{fits_beside, stands_beside}
+use Rattle.actor_law.proofs.PartEnds.{same_part}
 use Rattle.play_core.proofs.Lists.{some_is}
 
 pub no_row : QueueRow

@@ -19,13 +19,13 @@ use Rattle.serial_law.specs.Parts.{SerialPart}
 use Rattle.serial_law.specs.Table.{serial_sheet}
 use Rattle.serial_law.specs.Serial.{SerialClass, IsSerial, ArrivesInPart, ArrivesWhole}
 use Rattle.serial_law.proofs.Arrivals.{as_there, RowAt}
-use Rattle.system_core.specs.Kinds.{serial_part, scene_of}
+use Rattle.actor_law.specs.Kinds.{serial_part, scene_of}
 use Rattle.system_core.specs.Shows.{Setting, Shown, manner_in, hostile_in, sheet_in, moved_in, runs, RowsStand}
 use Rattle.system_core.specs.Plays.{Played, runnable_now}
 use Rattle.system_core.specs.Lawful.{StandsLawful}
 use Rattle.system_core.specs.Builds.{IsBuilt, IsCastOf, BeginsAnew, HasSerial, serial_class, first_serial}
 use Rattle.system_core.specs.PlanPlays.{IsPlayed, IsPlayedOn}
-use Rattle.system_core.proofs.Calm.{calm_actor, sheet_is}
+use Rattle.actor_law.proofs.Calm.{calm_actor, sheet_is}
 use Rattle.system_core.proofs.Scripts.{scripts_length}
 use Rattle.system_core.proofs.Begun.{There, serial_there, shows_in_part, shows_whole}
 

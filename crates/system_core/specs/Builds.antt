@@ -12,7 +12,7 @@ use Rattle.region_layout.specs.Rows.{net_queues, queues_of, actors_of, actor_nam
 use Rattle.play_core.specs.Sheets.{Scene}
 use Rattle.serial_law.specs.Parts.{SerialPart, SerialDevice, SerialDriver, SerialReceiver, SerialSender, SerialClient}
 use Rattle.serial_law.specs.Serial.{SerialClass}
-use Rattle.system_core.specs.Kinds.{serial_part, scene_of}
+use Rattle.actor_law.specs.Kinds.{serial_part, scene_of}
 use Rattle.system_core.specs.Shows.{Setting, Shown}
 
 -- the first class of a plan that can't be played yet, if it has one

@@ -7,11 +7,11 @@ use Rattle.wire_core.specs.declared.names.Entry.{Entry}
 use Rattle.wire_core.specs.Journal.{LegalJournal, EachMoment, BellsHold, QueuesFlow}
 use Rattle.wire_core.specs.Marks.{no_drops, Brisk}
 use Rattle.cargo_core.specs.Capacities.{IsCapacity}
-use Rattle.play_core.specs.Moved.{Moved, Seat}
+use Rattle.play_core.specs.Moved.{Seat}
 use Rattle.play_core.specs.Sheets.{AreSeated, IsSeat}
 use Rattle.play_core.specs.Still.{IsPeopled}
-use Rattle.serial_law.specs.Bytes.{bytes_in}
-use Rattle.actor_set.specs.Parts.{Part, UartPart, DriverPart, RxPart, TxPart, ClientPart}
+use Rattle.actor_set.specs.Parts.{Part}
+use Rattle.actor_law.specs.Records.{record_by}
 use Rattle.system_core.specs.Shows.{Setting, Shown, hostile_in, sheet_in, moved_in, RowsStand}
 
 -- the rows and the actors fit one another
@@ -38,14 +38,6 @@ pub record IsLawful (s : Setting) (journal : List Entry) : Type 0 where
   pub flows : EachMoment (QueuesFlow (hostile_in s) s.history s.rows) journal
   pub rows_hold : EachMoment (RowsStand s) journal
   pub brisk : Brisk (hostile_in s) no_drops journal
-
--- the bytes that a part recorded: a device for its line and a client for its record what they took
-abbrev pub record_by : Moved → Part → List ℕ
-record_by m (UartPart rx tx input) = bytes_in (m.taken tx)
-record_by m (ClientPart rx tx script) = bytes_in (m.taken rx)
-record_by m (DriverPart device_rx device_tx rx tx) = []
-record_by m (RxPart rx clients) = []
-record_by m (TxPart tx clients) = []
 
 -- the bytes that the actor at a place recorded
 abbrev pub record_at : Shown → ℕ → List ℕ

@@ -1,7 +1,6 @@
--- The definitions of a system at play: what it shows (Kinds, Shows), what holds of it (Lawful), how
--- it is built and played (Builds, Plays, PlanPlays), and inside, what it keeps (Runnings, Asking,
--- Starts, Seats, Systems, Inside, Jobs).
-pub mod Kinds
+-- The definitions of a system at play: what it shows (Shows), what holds of it (Lawful), how it is
+-- built and played (Builds, Plays, PlanPlays), and inside, what it keeps (Runnings, Asking, Starts,
+-- Seats, Systems, Inside, Jobs).
 pub mod Shows
 pub mod Plays
 pub mod Reports

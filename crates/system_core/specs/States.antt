@@ -7,16 +7,8 @@ use Rattle.wire_core.specs.Queues.{items_of}
 use Rattle.spsc_queue.specs.Known.Ends.{EndedIs}
 use Rattle.actor_set.specs.Actors.{part_of}
 use Rattle.actor_set.specs.declared.actor.Actor.{Actor}
-use Rattle.actor_set.specs.declared.actor.Actor.TheVariants as Kinds
+use Rattle.actor_law.specs.Records.{record_of}
 use Rattle.system_core.specs.Shows.{Crew, Setting, State, Shown}
-
--- what an actor recorded: a device what was sent on its line, a client what it got
-abbrev pub record_of : Actor → List ℕ
-record_of (Kinds.UartDevice x) = x.terminal.recorded.shown
-record_of (Kinds.SerialClient x) = x.terminal.recorded.shown
-record_of (Kinds.UartDriver x) = []
-record_of (Kinds.SerialVirtRx x) = []
-record_of (Kinds.SerialVirtTx x) = []
 
 -- what the actor at a place recorded
 abbrev pub record_from : List Actor → ℕ → List ℕ

@@ -9,7 +9,7 @@ use Rattle.wire_core.specs.Journal.{History, track, IsShown, LegalJournal, Bells
 use Rattle.wire_core.specs.Marks.{no_drops, since}
 use Rattle.turn_kit.specs.Pace.{Paced, pendings}
 use Rattle.actor_set.specs.Actors.{FitsActor, ActorStandsFor, ActorEnd, part_of, actor_round}
-use Rattle.system_core.specs.Kinds.{hostiles}
+use Rattle.actor_law.specs.Kinds.{hostiles}
 use Rattle.system_core.specs.Shows.{Setting, hostile_in}
 use Rattle.system_core.specs.Lawful.{IsFitted}
 use Rattle.actor_set.specs.declared.actor.Actor.{Actor}

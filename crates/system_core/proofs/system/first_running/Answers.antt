@@ -1,6 +1,6 @@
 use Rattle.std.proofs.Common.{arith, map}
 use Rattle.actor_set.specs.Actors.{part_of}
-use Rattle.system_core.specs.Kinds.{scene_of}
+use Rattle.actor_law.specs.Kinds.{scene_of}
 use Rattle.system_core.specs.States.{history_of}
 use Rattle.system_core.proofs.Starting.{flag_start, flags_many, list_added, list_skipped, list_room, list_whole}
 use Rattle.system_core.proofs.system.first_running.Goals as goal

@@ -1,9 +1,9 @@
 use Rattle.std.proofs.Common.{◌∙◌, ap, None, [], map, arith}
 use Rattle.actor_set.specs.Actors.{part_of}
-use Rattle.system_core.specs.Kinds.{scene_of, hostiles}
+use Rattle.actor_law.specs.Kinds.{scene_of, hostiles}
 use Rattle.system_core.specs.States.{history_of, begun, crew_of}
 use Rattle.system_core.specs.Shows.{runs}
-use Rattle.system_core.proofs.RowsNow.{rows_now}
+use Rattle.system_core.proofs.RunsNow.{rows_now}
 use Rattle.system_core.proofs.system.System.begin.Goals as goal
 
 pub first_running-requires : goal.first_running-requires

@@ -1,9 +1,7 @@
-use Rattle.std.proofs.Common.{◌≡◌, ◌<◌, ◌++◌, [], ◌∷◌, refl, sym, ap, ◌∙◌, length, length-set, map, slice_get, slice_set, Some, subst, arith}
-use Rattle.std.proofs.lemmas.List.{length-map}
+use Rattle.std.proofs.Common.{◌≡◌, ◌<◌, ◌++◌, [], ◌∷◌, refl, sym, ap, ◌∙◌, length, length-set, slice_get, slice_set, Some, subst, arith}
 use Rattle.std.specs.Vec.{vec_len}
 use Rattle.std.proofs.lemmas.Option.{slice_get_read, slice_get_within}
 use Rattle.wire_core.specs.Journal.{EachMoment}
-use Rattle.actor_set.specs.Actors.{part_of}
 use Rattle.wire_core.specs.Marks.{no_drops, Brisk}
 use Rattle.system_core.specs.Shows.{Shown, hostile_in, runs, RowsStand}
 use Rattle.system_core.specs.States.{history_of, begun, crew_of}

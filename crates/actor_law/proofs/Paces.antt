@@ -1,4 +1,4 @@
-use Rattle.std.proofs.Common.{◌≡◌, ◌⊎◌, ◌==◌, ◌<◌, ◌≤◌, ◌+◌, ◌++◌, ◌&&◌, ◌||◌, ℕ, zero, suc, Bool, true, false, Some, List, [], ◌∷◌, length, slice_get, refl, sym, ap, ◌∙◌, subst, arith, inl, inr}
+use Rattle.std.proofs.Common.{◌≡◌, ◌⊎◌, ◌==◌, ◌<◌, ◌+◌, ◌&&◌, ◌||◌, ℕ, zero, suc, Bool, true, false, Some, List, [], ◌∷◌, length, slice_get, refl, sym, ap, ◌∙◌, subst, arith, inl, inr}
 use Rattle.std.proofs.lemmas.Bool.{eqb-true}
 use Rattle.wire_core.specs.declared.names.QueueRow.{QueueRow}
 use Rattle.wire_core.specs.declared.names.Entry.{Entry}
@@ -6,9 +6,9 @@ use Rattle.wire_core.specs.declared.names.Event.{Event}
 use Rattle.wire_core.specs.declared.names.QueueId.{QueueId}
 use Rattle.wire_core.specs.declared.names.Side.{Side}
 use Rattle.wire_core.specs.declared.names.Side.TheVariants.{Forward, Backward}
-use Rattle.wire_core.specs.Ends.{Role, Consumer, Producer, waiting_role}
+use Rattle.wire_core.specs.Ends.{Role, waiting_role}
 use Rattle.wire_core.specs.Queues.{calls}
-use Rattle.wire_core.specs.Journal.{History, track, owner_of, Hostiles, LegalEntry, EachFrom}
+use Rattle.wire_core.specs.Journal.{History, track, owner_of}
 use Rattle.turn_kit.specs.declared.ends.Intake.{Intake}
 use Rattle.turn_kit.specs.declared.ends.Outlet.{Outlet}
 use Rattle.turn_kit.specs.Posts.{intake_post, outlet_post}
@@ -20,20 +20,18 @@ use Rattle.actor_set.specs.declared.actor.Actor.TheVariants as Kinds
 use Rattle.serial_terminal.specs.declared.Terminal.{Terminal}
 use Rattle.serial_terminal.specs.Terminals.{terminal_round}
 use Rattle.serial_virt.proofs.Sizes.{rx_size, tx_size}
-use Rattle.system_core.specs.Seats.{HasApartEnds}
+use Rattle.actor_law.specs.StartStates.{HasApartEnds, HasNoLoop}
 use Rattle.play_core.specs.Runs.{called_from}
-use Rattle.wire_core.specs.Marks.{no_drops, since_from}
 use Rattle.turn_kit.specs.Pace.{pendings, IsCalled}
-use Rattle.wire_core.proofs.Sinces.{eqb_apart}
 use Rattle.play_core.proofs.Lists.{some_is, map_get, map_from}
 
 -- Each actor's round is its ends, and an actor that is called has a notification pending at one of them.
 
 -- an end of the actor, at which it doesn't drop
-abbrev IsPostOf : Actor → Post → Type 0
+abbrev pub IsPostOf : Actor → Post → Type 0
 IsPostOf x p = ActorEnd x (waiting_role p.side) p.queue × (p.drops ≡ false)
 
-post_stands : (x : Actor) (k : ℕ) (p : Post) → slice_get (actor_round x).posts k ≡ Some p → IsPostOf x p
+pub post_stands : (x : Actor) (k : ℕ) (p : Post) → slice_get (actor_round x).posts k ≡ Some p → IsPostOf x p
 post_stands (Kinds.UartDevice x) zero p at = subst (IsPostOf (Kinds.UartDevice x)) (some_is at) (refl, refl)
 post_stands (Kinds.UartDevice x) (suc zero) p at = subst (IsPostOf (Kinds.UartDevice x)) (some_is at) (refl, refl)
 post_stands (Kinds.UartDevice x) (suc (suc k)) p at = cc
@@ -136,7 +134,7 @@ four_apart a b c d ab ac ad bc bd cd k j p q pk qj e = go k j pk qj
     go (suc (suc zero)) (suc (suc (suc (suc j)))) f g = cc
     go (suc (suc (suc zero))) (suc (suc (suc (suc j)))) f g = cc
 
-apart_posts : (x : Actor) → HasApartEnds x → ((n : ℕ) → ActorEnd x Consumer n → ActorEnd x Producer n → ⊥) → Apart x
+apart_posts : (x : Actor) → HasApartEnds x → HasNoLoop x → Apart x
 apart_posts (Kinds.UartDevice x) h d k j p q a b e = terminal_apart x.terminal (λ e. d x.terminal.input.queue.0 refl e) k j p q a b e
 apart_posts (Kinds.SerialClient x) h d k j p q a b e = terminal_apart x.terminal (λ e. d x.terminal.input.queue.0 refl e) k j p q a b e
 apart_posts (Kinds.UartDriver x) h d k j p q a b e = four_apart (intake_post x.driver.pipes.first.input) (outlet_post x.driver.pipes.first.output) (intake_post x.driver.pipes.rest.input) (outlet_post x.driver.pipes.rest.output) (λ e. d x.driver.pipes.first.input.queue.0 (inl refl) (inl e)) h.0 (λ e. d x.driver.pipes.first.input.queue.0 (inl refl) (inr (inl e))) (λ e. d x.driver.pipes.rest.input.queue.0 (inr (inl refl)) (inl (sym e))) h.1 (λ e. d x.driver.pipes.rest.input.queue.0 (inr (inl refl)) (inr (inl e))) k j p q a b e
@@ -164,7 +162,7 @@ apart_posts (Kinds.SerialVirtTx x) h d (suc k) (suc j) p q a b e =
     let r = map_from intake_post x.inputs.ends.items j q b in
     ap suc (h k j o.0.queue r.0.queue (map_get (λ (y : Intake). y.queue) x.inputs.ends.items k o.0 o.1) (map_get (λ (y : Intake). y.queue) x.inputs.ends.items j r.0 r.1) (ap (λ (z : Post). z.queue) o.2 ∙ (e ∙ sym (ap (λ (z : Post). z.queue) r.2))))
 
-pub start_round : (x : Actor) → HasApartEnds x → ((n : ℕ) → ActorEnd x Consumer n → ActorEnd x Producer n → ⊥) → IsRound (actor_round x)
+pub start_round : (x : Actor) → HasApartEnds x → HasNoLoop x → IsRound (actor_round x)
 start_round x h d = record { some = some_ends x; needs = sizes x; apart = apart_posts x h d }
 
 -- an actor that is called has a pending end
@@ -204,11 +202,3 @@ called_end k x history rows journal ends h =
     let c = called_case k 0 history rows rows journal (λ m row at. let z : m ≡ 0 + m = omega arith in subst (λ i. slice_get rows i ≡ Some row) z at) h in
     let p = end_post x c.side c.queue (ends c.queue c.row c.there (waiting_role c.side) c.owner) in
     record { place = p.0; post = p.1; there = p.2; pends = subst (λ s. pendings history journal p.1.queue s ≡ true) (sym p.4) (subst (λ n. pendings history journal n c.side ≡ true) (sym p.3) c.pends) }
-
--- who isn't there made no calls
-pub nobody_since : (hostile : Hostiles) (history : History) (rows : List QueueRow) (actors a : ℕ) (before es : List Entry) → ((n : ℕ) (row : QueueRow) → slice_get rows n ≡ Some row → (r : Role) → owner_of row r < actors) → actors ≤ a → EachFrom (LegalEntry hostile history rows) before es → since_from no_drops a [] es ≡ []
-nobody_since hostile history rows actors a before [] peers le l = refl
-nobody_since hostile history rows actors a before (e ∷ es) peers le l =
-    let lt : e.actor.0 < actors = subst (λ n. n < actors) l.0.legal.caller.some.1 (peers e.event.queue.0 l.0.row l.0.there l.0.legal.caller.some.0) in
-    let off : (e.actor.0 == a) ≡ false = eqb_apart e.actor.0 a (λ h. absurd (omega (arith, lt, le, h))) in
-    rw off (nobody_since hostile history rows actors a (before ++ e ∷ []) es peers le l.1)

@@ -10,7 +10,7 @@ use Rattle.play_core.specs.Moved.{Seat}
 use Rattle.play_core.specs.Wants.{intake, outlet}
 use Rattle.play_core.specs.Sheets.{Scene}
 use Rattle.play_core.proofs.Lists.{some_is, map_get, map_from}
-use Rattle.system_core.specs.Kinds.{sheet}
+use Rattle.actor_law.specs.Kinds.{sheet}
 
 -- one of a part's ends
 abbrev pub PartEnd : Part → Role → ℕ → Type 0

@@ -8,7 +8,7 @@ use Rattle.serial_law.specs.Parts.{SerialPart, SerialDevice, SerialDriver, Seria
 use Rattle.serial_law.specs.Table.{serial_sheet}
 use Rattle.serial_law.proofs.Own.{serial_own}
 use Rattle.actor_set.specs.Parts.{Part, UartPart, DriverPart, RxPart, TxPart, ClientPart}
-use Rattle.system_core.specs.Kinds.{serial_part, sheet, manner_of, manners, hostiles}
+use Rattle.actor_law.specs.Kinds.{serial_part, sheet, manner_of, manners, hostiles}
 
 -- all kinds are calm
 pub calm_part : (p : Part) → manner_of p ≡ Calm

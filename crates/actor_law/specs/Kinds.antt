@@ -1,5 +1,5 @@
--- The table of the kinds of actor that a system has, of all its classes: what is said of each of
--- them, how it goes about, and what a trace gives them beside what they say.
+-- The table of the kinds of actor, of all classes: what is said of each of them, how it goes about,
+-- and what a trace gives them beside what they say.
 use Rattle.std.specs.Prelude.{ℕ, Bool, not, ◌&&◌, List, [], flat_map, slice_get}
 use Rattle.std.specs.Option.{option_map_or}
 use Rattle.wire_core.specs.Journal.{Hostiles}

@@ -1,0 +1,212 @@
+use Rattle.std.proofs.Common.{◌≡◌, ◌<◌, ◌≤◌, ◌+◌, ℕ, Bool, true, false, not, ◌&&◌, ◌||◌, nat_lt, Option, Some, None, is_some, is_none, List, [], ◌∷◌, ◌++◌, map, length, length-append, length-take, slice_get, subst, refl, sym, ap, ◌∙◌, arith, suc}
+use Rattle.std.specs.Option.{option_to_list}
+use Rattle.std.proofs.lemmas.List.{length-map}
+use Rattle.std.proofs.lemmas.Bool.{lt-ltb, le-ltb}
+use Rattle.cargo_core.specs.declared.item.QueueKind.{QueueKind}
+use Rattle.wire_core.specs.declared.names.Entry.{Entry}
+use Rattle.wire_core.specs.Deeds.{Cargo}
+use Rattle.wire_core.specs.Ends.{Role, Consumer, Producer, End}
+use Rattle.wire_core.specs.Queues.{Bells, Queue, items_of, queue_at, end_at, end_of}
+use Rattle.wire_core.specs.Lists.{Passed}
+use Rattle.wire_core.specs.Journal.{History}
+use Rattle.wire_core.proofs.Moving.{there_if_owned}
+use Rattle.turn_kit.specs.Table.{Agrees, is_settled}
+use Rattle.turn_kit.specs.Turns.{Post, settled_all}
+use Rattle.turn_kit.specs.declared.end_state.EndState.{EndState}
+use Rattle.turn_kit.specs.Pipes.{PipeStandsFor}
+use Rattle.turn_kit.specs.declared.pipe.Pipe.{Pipe}
+use Rattle.serial_terminal.specs.Terminals.{FitsTerminal, TerminalStandsFor}
+use Rattle.serial_terminal.specs.declared.Terminal.{Terminal}
+use Rattle.std.proofs.Common.{◌⊎◌, ◌≢◌, nat_eq, if◌then◌else◌, inl, inr}
+use Rattle.std.specs.Option.{option_map}
+use Rattle.std.proofs.Math.Dec.{eqb}
+use Rattle.std.proofs.lemmas.Bool.Decides.{eqb_tells}
+use Rattle.wire_core.specs.declared.names.QueueId.{QueueId}
+use Rattle.turn_kit.specs.ManyEnds.{intake_queues, outlet_queues, is_here, needs_from}
+use Rattle.turn_kit.specs.Posts.{intake_post, outlet_post}
+use Rattle.turn_kit.specs.declared.ends.Intake.{Intake}
+use Rattle.turn_kit.specs.declared.ends.Outlet.{Outlet}
+use Rattle.serial_switch.specs.Carried.{byte_cargo, bytes_carried}
+use Rattle.serial_switch.specs.Switching.{input_of}
+use Rattle.actor_law.proofs.Rows.{carried_in}
+use Rattle.play_core.proofs.Merges.{merge_total}
+use Rattle.play_core.specs.Totals.{total}
+use Rattle.serial_virt.specs.Receiving.{FitsRx, RxStandsFor, rx_round, owed_to, clients_of, place_loaded}
+use Rattle.serial_virt.specs.declared.rx.SerialVirtRx.{SerialVirtRx}
+use Rattle.serial_virt.specs.Sending.{FitsTx, TxStandsFor, tx_round}
+use Rattle.serial_virt.specs.declared.tx.SerialVirtTx.{SerialVirtTx}
+use Rattle.play_core.specs.Moved.{Moved, moved}
+use Rattle.play_core.specs.Wants.{Want, intake_want, end_settled, bells_settled, want_settled, all_settled}
+use Rattle.play_core.specs.Sheets.{Scene}
+use Rattle.serial_law.specs.Bytes.{bytes_in, is_owed}
+use Rattle.serial_law.specs.Table.{some_owed, shares, taken_count, is_held}
+use Rattle.actor_law.specs.Kinds.{sheet}
+use Rattle.actor_law.proofs.Rounds.{rests_is}
+use Rattle.actor_set.specs.Actors.{FitsActor, ActorStandsFor, part_of, actor_round, actor_rests, numbers}
+use Rattle.actor_law.specs.Showing.{HaveItems, HaveBells}
+use Rattle.actor_set.specs.declared.actor.Actor.{Actor}
+use Rattle.actor_set.specs.declared.actor.Actor.TheVariants as Kinds
+
+pub both : {a b c d : Bool} → a ≡ b → c ≡ d → (a && c) ≡ (b && d)
+both e f = cc
+
+state_settled : (e : End) (k : EndState) (need : Bool) → Agrees e k → is_settled k need ≡ end_settled e.waiter e.ringer need
+state_settled e k need a = rw (a.ringer, a.waiter) refl
+
+same_settled : (mine : Bool) (k : QueueKind) (b : Bells) (r : Role) (need : Bool) → end_settled (end_of mine k b r).waiter (end_of mine k b r).ringer need ≡ bells_settled b r need
+same_settled mine k b Consumer need = refl
+same_settled mine k b Producer need = refl
+
+some_is : (sent taken : List Cargo) (load : Option Cargo) → taken ≡ sent ++ option_to_list load → is_some load ≡ nat_lt (length (items_of sent)) (length (items_of taken))
+some_is sent taken None h = sym (le-ltb _ _ (simp (length-map) (omega (arith, ap length h, length-append sent []))))
+some_is sent taken (Some c) h = sym (lt-ltb _ _ (simp (length-map) (omega (arith, ap length h, length-append sent (c ∷ [])))))
+
+none_is : (load : Option Cargo) → is_none load ≡ not (is_some load)
+none_is None = refl
+none_is (Some c) = refl
+
+-- an actor's end as it keeps it, and what it needs there, as a part has it
+pub record Met (ends : Role → ℕ → End) (p : Post) (need : Bool) (w : Want) : Type 0 where
+  pub needs : need ≡ w.need
+  pub agrees : Agrees (ends w.role w.queue) p.state
+
+abbrev pub Meet : (Role → ℕ → End) → List Post → List Bool → List Want → Type 0
+Meet ends [] [] [] = Unit {0}
+Meet ends [] [] (w ∷ ws) = ⊥
+Meet ends [] (n ∷ ns) ws = ⊥
+Meet ends (p ∷ ps) [] ws = ⊥
+Meet ends (p ∷ ps) (n ∷ ns) [] = ⊥
+Meet ends (p ∷ ps) (n ∷ ns) (w ∷ ws) = Met ends p n w × Meet ends ps ns ws
+
+-- what is owed to the client at a place, by how much was put to it
+owed_here : (load : Option Cargo) (to k n m : ℕ) → n + length (owed_to load to k) ≡ m → ((eqb to k ≡ true) × (to ≡ k)) ⊎ ((eqb to k ≡ false) × (to ≢ k)) → is_here (option_map (λ c. to) load) k ≡ nat_lt n m
+owed_here None to k n m e (inl t) = let f : length (owed_to None to k) ≡ 0 = ap (λ b. length (if b then option_to_list {X = Cargo} None else [])) t.0 in sym (le-ltb n m (omega (arith, e, f)))
+owed_here None to k n m e (inr t) = let f : length (owed_to None to k) ≡ 0 = ap (λ b. length (if b then option_to_list {X = Cargo} None else [])) t.0 in sym (le-ltb n m (omega (arith, e, f)))
+owed_here (Some c) to k n m e (inl t) = let f : length (owed_to (Some c) to k) ≡ 1 = ap (λ b. length (if b then option_to_list (Some c) else [])) t.0 in t.0 ∙ sym (lt-ltb n m (omega (arith, e, f)))
+owed_here (Some c) to k n m e (inr t) = let f : length (owed_to (Some c) to k) ≡ 0 = ap (λ b. length (if b then option_to_list (Some c) else [])) t.0 in t.0 ∙ sym (le-ltb n m (omega (arith, e, f)))
+
+held_is : (load : Option Cargo) (n m : ℕ) → n + length (option_to_list load) ≡ m → is_some load ≡ nat_lt n m
+held_is None n m e = sym (le-ltb n m (omega (arith, e)))
+held_is (Some c) n m e = sym (lt-ltb n m (omega (arith, e)))
+
+index_moves : (c k : ℕ) → c + suc k ≡ (c + 1) + k
+index_moves c k = omega arith
+
+shares_meet : (ends : Role → ℕ → End) (place : Option ℕ) (all : ℕ) (bytes : List ℕ) (c : ℕ) (os : List Outlet) (items : Moved) → ((k : ℕ) (o : Outlet) → slice_get os k ≡ Some o → Agrees (ends Producer o.queue.0) o.state) → ((k : ℕ) (q : QueueId) → slice_get (map (λ (o : Outlet). o.queue) os) k ≡ Some q → is_here place (c + k) ≡ is_owed (items.sent q.0) (input_of all (c + k) bytes)) → Meet ends (map outlet_post os) (needs_from (is_here place) c (map (λ (o : Outlet). o.queue) os)) (shares all bytes c (numbers (map (λ (o : Outlet). o.queue) os)) items)
+shares_meet ends place all bytes c [] items agrees owed = tt
+shares_meet ends place all bytes c (o ∷ os) items agrees owed =
+    let z : c + 0 ≡ c = omega arith in (
+      record { needs = subst (λ i. is_here place i ≡ is_owed (items.sent o.queue.0) (input_of all i bytes)) z (owed 0 o.queue refl); agrees = agrees 0 o refl },
+      shares_meet ends place all bytes (c + 1) os items (λ k x at. agrees (suc k) x at) (λ k q at. subst (λ i. is_here place i ≡ is_owed (items.sent q.0) (input_of all i bytes)) (index_moves c k) (owed (suc k) q at)),
+    )
+
+nobody_owed : (all : ℕ) (bytes : List ℕ) (c : ℕ) (qs : List QueueId) (items : Moved) → ((k : ℕ) (q : QueueId) → slice_get qs k ≡ Some q → false ≡ is_owed (items.sent q.0) (input_of all (c + k) bytes)) → some_owed all bytes c (numbers qs) items ≡ false
+nobody_owed all bytes c [] items owed = refl
+nobody_owed all bytes c (q ∷ qs) items owed =
+    let z : c + 0 ≡ c = omega arith in
+    let e : is_owed (items.sent q.0) (input_of all c bytes) ≡ false = subst (λ i. is_owed (items.sent q.0) (input_of all i bytes) ≡ false) z (sym (owed 0 q refl)) in
+    rw (e, nobody_owed all bytes (c + 1) qs items (λ k x at. subst (λ i. false ≡ is_owed (items.sent x.0) (input_of all i bytes)) (index_moves c k) (owed (suc k) x at))) refl
+
+one_owed : (to all : ℕ) (bytes : List ℕ) (c : ℕ) (qs : List QueueId) (items : Moved) → c ≤ to → to < c + length qs → ((k : ℕ) (q : QueueId) → slice_get qs k ≡ Some q → nat_eq to (c + k) ≡ is_owed (items.sent q.0) (input_of all (c + k) bytes)) → ((eqb to c ≡ true) × (to ≡ c)) ⊎ ((eqb to c ≡ false) × (to ≢ c)) → some_owed all bytes c (numbers qs) items ≡ true
+one_owed to all bytes c [] items le lt owed t = absurd (omega arith)
+one_owed to all bytes c (q ∷ qs) items le lt owed (inl t) =
+    let z : c + 0 ≡ c = omega arith in
+    let e : is_owed (items.sent q.0) (input_of all c bytes) ≡ true = sym (subst (λ i. nat_eq to i ≡ is_owed (items.sent q.0) (input_of all i bytes)) z (owed 0 q refl)) ∙ t.0 in
+    rw e refl
+one_owed to all bytes c (q ∷ qs) items le lt owed (inr t) =
+    rw (one_owed to all bytes (c + 1) qs items (omega (arith, t.1)) (omega arith) (λ k x at. subst (λ i. nat_eq to i ≡ is_owed (items.sent x.0) (input_of all i bytes)) (index_moves c k) (owed (suc k) x at)) (eqb_tells to (c + 1))) (or_true (is_owed (items.sent q.0) (input_of all c bytes)))
+  where
+    or_true : (b : Bool) → (b || true) ≡ true
+    or_true true = refl
+    or_true false = refl
+
+owed_some : (to : ℕ) (load : Option Cargo) (all : ℕ) (bytes : List ℕ) (c : ℕ) (qs : List QueueId) (items : Moved) → (is_some load ≡ true → (c ≤ to) × (to < c + length qs)) → ((k : ℕ) (q : QueueId) → slice_get qs k ≡ Some q → is_here (option_map (λ x. to) load) (c + k) ≡ is_owed (items.sent q.0) (input_of all (c + k) bytes)) → some_owed all bytes c (numbers qs) items ≡ is_some load
+owed_some to None all bytes c qs items there owed = nobody_owed all bytes c qs items owed
+owed_some to (Some x) all bytes c qs items there owed = let t = there refl in one_owed to all bytes c qs items t.0 t.1 owed (eqb_tells to c)
+
+inputs_meet : (ends : Role → ℕ → End) (need need' : Bool) (c : ℕ) (is : List Intake) → need ≡ need' → ((k : ℕ) (i : Intake) → slice_get is k ≡ Some i → Agrees (ends Consumer i.queue.0) i.state) → Meet ends (map intake_post is) (needs_from (λ place. need) c (map (λ (i : Intake). i.queue) is)) (map (λ q. intake_want q need') (numbers (map (λ (i : Intake). i.queue) is)))
+inputs_meet ends need need' c [] same agrees = tt
+inputs_meet ends need need' c (i ∷ is) same agrees = (record { needs = same; agrees = agrees 0 i refl }, inputs_meet ends need need' (c + 1) is same (λ k x at. agrees (suc k) x at))
+
+-- what an actor needs is what its sheet wants, of the items of the lists that it stands for
+module _ (scene : Scene) (w : List Queue) (passed : Passed) (items : Moved) (h : HaveItems passed items) where
+  said : (t : Terminal) → FitsTerminal (end_at w) t → TerminalStandsFor t passed → nat_lt t.next (length t.script) ≡ is_owed (items.sent t.output.queue.0) t.script
+  said t f st =
+      let n : length (items.sent t.output.queue.0) ≡ t.next = rw (← h.sent t.output.queue.0, st.sent_is) (simp (length-map, length-take) (omega (arith, f.next))) in
+      ap (λ m. nat_lt m (length t.script)) (sym n)
+
+  loaded : (p : Pipe) → PipeStandsFor p passed → is_some p.load ≡ is_owed (items.sent p.output.queue.0) (items.taken p.input.queue.0)
+  loaded p st = rw (← h.sent p.output.queue.0, ← h.taken p.input.queue.0) (some_is (passed.sent p.output.queue.0) (passed.taken p.input.queue.0) p.load st)
+
+  free : (p : Pipe) → PipeStandsFor p passed → is_none p.load ≡ not (is_owed (items.sent p.output.queue.0) (items.taken p.input.queue.0))
+  free p st = none_is p.load ∙ ap not (loaded p st)
+
+  rx_owed : (v : SerialVirtRx) → RxStandsFor v passed → (k : ℕ) (q : QueueId) → slice_get (outlet_queues v.outputs) k ≡ Some q → is_here (place_loaded v) (0 + k) ≡ is_owed (items.sent q.0) (input_of (clients_of v) (0 + k) (bytes_carried (passed.taken v.input.queue.0)))
+  rx_owed v st k q at =
+      let z : k ≡ 0 + k = omega arith in
+      let put : length (passed.sent q.0) ≡ length (items.sent q.0) = sym (length-map (passed.sent q.0) (λ (c : Cargo). c.0)) ∙ ap length (h.sent q.0) in
+      let all : length (passed.sent q.0) + length (owed_to v.load v.to k) ≡ length (input_of (clients_of v) k (bytes_carried (passed.taken v.input.queue.0))) = sym (length-append (passed.sent q.0) (owed_to v.load v.to k)) ∙ (ap length (st.given k q at) ∙ length-map (input_of (clients_of v) k (bytes_carried (passed.taken v.input.queue.0))) byte_cargo) in
+      subst (λ i. is_here (place_loaded v) i ≡ nat_lt (length (items.sent q.0)) (length (input_of (clients_of v) i (bytes_carried (passed.taken v.input.queue.0))))) z (owed_here v.load v.to k (length (items.sent q.0)) (length (input_of (clients_of v) k (bytes_carried (passed.taken v.input.queue.0)))) (omega arith) (eqb_tells v.to k))
+
+  rx_meets : (v : SerialVirtRx) → FitsRx (end_at w) v → RxStandsFor v passed → Meet (end_at w) (rx_round v).posts (rx_round v).needs ((sheet scene (part_of (Kinds.SerialVirtRx v))).wants items)
+  rx_meets v f st =
+      let n : length (numbers (outlet_queues v.outputs)) ≡ clients_of v = simp length-map in
+      let heard : bytes_in (items.taken v.input.queue.0) ≡ bytes_carried (passed.taken v.input.queue.0) = sym (carried_in (passed.taken v.input.queue.0) ∙ ap bytes_in (h.taken v.input.queue.0)) in
+      rw (n, heard) (
+        record { needs = none_is v.load ∙ ap not (sym (owed_some v.to v.load (clients_of v) (bytes_carried (passed.taken v.input.queue.0)) 0 (outlet_queues v.outputs) items (λ some. (omega arith, let lt = st.to some in omega arith)) (rx_owed v st))); agrees = f.input },
+        shares_meet (end_at w) (place_loaded v) (clients_of v) (bytes_carried (passed.taken v.input.queue.0)) 0 v.outputs.ends.items items f.outputs.agrees (rx_owed v st),
+      )
+
+  tx_held : (v : SerialVirtTx) → TxStandsFor v passed → is_some v.load ≡ is_held v.output.queue.0 (numbers (intake_queues v.inputs)) items
+  tx_held v st =
+      let all : length (passed.sent v.output.queue.0 ++ option_to_list v.load) ≡ total (map (λ (q : QueueId). passed.taken q.0) (intake_queues v.inputs)) = merge_total _ _ st in
+      let put : length (passed.sent v.output.queue.0) ≡ length (items.sent v.output.queue.0) = sym (length-map (passed.sent v.output.queue.0) (λ (c : Cargo). c.0)) ∙ ap length (h.sent v.output.queue.0) in
+      held_is v.load (length (items.sent v.output.queue.0)) (taken_count (numbers (intake_queues v.inputs)) items) (let a = length-append (passed.sent v.output.queue.0) (option_to_list v.load) in let b = took_count (intake_queues v.inputs) in omega arith)
+    where
+      took_count : (qs : List QueueId) → total (map (λ (q : QueueId). passed.taken q.0) qs) ≡ taken_count (numbers qs) items
+      took_count [] = refl
+      took_count (q ∷ qs) =
+          let put : length (passed.taken q.0) ≡ length (items.taken q.0) = sym (length-map (passed.taken q.0) (λ (c : Cargo). c.0)) ∙ ap length (h.taken q.0) in
+          ap (λ n. n + total (map (λ (q : QueueId). passed.taken q.0) qs)) put ∙ ap (λ n. length (items.taken q.0) + n) (took_count qs)
+
+  tx_meets : (v : SerialVirtTx) → FitsTx (end_at w) v → TxStandsFor v passed → Meet (end_at w) (tx_round v).posts (tx_round v).needs ((sheet scene (part_of (Kinds.SerialVirtTx v))).wants items)
+  tx_meets v f st =
+      let held : is_some v.load ≡ is_held v.output.queue.0 (numbers (intake_queues v.inputs)) items = tx_held v st in
+      (record { needs = held; agrees = f.output }, inputs_meet (end_at w) (is_none v.load) (not (is_held v.output.queue.0 (numbers (intake_queues v.inputs)) items)) 0 v.inputs.ends.items (none_is v.load ∙ ap not held) f.inputs.agrees)
+
+  meets : (x : Actor) → FitsActor (end_at w) x → ActorStandsFor x passed → Meet (end_at w) (actor_round x).posts (actor_round x).needs ((sheet scene (part_of x)).wants items)
+  meets (Kinds.UartDevice x) f st = (record { needs = refl; agrees = f.input }, (record { needs = said x.terminal f st; agrees = f.output }, tt))
+  meets (Kinds.SerialClient x) f st = (record { needs = refl; agrees = f.input }, (record { needs = said x.terminal f st; agrees = f.output }, tt))
+  meets (Kinds.SerialVirtRx x) f st = rx_meets x f st
+  meets (Kinds.SerialVirtTx x) f st = tx_meets x f st
+  meets (Kinds.UartDriver x) f st = (
+    record { needs = free x.driver.pipes.first st.0; agrees = f.each.0.input },
+    (
+      record { needs = loaded x.driver.pipes.first st.0; agrees = f.each.0.output },
+      (
+        record { needs = free x.driver.pipes.rest st.1.0; agrees = f.each.1.0.input },
+        (record { needs = loaded x.driver.pipes.rest st.1.0; agrees = f.each.1.0.output }, tt),
+      ),
+    ),
+  )
+
+-- and is settled where history and journal say so
+module _ (history : History) (journal : List Entry) (w : List Queue) (bells : HaveBells w history journal) where
+  settled_here : (p : Post) (need : Bool) (x : Want) → Met (end_at w) p need x → is_settled p.state need ≡ want_settled history journal x
+  settled_here p need x m =
+      ap (is_settled p.state) m.needs
+      ∙ (state_settled (end_at w x.role x.queue) p.state x.need m.agrees
+      ∙ (same_settled (nat_lt x.queue (length w)) (queue_at w x.queue).kind (queue_at w x.queue).bells x.role x.need
+      ∙ ap (λ b. bells_settled b x.role x.need) (bells x.queue (there_if_owned w x.role x.queue m.agrees.owned))))
+
+  all_here : (ps : List Post) (needs : List Bool) (ws : List Want) → Meet (end_at w) ps needs ws → settled_all ps needs ≡ all_settled history journal ws
+  all_here [] [] [] m = refl
+  all_here [] [] (x ∷ ws) m = absurd m
+  all_here [] (n ∷ ns) ws m = absurd m
+  all_here (p ∷ ps) [] ws m = absurd m
+  all_here (p ∷ ps) (n ∷ ns) [] m = absurd m
+  all_here (p ∷ ps) (n ∷ ns) (x ∷ ws) m = both (settled_here p n x m.0) (all_here ps ns ws m.1)
+
+  -- an actor is at rest where its sheet's wants are settled
+  pub rests : (scene : Scene) (x : Actor) (passed : Passed) → FitsActor (end_at w) x → ActorStandsFor x passed → HaveItems passed (moved history journal) → actor_rests x ≡ all_settled history journal ((sheet scene (part_of x)).wants (moved history journal))
+  rests scene x passed fits stands has = rests_is x ∙ all_here (actor_round x).posts (actor_round x).needs ((sheet scene (part_of x)).wants (moved history journal)) (meets scene w passed (moved history journal) has x fits stands)

@@ -1,0 +1,105 @@
+use Rattle.std.proofs.Common.{◌≡◌, ℕ, Some, List, [], ◌∷◌, ◌++◌, map, take, drop, refl, sym, ap, ◌∙◌}
+use Rattle.std.specs.Option.{option_to_list}
+use Rattle.std.proofs.lemmas.List.{map-append, take-append-drop}
+use Rattle.cargo_core.specs.Lists.{IsPrefix}
+use Rattle.cargo_core.specs.declared.item.Item.TheVariants as ItemOf
+use Rattle.wire_core.specs.Deeds.{Cargo}
+use Rattle.wire_core.specs.Queues.{items_of}
+use Rattle.wire_core.specs.Lists.{Passed}
+use Rattle.serial_switch.specs.Carried.{byte_cargo}
+use Rattle.serial_terminal.specs.Terminals.{TerminalStandsFor}
+use Rattle.serial_terminal.specs.declared.Terminal.{Terminal}
+use Rattle.turn_kit.specs.Pipes.{PipeStandsFor}
+use Rattle.turn_kit.specs.declared.pipe.Pipe.{Pipe}
+use Rattle.std.proofs.Common.{◌==◌, ◌≤◌, Bool, true, false, if◌then◌else◌, Option, None, length, arith}
+use Rattle.std.proofs.lemmas.List.{length-map}
+use Rattle.wire_core.specs.declared.names.QueueId.{QueueId}
+use Rattle.turn_kit.specs.ManyEnds.{intake_queues, outlet_queues}
+use Rattle.serial_switch.specs.Carried.{bytes_carried, byte_of}
+use Rattle.serial_switch.specs.Switching.{input_of}
+use Rattle.serial_virt.specs.Receiving.{RxStandsFor, owed_to, clients_of}
+use Rattle.serial_virt.specs.declared.rx.SerialVirtRx.{SerialVirtRx}
+use Rattle.serial_virt.specs.Sending.{TxStandsFor}
+use Rattle.serial_virt.specs.declared.tx.SerialVirtTx.{SerialVirtTx}
+use Rattle.serial_law.specs.Bytes.{bytes_in, byte_items}
+use Rattle.actor_law.proofs.PartEnds.{queue_there}
+use Rattle.play_core.proofs.Merges.{merge_map}
+use Rattle.play_core.specs.Moved.{Moved}
+use Rattle.play_core.specs.Sheets.{Scene}
+use Rattle.actor_law.specs.Kinds.{sheet}
+use Rattle.actor_set.specs.Actors.{ActorStandsFor, part_of, numbers}
+use Rattle.actor_law.specs.Showing.{HaveItems}
+use Rattle.actor_law.specs.Records.{record_of, record_by}
+use Rattle.actor_set.specs.declared.actor.Actor.{Actor}
+use Rattle.actor_set.specs.declared.actor.Actor.TheVariants as Kinds
+
+pub items_of_bytes : (bs : List ℕ) → items_of (map byte_cargo bs) ≡ byte_items bs
+items_of_bytes [] = refl
+items_of_bytes (b ∷ bs) = ap (λ xs. ItemOf.Byte b ∷ xs) (items_of_bytes bs)
+
+one_few : (load : Option Cargo) → length (items_of (option_to_list load)) ≤ 1
+one_few None = omega arith
+one_few (Some c) = omega arith
+
+if_items : (b : Bool) (cs : List Cargo) → items_of (if b then cs else []) ≡ (if b then items_of cs else [])
+if_items true cs = refl
+if_items false cs = refl
+
+-- the bytes that entries carry are those of their items
+pub carried_in : (cs : List Cargo) → bytes_carried cs ≡ bytes_in (items_of cs)
+carried_in [] = refl
+carried_in (c ∷ cs) = ap (λ bs. byte_of c.0 ++ bs) (carried_in cs)
+
+split_at : (n : ℕ) (bs : List ℕ) → byte_items (take n bs) ++ byte_items (drop n bs) ≡ byte_items bs
+split_at n bs = sym (map-append (λ b. ItemOf.Byte b) (take n bs) (drop n bs)) ∙ ap byte_items (take-append-drop n bs)
+
+module _ (scene : Scene) (passed : Passed) (items : Moved) (h : HaveItems passed items) where
+  terminal_row : (t : Terminal) → TerminalStandsFor t passed → IsPrefix (items.sent t.output.queue.0) (byte_items t.script)
+  terminal_row t f = (byte_items (drop t.next t.script), rw (← h.sent t.output.queue.0, f.sent_is, items_of_bytes (take t.next t.script)) (split_at t.next t.script))
+
+  pipe_row : (p : Pipe) → PipeStandsFor p passed → IsPrefix (items.sent p.output.queue.0) (items.taken p.input.queue.0)
+  pipe_row p f = (items_of (option_to_list p.load), rw (← h.sent p.output.queue.0, ← h.taken p.input.queue.0, f) (sym (map-append (λ (c : Cargo). c.0) (passed.sent p.output.queue.0) (option_to_list p.load))))
+
+  -- the bytes that entries carry are those of their items
+  rx_row : (v : SerialVirtRx) → RxStandsFor v passed → (sheet scene (part_of (Kinds.SerialVirtRx v))).row (items)
+  rx_row v f = record {
+    owner = v.to;
+    owed = items_of (option_to_list v.load);
+    few = one_few v.load;
+    given = λ c q at.
+        let m = queue_there (outlet_queues v.outputs) c q at in
+        let heard : bytes_carried (passed.taken v.input.queue.0) ≡ bytes_in (items.taken v.input.queue.0) = carried_in (passed.taken v.input.queue.0) ∙ ap bytes_in (h.taken v.input.queue.0) in
+        let put : items_of (passed.sent m.0.0) ≡ (items.sent q) = h.sent m.0.0 ∙ ap (λ n. items.sent n) (sym m.2) in
+        rw (← put, ← heard, ← if_items (v.to == c) (option_to_list v.load), length-map) (sym (map-append (λ (x : Cargo). x.0) (passed.sent m.0.0) (owed_to v.load v.to c)) ∙ (ap items_of (f.given c m.0 m.1) ∙ items_of_bytes (input_of (clients_of v) c (bytes_carried (passed.taken v.input.queue.0)))));
+  }
+
+  tx_row : (v : SerialVirtTx) → TxStandsFor v passed → (sheet scene (part_of (Kinds.SerialVirtTx v))).row (items)
+  tx_row v f = record {
+    owed = items_of (option_to_list v.load);
+    few = one_few v.load;
+    merged =
+        let all : map items_of (map (λ (q : QueueId). passed.taken q.0) (intake_queues v.inputs)) ≡ map (λ n. items.taken n) (numbers (intake_queues v.inputs)) = taken_alike (intake_queues v.inputs) in
+        let put : items_of (passed.sent v.output.queue.0 ++ option_to_list v.load) ≡ (items.sent v.output.queue.0) ++ items_of (option_to_list v.load) = map-append (λ (x : Cargo). x.0) (passed.sent v.output.queue.0) (option_to_list v.load) ∙ ap (λ s. s ++ items_of (option_to_list v.load)) (h.sent v.output.queue.0) in
+        rw (← all, ← put) (merge_map (λ (x : Cargo). x.0) (map (λ (q : QueueId). passed.taken q.0) (intake_queues v.inputs)) (passed.sent v.output.queue.0 ++ option_to_list v.load) f);
+  }
+    where
+      taken_alike : (qs : List QueueId) → map items_of (map (λ (q : QueueId). passed.taken q.0) qs) ≡ map (λ n. items.taken n) (numbers qs)
+      taken_alike [] = refl
+      taken_alike (q ∷ qs) = ap (λ l. l ∷ map items_of (map (λ (q : QueueId). passed.taken q.0) qs)) (h.taken q.0) ∙ ap (λ ls. (items.taken q.0) ∷ ls) (taken_alike qs)
+
+  -- the row of its sheet
+  pub actor_row : (x : Actor) → ActorStandsFor x passed → (sheet scene (part_of x)).row (items)
+  actor_row (Kinds.UartDevice x) f = terminal_row x.terminal f
+  actor_row (Kinds.SerialClient x) f = terminal_row x.terminal f
+  actor_row (Kinds.SerialVirtRx x) f = rx_row x f
+  actor_row (Kinds.SerialVirtTx x) f = tx_row x f
+  actor_row (Kinds.UartDriver x) f = (pipe_row x.driver.pipes.first f.0, pipe_row x.driver.pipes.rest f.1.0)
+
+module _ (passed : Passed) (items : Moved) (h : HaveItems passed items) where
+  -- what it recorded is what the items say of its part
+  pub heard_here : (x : Actor) → ActorStandsFor x passed → record_of x ≡ record_by items (part_of x)
+  heard_here (Kinds.UartDevice x) st = st.record_is ∙ (carried_in (passed.taken x.terminal.input.queue.0) ∙ ap bytes_in (h.taken x.terminal.input.queue.0))
+  heard_here (Kinds.SerialClient x) st = st.record_is ∙ (carried_in (passed.taken x.terminal.input.queue.0) ∙ ap bytes_in (h.taken x.terminal.input.queue.0))
+  heard_here (Kinds.UartDriver x) st = refl
+  heard_here (Kinds.SerialVirtRx x) st = refl
+  heard_here (Kinds.SerialVirtTx x) st = refl

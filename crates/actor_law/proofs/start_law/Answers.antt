@@ -1,0 +1,15 @@
+use Rattle.actor_law.proofs.Paces.{start_round}
+use Rattle.actor_law.proofs.Starts.{new_stands, new_hand, new_fits}
+use Rattle.actor_law.proofs.start_law.Goals as goal
+
+pub returns-clause-stands : goal.returns-clause-stands
+returns-clause-stands c = new_stands
+
+pub returns-clause-hand : goal.returns-clause-hand
+returns-clause-hand c = new_hand
+
+pub returns-clause-fits : goal.returns-clause-fits
+returns-clause-fits c = new_fits
+
+pub returns-clause-round : goal.returns-clause-round
+returns-clause-round c = start_round
