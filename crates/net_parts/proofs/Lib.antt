@@ -8,3 +8,4 @@ pub mod Items
 pub mod Leasing
 pub mod Owning
 pub mod Turning
+pub mod Numbering

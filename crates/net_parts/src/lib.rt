@@ -3,7 +3,7 @@
 //! comes out of turn.
 #![tactic(auto)]
 
-ghost use Rattle.std.specs.Prelude.{◌≡◌, ℕ, Some, List, [], slice_get};
+ghost use Rattle.std.specs.Prelude.{◌≡◌, ℕ, Some, List, [], length, slice_get};
 ghost use Rattle.cargo_core.specs.Lists.{IsPrefix};
 ghost use Rattle.frame_core.specs.declared.mac.Mac.{Mac};
 ghost use Rattle.wire_core.specs.Deeds.{Cargo};
@@ -25,13 +25,14 @@ ghost use Rattle.net_copier.specs.Copying.{CopierRow};
 ghost use Rattle.net_copier.specs.declared.NetCopier.{NetCopier};
 ghost use Rattle.net_virt_rx.specs.Receiving.{RxRow};
 ghost use Rattle.net_virt_rx.specs.declared.NetVirtRx.{NetVirtRx};
-ghost use Rattle.net_owners.specs.Names.{PoolAt};
+ghost use Rattle.net_owners.specs.Names.{PoolAt, ClientPools};
 ghost use Rattle.net_owners.specs.Ends.{AreItemsOf};
 ghost use Rattle.net_rx_owners.specs.Virtualiser.{TakesFrames};
 ghost use Rattle.net_parts.specs.Parts.{NetPart};
 ghost use Rattle.net_parts.specs.Rows.{frame_at};
 ghost use Rattle.net_parts.specs.Table.{net_sheet};
 ghost use Rattle.net_parts.specs.Naming.{NamesPart};
+ghost use Rattle.net_parts.specs.Numbers.{device_at, driver_at, receiver_at, copier_at, sink_at, layout_naming};
 ghost use Rattle.net_parts.specs.Playing.{device_part, driver_part, copier_part, sink_part, receiver_part, AreLeases};
 ghost use Rattle.net_parts.specs.Turning.{IsReceiveHalf, IsClient};
 
@@ -94,4 +95,22 @@ pub fn turn_law()
         (copiers : List NetCopier) (passed : Passed) → IsReceiveHalf d p v copiers passed
         → (k : ℕ) (mac : Mac) (c : NetClient) → IsClient v copiers k mac c passed
         → IsPrefix c.frames.tape.shown (frames_for mac d.frames) }
+{}
+
+/// By the layout's table, where the network's queues are the first, items name at each actor's
+/// queues what the owners of buffers ask.
+pub fn name_law()
+    ensures device { (scene : Scene) (pool : PoolAt) (macs : List Mac) (pools : List ClientPools)
+        → NamesPart (layout_naming scene pool macs pools) scene (device_at 0) }
+    ensures driver { (scene : Scene) (pool : PoolAt) (macs : List Mac) (pools : List ClientPools)
+        → NamesPart (layout_naming scene pool macs pools) scene (driver_at 0) }
+    ensures receiver { (scene : Scene) (pool : PoolAt) (macs : List Mac) (pools : List ClientPools)
+        → length macs ≡ length pools
+        → NamesPart (layout_naming scene pool macs pools) scene (receiver_at 0 pool macs) }
+    ensures copier { (scene : Scene) (pool : PoolAt) (macs : List Mac) (pools : List ClientPools)
+        (k : ℕ) (p : ClientPools) → slice_get pools k ≡ Some p
+        → NamesPart (layout_naming scene pool macs pools) scene (copier_at 0 k) }
+    ensures sink { (scene : Scene) (pool : PoolAt) (macs : List Mac) (pools : List ClientPools)
+        (k : ℕ) (p : ClientPools) → slice_get pools k ≡ Some p
+        → NamesPart (layout_naming scene pool macs pools) scene (sink_at 0 k p) }
 {}

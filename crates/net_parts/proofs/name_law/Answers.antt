@@ -1,0 +1,17 @@
+use Rattle.net_parts.proofs.Numbering.{device_named, driver_named, receiver_named, copier_named, sink_named}
+use Rattle.net_parts.proofs.name_law.Goals as goal
+
+pub returns-clause-device : goal.returns-clause-device
+returns-clause-device c = device_named
+
+pub returns-clause-driver : goal.returns-clause-driver
+returns-clause-driver c = driver_named
+
+pub returns-clause-receiver : goal.returns-clause-receiver
+returns-clause-receiver c = receiver_named
+
+pub returns-clause-copier : goal.returns-clause-copier
+returns-clause-copier c = copier_named
+
+pub returns-clause-sink : goal.returns-clause-sink
+returns-clause-sink c = sink_named
