@@ -1,0 +1,5 @@
+pub mod Counting
+pub mod Merging
+pub mod Moving
+pub mod Serving
+pub mod Owning

@@ -1,0 +1,75 @@
+//! Which descriptors of a client are good, and the addresses of their buffers on either side.
+ghost use Rattle.std.specs.Prelude.{◌≡◌, ◌+◌, ◌*◌, ◌≤◌, ◌<◌, ◌^◌};
+ghost use Rattle.net_kit.specs.Entries.{addr_of};
+ghost use Rattle.net_virt_tx.specs.Descriptors.{is_good, to_device, to_client, with_addr};
+
+use cargo_core::{Body, Item, NetDesc, PoolId};
+use net_kit::{address, told_length};
+
+/// The size of a network buffer, in bytes.
+pub const BUFFER_SIZE: u64 = 2048;
+
+/// The shortest and the longest frame, in bytes.
+const SHORTEST: u16 = 14;
+
+const LONGEST: u16 = 1514;
+
+/// A client that sends: the pool of its buffers, how many there are, and the device address at
+/// which the first one begins.
+#[derive(Clone, Copy, Debug, PartialEq, Eq)]
+pub struct Sender {
+    pub pool: PoolId,
+    pub buffers: u32,
+    pub base: u64,
+}
+
+impl Sender {
+    /// Whether a descriptor of the client is good.
+    pub fn is_good(&self, entry: &(Item, Body)) -> bool
+        ensures { result ≡ is_good self.now.pool self.now.buffers 2048 entry.now }
+    {
+        match &entry.1 {
+            Body::Page(page) => {
+                page.pool().0 == self.pool.0
+                    && page.no() < self.buffers
+                    && address(&entry.0) == page.no() as u64 * BUFFER_SIZE
+                    && SHORTEST <= told_length(&entry.0)
+                    && told_length(&entry.0) <= LONGEST
+            }
+            _ => false,
+        }
+    }
+}
+
+// The same item with another address.
+fn with_address(item: Item, addr: u64) -> Item
+    ensures { result ≡ with_addr addr item }
+{
+    match item {
+        Item::Net(desc) => Item::Net(NetDesc {
+            addr,
+            len: desc.len,
+        }),
+        other => other,
+    }
+}
+
+/// An entry with the device address of its buffer, where the client's range begins at `base`.
+pub fn to_device(entry: (Item, Body), base: u64) -> (Item, Body)
+    requires { base + addr_of entry.0 < 2 ^ 64 }
+    ensures { result ≡ to_device base entry }
+{
+    let (item, body) = entry;
+    let addr = base + address(&item);
+    (with_address(item, addr), body)
+}
+
+/// An entry with the offset of its buffer in the client's range, which begins at `base`.
+pub fn to_client(entry: (Item, Body), base: u64) -> (Item, Body)
+    requires { base ≤ addr_of entry.0 }
+    ensures { result ≡ to_client base entry }
+{
+    let (item, body) = entry;
+    let addr = address(&item) - base;
+    (with_address(item, addr), body)
+}
