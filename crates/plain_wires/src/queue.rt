@@ -5,11 +5,12 @@ ghost use Rattle.cargo_core.specs.Items.{kind_of};
 ghost use Rattle.wire_core.specs.Deeds.{answer_of};
 ghost use Rattle.wire_core.specs.Ends.{Condition, Consumer, Producer};
 ghost use Rattle.wire_core.specs.Queues.{Queue, queue_after, start_queue, end_of, bell_of, with_bell, is_filled, has_room};
+ghost use Rattle.cargo_core.specs.Capacities.{IsCapacity};
 ghost use Rattle.plain_wires.specs.Pendings.{waiting_actor};
 
+use crate::slots::Slots;
 use cargo_core::{Body, Item, Memory, QueueKind};
 use std::alloc::Global;
-use std::collections::VecDeque;
 use std::marker::Model;
 use wire_core::{ActorId, Answer, BellState, Op, QueueRow, Ringer, Side, Waiter};
 
@@ -17,10 +18,9 @@ use wire_core::{ActorId, Answer, BellState, Op, QueueRow, Ringer, Side, Waiter};
 #[derive(Drop)]
 pub struct PlainQueue {
     kind: QueueKind,
-    capacity: u32,
     producer: ActorId,
     consumer: ActorId,
-    cargo: VecDeque<(Item, Body)>,
+    cargo: Slots,
     front: BellState,
     back: BellState,
     saw: bool,
@@ -42,14 +42,14 @@ impl Model for PlainQueue {
 impl PlainQueue {
     /// The queue of a row in its start state, with its room taken.
     pub fn new(alloc: Global, row: &QueueRow) -> Result<PlainQueue, Memory>
+        requires { IsCapacity row.now.capacity }
         ensures { IfOk result (λ l. l ≡ start_queue row.now) }
     {
         Ok(PlainQueue {
             kind: row.kind,
-            capacity: row.capacity,
             producer: row.producer,
             consumer: row.consumer,
-            cargo: VecDeque::with_capacity(alloc, row.capacity as usize)?,
+            cargo: Slots::new(alloc, row.capacity as u16)?,
             front: BellState {
                 flag: false,
                 pending: false,
@@ -71,7 +71,7 @@ impl PlainQueue {
     pub fn len(&self) -> u32
         ensures { result ≡ length self.now.entries }
     {
-        self.cargo.len() as u32
+        u32::from(self.cargo.len())
     }
 
     /// The actor that waits on a bell: forward the consumer, backward the producer.
@@ -117,7 +117,7 @@ impl PlainQueue {
         ensures now { result ≡ has_room self.old }
         ensures after { self.new ≡ queue_after self.old Op.Room (answer_of result) [] }
     {
-        self.free = self.cargo.len() < self.capacity as usize;
+        self.free = !self.cargo.is_full();
         if !self.free && self.back.waiter == Waiter::Asked {
             self.back.waiter = Waiter::Clear;
         }
@@ -133,7 +133,7 @@ impl PlainQueue {
     {
         self.saw = false;
         self.back.ringer = Ringer::Put;
-        self.cargo.pop_front().unwrap()
+        self.cargo.pop()
     }
 
     pub fn put(&mut self, item: Item, body: Body)
@@ -144,7 +144,7 @@ impl PlainQueue {
     {
         self.free = false;
         self.front.ringer = Ringer::Put;
-        self.cargo.push_back_reserved((item, body));
+        self.cargo.push((item, body));
     }
 
     pub fn ask(&mut self, side: Side)

@@ -128,13 +128,14 @@ fn wake(world: &mut World, side: Side) -> bool
     world.wake(Q, side)
 }
 
-// 1, 2, and the largest capacity.
+// 1, 2, 16, and the largest capacity.
 fn capacity(size: u8) -> u32
     ensures { IsCapacity result }
 {
     match size {
         0 => 1,
         1 => 2,
+        2 => 16,
         _ => 32_768,
     }
 }
@@ -145,6 +146,51 @@ fn one_queue(alloc: Global, size: u8) -> Result<World, Fail>
 {
     let rows = [row(alloc, capacity(size))?];
     Ok(World::new(alloc, &rows)?)
+}
+
+// Puts and takes so many entries one by one; whether each was put and came out.
+fn passes(world: &mut World, count: u32) -> bool
+    requires there { 0 < length world.old }
+    requires byte { (end_at world.old Producer 0).kind ≡ QueueKind.Byte }
+    ensures len { length world.new ≡ length world.old }
+    ensures kind { (end_at world.new Producer 0).kind ≡ (end_at world.old Producer 0).kind }
+{
+    let mut byte = 0u8;
+    for _ in 0..count {
+        if put(world, byte) != Some(true) || take(world) != Some(Item::Byte(byte)) {
+            return false;
+        }
+        byte = byte.wrapping_add(1);
+    }
+    true
+}
+
+// Fills an empty queue, tries one entry more, and takes all; whether that one was refused, and the
+// others came out in order.
+fn fills_and_empties(world: &mut World, capacity: u32) -> bool
+    requires there { 0 < length world.old }
+    requires byte { (end_at world.old Producer 0).kind ≡ QueueKind.Byte }
+    ensures len { length world.new ≡ length world.old }
+    ensures kind { (end_at world.new Producer 0).kind ≡ (end_at world.old Producer 0).kind }
+{
+    let mut byte = 0u8;
+    for _ in 0..capacity {
+        if put(world, byte) != Some(true) {
+            return false;
+        }
+        byte = byte.wrapping_add(1);
+    }
+    if put(world, 0) != Some(false) || world.len(Q) != capacity {
+        return false;
+    }
+    byte = 0;
+    for _ in 0..capacity {
+        if take(world) != Some(Item::Byte(byte)) {
+            return false;
+        }
+        byte = byte.wrapping_add(1);
+    }
+    see(world) == Some(false)
 }
 
 #[test]
@@ -189,19 +235,15 @@ fn a_producer_that_asked_for_room_is_notified(rt: HostRuntime) -> Result<(), Fai
 }
 
 #[test]
-fn the_largest_queue_is_filled_and_emptied(rt: HostRuntime) -> Result<(), Fail> {
-    let mut world = one_queue(rt.alloc(), 2)?;
-    let mut byte = 0u8;
-    for _ in 0..32_768 {
-        assert_eq!(rt; put(&mut world, byte), Some(true));
-        byte = byte.wrapping_add(1);
+fn a_queue_is_filled_and_emptied_wherever_its_indices_are(rt: HostRuntime) -> Result<(), Fail> {
+    let mut largest = one_queue(rt.alloc(), 3)?;
+    assert!(rt; fills_and_empties(&mut largest, 32_768));
+    let mut late = one_queue(rt.alloc(), 3)?;
+    assert!(rt; passes(&mut late, 40_000));
+    assert!(rt; fills_and_empties(&mut late, 32_768));
+    let mut small = one_queue(rt.alloc(), 2)?;
+    for _ in 0..4_375 {
+        assert!(rt; fills_and_empties(&mut small, 16));
     }
-    assert_eq!(rt; put(&mut world, 0), Some(false));
-    assert_eq!(rt; world.len(Q), 32_768);
-    for _ in 0..32_768 {
-        assert_eq!(rt; take(&mut world), Some(Item::Byte(byte)));
-        byte = byte.wrapping_add(1);
-    }
-    assert_eq!(rt; see(&mut world), Some(false));
     Ok(())
 }
