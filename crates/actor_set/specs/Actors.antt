@@ -40,7 +40,8 @@ ActorRow (Kinds.SerialVirtRx x) passed = RxRow x passed
 ActorRow (Kinds.SerialVirtTx x) passed = TxRow x passed
 ActorRow (Kinds.SerialClient x) passed = TerminalRow x.terminal passed
 
--- what it had at the start and what came is what went, what is in its hand, and what it keeps for good or lends
+-- what it had at the start and what came is what went, what is in its hand, and what it keeps for
+-- good or lends
 abbrev pub ActorBalances : Actor → Passed → Type 0
 ActorBalances (Kinds.UartDevice x) passed = TerminalBalances x.terminal passed
 ActorBalances (Kinds.UartDriver x) passed = PipesBalance (two_pipes x.driver.pipes) passed
@@ -64,8 +65,8 @@ actor_round (Kinds.SerialVirtRx x) = rx_round x
 actor_round (Kinds.SerialVirtTx x) = tx_round x
 actor_round (Kinds.SerialClient x) = terminal_round x.terminal
 
--- nothing is to be done before a notification comes: each of these kinds says it of its ends, and a kind without such ends
--- would say it otherwise
+-- nothing is to be done before a notification comes: each of these kinds says it of its ends, and a
+-- kind without such ends would say it otherwise
 abbrev pub actor_rests : Actor → Bool
 actor_rests (Kinds.UartDevice x) = is_at_rest (terminal_round x.terminal)
 actor_rests (Kinds.UartDriver x) = is_at_rest (pipes_round

@@ -60,7 +60,8 @@ impl Actor {
         }
     }
 
-    /// Makes one call on one of its ends. After want of memory no call was made and nothing changed.
+    /// Makes one call on one of its ends. After want of memory no call was made and nothing
+    /// changed.
     pub fn step<W: Wires>(&mut self, wires: &mut W) -> Result<Event, Memory>
         requires { FitsActor (W.ends wires.old) self.old }
         ensures fits { FitsActor (W.ends wires.new) self.new }
@@ -110,8 +111,8 @@ pub fn row_law()
     serial_virt::tx_row_law();
 }
 
-/// For each pool, what an actor had at the start and what came is what went, what is in its hand, and what it keeps for
-/// good or lends.
+/// For each pool, what an actor had at the start and what came is what went, what is in its hand,
+/// and what it keeps for good or lends.
 pub fn hand_law()
     ensures { (a : Actor) (passed : Passed) → ActorStandsFor a passed → ActorBalances a passed }
 {

@@ -28,7 +28,8 @@ fn row(alloc: Global) -> Result<QueueRow, Memory>
     })
 }
 
-// Whether an actor has looks to make, before they are forgotten and after, and has recorded nothing.
+// Whether an actor has looks to make, before they are forgotten and after, and has recorded
+// nothing.
 fn has_looks_to_make(mut actor: Actor) -> bool {
     let rested = actor.at_rest();
     actor.forget();

@@ -122,7 +122,9 @@ device_forgotten d = record d {
   wire = record d.wire {
     pipe = record d.wire.pipe {
       input = record d.wire.pipe.input { state = record d.wire.pipe.input.state { look = None } };
-      output = record d.wire.pipe.output { state = record d.wire.pipe.output.state { look = None } };
+      output = record d.wire.pipe.output {
+        state = record d.wire.pipe.output.state { look = None };
+      };
     };
   };
 }

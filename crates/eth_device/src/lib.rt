@@ -121,7 +121,8 @@ impl EthDevice {
         ensures fits { FitsDevice (W.ends wires.new) self.new }
         ensures own { DeviceEnd self.old (role_of result.op) result.queue.0 }
         ensures same { SameDevice self.old self.new }
-        ensures stepped { Stepped DeviceStandsFor W.did wires.old wires.new self.old self.new result }
+        ensures stepped { Stepped DeviceStandsFor W.did wires.old wires.new
+            self.old self.new result }
         ensures posted { Posted (intake_post self.old.free) (is_filling self.old) result
             (intake_post self.new.free) }
         ensures still { is_mark result.op result.answer ≡ false → self.new.load ≡ self.old.load }
@@ -145,7 +146,8 @@ impl EthDevice {
         ensures fits { FitsDevice (W.ends wires.new) self.new }
         ensures own { DeviceEnd self.old (role_of result.op) result.queue.0 }
         ensures same { SameDevice self.old self.new }
-        ensures stepped { Stepped DeviceStandsFor W.did wires.old wires.new self.old self.new result }
+        ensures stepped { Stepped DeviceStandsFor W.did wires.old wires.new
+            self.old self.new result }
         ensures posted { Posted (outlet_post self.old.active) (is_some self.old.load) result
             (outlet_post self.new.active) }
         ensures still { is_mark result.op result.answer ≡ false → self.new.load ≡ self.old.load }
@@ -163,7 +165,8 @@ impl EthDevice {
         ensures fits { FitsDevice (W.ends wires.new) self.new }
         ensures own { DeviceEnd self.old (role_of result.op) result.queue.0 }
         ensures same { SameDevice self.old self.new }
-        ensures stepped { Stepped DeviceStandsFor W.did wires.old wires.new self.old self.new result }
+        ensures stepped { Stepped DeviceStandsFor W.did wires.old wires.new
+            self.old self.new result }
         ensures posted { Posted (intake_post self.old.wire.pipe.input)
             (is_none self.old.wire.pipe.load) result (intake_post self.new.wire.pipe.input) }
         ensures still { is_mark result.op result.answer ≡ false → self.new.wire.pipe.load
@@ -180,7 +183,8 @@ impl EthDevice {
         ensures fits { FitsDevice (W.ends wires.new) self.new }
         ensures own { DeviceEnd self.old (role_of result.op) result.queue.0 }
         ensures same { SameDevice self.old self.new }
-        ensures stepped { Stepped DeviceStandsFor W.did wires.old wires.new self.old self.new result }
+        ensures stepped { Stepped DeviceStandsFor W.did wires.old wires.new
+            self.old self.new result }
         ensures posted { Posted (outlet_post self.old.wire.pipe.output)
             (is_some self.old.wire.pipe.load) result (outlet_post self.new.wire.pipe.output) }
         ensures still { is_mark result.op result.answer ≡ false → self.new.wire.pipe.load

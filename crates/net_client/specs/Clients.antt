@@ -128,8 +128,12 @@ abbrev pub client_forgotten : NetClient → NetClient
 client_forgotten c = record c {
   frames = record c.frames {
     pipe = record c.frames.pipe {
-      input = record c.frames.pipe.input { state = record c.frames.pipe.input.state { look = None } };
-      output = record c.frames.pipe.output { state = record c.frames.pipe.output.state { look = None } };
+      input = record c.frames.pipe.input {
+        state = record c.frames.pipe.input.state { look = None };
+      };
+      output = record c.frames.pipe.output {
+        state = record c.frames.pipe.output.state { look = None };
+      };
     };
   };
   sent = record c.sent { state = record c.sent.state { look = None } };

@@ -129,7 +129,8 @@ impl NetClient {
         ensures fits { FitsClient (W.ends wires.new) self.new }
         ensures own { ClientEnd self.old (role_of result.op) result.queue.0 }
         ensures same { SameClient self.old self.new }
-        ensures stepped { Stepped ClientStandsFor W.did wires.old wires.new self.old self.new result }
+        ensures stepped { Stepped ClientStandsFor W.did wires.old wires.new
+            self.old self.new result }
         ensures posted { Posted (intake_post self.old.frames.pipe.input)
             (is_none self.old.frames.pipe.load) result (intake_post self.new.frames.pipe.input) }
         ensures still { is_mark result.op result.answer ≡ false → self.new.frames.pipe.load
@@ -147,7 +148,8 @@ impl NetClient {
         ensures fits { FitsClient (W.ends wires.new) self.new }
         ensures own { ClientEnd self.old (role_of result.op) result.queue.0 }
         ensures same { SameClient self.old self.new }
-        ensures stepped { Stepped ClientStandsFor W.did wires.old wires.new self.old self.new result }
+        ensures stepped { Stepped ClientStandsFor W.did wires.old wires.new
+            self.old self.new result }
         ensures posted { Posted (outlet_post self.old.frames.pipe.output)
             (is_giving self.old) result (outlet_post self.new.frames.pipe.output) }
         ensures load { is_mark result.op result.answer ≡ false → self.new.frames.pipe.load
@@ -174,7 +176,8 @@ impl NetClient {
         ensures fits { FitsClient (W.ends wires.new) self.new }
         ensures own { ClientEnd self.old (role_of result.op) result.queue.0 }
         ensures same { SameClient self.old self.new }
-        ensures stepped { Stepped ClientStandsFor W.did wires.old wires.new self.old self.new result }
+        ensures stepped { Stepped ClientStandsFor W.did wires.old wires.new
+            self.old self.new result }
         ensures posted { Posted (intake_post self.old.sent) false result
             (intake_post self.new.sent) }
         ensures others { self.new ≡ record self.old { sent = self.new.sent } }
@@ -189,7 +192,8 @@ impl NetClient {
         ensures fits { FitsClient (W.ends wires.new) self.new }
         ensures own { ClientEnd self.old (role_of result.op) result.queue.0 }
         ensures same { SameClient self.old self.new }
-        ensures stepped { Stepped ClientStandsFor W.did wires.old wires.new self.old self.new result }
+        ensures stepped { Stepped ClientStandsFor W.did wires.old wires.new
+            self.old self.new result }
         ensures posted { Posted (outlet_post self.old.send) false result
             (outlet_post self.new.send) }
         ensures others { self.new ≡ record self.old { send = self.new.send } }

@@ -168,7 +168,8 @@ impl NetCopier {
         ensures fits { FitsCopier (W.ends wires.new) self.new }
         ensures own { CopierEnd self.old (role_of result.op) result.queue.0 }
         ensures same { SameCopier self.old self.new }
-        ensures stepped { Stepped CopierStandsFor W.did wires.old wires.new self.old self.new result }
+        ensures stepped { Stepped CopierStandsFor W.did wires.old wires.new
+            self.old self.new result }
         ensures posted { Posted (intake_post self.old.lease_input)
             (is_none self.old.lease) result (intake_post self.new.lease_input) }
         ensures still { is_mark result.op result.answer ≡ false → SameWork self.old self.new }
@@ -189,7 +190,8 @@ impl NetCopier {
         ensures fits { FitsCopier (W.ends wires.new) self.new }
         ensures own { CopierEnd self.old (role_of result.op) result.queue.0 }
         ensures same { SameCopier self.old self.new }
-        ensures stepped { Stepped CopierStandsFor W.did wires.old wires.new self.old self.new result }
+        ensures stepped { Stepped CopierStandsFor W.did wires.old wires.new
+            self.old self.new result }
         ensures posted { Posted (intake_post self.old.buffer_input) (is_wanting self.old) result
             (intake_post self.new.buffer_input) }
         ensures still { is_mark result.op result.answer ≡ false → SameWork self.old self.new }
@@ -211,7 +213,8 @@ impl NetCopier {
         ensures fits { FitsCopier (W.ends wires.new) self.new }
         ensures own { CopierEnd self.old (role_of result.op) result.queue.0 }
         ensures same { SameCopier self.old self.new }
-        ensures stepped { Stepped CopierStandsFor W.did wires.old wires.new self.old self.new result }
+        ensures stepped { Stepped CopierStandsFor W.did wires.old wires.new
+            self.old self.new result }
         ensures posted { Posted (outlet_post self.old.buffer_output)
             (is_some self.old.buffer) result (outlet_post self.new.buffer_output) }
         ensures still { is_mark result.op result.answer ≡ false → SameWork self.old self.new }
@@ -232,7 +235,8 @@ impl NetCopier {
         ensures fits { FitsCopier (W.ends wires.new) self.new }
         ensures own { CopierEnd self.old (role_of result.op) result.queue.0 }
         ensures same { SameCopier self.old self.new }
-        ensures stepped { Stepped CopierStandsFor W.did wires.old wires.new self.old self.new result }
+        ensures stepped { Stepped CopierStandsFor W.did wires.old wires.new
+            self.old self.new result }
         ensures posted { Posted (outlet_post self.old.lease_output)
             (is_returning self.old) result (outlet_post self.new.lease_output) }
         ensures still { is_mark result.op result.answer ≡ false → SameWork self.old self.new }
@@ -253,7 +257,8 @@ impl NetCopier {
         ensures fits { FitsCopier (W.ends wires.new) self.new }
         ensures own { CopierEnd self.old (role_of result.op) result.queue.0 }
         ensures same { SameCopier self.old self.new }
-        ensures stepped { Stepped CopierStandsFor W.did wires.old wires.new self.old self.new result }
+        ensures stepped { Stepped CopierStandsFor W.did wires.old wires.new
+            self.old self.new result }
         ensures turned { Turned (copier_round self.old) result (copier_round self.new) }
     {
         match self.choose() {

@@ -11,9 +11,9 @@ use std::alloc::Global;
 use std::marker::Model;
 use wire_core::{ActorId, BellState, Op, QueueId, QueueRow, Side, Wires};
 
-/// All queues, each with what stands in it and its two bells: contracts see the list of them in full. Each of the ten
-/// calls takes constant time and no memory, is the next event of the queue law, the bell law and the discipline on its
-/// queue, and changes no other.
+/// All queues, each with what stands in it and its two bells: contracts see the list of them in
+/// full. Each of the ten calls takes constant time and no memory, is the next event of the queue
+/// law, the bell law and the discipline on its queue, and changes no other.
 #[derive(Drop)]
 pub struct World {
     queues: Vec<PlainQueue>,
@@ -57,7 +57,8 @@ fn none_pending(alloc: Global, rows: &[QueueRow]) -> Result<Vec<u64>, Memory>
 }
 
 impl World {
-    /// Every queue in its start state, with its room taken. Memory is the answer for want of memory alone.
+    /// Every queue in its start state, with its room taken. Memory is the answer for want of memory
+    /// alone.
     pub fn new(alloc: Global, rows: &[QueueRow]) -> Result<World, Memory>
         requires { AreSized rows.now }
         ensures { IfOk result (λ w. w ≡ starts rows.now) }
@@ -81,8 +82,8 @@ impl World {
         queue.len()
     }
 
-    /// Whether a pending word of one of the actor's waiters is 1: forward where it is the queue's consumer, backward
-    /// where it is its producer.
+    /// Whether a pending word of one of the actor's waiters is 1: forward where it is the queue's
+    /// consumer, backward where it is its producer.
     pub fn is_pending(&self, actor: ActorId) -> bool
         ensures { result ≡ is_pending actor.0 self.now }
     {
