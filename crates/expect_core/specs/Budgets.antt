@@ -9,6 +9,8 @@ use Rattle.sdf_plan.specs.declared.plan.Serial.{Serial}
 use Rattle.sdf_plan.specs.declared.plan.Blk.{Blk}
 use Rattle.trace_text.specs.declared.trace.Trace.{Trace}
 use Rattle.expect_core.specs.declared.counts.ClassCounts.{ClassCounts}
+use Rattle.trace_text.specs.Events.{net_clients}
+use Rattle.trace_text.specs.Limits.{lines_most, stream_most}
 
 -- how many clients a class has; none where it isn't there
 abbrev pub clients_or_none : Option ℕ → ℕ
@@ -66,10 +68,6 @@ most_ends c = max (net_ends c.net) (max (serial_ends c.serial) (blk_ends c.blk))
 abbrev pub budget_from : ClassCounts → ℕ
 budget_from c = 32 * (hops_of c + actors_of c + 1) * (most_ends c + 1)
 
--- the clients of the network class: none where the plan lacks it
-abbrev pub net_clients : Plan → List NetClient
-net_clients plan = option_map_or (λ (net : Net). net.client) plan.net []
-
 -- the numbers of a plan and a trace on which the budget rests
 abbrev pub counts_of : Plan → Trace → ClassCounts
 counts_of plan trace = record {
@@ -99,6 +97,6 @@ pub record IsWithinLimits (c : ClassCounts) : Type 0 where
   pub blk : clients_or_none c.blk ≤ 8
   pub device_buffers : c.device_buffers ≤ 512
   pub client_buffers : c.client_buffers ≤ 4096
-  pub frames : c.frames + c.sends ≤ 1024
-  pub bytes : c.bytes ≤ 81920
-  pub asks : c.asks ≤ 1024
+  pub frames : c.frames + c.sends ≤ lines_most
+  pub bytes : c.bytes ≤ stream_most
+  pub asks : c.asks ≤ lines_most

@@ -5,6 +5,7 @@ use Rattle.sdf_plan.specs.declared.plan.Plan.{Plan}
 use Rattle.trace_text.specs.declared.reader.Reader.{Reader}
 use Rattle.trace_text.specs.Events.{Event, net_clients, serial_clients, blk_clients}
 use Rattle.trace_text.specs.Traces.{trace_from, is_frame_line, is_request_line, is_disk_line, stream_bytes_in}
+use Rattle.trace_text.specs.Limits.{lines_most, stream_most}
 
 -- the lists, with more at the end of the one of a number
 abbrev pub grown_at : {T : Type 0} → List (List T) → ℕ → List T → List (List T)
@@ -25,14 +26,14 @@ reader_after plan events = record {
 -- whether the reader refuses an event
 abbrev pub is_refused : Reader → Event → Bool
 is_refused r Event.Skipped = false
-is_refused r (Event.Rx frame) = nat_le 1024 r.frame_lines
-is_refused r (Event.Send c frame) = nat_le 1024 r.frame_lines
-is_refused r (Event.In bytes) = nat_lt 81920 (r.stream_bytes + length bytes)
-is_refused r (Event.Say c bytes) = nat_lt 81920 (r.stream_bytes + length bytes)
+is_refused r (Event.Rx frame) = nat_le lines_most r.frame_lines
+is_refused r (Event.Send c frame) = nat_le lines_most r.frame_lines
+is_refused r (Event.In bytes) = nat_lt stream_most (r.stream_bytes + length bytes)
+is_refused r (Event.Say c bytes) = nat_lt stream_most (r.stream_bytes + length bytes)
 is_refused r (Event.Disk sectors) = nat_lt 0 r.disk_lines
 is_refused r (Event.Patch at bytes) =
     r.disk_lines == 0 || nat_lt (length r.trace.image) (at + length bytes)
-is_refused r (Event.Request c ask) = nat_le 1024 r.request_lines
+is_refused r (Event.Request c ask) = nat_le lines_most r.request_lines
 
 -- what the reader keeps after an event that it takes
 abbrev pub reader_with : Reader → Event → Reader

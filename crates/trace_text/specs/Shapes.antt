@@ -5,10 +5,11 @@ use Rattle.cargo_core.specs.declared.item.Code.{Code}
 use Rattle.cargo_core.specs.declared.item.Code.TheVariants as Asked
 use Rattle.sdf_plan.specs.declared.plan.Plan.{Plan}
 use Rattle.trace_text.specs.declared.trace.Trace.{Trace}
+use Rattle.trace_text.specs.Limits.{frame_least, frame_most}
 
 -- the bytes of a frame: 14 to 1,514
 abbrev pub IsFrame : List ℕ → Type 0
-IsFrame frame = (14 ≤ length frame) × (length frame ≤ 1514)
+IsFrame frame = (frame_least ≤ length frame) × (length frame ≤ frame_most)
 
 -- the bytes of a disk: one block of 4,096 bytes or more
 abbrev pub IsDisk : List ℕ → Type 0

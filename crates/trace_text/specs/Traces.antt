@@ -7,6 +7,7 @@ use Rattle.sdf_plan.specs.declared.plan.Plan.{Plan}
 use Rattle.trace_text.specs.declared.trace.Trace.{Trace}
 use Rattle.trace_text.specs.Texts.{lines_of}
 use Rattle.trace_text.specs.Events.{Event, meaning, net_clients, serial_clients, blk_clients}
+use Rattle.trace_text.specs.Limits.{lines_most, stream_most}
 
 -- what one event gives to each list of a trace
 abbrev pub frames_in : Event → List (List ℕ)
@@ -79,16 +80,16 @@ is_disk_line _ = false
 -- writes where no image is
 abbrev pub is_out_of_place : List Event → Event → Bool
 is_out_of_place before Event.Skipped = false
-is_out_of_place before (Event.Rx frame) = nat_le 1024 (count_by is_frame_line before)
-is_out_of_place before (Event.Send c frame) = nat_le 1024 (count_by is_frame_line before)
+is_out_of_place before (Event.Rx frame) = nat_le lines_most (count_by is_frame_line before)
+is_out_of_place before (Event.Send c frame) = nat_le lines_most (count_by is_frame_line before)
 is_out_of_place before (Event.In bytes) =
-    nat_lt 81920 (sum_by stream_bytes_in before + length bytes)
+    nat_lt stream_most (sum_by stream_bytes_in before + length bytes)
 is_out_of_place before (Event.Say c bytes) =
-    nat_lt 81920 (sum_by stream_bytes_in before + length bytes)
+    nat_lt stream_most (sum_by stream_bytes_in before + length bytes)
 is_out_of_place before (Event.Disk sectors) = nat_lt 0 (count_by is_disk_line before)
 is_out_of_place before (Event.Patch at bytes) =
     count_by is_disk_line before == 0 || nat_lt (length (image_of before)) (at + length bytes)
-is_out_of_place before (Event.Request c ask) = nat_le 1024 (count_by is_request_line before)
+is_out_of_place before (Event.Request c ask) = nat_le lines_most (count_by is_request_line before)
 
 -- whether a line of this meaning is bad after these events
 abbrev pub is_bad_after : List Event → Option Event → Bool
@@ -136,6 +137,6 @@ pub record KeepsLimits (plan : Plan) (trace : Trace) : Type 0 where
   pub sends : length trace.sends ≡ length (net_clients plan)
   pub says : length trace.says ≡ length (serial_clients plan)
   pub asks : length trace.asks ≡ length (blk_clients plan)
-  pub frames : length trace.frames + sum_by length trace.sends ≤ 1024
-  pub bytes : length trace.input + sum_by length trace.says ≤ 81920
-  pub requests : sum_by length trace.asks ≤ 1024
+  pub frames : length trace.frames + sum_by length trace.sends ≤ lines_most
+  pub bytes : length trace.input + sum_by length trace.says ≤ stream_most
+  pub requests : sum_by length trace.asks ≤ lines_most
