@@ -13,6 +13,6 @@ stream_most = 81920
 abbrev pub frame_least : ℕ
 frame_least = 14
 
--- and at most
+-- how many bytes a frame has at most
 abbrev pub frame_most : ℕ
 frame_most = 1514
