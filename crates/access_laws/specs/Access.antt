@@ -63,7 +63,7 @@ abbrev pub IsLinked : Plan → QueueRow → Type 0
 IsLinked plan row =
     (r : ℕ) → row.region ≡ Some r → (region : Region) × (from : List ℕ) × (to : List ℕ)
     × (slice_get plan.memory_region r ≡ Some region)
-        × (slice_get (actors_of plan) row.producer.0 ≡ Some from)
+    × (slice_get (actors_of plan) row.producer.0 ≡ Some from)
     × (slice_get (actors_of plan) row.consumer.0 ≡ Some to) × IsLink plan region.name from to
 
 -- who reaches a pool, by its name: the domains that read its buffers, those that read and fill
@@ -88,14 +88,14 @@ abbrev pub net_client_users : Net → ℕ → NetClient → List Users
 net_client_users net c client =
     reached_by (client_name (codes "net.") c (codes ".rx")) (client.pd ∷ []) (client.copier ∷ []) []
     ∷ reached_by (client_name (codes "net.") c (codes ".tx")) [] (client.pd ∷ [])
-        (net.tx_virt ∷ net.driver ∷ []) ∷ []
+    (net.tx_virt ∷ net.driver ∷ []) ∷ []
 
 -- the buffers that the Ethernet device fills are read by the receiving virtualiser and by each
 -- copier
 abbrev pub net_users : Net → List Users
 net_users net =
     reached_by (codes "net.rx") (net.rx_virt ∷ map (λ (c : NetClient). c.copier) net.client) []
-        (net.driver ∷ [])
+    (net.driver ∷ [])
     ∷ each_client (net_client_users net) 0 net.client
 
 -- a block client reads and fills its buffers itself
@@ -116,7 +116,7 @@ users_of plan = option_map_or net_users plan.net [] ++ option_map_or blk_users p
 abbrev pub IsReached : Plan → PoolRow → Users → Type 0
 IsReached plan row who =
     (region : Region) × (row.name ≡ who.pool)
-        × (slice_get plan.memory_region row.region ≡ Some region)
+    × (slice_get plan.memory_region row.region ≡ Some region)
     × IsSharedBy plan region.name who.readers who.writers who.others
 
 -- the domain of this name has an interrupt

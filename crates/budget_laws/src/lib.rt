@@ -17,5 +17,5 @@ pub fn budget_law()
     ensures actors { (plan : Plan) (trace : Trace) → Valid plan → actors_of (counts_of plan trace) ≡ length (Layout.actors_of plan) }
     ensures ends { (plan : Plan) (trace : Trace) → Valid plan
         → IsMostEnds (Layout.queues_of plan) (length (Layout.actors_of plan))
-            (most_ends (counts_of plan trace)) }
+        (most_ends (counts_of plan trace)) }
 {}

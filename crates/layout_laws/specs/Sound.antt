@@ -67,9 +67,11 @@ NoNameTwice names = (at : ℕ) (name : List ℕ) → slice_get names at ≡ Some
 -- takes
 unfoldable pub queue_range : Plan → QueueRow → Option Range
 queue_range plan row =
-    option_map (λ r. (slice_index (bases_of plan.memory_region) r + row.offset,
-        slice_index (bases_of plan.memory_region) r + row.offset
-        + (64 + entry_size row.kind * row.capacity))) row.region
+    option_map (λ r. (
+      slice_index (bases_of plan.memory_region) r + row.offset,
+      slice_index (bases_of plan.memory_region) r + row.offset
+          + (64 + entry_size row.kind * row.capacity),
+    )) row.region
 
 unfoldable pub pool_range : PoolRow → Option Range
 pool_range row = Some (row.base, row.base + row.size * row.buffers)

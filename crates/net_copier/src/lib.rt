@@ -218,9 +218,11 @@ impl NetCopier {
         ensures posted { Posted (outlet_post self.old.buffer_output)
             (is_some self.old.buffer) result (outlet_post self.new.buffer_output) }
         ensures still { is_mark result.op result.answer ≡ false → SameWork self.old self.new }
-        ensures others { self.new ≡ record self.old
-            { buffer_output = self.new.buffer_output; buffer = self.new.buffer;
-                stage = self.new.stage } }
+        ensures others { self.new ≡ record self.old {
+          buffer_output = self.new.buffer_output;
+          buffer = self.new.buffer;
+          stage = self.new.stage;
+        } }
     {
         let event = self.buffer_output.step(wires, &mut self.buffer);
         if event.item.is_some() {

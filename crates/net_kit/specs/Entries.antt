@@ -42,8 +42,11 @@ with_len n (ItemOf.Resp r) = ItemOf.Resp r
 abbrev pub filled_body : List ℕ → Body → Body
 filled_body bytes (Carried.Page page) = if nat_le (length bytes)
     (length page.bytes) then Carried.Page
-    (record { pool = page.pool; no = page.no;
-        bytes = replaced page.bytes 0 bytes }) else Carried.Page page
+    (record {
+      pool = page.pool;
+      no = page.no;
+      bytes = replaced page.bytes 0 bytes;
+    }) else Carried.Page page
 filled_body bytes Carried.Empty = Carried.Empty
 filled_body bytes (Carried.Lease lease) = Carried.Lease lease
 

@@ -94,8 +94,8 @@ module _ (w : Window) (some : 0 < w.size) where
   count_in (item ∷ items) within =
       let at = within 0 item refl in
       let first = below_one (λ n. is_named (numbered w.pool n) (buffer_of (w ∷ []) item)) w.buffers at.number 1 at.few
-          (ap (is_named (numbered w.pool at.number)) (buffer_is item at.number at refl) ∙ named_self w.pool at.number)
-          (λ n off. ap (is_named (numbered w.pool n)) (buffer_is item at.number at refl) ∙ named_other w.pool at.number n off) in
+      (ap (is_named (numbered w.pool at.number)) (buffer_is item at.number at refl) ∙ named_self w.pool at.number)
+      (λ n off. ap (is_named (numbered w.pool n)) (buffer_is item at.number at refl) ∙ named_other w.pool at.number n off) in
       let parts = below_same (λ n. times (numbered w.pool n) (names_in (w ∷ []) (item ∷ items))) (λ n. is_named (numbered w.pool n) (buffer_of (w ∷ []) item) + times (numbered w.pool n) (names_in (w ∷ []) items)) w.buffers (λ n lt. sum_by-cons (is_named (numbered w.pool n)) (buffer_of (w ∷ []) item) (names_in (w ∷ []) items)) in
       let both = below_plus (λ n. is_named (numbered w.pool n) (buffer_of (w ∷ []) item)) (λ n. times (numbered w.pool n) (names_in (w ∷ []) items)) w.buffers in
       omega (arith, first, parts, both, count_in items (λ k x is. within (suc k) x is))

@@ -109,8 +109,8 @@ module _ (scene : Scene) (ways : List Way) where
     way_fits k w at = (
       intake_fits Driver m w.input _,
       outlet_fits Driver m w.output _
-        (λ lt. each_owed ways (λ (v : Way). v.output) (λ v. m.taken v.input) m row ways_apart k w at lt)
-        (λ put. copy_shorter m w.output (m.taken w.input) put.0 (put.1 k w at)),
+          (λ lt. each_owed ways (λ (v : Way). v.output) (λ v. m.taken v.input) m row ways_apart k w at lt)
+          (λ put. copy_shorter m w.output (m.taken w.input) put.0 (put.1 k w at)),
     )
 
     driver_fits : AllFit Driver m (Driver.wants m)
@@ -154,13 +154,15 @@ module _ (scene : Scene) (lease_active lease_free rx_active rx_free : ℕ) where
     copies : is_short (m.sent rx_active) (m.taken rx_free) ≡ true → CouldPut Copier m rx_active
     copies lt =
         let more = copy_more m rx_active filled row.copies (subst (λ n. nat_lt (length (m.sent rx_active)) n ≡ true) (sym filled_long) lt) in
-        let beside = put_beside m rx_active more.0 lease_free two_outputs in
-        (more.0, record {
-          copies = more.1;
-          takes_for = row.takes_for;
-          gives_back = subst (λ l. IsPrefix l (m.taken lease_active)) (sym beside) row.gives_back;
-          after_copy = omega (arith, put_length m rx_active more.0, ap length beside, row.after_copy);
-        })
+        let beside = put_beside m rx_active more.0 lease_free two_outputs in (
+          more.0,
+          record {
+            copies = more.1;
+            takes_for = row.takes_for;
+            gives_back = subst (λ l. IsPrefix l (m.taken lease_active)) (sym beside) row.gives_back;
+            after_copy = omega (arith, put_length m rx_active more.0, ap length beside, row.after_copy);
+          },
+        )
 
     copies_only : CouldPut Copier m rx_active → is_short (m.sent rx_active) (m.taken rx_free) ≡ true
     copies_only put = subst (λ n. nat_lt (length (m.sent rx_active)) n ≡ true) filled_long (copy_shorter m rx_active filled put.0 put.1.copies)
@@ -170,13 +172,15 @@ module _ (scene : Scene) (lease_active lease_free rx_active rx_free : ℕ) where
         let less : length (m.sent lease_free) < length (m.sent rx_active) = ltb-true (length (m.sent lease_free)) (length (m.sent rx_active)) lt in
         let few = begins_few (m.sent rx_active) filled row.copies in
         let more = copy_more m lease_free (m.taken lease_active) row.gives_back (lt-ltb (length (m.sent lease_free)) (length (m.taken lease_active)) (omega (arith, less, few, filled_long, row.takes_for))) in
-        let beside = put_beside m lease_free more.0 rx_active (λ e. two_outputs (sym e)) in
-        (more.0, record {
-          copies = subst (λ l. IsPrefix l filled) (sym beside) row.copies;
-          takes_for = row.takes_for;
-          gives_back = more.1;
-          after_copy = omega (arith, put_length m lease_free more.0, ap length beside, less);
-        })
+        let beside = put_beside m lease_free more.0 rx_active (λ e. two_outputs (sym e)) in (
+          more.0,
+          record {
+            copies = subst (λ l. IsPrefix l filled) (sym beside) row.copies;
+            takes_for = row.takes_for;
+            gives_back = more.1;
+            after_copy = omega (arith, put_length m lease_free more.0, ap length beside, less);
+          },
+        )
 
     returns_only : CouldPut Copier m lease_free → is_short (m.sent lease_free) (m.sent rx_active) ≡ true
     returns_only put =

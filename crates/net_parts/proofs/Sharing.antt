@@ -179,15 +179,17 @@ module _ (scene : Scene) (active free : ℕ) (pool : PoolAt) (clients : List Les
 
       put_this : CouldPut Receiver m free
       put_this =
-          let put = put_here m free item in
-          (item, record {
-            within = row.within;
-            lends = λ k c at. subst (λ xs. IsPrefix xs (leases_from scene.frames pool.base c.mac 0 (m.taken active))) (sym (put_beside m free item c.active (beside_free k c at))) (row.lends k c at);
-            gives = subst (AreIn w) (sym put) snoc_in;
-            rising = λ k x lt at. snoc_rises k x lt (ap (λ xs. slice_get xs k) (sym put) ∙ at);
-            in_hand = λ b. omega (arith, ap (λ xs. times b (names_in (w ∷ []) xs)) put, snoc_hand b);
-            single = row.single;
-          })
+          let put = put_here m free item in (
+            item,
+            record {
+              within = row.within;
+              lends = λ k c at. subst (λ xs. IsPrefix xs (leases_from scene.frames pool.base c.mac 0 (m.taken active))) (sym (put_beside m free item c.active (beside_free k c at))) (row.lends k c at);
+              gives = subst (AreIn w) (sym put) snoc_in;
+              rising = λ k x lt at. snoc_rises k x lt (ap (λ xs. slice_get xs k) (sym put) ∙ at);
+              in_hand = λ b. omega (arith, ap (λ xs. times b (names_in (w ∷ []) xs)) put, snoc_hand b);
+              single = row.single;
+            },
+          )
 
     lent_few : (n : ℕ) → L n ≤ T n
     lent_few n = by (cases_lt 0 (T n))
@@ -242,15 +244,17 @@ module _ (scene : Scene) (active free : ℕ) (pool : PoolAt) (clients : List Les
     lends : (k : ℕ) (c : Lessee) → slice_get clients k ≡ Some c → is_short (m.sent c.active) (leases_of scene.frames pool active m c) ≡ true → CouldPut Receiver m c.active
     lends k c at lt =
         let more = each_owed clients (λ (d : Lessee). d.active) (λ d. leases_of scene.frames pool active m d) m row.lends lessees_apart k c at lt in
-        let beside = put_beside m c.active more.0 free (λ e. beside_free k c at (sym e)) in
-        (more.0, record {
-          within = row.within;
-          lends = more.1;
-          gives = subst (AreIn w) (sym beside) row.gives;
-          rising = λ j x few is. row.rising j x few (ap (λ xs. slice_get xs j) (sym beside) ∙ is);
-          in_hand = λ b. omega (arith, ap (λ xs. times b (names_in (w ∷ []) xs)) beside, row.in_hand b);
-          single = row.single;
-        })
+        let beside = put_beside m c.active more.0 free (λ e. beside_free k c at (sym e)) in (
+          more.0,
+          record {
+            within = row.within;
+            lends = more.1;
+            gives = subst (AreIn w) (sym beside) row.gives;
+            rising = λ j x few is. row.rising j x few (ap (λ xs. slice_get xs j) (sym beside) ∙ is);
+            in_hand = λ b. omega (arith, ap (λ xs. times b (names_in (w ∷ []) xs)) beside, row.in_hand b);
+            single = row.single;
+          },
+        )
 
     lends_only : (k : ℕ) (c : Lessee) → slice_get clients k ≡ Some c → CouldPut Receiver m c.active → is_short (m.sent c.active) (leases_of scene.frames pool active m c) ≡ true
     lends_only k c at put = copy_shorter m c.active (leases_of scene.frames pool active m c) put.0 (put.1.lends k c at)

@@ -121,8 +121,8 @@ module _ (d : EthDevice) (p : Pipes (Pipes (Pipes Pipe))) (v : NetVirtRx) (copie
       let active = passed.taken p.rest.first.output.queue.0 in
       let device = passed.sent d.active.queue.0 in
       let driven : IsPrefix active device = begins_on active (passed.sent p.rest.first.output.queue.0) device (h.hands_over p.rest.first.output.queue.0)
-          (begins_on (passed.sent p.rest.first.output.queue.0) (passed.taken p.rest.first.input.queue.0) device h.driver.1.0
-          (subst (λ n. IsPrefix (passed.taken p.rest.first.input.queue.0) (passed.sent n)) h.from_device (h.hands_over p.rest.first.input.queue.0))) in
+      (begins_on (passed.sent p.rest.first.output.queue.0) (passed.taken p.rest.first.input.queue.0) device h.driver.1.0
+      (subst (λ n. IsPrefix (passed.taken p.rest.first.input.queue.0) (passed.sent n)) h.from_device (h.hands_over p.rest.first.input.queue.0))) in
       subst (λ n. IsPrefix (passed.taken n) (all_filled d.frames free)) (sym h.from_driver) (begins_on active device (all_filled d.frames free) driven h.device.filled)
 
   -- and these are buffers that the virtualiser gave

@@ -101,10 +101,14 @@ net_sheet scene (NetReceiver active free pool clients) = record {
       (frees_due pool (lender_of scene.frames active free pool clients) m))
       ∷ flat_map (lessee_wants scene.frames pool active
       (is_busy scene.frames active free pool clients m) m) clients;
-  dues = λ m. record { queue = free;
-      number = frees_due pool (lender_of scene.frames active free pool clients) m }
-      ∷ map (λ c. record { queue = c.active;
-      number = length (leases_of scene.frames pool active m c) }) clients;
+  dues = λ m. record {
+    queue = free;
+    number = frees_due pool (lender_of scene.frames active free pool clients) m;
+  }
+      ∷ map (λ c. record {
+        queue = c.active;
+        number = length (leases_of scene.frames pool active m c);
+      }) clients;
   hand = pool_hand pool;
 }
 net_sheet scene (NetCopier lease_active lease_free rx_active rx_free) = record {

@@ -42,13 +42,13 @@ ArePartedBy base region other_base other =
 abbrev pub AreDisjoint : List Region → List ℕ → Type 0
 AreDisjoint regions bases =
     (a b : ℕ) (first second : Region) (at other : ℕ) → a < b → slice_get regions a ≡ Some first
-        → slice_get regions b ≡ Some second
+    → slice_get regions b ≡ Some second
     → slice_get bases a ≡ Some at → slice_get bases b ≡ Some other
-        → ArePartedBy at first other second
+    → ArePartedBy at first other second
 
 -- no two given ranges have an address in common
 abbrev pub AreGivenApart : List Region → Type 0
 AreGivenApart regions =
     (a b : ℕ) (first second : Region) (at other : ℕ) → a < b → slice_get regions a ≡ Some first
-        → slice_get regions b ≡ Some second
+    → slice_get regions b ≡ Some second
     → first.phys_addr ≡ Some at → second.phys_addr ≡ Some other → ArePartedBy at first other second

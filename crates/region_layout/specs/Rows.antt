@@ -99,7 +99,7 @@ unfoldable pub queue_pair : Plan → List ℕ → List ℕ → QueueKind → Lis
 queue_pair plan key first kind second kind_back from to capacity =
     queue_in plan (region_named plan key) 0 first kind from to capacity
     ∷ queue_in plan (region_named plan key)
-        (queue_span kind capacity) second kind_back to from capacity ∷ []
+    (queue_span kind capacity) second kind_back to from capacity ∷ []
 
 -- the name of a queue or a pool of a client
 abbrev pub client_name : List ℕ → ℕ → List ℕ → List ℕ
@@ -114,16 +114,16 @@ each_client rows c (client ∷ rest) = rows c client ++ each_client rows (c + 1)
 unfoldable pub eth_rx_queues : Plan → Net → List QueueRow
 eth_rx_queues plan net =
     device_queue plan (codes "eth.rx.free") Kind.Net (actor_named plan net.driver)
-        (eth_number plan) net.rx_capacity
+    (eth_number plan) net.rx_capacity
     ∷ device_queue plan (codes "eth.rx.active") Kind.Net (eth_number plan)
-        (actor_named plan net.driver) net.rx_capacity ∷ []
+    (actor_named plan net.driver) net.rx_capacity ∷ []
 
 unfoldable pub eth_tx_queues : Plan → Net → List QueueRow
 eth_tx_queues plan net =
     device_queue plan (codes "eth.tx.active") Kind.Net (actor_named plan net.driver)
-        (eth_number plan) net.tx_capacity
+    (eth_number plan) net.tx_capacity
     ∷ device_queue plan (codes "eth.tx.free") Kind.Net (eth_number plan)
-        (actor_named plan net.driver) net.tx_capacity ∷ []
+    (actor_named plan net.driver) net.tx_capacity ∷ []
 
 -- the queues between the driver and each virtualiser of the network class
 unfoldable pub net_rx_queues : Plan → Net → List QueueRow
@@ -140,21 +140,21 @@ net_tx_queues plan net = queue_pair plan net.tx_queues (codes "net.tx.active") K
 unfoldable pub lease_queues : Plan → Net → ℕ → NetClient → List QueueRow
 lease_queues plan net c client =
     queue_pair plan client.lease_queues
-        (client_name (codes "net.") c (codes ".lease.active")) Kind.Net
-        (client_name (codes "net.") c (codes ".lease.free")) Kind.Net
-        (actor_named plan net.rx_virt) (actor_named plan client.copier) net.rx_capacity
+    (client_name (codes "net.") c (codes ".lease.active")) Kind.Net
+    (client_name (codes "net.") c (codes ".lease.free")) Kind.Net
+    (actor_named plan net.rx_virt) (actor_named plan client.copier) net.rx_capacity
 
 unfoldable pub client_rx_queues : Plan → ℕ → NetClient → List QueueRow
 client_rx_queues plan c client =
     queue_pair plan client.rx_queues (client_name (codes "net.") c (codes ".rx.active")) Kind.Net
-        (client_name (codes "net.") c (codes ".rx.free")) Kind.Net (actor_named plan client.copier)
-        (actor_named plan client.pd) client.rx_capacity
+    (client_name (codes "net.") c (codes ".rx.free")) Kind.Net (actor_named plan client.copier)
+    (actor_named plan client.pd) client.rx_capacity
 
 unfoldable pub client_tx_queues : Plan → Net → ℕ → NetClient → List QueueRow
 client_tx_queues plan net c client =
     queue_pair plan client.tx_queues (client_name (codes "net.") c (codes ".tx.active")) Kind.Net
-        (client_name (codes "net.") c (codes ".tx.free")) Kind.Net (actor_named plan client.pd)
-        (actor_named plan net.tx_virt) client.tx_capacity
+    (client_name (codes "net.") c (codes ".tx.free")) Kind.Net (actor_named plan client.pd)
+    (actor_named plan net.tx_virt) client.tx_capacity
 
 unfoldable pub net_client_queues : Plan → Net → ℕ → NetClient → List QueueRow
 net_client_queues plan net c client =
@@ -165,31 +165,31 @@ net_client_queues plan net c client =
 unfoldable pub net_queues : Plan → Net → List QueueRow
 net_queues plan net =
     eth_rx_queues plan net ++ eth_tx_queues plan net ++ net_rx_queues plan net
-        ++ net_tx_queues plan net ++ each_client (net_client_queues plan net) 0 net.client
+    ++ net_tx_queues plan net ++ each_client (net_client_queues plan net) 0 net.client
 
 -- the queues between the serial device and its driver
 unfoldable pub uart_queues : Plan → Serial → List QueueRow
 uart_queues plan serial =
     device_queue plan (codes "uart.rx") Kind.Byte (uart_number plan)
-        (actor_named plan serial.driver) serial.rx_capacity
+    (actor_named plan serial.driver) serial.rx_capacity
     ∷ device_queue plan (codes "uart.tx") Kind.Byte (actor_named plan serial.driver)
-        (uart_number plan) serial.tx_capacity ∷ []
+    (uart_number plan) serial.tx_capacity ∷ []
 
 -- the queues between the driver and the virtualisers of the serial class
 unfoldable pub shared_serial_queues : Plan → Serial → List QueueRow
 shared_serial_queues plan serial =
     only_queue plan serial.rx_queues (codes "serial.rx") Kind.Byte (actor_named plan serial.driver)
-        (actor_named plan serial.rx_virt) serial.rx_capacity
+    (actor_named plan serial.rx_virt) serial.rx_capacity
     ∷ only_queue plan serial.tx_queues (codes "serial.tx") Kind.Byte
-        (actor_named plan serial.tx_virt) (actor_named plan serial.driver) serial.tx_capacity ∷ []
+    (actor_named plan serial.tx_virt) (actor_named plan serial.driver) serial.tx_capacity ∷ []
 
 -- the queues of a serial client
 unfoldable pub serial_client_queues : Plan → Serial → ℕ → SerialClient → List QueueRow
 serial_client_queues plan serial c client =
     only_queue plan client.rx_queues (client_name (codes "serial.") c (codes ".rx")) Kind.Byte
-        (actor_named plan serial.rx_virt) (actor_named plan client.pd) client.rx_capacity
+    (actor_named plan serial.rx_virt) (actor_named plan client.pd) client.rx_capacity
     ∷ only_queue plan client.tx_queues (client_name (codes "serial.") c (codes ".tx")) Kind.Byte
-        (actor_named plan client.pd) (actor_named plan serial.tx_virt) client.tx_capacity ∷ []
+    (actor_named plan client.pd) (actor_named plan serial.tx_virt) client.tx_capacity ∷ []
 
 -- the queues of the serial class
 unfoldable pub serial_queues : Plan → Serial → List QueueRow
@@ -200,9 +200,9 @@ serial_queues plan serial = uart_queues plan serial ++ shared_serial_queues plan
 unfoldable pub disk_queues : Plan → Blk → List QueueRow
 disk_queues plan blk =
     device_queue plan (codes "disk.req") Kind.Req (actor_named plan blk.driver)
-        (disk_number plan) blk.capacity
+    (disk_number plan) blk.capacity
     ∷ device_queue plan (codes "disk.resp") Kind.Resp (disk_number plan)
-        (actor_named plan blk.driver) blk.capacity ∷ []
+    (actor_named plan blk.driver) blk.capacity ∷ []
 
 -- the queues between the driver and the virtualiser of the block class
 unfoldable pub shared_blk_queues : Plan → Blk → List QueueRow
@@ -214,8 +214,8 @@ shared_blk_queues plan blk = queue_pair plan blk.queues (codes "blk.req") Kind.R
 unfoldable pub blk_client_queues : Plan → Blk → ℕ → BlkClient → List QueueRow
 blk_client_queues plan blk c client =
     queue_pair plan client.queues (client_name (codes "blk.") c (codes ".req")) Kind.Req
-        (client_name (codes "blk.") c (codes ".resp")) Kind.Resp (actor_named plan client.pd)
-        (actor_named plan blk.virt) client.capacity
+    (client_name (codes "blk.") c (codes ".resp")) Kind.Resp (actor_named plan client.pd)
+    (actor_named plan blk.virt) client.capacity
 
 -- the queues of the block class
 unfoldable pub blk_queues : Plan → Blk → List QueueRow
@@ -248,9 +248,9 @@ pool_in plan key name buffers size = record {
 unfoldable pub net_client_pools : Plan → ℕ → NetClient → List PoolRow
 net_client_pools plan c client =
     pool_in plan client.rx_region (client_name (codes "net.") c
-        (codes ".rx")) client.rx_buffers net_buffer
+    (codes ".rx")) client.rx_buffers net_buffer
     ∷ pool_in plan client.tx_region (client_name (codes "net.") c
-        (codes ".tx")) client.tx_buffers net_buffer ∷ []
+    (codes ".tx")) client.tx_buffers net_buffer ∷ []
 
 unfoldable pub net_pools : Plan → Net → List PoolRow
 net_pools plan net = pool_in plan net.rx_region (codes "net.rx") net.rx_buffers net_buffer

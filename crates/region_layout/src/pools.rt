@@ -42,8 +42,7 @@ fn add_pool(
 }
 
 // Appends the pools of a network client.
-#[tactic(auto, using(std::proofs::Common::append_assoc),
-    unfolding(crate::specs::Rows::net_client_pools))]
+#[tactic(auto, using(std::proofs::Common::append_assoc), unfolding(crate::specs::Rows::net_client_pools))]
 fn add_net_client(
     alloc: Global,
     names: &Names<'_>,

@@ -106,8 +106,7 @@ fn add_pair(
 }
 
 // Appends the queues of receiving between the Ethernet device and its driver.
-#[tactic(auto, using(std::proofs::Common::append_assoc),
-    unfolding(crate::specs::Rows::eth_rx_queues))]
+#[tactic(auto, using(std::proofs::Common::append_assoc), unfolding(crate::specs::Rows::eth_rx_queues))]
 fn add_eth_rx(
     alloc: Global,
     names: &Names<'_>,
@@ -137,8 +136,7 @@ fn add_eth_rx(
 }
 
 // Appends the queues of sending between the Ethernet device and its driver.
-#[tactic(auto, using(std::proofs::Common::append_assoc),
-    unfolding(crate::specs::Rows::eth_tx_queues))]
+#[tactic(auto, using(std::proofs::Common::append_assoc), unfolding(crate::specs::Rows::eth_tx_queues))]
 fn add_eth_tx(
     alloc: Global,
     names: &Names<'_>,
@@ -168,8 +166,7 @@ fn add_eth_tx(
 }
 
 // Appends the queues between the driver and the receiving virtualiser.
-#[tactic(auto, using(std::proofs::Common::append_assoc),
-    unfolding(crate::specs::Rows::net_rx_queues))]
+#[tactic(auto, using(std::proofs::Common::append_assoc), unfolding(crate::specs::Rows::net_rx_queues))]
 fn add_net_rx(
     alloc: Global,
     names: &Names<'_>,
@@ -194,8 +191,7 @@ fn add_net_rx(
 }
 
 // Appends the queues between the driver and the sending virtualiser.
-#[tactic(auto, using(std::proofs::Common::append_assoc),
-    unfolding(crate::specs::Rows::net_tx_queues))]
+#[tactic(auto, using(std::proofs::Common::append_assoc), unfolding(crate::specs::Rows::net_tx_queues))]
 fn add_net_tx(
     alloc: Global,
     names: &Names<'_>,
@@ -220,8 +216,7 @@ fn add_net_tx(
 }
 
 // Appends the queues of the leases of a network client.
-#[tactic(auto, using(std::proofs::Common::append_assoc),
-    unfolding(crate::specs::Rows::lease_queues))]
+#[tactic(auto, using(std::proofs::Common::append_assoc), unfolding(crate::specs::Rows::lease_queues))]
 fn add_lease(
     alloc: Global,
     names: &Names<'_>,
@@ -252,8 +247,7 @@ fn add_lease(
 }
 
 // Appends the queues of what a network client receives.
-#[tactic(auto, using(std::proofs::Common::append_assoc),
-    unfolding(crate::specs::Rows::client_rx_queues))]
+#[tactic(auto, using(std::proofs::Common::append_assoc), unfolding(crate::specs::Rows::client_rx_queues))]
 fn add_client_rx(
     alloc: Global,
     names: &Names<'_>,
@@ -282,8 +276,7 @@ fn add_client_rx(
 }
 
 // Appends the queues of what a network client sends.
-#[tactic(auto, using(std::proofs::Common::append_assoc),
-    unfolding(crate::specs::Rows::client_tx_queues))]
+#[tactic(auto, using(std::proofs::Common::append_assoc), unfolding(crate::specs::Rows::client_tx_queues))]
 fn add_client_tx(
     alloc: Global,
     names: &Names<'_>,
@@ -313,8 +306,7 @@ fn add_client_tx(
 }
 
 // Appends the queues of a network client.
-#[tactic(auto, using(std::proofs::Common::append_assoc),
-    unfolding(crate::specs::Rows::net_client_queues))]
+#[tactic(auto, using(std::proofs::Common::append_assoc), unfolding(crate::specs::Rows::net_client_queues))]
 fn add_net_client(
     alloc: Global,
     names: &Names<'_>,
@@ -388,8 +380,7 @@ fn add_net_class(
 }
 
 // Appends the queues between the serial device and its driver.
-#[tactic(auto, using(std::proofs::Common::append_assoc),
-    unfolding(crate::specs::Rows::uart_queues))]
+#[tactic(auto, using(std::proofs::Common::append_assoc), unfolding(crate::specs::Rows::uart_queues))]
 fn add_uart(
     alloc: Global,
     names: &Names<'_>,
@@ -418,8 +409,7 @@ fn add_uart(
 }
 
 // Appends the queues between the driver and the virtualisers of the serial class.
-#[tactic(auto, using(std::proofs::Common::append_assoc),
-    unfolding(crate::specs::Rows::shared_serial_queues))]
+#[tactic(auto, using(std::proofs::Common::append_assoc), unfolding(crate::specs::Rows::shared_serial_queues))]
 fn add_shared_serial(
     alloc: Global,
     names: &Names<'_>,
@@ -463,8 +453,7 @@ fn add_shared_serial(
 }
 
 // Appends the queues of a serial client.
-#[tactic(auto, using(std::proofs::Common::append_assoc),
-    unfolding(crate::specs::Rows::serial_client_queues))]
+#[tactic(auto, using(std::proofs::Common::append_assoc), unfolding(crate::specs::Rows::serial_client_queues))]
 fn add_serial_client(
     alloc: Global,
     names: &Names<'_>,
@@ -563,8 +552,7 @@ fn add_serial_class(
 }
 
 // Appends the queues between the disk and its driver.
-#[tactic(auto, using(std::proofs::Common::append_assoc),
-    unfolding(crate::specs::Rows::disk_queues))]
+#[tactic(auto, using(std::proofs::Common::append_assoc), unfolding(crate::specs::Rows::disk_queues))]
 fn add_disk(
     alloc: Global,
     names: &Names<'_>,
@@ -593,8 +581,7 @@ fn add_disk(
 }
 
 // Appends the queues between the driver and the virtualiser of the block class.
-#[tactic(auto, using(std::proofs::Common::append_assoc),
-    unfolding(crate::specs::Rows::shared_blk_queues))]
+#[tactic(auto, using(std::proofs::Common::append_assoc), unfolding(crate::specs::Rows::shared_blk_queues))]
 fn add_shared_blk(
     alloc: Global,
     names: &Names<'_>,
@@ -619,8 +606,7 @@ fn add_shared_blk(
 }
 
 // Appends the queues of a block client.
-#[tactic(auto, using(std::proofs::Common::append_assoc),
-    unfolding(crate::specs::Rows::blk_client_queues))]
+#[tactic(auto, using(std::proofs::Common::append_assoc), unfolding(crate::specs::Rows::blk_client_queues))]
 fn add_blk_client(
     alloc: Global,
     names: &Names<'_>,

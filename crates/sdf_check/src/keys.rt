@@ -98,7 +98,7 @@ fn push_all_net_domains<'a>(names: &mut Vec<&'a str>, plan: &'a Plan) -> Result<
 fn push_all_serial_domains<'a>(names: &mut Vec<&'a str>, plan: &'a Plan) -> Result<(), Memory>
     ensures { OnOk result (names_shown names.new.items
         ≡ names_shown names.old.items
-            ++ serial_names serial_domains serial_client_domains plan.now) }
+        ++ serial_names serial_domains serial_client_domains plan.now) }
 {
     if let Some(serial) = &plan.serial {
         push_serial_domains(names, serial)?;
@@ -196,7 +196,7 @@ fn push_all_net_regions<'a>(names: &mut Vec<&'a str>, plan: &'a Plan) -> Result<
 fn push_all_serial_regions<'a>(names: &mut Vec<&'a str>, plan: &'a Plan) -> Result<(), Memory>
     ensures { OnOk result (names_shown names.new.items
         ≡ names_shown names.old.items
-            ++ serial_names serial_regions serial_client_regions plan.now) }
+        ++ serial_names serial_regions serial_client_regions plan.now) }
 {
     if let Some(serial) = &plan.serial {
         push_serial_regions(names, serial)?;

@@ -18,9 +18,7 @@ pub(crate) fn reach<T: Drop>(ends: &mut Vec<Option<T>>, place: usize) -> Result<
 
 // Takes out what stands at the last place at which something stands, and drops the places from
 // there on.
-#[tactic(auto, using(crate::proofs::Popping::past, crate::proofs::Popping::stood_last,
-    crate::proofs::Popping::others_stay, crate::proofs::Popping::none_behind,
-    crate::proofs::Popping::none_was_there, crate::proofs::Popping::one_fewer))]
+#[tactic(auto, using(crate::proofs::Popping::past, crate::proofs::Popping::stood_last, crate::proofs::Popping::others_stay, crate::proofs::Popping::none_behind, crate::proofs::Popping::none_was_there, crate::proofs::Popping::one_fewer))]
 pub(crate) fn last_end<T>(ends: &mut Vec<Option<T>>) -> Option<(usize, T)>
     ensures some { IfSome result (λ r. (stands_at ends.old.items r.0 ≡ Some r.1)
         × (r.0 < length ends.old.items)) }

@@ -125,8 +125,11 @@ impl<'a> Seats<'a> {
     ) -> Seats<'a>
         requires producers { EndsOn rings.now producers.items × (length producers.items ≤ 65536) }
         requires consumers { EndsOn rings.now consumers.items × (length consumers.items ≤ 65536) }
-        ensures { result ≡ record { rings = rings.now; producers = producers.items;
-            consumers = consumers.items } }
+        ensures { result ≡ record {
+          rings = rings.now;
+          producers = producers.items;
+          consumers = consumers.items;
+        } }
     {
         Seats {
             rings,

@@ -17,7 +17,7 @@ pub record SharesOut (rx : ℕ) (clients : List ℕ) (m : Moved) : Type 0 where
   pub few : length owed ≤ 1
   pub given : (c q : ℕ) → slice_get clients c ≡ Some q
       → m.sent q ++ (if owner == c then owed else [])
-          ≡ byte_items (input_of (length clients) c (bytes_in (m.taken rx)))
+      ≡ byte_items (input_of (length clients) c (bytes_in (m.taken rx)))
 
 -- what was put, with at most one byte after it, is a merge of all that was taken
 pub record MergesAll (tx : ℕ) (clients : List ℕ) (m : Moved) : Type 0 where

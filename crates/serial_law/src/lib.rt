@@ -36,6 +36,6 @@ pub fn serial_law()
         (actors : Needful) (journal : List Entry) (class : SerialClass)
         → IsStill hostile history rows actors journal
         → IsSerial (λ p. Plays hostile actors (moved history journal)
-            (serial_sheet p)) hostile rows class
+        (serial_sheet p)) hostile rows class
         → ArrivesWhole class (moved history journal) }
 {}

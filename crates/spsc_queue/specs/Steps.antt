@@ -105,7 +105,7 @@ abbrev pub see_done : Step Slot → Seated → ℕ → Seated → Type 0
 see_done st m r m' = (g : Option Slot)
     × Granted m.0.consumer.kind (tells_entry (length m.0.consumer.entries) r) g
     × (m'.0 ≡ with_consumer m.0 (see_told g m.0.consumer r))
-        × (m'.1 ≡ slots_held g (length m.0.consumer.entries % st.slots))
+    × (m'.1 ≡ slots_held g (length m.0.consumer.entries % st.slots))
 
 -- the consumer after a take
 abbrev pub took_one : Cargo → Half → Half

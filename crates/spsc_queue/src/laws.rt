@@ -19,8 +19,14 @@ use wire_core::{Answer, Op};
 pub fn ring_law()
     ensures start { (kind : QueueKind) (n : ℕ)
         → ring_queue kind n (0 ∷ 0 ∷ 0 ∷ 0 ∷ 1 ∷ 0 ∷ []) (first_producer kind)
-        (first_consumer kind) ≡ record { kind = kind; capacity = n; producer = 0; consumer = 0;
-        entries = []; bells = start_bells } }
+        (first_consumer kind) ≡ record {
+          kind = kind;
+          capacity = n;
+          producer = 0;
+          consumer = 0;
+          entries = [];
+          bells = start_bells;
+        } }
     ensures event { (kind : QueueKind) (n : ℕ) (words : List ℕ) (homes : List (maybe.Option Slot))
         (p c : Half) (o : Op) (a : Answer) (cargo : List Cargo) (h : Half)
         → EndsHold kind n words homes p c → Condition (known_end (half_of (role_of o) p c)) o

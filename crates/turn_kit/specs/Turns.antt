@@ -85,7 +85,7 @@ offered_from c place [] needs = c
 offered_from c place (p ∷ ps) [] = c
 offered_from c place (p ∷ ps) (need ∷ needs) =
     offered_from (choice_with c (record { queue = p.queue; place = place })
-        (is_settled p.state need))
+    (is_settled p.state need))
     (place + 1) ps needs
 
 abbrev pub choice_of : Round → Choosing

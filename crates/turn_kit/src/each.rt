@@ -12,6 +12,7 @@ use wire_core::QueueId;
 /// An end of a list of ends of one sort.
 pub trait Listed {
     ghost post: { Self → Post };
+
     ghost queue: { Self → QueueId };
 
     /// Its queue.

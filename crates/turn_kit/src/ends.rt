@@ -13,8 +13,8 @@ ghost use Rattle.turn_kit.specs.Turns.{Posted};
 ghost use Rattle.turn_kit.specs.Posts.{intake_post, outlet_post};
 ghost use Rattle.turn_kit.specs.Table.{next_op, state_after, start_state, is_settled, Agrees, moves_entry};
 
-use crate::each::Listed;
 use crate::EndState;
+use crate::each::Listed;
 use cargo_core::{Body, Item};
 use wire_core::{Answer, Event, Op, QueueId, Ringer, Side, Waiter, Wires};
 
@@ -148,6 +148,7 @@ impl Intake {
 
 impl Listed for Intake {
     ghost post = { intake_post };
+
     ghost queue = { λ end. end.queue };
 
     fn queue(&self) -> QueueId {
@@ -242,6 +243,7 @@ impl Outlet {
 
 impl Listed for Outlet {
     ghost post = { outlet_post };
+
     ghost queue = { λ end. end.queue };
 
     fn queue(&self) -> QueueId {
