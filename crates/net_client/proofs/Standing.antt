@@ -1,4 +1,4 @@
-use Rattle.std.proofs.Common.{◌≡◌, ◌==◌, ◌++◌, ℕ, Some, Option, List, [], map, sym, ap, ◌∙◌, append_assoc, slice_get, arith}
+use Rattle.std.proofs.Common.{◌≡◌, ◌==◌, ◌++◌, ℕ, Some, Option, List, [], map, sym, ap, ◌∙◌, append_assoc, length, length-append, slice_get, arith}
 use Rattle.std.specs.Option.{option_to_list}
 use Rattle.std.proofs.lemmas.Bool.{ne_eqb}
 use Rattle.std.proofs.lemmas.List.{append-nil, map-append}
@@ -38,6 +38,12 @@ module _ (c : NetClient) (r : Recorder) (got : Option Cargo) (passed : Passed) (
     start = h.start;
     is_start = h.is_start;
     given = rw (input, output, load, came, puts (rx_free c), append-nil (passed.sent (rx_free c))) given_on;
+    came =
+        let held = ap length load ∙ length-append (option_to_list c.frames.pipe.load) (option_to_list got) in
+        rw (input, came) (let all = length-append (passed.taken (rx_active c)) (option_to_list got) in omega (arith, held, all, h.came));
+    first = λ some.
+        let held = ap length load ∙ length-append (option_to_list c.frames.pipe.load) (option_to_list got) in
+        rw (input, came) (let all = length-append (passed.taken (rx_active c)) (option_to_list got) in omega (arith, held, all, h.first some));
     got = rw (input, came, tape, h.got) (sym (map-append frame_of (passed.taken (rx_active c)) (option_to_list got)));
     sends = rw (puts (tx_active c), append-nil (passed.sent (tx_active c))) h.sends;
     returned = rw (came_not, append-nil (passed.taken (tx_free c))) h.returned;

@@ -1,5 +1,5 @@
 -- The network client: what it must fit, what it stands for, and its row.
-use Rattle.std.specs.Prelude.{◌≡◌, ◌⊎◌, ℕ, Bool, false, is_some, is_none, ◌||◌, None, List, [], ◌∷◌, ◌++◌, map, option_to_list}
+use Rattle.std.specs.Prelude.{◌≡◌, ◌⊎◌, ◌+◌, ◌-◌, ◌<◌, ◌≤◌, ◌^◌, ℕ, Bool, true, false, is_some, is_none, ◌||◌, None, List, [], ◌∷◌, ◌++◌, length, map, option_to_list}
 use Rattle.cargo_core.specs.declared.item.Body.{Body}
 use Rattle.cargo_core.specs.declared.item.QueueKind.TheVariants as Kind
 use Rattle.cargo_core.specs.Lists.{IsPrefix}
@@ -35,7 +35,8 @@ tx_active c = c.send.queue.0
 abbrev pub tx_free : NetClient → ℕ
 tx_free c = c.sent.queue.0
 
--- its ends are its own, and as it keeps them; all are queues of the network
+-- its ends are its own, and as it keeps them; all are queues of the network; and its buffers can be
+-- counted
 pub record FitsClient (ends : Role → ℕ → End) (c : NetClient) : Type 0 where
   pub frames : FitsPipe ends c.frames.pipe
   pub sent : Agrees (ends Consumer (tx_free c)) c.sent.state
@@ -44,18 +45,23 @@ pub record FitsClient (ends : Role → ℕ → End) (c : NetClient) : Type 0 whe
   pub inputs_apart : rx_active c ≡ tx_free c → ⊥
   pub outputs_apart : rx_free c ≡ tx_active c → ⊥
   pub stock : IsStock c.stock
+  pub few : length c.stock.rest.items + length c.spare.items < 2 ^ 32 - 2
 
 -- what it has yet to put: buffers that it didn't give yet, and then the one that it took
 abbrev pub client_owes : NetClient → List Cargo
 client_owes c = stock_list c.stock ++ option_to_list c.frames.pipe.load
 
--- it put its buffers in rising number and then those that it took, but for what it owes; it
--- recorded the frames that it took; and it sent nothing
+-- it put its buffers in rising number and then those that it took, but for what it owes: one of
+-- those that it took at most, and till all of its own are given it took no other; it recorded the
+-- frames that it took; and it sent nothing
 pub record ClientStandsFor (c : NetClient) (passed : Passed) : Type 0 where
   pub start : List Paged
   pub is_start : IsStart c.stock start
   pub given : passed.sent (rx_free c) ++ client_owes c ≡ map
       (given_entry c.stock.base c.stock.size) start ++ passed.taken (rx_active c)
+  pub came : length (option_to_list c.frames.pipe.load) ≤ length (passed.taken (rx_active c))
+  pub first : is_some c.stock.next ≡ true
+      → length (passed.taken (rx_active c)) ≤ length (option_to_list c.frames.pipe.load)
   pub got : c.frames.tape.shown ≡ map frame_of (passed.taken (rx_active c))
   pub sends : passed.sent (tx_active c) ≡ []
   pub returned : passed.taken (tx_free c) ≡ []
@@ -95,6 +101,7 @@ pub record IsNewClient (rx_active rx_free tx_active tx_free : QueueId) (pages sp
   pub is_start : IsStart c.stock pages
   pub base : c.stock.base ≡ 0
   pub stock : stock_list c.stock ≡ map (given_entry 0 c.stock.size) pages
+  pub ready : IsStock c.stock
   pub spare_is : c.spare.items ≡ spare
   pub last : c.turn.last ≡ 65535
 
