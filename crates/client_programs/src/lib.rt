@@ -1,6 +1,6 @@
 //! The programs of the clients. A serial client says its script and records what it gets: a reader
-//! is one whose script is empty, a speaker any other. The programs are this project's own; that a
-//! client has one queue each way is sDDF's.
+//! is one whose script is empty, a speaker any other. A network client records frames. The programs
+//! are this project's own; that a serial client has one queue each way is sDDF's.
 #![tactic(auto)]
 
 ghost use Rattle.std.specs.Prelude.{◌≡◌};
@@ -11,6 +11,7 @@ ghost use Rattle.serial_terminal.specs.contracts.Terminal.{the_row as terminal_r
 ghost use Rattle.client_programs.specs.contracts.SerialClient.{the_row};
 
 use cargo_core::Bytes;
+pub use net_client::NetClient;
 use serial_terminal::Terminal;
 use std::alloc::Global;
 use std::ops::{Deref, DerefMut};
