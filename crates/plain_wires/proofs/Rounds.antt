@@ -1,4 +1,4 @@
--- What stands in the slots after an entry was taken, and after one was put.
+-- What stands in the slots after an entry was taken, and after one was put; and its buffers.
 use Rattle.std.proofs.Common.{◌≡◌, ◌≢◌, ℕ, zero, suc, ◌+◌, ◌-◌, ◌*◌, ◌/◌, ◌%◌, ◌^◌, ◌<◌, ◌≤◌, List, [], ◌∷◌, ◌++◌, length, get_or, set, refl, sym, ap, ◌∙◌, subst, arith, Option, Some, None, append-nil, append_assoc, length-append, mul-le-mul_right, suc-mul, lt_of_not-le, div-add-mod'}
 use Rattle.std.specs.Prelude.{option_to_list}
 use Rattle.std.proofs.Math.Nat.{mod-add-mod, mod-mod_of_dvd, mul-mod_left, mod-lt, pow-le-pow_right}
@@ -6,9 +6,16 @@ use Rattle.std.proofs.lemmas.Nat.{pow-add, pow_pos}
 use Rattle.std.proofs.lemmas.Nat.Gcd.{dvd_of_mod-eq-zero}
 use Rattle.std.proofs.lemmas.List.{get_or-set_same, get_or-set_other}
 use native.Mathlib.Decide.{dec_le}
+use Rattle.std.specs.Prelude.{map, sum_by}
+use Rattle.std.proofs.lemmas.List.{map-append}
+use Rattle.std.proofs.lemmas.List.Sums.{sum-map, sum_by-append}
+use Rattle.cargo_core.specs.declared.item.PoolId.{PoolId}
+use Rattle.cargo_core.specs.declared.item.Body.{Body}
+use Rattle.cargo_core.specs.Bodies.{buffers_in, buffers_of}
 use Rattle.wire_core.specs.Deeds.{Cargo}
 use Rattle.cargo_core.specs.Capacities.{IsCapacity}
 use Rattle.plain_wires.specs.Contents.{distance, standing}
+use Rattle.plain_wires.specs.Pages.{pages_among}
 
 -- a capacity divides the numbers of an index
 capacity_fits : (n : ℕ) → IsCapacity n → (0 < n) × (n ≤ 32768) × (65536 % n ≡ 0)
@@ -148,3 +155,21 @@ leaves xs n h t k p y x at empty is =
     ∙ (ap (λ (z : Cargo). z ∷ standing (set xs (h % n) None) n ((h + 1) % 65536) (distance ((h + 1) % 65536) t)) same
     ∙ (ap (λ (z : ℕ). x ∷ standing (set xs z None) n ((h + 1) % 65536) (distance ((h + 1) % 65536) t)) (sym at)
     ∙ ap (λ (z : Option Cargo). x ∷ standing (set xs p z) n ((h + 1) % 65536) (distance ((h + 1) % 65536) t)) (sym empty)))
+
+-- how many buffers entries carry, one list after another
+among_append : (pool : PoolId) (xs ys : List Cargo) → pages_among pool (xs ++ ys) ≡ pages_among pool xs + pages_among pool ys
+among_append pool xs ys =
+    let bodies : List Cargo → List Body = (λ cs. map (λ (c : Cargo). c.1) cs) in
+    ap (buffers_of pool) (map-append (λ (c : Cargo). c.1) xs ys)
+    ∙ (sum-map (buffers_in pool) (bodies xs ++ bodies ys)
+    ∙ (sum_by-append (buffers_in pool) (bodies xs) (bodies ys)
+    ∙ (ap (λ n. n + sum_by (buffers_in pool) (bodies ys)) (sym (sum-map (buffers_in pool) (bodies xs)))
+    ∙ ap (λ n. buffers_of pool (bodies xs) + n) (sym (sum-map (buffers_in pool) (bodies ys))))))
+
+-- one slot more is counted
+pub one_more : (pool : PoolId) (xs : List (Option Cargo)) (n h k pages : ℕ) (o : Option Cargo) → IsCapacity n → pages ≡ pages_among pool (standing xs n h k) → get_or xs (((h + k) % 65536) % n) None ≡ o → pages + pages_among pool (option_to_list o) ≡ pages_among pool (standing xs n h (k + 1))
+one_more pool xs n h k pages o sized before at =
+    let place : get_or xs ((h + k) % n) None ≡ o = ap (λ i. get_or xs i None) (sym (wraps n (h + k) (capacity_fits n sized).2)) ∙ at in
+    let all : standing xs n h (suc k) ≡ standing xs n h k ++ option_to_list o = last_slot xs n h k ∙ ap (λ x. standing xs n h k ++ option_to_list x) place in
+    let more : k + 1 ≡ suc k = omega arith in
+    ap (λ m. m + pages_among pool (option_to_list o)) before ∙ (sym (among_append pool (standing xs n h k) (option_to_list o)) ∙ (sym (ap (pages_among pool) all) ∙ ap (λ j. pages_among pool (standing xs n h j)) (sym more)))

@@ -1,15 +1,16 @@
 //! One queue: what stands in it, its two bells, and the looks that answered yes and aren't used.
 
-ghost use Rattle.std.specs.Prelude.{◌≡◌, ◌<◌, not, true, false, length, IfOk, Some, None, [], ◌∷◌};
+ghost use Rattle.std.specs.Prelude.{◌≡◌, ◌<◌, ◌≤◌, not, true, false, length, IfOk, Some, None, [], ◌∷◌};
 ghost use Rattle.cargo_core.specs.Items.{kind_of};
 ghost use Rattle.wire_core.specs.Deeds.{answer_of};
 ghost use Rattle.wire_core.specs.Ends.{Condition, Consumer, Producer};
 ghost use Rattle.wire_core.specs.Queues.{Queue, queue_after, start_queue, end_of, bell_of, with_bell, is_filled, has_room};
 ghost use Rattle.cargo_core.specs.Capacities.{IsCapacity};
+ghost use Rattle.plain_wires.specs.Pages.{pages_at};
 ghost use Rattle.plain_wires.specs.Pendings.{waiting_actor};
 
 use crate::slots::Slots;
-use cargo_core::{Body, Item, Memory, QueueKind};
+use cargo_core::{Body, Item, Memory, PoolId, QueueKind};
 use std::alloc::Global;
 use std::marker::Model;
 use wire_core::{ActorId, Answer, BellState, Op, QueueRow, Ringer, Side, Waiter};
@@ -72,6 +73,14 @@ impl PlainQueue {
         ensures { result ≡ length self.now.entries }
     {
         u32::from(self.cargo.len())
+    }
+
+    /// How many buffers of a pool stand in it.
+    pub fn pages(&self, pool: PoolId) -> u32
+        ensures pages { result ≡ pages_at pool self.now }
+        ensures few { result ≤ 65535 }
+    {
+        self.cargo.pages(pool)
     }
 
     /// The actor that waits on a bell: forward the consumer, backward the producer.

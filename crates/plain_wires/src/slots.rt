@@ -1,9 +1,11 @@
 //! The entries of one queue, in slots that are made once, between two indices of 16 bits.
 
-ghost use Rattle.std.specs.Prelude.{◌≡◌, ◌<◌, not, nat_lt, [], ◌∷◌, ◌++◌, length, IfOk};
+ghost use Rattle.std.specs.Prelude.{◌≡◌, ◌<◌, ◌≤◌, not, nat_lt, [], ◌∷◌, ◌++◌, length, option_to_list, IfOk};
 ghost use Rattle.cargo_core.specs.Capacities.{IsCapacity};
+ghost use Rattle.plain_wires.specs.Contents.{standing};
+ghost use Rattle.plain_wires.specs.Pages.{pages_among};
 
-use cargo_core::{Body, Item, Memory};
+use cargo_core::{Body, Item, Memory, PoolId};
 use std::alloc::Global;
 use std::marker::Model;
 
@@ -29,6 +31,39 @@ impl Model for Slots {
     ghost view = { contents_of };
 
     ghost invariant = { IsSlots };
+}
+
+// How many buffers of a pool a slot has: one, or none.
+fn page_in(pool: PoolId, slot: &Option<(Item, Body)>) -> u32
+    ensures pages { result ≡ pages_among pool (option_to_list slot.now) }
+    ensures few { result ≤ 1 }
+{
+    match slot {
+        Some((_, Body::Page(page))) if page.pool().0 == pool.0 => 1,
+        _ => 0,
+    }
+}
+
+// How many buffers of a pool lie in so many slots, from that of an index on. There are as many slots
+// as a queue holds entries.
+fn pages_from(
+    pool: PoolId,
+    slots: &[Option<(Item, Body)>],
+    capacity: u16,
+    head: u16,
+    count: u16,
+) -> u32
+    requires sized { IsCapacity capacity }
+    requires places { length slots.now ≡ capacity }
+    ensures pages { result ≡ pages_among pool (standing slots.now capacity head count) }
+    ensures few { result ≤ 65535 }
+{
+    let mut pages = 0;
+    for place in 0..count {
+        let index = head.wrapping_add(place);
+        pages += page_in(pool, &slots[usize::from(index % capacity)]);
+    }
+    pages
 }
 
 impl Slots {
@@ -67,6 +102,14 @@ impl Slots {
         ensures { not result ≡ nat_lt (length self.now.entries) self.now.capacity }
     {
         self.tail.wrapping_sub(self.head) == self.capacity
+    }
+
+    /// How many buffers of a pool stand there.
+    pub fn pages(&self, pool: PoolId) -> u32
+        ensures pages { result ≡ pages_among pool self.now.entries }
+        ensures few { result ≤ 65535 }
+    {
+        pages_from(pool, &self.slots, self.capacity, self.head, self.len())
     }
 
     /// Takes the first entry.

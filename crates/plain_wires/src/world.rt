@@ -3,10 +3,11 @@
 ghost use Rattle.std.specs.Prelude.{◌≡◌, ◌<◌, ◌≤◌, ◌^◌, length, map, All, IfOk, IfSome, OnOk, slice_get, Some};
 ghost use Rattle.wire_core.specs.Sizes.{AreSized};
 ghost use Rattle.wire_core.specs.Queues.{Happens, bell_of, queue_at, end_at, starts, is_pending};
+ghost use Rattle.plain_wires.specs.Pages.{pages_in};
 ghost use Rattle.plain_wires.specs.Pendings.{IsCounted};
 
 use crate::queue::PlainQueue;
-use cargo_core::{Body, Item, Memory};
+use cargo_core::{Body, Item, Memory, PoolId};
 use std::alloc::Global;
 use std::marker::Model;
 use wire_core::{ActorId, BellState, Op, QueueId, QueueRow, Side, Wires};
@@ -56,6 +57,18 @@ fn none_pending(alloc: Global, rows: &[QueueRow]) -> Result<Vec<u64>, Memory>
     Ok(vec![in alloc; 0; actors_of(rows)]?)
 }
 
+// How many buffers of a pool stand in these queues.
+fn pages_in(pool: PoolId, queues: &[PlainQueue]) -> u32
+    requires { length queues.now ≤ 65536 }
+    ensures { result ≡ pages_in pool queues.now }
+{
+    let mut count = 0;
+    for queue in queues {
+        count += queue.pages(pool);
+    }
+    count
+}
+
 impl World {
     /// Every queue in its start state, with its room taken. Memory is the answer for want of memory
     /// alone.
@@ -80,6 +93,15 @@ impl World {
     {
         let queue = &self.queues[q.0 as usize];
         queue.len()
+    }
+
+    /// How many buffers of a pool stand in the queues, each as the body of an entry. The queues are
+    /// counted one by one, and are at most 65,536, as a `QueueId` can tell.
+    pub fn pages(&self, pool: PoolId) -> u32
+        requires { length self.now ≤ 65536 }
+        ensures { result ≡ pages_in pool self.now }
+    {
+        pages_in(pool, &self.queues)
     }
 
     /// Whether a pending word of one of the actor's waiters is 1: forward where it is the queue's
