@@ -11,7 +11,7 @@ use Rattle.owner_law.specs.Keeping.{Keeper, stands_in, IsShownBy}
 use Rattle.owner_law.specs.Pages.{as_page, CarryPages}
 
 -- as many pages as buffers are named
-pages_named : (b : Buffer) (names : Names) (rs : List Item) (k : ℕ) (cs : List Cargo) → ((i : ℕ) (c : Cargo) → slice_get cs i ≡ Some c → as_page b c.1 ≡ as_buffer b (thing_at names rs (k + i) c.0)) → sum_by (λ c. as_page b c.1) cs ≡ sum_by (as_buffer b) (things_from names rs k (items_of cs))
+pub pages_named : (b : Buffer) (names : Names) (rs : List Item) (k : ℕ) (cs : List Cargo) → ((i : ℕ) (c : Cargo) → slice_get cs i ≡ Some c → as_page b c.1 ≡ as_buffer b (thing_at names rs (k + i) c.0)) → sum_by (λ c. as_page b c.1) cs ≡ sum_by (as_buffer b) (things_from names rs k (items_of cs))
 pages_named b names rs k [] each = refl
 pages_named b names rs k (c ∷ cs) each =
     let here : as_page b c.1 ≡ as_buffer b (thing_at names rs k c.0) = each 0 c refl ∙ ap (λ n. as_buffer b (thing_at names rs n c.0)) plus in
@@ -23,7 +23,7 @@ pages_named b names rs k (c ∷ cs) each =
     shift : (i : ℕ) → k + suc i ≡ k + 1 + i
     shift i = omega arith
 
-get_first : {T : Type 0} (xs ys : List T) (k : ℕ) (x : T) → slice_get xs k ≡ Some x → slice_get (xs ++ ys) k ≡ Some x
+pub get_first : {T : Type 0} (xs ys : List T) (k : ℕ) (x : T) → slice_get xs k ≡ Some x → slice_get (xs ++ ys) k ≡ Some x
 get_first [] ys k x at = cc
 get_first (y ∷ xs) ys zero x at = at
 get_first (y ∷ xs) ys (suc k) x at = get_first xs ys k x at

@@ -26,7 +26,7 @@ pub below_same : (f g : ℕ → ℕ) (k : ℕ) → ((n : ℕ) → n < k → f n 
 below_same f g zero same = refl
 below_same f g (suc k) same = ap₂ (λ a b. a + b) (below_same f g k (λ n lt. same n (omega (arith, lt)))) (same k (omega arith))
 
-below_none : (f : ℕ → ℕ) (k : ℕ) → ((n : ℕ) → n < k → f n ≡ 0) → sum_below f k ≡ 0
+pub below_none : (f : ℕ → ℕ) (k : ℕ) → ((n : ℕ) → n < k → f n ≡ 0) → sum_below f k ≡ 0
 below_none f zero none = refl
 below_none f (suc k) none = omega (arith, below_none f k (λ n lt. none n (omega (arith, lt))), none k (omega arith))
 
@@ -38,7 +38,7 @@ below_one f (suc k) x d lt is none = one_by (eqb_tells x k) (λ off. below_one f
     one_by (inl h) rest = omega (arith, below_none f k (λ n n_lt. none n (λ e. omega (arith, e, h.1, n_lt))), ap f h.1, is)
     one_by (inr h) rest = omega (arith, rest h.1, none k h.1)
 
-below_swap : (f : ℕ → ℕ → ℕ) (a b : ℕ) → sum_below (λ i. sum_below (λ j. f i j) b) a ≡ sum_below (λ j. sum_below (λ i. f i j) a) b
+pub below_swap : (f : ℕ → ℕ → ℕ) (a b : ℕ) → sum_below (λ i. sum_below (λ j. f i j) b) a ≡ sum_below (λ j. sum_below (λ i. f i j) a) b
 below_swap f zero b = sym (below_none (λ j. 0) b (λ n lt. refl))
 below_swap f (suc a) b = ap (λ s. s + sum_below (λ j. f a j) b) (below_swap f a b) ∙ sym (below_plus (λ j. sum_below (λ i. f i j) a) (λ j. f a j) b)
 

@@ -1,0 +1,5 @@
+pub mod Handing
+pub mod Paging
+pub mod Lining
+pub mod Lasting
+pub mod Casting

@@ -1,0 +1,8 @@
+use Rattle.pool_law.proofs.Handing.{carry_start, carry_step}
+use Rattle.pool_law.proofs.carry_law.Goals as goal
+
+pub returns-clause-start : goal.returns-clause-start
+returns-clause-start c = carry_start
+
+pub returns-clause-step : goal.returns-clause-step
+returns-clause-step c = carry_step
