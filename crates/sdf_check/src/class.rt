@@ -76,12 +76,12 @@ fn joins(channel: &Channel, first: &str, second: &str) -> bool
 pub fn are_joined(judge: &Judge<'_>, first: &str, second: &str) -> bool
     ensures { IsTrue result ↔ AreJoined judge.now.plan.now (first.now, second.now) }
 {
-    for channel in judge.plan.channel.as_slice() {
-        if joins(channel, first, second) {
-            return true;
-        }
-    }
-    false
+    judge
+        .plan
+        .channel
+        .as_slice()
+        .iter()
+        .any(|channel| joins(channel, first, second))
 }
 
 /// Whether the domain of a name has an interrupt.
@@ -103,12 +103,7 @@ fn grants(map: &Map, region: &str, writes: bool) -> bool
 fn one_grants(maps: &[Map], region: &str, writes: bool) -> bool
     ensures { IsTrue result ↔ SomeOf (Grants region.now writes) maps.now }
 {
-    for map in maps {
-        if grants(map, region, writes) {
-            return true;
-        }
-    }
-    false
+    maps.iter().any(|map| grants(map, region, writes))
 }
 
 /// Whether the domain of a name maps a region, to read it, and to write it too where that is asked.
@@ -137,12 +132,7 @@ pub fn is_among(name: &str, names: &[&str]) -> bool
 pub fn maps_region(maps: &[Map], region: &str) -> bool
     ensures { IsTrue result ↔ SomeOf (λ (m : Map). m.mr ≡ region.now) maps.now }
 {
-    for map in maps {
-        if is_same(map.mr.as_str(), region) {
-            return true;
-        }
-    }
-    false
+    maps.iter().any(|map| is_same(map.mr.as_str(), region))
 }
 
 /// Whether a domain of none of these names maps a region. Where this is asked there are at most 63
@@ -150,12 +140,12 @@ pub fn maps_region(maps: &[Map], region: &str) -> bool
 pub fn has_stranger(judge: &Judge<'_>, region: &str, allowed: &[&str]) -> bool
     ensures { IsTrue result ↔ HasStranger judge.now.plan.now region.now (names_shown allowed.now) }
 {
-    for domain in judge.plan.protection_domain.as_slice() {
-        if is_outsider(domain, region, allowed) {
-            return true;
-        }
-    }
-    false
+    judge
+        .plan
+        .protection_domain
+        .as_slice()
+        .iter()
+        .any(|domain| is_outsider(domain, region, allowed))
 }
 
 fn is_outsider(domain: &Domain, region: &str, allowed: &[&str]) -> bool

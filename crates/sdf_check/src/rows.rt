@@ -26,12 +26,7 @@ fn queues_have_no_region(judge: &Judge<'_>, queues: &[QueueUse<&str>]) -> bool
     ensures { IsTrue result ↔ SomeOf (λ q.
         QueueHasNoRegion judge.now.plan.now (queue_shown q)) queues.now }
 {
-    for queue in queues {
-        if queue_has_no_region(judge, queue) {
-            return true;
-        }
-    }
-    false
+    queues.iter().any(|queue| queue_has_no_region(judge, queue))
 }
 
 fn pool_has_no_region(judge: &Judge<'_>, pool: &PoolUse<&str>) -> bool
@@ -44,12 +39,7 @@ fn pools_have_no_region(judge: &Judge<'_>, pools: &[PoolUse<&str>]) -> bool
     ensures { IsTrue result ↔ SomeOf (λ p.
         PoolHasNoRegion judge.now.plan.now (pool_shown p)) pools.now }
 {
-    for pool in pools {
-        if pool_has_no_region(judge, pool) {
-            return true;
-        }
-    }
-    false
+    pools.iter().any(|pool| pool_has_no_region(judge, pool))
 }
 
 /// Whether the region of a queue or of a pool isn't there.
@@ -70,12 +60,7 @@ fn roles_have_no_domain(judge: &Judge<'_>, roles: &[RoleUse<&str>]) -> bool
     ensures { IsTrue result ↔ SomeOf (λ r.
         RoleHasNoDomain judge.now.plan.now (role_shown r)) roles.now }
 {
-    for role in roles {
-        if role_has_no_domain(judge, role) {
-            return true;
-        }
-    }
-    false
+    roles.iter().any(|role| role_has_no_domain(judge, role))
 }
 
 /// Whether a domain that has a role isn't there.
@@ -122,12 +107,9 @@ fn queues_have_no_channel(judge: &Judge<'_>, queues: &[QueueUse<&str>]) -> bool
     ensures { IsTrue result ↔ SomeOf (λ q.
         QueueHasNoChannel judge.now.plan.now (queue_shown q)) queues.now }
 {
-    for queue in queues {
-        if queue_has_no_channel(judge, queue) {
-            return true;
-        }
-    }
-    false
+    queues
+        .iter()
+        .any(|queue| queue_has_no_channel(judge, queue))
 }
 
 fn driver_lacks_interrupt(judge: &Judge<'_>, driver: Option<&str>) -> bool
@@ -164,12 +146,7 @@ fn queues_lack_right(judge: &Judge<'_>, queues: &[QueueUse<&str>]) -> bool
     ensures { IsTrue result ↔ SomeOf (λ q.
         QueueLacksRight judge.now.plan.now (queue_shown q)) queues.now }
 {
-    for queue in queues {
-        if queue_lacks_right(judge, queue) {
-            return true;
-        }
-    }
-    false
+    queues.iter().any(|queue| queue_lacks_right(judge, queue))
 }
 
 fn one_lacks_right(judge: &Judge<'_>, region: &str, must: &[Grant<&str>]) -> bool
@@ -195,12 +172,7 @@ fn pools_lack_right(judge: &Judge<'_>, pools: &[PoolUse<&str>]) -> bool
     ensures { IsTrue result ↔ SomeOf (λ p.
         PoolLacksRight judge.now.plan.now (pool_shown p)) pools.now }
 {
-    for pool in pools {
-        if pool_lacks_right(judge, pool) {
-            return true;
-        }
-    }
-    false
+    pools.iter().any(|pool| pool_lacks_right(judge, pool))
 }
 
 /// Whether a domain lacks a map that a queue or a pool asks of it.
@@ -224,23 +196,13 @@ fn queues_have_stranger(judge: &Judge<'_>, queues: &[QueueUse<&str>]) -> bool
     ensures { IsTrue result ↔ SomeOf (λ q.
         QueueHasStranger judge.now.plan.now (queue_shown q)) queues.now }
 {
-    for queue in queues {
-        if queue_has_stranger(judge, queue) {
-            return true;
-        }
-    }
-    false
+    queues.iter().any(|queue| queue_has_stranger(judge, queue))
 }
 
 fn must_map(must: &[Grant<&str>], name: &str) -> bool
     ensures { IsTrue result ↔ SomeOf (λ g. g.domain.now ≡ name.now) must.now }
 {
-    for grant in must {
-        if is_same(grant.domain, name) {
-            return true;
-        }
-    }
-    false
+    must.iter().any(|grant| is_same(grant.domain, name))
 }
 
 fn allows(pool: &PoolUse<&str>, name: &str) -> bool
@@ -259,12 +221,12 @@ fn is_stranger(domain: &Domain, pool: &PoolUse<&str>) -> bool
 fn pool_has_stranger(judge: &Judge<'_>, pool: &PoolUse<&str>) -> bool
     ensures { IsTrue result ↔ PoolHasStranger judge.now.plan.now (pool_shown pool.now) }
 {
-    for domain in judge.plan.protection_domain.as_slice() {
-        if is_stranger(domain, pool) {
-            return true;
-        }
-    }
-    false
+    judge
+        .plan
+        .protection_domain
+        .as_slice()
+        .iter()
+        .any(|domain| is_stranger(domain, pool))
 }
 
 fn pools_have_stranger(judge: &Judge<'_>, pools: &[PoolUse<&str>]) -> bool
@@ -290,12 +252,7 @@ pub fn is_shared_with_stranger(judge: &Judge<'_>, element: &ClassElement<&str>) 
 fn queues_have_bad_capacity(queues: &[QueueUse<&str>]) -> bool
     ensures { IsTrue result ↔ SomeOf (λ q. ¬ IsCapacity q.capacity) queues.now }
 {
-    for queue in queues {
-        if !is_capacity(queue.capacity) {
-            return true;
-        }
-    }
-    false
+    queues.iter().any(|queue| !is_capacity(queue.capacity))
 }
 
 /// Whether the capacity of a queue is no power of two from 1 to 32,768.
@@ -308,12 +265,9 @@ pub fn has_bad_capacity(element: &ClassElement<&str>) -> bool
 fn queues_have_low_capacity(queues: &[QueueUse<&str>]) -> bool
     ensures { IsTrue result ↔ SomeOf (λ q. q.capacity < q.holds) queues.now }
 {
-    for queue in queues {
-        if (queue.capacity as u128) < queue.holds {
-            return true;
-        }
-    }
-    false
+    queues
+        .iter()
+        .any(|queue| (queue.capacity as u128) < queue.holds)
 }
 
 /// Whether a queue has fewer entries than buffers or requests may come to stand there.
@@ -336,12 +290,7 @@ fn queues_lack_room(judge: &Judge<'_>, queues: &[QueueUse<&str>]) -> bool
     ensures { IsTrue result ↔ SomeOf (λ q.
         QueueLacksRoom judge.now.plan.now (queue_shown q)) queues.now }
 {
-    for queue in queues {
-        if queue_lacks_room(judge, queue) {
-            return true;
-        }
-    }
-    false
+    queues.iter().any(|queue| queue_lacks_room(judge, queue))
 }
 
 fn pool_lacks_room(judge: &Judge<'_>, pool: &PoolUse<&str>) -> bool
@@ -354,12 +303,7 @@ fn pools_lack_room(judge: &Judge<'_>, pools: &[PoolUse<&str>]) -> bool
     ensures { IsTrue result ↔ SomeOf (λ p.
         PoolLacksRoom judge.now.plan.now (pool_shown p)) pools.now }
 {
-    for pool in pools {
-        if pool_lacks_room(judge, pool) {
-            return true;
-        }
-    }
-    false
+    pools.iter().any(|pool| pool_lacks_room(judge, pool))
 }
 
 /// Whether a region ends before the queue or the pool that stands there.
