@@ -1,6 +1,7 @@
 //! The programs of the clients. A serial client says its script and records what it gets: a reader
-//! is one whose script is empty, a speaker any other. A network client records frames. The programs
-//! are this project's own; that a serial client has one queue each way is sDDF's.
+//! is one whose script is empty, a speaker any other. A network client records frames. A block
+//! client asks for blocks and records what comes back. The programs are this project's own; that a
+//! serial client has one queue each way is sDDF's.
 #![tactic(auto)]
 
 ghost use Rattle.std.specs.Prelude.{◌≡◌};
@@ -10,6 +11,7 @@ ghost use Rattle.serial_terminal.specs.Terminals.{IsNewTerminal, TerminalStandsF
 ghost use Rattle.serial_terminal.specs.contracts.Terminal.{the_row as terminal_row};
 ghost use Rattle.client_programs.specs.contracts.SerialClient.{the_row};
 
+pub use blk_client::BlkClient;
 use cargo_core::Bytes;
 pub use net_client::NetClient;
 use serial_terminal::Terminal;

@@ -1,0 +1,3 @@
+pub mod Pages
+pub mod Asks
+pub mod Standing
