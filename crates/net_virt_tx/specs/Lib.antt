@@ -5,3 +5,4 @@ pub mod Queued
 pub mod Serving
 pub mod Clients
 pub mod Traffics
+pub mod Sending

@@ -14,12 +14,13 @@ ghost use Rattle.net_kit.specs.Virtualising.{FitsVirt, VirtOwns, SameVirt, from_
 ghost use Rattle.net_virt_tx.specs.Descriptors.{to_device, to_client};
 ghost use Rattle.net_virt_tx.specs.Queued.{returns_list};
 ghost use Rattle.net_virt_tx.specs.Serving.{is_good_of};
-ghost use Rattle.net_virt_tx.specs.Clients.{IsClient, IsFresh, Moved, is_idle, is_leaving, is_loaded, load_of, comes_in_turn, is_away, buffer_at, number_of, is_marked, capped};
+ghost use Rattle.net_virt_tx.specs.Clients.{IsClient, IsFresh, Moved, is_idle, is_leaving, is_loaded, load_of, comes_in_turn, is_away, buffer_at, number_of, is_marked, capped, carried, client_cargo};
 
 use crate::{Marks, Returns, Sender, to_client, to_device};
-use cargo_core::{Body, Item, Memory};
+use cargo_core::{Body, Item, Memory, PoolId};
 use net_kit::{VirtEnds, address};
 use std::alloc::Global;
+use turn_kit::count_held;
 use wire_core::{Event, Wires};
 
 const SIZE: u64 = 2048;
@@ -103,6 +104,16 @@ impl Client {
         ensures { result ≡ is_loaded self.now }
     {
         self.bad.is_some() || self.returns.next.is_some()
+    }
+
+    /// How many buffers of a pool it has here.
+    pub fn held(&self, pool: PoolId) -> u32
+        requires work { IsClient self.now }
+        requires few { self.now.sender.buffers + 2 < 2 ^ 32 }
+        ensures held { result ≡ carried pool (client_cargo self.now) }
+        ensures few { result ≤ self.now.sender.buffers + 1 }
+    {
+        count_held(pool, &self.leaving) + count_held(pool, &self.bad) + self.returns.held(pool)
     }
 
     /// Whether a descriptor that came is bad, or at a buffer that isn't inside.

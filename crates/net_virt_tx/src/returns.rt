@@ -1,10 +1,13 @@
 //! Buffers that came back from the driver and wait for room at their client.
-ghost use Rattle.std.specs.Prelude.{◌≡◌, ◌≤◌, ◌<◌, [], ◌∷◌, ◌++◌, None, IfOk, length};
+ghost use Rattle.std.specs.Prelude.{◌≡◌, ◌≤◌, ◌<◌, ◌^◌, [], ◌∷◌, ◌++◌, None, IfOk, length};
+ghost use Rattle.cargo_core.specs.Bodies.{buffers_of};
+ghost use Rattle.turn_kit.specs.Hands.{bodies_of};
 ghost use Rattle.net_virt_tx.specs.Queued.{returns_list, IsReady};
 
 use crate::Waiting;
-use cargo_core::{Body, Item, Memory};
+use cargo_core::{Body, Item, Memory, PoolId};
 use std::alloc::Global;
+use turn_kit::count_held;
 
 /// Entries that wait: `next` is the first of them, and `later` has the others.
 #[derive(Drop)]
@@ -47,5 +50,14 @@ impl Returns {
         ensures places { self.new.later.places ≡ self.old.later.places }
     {
         self.next = self.later.pop();
+    }
+
+    /// How many of them carry a buffer of a pool.
+    pub fn held(&self, pool: PoolId) -> u32
+        requires { length (returns_list self.now) < 2 ^ 32 }
+        ensures held { result ≡ buffers_of pool (bodies_of (returns_list self.now)) }
+        ensures few { result ≤ length (returns_list self.now) }
+    {
+        count_held(pool, &self.next) + self.later.held(pool)
     }
 }

@@ -1,8 +1,9 @@
 //! What the sending virtualiser keeps of all its clients.
-ghost use Rattle.std.specs.Prelude.{◌≡◌, ◌+◌, ◌<◌, ◌^◌, ◌++◌, ◌==◌, [], ℕ, List, Some, None, true, false, is_some, length, slice_get};
+ghost use Rattle.std.specs.Prelude.{◌≡◌, ◌+◌, ◌*◌, ◌<◌, ◌≤◌, ◌^◌, ◌++◌, ◌==◌, [], ℕ, List, Some, None, true, false, All, IfOk, is_some, length, map, slice_get};
 ghost use Rattle.std.specs.Option.{MatchOption, option_to_list};
 ghost use Rattle.cargo_core.specs.declared.item.QueueKind.TheVariants as Kind;
 ghost use Rattle.cargo_core.specs.declared.item.PoolId.{PoolId};
+ghost use Rattle.cargo_core.specs.Bodies.{buffers_of};
 ghost use Rattle.cargo_core.specs.Items.{kind_of};
 ghost use Rattle.wire_core.specs.Deeds.{Cargo, deed_of, put_of};
 ghost use Rattle.wire_core.specs.Lists.{taken_by, put_by, if_there};
@@ -13,13 +14,16 @@ ghost use Rattle.net_kit.specs.Entries.{addr_of};
 ghost use Rattle.net_kit.specs.Virtualising.{FitsVirt, VirtOwns, SameVirt, from_queues, to_queues, virt_posts};
 ghost use Rattle.net_virt_tx.specs.declared.client.Client.{Client};
 ghost use Rattle.net_virt_tx.specs.declared.traffic.Traffic.{Traffic};
-ghost use Rattle.net_virt_tx.specs.Clients.{is_away, carried};
-ghost use Rattle.net_virt_tx.specs.Traffics.{IsTraffic, OneMoved, TookBack, TookIn, is_free, needs_at, loaded_at, owes, leaving_at, load_at, bad_count, IsStill, TrafficStands, with_more, traffic_cargo};
+ghost use Rattle.net_virt_tx.specs.declared.TxEnds.{TxEnds};
+ghost use Rattle.net_virt_tx.specs.Clients.{IsFresh, is_away, carried};
+ghost use Rattle.net_virt_tx.specs.Traffics.{IsTraffic, OneMoved, TookBack, TookIn, is_free, needs_at, loaded_at, owes, leaving_at, load_at, bad_count, IsStill, TrafficStands, with_more, traffic_cargo, traffic_hand};
+ghost use Rattle.net_virt_tx.specs.Sending.{FitsClients, IsNewTraffic, sender_of};
 
-use crate::Client;
-use cargo_core::{Body, Item, Ranges};
+use crate::{Client, TxEnds};
+use cargo_core::{Body, Item, Memory, PoolId, Ranges};
 use net_kit::{VirtEnds, address};
-use turn_kit::Needs;
+use std::alloc::Global;
+use turn_kit::{Needs, count_held};
 use wire_core::{Event, Wires};
 
 /// What is kept of each client, and the ranges of their buffers. After an entry came out of turn,
@@ -59,7 +63,36 @@ impl<'a> Needs for Loaded<'a> {
     }
 }
 
+// Clients of which nothing came yet.
+fn served(alloc: Global, clients: &[TxEnds]) -> Result<Vec<Client>, Memory>
+    requires { All (λ (c : TxEnds). c.base + c.buffers * 2048 ≤ 2 ^ 62) clients.now }
+    ensures senders { IfOk result
+        (λ v. map (λ (c : Client). c.sender) v.items ≡ map sender_of clients.now) }
+    ensures fresh { IfOk result (λ v. (k : ℕ) (c : Client) → slice_get v.items k ≡ Some c
+        → IsFresh c) }
+{
+    let mut served = Vec::with_capacity(alloc, clients.len())?;
+    for client in clients {
+        served.push(Client::new(alloc, client.sender())?)?;
+    }
+    Ok(served)
+}
+
 impl Traffic {
+    /// Of these clients nothing came yet.
+    pub fn new(alloc: Global, clients: &[TxEnds], ranges: Ranges) -> Result<Traffic, Memory>
+        requires { FitsClients clients.now ranges }
+        ensures new { IfOk result (λ w. IsNewTraffic (map sender_of clients.now) w) }
+        ensures work { IfOk result (λ w. IsTraffic w) }
+    {
+        let clients = served(alloc, clients)?;
+        Ok(Traffic {
+            clients,
+            ranges,
+            stray: None,
+        })
+    }
+
     /// Whether no entry came out of turn.
     pub fn is_free(&self) -> bool
         ensures { result ≡ is_free self.now }
@@ -215,6 +248,18 @@ impl Traffic {
     {
         let client = &mut self.clients[place];
         client.give(ends, wires, place)
+    }
+
+    /// How many buffers of a pool are in its hand.
+    pub fn held(&self, pool: PoolId) -> u32
+        requires { IsTraffic self.now }
+        ensures { result ≡ buffers_of pool (traffic_hand self.now) }
+    {
+        let mut count = count_held(pool, &self.stray);
+        for client in &self.clients {
+            count += client.held(pool);
+        }
+        count
     }
 
     /// How many bad descriptors came. The count stands still at its type's end.
