@@ -1,6 +1,7 @@
-use Rattle.std.proofs.Common.{◌≡◌, ◌==◌, ◌+◌, ◌*◌, ◌++◌, ◌<◌, ◌≤◌, ℕ, zero, suc, Bool, true, false, nat_le, cond, Some, List, [], ◌∷◌, length, map, slice_get, slice_index_or, refl, sym, ap, ◌∙◌, subst, arith, eq-eqb, inl, inr}
+use Rattle.std.proofs.Common.{◌≡◌, ◌==◌, ◌+◌, ◌*◌, ◌++◌, ◌<◌, ◌≤◌, ℕ, zero, suc, Bool, true, false, nat_le, cond, Some, List, [], ◌∷◌, length, map, drop, slice_get, slice_index_or, refl, sym, ap, ◌∙◌, subst, arith, eq-eqb, inl, inr}
 use Rattle.std.specs.List.{filter}
-use Rattle.std.proofs.lemmas.Bool.{lt-leb}
+use Rattle.std.proofs.lemmas.Bool.{lt-leb, leb-true}
+use Rattle.std.proofs.lemmas.List.{length-append, length-drop}
 use Rattle.cargo_core.specs.Lists.{IsPrefix, replaced}
 use Rattle.cargo_core.specs.declared.item.Item.{Item}
 use Rattle.cargo_core.specs.declared.item.Item.TheVariants as ItemOf
@@ -18,6 +19,7 @@ use Rattle.net_kit.specs.Entries.{addr_of, frame_of, with_len, filled, all_fille
 use Rattle.net_kit.specs.Virtualising.{from_queues}
 use Rattle.net_kit.specs.declared.stock.Stock.{Stock}
 use Rattle.net_client.specs.declared.NetClient.{NetClient}
+use Rattle.net_copier.specs.Copying.{leased_bytes}
 use Rattle.net_copier.specs.declared.NetCopier.{NetCopier}
 use Rattle.net_virt_rx.specs.Sharing.{IsBuffer, IsFrameInTurn, IsLeaseInTurn, lease_of, leases_for, named, number_of}
 use Rattle.net_virt_rx.specs.Receiving.{IsOutOfTurn, RxRow, queue_at}
@@ -60,17 +62,21 @@ address_is n (ItemOf.Byte b) = refl
 address_is n (ItemOf.Req r) = refl
 address_is n (ItemOf.Resp r) = refl
 
+-- what has its first bytes replaced is as long as it was
+pub replaced_long : (bytes old : List ℕ) → length bytes ≤ length old → length (replaced old 0 bytes) ≡ length old
+replaced_long bytes old fits = let whole = length-append bytes (drop (0 + length bytes) old) in let rest = length-drop (0 + length bytes) old in omega (arith, whole, rest, fits)
+
 -- an entry that is filled is that of the same buffer
 filled_buffer : (s : Stock) (bytes : List ℕ) (c : Cargo) → IsBuffer s c → IsBuffer s (filled bytes c)
-filled_buffer s bytes (item, Carried.Page page) is = by (nat_le (length bytes) (length page.bytes))
+filled_buffer s bytes (item, Carried.Page page) is = by (nat_le (length bytes) (length page.bytes)) refl
   where
-    by : (t : Bool) → IsBuffer s (with_len (length bytes) item, cond t (Carried.Page (record { pool = page.pool; no = page.no; bytes = replaced page.bytes 0 bytes })) (Carried.Page page))
-    by true = (is.0, is.1, address_is (length bytes) item ∙ is.2)
-    by false = (is.0, is.1, address_is (length bytes) item ∙ is.2)
+    by : (t : Bool) → nat_le (length bytes) (length page.bytes) ≡ t → IsBuffer s (with_len (length bytes) item, cond t (Carried.Page (record { pool = page.pool; no = page.no; bytes = replaced page.bytes 0 bytes })) (Carried.Page page))
+    by true fits = (is.0, is.1, address_is (length bytes) item ∙ is.2, replaced_long bytes page.bytes (leb-true (length bytes) (length page.bytes) fits) ∙ is.3)
+    by false fits = (is.0, is.1, address_is (length bytes) item ∙ is.2, is.3)
 filled_buffer s bytes (item, Carried.Empty) is = absurd is
 filled_buffer s bytes (item, Carried.Lease lease) is = absurd is
 
-filled_at : (fs : List (List ℕ)) (cs : List Cargo) (k : ℕ) (c : Cargo) → slice_get (all_filled fs cs) k ≡ Some c → (f : List ℕ) × (y : Cargo) × (slice_get cs k ≡ Some y) × (filled f y ≡ c)
+pub filled_at : (fs : List (List ℕ)) (cs : List Cargo) (k : ℕ) (c : Cargo) → slice_get (all_filled fs cs) k ≡ Some c → (f : List ℕ) × (y : Cargo) × (slice_get cs k ≡ Some y) × (filled f y ≡ c)
 filled_at [] cs k c at = cc
 filled_at (f ∷ fs) [] k c at = cc
 filled_at (f ∷ fs) (y ∷ cs) zero c at = (f, y, refl, some_is at)
@@ -221,6 +227,13 @@ module _ (d : EthDevice) (p : Pipes (Pipes (Pipes Pipe))) (v : NetVirtRx) (copie
       let few = h.short f.1 (frame_of f.0) (frame_there f.1 f.0 (prefix_get (row.turn into) came turn_begins f.1 f.0 f.2)) in
       let lease : IsLease (lease_of s.size f.0) = record { in_turn = lt-leb 65536 (length (frame_of f.0)) few; long = refl } in
       subst IsLease f.3 lease
+
+  pub copiers_read : (k : ℕ) (c : NetCopier) → slice_get copiers k ≡ Some c → (j : ℕ) (x : Cargo) → slice_get (passed.taken c.lease_input.queue.0) j ≡ Some x → (i : ℕ) × (slice_get d.frames i ≡ Some (leased_bytes x))
+  copiers_read k c at j x is =
+      let client = h.client_of k c at in
+      let f = lease_at s.size client.0 (row.turn into) j x (prefix_get (passed.taken c.lease_input.queue.0) (leases_for s.size client.0 (row.turn into)) (leases_taken k c client.0 at client.1) j x is) in
+      let there : slice_get d.frames f.1 ≡ Some (frame_of f.0) = frame_there f.1 f.0 (prefix_get (row.turn into) came turn_begins f.1 f.0 f.2) in
+      (f.1, subst (λ (y : Cargo). slice_get d.frames f.1 ≡ Some (leased_bytes y)) f.3 there)
 
   pub records_begin : (k : ℕ) (mac : Mac) (c : NetClient) → IsClient v copiers k mac c passed → IsPrefix c.frames.tape.shown (frames_for mac d.frames)
   records_begin k mac c client = record_begins d p v client.copier c mac passed (record {

@@ -21,7 +21,7 @@ ghost use Rattle.eth_device.specs.Devices.{DeviceRow};
 ghost use Rattle.eth_device.specs.declared.EthDevice.{EthDevice};
 ghost use Rattle.net_client.specs.Clients.{ClientRow};
 ghost use Rattle.net_client.specs.declared.NetClient.{NetClient};
-ghost use Rattle.net_copier.specs.Copying.{CopierRow};
+ghost use Rattle.net_copier.specs.Copying.{CopierRow, leased_bytes};
 ghost use Rattle.net_copier.specs.declared.NetCopier.{NetCopier};
 ghost use Rattle.net_virt_rx.specs.Receiving.{RxRow};
 ghost use Rattle.net_virt_rx.specs.declared.NetVirtRx.{NetVirtRx};
@@ -78,7 +78,7 @@ pub fn own_law()
 
 /// On its way round nothing comes out of turn, whatever the clients do: not at the virtualiser,
 /// which takes the frames of their places; and a copier takes leases alone, each as long as its
-/// item says. Each client's record is a beginning of the device's frames that are for it.
+/// item says and of one of the device's frames. Each client's record is a beginning of the device's frames that are for it.
 pub fn turn_law()
     ensures turn { (d : EthDevice) (p : Pipes (Pipes (Pipes Pipe))) (v : NetVirtRx)
         (copiers : List NetCopier) (passed : Passed)
@@ -91,6 +91,11 @@ pub fn turn_law()
         (copiers : List NetCopier) (passed : Passed) → IsReceiveHalf d p v copiers passed
         → (k : ℕ) (c : NetCopier) → slice_get copiers k ≡ Some c
         → AreLeases (passed.taken c.lease_input.queue.0) }
+    ensures bytes { (d : EthDevice) (p : Pipes (Pipes (Pipes Pipe))) (v : NetVirtRx)
+        (copiers : List NetCopier) (passed : Passed) → IsReceiveHalf d p v copiers passed
+        → (k : ℕ) (c : NetCopier) → slice_get copiers k ≡ Some c
+        → (j : ℕ) (x : Cargo) → slice_get (passed.taken c.lease_input.queue.0) j ≡ Some x
+        → (i : ℕ) × (slice_get d.frames i ≡ Some (leased_bytes x)) }
     ensures records { (d : EthDevice) (p : Pipes (Pipes (Pipes Pipe))) (v : NetVirtRx)
         (copiers : List NetCopier) (passed : Passed) → IsReceiveHalf d p v copiers passed
         → (k : ℕ) (mac : Mac) (c : NetClient) → IsClient v copiers k mac c passed

@@ -29,7 +29,7 @@ use Rattle.net_virt_rx.specs.Sharing.{IsSharer, IsLoan, IsBuffer, SharerStands, 
 use Rattle.net_virt_rx.proofs.Marking.{all_clear, few_marked, one_less}
 use Rattle.net_virt_rx.proofs.Naming.{buffer_named, given_named, lease_named, leases_one, offset_named, bit_same, bit_other}
 use Rattle.net_virt_rx.proofs.Standing.{takes, returns}
-use Rattle.net_virt_rx.proofs.Working.{idle_parts, no_next, no_stray, no_owed, no_list, back_parts, free_at, loan_at, lent_beside, lent_here, lends_work, back_work}
+use Rattle.net_virt_rx.proofs.Working.{idle_parts, no_next, no_stray, no_owed, no_list, none_work, back_parts, free_at, loan_at, lent_beside, lent_here, lends_work, back_work}
 
 -- the clients that a frame is for
 abbrev pub marks_for : Sharer → Cargo → List Bool
@@ -72,7 +72,14 @@ module _ (w : Sharer) (h : IsSharer w) (idle : is_idle w ≡ true) where
     entry = (item, Carried.Page page)
 
     in_pool : IsBuffer w.stock entry
-    in_pool = let p = back_parts w item page back in (p.0, p.1, p.2)
+    in_pool = let p = back_parts w item page back in (p.0, p.1, p.2, p.4)
+
+    pub not_lent : slice_get w.lent page.no ≡ Some None
+    not_lent =
+        let p = back_parts w item page back in
+        let long = h.lent_long in
+        let one = p.1 in
+        free_at w.lent page.no (omega (arith, long, one)) p.3 (λ loan at. (h.loans page.no loan at).some)
 
     hit : (k : ℕ) (mac : Mac) → slice_get w.macs.items k ≡ Some mac → slice_index_or o k false ≡ is_for_client mac (frame_of entry)
     hit k mac at = ap (λ xs. slice_index_or xs k false) o_is ∙ hit_at (λ (m : Mac). is_for_client m (frame_of entry)) w.macs.items k mac at
@@ -90,7 +97,7 @@ module _ (w : Sharer) (h : IsSharer w) (idle : is_idle w ≡ true) where
           (λ k mac at. nothing_if (slice_index_or o k false) (owed_lease wn ∷ []) (all_clear o k none) ∙ sym (no_leases k mac at))
           (λ k mac at b within. let e = ap (named 0 w.stock.size b) (no_leases k mac at) in omega (arith, e))
           (no_list w h idle) in_pool
-          (let p = back_parts w item page back in subst (λ xs. All (IsBuffer w.stock) xs) (sym (one_stocked (given_entry w.stock.base w.stock.size page))) (All-cons (IsBuffer w.stock) (given_entry w.stock.base w.stock.size page) [] (p.0, p.1, refl) (All-nil (IsBuffer w.stock))))
+          (let p = back_parts w item page back in subst (λ xs. All (IsBuffer w.stock) xs) (sym (one_stocked (given_entry w.stock.base w.stock.size page))) (All-cons (IsBuffer w.stock) (given_entry w.stock.base w.stock.size page) [] (p.0, p.1, refl, p.4) (All-nil (IsBuffer w.stock))))
           (λ b within.
           let list = ap (named w.stock.base w.stock.size b) (one_stocked (given_entry w.stock.base w.stock.size page)) in
           let one = given_named w.stock.base w.stock.size b page h.some in
@@ -105,11 +112,7 @@ module _ (w : Sharer) (h : IsSharer w) (idle : is_idle w ≡ true) where
       wl = record w { owed = o; len = len_of item; shared = page.no; lent = l; out = w'.out }
 
       pub free : slice_get w.lent page.no ≡ Some None
-      free =
-          let p = back_parts w item page back in
-          let long = h.lent_long in
-          let one = p.1 in
-          free_at w.lent page.no (omega (arith, long, one)) p.3 (λ loan at. (h.loans page.no loan at).some)
+      free = not_lent
 
       lease_now : owed_lease wl ≡ lease_of w.stock.size entry
       lease_now =
@@ -165,7 +168,7 @@ module _ (w : Sharer) (h : IsSharer w) (idle : is_idle w ≡ true) where
           omega (arith, now, other)
 
       pub work_some : n ≡ how_many o → length o ≡ length w.macs.items → IsSharer w'
-      work_some many long = let p = back_parts w item page back in lends_work w h idle o n (len_of item) page l w' is lent out many some long p.0 p.1 free
+      work_some many long = let p = back_parts w item page back in lends_work w h idle o n (len_of item) page l w' is lent out many some long p.0 p.4 p.1 free
 
       pub takes_some : (start : List Paged) (frames given : List Cargo) (shared backs : ℕ → List Cargo) → SharerStands w start frames given shared backs → SharerStands w' start (frames ++ entry ∷ []) given shared backs
       takes_some start frames given shared backs s = subst (λ v. SharerStands v start (frames ++ entry ∷ []) given shared backs) (sym is)
@@ -194,6 +197,12 @@ module _ (w : Sharer) (h : IsSharer w) (idle : is_idle w ≡ true) (c : Cargo) (
 
   marks_this : o ≡ marks_for w this
   marks_this = subst (λ (x : Cargo). o ≡ marks_for w x) is_this o_is
+
+  pub not_lent_at : slice_get w.lent page.no ≡ Some None
+  not_lent_at = not_lent w h idle c.0 page back_this o marks_this
+
+  pub none_work_at : how_many o ≡ 0 → length o ≡ length w.macs.items → (w' : Sharer) → w' ≡ record w { owed = o; stock = record w.stock { next = Some (given_entry w.stock.base w.stock.size page) } } → IsSharer w'
+  none_work_at none long w' is = subst IsSharer (sym is) (none_work w h idle o page none long)
 
   pub none_at : how_many o ≡ 0 → (w' : Sharer) → w' ≡ record w { owed = o; stock = record w.stock { next = Some (given_entry w.stock.base w.stock.size page) } } → (start : List Paged) (frames given : List Cargo) (shared backs : ℕ → List Cargo) → SharerStands w start frames given shared backs → SharerStands w' start (frames ++ c ∷ []) given shared backs
   none_at none w' is start frames given shared backs s =
@@ -327,7 +336,7 @@ module _ (w : Sharer) (h : IsSharer w) (idle : is_idle w ≡ true) (k b0 : ℕ) 
       no_more (Some c) = refl
 
   in_pool_back : (t : Bool) → All (IsBuffer w.stock) (option_to_list (option_map (given_entry w.stock.base w.stock.size) (if t then Some loan.0 else None)))
-  in_pool_back true = All-cons (IsBuffer w.stock) (given_entry w.stock.base w.stock.size loan.0) [] (this_loan.same_pool, (let n = this_loan.number in omega (arith, n, within)), refl) (All-nil (IsBuffer w.stock))
+  in_pool_back true = All-cons (IsBuffer w.stock) (given_entry w.stock.base w.stock.size loan.0) [] (this_loan.same_pool, (let n = this_loan.number in omega (arith, n, within)), refl, this_loan.sized) (All-nil (IsBuffer w.stock))
   in_pool_back false = All-nil (IsBuffer w.stock)
 
   pub returns_back : (start : List Paged) (frames given : List Cargo) (shared backs : ℕ → List Cargo) (x : Cargo) → addr_of x.0 ≡ b0 * w.stock.size → SharerStands w start frames given shared backs → SharerStands w' start frames given shared (with_more backs k (x ∷ []))

@@ -75,7 +75,7 @@ module _ (base : ℕ) (macs : List Mac) (pages : List Paged) (w : Sharer) (h : I
       let at = slice_get-get_or pages k d there in
       let many = n.is_start.many in
       let number = n.is_start.are_pool.numbered k (slice_index_or pages k d) at in
-      (n.is_start.are_pool.same_pool k (slice_index_or pages k d) at, omega (arith, many, number, there), refl))
+      (n.is_start.are_pool.same_pool k (slice_index_or pages k d) at, omega (arith, many, number, there), refl, n.is_start.are_pool.sized k (slice_index_or pages k d) at))
 
   sharer_new : SharerStands w pages [] [] (λ k. []) (λ k. [])
   sharer_new = record {
@@ -194,4 +194,5 @@ row_of v passed h =
           subst (λ n. IsServed v.work.stock mac (h.turn i) h.stands.earlier (passed.sent o) (passed.sent q.0) (h.turn n)) (queue_is f k r atr)
           (subst (λ n. IsServed v.work.stock mac (h.turn i) h.stands.earlier (passed.sent o) (passed.sent n) (h.turn (queue_at f k))) (queue_is t k q atq)
           (serves_at v.work h.work h.start (h.turn i) (passed.sent o) (λ j. passed.sent (queue_at t j)) (λ j. h.turn (queue_at f j)) h.stands k mac at));
+      strayed = refl;
     }

@@ -256,7 +256,7 @@ frame_out w h idle (item, Carried.Page page) e start frames given shared back s 
     let less = b.1 in
     let none = zero_bit (receivers_at w.lent page.no) (omega (arith, was, list, less)) in
     let yes : is_back w (item, Carried.Page page) ≡ true =
-    and_from _ _ (eq-eqb page.pool.0 w.stock.pool.0 (ap (λ (p : PoolId). p.0) b.0.0)) (and_from _ _ (lt-ltb page.no w.stock.buffers b.0.1) (and_from _ _ (eq-eqb (addr_of item) (w.stock.base + page.no * w.stock.size) b.0.2) (eq-eqb (receivers_at w.lent page.no) 0 none))) in
+    and_from _ _ (eq-eqb page.pool.0 w.stock.pool.0 (ap (λ (p : PoolId). p.0) b.0.0)) (and_from _ _ (lt-ltb page.no w.stock.buffers b.0.1) (and_from _ _ (eq-eqb (addr_of item) (w.stock.base + page.no * w.stock.size) b.0.2) (and_from _ _ (eq-eqb (receivers_at w.lent page.no) 0 none) (eq-eqb (length page.bytes) w.stock.size b.0.3)))) in
     let no : true ≡ false = sym yes ∙ e in
     absurd cc
 
@@ -300,7 +300,7 @@ given_work w h s stock same list some = record {
   out_long = h.out_long ∙ sym same.buffers;
   outs_long = rw same.buffers h.outs_long;
   counts = rw same.buffers h.counts;
-  loans = λ b loan at. let l = h.loans b loan at in record { same_pool = l.same_pool ∙ sym same.same_pool; number = l.number; some = l.some };
+  loans = λ b loan at. let l = h.loans b loan at in record { same_pool = l.same_pool ∙ sym same.same_pool; number = l.number; sized = l.sized ∙ sym same.size; some = l.some };
   owing = λ e. absurd (busy (h.owing e).next);
   ready = λ x at. absurd (busy (h.owing (h.ready x at).0).next);
   strayed = λ e. absurd (busy (h.strayed e));

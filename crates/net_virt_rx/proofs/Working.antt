@@ -42,12 +42,13 @@ owing_not n z e = let t = ltb-true 0 n e in omega arith
 pub empty_stock : (s : Stock) → IsStock s → s.next ≡ None → stock_list s ≡ []
 empty_stock s h e = rw (e, h.ready e) refl
 
-pub back_parts : (w : Sharer) (item : Item) (page : Paged) → is_back w (item, Carried.Page page) ≡ true → (page.pool ≡ w.stock.pool) × (page.no < w.stock.buffers) × (addr_of item ≡ w.stock.base + page.no * w.stock.size) × (receivers_at w.lent page.no ≡ 0)
+pub back_parts : (w : Sharer) (item : Item) (page : Paged) → is_back w (item, Carried.Page page) ≡ true → (page.pool ≡ w.stock.pool) × (page.no < w.stock.buffers) × (addr_of item ≡ w.stock.base + page.no * w.stock.size) × (receivers_at w.lent page.no ≡ 0) × (length page.bytes ≡ w.stock.size)
 back_parts w item page h =
-    let one = and_parts (page.pool.0 == w.stock.pool.0) (nat_lt page.no w.stock.buffers && ((addr_of item == w.stock.base + page.no * w.stock.size) && (receivers_at w.lent page.no == 0))) h in
-    let two = and_parts (nat_lt page.no w.stock.buffers) ((addr_of item == w.stock.base + page.no * w.stock.size) && (receivers_at w.lent page.no == 0)) one.1 in
-    let three = and_parts (addr_of item == w.stock.base + page.no * w.stock.size) (receivers_at w.lent page.no == 0) two.1 in
-    (ap (λ n. record { 0 = n }) (eqb-true page.pool.0 w.stock.pool.0 one.0), ltb-true page.no w.stock.buffers two.0, eqb-true (addr_of item) (w.stock.base + page.no * w.stock.size) three.0, eqb-true (receivers_at w.lent page.no) 0 three.1)
+    let one = and_parts (page.pool.0 == w.stock.pool.0) (nat_lt page.no w.stock.buffers && ((addr_of item == w.stock.base + page.no * w.stock.size) && ((receivers_at w.lent page.no == 0) && (length page.bytes == w.stock.size)))) h in
+    let two = and_parts (nat_lt page.no w.stock.buffers) ((addr_of item == w.stock.base + page.no * w.stock.size) && ((receivers_at w.lent page.no == 0) && (length page.bytes == w.stock.size))) one.1 in
+    let three = and_parts (addr_of item == w.stock.base + page.no * w.stock.size) ((receivers_at w.lent page.no == 0) && (length page.bytes == w.stock.size)) two.1 in
+    let four = and_parts (receivers_at w.lent page.no == 0) (length page.bytes == w.stock.size) three.1 in
+    (ap (λ n. record { 0 = n }) (eqb-true page.pool.0 w.stock.pool.0 one.0), ltb-true page.no w.stock.buffers two.0, eqb-true (addr_of item) (w.stock.base + page.no * w.stock.size) three.0, eqb-true (receivers_at w.lent page.no) 0 four.0, eqb-true (length page.bytes) w.stock.size four.1)
 
 -- a buffer of which no lease is out isn't lent
 pub free_at : (lent : List (Option Loan)) (b : ℕ) → b < length lent → receivers_at lent b ≡ 0 → ((loan : Loan) → slice_get lent b ≡ Some (Some loan) → 1 ≤ loan.1) → slice_get lent b ≡ Some None
@@ -160,7 +161,7 @@ module _ (w : Sharer) (h : IsSharer w) (idle : is_idle w ≡ true) where
     out_long = h.out_long;
     outs_long = h.outs_long;
     counts = h.counts;
-    loans = λ b loan is. let l = h.loans b loan is in record { same_pool = l.same_pool; number = l.number; some = l.some };
+    loans = λ b loan is. let l = h.loans b loan is in record { same_pool = l.same_pool; number = l.number; sized = l.sized; some = l.some };
     owing = λ e. absurd (owing_not (how_many o) none e);
     ready = λ x is. absurd (not_ready x is);
     strayed = λ e. absurd (no_strayed e);
@@ -169,7 +170,7 @@ module _ (w : Sharer) (h : IsSharer w) (idle : is_idle w ≡ true) where
   -- a buffer that is lent
   module _ (o : List Bool) (n len : ℕ) (page : Paged) (l : List (Option Loan)) (w' : Sharer) (is : w' ≡ record w { owed = o; len = len; shared = page.no; lent = l; out = w'.out })
       (lent : l ≡ slice_set w.lent page.no (Some (page, n))) (out : w'.out.items ≡ slice_set w.out.items page.no o)
-      (many : n ≡ how_many o) (some : 1 ≤ n) (long : length o ≡ length w.macs.items) (pool : page.pool ≡ w.stock.pool) (within : page.no < w.stock.buffers) (free : slice_get w.lent page.no ≡ Some None) where
+      (many : n ≡ how_many o) (some : 1 ≤ n) (long : length o ≡ length w.macs.items) (pool : page.pool ≡ w.stock.pool) (sized : length page.bytes ≡ w.stock.size) (within : page.no < w.stock.buffers) (free : slice_get w.lent page.no ≡ Some None) where
     out_now : (b : ℕ) → b < w.stock.buffers → ((b ≡ page.no) × (slice_index_or w'.out.items b [] ≡ o)) ⊎ ((b ≡ page.no → ⊥) × (slice_index_or w'.out.items b [] ≡ slice_index_or w.out.items b []))
     out_now b there = elim (cases_eq b page.no) [
       | inl e ↦ inl (e, ap (λ xs. slice_index_or xs b []) out ∙ (ap (λ k. slice_index_or (slice_set w.out.items page.no o) k []) e ∙ get_or-set_same w.out.items page.no o [] (let x = h.out_long in omega (arith, x, within))))
@@ -188,7 +189,7 @@ module _ (w : Sharer) (h : IsSharer w) (idle : is_idle w ≡ true) where
     loan_now : (b : ℕ) (loan : Loan) → slice_get l b ≡ Some (Some loan) → (b ≡ page.no) ⊎ (b ≡ page.no → ⊥) → IsLoan w.stock b loan
     loan_now b loan at (inl e) =
         let this : loan ≡ (page, n) = let f : Some (Some loan) ≡ Some (Some (page, n)) = sym at ∙ (ap (λ xs. slice_get xs b) lent ∙ (ap (λ k. slice_get (slice_set w.lent page.no (Some (page, n))) k) e ∙ slice_get_written w.lent page.no None (Some (page, n)) free)) in some_eq (some_eq f) in
-        rw this (record { same_pool = pool; number = sym e; some = some })
+        rw this (record { same_pool = pool; number = sym e; sized = sized; some = some })
     loan_now b loan at (inr ne) = h.loans b loan (sym (slice_get_beside w.lent page.no b (Some (page, n)) ne) ∙ (ap (λ xs. slice_get xs b) (sym lent) ∙ at))
 
     pub lends_work : IsSharer w'
@@ -203,7 +204,7 @@ module _ (w : Sharer) (h : IsSharer w) (idle : is_idle w ≡ true) where
       out_long = ap length out ∙ (length-set w.out.items page.no o ∙ h.out_long);
       outs_long = λ b there. elim (out_now b there) [ inl e ↦ ap length e.1 ∙ long | inr e ↦ ap length e.1 ∙ h.outs_long b there ];
       counts = λ b there. elim (out_now b there) [ inl e ↦ ap how_many e.1 ∙ (sym many ∙ (sym lent_now ∙ ap (receivers_at l) (sym e.0))) | inr e ↦ ap how_many e.1 ∙ (h.counts b there ∙ sym (lent_still b e.0)) ];
-      loans = λ b loan at. let f = loan_now b loan at (cases_eq b page.no) in record { same_pool = f.same_pool; number = f.number; some = f.some };
+      loans = λ b loan at. let f = loan_now b loan at (cases_eq b page.no) in record { same_pool = f.same_pool; number = f.number; sized = f.sized; some = f.some };
       owing = λ e. record { next = no_next; stray = no_stray; within = within; lent = let x = lent_now in omega (arith, x, some) };
       ready = λ x at. absurd (not_ready x at);
       strayed = λ e. absurd (no_strayed e);
@@ -238,7 +239,7 @@ module _ (w : Sharer) (h : IsSharer w) (idle : is_idle w ≡ true) where
 
     loan_after : (t : Bool) (x : Loan) → Some x ≡ (if t then None else Some (loan.0, loan.1 - 1)) → (loan.1 == 1) ≡ t → IsLoan w.stock b0 x
     loan_after true x e f = absurd cc
-    loan_after false x e f = rw (some_eq e) (record { same_pool = loan_is.same_pool; number = loan_is.number; some = more })
+    loan_after false x e f = rw (some_eq e) (record { same_pool = loan_is.same_pool; number = loan_is.number; sized = loan_is.sized; some = more })
       where
         more : 1 ≤ loan.1 - 1
         more = let s = loan_is.some in let ne : loan.1 ≡ 1 → ⊥ = λ g. let t : (loan.1 == 1) ≡ true = eq-eqb loan.1 1 g in absurd cc in omega (arith, s, ne)
@@ -268,7 +269,7 @@ module _ (w : Sharer) (h : IsSharer w) (idle : is_idle w ≡ true) where
         | inl e ↦ (let a = ap how_many e.1 in let c = h.counts b0 within in let d = one_less (slice_index_or w.out.items b0 []) k was_out in let f = fewer_now in let g = ap (receivers_at l) e.0 in omega (arith, a, c, d, f, g))
         | inr e ↦ ap how_many e.1 ∙ (h.counts b i ∙ sym (beside_now b e.0))
       ];
-      loans = λ b x at. let f = loan_now' b x at (cases_eq b b0) in record { same_pool = f.same_pool; number = f.number; some = f.some };
+      loans = λ b x at. let f = loan_now' b x at (cases_eq b b0) in record { same_pool = f.same_pool; number = f.number; sized = f.sized; some = f.some };
       owing = λ e. absurd (owing_not (how_many w.owed) no_owed e);
       ready = λ x at. absurd (not_ready x at);
       strayed = λ e. absurd (no_strayed e);

@@ -111,6 +111,8 @@ pub record RxRow (v : NetVirtRx) (passed : Passed) : Type 0 where
       → slice_get (to_queues v.ends) k ≡ Some q → slice_get (from_queues v.ends) k ≡ Some r
       → IsServed v.work.stock mac (turn v.ends.input.queue.0) earlier
       (passed.sent v.ends.output.queue.0) (passed.sent q.0) (turn r.0)
+  -- an entry that came out of turn is in its hand
+  pub strayed : stray ≡ option_to_list v.work.stray
 
 -- what it had at the start and what came is what went, what is in its hand, and the buffers that
 -- are lent

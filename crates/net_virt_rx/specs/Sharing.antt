@@ -54,10 +54,12 @@ abbrev pub leases_for : ℕ → Mac → List Cargo → List Cargo
 leases_for size mac frames = map (lease_of size)
     (filter (λ c. is_for_client mac (frame_of c)) frames)
 
--- an entry names, with its page, a buffer of the pool
+-- an entry names, with its page, a buffer of the pool: a page of that pool and number, as long as
+-- the pool's buffers are
 abbrev pub IsBuffer : Stock → Cargo → Type 0
 IsBuffer s (item, Carried.Page page) =
     (page.pool ≡ s.pool) × (page.no < s.buffers) × (addr_of item ≡ s.base + page.no * s.size)
+    × (length page.bytes ≡ s.size)
 IsBuffer s (item, Carried.Lease lease) = ⊥
 IsBuffer s (item, Carried.Empty) = ⊥
 
@@ -105,7 +107,7 @@ abbrev pub is_back : Sharer → Cargo → Bool
 is_back w (item, Carried.Page page) =
     (page.pool.0 == w.stock.pool.0) && (nat_lt page.no w.stock.buffers
     && ((addr_of item == w.stock.base + page.no * w.stock.size)
-    && (receivers_at w.lent page.no == 0)))
+    && ((receivers_at w.lent page.no == 0) && (length page.bytes == w.stock.size))))
 is_back w (item, Carried.Lease lease) = false
 is_back w (item, Carried.Empty) = false
 
@@ -121,6 +123,7 @@ is_returned w k (item, Carried.Empty) = false
 pub record IsLoan (s : Stock) (b : ℕ) (loan : Loan) : Type 0 where
   pub same_pool : loan.0.pool ≡ s.pool
   pub number : loan.0.no ≡ b
+  pub sized : length loan.0.bytes ≡ s.size
   pub some : 1 ≤ loan.1
 
 -- a lease is owed of a buffer that is lent, and then nothing else is in hand

@@ -165,6 +165,7 @@ impl Sharer {
                     && page.no() < self.stock.buffers
                     && address(&entry.0) == self.stock.base + self.offset(page.no())
                     && self.lent.count(page.no()) == 0
+                    && page.bytes().len() as u64 == self.stock.size
             }
             _ => false,
         }
