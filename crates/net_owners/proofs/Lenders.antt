@@ -1,4 +1,4 @@
-use Rattle.std.proofs.Common.{◌≡◌, ◌+◌, ◌≤◌, ℕ, suc, Bool, true, false, cond, nat_lt, if◌then◌else◌, Option, Some, None, List, [], ◌∷◌, slice_get, sum_by, flat_map, refl, sym, ap₂, ◌∙◌, subst, arith}
+use Rattle.std.proofs.Common.{◌≡◌, ◌+◌, ◌≤◌, ℕ, suc, Bool, true, false, cond, nat_lt, if◌then◌else◌, Option, Some, None, List, [], ◌∷◌, slice_get, sum_by, flat_map, refl, sym, ap, ap₂, ◌∙◌, subst, arith}
 use Rattle.std.proofs.lemmas.List.Sums.{sum_by-cons, sum_by-append}
 use Rattle.cargo_core.specs.declared.item.Item.{Item}
 use Rattle.cargo_core.specs.Lists.{IsPrefix}
@@ -78,7 +78,7 @@ chosen_weighed cs b k [] = none cs
     none (d ∷ ds) = omega (arith, sum_by-cons (λ c. times b (names_where c.is_for k [])) d ds, none ds)
 chosen_weighed cs b k (x ∷ xs) = omega (arith, sums_step cs b k x xs, chosen_weighed cs b (k + 1) xs, first_weighed cs b k x xs)
 
-module _ (naming : Naming) (buffers leased : List Window) (l : Lender) (m : Moved) (names : LenderNames naming buffers leased l) (row : LenderRow buffers leased l m) where
+module _ (naming : Naming) (buffers leased : List Window) (l : Lender) (m : Moved) (names : LenderNames naming buffers leased l) where
   abbrev NamedSo : List Borrower → Type 0
   NamedSo cs = (k : ℕ) (c : Borrower) → slice_get cs k ≡ Some c → (naming c.active ≡ Rattle.owner_law.specs.Things.Leases leased) × (naming c.free ≡ Rattle.owner_law.specs.Things.Returns leased)
 
@@ -122,18 +122,19 @@ module _ (naming : Naming) (buffers leased : List Window) (l : Lender) (m : Move
       no_frames : carried naming m l.frames (m.taken l.frames) (gives_back b) ≡ 0
       no_frames = Rattle.owner_law.proofs.Named.frames_none naming m l.frames (m.taken l.frames) buffers (receivers_of l.clients) (gives_back b) names.frames refl (λ c r. refl)
 
-  went_leases : (b : Buffer) → sum_by (as_lease b) (all_put naming m (lender_ends l)) ≤ leases_due buffers l m b
-  went_leases b = omega (arith, lender_went (as_lease b), buffers_none naming m l.free (m.sent l.free) buffers (as_lease b) names.free refl (λ c. refl), clients_went (as_lease b) (λ c. times b (names_in leased (m.sent c.active))) l.clients (λ k c at. leases_are naming m c.active (m.sent c.active) leased (as_lease b) b (names.leases k c at) refl (λ d. refl)), few_each l.clients row.shares)
+  -- a buffer is lent where more leases of it are due than came back
+  pub lender_out : (b : Buffer) → is_out b (all_taken naming m (lender_ends l)) ≡ nat_lt (leases_back leased l m b) (leases_due buffers l m b)
+  lender_out b = ap₂ (λ x y. nat_lt x y) (came_back b) (came_lent (lends b) b refl (λ c r. refl) (λ c. refl))
+
+  went_leases : LenderRow buffers leased l m → (b : Buffer) → sum_by (as_lease b) (all_put naming m (lender_ends l)) ≤ leases_due buffers l m b
+  went_leases row b = omega (arith, lender_went (as_lease b), buffers_none naming m l.free (m.sent l.free) buffers (as_lease b) names.free refl (λ c. refl), clients_went (as_lease b) (λ c. times b (names_in leased (m.sent c.active))) l.clients (λ k c at. leases_are naming m c.active (m.sent c.active) leased (as_lease b) b (names.leases k c at) refl (λ d. refl)), few_each l.clients row.shares)
     where
       few_each : (cs : List Borrower) → ((k : ℕ) (c : Borrower) → slice_get cs k ≡ Some c → IsPrefix (names_in leased (m.sent c.active)) (names_where c.is_for 0 (frames_taken buffers l m))) → sum_by (λ c. times b (names_in leased (m.sent c.active))) cs ≤ sum_by (λ c. times b (names_where c.is_for 0 (frames_taken buffers l m))) cs
       few_each [] shares = omega arith
       few_each (c ∷ cs) shares = omega (arith, sum_by-cons (λ d. times b (names_in leased (m.sent d.active))) c cs, sum_by-cons (λ d. times b (names_where d.is_for 0 (frames_taken buffers l m))) c cs, times_few b (names_in leased (m.sent c.active)) (names_where c.is_for 0 (frames_taken buffers l m)) (shares 0 c refl), few_each cs (λ k d at. shares (suc k) d at))
 
-  pub lender_keeps : Keeps l.hand (all_taken naming m (lender_ends l)) (all_put naming m (lender_ends l))
-  lender_keeps = record {
-    buffers = λ b. omega (arith, row.in_hand b, came_buffers b, went_buffers b, outs b);
-    leases = λ b. omega (arith, went_leases b, came_lent (brings_leases b) b refl (λ c r. refl) (λ c. refl));
+  pub lender_keeps : LenderRow buffers leased l m → Keeps l.hand (all_taken naming m (lender_ends l)) (all_put naming m (lender_ends l))
+  lender_keeps row = record {
+    buffers = λ b. omega (arith, row.in_hand b, came_buffers b, went_buffers b, ap bit (lender_out b));
+    leases = λ b. omega (arith, went_leases row b, came_lent (brings_leases b) b refl (λ c r. refl) (λ c. refl));
   }
-    where
-      outs : (b : Buffer) → bit (is_out b (all_taken naming m (lender_ends l))) ≡ bit (nat_lt (leases_back leased l m b) (leases_due buffers l m b))
-      outs b = ap₂ (λ x y. bit (nat_lt x y)) (came_back b) (came_lent (lends b) b refl (λ c r. refl) (λ c. refl))

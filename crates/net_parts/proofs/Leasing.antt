@@ -80,7 +80,7 @@ leases_items s frames mac place (c ∷ cs) within same =
     by false head tail = tail
 
 -- the clients as those to whom buffers are lent
-borrowers_are : (frames : List (List ℕ)) (macs : List Mac) (to from : List QueueId) → borrowers (frame_at frames) macs to from ≡ map (borrower_of frames) (lessees macs to from)
+pub borrowers_are : (frames : List (List ℕ)) (macs : List Mac) (to from : List QueueId) → borrowers (frame_at frames) macs to from ≡ map (borrower_of frames) (lessees macs to from)
 borrowers_are frames [] to from = refl
 borrowers_are frames (mac ∷ macs) [] from = refl
 borrowers_are frames (mac ∷ macs) (q ∷ to) [] = refl

@@ -1,3 +1,4 @@
 pub mod Virtualisers
 pub mod Serving
 pub mod Receivers
+pub mod Lending

@@ -48,7 +48,7 @@ leases_net size mac (x ∷ cs) k c at = by (is_for_client mac (frame_of x)) k at
     by true (suc j) is rest = rest j is
     by false j is rest = rest j is
 
-no_sum : (cs : List Borrower) → sum_by (λ c. 0) cs ≡ 0
+pub no_sum : (cs : List Borrower) → sum_by (λ c. 0) cs ≡ 0
 no_sum [] = refl
 no_sum (c ∷ cs) = omega (arith, sum_by-cons (λ d. 0) c cs, no_sum cs)
 

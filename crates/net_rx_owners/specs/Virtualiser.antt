@@ -1,12 +1,14 @@
 -- The receiving virtualiser as the actor that lends.
-use Rattle.std.specs.Prelude.{◌≡◌, ◌==◌, ℕ, if◌then◌else◌, Some, List, [], ◌∷◌, slice_get}
+use Rattle.std.specs.Prelude.{◌≡◌, ◌==◌, ◌&&◌, ℕ, nat_lt, if◌then◌else◌, Some, List, [], ◌∷◌, slice_get}
 use Rattle.cargo_core.specs.Items.{kind_of}
+use Rattle.cargo_core.specs.Loans.{receivers_at}
 use Rattle.cargo_core.specs.declared.item.QueueKind.TheVariants as Kind
 use Rattle.frame_core.specs.declared.mac.Mac.{Mac}
 use Rattle.wire_core.specs.declared.names.QueueId.{QueueId}
+use Rattle.wire_core.specs.Bells.{bit}
 use Rattle.wire_core.specs.Deeds.{Cargo}
 use Rattle.wire_core.specs.Lists.{Passed}
-use Rattle.owner_law.specs.Things.{Window}
+use Rattle.owner_law.specs.Things.{Buffer, Window}
 use Rattle.net_expect.specs.Expecting.{is_for_client}
 use Rattle.net_kit.specs.Entries.{frame_of}
 use Rattle.net_kit.specs.declared.stock.Stock.{Stock}
@@ -50,3 +52,8 @@ pub record TakesFrames (frame : ℕ → List ℕ) (v : NetVirtRx) (passed : Pass
       → AreNet (passed.taken r.0)
   pub frames : (k : ℕ) (c : Cargo) → slice_get (passed.taken v.ends.input.queue.0) k ≡ Some c
       → frame_of c ≡ frame k
+
+-- one where a buffer is one of its own that has a receiver
+abbrev pub lent_now : NetVirtRx → Buffer → ℕ
+lent_now v b = if (v.work.stock.pool.0 == b.pool) && nat_lt b.no v.work.stock.buffers
+    then bit (nat_lt 0 (receivers_at v.work.lent b.no)) else 0

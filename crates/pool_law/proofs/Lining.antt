@@ -9,7 +9,7 @@ use Rattle.wire_core.specs.declared.names.QueueRow.{QueueRow}
 use Rattle.wire_core.specs.Bells.{bit}
 use Rattle.wire_core.specs.Deeds.{Cargo}
 use Rattle.wire_core.specs.Ends.{Role, Consumer, Producer}
-use Rattle.wire_core.specs.Journal.{Hostiles}
+use Rattle.wire_core.specs.Journal.{Hostiles, owner_of}
 use Rattle.wire_core.specs.Lists.{Passed}
 use Rattle.wire_core.specs.Marks.{sum_below}
 use Rattle.wire_core.specs.Queues.{Queue, queue_at}
@@ -89,6 +89,21 @@ none_lent : (b : Buffer) (names : Names) → is_lending names ≡ false → (rs 
 none_lent b names no_lease rs k [] = refl
 none_lent b names no_lease rs k (i ∷ items) = omega (arith, sum_by-cons (lends b) (thing_at names rs k i) (things_from names rs (k + 1) items), lends_none b names no_lease rs k i, none_lent b names no_lease rs (k + 1) items)
 
+-- an actor at none of whose inputs buffers are lent
+abbrev pub LendsNone : Naming → List Seat → Type 0
+LendsNone naming ends = (i : ℕ) (s : Seat) → slice_get ends i ≡ Some s → s.role ≡ Consumer → is_lending (naming s.queue) ≡ false
+
+module _ (naming : Naming) (m : Moved) where
+  end_lends : (b : Buffer) (r : Role) (n : ℕ) → (r ≡ Consumer → is_lending (naming n) ≡ false) → sum_by (lends b) (things_in naming m (record { queue = n; role = r })) ≡ 0
+  end_lends b Producer n not_lending = refl
+  end_lends b Consumer n not_lending = none_lent b (naming n) (not_lending refl) (requests_of (naming n) m) 0 (m.taken n)
+
+  lends_away : (b : Buffer) (ends : List Seat) → LendsNone naming ends → sum_by (lends b) (all_taken naming m ends) ≡ 0
+  lends_away b ends not_lending = sum_flat (lends b) (things_in naming m) ends ∙ sum_none (λ s. sum_by (lends b) (things_in naming m s)) ends (λ i s at. end_lends b s.role s.queue (not_lending i s at))
+
+  pub lent_away : (ends : List Seat) → LendsNone naming ends → (pool count : ℕ) → lent_by naming m ends pool count ≡ 0
+  lent_away ends not_lending pool count = below_none (λ i. bit (is_out (buffer pool i) (all_taken naming m ends))) count (λ i lt. ap bit (le-ltb (sum_by (gives_back (buffer pool i)) (all_taken naming m ends)) (sum_by (lends (buffer pool i)) (all_taken naming m ends)) (omega (arith, lends_away (buffer pool i) ends not_lending))))
+
 -- a buffer is lent where it has receivers
 lent_or_not : (P : Place) (back out : ℕ) → receivers P + back ≡ out → ((n : ℕ) → P ≡ Lent n → 1 ≤ n) → bit (nat_lt back out) ≡ bit (is_lent P)
 lent_or_not Nowhere back out sums some = ap bit (le-ltb back out (omega (arith, sums)))
@@ -163,20 +178,17 @@ module _ (naming : Naming) (lender : ℕ) (hostile : Hostiles) (rows : List Queu
 
   -- lent buffers
   away : (b : Buffer) (k : ℕ) (h : Holder) → slice_get holders k ≡ Some h → (k ≡ lender → ⊥) → sum_by (lends b) (all_taken naming m h.keeper.ends) ≡ 0
-  away b k h at off = sum_flat (lends b) (things_in naming m) h.keeper.ends ∙ sum_none (λ s. sum_by (lends b) (things_in naming m s)) h.keeper.ends (λ i s s_at. at_end s.role s.queue i (s_at ∙ refl))
+  away b k h at off = lends_away naming m b h.keeper.ends at_end
     where
-      keeper_at : slice_get (keepers_of holders) k ≡ Some h.keeper
-      keeper_at = map_get (λ (y : Holder). y.keeper) holders k h at
+      by : (l : Bool) (i : ℕ) (s : Seat) → slice_get h.keeper.ends i ≡ Some s → s.role ≡ Consumer → is_lending (naming s.queue) ≡ l → is_lending (naming s.queue) ≡ false
+      by false i s s_at consumer is = is
+      by true i s s_at consumer is =
+          let seat = x.keepers_are.seated k h.keeper (map_get (λ (y : Holder). y.keeper) holders k h at) i s s_at in
+          let owner : owner_of seat.0 Consumer ≡ k = ap (owner_of seat.0) (sym consumer) ∙ seat.2 in
+          absurd (off (sym owner ∙ x.naming_is.lends s.queue seat.0 seat.1 is))
 
-      at_end : (r : Role) (n i : ℕ) → slice_get h.keeper.ends i ≡ Some (record { queue = n; role = r }) → sum_by (lends b) (things_in naming m (record { queue = n; role = r })) ≡ 0
-      at_end Producer n i s_at = refl
-      at_end Consumer n i s_at = by (is_lending (naming n)) refl
-        where
-          by : (l : Bool) → is_lending (naming n) ≡ l → sum_by (lends b) (things_taken naming m n) ≡ 0
-          by false is = none_lent b (naming n) is (requests_of (naming n) m) 0 (m.taken n)
-          by true is =
-              let seat = x.keepers_are.seated k h.keeper keeper_at i (record { queue = n; role = Consumer }) s_at in
-              absurd (off (sym seat.2 ∙ x.naming_is.lends n seat.0 seat.1 is))
+      at_end : (i : ℕ) (s : Seat) → slice_get h.keeper.ends i ≡ Some s → s.role ≡ Consumer → is_lending (naming s.queue) ≡ false
+      at_end i s s_at consumer = by (is_lending (naming s.queue)) i s s_at consumer refl
 
   lent_at : (b : Buffer) → sum_by (λ (h : Holder). bit (is_out b (all_taken naming m h.keeper.ends))) holders ≡ bit (is_lent (t.place b))
   lent_at b = by (cases_lt lender (length holders))

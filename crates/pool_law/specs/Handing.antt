@@ -10,11 +10,12 @@ use Rattle.play_core.specs.Wants.{intake, outlet}
 use Rattle.owner_law.specs.Things.{Buffer, Window, Answers, Naming, thing_at, requests_of, as_buffer}
 use Rattle.owner_law.specs.Pages.{as_page, CarryPages}
 
--- an entry at a place among all that went to a queue has as its body the page of the buffer that its
--- item names, and else none
+-- an entry at a place among all that went to a queue has as its body the page of the buffer that
+-- its item names, and else none
 abbrev pub Carries : Naming → Moved → (queue place : ℕ) → Cargo → Type 0
 Carries naming m n k c =
-    (b : Buffer) → as_page b c.1 ≡ as_buffer b (thing_at (naming n) (requests_of (naming n) m) k c.0)
+    (b : Buffer) → as_page b c.1
+    ≡ as_buffer b (thing_at (naming n) (requests_of (naming n) m) k c.0)
 
 -- each of these entries does, the first ones of a queue
 abbrev pub AllCarry : Naming → Moved → (queue : ℕ) → List Cargo → Type 0
@@ -30,14 +31,14 @@ abbrev pub PutsPages : Naming → Moved → Passed → List Seat → Type 0
 PutsPages naming m passed ends = (i : ℕ) (s : Seat) → slice_get ends i ≡ Some s
     → s.role ≡ Producer → AllCarry naming m s.queue (passed.sent s.queue)
 
--- an actor with these ends hands pages on: where what it took carries what is named, so does what it
--- put
+-- an actor with these ends hands pages on: where what it took carries what is named, so does what
+-- it put
 abbrev pub HandsOn : Naming → Moved → Passed → List Seat → Type 0
 HandsOn naming m passed ends = TakesPages naming m passed ends → PutsPages naming m passed ends
 
--- after all entries carried what their items name, an actor with these ends made a call, and by then
--- it has handed pages on; what was taken at a queue is a beginning of what was put there, no more is
--- answered than asked, and the actor takes from no queue to which it puts
+-- after all entries carried what their items name, an actor with these ends made a call, and by
+-- then it has handed pages on; what was taken at a queue is a beginning of what was put there, no
+-- more is answered than asked, and the actor takes from no queue to which it puts
 pub record IsOnward (naming : Naming) (old new : Moved) (passed : Passed) (d : Deed)
     (ends : List Seat) : Type 0 where
   pub carried : CarryPages naming old passed

@@ -19,8 +19,8 @@ use Rattle.owner_law.specs.Owners.{Table}
 use Rattle.owner_law.specs.Keeping.{Keeper, all_taken, is_out, IsOwned}
 use Rattle.owner_law.specs.Pages.{CarryPages}
 
--- an actor as a program has it: its ends and its start, the bodies in its hand, and of each pool, by
--- its number, how many buffers it has lent
+-- an actor as a program has it: its ends and its start, the bodies in its hand, and of each pool,
+-- by its number, how many buffers it has lent
 pub record Holder : Type 0 where
   pub keeper : Keeper
   pub hand : List Body
@@ -52,7 +52,8 @@ went passed ends = flat_map (λ (s : Seat). bodies_out passed s.role s.queue) en
 -- receivers than gave them back
 abbrev pub lent_by : Naming → Moved → List Seat → (pool buffers : ℕ) → ℕ
 lent_by naming m ends pool buffers =
-    sum_below (λ no. bit (is_out (record { pool = pool; no = no }) (all_taken naming m ends))) buffers
+    sum_below (λ no. bit (is_out (record { pool = pool; no = no }) (all_taken naming m ends)))
+    buffers
 
 -- of each pool, what an actor had at the start and what came is what went, what is in its hand, and
 -- what it has lent, which is what its takes say; here each pool has so many buffers
@@ -80,9 +81,9 @@ NamesWithin sizes (Answers q ws) = All (IsWithin sizes) ws
 abbrev pub HandWithin : (ℕ → ℕ) → Keeper → Type 0
 HandWithin sizes p = (pool : ℕ) → All (λ no. no < sizes pool) (p.hand pool)
 
--- the journal has one owner of each buffer, and after it each queue has in it what was put there and
--- not taken, entries carry the pages that their items name, and each actor has what it held of each
--- pool
+-- the journal has one owner of each buffer, and after it each queue has in it what was put there
+-- and not taken, entries carry the pages that their items name, and each actor has what it held of
+-- each pool
 pub record AreLines (naming : Naming) (lender : ℕ) (hostile : Hostiles) (history : History)
     (rows : List QueueRow) (sizes : ℕ → ℕ) (holders : List Holder) (start : Table)
     (journal : List Entry) (passed : Passed) (world : List Queue) : Type 0 where

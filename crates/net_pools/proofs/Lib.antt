@@ -1,0 +1,6 @@
+pub mod Carrying
+pub mod Handing
+pub mod Receiving
+pub mod Holding
+pub mod Lending
+pub mod Sizing

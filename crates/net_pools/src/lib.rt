@@ -1,0 +1,101 @@
+//! The pools of the network: its actors hand pages on under the items that name them, and have of
+//! each pool what the table of owners says.
+#![tactic(auto)]
+
+ghost use Rattle.std.specs.Prelude.{◌≡◌, ◌<◌, ℕ, None, Some, List, length, slice_get};
+ghost use Rattle.wire_core.specs.Lists.{Passed};
+ghost use Rattle.play_core.specs.Moved.{Moved};
+ghost use Rattle.play_core.specs.Sheets.{Scene};
+ghost use Rattle.owner_law.specs.Things.{Naming};
+ghost use Rattle.owner_law.specs.Keeping.{Keeper, start_table, AreDealt};
+ghost use Rattle.owner_law.specs.Census.{IsPool};
+ghost use Rattle.turn_kit.specs.declared.pipe.Pipe.{Pipe};
+ghost use Rattle.pipe_driver.specs.Drivers.{PipesRow, PipesBalance, pipes_hand};
+ghost use Rattle.eth_device.specs.Devices.{DeviceRow, DeviceBalances, device_hand};
+ghost use Rattle.eth_device.specs.declared.EthDevice.{EthDevice};
+ghost use Rattle.net_copier.specs.Copying.{CopierRow, CopierBalances, copier_hand};
+ghost use Rattle.net_copier.specs.declared.NetCopier.{NetCopier};
+ghost use Rattle.net_kit.specs.Virtualising.{from_queues, to_queues};
+ghost use Rattle.net_virt_rx.specs.Sharing.{sharer_hand};
+ghost use Rattle.net_virt_rx.specs.Receiving.{RxRow, RxStandsFor};
+ghost use Rattle.net_virt_rx.specs.declared.NetVirtRx.{NetVirtRx};
+ghost use Rattle.frame_core.specs.declared.mac.Mac.{Mac};
+ghost use Rattle.net_owners.specs.Names.{PoolAt, ClientPools};
+ghost use Rattle.net_owners.specs.Ends.{AreItemsOf};
+ghost use Rattle.net_rx_owners.specs.Virtualiser.{AreNet, TakesFrames};
+ghost use Rattle.net_parts.specs.Naming.{NamesPart};
+ghost use Rattle.net_parts.specs.Numbers.{layout_naming};
+ghost use Rattle.net_parts.specs.Playing.{device_part, driver_part, copier_part, receiver_part};
+ghost use Rattle.net_parts.specs.Rows.{frame_at};
+ghost use Rattle.net_parts.specs.Table.{net_sheet};
+ghost use Rattle.pool_law.specs.Handing.{HandsOn};
+ghost use Rattle.pool_law.specs.Lines.{HoldsIts, NamesWithin, HandWithin};
+ghost use Rattle.net_pools.specs.Sizes.{net_pools, sizes_of, AreNumbered, AreSpread};
+ghost use Rattle.net_pools.specs.Holders.{holder_of, no_lent, rx_lent};
+
+/// Where what it took carries the pages that are named, so does what an actor of the network put:
+/// by their rows a device and a copier fill buffers and hand them on, a driver hands them on as they
+/// came, and the receiving virtualiser puts its own buffers, and leases without a page.
+pub fn hand_on_law()
+    ensures device { (naming : Naming) (scene : Scene) (d : EthDevice) (passed : Passed) (m : Moved)
+        → NamesPart naming scene (device_part d) → DeviceRow d passed
+        → HandsOn naming m passed (net_sheet scene (device_part d)).ends }
+    ensures driver { (naming : Naming) (scene : Scene) (ps : List Pipe) (passed : Passed)
+        (m : Moved) → NamesPart naming scene (driver_part ps) → PipesRow ps passed
+        → HandsOn naming m passed (net_sheet scene (driver_part ps)).ends }
+    ensures copier { (naming : Naming) (scene : Scene) (c : NetCopier) (passed : Passed) (m : Moved)
+        → NamesPart naming scene (copier_part c) → CopierRow c passed
+        → HandsOn naming m passed (net_sheet scene (copier_part c)).ends }
+    ensures receiver { (naming : Naming) (scene : Scene) (v : NetVirtRx) (passed : Passed)
+        (m : Moved) → NamesPart naming scene (receiver_part v) → v.work.stock.size ≡ 2048
+        → AreNet (passed.sent v.ends.output.queue.0) → RxRow v passed
+        → HandsOn naming m passed (net_sheet scene (receiver_part v)).ends }
+{}
+
+/// Of each pool such an actor had at the start and took what it put, has in its hand and has lent:
+/// the receiving virtualiser has lent the buffers that have a receiver, where nothing came to it
+/// out of turn, and the others lend nothing.
+pub fn hold_law()
+    ensures device { (naming : Naming) (sizes : ℕ → ℕ) (scene : Scene) (d : EthDevice)
+        (passed : Passed) (m : Moved) → NamesPart naming scene (device_part d)
+        → DeviceBalances d passed → HoldsIts naming sizes m passed
+        (holder_of (net_sheet scene (device_part d)) (device_hand d) no_lent) }
+    ensures driver { (naming : Naming) (sizes : ℕ → ℕ) (scene : Scene) (ps : List Pipe)
+        (passed : Passed) (m : Moved) → NamesPart naming scene (driver_part ps)
+        → PipesBalance ps passed → HoldsIts naming sizes m passed
+        (holder_of (net_sheet scene (driver_part ps)) (pipes_hand ps) no_lent) }
+    ensures copier { (naming : Naming) (sizes : ℕ → ℕ) (scene : Scene) (c : NetCopier)
+        (passed : Passed) (m : Moved) → NamesPart naming scene (copier_part c)
+        → CopierBalances c passed → HoldsIts naming sizes m passed
+        (holder_of (net_sheet scene (copier_part c)) (copier_hand c) no_lent) }
+    ensures receiver { (naming : Naming) (sizes : ℕ → ℕ) (scene : Scene) (v : NetVirtRx)
+        (passed : Passed) (m : Moved) → NamesPart naming scene (receiver_part v)
+        → v.work.stock.size ≡ 2048
+        → AreItemsOf (net_sheet scene (receiver_part v)).ends passed m
+        → TakesFrames (frame_at scene.frames) v passed → RxStandsFor v passed
+        → v.work.stray ≡ None → length (to_queues v.ends) ≡ length v.work.macs.items
+        → length (from_queues v.ends) ≡ length v.work.macs.items
+        → sizes v.work.stock.pool.0 ≡ v.work.stock.buffers
+        → HoldsIts naming sizes m passed
+        (holder_of (net_sheet scene (receiver_part v)) (sharer_hand v.work) (rx_lent v)) }
+{}
+
+/// By the layout's table, where the network's queues are the first, all buffers that items name are
+/// of the class's pools.
+pub fn size_law()
+    ensures { (scene : Scene) (pool : PoolAt) (macs : List Mac) (pools : List ClientPools)
+        → AreNumbered (net_pools pool pools) → (n : ℕ)
+        → NamesWithin (sizes_of (net_pools pool pools)) (layout_naming scene pool macs pools n) }
+{}
+
+/// Where each pool's buffers are with one actor at the start, no buffer is in two hands then, each
+/// one that its pool has is in one, and each hand has its pools' own.
+pub fn spread_law()
+    ensures dealt { (sizes owner : ℕ → ℕ) (keepers : List Keeper) → AreSpread sizes owner keepers
+        → AreDealt keepers }
+    ensures pools { (sizes owner : ℕ → ℕ) (keepers : List Keeper) → AreSpread sizes owner keepers
+        → (pool : ℕ) → owner pool < length keepers
+        → IsPool (start_table keepers) pool (sizes pool) }
+    ensures within { (sizes owner : ℕ → ℕ) (keepers : List Keeper) → AreSpread sizes owner keepers
+        → (k : ℕ) (p : Keeper) → slice_get keepers k ≡ Some p → HandWithin sizes p }
+{}
