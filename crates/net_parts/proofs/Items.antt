@@ -19,7 +19,7 @@ use Rattle.net_client.specs.Clients.{ClientRow, rx_active, rx_free, tx_active, t
 use Rattle.net_client.specs.declared.NetClient.{NetClient}
 use Rattle.net_copier.specs.Copying.{CopierRow, is_stray, leased_bytes}
 use Rattle.net_copier.specs.declared.NetCopier.{NetCopier}
-use Rattle.net_owners.specs.Names.{PoolAt, by_offset}
+use Rattle.net_owners.specs.Names.{by_offset}
 use Rattle.net_owners.specs.Ends.{AreItemsOf, numbers_from}
 use Rattle.net_law.proofs.Beginnings.{begins_map}
 use Rattle.net_parts.specs.Parts.{Way}
@@ -45,16 +45,15 @@ sized_is [] cs = refl
 sized_is (f ∷ fs) [] = refl
 sized_is (f ∷ fs) (c ∷ cs) = ap (λ l. Rattle.net_kit.specs.Entries.with_len (length f) c.0 ∷ l) (sized_is fs cs)
 
-pub device_row : (scene : Scene) (d : EthDevice) (passed : Passed) (m : Moved) → d.frames ≡ scene.frames → AreItemsOf (net_sheet scene (device_part d)).ends passed m → DeviceRow d passed → (net_sheet scene (device_part d)).row m
-device_row scene d passed m same items row =
+pub device_row : (scene : Scene) (d : EthDevice) (passed : Passed) (m : Moved) → AreItemsOf (net_sheet scene (device_part d)).ends passed m → DeviceRow d passed → (net_sheet scene (device_part d)).row m
+device_row scene d passed m items row =
     let long : length (map (λ (f : List ℕ). length f) d.frames) ≡ length d.frames = length-map d.frames (λ f. length f) in
     let said : FillsFrames d.frames (items_of (passed.taken (device_free d))) (items_of (passed.sent (device_active d))) (items_of (passed.taken (device_sent d))) (items_of (passed.sent (device_back d))) = record {
       filled = subst (IsPrefix (items_of (passed.sent (device_active d)))) (sized_is d.frames (passed.taken (device_free d))) (items_begin (passed.sent (device_active d)) (all_filled d.frames (passed.taken (device_free d))) row.filled);
       takes = omega (arith, row.takes, items_long (passed.taken (device_free d)));
       returns = items_begin (passed.sent (device_back d)) (passed.taken (device_sent d)) row.returns;
     } in
-    subst (λ fs. FillsFrames fs (m.taken (device_free d)) (m.sent (device_active d)) (m.taken (device_sent d)) (m.sent (device_back d))) same
-    (carry (λ x y z w. FillsFrames d.frames x y z w) (items_of (passed.taken (device_free d))) (items_of (passed.sent (device_active d))) (items_of (passed.taken (device_sent d))) (items_of (passed.sent (device_back d))) (m.taken (device_free d)) (m.sent (device_active d)) (m.taken (device_sent d)) (m.sent (device_back d)) (sym (items 0 _ refl)) (sym (items 1 _ refl)) (sym (items 2 _ refl)) (sym (items 3 _ refl)) said)
+    carry (λ x y z w. FillsFrames d.frames x y z w) (items_of (passed.taken (device_free d))) (items_of (passed.sent (device_active d))) (items_of (passed.taken (device_sent d))) (items_of (passed.sent (device_back d))) (m.taken (device_free d)) (m.sent (device_active d)) (m.taken (device_sent d)) (m.sent (device_back d)) (sym (items 0 _ refl)) (sym (items 1 _ refl)) (sym (items 2 _ refl)) (sym (items 3 _ refl)) said
 
 pub driver_row : (scene : Scene) (ps : List Pipe) (passed : Passed) (m : Moved) → AreItemsOf (net_sheet scene (driver_part ps)).ends passed m → PipesRow ps passed → (net_sheet scene (driver_part ps)).row m
 driver_row scene [] passed m items row k w at = cc
@@ -112,8 +111,8 @@ given_are w (p ∷ pages) first numbered =
     shift : (i : ℕ) → first + suc i ≡ first + 1 + i
     shift i = omega arith
 
-pub sink_row : (scene : Scene) (tx : PoolAt) (c : NetClient) (passed : Passed) (m : Moved) → c.stock.base ≡ 0 → c.stock.size ≡ 2048 → AreItemsOf (net_sheet scene (sink_part tx c)).ends passed m → ClientRow c passed → (net_sheet scene (sink_part tx c)).row m
-sink_row scene tx c passed m base size items row =
+pub sink_row : (scene : Scene) (c : NetClient) (passed : Passed) (m : Moved) → c.stock.base ≡ 0 → c.stock.size ≡ 2048 → AreItemsOf (net_sheet scene (sink_part c)).ends passed m → ClientRow c passed → (net_sheet scene (sink_part c)).row m
+sink_row scene c passed m base size items row =
     let w : Window = by_offset (stock_pool c.stock) in
     let came = passed.taken (rx_active c) in
     let gave = passed.sent (rx_free c) in

@@ -60,7 +60,7 @@ lease_is s frame (item, Carried.Empty) is same = absurd is
 lease_is s frame (item, Carried.Lease lease) is same = absurd is
 
 -- and so have a client's leases
-leases_items : (s : Stock) (frames : List (List ℕ)) (mac : Mac) (place : ℕ) (cs : List Cargo) → ((k : ℕ) (c : Cargo) → slice_get cs k ≡ Some c → IsBuffer s c) → ((k : ℕ) (c : Cargo) → slice_get cs k ≡ Some c → frame_of c ≡ frame_at frames (place + k)) → items_of (leases_for s.size mac cs) ≡ leases_from frames s.base mac place (items_of cs)
+pub leases_items : (s : Stock) (frames : List (List ℕ)) (mac : Mac) (place : ℕ) (cs : List Cargo) → ((k : ℕ) (c : Cargo) → slice_get cs k ≡ Some c → IsBuffer s c) → ((k : ℕ) (c : Cargo) → slice_get cs k ≡ Some c → frame_of c ≡ frame_at frames (place + k)) → items_of (leases_for s.size mac cs) ≡ leases_from frames s.base mac place (items_of cs)
 leases_items s frames mac place [] within same = refl
 leases_items s frames mac place (c ∷ cs) within same =
     let frame : frame_of c ≡ frame_at frames place = same 0 c refl ∙ ap (frame_at frames) plus in
@@ -91,7 +91,7 @@ ends_are frames [] = refl
 ends_are frames (c ∷ cs) = ap (λ l. Rattle.play_core.specs.Wants.outlet c.active ∷ Rattle.play_core.specs.Wants.intake c.free ∷ l) (ends_are frames cs)
 
 -- a client at a place
-abbrev Served : List Mac → List QueueId → List QueueId → ℕ → Lessee → Type 0
+abbrev pub Served : List Mac → List QueueId → List QueueId → ℕ → Lessee → Type 0
 Served macs to from k c = (q : QueueId) × (r : QueueId) × (slice_get macs k ≡ Some c.mac) × (slice_get to k ≡ Some q) × (slice_get from k ≡ Some r) × (q.0 ≡ c.active) × (r.0 ≡ c.free)
 
 pub served_at : (macs : List Mac) (to from : List QueueId) (k : ℕ) (c : Lessee) → slice_get (lessees macs to from) k ≡ Some c → Served macs to from k c

@@ -27,8 +27,8 @@ module _ (scene : Scene) (pool : PoolAt) (macs : List Mac) (pools : List ClientP
       let e : j ≡ suc (suc (suc (suc (suc (suc (suc (suc (6 * k + i)))))))) = omega (arith, same) in
       ap (layout_naming scene pool macs pools) e ∙ client_name pool pools k p i (6 * k + i) names at is refl
 
-  pub device_named : NamesPart (layout_naming scene pool macs pools) scene (device_at 0)
-  device_named = ((by_address pool ∷ [], (refl, refl)), (map (λ (c : ClientPools). by_address c.tx) pools, (refl, refl)))
+  pub device_named : (frames : List (List ℕ)) → NamesPart (layout_naming scene pool macs pools) scene (device_at 0 frames)
+  device_named frames = ((by_address pool ∷ [], (refl, refl)), (map (λ (c : ClientPools). by_address c.tx) pools, (refl, refl)))
 
   pub driver_named : NamesPart (layout_naming scene pool macs pools) scene (driver_at 0)
   driver_named zero w at = subst (NameWay (layout_naming scene pool macs pools)) (some_is at) (by_address pool ∷ [], refl, inl refl)

@@ -43,9 +43,9 @@ sized_few : (b : Buffer) (ws : List Window) (ns : List ℕ) (xs items : List Ite
 sized_few b ws ns xs items h = omega (arith, few_of b ws xs (sized_items ns items) h, times_few b (names_in ws (sized_items ns items)) (names_in ws items) (sized_begin ws ns items))
 
 -- a device
-module _ (naming : Naming) (scene : Scene) (rx_free rx_active tx_active tx_free : ℕ) (m : Moved) (names : NamesPart naming scene (NetDevice rx_free rx_active tx_active tx_free)) (row : (net_sheet scene (NetDevice rx_free rx_active tx_active tx_free)).row m) where
+module _ (naming : Naming) (scene : Scene) (rx_free rx_active tx_active tx_free : ℕ) (frames : List (List ℕ)) (m : Moved) (names : NamesPart naming scene (NetDevice rx_free rx_active tx_active tx_free frames)) (row : (net_sheet scene (NetDevice rx_free rx_active tx_active tx_free frames)).row m) where
   abbrev device_seats : List Seat
-  device_seats = (net_sheet scene (NetDevice rx_free rx_active tx_active tx_free)).ends
+  device_seats = (net_sheet scene (NetDevice rx_free rx_active tx_active tx_free frames)).ends
 
   device_came : (f : Thing → ℕ) → sum_by f (all_taken naming m device_seats) ≡ carried naming m rx_free (m.taken rx_free) f + carried naming m tx_active (m.taken tx_active) f
   device_came f =
@@ -63,7 +63,7 @@ module _ (naming : Naming) (scene : Scene) (rx_free rx_active tx_active tx_free 
       let tx = names.1.0 in
       keeps_plain (λ pool. []) (all_taken naming m device_seats) (all_put naming m device_seats)
       (λ b. omega (arith, device_came (lends b), buffers_none naming m rx_free (m.taken rx_free) rx (lends b) names.0.1.0 refl (λ c. refl), buffers_none naming m tx_active (m.taken tx_active) tx (lends b) names.1.1.0 refl (λ c. refl)))
-      (λ b. omega (arith, device_came (as_buffer b), device_went (as_buffer b), buffers_are naming m rx_free (m.taken rx_free) rx (as_buffer b) b names.0.1.0 refl (λ c. refl), buffers_are naming m rx_active (m.sent rx_active) rx (as_buffer b) b names.0.1.1 refl (λ c. refl), buffers_are naming m tx_active (m.taken tx_active) tx (as_buffer b) b names.1.1.0 refl (λ c. refl), buffers_are naming m tx_free (m.sent tx_free) tx (as_buffer b) b names.1.1.1 refl (λ c. refl), sized_few b rx (map (λ frame. length frame) scene.frames) (m.sent rx_active) (m.taken rx_free) row.filled, few_of b tx (m.sent tx_free) (m.taken tx_active) row.returns))
+      (λ b. omega (arith, device_came (as_buffer b), device_went (as_buffer b), buffers_are naming m rx_free (m.taken rx_free) rx (as_buffer b) b names.0.1.0 refl (λ c. refl), buffers_are naming m rx_active (m.sent rx_active) rx (as_buffer b) b names.0.1.1 refl (λ c. refl), buffers_are naming m tx_active (m.taken tx_active) tx (as_buffer b) b names.1.1.0 refl (λ c. refl), buffers_are naming m tx_free (m.sent tx_free) tx (as_buffer b) b names.1.1.1 refl (λ c. refl), sized_few b rx (map (λ frame. length frame) frames) (m.sent rx_active) (m.taken rx_free) row.filled, few_of b tx (m.sent tx_free) (m.taken tx_active) row.returns))
       (λ b. omega (arith, device_went (as_lease b), buffers_none naming m rx_active (m.sent rx_active) rx (as_lease b) names.0.1.1 refl (λ c. refl), buffers_none naming m tx_free (m.sent tx_free) tx (as_lease b) names.1.1.1 refl (λ c. refl)))
 
 -- a driver
@@ -218,7 +218,7 @@ module _ (naming : Naming) (scene : Scene) (active free : ℕ) (pool : PoolAt) (
       subst (λ s. Keeps (pool_hand pool) (all_taken naming m s) (all_put naming m s)) ends (lender_keeps naming (by_address pool ∷ []) (by_offset pool ∷ []) l m names lends_row)
 
 pub net_puts : (naming : Naming) (scene : Scene) (p : NetPart) → NamesPart naming scene p → PutsItsOwn naming (net_sheet scene p)
-net_puts naming scene (NetDevice rx_free rx_active tx_active tx_free) names m apart row = device_keeps naming scene rx_free rx_active tx_active tx_free m names row
+net_puts naming scene (NetDevice rx_free rx_active tx_active tx_free frames) names m apart row = device_keeps naming scene rx_free rx_active tx_active tx_free frames m names row
 net_puts naming scene (NetDriver ways) names m apart row = driver_keeps naming m ways names row
 net_puts naming scene (NetReceiver active free pool clients) names m apart row = receiver_keeps naming scene active free pool clients m names row
 net_puts naming scene (NetCopier lease_active lease_free rx_active rx_free) names m apart row = copier_keeps naming scene lease_active lease_free rx_active rx_free m names row

@@ -19,13 +19,13 @@ use Rattle.net_parts.proofs.Fits.{Fits, AllFit, intake_fits, outlet_fits, pairs_
 use Rattle.net_parts.proofs.Pairs.{twice, twice_same, pair_first, pair_second, pair_seats, flat_alike, each_owed, carry, put_length, sized_length}
 
 -- a device
-module _ (scene : Scene) (rx_free rx_active tx_active tx_free : ℕ) where
+module _ (scene : Scene) (rx_free rx_active tx_active tx_free : ℕ) (frames : List (List ℕ)) where
   abbrev Device : Sheet
-  Device = net_sheet scene (NetDevice rx_free rx_active tx_active tx_free)
+  Device = net_sheet scene (NetDevice rx_free rx_active tx_active tx_free frames)
 
   pub device_own : IsOwn Device
   device_own = record {
-    row = λ a b alike h. carry (λ x y z w. FillsFrames scene.frames x y z w) (a.taken rx_free) (a.sent rx_active) (a.taken tx_active) (a.sent tx_free) (b.taken rx_free) (b.sent rx_active) (b.taken tx_active) (b.sent tx_free) (alike 0 (intake rx_free) refl) (alike 1 (outlet rx_active) refl) (alike 2 (intake tx_active) refl) (alike 3 (outlet tx_free) refl) h;
+    row = λ a b alike h. carry (λ x y z w. FillsFrames frames x y z w) (a.taken rx_free) (a.sent rx_active) (a.taken tx_active) (a.sent tx_free) (b.taken rx_free) (b.sent rx_active) (b.taken tx_active) (b.sent tx_free) (alike 0 (intake rx_free) refl) (alike 1 (outlet rx_active) refl) (alike 2 (intake tx_active) refl) (alike 3 (outlet tx_free) refl) h;
     wants = λ a b alike.
         let e0 : a.taken rx_free ≡ b.taken rx_free = alike 0 (intake rx_free) refl in
         let e1 : a.sent rx_active ≡ b.sent rx_active = alike 1 (outlet rx_active) refl in
@@ -37,10 +37,10 @@ module _ (scene : Scene) (rx_free rx_active tx_active tx_free : ℕ) where
 
   module _ (m : Moved) (apart : AreApart Device.ends) (row : Device.row m) where
     abbrev sized : List Item
-    sized = sized_items (map (λ frame. length frame) scene.frames) (m.taken rx_free)
+    sized = sized_items (map (λ frame. length frame) frames) (m.taken rx_free)
 
     long : length sized ≡ length (m.taken rx_free)
-    long = sized_length (map (λ frame. length frame) scene.frames) (m.taken rx_free) (let many : length (map (λ (frame : List ℕ). length frame) scene.frames) ≡ length scene.frames = length-map scene.frames (λ frame. length frame) in omega (arith, many, row.takes))
+    long = sized_length (map (λ frame. length frame) frames) (m.taken rx_free) (let many : length (map (λ (frame : List ℕ). length frame) frames) ≡ length frames = length-map frames (λ frame. length frame) in omega (arith, many, row.takes))
 
     away : rx_active ≢ tx_free
     away same = let e : 1 ≡ 3 = apart 1 3 (outlet rx_active) refl (ap (λ n. Some (outlet n)) (sym same)) in omega (arith, e)

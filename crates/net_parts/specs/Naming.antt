@@ -20,7 +20,7 @@ NameWay naming w = (ws : List Window) × (naming w.input ≡ Buffers ws)
 -- at an actor's queues: buffers at each pair of a device's, each way of a driver's and each pair of
 -- a client's; frames, buffers and leases at a virtualiser's; and leases and buffers at a copier's
 abbrev pub NamesPart : Naming → Scene → NetPart → Type 0
-NamesPart naming scene (NetDevice rx_free rx_active tx_active tx_free) =
+NamesPart naming scene (NetDevice rx_free rx_active tx_active tx_free frames) =
     ((rx : List Window) × NamePair naming rx rx_free rx_active)
     × ((tx : List Window) × NamePair naming tx tx_active tx_free)
 NamesPart naming scene (NetDriver ways) = (k : ℕ) (w : Way) → slice_get ways k ≡ Some w

@@ -9,9 +9,9 @@ use Rattle.net_owners.specs.Lending.{receivers_of}
 use Rattle.net_parts.specs.Parts.{NetPart, NetDevice, NetDriver, NetReceiver, NetCopier, NetSink, Lessee}
 use Rattle.net_parts.specs.Rows.{lender_of}
 
--- the device's part
-abbrev pub device_at : (first : ℕ) → NetPart
-device_at first = NetDevice first (first + 1) (first + 2) (first + 3)
+-- the device's part, with the frames that it receives
+abbrev pub device_at : (first : ℕ) → List (List ℕ) → NetPart
+device_at first frames = NetDevice first (first + 1) (first + 2) (first + 3) frames
 
 -- the driver's part: free buffers and received frames, frames to send and buffers that were sent
 abbrev pub driver_at : (first : ℕ) → NetPart

@@ -16,10 +16,11 @@ pub record Lessee : Type 0 where
   pub free : ℕ
   pub mac : Mac
 
--- an actor of the network's receive half and its queues: a virtualiser with the pool that it lends
--- and its clients, and a client that sends nothing with its two pools
+-- an actor of the network's receive half and its queues: a device with the frames that it receives,
+-- a virtualiser with the pool that it lends and its clients, and a client that sends nothing with
+-- its two pools
 pub data NetPart : Type 0 where
-  NetDevice : (rx_free rx_active tx_active tx_free : ℕ) → NetPart
+  NetDevice : (rx_free rx_active tx_active tx_free : ℕ) (frames : List (List ℕ)) → NetPart
   NetDriver : (ways : List Way) → NetPart
   NetReceiver : (active free : ℕ) (pool : PoolAt) (clients : List Lessee) → NetPart
   NetCopier : (lease_active lease_free rx_active rx_free : ℕ) → NetPart

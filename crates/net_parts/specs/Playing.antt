@@ -1,9 +1,11 @@
 -- Which part each actor of the network's receive half plays, and what the laws ask of what passed
 -- at its ends.
 use Rattle.std.specs.Prelude.{◌≡◌, ℕ, false, Some, List, [], ◌∷◌, length, map, slice_get}
+use Rattle.cargo_core.specs.Pages.{Paged}
 use Rattle.frame_core.specs.declared.mac.Mac.{Mac}
 use Rattle.wire_core.specs.declared.names.QueueId.{QueueId}
 use Rattle.wire_core.specs.Deeds.{Cargo}
+use Rattle.wire_core.specs.Lists.{Passed}
 use Rattle.turn_kit.specs.declared.pipe.Pipe.{Pipe}
 use Rattle.net_kit.specs.Entries.{len_of}
 use Rattle.net_kit.specs.Virtualising.{from_queues, to_queues}
@@ -14,14 +16,17 @@ use Rattle.net_client.specs.Clients as client
 use Rattle.net_client.specs.declared.NetClient.{NetClient}
 use Rattle.net_copier.specs.Copying.{is_stray, leased_bytes}
 use Rattle.net_copier.specs.declared.NetCopier.{NetCopier}
+use Rattle.net_virt_rx.specs.Receiving.{RxRow}
 use Rattle.net_virt_rx.specs.declared.NetVirtRx.{NetVirtRx}
+use Rattle.net_rx_owners.specs.Virtualiser.{TakesFrames}
 use Rattle.net_owners.specs.Names.{PoolAt}
+use Rattle.net_parts.specs.Rows.{frame_at}
 use Rattle.net_parts.specs.Parts.{NetPart, NetDevice, NetDriver, NetReceiver, NetCopier as CopierPart, NetSink, Way, Lessee}
 
 -- a device's part
 abbrev pub device_part : EthDevice → NetPart
 device_part d = NetDevice (device.rx_free d) (device.rx_active d) (device.tx_active d)
-    (device.tx_free d)
+    (device.tx_free d) d.frames
 
 -- a pipe as a way
 abbrev pub way_of : Pipe → Way
@@ -40,10 +45,16 @@ copier_part c = CopierPart c.lease_input.queue.0 c.lease_output.queue.0 c.buffer
 abbrev pub stock_pool : Stock → PoolAt
 stock_pool s = record { number = s.pool.0; base = s.base; buffers = s.buffers }
 
+-- the pool of which these are all buffers, by offsets; none tell of none, whichever pool it is
+abbrev pub pool_of : List Paged → PoolAt
+pool_of [] = record { number = 0; base = 0; buffers = 0 }
+pool_of (page ∷ pages) =
+    record { number = page.pool.0; base = 0; buffers = length (page ∷ pages) }
+
 -- the part of a client that sends nothing, with the pool in whose buffers it could send
-abbrev pub sink_part : PoolAt → NetClient → NetPart
-sink_part tx c = NetSink (client.rx_active c) (client.rx_free c) (client.tx_active c)
-    (client.tx_free c) (stock_pool c.stock) tx
+abbrev pub sink_part : NetClient → NetPart
+sink_part c = NetSink (client.rx_active c) (client.rx_free c) (client.tx_active c)
+    (client.tx_free c) (stock_pool c.stock) (pool_of c.spare.items)
 
 -- clients with these addresses and queues
 abbrev pub lessees : List Mac → (to from : List QueueId) → List Lessee
@@ -70,3 +81,16 @@ pub record IsLease (c : Cargo) : Type 0 where
 -- each of these is
 abbrev pub AreLeases : List Cargo → Type 0
 AreLeases cs = (k : ℕ) (c : Cargo) → slice_get cs k ≡ Some c → IsLease c
+
+-- a receiving virtualiser, whose buffers have 2,048 bytes, took the frames of their places, and
+-- nothing out of turn
+pub record ReceivesInTurn (frames : List (List ℕ)) (v : NetVirtRx) (passed : Passed) :
+    Type 0 where
+  pub size : v.work.stock.size ≡ 2048
+  pub takes : TakesFrames (frame_at frames) v passed
+  pub in_turn : (row : RxRow v passed) → row.stray ≡ []
+
+-- a client's own buffers begin at offset 0, and have 2,048 bytes
+pub record HasBuffers (c : NetClient) : Type 0 where
+  pub base : c.stock.base ≡ 0
+  pub size : c.stock.size ≡ 2048

@@ -71,12 +71,12 @@ lessee_wants frames pool active busy m c =
 -- needs room for what it still has to put, and an input while nothing that came there is still to
 -- be put
 abbrev pub net_sheet : Scene → NetPart → Sheet
-net_sheet scene (NetDevice rx_free rx_active tx_active tx_free) = record {
+net_sheet scene (NetDevice rx_free rx_active tx_active tx_free frames) = record {
   ends = intake rx_free ∷ outlet rx_active ∷ intake tx_active ∷ outlet tx_free ∷ [];
-  row = λ m. FillsFrames scene.frames (m.taken rx_free) (m.sent rx_active) (m.taken tx_active)
+  row = λ m. FillsFrames frames (m.taken rx_free) (m.sent rx_active) (m.taken tx_active)
       (m.sent tx_free);
   wants = λ m.
-      intake_want rx_free (is_short (m.taken rx_free) scene.frames
+      intake_want rx_free (is_short (m.taken rx_free) frames
       && not (is_short (m.sent rx_active) (m.taken rx_free)))
       ∷ outlet_want rx_active (is_short (m.sent rx_active) (m.taken rx_free))
       ∷ intake_want tx_active (not (is_short (m.sent tx_free) (m.taken tx_active)))

@@ -27,13 +27,12 @@ ghost use Rattle.net_virt_rx.specs.Receiving.{RxRow};
 ghost use Rattle.net_virt_rx.specs.declared.NetVirtRx.{NetVirtRx};
 ghost use Rattle.net_owners.specs.Names.{PoolAt, ClientPools};
 ghost use Rattle.net_owners.specs.Ends.{AreItemsOf};
-ghost use Rattle.net_rx_owners.specs.Virtualiser.{TakesFrames};
 ghost use Rattle.net_parts.specs.Parts.{NetPart};
 ghost use Rattle.net_parts.specs.Rows.{frame_at};
 ghost use Rattle.net_parts.specs.Table.{net_sheet};
 ghost use Rattle.net_parts.specs.Naming.{NamesPart};
 ghost use Rattle.net_parts.specs.Numbers.{device_at, driver_at, receiver_at, copier_at, sink_at, layout_naming};
-ghost use Rattle.net_parts.specs.Playing.{device_part, driver_part, copier_part, sink_part, receiver_part, AreLeases};
+ghost use Rattle.net_parts.specs.Playing.{device_part, driver_part, copier_part, sink_part, receiver_part, AreLeases, ReceivesInTurn, HasBuffers};
 ghost use Rattle.net_parts.specs.Turning.{IsReceiveHalf, IsClient};
 
 /// What is said of an actor speaks of its own ends alone, and an output is owed exactly where the
@@ -49,24 +48,22 @@ pub fn table_law()
 /// network has 2,048 bytes.
 pub fn row_law()
     ensures device { (scene : Scene) (d : EthDevice) (passed : Passed) (m : Moved)
-        → d.frames ≡ scene.frames → AreItemsOf (net_sheet scene (device_part d)).ends passed m
+        → AreItemsOf (net_sheet scene (device_part d)).ends passed m
         → DeviceRow d passed → (net_sheet scene (device_part d)).row m }
     ensures driver { (scene : Scene) (ps : List Pipe) (passed : Passed) (m : Moved)
         → AreItemsOf (net_sheet scene (driver_part ps)).ends passed m → PipesRow ps passed
         → (net_sheet scene (driver_part ps)).row m }
     ensures receiver { (scene : Scene) (v : NetVirtRx) (passed : Passed) (m : Moved)
-        → v.work.stock.size ≡ 2048
+        → ReceivesInTurn scene.frames v passed
         → AreItemsOf (net_sheet scene (receiver_part v)).ends passed m
-        → TakesFrames (frame_at scene.frames) v passed
-        → (row : RxRow v passed) → row.stray ≡ [] → (net_sheet scene (receiver_part v)).row m }
+        → RxRow v passed → (net_sheet scene (receiver_part v)).row m }
     ensures copier { (scene : Scene) (c : NetCopier) (passed : Passed) (m : Moved)
         → AreItemsOf (net_sheet scene (copier_part c)).ends passed m
         → AreLeases (passed.taken c.lease_input.queue.0)
         → CopierRow c passed → (net_sheet scene (copier_part c)).row m }
-    ensures sink { (scene : Scene) (tx : PoolAt) (c : NetClient) (passed : Passed) (m : Moved)
-        → c.stock.base ≡ 0 → c.stock.size ≡ 2048
-        → AreItemsOf (net_sheet scene (sink_part tx c)).ends passed m
-        → ClientRow c passed → (net_sheet scene (sink_part tx c)).row m }
+    ensures sink { (scene : Scene) (c : NetClient) (passed : Passed) (m : Moved)
+        → HasBuffers c → AreItemsOf (net_sheet scene (sink_part c)).ends passed m
+        → ClientRow c passed → (net_sheet scene (sink_part c)).row m }
 {}
 
 /// What is said of an actor lets it put only buffers and leases that were in its hand, where its
@@ -78,7 +75,8 @@ pub fn own_law()
 
 /// On its way round nothing comes out of turn, whatever the clients do: not at the virtualiser,
 /// which takes the frames of their places; and a copier takes leases alone, each as long as its
-/// item says and of one of the device's frames. Each client's record is a beginning of the device's frames that are for it.
+/// item says and of one of the device's frames. Each client's record is a beginning of the device's
+/// frames that are for it.
 pub fn turn_law()
     ensures turn { (d : EthDevice) (p : Pipes (Pipes (Pipes Pipe))) (v : NetVirtRx)
         (copiers : List NetCopier) (passed : Passed)
@@ -106,7 +104,8 @@ pub fn turn_law()
 /// queues what the owners of buffers ask.
 pub fn name_law()
     ensures device { (scene : Scene) (pool : PoolAt) (macs : List Mac) (pools : List ClientPools)
-        → NamesPart (layout_naming scene pool macs pools) scene (device_at 0) }
+        (frames : List (List ℕ))
+        → NamesPart (layout_naming scene pool macs pools) scene (device_at 0 frames) }
     ensures driver { (scene : Scene) (pool : PoolAt) (macs : List Mac) (pools : List ClientPools)
         → NamesPart (layout_naming scene pool macs pools) scene (driver_at 0) }
     ensures receiver { (scene : Scene) (pool : PoolAt) (macs : List Mac) (pools : List ClientPools)

@@ -44,8 +44,8 @@ fn page_in(pool: PoolId, slot: &Option<(Item, Body)>) -> u32
     }
 }
 
-// How many buffers of a pool lie in so many slots, from that of an index on. There are as many slots
-// as a queue holds entries.
+// How many buffers of a pool lie in so many slots, from that of an index on. There are as many
+// slots as a queue holds entries.
 fn pages_from(
     pool: PoolId,
     slots: &[Option<(Item, Body)>],

@@ -9,10 +9,10 @@ pub returns-clause-driver : goal.returns-clause-driver
 returns-clause-driver c = driver_row
 
 pub returns-clause-receiver : goal.returns-clause-receiver
-returns-clause-receiver c = receiver_row
+returns-clause-receiver c = λ scene v passed m turn items row. receiver_row scene v passed m turn.size items turn.takes row (turn.in_turn row)
 
 pub returns-clause-copier : goal.returns-clause-copier
 returns-clause-copier c = copier_row
 
 pub returns-clause-sink : goal.returns-clause-sink
-returns-clause-sink c = sink_row
+returns-clause-sink c = λ scene x passed m has items row. sink_row scene x passed m has.base has.size items row

@@ -1,0 +1,4 @@
+pub mod Plain
+pub mod Counting
+pub mod Receiving
+pub mod Resting

@@ -1,0 +1,168 @@
+use Rattle.std.proofs.Common.{◌≡◌, ◌+◌, ◌++◌, ◌<◌, ◌≤◌, ◌&&◌, ◌||◌, ℕ, Bool, true, false, not, nat_lt, Option, Some, None, is_some, is_none, List, [], ◌∷◌, length, map, reverse, slice_get, length-append, refl, sym, ap, ◌∙◌, arith}
+use Rattle.std.specs.Option.{option_to_list}
+use Rattle.std.proofs.lemmas.Bool.{lt-ltb, le-ltb}
+use Rattle.std.proofs.lemmas.List.{length-map}
+use Rattle.cargo_core.specs.Pages.{Paged}
+use Rattle.wire_core.specs.Bells.{bit}
+use Rattle.wire_core.specs.Deeds.{Cargo}
+use Rattle.wire_core.specs.Queues.{Queue, end_at}
+use Rattle.wire_core.specs.Lists.{Passed}
+use Rattle.play_core.specs.Moved.{Moved}
+use Rattle.play_core.specs.Sheets.{Scene}
+use Rattle.turn_kit.specs.Pipes.{FitsPipe, PipeStandsFor}
+use Rattle.turn_kit.specs.declared.pipe.Pipe.{Pipe}
+use Rattle.pipe_driver.specs.Drivers.{EachPipe, PipesStandFor, pipe_posts, pipe_needs}
+use Rattle.net_kit.specs.Pools.{given_entry}
+use Rattle.net_kit.specs.Stocks.{stock_list, IsStock}
+use Rattle.net_kit.specs.declared.stock.Stock.{Stock}
+use Rattle.net_kit.proofs.Filling.{filled_length}
+use Rattle.eth_device.specs.Devices.{FitsDevice, DeviceStandsFor, is_filling, device_round, rx_free as device_free, rx_active as device_active}
+use Rattle.eth_device.specs.declared.EthDevice.{EthDevice}
+use Rattle.net_copier.specs.Copying.{FitsCopier, CopierStandsFor, IfThere, IsAt, is_stray, is_taken, is_copied, is_wanting, is_returning, copier_round}
+use Rattle.net_copier.specs.declared.NetCopier.{NetCopier}
+use Rattle.net_copier.specs.declared.Stage.{Stage}
+use Rattle.net_copier.specs.declared.Stage.TheVariants as At
+use Rattle.net_client.specs.Clients.{FitsClient, ClientStandsFor, is_giving, client_round, client_owes, rx_active, rx_free}
+use Rattle.net_client.specs.declared.NetClient.{NetClient}
+use Rattle.net_parts.specs.Table.{net_sheet, is_short}
+use Rattle.net_parts.specs.Playing.{device_part, driver_part, copier_part, sink_part, AreLeases}
+use Rattle.rest_law.specs.Showing.{HaveItems}
+use Rattle.rest_law.specs.Meeting.{Meet}
+use Rattle.rest_law.proofs.Settling.{both, took, put, none_is, held_is, bit_is}
+
+and_swap : (a b : Bool) → (a && b) ≡ (b && a)
+and_swap true true = refl
+and_swap true false = refl
+and_swap false true = refl
+and_swap false false = refl
+
+last_get : (xs : List Cargo) (x : Cargo) → slice_get (xs ++ x ∷ []) (length xs) ≡ Some x
+last_get [] x = refl
+last_get (y ∷ xs) x = last_get xs x
+
+-- whether a copier needs a buffer, by how many came and went: a lease is in turn, and a buffer is
+-- filled only for one
+wanting_is : (lease buffer : Option Cargo) (stage : Stage) → IfThere lease (IsAt stage) → ((x : Cargo) → lease ≡ Some x → is_stray x ≡ false) → (is_some buffer ≡ true → (is_some lease ≡ true) × (stage ≡ At.Taken)) → (back gave buffers leases : ℕ) → back + length (option_to_list lease) ≡ leases → gave ≡ back + bit (is_some lease && is_copied stage) → gave + length (option_to_list buffer) ≡ buffers → (is_some lease && (is_none buffer && is_taken stage)) ≡ nat_lt buffers leases
+wanting_is None None stage at turn filled back gave buffers leases a b c = sym (le-ltb buffers leases (omega (arith, a, b, c)))
+wanting_is None (Some y) stage at turn filled back gave buffers leases a b c = let e : false ≡ true = (filled refl).0 in cc
+wanting_is (Some x) None At.Taken at turn filled back gave buffers leases a b c = sym (lt-ltb buffers leases (omega (arith, a, b, c)))
+wanting_is (Some x) None At.Copied at turn filled back gave buffers leases a b c = sym (le-ltb buffers leases (omega (arith, a, b, c)))
+wanting_is (Some x) None At.Stray at turn filled back gave buffers leases a b c = let e : false ≡ true = sym (turn x refl) ∙ at in cc
+wanting_is (Some x) (Some y) At.Taken at turn filled back gave buffers leases a b c = sym (le-ltb buffers leases (omega (arith, a, b, c)))
+wanting_is (Some x) (Some y) At.Copied at turn filled back gave buffers leases a b c = let e : At.Copied ≡ At.Taken = (filled refl).1 in cc
+wanting_is (Some x) (Some y) At.Stray at turn filled back gave buffers leases a b c = let e : At.Stray ≡ At.Taken = (filled refl).1 in cc
+
+-- whether a client owes a buffer, and whether it holds one that came, by how many came and went
+owing_is : (next load : Option Cargo) (stock gave due : ℕ) → (next ≡ None → stock ≡ 0) → (is_some next ≡ true → 0 < stock) → gave + (stock + length (option_to_list load)) ≡ due → (is_some next || is_some load) ≡ nat_lt gave due
+owing_is None None stock gave due none some all = sym (le-ltb gave due (let z = none refl in omega (arith, z, all)))
+owing_is None (Some x) stock gave due none some all = sym (lt-ltb gave due (omega (arith, all)))
+owing_is (Some y) load stock gave due none some all = sym (lt-ltb gave due (let z = some refl in omega (arith, z, all)))
+
+holding_is : (next load : Option Cargo) (stock gave own came : ℕ) → (next ≡ None → stock ≡ 0) → gave + (stock + length (option_to_list load)) ≡ own + came → length (option_to_list load) ≤ came → (is_some next ≡ true → came ≤ length (option_to_list load)) → is_none load ≡ not (nat_lt 0 came && nat_lt gave (own + came))
+holding_is next (Some x) stock gave own came none all some first = rw (lt-ltb 0 came some, lt-ltb gave (own + came) (omega (arith, all))) refl
+holding_is None None stock gave own came none all some first =
+    let z = none refl in
+    rw (le-ltb gave (own + came) (omega (arith, z, all))) (sym (ap not (off (nat_lt 0 came))))
+  where
+    off : (b : Bool) → (b && false) ≡ false
+    off true = refl
+    off false = refl
+holding_is (Some y) None stock gave own came none all some first = rw (le-ltb 0 came (first refl)) refl
+
+-- a stock has nothing to give where nothing is ready
+none_left : (s : Stock) → IsStock s → s.next ≡ None → length (stock_list s) ≡ 0
+none_left s is none =
+    let a = length-append (option_to_list s.next) (map (given_entry s.base s.size) (reverse s.rest.items)) in
+    let b : length (option_to_list s.next) ≡ 0 = ap (λ o. length (option_to_list o)) none in
+    let c : length (map (given_entry s.base s.size) (reverse s.rest.items)) ≡ 0 = ap (λ (ps : List Paged). length (map (given_entry s.base s.size) (reverse ps))) (is.ready none) in
+    omega (arith, a, b, c)
+
+some_left : (s : Stock) → is_some s.next ≡ true → 0 < length (stock_list s)
+some_left s some =
+    let a = length-append (option_to_list s.next) (map (given_entry s.base s.size) (reverse s.rest.items)) in
+    let b = one s.next some in
+    omega (arith, a, b)
+  where
+    one : (o : Option Cargo) → is_some o ≡ true → 0 < length (option_to_list o)
+    one None h = cc
+    one (Some x) h = omega arith
+
+pub next_left : (s : Stock) → IsStock s → is_some s.next ≡ nat_lt 0 (length (stock_list s))
+next_left s is = by s.next refl
+  where
+    by : (o : Option Cargo) → s.next ≡ o → is_some s.next ≡ nat_lt 0 (length (stock_list s))
+    by None e = ap is_some e ∙ sym (le-ltb 0 (length (stock_list s)) (let z = none_left s is e in omega (arith, z)))
+    by (Some x) e = ap is_some e ∙ sym (lt-ltb 0 (length (stock_list s)) (some_left s (ap is_some e)))
+
+-- each of these actors needs and owes what its sheet says of its items
+module _ (scene : Scene) (w : List Queue) (passed : Passed) (m : Moved) (h : HaveItems passed m) where
+  loaded : (p : Pipe) → PipeStandsFor p passed → is_some p.load ≡ is_short (m.sent p.output.queue.0) (m.taken p.input.queue.0)
+  loaded p st =
+      let all = ap (λ l. length l) st in
+      let parts = length-append (passed.sent p.output.queue.0) (option_to_list p.load) in
+      held_is p.load (length (m.sent p.output.queue.0)) (length (m.taken p.input.queue.0)) (omega (arith, all, parts, took passed m h p.input.queue.0, put passed m h p.output.queue.0))
+
+  free : (p : Pipe) → PipeStandsFor p passed → is_none p.load ≡ not (is_short (m.sent p.output.queue.0) (m.taken p.input.queue.0))
+  free p st = none_is p.load ∙ ap not (loaded p st)
+
+  pub pipes_meet : (ps : List Pipe) → EachPipe (FitsPipe (end_at w)) ps → PipesStandFor ps passed → Meet (end_at w) (pipe_posts ps) (pipe_needs ps) ((net_sheet scene (driver_part ps)).wants m)
+  pipes_meet [] f st = tt
+  pipes_meet (p ∷ ps) f st = (record { needs = free p st.0; agrees = f.0.input }, (record { needs = loaded p st.0; agrees = f.0.output }, pipes_meet ps f.1 st.1))
+
+  pub device_meets : (d : EthDevice) → FitsDevice (end_at w) d → DeviceStandsFor d passed → Meet (end_at w) (device_round d).posts (device_round d).needs ((net_sheet scene (device_part d)).wants m)
+  device_meets d f st =
+      let all = ap (λ l. length l) st.filled in
+      let parts = length-append (passed.sent (device_active d)) (option_to_list d.load) in
+      let long = filled_length d.frames (passed.taken (device_free d)) (omega (arith, st.takes, st.next)) in
+      let loads : is_some d.load ≡ is_short (m.sent (device_active d)) (m.taken (device_free d)) = held_is d.load (length (m.sent (device_active d))) (length (m.taken (device_free d))) (omega (arith, all, parts, long, took passed m h (device_free d), put passed m h (device_active d))) in
+      let fills : is_filling d ≡ (is_short (m.taken (device_free d)) d.frames && not (is_short (m.sent (device_active d)) (m.taken (device_free d)))) = and_swap (is_none d.load) (nat_lt d.next (length d.frames)) ∙ both (ap (λ n. nat_lt n (length d.frames)) (sym st.takes ∙ took passed m h (device_free d))) (none_is d.load ∙ ap not loads) in (
+        record { needs = fills; agrees = f.free },
+        (
+          record { needs = loads; agrees = f.active },
+          (record { needs = free d.wire.pipe st.sends.moved; agrees = f.wire.input }, (record { needs = loaded d.wire.pipe st.sends.moved; agrees = f.wire.output }, tt)),
+        ),
+      )
+
+  pub copier_meets : (c : NetCopier) → AreLeases (passed.taken c.lease_input.queue.0) → FitsCopier (end_at w) c → CopierStandsFor c passed → Meet (end_at w) (copier_round c).posts (copier_round c).needs ((net_sheet scene (copier_part c)).wants m)
+  copier_meets c leases f st =
+      let li = c.lease_input.queue.0 in
+      let bi = c.buffer_input.queue.0 in
+      let bo = c.buffer_output.queue.0 in
+      let lo = c.lease_output.queue.0 in
+      let came = ap (λ l. length l) st.leases in
+      let came_parts = length-append (passed.sent lo) (option_to_list c.lease) in
+      let gave_parts = length-append (passed.sent bo) (option_to_list c.buffer) in
+      let in_turn : (x : Cargo) → c.lease ≡ Some x → is_stray x ≡ false = λ x is.
+      (leases (length (passed.sent lo)) x (ap (λ l. slice_get l (length (passed.sent lo))) (st.leases ∙ ap (λ o. passed.sent lo ++ option_to_list o) is) ∙ last_get (passed.sent lo) x)).in_turn in
+      let has : is_some c.lease ≡ is_short (m.sent lo) (m.taken li) = held_is c.lease (length (m.sent lo)) (length (m.taken li)) (omega (arith, came, came_parts, took passed m h li, put passed m h lo)) in
+      let wants : is_wanting c ≡ is_short (m.taken bi) (m.taken li) =
+      wanting_is c.lease c.buffer c.stage st.work.lease in_turn st.work.buffered (length (m.sent lo)) (length (m.sent bo)) (length (m.taken bi)) (length (m.taken li)) (omega (arith, came, came_parts, took passed m h li, put passed m h lo)) (omega (arith, st.puts, put passed m h bo, put passed m h lo)) (omega (arith, st.takes, gave_parts, took passed m h bi, put passed m h bo)) in
+      let fills : is_some c.buffer ≡ is_short (m.sent bo) (m.taken bi) = held_is c.buffer (length (m.sent bo)) (length (m.taken bi)) (omega (arith, st.takes, gave_parts, took passed m h bi, put passed m h bo)) in
+      let returns : is_returning c ≡ is_short (m.sent lo) (m.sent bo) = bit_is (is_returning c) (length (m.sent lo)) (length (m.sent bo)) (omega (arith, st.puts, put passed m h bo, put passed m h lo)) in (
+        record { needs = none_is c.lease ∙ ap not has; agrees = f.lease_input },
+        (
+          record { needs = wants; agrees = f.buffer_input },
+          (record { needs = fills; agrees = f.buffer_output }, (record { needs = returns; agrees = f.lease_output }, tt)),
+        ),
+      )
+
+  pub sink_meets : (c : NetClient) → FitsClient (end_at w) c → ClientStandsFor c passed → Meet (end_at w) (client_round c).posts (client_round c).needs ((net_sheet scene (sink_part c)).wants m)
+  sink_meets c f st =
+      let load = c.frames.pipe.load in
+      let n = length (m.sent (rx_free c)) in
+      let t = length (m.taken (rx_active c)) in
+      let q = length (stock_list c.stock) in
+      let all = ap (λ l. length l) st.given in
+      let gone = length-append (passed.sent (rx_free c)) (client_owes c) in
+      let owes = length-append (stock_list c.stock) (option_to_list load) in
+      let come = length-append (map (given_entry c.stock.base c.stock.size) st.start) (passed.taken (rx_active c)) in
+      let own = length-map st.start (given_entry c.stock.base c.stock.size) in
+      let sum : n + (q + length (option_to_list load)) ≡ c.stock.buffers + t = omega (arith, all, gone, owes, come, own, st.is_start.many, took passed m h (rx_active c), put passed m h (rx_free c)) in
+      let gives : is_giving c ≡ nat_lt n (c.stock.buffers + t) = owing_is c.stock.next load q n (c.stock.buffers + t) (none_left c.stock f.stock) (some_left c.stock) sum in
+      let holds : is_none load ≡ not (nat_lt 0 t && nat_lt n (c.stock.buffers + t)) = holding_is c.stock.next load q n c.stock.buffers t (none_left c.stock f.stock) sum (omega (arith, st.came, took passed m h (rx_active c))) (λ some. let few = st.first some in omega (arith, few, took passed m h (rx_active c))) in (
+        record { needs = holds; agrees = f.frames.input },
+        (
+          record { needs = gives; agrees = f.frames.output },
+          (record { needs = refl; agrees = f.sent }, (record { needs = refl; agrees = f.send }, tt)),
+        ),
+      )

@@ -1,0 +1,17 @@
+use Rattle.net_rests.proofs.Resting.{device_rest, driver_rest, receiver_rest, copier_rest, sink_rest}
+use Rattle.net_rests.proofs.rests_law.Goals as goal
+
+pub returns-clause-device : goal.returns-clause-device
+returns-clause-device c = device_rest
+
+pub returns-clause-driver : goal.returns-clause-driver
+returns-clause-driver c = driver_rest
+
+pub returns-clause-receiver : goal.returns-clause-receiver
+returns-clause-receiver c = receiver_rest
+
+pub returns-clause-copier : goal.returns-clause-copier
+returns-clause-copier c = copier_rest
+
+pub returns-clause-sink : goal.returns-clause-sink
+returns-clause-sink c = sink_rest
