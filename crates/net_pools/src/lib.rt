@@ -34,8 +34,8 @@ ghost use Rattle.net_pools.specs.Sizes.{net_pools, sizes_of, AreNumbered, AreSpr
 ghost use Rattle.net_pools.specs.Holders.{holder_of, no_lent, rx_lent};
 
 /// Where what it took carries the pages that are named, so does what an actor of the network put:
-/// by their rows a device and a copier fill buffers and hand them on, a driver hands them on as they
-/// came, and the receiving virtualiser puts its own buffers, and leases without a page.
+/// by their rows a device and a copier fill buffers and hand them on, a driver hands them on as
+/// they came, and the receiving virtualiser puts its own buffers, and leases without a page.
 pub fn hand_on_law()
     ensures device { (naming : Naming) (scene : Scene) (d : EthDevice) (passed : Passed) (m : Moved)
         → NamesPart naming scene (device_part d) → DeviceRow d passed

@@ -3,3 +3,4 @@ pub mod Paging
 pub mod Lining
 pub mod Lasting
 pub mod Casting
+pub mod Plain

@@ -7,7 +7,7 @@ use Rattle.wire_core.specs.Lists.{Passed, with_deed}
 use Rattle.wire_core.specs.Queues.{items_of}
 use Rattle.play_core.specs.Moved.{Moved, Seat}
 use Rattle.play_core.specs.Wants.{intake, outlet}
-use Rattle.owner_law.specs.Things.{Buffer, Window, Answers, Naming, thing_at, requests_of, as_buffer}
+use Rattle.owner_law.specs.Things.{Buffer, Window, NoBuffers, Answers, Naming, thing_at, requests_of, as_buffer}
 use Rattle.owner_law.specs.Pages.{as_page, CarryPages}
 
 -- an entry at a place among all that went to a queue has as its body the page of the buffer that
@@ -52,3 +52,8 @@ pub record IsOnward (naming : Naming) (old new : Moved) (passed : Passed) (d : D
   pub split : (i j n : ℕ) → slice_get ends i ≡ Some (intake n) → slice_get ends j ≡ Some (outlet n)
       → ⊥
   pub hands_on : HandsOn naming new (with_deed passed d) ends
+
+-- at no queue of these ends do items name anything
+abbrev pub NameNothing : Naming → List Seat → Type 0
+NameNothing naming ends =
+    (i : ℕ) (s : Seat) → slice_get ends i ≡ Some s → naming s.queue ≡ NoBuffers

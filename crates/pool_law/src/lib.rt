@@ -2,8 +2,9 @@
 //! hands of its actors and as lent is what the table of owners says after the journal.
 #![tactic(auto)]
 
-ghost use Rattle.std.specs.Prelude.{◌≡◌, ◌+◌, ℕ, Some, List, [], slice_get, sum_by};
+ghost use Rattle.std.specs.Prelude.{◌≡◌, ◌+◌, ℕ, List, [], sum_by};
 ghost use Rattle.cargo_core.specs.Bodies.{buffers_of};
+ghost use Rattle.cargo_core.specs.declared.item.Body.{Body};
 ghost use Rattle.cargo_core.specs.declared.item.PoolId.{PoolId};
 ghost use Rattle.wire_core.specs.declared.names.QueueRow.{QueueRow};
 ghost use Rattle.wire_core.specs.declared.names.Entry.{Entry};
@@ -11,15 +12,15 @@ ghost use Rattle.wire_core.specs.Deeds.{Deed};
 ghost use Rattle.wire_core.specs.Journal.{History, Hostiles, start_history};
 ghost use Rattle.wire_core.specs.Lists.{Passed, nothing_passed, with_deed};
 ghost use Rattle.wire_core.specs.Queues.{Queue};
-ghost use Rattle.turn_kit.specs.Hands.{bodies_of};
+ghost use Rattle.turn_kit.specs.Hands.{Balances, bodies_of};
 ghost use Rattle.play_core.specs.Moved.{Moved, Seat, moved};
-ghost use Rattle.owner_law.specs.Things.{NoBuffers, Naming};
+ghost use Rattle.owner_law.specs.Things.{Naming};
 ghost use Rattle.owner_law.specs.Owners.{Table, replay};
 ghost use Rattle.owner_law.specs.Keeping.{Keeps, all_taken, all_put};
 ghost use Rattle.owner_law.specs.Pages.{CarryPages};
 ghost use Rattle.owner_law.specs.Census.{census, IsPool};
-ghost use Rattle.pool_law.specs.Handing.{IsOnward};
-ghost use Rattle.pool_law.specs.Lines.{Holder, AreLines};
+ghost use Rattle.pool_law.specs.Handing.{IsOnward, NameNothing, TakesPages};
+ghost use Rattle.pool_law.specs.Lines.{Holder, AreLines, HoldsIts, came, went};
 
 /// Entries carry the pages that their items name at the start, where there are none, and after each
 /// call of an actor that hands pages on.
@@ -68,9 +69,19 @@ pub fn line_law()
         + sum_by (λ (h : Holder). h.lent pool.0) holders ≡ sizes pool.0 }
 {}
 
-/// An actor at whose queues items name nothing puts only what was in its hand.
+/// An actor at whose queues items name nothing puts only what was in its hand; and where what it
+/// took has no pages, and it has what came to it or put it, it has no buffers in its hand.
 pub fn nothing_law()
-    ensures { (naming : Naming) (hand : ℕ → List ℕ) (ends : List Seat) (m : Moved)
-        → ((i : ℕ) (s : Seat) → slice_get ends i ≡ Some s → naming s.queue ≡ NoBuffers)
+    ensures keeps { (naming : Naming) (hand : ℕ → List ℕ) (ends : List Seat) (m : Moved)
+        → NameNothing naming ends
         → Keeps hand (all_taken naming m ends) (all_put naming m ends) }
+    ensures holds { (naming : Naming) (sizes : ℕ → ℕ) (ends : List Seat) (passed : Passed)
+        (m : Moved) (hand kept : List Body) → NameNothing naming ends
+        → TakesPages naming m passed ends
+        → Balances [] (came passed ends) (went passed ends) hand kept
+        → HoldsIts naming sizes m passed (record {
+          keeper = record { ends = ends; hand = λ pool. [] };
+          hand = hand;
+          lent = λ pool. 0;
+        }) }
 {}

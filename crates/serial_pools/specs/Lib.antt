@@ -1,0 +1,2 @@
+-- The serial class among the pools: the ends of its actors.
+pub mod SerialEnds
