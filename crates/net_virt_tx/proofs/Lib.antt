@@ -4,5 +4,6 @@ pub mod Moving
 pub mod Serving
 pub mod Owning
 pub mod Steps
+pub mod Splitting
 pub mod Rounds
 pub mod Holding

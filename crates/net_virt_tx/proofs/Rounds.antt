@@ -1,6 +1,6 @@
 -- The turns of the virtualiser, its start, and its row.
 use Rattle.std.proofs.Common.{◌≡◌, ◌+◌, ◌==◌, ◌≤◌, ℕ, zero, suc, false, Option, Some, None, List, [], ◌∷◌, ◌++◌, All, length, map, flat_map, slice_get, slice_index_or, refl, sym, ap, ◌∙◌, subst, arith}
-use Rattle.std.specs.List.{sum_by}
+use Rattle.std.specs.List.{filter, sum_by}
 use Rattle.std.specs.Option.{option_to_list}
 use Rattle.std.proofs.lemmas.List.{length-map}
 use Rattle.std.proofs.lemmas.List.Sums.{sum_by-cons}
@@ -33,12 +33,13 @@ use Rattle.net_virt_tx.specs.declared.descriptors.Sender.{Sender}
 use Rattle.net_virt_tx.specs.declared.traffic.Traffic.{Traffic}
 use Rattle.net_virt_tx.specs.Descriptors.{to_client}
 use Rattle.net_virt_tx.specs.Queued.{returns_list}
-use Rattle.net_virt_tx.specs.Serving.{IsServed, own_of, bad_ones}
+use Rattle.net_virt_tx.specs.Serving.{IsServed, is_good_of, own_of, bad_ones}
 use Rattle.net_virt_tx.specs.Clients.{IsFresh, ClientStands, capped, client_cargo, carried, is_marked}
 use Rattle.net_virt_tx.specs.Traffics.{IsTraffic, IsStill, IsSomeones, is_free, loaded_at, needs_at, owes, senders}
 use Rattle.net_virt_tx.specs.Sending.{TxStands, TxStandsFor, TxRow, AreAway, IsAnyones, IsNewTraffic, IsOutOfTurn, SameTx, bad_total, queue_at, sender_of, tx_round}
 use Rattle.net_virt_tx.proofs.Merging.{merge_nothing}
 use Rattle.net_virt_tx.proofs.Counting.{some_eq, bit_most}
+use Rattle.net_virt_tx.proofs.Splitting.{merges}
 use Rattle.net_virt_tx.proofs.Steps.{queue_is, stray_none, own_at}
 
 -- what is needed and loaded stays where the clients do
@@ -189,6 +190,10 @@ row_of v passed h =
       taken = h.taken;
       few_stray = few_option v.work.stray;
       out_of_turn = all_option (IsOutOfTurn i o f t (senders v.work) h.turn passed.sent h.place) v.work.stray h.stray;
+      merges = merges (senders v.work) f h.turn (passed.sent o) (subst AreRanges h.work.ranges_are h.work.apart) (h.from_each ∙ sym (length-map v.work.clients.items (λ (c : Client). c.sender))) (λ n d l. anyones (slice_index_or (passed.sent o) n d) (h.stands.within n d l))
+          (λ k s q at atq. let c = from_map v.work.clients.items k s at in
+          subst (λ n. IsPrefix (own_of s (passed.sent o)) (filter (is_good_of s) (h.turn n))) (queue_is f k q atq)
+          (subst (λ x. IsPrefix (own_of x (passed.sent o)) (filter (is_good_of x) (h.turn (queue_at f k)))) c.2 (serves_at c.0 (h.turn (queue_at f k)) (passed.sent o) (h.turn i) (passed.sent (queue_at t k)) (h.stands.clients k c.0 c.1)).sends));
       within = λ n d l. anyones (slice_index_or (passed.sent o) n d) (h.stands.within n d l);
       away = λ k s at. let c = from_map v.work.clients.items k s at in
           subst (λ x. AreAway x (passed.sent o) (h.turn i)) c.2 (away_at c.0 (h.turn (queue_at f k)) (passed.sent o) (h.turn i) (passed.sent (queue_at t k)) (h.stands.clients k c.0 c.1));

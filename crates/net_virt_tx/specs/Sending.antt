@@ -1,8 +1,9 @@
 -- The sending virtualiser: what it must fit, what it stands for, and its row.
 use Rattle.std.specs.Prelude.{◌≡◌, ◌⊎◌, ◌+◌, ◌*◌, ◌==◌, ◌<◌, ◌≤◌, ◌^◌, ℕ, true, None, Some, List, [], ◌∷◌, ◌++◌, All, length, map, slice_get, slice_index_or}
-use Rattle.std.specs.List.{sum_by}
+use Rattle.std.specs.List.{filter, sum_by}
 use Rattle.std.specs.Option.{option_to_list}
 use Rattle.cargo_core.specs.declared.ranges.Range.{Range}
+use Rattle.cargo_core.specs.Lists.{PrefixMerge}
 use Rattle.cargo_core.specs.Ranges.{AreRanges}
 use Rattle.wire_core.specs.declared.names.QueueId.{QueueId}
 use Rattle.wire_core.specs.Deeds.{Cargo}
@@ -17,6 +18,7 @@ use Rattle.net_virt_tx.specs.declared.NetVirtTx.{NetVirtTx}
 use Rattle.net_virt_tx.specs.declared.client.Client.{Client}
 use Rattle.net_virt_tx.specs.declared.descriptors.Sender.{Sender}
 use Rattle.net_virt_tx.specs.declared.traffic.Traffic.{Traffic}
+use Rattle.net_virt_tx.specs.Descriptors.{to_device}
 use Rattle.net_virt_tx.specs.Serving.{IsServed, is_good_of, bad_ones}
 use Rattle.net_virt_tx.specs.Clients.{IsFresh, IsOf, at_address, capped, range_of}
 use Rattle.net_virt_tx.specs.Traffics.{IsTraffic, TrafficStands, bad_count, is_free, loaded_at, needs_at, owes, senders, traffic_hand}
@@ -81,6 +83,14 @@ bad_total [] qs lists = 0
 bad_total (s ∷ ss) [] lists = 0
 bad_total (s ∷ ss) (q ∷ qs) lists = length (bad_ones s (lists q.0)) + bad_total ss qs lists
 
+-- of what came from the clients, each on its own queue, the good descriptors with their device
+-- addresses
+abbrev pub all_good : List Sender → List QueueId → Lists → List (List Cargo)
+all_good [] qs lists = []
+all_good (s ∷ ss) [] lists = []
+all_good (s ∷ ss) (q ∷ qs) lists =
+    map (to_device s.base) (filter (is_good_of s) (lists q.0)) ∷ all_good ss qs lists
+
 -- an entry is at a buffer of one of these clients
 abbrev pub IsAnyones : List Sender → Cargo → Type 0
 IsAnyones ss c = (k : ℕ) × (s : Sender) × (slice_get ss k ≡ Some s) × IsOf s c
@@ -92,9 +102,10 @@ AreAway s sent returned = (b : ℕ) → b < s.buffers
     × (at_address (s.base + b * 2048) sent ≤ at_address (s.base + b * 2048) returned + 1)
 
 -- its clients' ranges don't meet, and each client has a queue each way; of what it took in turn,
--- which is all but for one entry that came last: what it gave the driver is at buffers of its
--- clients, each of which is at the driver at most once; it serves each client; it counts the bad
--- descriptors; and the entry out of turn is in its hand
+-- which is all but for one entry that came last: what it gave the driver is a merge of beginnings
+-- of each client's good descriptors with their device addresses, each at a buffer of the client,
+-- which is at the driver at most once; it serves each client; it counts the bad descriptors; and
+-- the entry out of turn is in its hand
 pub record TxRow (v : NetVirtTx) (passed : Passed) : Type 0 where
   pub apart : AreRanges (map range_of (senders v.work))
   pub from_each : length (from_queues v.ends) ≡ length (senders v.work)
@@ -106,6 +117,8 @@ pub record TxRow (v : NetVirtTx) (passed : Passed) : Type 0 where
   pub few_stray : length stray ≤ 1
   pub out_of_turn : All (IsOutOfTurn v.ends.input.queue.0 v.ends.output.queue.0
       (from_queues v.ends) (to_queues v.ends) (senders v.work) turn passed.sent place) stray
+  pub merges : PrefixMerge (all_good (senders v.work) (from_queues v.ends) turn)
+      (passed.sent v.ends.output.queue.0)
   pub within : All (IsAnyones (senders v.work)) (passed.sent v.ends.output.queue.0)
   pub away : (k : ℕ) (s : Sender) → slice_get (senders v.work) k ≡ Some s
       → AreAway s (passed.sent v.ends.output.queue.0) (turn v.ends.input.queue.0)

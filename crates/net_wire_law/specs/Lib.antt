@@ -1,0 +1,2 @@
+-- What the contracts of the law of the network's wire say.
+pub mod Sending
