@@ -1,0 +1,3 @@
+-- What the contracts on answers to block clients say.
+pub mod Judging
+pub mod Replies

@@ -1,0 +1,3 @@
+-- What the contracts of the partition table say.
+pub mod Sectors
+pub mod Partitions
