@@ -53,7 +53,7 @@ given_from true false b p g h e = cc
 given_from false u b p g h e = cc
 
 same_part : (b p : Part) → b.first_block ≡ p.first_block → b.blocks ≡ p.blocks → b ≡ p
-same_part b p f g = cc
+same_part b p f g = λ i. record { first_block = f i; blocks = g i }
 
 module _ (sector : List ℕ) where
   abbrev entry : ℕ → Entry

@@ -22,10 +22,13 @@ are_apart [] = true
 are_apart (entry ∷ entries) = list_all (λ other. not (do_clash entry other)) entries
     && are_apart entries
 
--- the table can be trusted: it is signed, no entry is protective, and no two clash
+-- a table can be trusted: it is signed, no entry is protective, and no two clash
+abbrev pub is_trusted : Bool → List Entry → Bool
+is_trusted signed entries = signed && (not (list_any is_protective entries) && are_apart entries)
+
+-- the table of a sector can be trusted
 abbrev pub is_table : List ℕ → Bool
-is_table sector = is_signed sector && (not (list_any is_protective (entries_of sector))
-    && are_apart (entries_of sector))
+is_table sector = is_trusted (is_signed sector) (entries_of sector)
 
 -- an entry of a disk can be used: it is neither empty nor extended, it begins at a block that isn't
 -- the disk's first, and it ends on the disk; a block is eight sectors

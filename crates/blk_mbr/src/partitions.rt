@@ -1,7 +1,8 @@
 //! The partitions that a table gives.
-ghost use Rattle.std.specs.Prelude.{◌≡◌, ◌↔◌, ◌<◌, ℕ, Some, List, map, slice_get, length};
-ghost use Rattle.blk_mbr.specs.Sectors.{entries_of};
-ghost use Rattle.blk_mbr.specs.Partitions.{are_apart, is_table, given_part, part_of, partitions_of, IsPartition};
+ghost use Rattle.std.specs.Prelude.{◌≡◌, ◌↔◌, ◌<◌, ℕ, Some, List, not, slice_get};
+ghost use Rattle.std.specs.List.{list_all, list_any};
+ghost use Rattle.blk_mbr.specs.Sectors.{is_signed, is_protective};
+ghost use Rattle.blk_mbr.specs.Partitions.{do_clash, are_apart, is_trusted, given_part, part_of, partitions_of, IsPartition};
 ghost use Rattle.blk_mbr.specs.declared.part.Part.{Part};
 
 use crate::entry::SECTOR_BYTES;
@@ -23,25 +24,42 @@ impl Model for Partitions {
     ghost view = { λ p. p.parts };
 }
 
-// Whether no two of these entries share a sector; those that are empty don't count.
+// Whether the entry shares no sector with one of the others; those that are empty don't count.
+fn is_apart(entry: &Entry, others: &[Entry]) -> bool
+    ensures { result ≡ list_all (λ other. not (do_clash entry.now other)) others.now }
+{
+    others.iter().all(|other| !entry.clashes(other))
+}
+
+// Whether no two of these entries share a sector.
 fn are_apart(entries: &[Entry]) -> bool
     ensures { result ≡ are_apart entries.now }
 {
     match entries {
         [] => true,
-        [first, rest @ ..] => rest.iter().all(|other| !first.clashes(other)) && are_apart(rest),
+        [first, rest @ ..] => is_apart(first, rest) && are_apart(rest),
     }
 }
 
-// Whether the sector is signed, and its table can be trusted.
-fn is_table(sector: &[u8; SECTOR_BYTES], entries: &[Entry]) -> bool
-    requires { entries.now ≡ entries_of sector.now }
-    ensures { result ≡ is_table sector.now }
+// Whether an entry says that another table rules the disk.
+fn has_protective(entries: &[Entry]) -> bool
+    ensures { result ≡ list_any is_protective entries.now }
 {
-    sector[510] == 0x55
-        && sector[511] == 0xAA
-        && !entries.iter().any(|entry| entry.is_protective())
-        && are_apart(entries)
+    entries.iter().any(|entry| entry.is_protective())
+}
+
+// Whether the table can be trusted.
+fn is_trusted(signed: bool, entries: &[Entry]) -> bool
+    ensures { result ≡ is_trusted signed entries.now }
+{
+    signed && !has_protective(entries) && are_apart(entries)
+}
+
+// Whether the last two bytes say that the sector has a table.
+fn is_signed(sector: &[u8; SECTOR_BYTES]) -> bool
+    ensures { result ≡ is_signed sector.now }
+{
+    sector[510] == 0x55 && sector[511] == 0xAA
 }
 
 // The partition of an entry, where the table can be trusted.
@@ -65,7 +83,7 @@ pub fn read_mbr(sector: &[u8; SECTOR_BYTES], disk_sectors: u32) -> Partitions
         Entry::read(sector, 2),
         Entry::read(sector, 3),
     ];
-    let trusted = is_table(sector, &entries);
+    let trusted = is_trusted(is_signed(sector), &entries);
     Partitions {
         parts: [
             given_part(trusted, disk_sectors, &entries[0]),
