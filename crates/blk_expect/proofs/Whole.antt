@@ -1,7 +1,7 @@
-use Rattle.std.proofs.Common.{◌≡◌, ◌+◌, ◌*◌, ◌/◌, ◌<◌, ◌≤◌, ℕ, true, Option, Some, None, List, length, refl, arith}
+use Rattle.std.proofs.Common.{◌≡◌, ◌+◌, ◌*◌, ◌/◌, ℕ, true, Option, Some, None, List, length, refl, arith}
 use Rattle.std.proofs.lemmas.Bool.{le-leb}
 use Rattle.blk_mbr.specs.declared.part.Part.{Part}
-use Rattle.blk_mbr.specs.Partitions.{IsPartition, part_of}
+use Rattle.blk_mbr.specs.Partitions.{IsPartition}
 use Rattle.blk_expect.specs.Replies.{has_partition}
 
 -- a partition of eight sectors a block is all in an image of so many sectors

@@ -1,6 +1,6 @@
-use Rattle.std.proofs.Common.{◌≡◌, ◌+◌, ◌<◌, ◌≤◌, ◌&&◌, not, max, min, nat_lt, ℕ, zero, suc, Bool, true, false, Some, List, [], ◌∷◌, slice_get, refl, sym, ap, ◌∙◌, subst, arith}
+use Rattle.std.proofs.Common.{◌≡◌, ◌<◌, ◌≤◌, ◌&&◌, not, max, min, nat_lt, ℕ, zero, suc, Bool, true, false, Some, List, [], ◌∷◌, slice_get, refl, subst, arith}
 use Rattle.std.specs.List.{list_all}
-use Rattle.std.proofs.lemmas.Bool.{and_parts, and_from, not-true, not_from_false, ltb-true, lt-ltb, false_from_ne_true, both_ways}
+use Rattle.std.proofs.lemmas.Bool.{and_parts, and_from, not-true, not_from_false, ltb-true, lt-ltb}
 use Rattle.std.proofs.Math.Nat.{le-max_left, le-max_right, max-le, min-le_left, min-le_right, le-min}
 use Rattle.blk_mbr.specs.declared.entry.Entry.{Entry}
 use Rattle.blk_mbr.specs.Sectors.{is_used}
@@ -12,7 +12,7 @@ clash_from e f s u v h g =
     let low : max e.first f.first ≤ s = max-le h.0 g.0 in
     let high : suc s ≤ min (end_of e) (end_of f) = le-min (omega (arith, h.1)) (omega (arith, g.1)) in
     and_from (is_used e) (is_used f && nat_lt (max e.first f.first) (min (end_of e) (end_of f))) u
-        (and_from (is_used f) (nat_lt (max e.first f.first) (min (end_of e) (end_of f))) v (lt-ltb (max e.first f.first) (min (end_of e) (end_of f)) (omega (arith, low, high))))
+    (and_from (is_used f) (nat_lt (max e.first f.first) (min (end_of e) (end_of f))) v (lt-ltb (max e.first f.first) (min (end_of e) (end_of f)) (omega (arith, low, high))))
 
 -- and those that clash do
 pub clash_to : (e f : Entry) → do_clash e f ≡ true → (s : ℕ) × (is_used e ≡ true) × (is_used f ≡ true) × Holds e s × Holds f s

@@ -1,10 +1,10 @@
-use Rattle.std.proofs.Common.{◌≡◌, ◌+◌, ◌*◌, ◌/◌, ◌%◌, ◌<◌, ◌≤◌, ◌==◌, ◌&&◌, ◌⊎◌, inl, inr, not, nat_le, ℕ, zero, suc, Bool, true, false, Option, Some, None, if◌then◌else◌, List, [], ◌∷◌, map, get_or, slice_get, refl, sym, ap, ◌∙◌, subst, arith}
+use Rattle.std.proofs.Common.{◌≡◌, ◌+◌, ◌*◌, ◌/◌, ◌%◌, ◌<◌, ◌≤◌, ◌==◌, ◌&&◌, ◌⊎◌, inl, inr, not, nat_le, ℕ, zero, suc, Bool, true, false, Some, None, if◌then◌else◌, List, [], ◌∷◌, get_or, slice_get, refl, sym, ap, subst, arith}
 use Rattle.std.specs.List.{list_any}
 use Rattle.std.proofs.lemmas.Bool.{and_parts, and_from, not-true, not_from_false, leb-true, le-leb, eqb-true, eq-eqb, false_from_ne_true, both_ways, cases_order, or_parts, or_from, ne_eqb}
 use Rattle.blk_mbr.specs.declared.entry.Entry.{Entry}
 use Rattle.blk_mbr.specs.declared.part.Part.{Part}
 use Rattle.blk_mbr.specs.Sectors.{entry_of, entries_of, is_signed, is_used, is_protective, is_extended}
-use Rattle.blk_mbr.specs.Partitions.{Holds, IsPartition, are_apart, blocks_of, do_clash, end_of, given_part, is_table, is_usable, part_of}
+use Rattle.blk_mbr.specs.Partitions.{Holds, IsPartition, are_apart, blocks_of, do_clash, end_of, is_table, is_usable, part_of}
 use Rattle.blk_mbr.proofs.Apart.{clash_from, clash_to, apart_to, apart_from}
 
 -- what is made of four numbers, at one of them
@@ -88,6 +88,7 @@ module _ (sector : List ℕ) where
     where
       none : (k : ℕ) (f : Entry) → slice_get (entries_of sector) k ≡ Some f → is_protective f ≡ false
       none k f at = let w = one_of_four entry k f at in subst (λ (x : Entry). is_protective x ≡ false) w.1 (ne_eqb (entry k).kind 238 (plain k w.0))
+
       no_clash : (j k : ℕ) (e f : Entry) → slice_get (entries_of sector) j ≡ Some e → slice_get (entries_of sector) k ≡ Some f → j < k → do_clash e f ≡ false
       no_clash j k e f at to lt =
           let w = one_of_four entry j e at in
@@ -134,6 +135,7 @@ law_to sector disk n part h =
   where
     divided : (a b : ℕ) → a % 8 ≡ 0 → a / 8 ≡ b → a ≡ 8 * b
     divided a b m d = omega arith
+
     rest_of : (a b : ℕ) → a / 8 ≡ b → (r : ℕ) × (r < 8) × (a ≡ 8 * b + r)
     rest_of a b d = (a % 8, omega arith, omega arith)
 
@@ -141,13 +143,15 @@ pub law_from : (sector : List ℕ) (disk n : ℕ) (part : Part) → IsPartition 
 law_from sector disk n part h =
     let w = h.whole in
     given_from (is_table sector) (is_usable disk (entry_of sector n)) (blocks_of (entry_of sector n)) part
-        (trusted sector h.signed h.unprotected h.apart)
-        (usable_from disk (entry_of sector n) h.used (false_from_ne_true (is_extended (entry_of sector n)) h.plain) h.after_first (even (entry_of sector n).first part.first_block h.begins) h.on_disk)
-        (same_part (blocks_of (entry_of sector n)) part (over (entry_of sector n).first part.first_block h.begins) (under (entry_of sector n).sectors part.blocks w.0 w.1 w.2))
+    (trusted sector h.signed h.unprotected h.apart)
+    (usable_from disk (entry_of sector n) h.used (false_from_ne_true (is_extended (entry_of sector n)) h.plain) h.after_first (even (entry_of sector n).first part.first_block h.begins) h.on_disk)
+    (same_part (blocks_of (entry_of sector n)) part (over (entry_of sector n).first part.first_block h.begins) (under (entry_of sector n).sectors part.blocks w.0 w.1 w.2))
   where
     even : (a b : ℕ) → a ≡ 8 * b → a % 8 ≡ 0
     even a b e = omega arith
+
     over : (a b : ℕ) → a ≡ 8 * b → a / 8 ≡ b
     over a b e = omega arith
+
     under : (a b r : ℕ) → r < 8 → a ≡ 8 * b + r → a / 8 ≡ b
     under a b r l e = omega arith

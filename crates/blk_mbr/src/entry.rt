@@ -10,6 +10,7 @@ pub const SECTOR_BYTES: usize = 512;
 
 /// Where the table begins in the sector, and how many bytes an entry of it has.
 const TABLE_AT: usize = 446;
+
 const ENTRY_BYTES: usize = 16;
 
 /// How many sectors a block has.

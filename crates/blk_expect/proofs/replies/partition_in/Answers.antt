@@ -1,4 +1,4 @@
-use Rattle.std.proofs.Common.{◌≡◌, ◌/◌, Some, length, refl, sym, ap, ◌∙◌, subst}
+use Rattle.std.proofs.Common.{◌/◌, length, sym, ap, ◌∙◌}
 use Rattle.blk_mbr.specs.Partitions.{part_of}
 use Rattle.blk_expect.proofs.Whole.{whole}
 use Rattle.blk_expect.proofs.replies.partition_in.Goals as goal

@@ -1,0 +1,2 @@
+-- What the contracts of the block driver say.
+pub mod Rows

@@ -1,0 +1,3 @@
+-- What the contracts of the disk say.
+pub mod Serving
+pub mod Disks
