@@ -3,7 +3,9 @@
 #![tactic(auto)]
 
 mod blocks;
+mod laws;
 mod pages;
 
 pub use blocks::{BLOCK_BYTES, blocks_at, has_blocks, moved_blocks};
+pub use laws::run_law;
 pub use pages::{carried_blocks, fill, has_room};

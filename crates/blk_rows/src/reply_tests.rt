@@ -1,4 +1,6 @@
 //! What block clients must get for their requests.
+ghost use Rattle.std.specs.Prelude.{◌≡◌, ◌<◌, ◌+◌, IfOk, length};
+
 use crate::{entry, sector};
 use blk_expect::replies_of;
 use cargo_core::{Ask, BlkStatus, Bytes, Code, Memory, Reply};
@@ -15,16 +17,15 @@ struct Summary {
     value: u8,
 }
 
-// The image of a disk of so many sectors, with this table and zeros elsewhere.
-fn image(alloc: Global, sectors: usize, second_first: u32) -> Result<Vec<u8>, Memory>
-    requires { sectors < 1024 }
+// The image of a disk with this table in its first sector, and so many zeros behind that.
+fn image(alloc: Global, second_first: u32, zeros: usize) -> Result<Bytes, Memory>
+    requires { zeros < 65536 }
+    ensures { IfOk result (λ bytes. length bytes ≡ 512 + zeros) }
 {
     let table = sector(entry(0x83, 8, 16), entry(0x83, second_first, 8));
-    let mut bytes = table.to_vec(alloc)?;
-    let size = sectors * 512;
-    while bytes.len() < size {
-        bytes.push(0)?;
-    }
+    let mut bytes = Bytes::from_slice(alloc, &table)?;
+    let rest = vec![in alloc; 0; zeros]?;
+    bytes.extend_from_slice(&rest)?;
     Ok(bytes)
 }
 
@@ -81,21 +82,21 @@ fn refused(id: u32, status: BlkStatus) -> Option<Summary> {
 #[test]
 fn a_client_reads_what_it_wrote(rt: HostRuntime) -> Result<(), Fail> {
     let alloc = rt.alloc();
-    let image = image(alloc, 32, 24)?;
+    let image = image(alloc, 24, 31 * 512)?;
     let asks = vec![in alloc;
         ask(alloc, Code::Write, 1, 1, 4096)?,
         ask(alloc, Code::Read, 1, 1, 0)?,
         ask(alloc, Code::Read, 2, 1, 0)?,
         ask(alloc, Code::Flush, 0, 0, 0)?,
     ]?;
-    let replies = replies_of(alloc, &image, 0, &asks)?;
+    let replies = replies_of(alloc, image.as_slice(), 0, &asks)?;
     assert_eq!(rt; replies.len(), 4);
     assert_eq!(rt; told(&replies, 0), went_well(0, 1, 0, 0));
     assert_eq!(rt; told(&replies, 1), went_well(1, 1, 4096, 0xAB));
     assert_eq!(rt; told(&replies, 2), refused(2, BlkStatus::Invalid));
     assert_eq!(rt; told(&replies, 3), went_well(3, 0, 0, 0));
     let others = vec![in alloc; ask(alloc, Code::Read, 0, 1, 0)?]?;
-    let replies = replies_of(alloc, &image, 1, &others)?;
+    let replies = replies_of(alloc, image.as_slice(), 1, &others)?;
     assert_eq!(rt; told(&replies, 0), went_well(0, 1, 4096, 0));
     Ok(())
 }
@@ -103,14 +104,14 @@ fn a_client_reads_what_it_wrote(rt: HostRuntime) -> Result<(), Fail> {
 #[test]
 fn a_client_without_a_partition_is_told_so(rt: HostRuntime) -> Result<(), Fail> {
     let alloc = rt.alloc();
-    let image = image(alloc, 64, 25)?;
+    let image = image(alloc, 25, 63 * 512)?;
     let asks = vec![in alloc;
         ask(alloc, Code::Read, 0, 1, 0)?,
         ask(alloc, Code::Flush, 0, 0, 0)?,
     ]?;
-    let replies = replies_of(alloc, &image, 0, &asks)?;
+    let replies = replies_of(alloc, image.as_slice(), 0, &asks)?;
     assert_eq!(rt; told(&replies, 0), went_well(0, 1, 4096, 0));
-    let replies = replies_of(alloc, &image, 1, &asks)?;
+    let replies = replies_of(alloc, image.as_slice(), 1, &asks)?;
     assert_eq!(rt; told(&replies, 0), refused(0, BlkStatus::NoDevice));
     assert_eq!(rt; told(&replies, 1), refused(1, BlkStatus::NoDevice));
     Ok(())

@@ -1,6 +1,4 @@
 //! First sectors of disks that are made by hand.
-ghost use Rattle.std.specs.Prelude.{◌≡◌};
-
 /// How many bytes a sector has, and how many an entry of its table.
 pub const SECTOR_BYTES: usize = 512;
 pub const ENTRY_BYTES: usize = 16;

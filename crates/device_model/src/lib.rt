@@ -1,6 +1,6 @@
 //! The devices of the modelled machine. A serial device receives given bytes in order, and sends
-//! what it is given on its line; an Ethernet device does so with frames. That a device is an actor
-//! at the far ends of its driver's queues is this project's own.
+//! what it is given on its line; an Ethernet device does so with frames; a disk does requests on its
+//! image. That a device is an actor at the far ends of its driver's queues is this project's own.
 #![tactic(auto)]
 
 ghost use Rattle.std.specs.Prelude.{◌≡◌};
@@ -11,6 +11,7 @@ ghost use Rattle.serial_terminal.specs.contracts.Terminal.{the_row as terminal_r
 ghost use Rattle.device_model.specs.contracts.UartDevice.{the_row};
 
 use cargo_core::Bytes;
+pub use disk_device::DiskDevice;
 pub use eth_device::EthDevice;
 use serial_terminal::Terminal;
 use std::alloc::Global;

@@ -1,0 +1,3 @@
+pub mod Beside
+pub mod Own
+pub mod Recording

@@ -1,0 +1,3 @@
+-- What the laws of the block class say.
+pub mod Runs
+pub mod Replying
