@@ -195,7 +195,7 @@ module _ (scene : Scene) (passed : Passed) (m : Moved) (h : HaveItems passed m) 
       by (Some x) true = refl
       by (Some x) false = refl
 
-needs_long : {X : Type 0} (need : ℕ → Bool) (c : ℕ) (queue : X → QueueId) (xs : List X) → length (needs_from need c (map queue xs)) ≡ length xs
+pub needs_long : {X : Type 0} (need : ℕ → Bool) (c : ℕ) (queue : X → QueueId) (xs : List X) → length (needs_from need c (map queue xs)) ≡ length xs
 needs_long need c queue [] = refl
 needs_long need c queue (x ∷ xs) = ap suc (needs_long need (c + 1) queue xs)
 
@@ -207,7 +207,7 @@ shuffle true false false y = refl
 shuffle false x true y = refl
 shuffle false x false y = refl
 
-index_moves : (c k : ℕ) → c + suc k ≡ (c + 1) + k
+pub index_moves : (c k : ℕ) → c + suc k ≡ (c + 1) + k
 index_moves c k = omega arith
 
 module _ (history : History) (journal : List Entry) (world : List Queue) (bells : HaveBells world history journal) where

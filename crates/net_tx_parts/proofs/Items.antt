@@ -58,11 +58,11 @@ good_offset s (item, Carried.Page page) h =
 good_offset s (item, Carried.Lease lease) h = absurd cc
 good_offset s (item, Carried.Empty) h = absurd cc
 
-all_same : (s : Sender) (xs : List Cargo) → All (λ (c : Cargo). is_good_of s c ≡ true) xs → filter (is_good_of s) xs ≡ xs
+pub all_same : (s : Sender) (xs : List Cargo) → All (λ (c : Cargo). is_good_of s c ≡ true) xs → filter (is_good_of s) xs ≡ xs
 all_same s [] h = refl
 all_same s (x ∷ xs) h = ap (λ b. cond b (x ∷ filter (is_good_of s) xs) (filter (is_good_of s) xs)) (h zero x (omega arith)) ∙ ap (λ l. x ∷ l) (all_same s xs (λ k d l. h (suc k) d (omega (arith, l))))
 
-none_bad : (s : Sender) (xs : List Cargo) → All (λ (c : Cargo). is_good_of s c ≡ true) xs → bad_ones s xs ≡ []
+pub none_bad : (s : Sender) (xs : List Cargo) → All (λ (c : Cargo). is_good_of s c ≡ true) xs → bad_ones s xs ≡ []
 none_bad s [] h = refl
 none_bad s (x ∷ xs) h = ap (λ b. cond (not b) (x ∷ bad_ones s xs) (bad_ones s xs)) (h zero x (omega arith)) ∙ none_bad s xs (λ k d l. h (suc k) d (omega (arith, l)))
 
@@ -70,7 +70,7 @@ device_items : (s : Sender) (xs : List Cargo) → items_of (map (to_device s.bas
 device_items s [] = refl
 device_items s (x ∷ xs) = ap (λ l. with_addr (s.base + addr_of x.0) x.0 ∷ l) (device_items s xs)
 
-home_items : (s : Sender) (xs : List Cargo) → items_of (own_of s xs) ≡ at_home (sender_pool s) (items_of xs)
+pub home_items : (s : Sender) (xs : List Cargo) → items_of (own_of s xs) ≡ at_home (sender_pool s) (items_of xs)
 home_items s [] = refl
 home_items s (x ∷ xs) = by_own (is_own s x) (home_items s xs)
   where
@@ -79,7 +79,7 @@ home_items s (x ∷ xs) = by_own (is_own s x) (home_items s xs)
     by_own false rest = rest
 
 -- a client as the table has it
-record Shipped (ss : List Sender) (from to : List QueueId) (k : ℕ) (c : Shipper) : Type 0 where
+pub record Shipped (ss : List Sender) (from to : List QueueId) (k : ℕ) (c : Shipper) : Type 0 where
   pub sender : Sender
   pub active : QueueId
   pub free : QueueId
@@ -90,7 +90,7 @@ record Shipped (ss : List Sender) (from to : List QueueId) (k : ℕ) (c : Shippe
   pub free_is : c.free ≡ free.0
   pub pool_is : c.pool ≡ sender_pool sender
 
-shipped : (ss : List Sender) (from to : List QueueId) (k : ℕ) (c : Shipper) → slice_get (shippers ss from to) k ≡ Some c → Shipped ss from to k c
+pub shipped : (ss : List Sender) (from to : List QueueId) (k : ℕ) (c : Shipper) → slice_get (shippers ss from to) k ≡ Some c → Shipped ss from to k c
 shipped [] from to k c at = absurd cc
 shipped (s ∷ ss) [] to k c at = absurd cc
 shipped (s ∷ ss) (q ∷ from) [] k c at = absurd cc
