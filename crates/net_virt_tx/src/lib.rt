@@ -1,5 +1,5 @@
-//! The sending virtualiser of the network: it checks each client's descriptors and gives them to the
-//! driver with their device addresses, and gives sent buffers back to the client in whose range
+//! The sending virtualiser of the network: it checks each client's descriptors and gives them to
+//! the driver with their device addresses, and gives sent buffers back to the client in whose range
 //! they are. That the network has one is sDDF's; its turns are this project's own.
 #![tactic(auto)]
 
