@@ -22,7 +22,7 @@ client_name pool (q ∷ pools) (suc k) p i j names at is same =
     ap (λ n. slice_index_or (flat_map (client_names pool) (q ∷ pools)) n NoBuffers) e ∙ client_name pool pools k p i (6 * k + i) names at is refl
 
 module _ (scene : Scene) (pool : PoolAt) (macs : List Mac) (pools : List ClientPools) where
-  named_at : (k : ℕ) (p : ClientPools) (i j : ℕ) (names : Names) → slice_get pools k ≡ Some p → ((rest : List Names) → slice_index_or (client_names pool p ++ rest) i NoBuffers ≡ names) → j ≡ client_first 0 k + i → layout_naming scene pool macs pools j ≡ names
+  pub named_at : (k : ℕ) (p : ClientPools) (i j : ℕ) (names : Names) → slice_get pools k ≡ Some p → ((rest : List Names) → slice_index_or (client_names pool p ++ rest) i NoBuffers ≡ names) → j ≡ client_first 0 k + i → layout_naming scene pool macs pools j ≡ names
   named_at k p i j names at is same =
       let e : j ≡ suc (suc (suc (suc (suc (suc (suc (suc (6 * k + i)))))))) = omega (arith, same) in
       ap (layout_naming scene pool macs pools) e ∙ client_name pool pools k p i (6 * k + i) names at is refl

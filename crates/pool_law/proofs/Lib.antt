@@ -4,3 +4,4 @@ pub mod Lining
 pub mod Lasting
 pub mod Casting
 pub mod Plain
+pub mod Merging

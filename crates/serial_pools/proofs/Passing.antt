@@ -1,5 +1,4 @@
-use Rattle.std.proofs.Common.{◌≡◌, ◌==◌, ℕ, zero, suc, Some, List, [], ◌∷◌, ◌++◌, cond, map, slice_get, slice_set, refl, sym, ap, ◌∙◌, subst}
-use Rattle.cargo_core.specs.Lists.{IsPrefix, Merge, merge_none, merge_next}
+use Rattle.std.proofs.Common.{◌≡◌, ◌==◌, ℕ, zero, suc, Some, List, [], ◌∷◌, ◌++◌, cond, map, slice_get, refl, sym, ap, ◌∙◌, subst}
 use Rattle.wire_core.specs.declared.names.QueueId.{QueueId}
 use Rattle.wire_core.specs.Deeds.{Cargo}
 use Rattle.wire_core.specs.Ends.{Consumer, Producer}
@@ -9,7 +8,6 @@ use Rattle.play_core.specs.Wants.{intake, outlet}
 use Rattle.play_core.proofs.Lists.{some_is, map_get, map_from}
 use Rattle.owner_law.specs.Things.{Buffer, Naming}
 use Rattle.owner_law.specs.Pages.{as_page}
-use Rattle.owner_law.proofs.Carrying.{get_first}
 use Rattle.serial_switch.specs.Carried.{byte_cargo, bytes_carried}
 use Rattle.serial_switch.specs.Switching.{input_of}
 use Rattle.turn_kit.specs.ManyEnds.{intake_queues, outlet_queues}
@@ -22,33 +20,18 @@ use Rattle.serial_virt.specs.Sending.{TxRow, taken_from}
 use Rattle.serial_virt.specs.declared.rx.SerialVirtRx.{SerialVirtRx}
 use Rattle.serial_virt.specs.declared.tx.SerialVirtTx.{SerialVirtTx}
 use Rattle.pool_law.specs.Handing.{TakesPages, PutsPages, HandsOn, NameNothing}
+use Rattle.pool_law.proofs.Merging.{Each, each_first, each_merged}
 use Rattle.pool_law.proofs.Plain.{HasNone, none_carries, carries_none}
 use Rattle.serial_pools.specs.SerialEnds.{terminal_ends, piped_ends, rx_ends, tx_ends}
 
 -- none of these entries has a page
 abbrev HaveNone : List Cargo → Type 0
-HaveNone cs = (k : ℕ) (c : Cargo) → slice_get cs k ≡ Some c → HasNone c
+HaveNone cs = Each HasNone cs
 
 bytes_none : (bytes : List ℕ) → HaveNone (map byte_cargo bytes)
 bytes_none bytes k c at b =
     let x = map_from byte_cargo bytes k c at in
     ap (λ (d : Cargo). as_page b d.1) (sym x.2)
-
-first_none : (xs ys : List Cargo) → IsPrefix xs ys → HaveNone ys → HaveNone xs
-first_none xs ys begins none k c at = none k c (ap (λ cs. slice_get cs k) (sym begins.1) ∙ get_first xs begins.0 k c at)
-
--- a merge has what its lists have
-merged_none : (lists : List (List Cargo)) (all : List Cargo) → Merge lists all → ((k : ℕ) (l : List Cargo) → slice_get lists k ≡ Some l → HaveNone l) → HaveNone all
-merged_none lists _ (merge_none lists_ none) each k c at = cc
-merged_none lists _ (merge_next lists_ j x l all first rest) each zero c at = subst (λ (d : Cargo). HasNone d) (some_is at) (each j (x ∷ l) first 0 x refl)
-merged_none lists _ (merge_next lists_ j x l all first rest) each (suc k) c at = merged_none (slice_set lists_ j l) all rest (λ i ys ys_at. less lists_ j x l first each i ys ys_at) k c at
-  where
-    less : (ls : List (List Cargo)) (j_ : ℕ) (x_ : Cargo) (l_ : List Cargo) → slice_get ls j_ ≡ Some (x_ ∷ l_) → ((i : ℕ) (ys : List Cargo) → slice_get ls i ≡ Some ys → HaveNone ys) → (i : ℕ) (ys : List Cargo) → slice_get (slice_set ls j_ l_) i ≡ Some ys → HaveNone ys
-    less [] j_ x_ l_ first_ each_ i ys at_ = cc
-    less (y ∷ ls) zero x_ l_ first_ each_ zero ys at_ = subst HaveNone (some_is at_) (λ h d d_at. each_ 0 y refl (suc h) d (ap (λ zs. slice_get zs (suc h)) (some_is first_) ∙ d_at))
-    less (y ∷ ls) zero x_ l_ first_ each_ (suc i) ys at_ = each_ (suc i) ys at_
-    less (y ∷ ls) (suc j_) x_ l_ first_ each_ zero ys at_ = each_ 0 ys at_
-    less (y ∷ ls) (suc j_) x_ l_ first_ each_ (suc i) ys at_ = less ls j_ x_ l_ first_ (λ h zs zs_at. each_ (suc h) zs zs_at) i ys at_
 
 module _ (naming : Naming) (passed : Passed) (m : Moved) where
   -- ends one by one
@@ -67,14 +50,14 @@ module _ (naming : Naming) (passed : Passed) (m : Moved) where
   took_none ends names takes i n at k c c_at = carries_none naming m n (names i (intake n) at) k c (takes i (intake n) at refl k c c_at)
 
   pub terminal_on : (t : Terminal) → NameNothing naming (terminal_ends t) → TerminalRow t passed → HandsOn naming m passed (terminal_ends t)
-  terminal_on t names row takes = puts_in t.input.queue.0 (outlet t.output.queue.0 ∷ []) (puts_out t.output.queue.0 [] (names 1 (outlet t.output.queue.0) refl) (first_none (passed.sent t.output.queue.0) (map byte_cargo t.script) row.says (bytes_none t.script)) puts_none)
+  terminal_on t names row takes = puts_in t.input.queue.0 (outlet t.output.queue.0 ∷ []) (puts_out t.output.queue.0 [] (names 1 (outlet t.output.queue.0) refl) (each_first HasNone (passed.sent t.output.queue.0) (map byte_cargo t.script) row.says (bytes_none t.script)) puts_none)
 
   pub driver_on : (ps : List Pipe) → NameNothing naming (piped_ends ps) → PipesRow ps passed → HandsOn naming m passed (piped_ends ps)
   driver_on [] names row takes = puts_none
   driver_on (p ∷ ps) names row takes =
       let i : ℕ = p.input.queue.0 in
       let o : ℕ = p.output.queue.0 in
-      puts_in i (outlet o ∷ piped_ends ps) (puts_out o (piped_ends ps) (names 1 (outlet o) refl) (first_none (passed.sent o) (passed.taken i) row.0 (took_none (piped_ends (p ∷ ps)) names takes 0 i refl))
+      puts_in i (outlet o ∷ piped_ends ps) (puts_out o (piped_ends ps) (names 1 (outlet o) refl) (each_first HasNone (passed.sent o) (passed.taken i) row.0 (took_none (piped_ends (p ∷ ps)) names takes 0 i refl))
       (driver_on ps (λ j s at. names (suc (suc j)) s at) row.1 (λ j s at consumer. takes (suc (suc j)) s at consumer)))
 
   -- all outputs of a virtualiser
@@ -97,7 +80,7 @@ module _ (naming : Naming) (passed : Passed) (m : Moved) where
           let x = map_from (λ (r : QueueId). r.0) (outlet_queues v.outputs) k q at in
           let whole = row.given k x.0 x.1 in
           let bytes = input_of (clients_of v) k (bytes_carried (passed.taken v.input.queue.0)) in
-          subst (λ n. HaveNone (passed.sent n)) x.2 (first_none (passed.sent x.0.0) (map byte_cargo bytes) (cond (row.owner == k) row.owed [], whole) (bytes_none bytes))
+          subst (λ n. HaveNone (passed.sent n)) x.2 (each_first HasNone (passed.sent x.0.0) (map byte_cargo bytes) (cond (row.owner == k) row.owed [], whole) (bytes_none bytes))
 
   pub sender_on : (v : SerialVirtTx) → NameNothing naming (tx_ends v) → TxRow v passed → HandsOn naming m passed (tx_ends v)
   sender_on v names row takes = puts_out v.output.queue.0 (map intake qs) (names 0 (outlet v.output.queue.0) refl) sent_none (ins_on qs)
@@ -112,4 +95,4 @@ module _ (naming : Naming) (passed : Passed) (m : Moved) where
           subst HaveNone x.2 (took_none (tx_ends v) names takes (suc k) x.0.0 seat)
 
       sent_none : HaveNone (passed.sent v.output.queue.0)
-      sent_none = first_none (passed.sent v.output.queue.0) (passed.sent v.output.queue.0 ++ row.owed) (row.owed, refl) (merged_none (taken_from (intake_queues v.inputs) passed.taken) (passed.sent v.output.queue.0 ++ row.owed) row.merged each)
+      sent_none = each_first HasNone (passed.sent v.output.queue.0) (passed.sent v.output.queue.0 ++ row.owed) (row.owed, refl) (each_merged HasNone (taken_from (intake_queues v.inputs) passed.taken) (passed.sent v.output.queue.0 ++ row.owed) row.merged each)

@@ -1,0 +1,5 @@
+pub mod Windows
+pub mod Owning
+pub mod Carrying
+pub mod Holding
+pub mod Naming

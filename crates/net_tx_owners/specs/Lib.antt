@@ -1,0 +1,2 @@
+-- The sending virtualiser among the owners of the network's buffers: what items name at its queues.
+pub mod Shipping

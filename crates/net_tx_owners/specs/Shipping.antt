@@ -1,0 +1,44 @@
+-- What items name at the sending virtualiser's queues, and how its clients' pools lie.
+use Rattle.std.specs.Prelude.{◌≡◌, ◌+◌, ◌*◌, ◌&&◌, ℕ, Bool, true, false, nat_le, nat_lt, Some, List, [], ◌∷◌, map, slice_get}
+use Rattle.owner_law.specs.Things.{Window, Buffers, Naming}
+use Rattle.net_owners.specs.Names.{PoolAt, ClientPools, by_address, by_offset}
+use Rattle.net_parts.specs.Numbers.{client_first}
+use Rattle.net_tx_parts.specs.Parts.{SendPart, Shipper}
+
+-- the clients' buffers by device addresses
+abbrev pub device_windows : List Shipper → List Window
+device_windows clients = map (λ (c : Shipper). by_address c.pool) clients
+
+-- buffers are named by device addresses on the driver's side, and at each client's queues by
+-- offsets
+pub record NamesSend (naming : Naming) (p : SendPart) : Type 0 where
+  pub active : naming p.active ≡ Buffers (device_windows p.clients)
+  pub free : naming p.free ≡ Buffers (device_windows p.clients)
+  pub sends : (k : ℕ) (c : Shipper) → slice_get p.clients k ≡ Some c
+      → naming c.active ≡ Buffers (by_offset c.pool ∷ [])
+  pub returns : (k : ℕ) (c : Shipper) → slice_get p.clients k ≡ Some c
+      → naming c.free ≡ Buffers (by_offset c.pool ∷ [])
+
+-- an address is in a pool's range of device addresses
+abbrev pub is_at : PoolAt → ℕ → Bool
+is_at p address = nat_le p.base address && nat_lt address (p.base + p.buffers * 2048)
+
+-- no two clients' ranges meet
+abbrev pub ArePoolsApart : List Shipper → Type 0
+ArePoolsApart clients = (j k : ℕ) (c d : Shipper) → slice_get clients j ≡ Some c
+    → slice_get clients k ≡ Some d → (j ≡ k → ⊥) → (address : ℕ)
+    → is_at c.pool address ≡ true → is_at d.pool address ≡ false
+
+-- the virtualiser's clients by the layout's table, where the network's queues are the first, from a
+-- number on
+abbrev pub shippers_from : (k : ℕ) → List ClientPools → List Shipper
+shippers_from k [] = []
+shippers_from k (c ∷ pools) = record {
+  active = client_first 0 k + 4;
+  free = client_first 0 k + 5;
+  pool = c.tx;
+} ∷ shippers_from (k + 1) pools
+
+-- its part there
+abbrev pub sender_at : List ClientPools → SendPart
+sender_at pools = record { active = 6; free = 7; clients = shippers_from 0 pools }
