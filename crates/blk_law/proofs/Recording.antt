@@ -1,7 +1,7 @@
-use Rattle.std.proofs.Common.{◌≡◌, ◌+◌, ◌*◌, ◌≤◌, ◌&&◌, ◌⊎◌, inl, inr, ℕ, nat_le, Bool, true, false, Option, Some, None, if◌then◌else◌, List, [], ◌∷◌, ◌++◌, length, take, drop, refl, ap, ◌∙◌, arith}
+use Rattle.std.proofs.Common.{◌≡◌, ◌+◌, ◌*◌, ◌≤◌, ◌&&◌, ◌⊎◌, inl, inr, ℕ, min, nat_le, Bool, true, false, Option, Some, None, if◌then◌else◌, List, [], ◌∷◌, ◌++◌, length, take, drop, refl, ap, ◌∙◌, arith}
 use Rattle.std.proofs.lemmas.Bool.{and_parts, leb-true}
 use Rattle.std.proofs.lemmas.List.{length-append, length-drop, length-take, length-take-le, take_at}
-use Rattle.std.proofs.Math.Nat.{min-le_left}
+use Rattle.std.proofs.Math.Nat.{min-le_left, min-eq_left, min-eq_right}
 use Rattle.cargo_core.specs.declared.item.Ask.{Ask}
 use Rattle.cargo_core.specs.declared.item.BlkReq.{BlkReq}
 use Rattle.cargo_core.specs.declared.item.BlkStatus.{BlkStatus}
@@ -19,8 +19,10 @@ use Rattle.blk_kit.specs.Pages.{carried_blocks, filled_body, has_room}
 use Rattle.blk_mbr.specs.declared.part.Part.{Part}
 use Rattle.blk_expect.specs.Judging.{can_move, status_of}
 use Rattle.blk_expect.specs.Replies.{HasBytes, bytes_left, bytes_read, left_by, replies_from, reply_of, status_to}
+use Rattle.net_kit.specs.Entries.{first_bytes}
+use Rattle.blk_client.specs.Asking.{replies_to, reply_to, read_blocks}
 use Rattle.disk_device.specs.Serving.{body_back, stored}
-use Rattle.blk_law.specs.Replying.{AreAsked, Carries, IsAskedBy, answer_as, client_answers, judged, left_as, replies_by, reply_by, blocks_shown}
+use Rattle.blk_law.specs.Replying.{AreAsked, Carries, IsAskedBy, answer_as, client_answers, judged, left_as}
 
 -- blocks that can be moved are in the partition
 moves_within : (blocks block count : ℕ) (other : BlkStatus) → (other ≡ Answered.Ok → ⊥) → (if can_move true blocks block count then Answered.Ok else other) ≡ Answered.Ok → block + count ≤ blocks
@@ -74,7 +76,18 @@ same_length xs from at h =
     let rest = length-drop (at + length from) xs in
     omega (arith, whole, front, taken, rest, h)
 
-blocks_long : (bytes : List ℕ) (block count : ℕ) → (block + count) * 4096 ≤ length bytes → length (blocks_at bytes block count) ≡ count * 4096
+-- the first bytes of a body are the blocks that it carries
+first_as_carried : (count : ℕ) (body : Body) → first_bytes (count * 4096) body ≡ carried_blocks count body
+first_as_carried count Carried.Empty = refl
+first_as_carried count (Carried.Lease lease) = refl
+first_as_carried count (Carried.Page page) = refl
+
+first_none : (body : Body) → first_bytes (0 * 4096) body ≡ []
+first_none Carried.Empty = refl
+first_none (Carried.Lease lease) = refl
+first_none (Carried.Page page) = refl
+
+pub blocks_long : (bytes : List ℕ) (block count : ℕ) → (block + count) * 4096 ≤ length bytes → length (blocks_at bytes block count) ≡ count * 4096
 blocks_long bytes block count h = let long = length-drop (block * 4096) bytes in length-take-le (count * 4096) (drop (block * 4096) bytes) (omega (arith, long, h))
 
 module _ (part : Option Part) (bytes : List ℕ) (id : ℕ) (a : Ask) (q : BlkReq) (body : Body) (has : HasBytes part bytes) (w : IsAskedBy id a q body) where
@@ -82,11 +95,11 @@ module _ (part : Option Part) (bytes : List ℕ) (id : ℕ) (a : Ask) (q : BlkRe
   judged_is = λ i. status_of true part (w.code i) (w.block i) (w.count i)
 
   -- of a request that is done
-  shown : (c : Code) → Carries c a body → status_of true part c a.block a.count ≡ Answered.Ok → blocks_shown c a.count (body_back c bytes q body) ≡ bytes_read c bytes a
-  shown Asked.Read room ok = (λ i. carried_blocks a.count (filled_body (blocks_at bytes (w.block i) (w.count i)) body)) ∙ carried_filled a.count (blocks_at bytes a.block a.count) body (blocks_long bytes a.block a.count (in_reach Asked.Read part a.block a.count bytes has ok (inl refl))) room
-  shown Asked.Write room ok = refl
-  shown Asked.Flush room ok = refl
-  shown Asked.Barrier room ok = refl
+  shown : (c : Code) → Carries c a body → status_of true part c a.block a.count ≡ Answered.Ok → first_bytes (min (read_blocks c a.count) (moved_blocks c a.count) * 4096) (body_back c bytes q body) ≡ bytes_read c bytes a
+  shown Asked.Read room ok = ap (λ n. first_bytes (n * 4096) (filled_body (blocks_at bytes q.block q.count) body)) (min-eq_left (omega arith)) ∙ (first_as_carried a.count (filled_body (blocks_at bytes q.block q.count) body) ∙ ((λ i. carried_blocks a.count (filled_body (blocks_at bytes (w.block i) (w.count i)) body)) ∙ carried_filled a.count (blocks_at bytes a.block a.count) body (blocks_long bytes a.block a.count (in_reach Asked.Read part a.block a.count bytes has ok (inl refl))) room))
+  shown Asked.Write room ok = ap (λ n. first_bytes (n * 4096) body) (min-eq_left (omega arith)) ∙ first_none body
+  shown Asked.Flush room ok = first_none body
+  shown Asked.Barrier room ok = first_none body
 
   left : (c : Code) → Carries c a body → stored c bytes q body ≡ bytes_left c bytes a
   left Asked.Read fill = refl
@@ -94,18 +107,22 @@ module _ (part : Option Part) (bytes : List ℕ) (id : ℕ) (a : Ask) (q : BlkRe
   left Asked.Flush fill = refl
   left Asked.Barrier fill = refl
 
-  reply_as : (s : BlkStatus) → status_to part a ≡ s → reply_by a (answer_as s bytes (ItemOf.Req q, body)) ≡ reply_of s bytes id a
-  reply_as Answered.Invalid is = λ i. record { resp = record { status = Answered.Invalid; count = 0; id = w.has_id i }; bytes = [] }
-  reply_as Answered.NoDevice is = λ i. record { resp = record { status = Answered.NoDevice; count = 0; id = w.has_id i }; bytes = [] }
-  reply_as Answered.Ok is = λ i. record { resp = record { status = Answered.Ok; count = moved_blocks (w.code i) (w.count i); id = w.has_id i }; bytes = (ap (λ c. blocks_shown a.code a.count (body_back c bytes q body)) w.code ∙ shown a.code w.carries is) i }
+  -- no bytes come where nothing was done
+  none_came : (n : ℕ) → first_bytes (min n 0 * 4096) body ≡ []
+  none_came n = ap (λ k. first_bytes (k * 4096) body) (min-eq_right (omega arith)) ∙ first_none body
+
+  reply_as : (s : BlkStatus) → status_to part a ≡ s → reply_to a (answer_as s bytes (ItemOf.Req q, body)) ≡ reply_of s bytes id a
+  reply_as Answered.Invalid is = λ i. record { resp = record { status = Answered.Invalid; count = 0; id = w.has_id i }; bytes = none_came (read_blocks a.code a.count) i }
+  reply_as Answered.NoDevice is = λ i. record { resp = record { status = Answered.NoDevice; count = 0; id = w.has_id i }; bytes = none_came (read_blocks a.code a.count) i }
+  reply_as Answered.Ok is = λ i. record { resp = record { status = Answered.Ok; count = moved_blocks (w.code i) (w.count i); id = w.has_id i }; bytes = ((λ j. first_bytes (min (read_blocks a.code a.count) (moved_blocks (w.code j) (w.count j)) * 4096) (body_back (w.code j) bytes q body)) ∙ shown a.code w.carries is) i }
 
   left_is : (s : BlkStatus) → left_as s bytes (ItemOf.Req q, body) ≡ left_by s bytes a
   left_is Answered.Ok = ap (λ c. stored c bytes q body) w.code ∙ left a.code w.carries
   left_is Answered.Invalid = refl
   left_is Answered.NoDevice = refl
 
-  pub one_reply : reply_by a (answer_as (judged part (ItemOf.Req q)) bytes (ItemOf.Req q, body)) ≡ reply_of (status_to part a) bytes id a
-  one_reply = ap (λ s. reply_by a (answer_as s bytes (ItemOf.Req q, body))) judged_is ∙ reply_as (status_to part a) refl
+  pub one_reply : reply_to a (answer_as (judged part (ItemOf.Req q)) bytes (ItemOf.Req q, body)) ≡ reply_of (status_to part a) bytes id a
+  one_reply = ap (λ s. reply_to a (answer_as s bytes (ItemOf.Req q, body))) judged_is ∙ reply_as (status_to part a) refl
 
   pub one_left : left_as (judged part (ItemOf.Req q)) bytes (ItemOf.Req q, body) ≡ left_by (status_to part a) bytes a
   one_left = ap (λ s. left_as s bytes (ItemOf.Req q, body)) judged_is ∙ left_is (status_to part a)
@@ -128,13 +145,13 @@ keeps_as Answered.Invalid part bytes a has is = has
 keeps_as Answered.NoDevice part bytes a has is = has
 
 -- what a client records is what it must get, as far as its requests go
-pub recorded : (part : Option Part) (asks : List Ask) (ys : List Cargo) (id : ℕ) (bytes : List ℕ) → HasBytes part bytes → AreAsked id asks ys → IsPrefix (replies_by asks (client_answers part bytes ys)) (replies_from part bytes id asks)
+pub recorded : (part : Option Part) (asks : List Ask) (ys : List Cargo) (id : ℕ) (bytes : List ℕ) → HasBytes part bytes → AreAsked id asks ys → IsPrefix (replies_to asks (client_answers part bytes ys)) (replies_from part bytes id asks)
 recorded part [] [] id bytes has f = ([], refl)
 recorded part (a ∷ asks) [] id bytes has f = (replies_from part bytes id (a ∷ asks), refl)
 recorded part [] (y ∷ ys) id bytes has f = absurd f
 recorded part (a ∷ asks) ((ItemOf.Req q, body) ∷ ys) id bytes has f =
     let more = recorded part asks ys (id + 1) (left_by (status_to part a) bytes a) (keeps_as (status_to part a) part bytes a has refl) f.1 in
-    let same = ap (λ bs. replies_by asks (client_answers part bs ys)) (one_left part bytes id a q body has f.0) in
+    let same = ap (λ bs. replies_to asks (client_answers part bs ys)) (one_left part bytes id a q body has f.0) in
     (more.0, λ i. one_reply part bytes id a q body has f.0 i ∷ (ap (λ (rs : List Reply). rs ++ more.0) same ∙ more.1) i)
 recorded part (a ∷ asks) ((ItemOf.Net d, body) ∷ ys) id bytes has f = absurd f.0
 recorded part (a ∷ asks) ((ItemOf.Byte b, body) ∷ ys) id bytes has f = absurd f.0

@@ -1,6 +1,6 @@
 -- What a client's replies are, where its requests are answered by a disk that has the bytes of its
 -- partition alone.
-use Rattle.std.specs.Prelude.{◌≡◌, ◌+◌, ◌*◌, ℕ, true, Option, List, [], ◌∷◌, take}
+use Rattle.std.specs.Prelude.{◌≡◌, ◌+◌, ◌*◌, ◌≤◌, ℕ, true, Option, List, [], ◌∷◌, All, length, take}
 use Rattle.cargo_core.specs.declared.item.Ask.{Ask}
 use Rattle.cargo_core.specs.declared.item.BlkReq.{BlkReq}
 use Rattle.cargo_core.specs.declared.item.BlkStatus.{BlkStatus}
@@ -10,11 +10,14 @@ use Rattle.cargo_core.specs.declared.item.Code.{Code}
 use Rattle.cargo_core.specs.declared.item.Code.TheVariants as Asked
 use Rattle.cargo_core.specs.declared.item.Item.{Item}
 use Rattle.cargo_core.specs.declared.item.Item.TheVariants as ItemOf
-use Rattle.cargo_core.specs.declared.item.Reply.{Reply}
+use Rattle.cargo_core.specs.Lists.{IsPrefix}
+use Rattle.cargo_core.specs.Pages.{Paged}
 use Rattle.wire_core.specs.Deeds.{Cargo}
 use Rattle.blk_kit.specs.Pages.{has_room, carried_blocks}
 use Rattle.blk_mbr.specs.declared.part.Part.{Part}
 use Rattle.blk_expect.specs.Judging.{status_of}
+use Rattle.blk_expect.specs.Replies.{partition_bytes, partition_in, replies_of}
+use Rattle.blk_client.specs.Asking.{asked_from, replies_to}
 use Rattle.disk_device.specs.Serving.{answer_to, done}
 use Rattle.blk_law.specs.Runs.{id_of}
 
@@ -76,28 +79,27 @@ AreAsked id asks [] = Unit {0}
 AreAsked id [] (y ∷ ys) = ⊥
 AreAsked id (a ∷ asks) (y ∷ ys) = IsAsked id a y × AreAsked (id + 1) asks ys
 
--- the bytes that are recorded of what came back well: of a read its blocks
-abbrev pub blocks_shown : Code → ℕ → Body → List ℕ
-blocks_shown Asked.Read count body = carried_blocks count body
-blocks_shown Asked.Write count body = []
-blocks_shown Asked.Flush count body = []
-blocks_shown Asked.Barrier count body = []
+-- what is asked has a size that a buffer takes: a read or a write is of at most eight blocks, and a
+-- write has as many bytes as its blocks
+abbrev pub IsSized : Code → Ask → Type 0
+IsSized Asked.Read a = a.count ≤ 8
+IsSized Asked.Write a = (a.count ≤ 8) × (length a.fill ≡ a.count * 4096)
+IsSized Asked.Flush a = Unit {0}
+IsSized Asked.Barrier a = Unit {0}
 
--- and of any response
-abbrev pub bytes_shown : BlkStatus → Code → ℕ → Body → List ℕ
-bytes_shown Answered.Ok code count body = blocks_shown code count body
-bytes_shown Answered.Invalid code count body = []
-bytes_shown Answered.NoDevice code count body = []
+abbrev pub AreSized : List Ask → Type 0
+AreSized asks = All (λ (a : Ask). IsSized a.code a) asks
 
--- what is recorded of the response to what was asked
-abbrev pub reply_by : Ask → Cargo → Reply
-reply_by a (ItemOf.Resp r, body) =
-    record { resp = r; bytes = bytes_shown r.status a.code a.count body }
-reply_by a (item, body) =
-    record { resp = record { status = Answered.Invalid; count = 0; id = 0 }; bytes = [] }
+-- each of these buffers takes eight blocks
+abbrev pub HaveRoom : List Paged → Type 0
+HaveRoom pages = All (λ (p : Paged). length p.bytes ≡ 32768) pages
 
--- and of the responses, in their order
-abbrev pub replies_by : List Ask → List Cargo → List Reply
-replies_by [] zs = []
-replies_by (a ∷ asks) [] = []
-replies_by (a ∷ asks) (z ∷ zs) = reply_by a z ∷ replies_by asks zs
+-- a client's replies to its script, whatever buffers it has: where what it put is a beginning of
+-- its script, and what came is a beginning of the answers by a disk that has the bytes of its
+-- partition alone, it recorded a beginning of what it must get
+abbrev pub RecordsReplies : (image : List ℕ) (entry : ℕ) (asks : List Ask) → Type 0
+RecordsReplies image entry asks = (pages : List Paged) (put came : List Cargo) → HaveRoom pages
+    → IsPrefix put (asked_from 0 asks pages)
+    → IsPrefix came (client_answers (partition_in image entry)
+    (partition_bytes (partition_in image entry) image) put)
+    → IsPrefix (replies_to asks came) (replies_of image entry asks)

@@ -1,6 +1,6 @@
 -- A run of a disk's blocks, such as a partition, that the requests of one client alone touch: to
 -- that client it is a disk of its own.
-use Rattle.std.specs.Prelude.{◌≡◌, ◌+◌, ◌≤◌, ◌<◌, ℕ, Bool, false, if◌then◌else◌, List, [], ◌∷◌, All}
+use Rattle.std.specs.Prelude.{◌≡◌, ◌+◌, ◌≤◌, ◌<◌, ℕ, Bool, false, Some, if◌then◌else◌, List, [], ◌∷◌, All}
 use Rattle.std.specs.List.{AllZip, filter}
 use Rattle.cargo_core.specs.declared.item.BlkReq.{BlkReq}
 use Rattle.cargo_core.specs.declared.item.Code.{Code}
@@ -9,6 +9,8 @@ use Rattle.cargo_core.specs.declared.item.Item.{Item}
 use Rattle.cargo_core.specs.declared.item.Item.TheVariants as ItemOf
 use Rattle.wire_core.specs.Deeds.{Cargo}
 use Rattle.blk_kit.specs.Blocks.{blocks_at}
+use Rattle.blk_mbr.specs.declared.part.Part.{Part}
+use Rattle.blk_mbr.specs.Partitions.{part_of}
 use Rattle.disk_device.specs.Serving.{answer_to, answers_to, done}
 
 -- of a disk's answers to the entries that it takes, those to the entries that pass a test
@@ -53,6 +55,20 @@ IsBeside first count (ItemOf.Net d, body) = Unit {0}
 IsBeside first count (ItemOf.Byte b, body) = Unit {0}
 IsBeside first count (ItemOf.Resp r, body) = Unit {0}
 
+-- a read or a write is all in a run
+abbrev pub StaysIn : Code → ℕ → ℕ → BlkReq → Type 0
+StaysIn Asked.Read first count r = (first ≤ r.block) × (r.block + r.count ≤ first + count)
+StaysIn Asked.Write first count r = (first ≤ r.block) × (r.block + r.count ≤ first + count)
+StaysIn Asked.Flush first count r = Unit {0}
+StaysIn Asked.Barrier first count r = Unit {0}
+
+-- an entry asks for blocks of a run alone
+abbrev pub IsInside : ℕ → ℕ → Cargo → Type 0
+IsInside first count (ItemOf.Req r, body) = StaysIn r.code first count r
+IsInside first count (ItemOf.Net d, body) = Unit {0}
+IsInside first count (ItemOf.Byte b, body) = Unit {0}
+IsInside first count (ItemOf.Resp r, body) = Unit {0}
+
 -- all that others ask of the disk leaves the run as it is
 abbrev pub OthersBeside : (Cargo → Bool) → ℕ → ℕ → List Cargo → Type 0
 OthersBeside own first count xs = All (λ (x : Cargo). own x ≡ false → IsBeside first count x) xs
@@ -80,3 +96,10 @@ IsItsOwnDisk own first count image =
     (taken asked : List Cargo) → OthersBeside own first count taken
     → AllZip (IsFor first count) (filter own taken) asked
     → with_ids asked (answers_for own image taken) ≡ answers_to (blocks_at image first count) asked
+
+-- what stays in the partition of one entry of a table leaves that of another as it is
+abbrev pub ArePartsApart : (sector : List ℕ) (disk_sectors : ℕ) → Type 0
+ArePartsApart sector disk_sectors = (j k : ℕ) (one other : Part) → j < 4 → k < 4 → (j ≡ k → ⊥)
+    → part_of sector disk_sectors j ≡ Some one → part_of sector disk_sectors k ≡ Some other
+    → (x : Cargo) → IsInside other.first_block other.blocks x
+    → IsBeside one.first_block one.blocks x
