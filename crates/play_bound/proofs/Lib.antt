@@ -1,0 +1,4 @@
+pub mod Sums
+pub mod Owners
+pub mod Bounding
+pub mod Serials

@@ -1,0 +1,2 @@
+-- What the law on the length of a play says.
+pub mod Standing
