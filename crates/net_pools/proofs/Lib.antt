@@ -4,3 +4,4 @@ pub mod Receiving
 pub mod Holding
 pub mod Lending
 pub mod Sizing
+pub mod Listing

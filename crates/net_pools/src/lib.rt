@@ -2,12 +2,15 @@
 //! each pool what the table of owners says.
 #![tactic(auto)]
 
-ghost use Rattle.std.specs.Prelude.{◌≡◌, ◌<◌, ℕ, None, Some, List, length, slice_get};
+ghost use Rattle.std.specs.Prelude.{◌≡◌, ◌+◌, ◌*◌, ◌<◌, ◌≤◌, ℕ, true, None, Some, List, length, slice_get};
+ghost use Rattle.wire_core.specs.declared.names.QueueRow.{QueueRow};
+ghost use Rattle.wire_core.specs.Ends.{Consumer};
+ghost use Rattle.wire_core.specs.Journal.{Hostiles, is_calm, owner_of};
 ghost use Rattle.wire_core.specs.Lists.{Passed};
 ghost use Rattle.play_core.specs.Moved.{Moved};
 ghost use Rattle.play_core.specs.Sheets.{Scene};
 ghost use Rattle.owner_law.specs.Things.{Naming};
-ghost use Rattle.owner_law.specs.Keeping.{Keeper, start_table, AreDealt};
+ghost use Rattle.owner_law.specs.Keeping.{Keeper, start_table, AreDealt, IsNaming};
 ghost use Rattle.owner_law.specs.Census.{IsPool};
 ghost use Rattle.turn_kit.specs.declared.pipe.Pipe.{Pipe};
 ghost use Rattle.pipe_driver.specs.Drivers.{PipesRow, PipesBalance, pipes_hand};
@@ -24,7 +27,7 @@ ghost use Rattle.net_owners.specs.Names.{PoolAt, ClientPools};
 ghost use Rattle.net_owners.specs.Ends.{AreItemsOf};
 ghost use Rattle.net_rx_owners.specs.Virtualiser.{AreNet, TakesFrames};
 ghost use Rattle.net_parts.specs.Naming.{NamesPart};
-ghost use Rattle.net_parts.specs.Numbers.{layout_naming};
+ghost use Rattle.net_parts.specs.Numbers.{client_first, layout_naming};
 ghost use Rattle.net_parts.specs.Playing.{device_part, driver_part, copier_part, receiver_part};
 ghost use Rattle.net_parts.specs.Rows.{frame_at};
 ghost use Rattle.net_parts.specs.Table.{net_sheet};
@@ -86,6 +89,19 @@ pub fn size_law()
     ensures { (scene : Scene) (pool : PoolAt) (macs : List Mac) (pools : List ClientPools)
         → AreNumbered (net_pools pool pools) → (n : ℕ)
         → NamesWithin (sizes_of (net_pools pool pools)) (layout_naming scene pool macs pools n) }
+{}
+
+/// By that table one actor lends, the consumer of the queue of frames and of those on which leases
+/// come back; and no queue beyond the class's names anything.
+pub fn listing_law()
+    ensures { (scene : Scene) (pool : PoolAt) (macs : List Mac) (pools : List ClientPools)
+        (lender : ℕ) (hostile : Hostiles) (rows : List QueueRow)
+        → 8 + 6 * length pools ≤ length rows
+        → ((n : ℕ) (row : QueueRow) → slice_get rows n ≡ Some row → is_calm hostile row ≡ true)
+        → ((row : QueueRow) → slice_get rows 4 ≡ Some row → owner_of row Consumer ≡ lender)
+        → ((k : ℕ) (row : QueueRow) → k < length pools
+        → slice_get rows (client_first 0 k + 1) ≡ Some row → owner_of row Consumer ≡ lender)
+        → IsNaming (layout_naming scene pool macs pools) lender hostile rows }
 {}
 
 /// Where each pool's buffers are with one actor at the start, no buffer is in two hands then, each
