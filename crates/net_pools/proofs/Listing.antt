@@ -86,19 +86,19 @@ module _ (scene : Scene) (pool : PoolAt) (macs : List Mac) (pools : List ClientP
   never_answers (suc (suc (suc (suc (suc (suc (suc zero))))))) q ws is = cc
   never_answers (suc (suc (suc (suc (suc (suc (suc (suc n)))))))) q ws is = flat_plain pool pools n q ws is
 
-  pub layout_names : (lender : ℕ) (hostile : Hostiles) (rows : List QueueRow) → 8 + 6 * length pools ≤ length rows → ((n : ℕ) (row : QueueRow) → slice_get rows n ≡ Some row → is_calm hostile row ≡ true) → ((row : QueueRow) → slice_get rows 4 ≡ Some row → owner_of row Consumer ≡ lender) → ((k : ℕ) (row : QueueRow) → k < length pools → slice_get rows (client_first 0 k + 1) ≡ Some row → owner_of row Consumer ≡ lender) → IsNaming naming lender hostile rows
-  layout_names lender hostile rows many calm frames returns = record {
-    calm = λ n. here n (cases_lt n (length rows));
+  pub layout_names : (lender : ℕ) (hostile : Hostiles) (queues : List QueueRow) → 8 + 6 * length pools ≤ length queues → ((n : ℕ) (row : QueueRow) → slice_get queues n ≡ Some row → is_calm hostile row ≡ true) → ((row : QueueRow) → slice_get queues 4 ≡ Some row → owner_of row Consumer ≡ lender) → ((k : ℕ) (row : QueueRow) → k < length pools → slice_get queues (client_first 0 k + 1) ≡ Some row → owner_of row Consumer ≡ lender) → IsNaming naming lender hostile queues
+  layout_names lender hostile queues many calm frames returns = record {
+    calm = λ n. here n (cases_lt n (length queues));
     lends = λ n row at is. by n row at (lends n is);
     answers = λ n q ws is same. never_answers n q ws is;
   }
     where
-      here : (n : ℕ) → (n < length rows) ⊎ (length rows ≤ n) → (naming n ≡ NoBuffers) ⊎ Holds hostile rows n 0
+      here : (n : ℕ) → (n < length queues) ⊎ (length queues ≤ n) → (naming n ≡ NoBuffers) ⊎ Holds hostile queues n 0
       here n (inl lt) =
-          let row = there_is rows n lt in
+          let row = there_is queues n lt in
           inr (record { row = row.0; there = row.1; calm = calm n row.0 row.1; enough = omega arith })
       here n (inr le) = inl (past n (omega (arith, le, many)))
 
-      by : (n : ℕ) (row : QueueRow) → slice_get rows n ≡ Some row → (n ≡ 4) ⊎ ((k : ℕ) × (k < length pools) × (n ≡ client_first 0 k + 1)) → owner_of row Consumer ≡ lender
-      by n row at (inl same) = frames row (ap (slice_get rows) (sym same) ∙ at)
-      by n row at (inr x) = returns x.0 row x.1 (ap (slice_get rows) (sym x.2) ∙ at)
+      by : (n : ℕ) (row : QueueRow) → slice_get queues n ≡ Some row → (n ≡ 4) ⊎ ((k : ℕ) × (k < length pools) × (n ≡ client_first 0 k + 1)) → owner_of row Consumer ≡ lender
+      by n row at (inl same) = frames row (ap (slice_get queues) (sym same) ∙ at)
+      by n row at (inr x) = returns x.0 row x.1 (ap (slice_get queues) (sym x.2) ∙ at)

@@ -95,13 +95,13 @@ pub fn size_law()
 /// come back; and no queue beyond the class's names anything.
 pub fn listing_law()
     ensures { (scene : Scene) (pool : PoolAt) (macs : List Mac) (pools : List ClientPools)
-        (lender : ℕ) (hostile : Hostiles) (rows : List QueueRow)
-        → 8 + 6 * length pools ≤ length rows
-        → ((n : ℕ) (row : QueueRow) → slice_get rows n ≡ Some row → is_calm hostile row ≡ true)
-        → ((row : QueueRow) → slice_get rows 4 ≡ Some row → owner_of row Consumer ≡ lender)
+        (lender : ℕ) (hostile : Hostiles) (queues : List QueueRow)
+        → 8 + 6 * length pools ≤ length queues
+        → ((n : ℕ) (row : QueueRow) → slice_get queues n ≡ Some row → is_calm hostile row ≡ true)
+        → ((row : QueueRow) → slice_get queues 4 ≡ Some row → owner_of row Consumer ≡ lender)
         → ((k : ℕ) (row : QueueRow) → k < length pools
-        → slice_get rows (client_first 0 k + 1) ≡ Some row → owner_of row Consumer ≡ lender)
-        → IsNaming (layout_naming scene pool macs pools) lender hostile rows }
+        → slice_get queues (client_first 0 k + 1) ≡ Some row → owner_of row Consumer ≡ lender)
+        → IsNaming (layout_naming scene pool macs pools) lender hostile queues }
 {}
 
 /// Where each pool's buffers are with one actor at the start, no buffer is in two hands then, each
