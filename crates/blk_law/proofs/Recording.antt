@@ -25,7 +25,7 @@ use Rattle.disk_device.specs.Serving.{body_back, stored}
 use Rattle.blk_law.specs.Replying.{AreAsked, Carries, IsAskedBy, answer_as, client_answers, judged, left_as}
 
 -- blocks that can be moved are in the partition
-moves_within : (blocks block count : ℕ) (other : BlkStatus) → (other ≡ Answered.Ok → ⊥) → (if can_move true blocks block count then Answered.Ok else other) ≡ Answered.Ok → block + count ≤ blocks
+pub moves_within : (blocks block count : ℕ) (other : BlkStatus) → (other ≡ Answered.Ok → ⊥) → (if can_move true blocks block count then Answered.Ok else other) ≡ Answered.Ok → block + count ≤ blocks
 moves_within blocks block count other ne h = by (can_move true blocks block count) refl h
   where
     by : (b : Bool) → can_move true blocks block count ≡ b → (if b then Answered.Ok else other) ≡ Answered.Ok → block + count ≤ blocks

@@ -52,7 +52,7 @@ next_in a asks id page with without sized room f g true e = (in_buffer a id page
 next_in a asks id page with without sized room f g false e = (bare a id e, g)
 
 -- what a client puts is what its script asks
-asked : (asks : List Ask) (id : ℕ) (pages : List Paged) → AreSized asks → HaveRoom pages → AreAsked id asks (asked_from id asks pages)
+pub asked : (asks : List Ask) (id : ℕ) (pages : List Paged) → AreSized asks → HaveRoom pages → AreAsked id asks (asked_from id asks pages)
 asked [] id pages sized room = tt
 asked (a ∷ asks) id [] sized room = next_bare a asks id (asked_from (id + 1) asks []) (asked asks (id + 1) [] (All-tail (λ (x : Ask). IsSized x.code x) a asks sized) room) (needs_buffer a.code) refl
 asked (a ∷ asks) id (page ∷ pages) sized room =
@@ -61,7 +61,7 @@ asked (a ∷ asks) id (page ∷ pages) sized room =
     (asked asks (id + 1) pages others (All-tail (λ (x : Paged). length x.bytes ≡ 32768) page pages room)) (asked asks (id + 1) (page ∷ pages) others room) (needs_buffer a.code) refl
 
 -- and so is a beginning of it
-asked_begins : (asks : List Ask) (id : ℕ) (ys zs : List Cargo) → AreAsked id asks (ys ++ zs) → AreAsked id asks ys
+pub asked_begins : (asks : List Ask) (id : ℕ) (ys zs : List Cargo) → AreAsked id asks (ys ++ zs) → AreAsked id asks ys
 asked_begins asks id [] zs f = tt
 asked_begins [] id (y ∷ ys) zs f = absurd f
 asked_begins (a ∷ asks) id (y ∷ ys) zs f = (f.0, asked_begins asks (id + 1) ys zs f.1)
@@ -77,7 +77,7 @@ partition_size : (part : Option Part) (image : List ℕ) → has_partition part 
 partition_size None image has = tt
 partition_size (Some part) image has = blocks_long image part.first_block part.blocks (leb-true ((part.first_block + part.blocks) * 4096) (length image) has)
 
-both : {T : Type 0} (xs ys zs : List T) → IsPrefix xs ys → IsPrefix ys zs → IsPrefix xs zs
+pub both : {T : Type 0} (xs ys zs : List T) → IsPrefix xs ys → IsPrefix ys zs → IsPrefix xs zs
 both {T} xs ys zs f g = (f.0 ++ g.0, sym (append_assoc xs f.0 g.0) ∙ (ap (λ (ws : List T). ws ++ g.0) f.1 ∙ g.1))
 
 pub records : (image : List ℕ) (entry : ℕ) (asks : List Ask) → has_partition (partition_in image entry) image ≡ true → AreSized asks → RecordsReplies image entry asks
