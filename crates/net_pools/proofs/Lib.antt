@@ -5,3 +5,4 @@ pub mod Holding
 pub mod Lending
 pub mod Sizing
 pub mod Listing
+pub mod Spreading

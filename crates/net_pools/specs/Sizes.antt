@@ -19,8 +19,13 @@ abbrev pub AreNumbered : List PoolAt → Type 0
 AreNumbered ps = (i j : ℕ) (p q : PoolAt) → slice_get ps i ≡ Some p → slice_get ps j ≡ Some q
     → p.number ≡ q.number → i ≡ j
 
--- at the start all buffers of a pool, from number 0 on, are with the actor that owns it
+-- of a pool, from number 0 on, the buffers that an actor has at the start: all, where it owns the
+-- pool
+abbrev pub share_of : (sizes owner : ℕ → ℕ) → (actor pool : ℕ) → List ℕ
+share_of sizes owner k pool = if owner pool == k then numbers_from 0 (sizes pool) else []
+
+-- each actor has at the start all buffers of the pools that it owns, and no others
 abbrev pub AreSpread : (sizes owner : ℕ → ℕ) → List Keeper → Type 0
 AreSpread sizes owner keepers =
     (k : ℕ) (p : Keeper) → slice_get keepers k ≡ Some p → (pool : ℕ)
-    → p.hand pool ≡ (if owner pool == k then numbers_from 0 (sizes pool) else [])
+    → p.hand pool ≡ share_of sizes owner k pool

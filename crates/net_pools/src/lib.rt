@@ -2,7 +2,7 @@
 //! each pool what the table of owners says.
 #![tactic(auto)]
 
-ghost use Rattle.std.specs.Prelude.{◌≡◌, ◌+◌, ◌*◌, ◌<◌, ◌≤◌, ℕ, true, None, Some, List, length, slice_get};
+ghost use Rattle.std.specs.Prelude.{◌≡◌, ◌⊎◌, ◌+◌, ◌*◌, ◌<◌, ◌≤◌, ◌++◌, ℕ, true, None, Some, List, [], length, slice_get};
 ghost use Rattle.wire_core.specs.declared.names.QueueRow.{QueueRow};
 ghost use Rattle.wire_core.specs.Ends.{Consumer};
 ghost use Rattle.wire_core.specs.Journal.{Hostiles, is_calm, owner_of};
@@ -29,11 +29,11 @@ ghost use Rattle.net_rx_owners.specs.Virtualiser.{AreNet, TakesFrames};
 ghost use Rattle.net_parts.specs.Naming.{NamesPart};
 ghost use Rattle.net_parts.specs.Numbers.{client_first, layout_naming};
 ghost use Rattle.net_parts.specs.Playing.{device_part, driver_part, copier_part, receiver_part};
-ghost use Rattle.net_parts.specs.Rows.{frame_at};
+ghost use Rattle.net_parts.specs.Rows.{frame_at, pool_hand};
 ghost use Rattle.net_parts.specs.Table.{net_sheet};
 ghost use Rattle.pool_law.specs.Handing.{HandsOn};
 ghost use Rattle.pool_law.specs.Lines.{HoldsIts, NamesWithin, HandWithin};
-ghost use Rattle.net_pools.specs.Sizes.{net_pools, sizes_of, AreNumbered, AreSpread};
+ghost use Rattle.net_pools.specs.Sizes.{net_pools, sizes_of, AreNumbered, AreSpread, share_of};
 ghost use Rattle.net_pools.specs.Holders.{holder_of, no_lent, rx_lent};
 
 /// Where what it took carries the pages that are named, so does what an actor of the network put:
@@ -114,4 +114,19 @@ pub fn spread_law()
         → IsPool (start_table keepers) pool (sizes pool) }
     ensures within { (sizes owner : ℕ → ℕ) (keepers : List Keeper) → AreSpread sizes owner keepers
         → (k : ℕ) (p : Keeper) → slice_get keepers k ≡ Some p → HandWithin sizes p }
+{}
+
+/// A hand at the start is one of pools that are spread: of an actor with one pool, of one with two,
+/// and of one with none.
+pub fn share_law()
+    ensures none { (sizes owner : ℕ → ℕ) (k pool : ℕ) → (owner pool ≡ k → ⊥)
+        → [] ≡ share_of sizes owner k pool }
+    ensures one { (sizes owner : ℕ → ℕ) (k : ℕ) (p : PoolAt) → sizes p.number ≡ p.buffers
+        → owner p.number ≡ k → ((n : ℕ) → owner n ≡ k → n ≡ p.number) → (pool : ℕ)
+        → pool_hand p pool ≡ share_of sizes owner k pool }
+    ensures two { (sizes owner : ℕ → ℕ) (k : ℕ) (p q : PoolAt) → sizes p.number ≡ p.buffers
+        → sizes q.number ≡ q.buffers → (p.number ≡ q.number → ⊥) → owner p.number ≡ k
+        → owner q.number ≡ k
+        → ((n : ℕ) → owner n ≡ k → (n ≡ p.number) ⊎ (n ≡ q.number)) → (pool : ℕ)
+        → pool_hand p pool ++ pool_hand q pool ≡ share_of sizes owner k pool }
 {}
