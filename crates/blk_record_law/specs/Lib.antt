@@ -1,0 +1,2 @@
+-- What the law of the block class says.
+pub mod Served
