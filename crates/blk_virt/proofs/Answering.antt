@@ -99,7 +99,7 @@ cargo_set pool (x ∷ cs) (suc k) c d at =
     let e = cargo_set pool cs k c d at in
     omega (arith, a, b, e)
 
-same_lists : (c : Client) (part : Option Part) (cs ss bs gs cs' ss' bs' gs' : List Cargo) → cs' ≡ cs → ss' ≡ ss → bs' ≡ bs → gs' ≡ gs → ClientStands c part cs ss bs gs → ClientStands c part cs' ss' bs' gs'
+pub same_lists : (c : Client) (part : Option Part) (cs ss bs gs cs' ss' bs' gs' : List Cargo) → cs' ≡ cs → ss' ≡ ss → bs' ≡ bs → gs' ≡ gs → ClientStands c part cs ss bs gs → ClientStands c part cs' ss' bs' gs'
 same_lists c part cs ss bs gs cs' ss' bs' gs' e f g i h = rw (e, f, g, i) h
 
 module _ (w w' : Desk) (h : IsDesk w) (k : ℕ) (part : Option Part) (came sent back gave : List Cargo) (m : OneMoved w w' k part came sent back gave) where

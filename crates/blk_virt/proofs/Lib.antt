@@ -6,3 +6,6 @@ pub mod Desking
 pub mod Answering
 pub mod Working
 pub mod Sending
+pub mod Stepping
+pub mod Turning
+pub mod Rows

@@ -7,3 +7,4 @@ pub mod Lines
 pub mod Desks
 pub mod Openings
 pub mod Works
+pub mod Virtualising

@@ -1,9 +1,7 @@
-//! The parts of the block virtualiser. It reads the disk's partitions with its own buffer, and then
-//! serves its clients: it judges each request, answers those that it refuses, sends the others on
-//! to the disk, and gives each response to the client whose request it answers. Here stand what it
-//! keeps of each client and of all, and the calls that serve one; the actor that chooses which end
-//! is stepped, with its row, isn't written yet. That the class has such a virtualiser is sDDF's;
-//! its turns are this project's own.
+//! The block virtualiser. It reads the disk's partitions with its own buffer, and then serves its
+//! clients: it judges each request, answers those that it refuses, sends the others on to the disk,
+//! and gives each response to the client whose request it answers. That the class has such a
+//! virtualiser is sDDF's; its turns are this project's own.
 #![tactic(auto)]
 
 mod client;
@@ -12,6 +10,7 @@ mod ends;
 mod line;
 mod opening;
 mod requests;
+mod virtualiser;
 mod work;
 
 pub use client::{Client, Current};
@@ -22,4 +21,5 @@ pub use requests::{
     BUFFER_SIZE, Holder, PageName, brings, moves_blocks, numbered, page_named, passed_on,
     request_of, response_of,
 };
+pub use virtualiser::BlkVirt;
 pub use work::{Giving, Wanting, Work};

@@ -1,0 +1,209 @@
+//! The block virtualiser itself: the ends that it steps, and whose turn it is.
+ghost use Rattle.std.specs.Prelude.{◌≡◌, ◌+◌, ◌<◌, ◌^◌, is_none, length, false};
+ghost use Rattle.wire_core.specs.Ends.{role_of, Role, End};
+ghost use Rattle.wire_core.specs.Lists.{Passed, Stepped};
+ghost use Rattle.wire_core.specs.Marks.{is_mark};
+ghost use Rattle.turn_kit.specs.Turns.{Turned, PostedAt, choice_of, chosen_place, last_after, is_at_rest};
+ghost use Rattle.net_kit.specs.Virtualising.{from_queues, to_queues, virt_posts, place_of, IsThere, need_of};
+ghost use Rattle.blk_virt.specs.Desks.{bad_count};
+ghost use Rattle.blk_virt.specs.Works.{WorkIsStill, wants_at, gives_at, is_owing};
+ghost use Rattle.blk_virt.specs.Virtualising.{FitsBlkVirt, BlkVirtStandsFor, BlkVirtEnd, SameBlkVirt, BlkVirtRow, BlkVirtBalances, blk_virt_round};
+
+use crate::ends::{step_from_client, step_input, step_output, step_to_client};
+use crate::{Giving, Wanting, Work};
+use net_kit::{VirtEnd, VirtEnds};
+use wire_core::{Event, Wires};
+
+/// The block virtualiser.
+#[derive(Drop)]
+pub struct BlkVirt {
+    pub ends: VirtEnds,
+    pub work: Work,
+}
+
+impl BlkVirt {
+    /// How many requests had a buffer that wasn't the client's own. The count stands still at its
+    /// type's end.
+    pub fn bad(&self) -> u64
+        ensures { result ≡ bad_count self.now.work.desk }
+    {
+        self.work.desk.bad()
+    }
+
+    /// Whether nothing is to be done before a notification comes.
+    pub fn at_rest(&self) -> bool
+        ensures { result ≡ is_at_rest (blk_virt_round self.now) }
+    {
+        let wanting = Wanting { work: &self.work };
+        let giving = Giving { work: &self.work };
+        self.ends.settled(
+            self.work.stray.is_none(),
+            self.work.is_owing(),
+            &wanting,
+            &giving,
+        )
+    }
+
+    // The next call where responses come.
+    fn step_response<W: Wires>(&mut self, wires: &mut W) -> Event
+        requires { FitsBlkVirt (W.ends wires.old) self.old }
+        ensures fits { FitsBlkVirt (W.ends wires.new) self.new }
+        ensures own { BlkVirtEnd self.old (role_of result.op) result.queue.0 }
+        ensures same { SameBlkVirt self.old self.new }
+        ensures stepped { Stepped BlkVirtStandsFor W.did wires.old wires.new
+            self.old self.new result }
+        ensures posted { PostedAt (virt_posts self.old.ends) 0 (is_none self.old.work.stray) result
+            (virt_posts self.new.ends) }
+        ensures still { is_mark result.op result.answer ≡ false
+            → WorkIsStill self.old.work self.new.work }
+        ensures turn { self.new.ends.turn ≡ self.old.ends.turn }
+    {
+        let (event, got) = step_input(&mut self.ends, wires, self.work.stray.is_none());
+        if let Some(entry) = got {
+            self.work.receive(entry);
+        }
+        event
+    }
+
+    // The next call where requests of the client at a place come.
+    fn step_request<W: Wires>(&mut self, wires: &mut W, place: usize) -> Event
+        requires fits { FitsBlkVirt (W.ends wires.old) self.old }
+        requires there { place < length (from_queues self.old.ends) }
+        ensures fits { FitsBlkVirt (W.ends wires.new) self.new }
+        ensures own { BlkVirtEnd self.old (role_of result.op) result.queue.0 }
+        ensures same { SameBlkVirt self.old self.new }
+        ensures stepped { Stepped BlkVirtStandsFor W.did wires.old wires.new
+            self.old self.new result }
+        ensures posted { PostedAt (virt_posts self.old.ends) (2 + place)
+            (wants_at self.old.work place) result (virt_posts self.new.ends) }
+        ensures still { is_mark result.op result.answer ≡ false
+            → WorkIsStill self.old.work self.new.work }
+        ensures turn { self.new.ends.turn ≡ self.old.ends.turn }
+    {
+        let wants = self.work.wants(place);
+        let (event, got) = step_from_client(&mut self.ends, wires, place, wants);
+        if let Some(entry) = got {
+            self.work.request(place, entry);
+        }
+        event
+    }
+
+    // The next call where requests go to the driver.
+    fn step_driver<W: Wires>(&mut self, wires: &mut W) -> Event
+        requires { FitsBlkVirt (W.ends wires.old) self.old }
+        ensures fits { FitsBlkVirt (W.ends wires.new) self.new }
+        ensures own { BlkVirtEnd self.old (role_of result.op) result.queue.0 }
+        ensures same { SameBlkVirt self.old self.new }
+        ensures stepped { Stepped BlkVirtStandsFor W.did wires.old wires.new
+            self.old self.new result }
+        ensures posted { PostedAt (virt_posts self.old.ends) 1 (is_owing self.old.work) result
+            (virt_posts self.new.ends) }
+        ensures still { is_mark result.op result.answer ≡ false
+            → WorkIsStill self.old.work self.new.work }
+        ensures turn { self.new.ends.turn ≡ self.old.ends.turn }
+    {
+        if !self.work.is_owing() {
+            let mut nothing = None;
+            return step_output(&mut self.ends, wires, &mut nothing);
+        }
+        if self.work.opening.is_reading() {
+            return self.work.send_first(&mut self.ends, wires);
+        }
+        match self.work.desk.leaver() {
+            Some(place) => self.work.send_request(&mut self.ends, wires, place),
+            None => unreachable!(),
+        }
+    }
+
+    // The next call where answers go to the client at a place.
+    fn step_answer<W: Wires>(&mut self, wires: &mut W, place: usize) -> Event
+        requires fits { FitsBlkVirt (W.ends wires.old) self.old }
+        requires there { place < length (to_queues self.old.ends) }
+        ensures fits { FitsBlkVirt (W.ends wires.new) self.new }
+        ensures own { BlkVirtEnd self.old (role_of result.op) result.queue.0 }
+        ensures same { SameBlkVirt self.old self.new }
+        ensures stepped { Stepped BlkVirtStandsFor W.did wires.old wires.new
+            self.old self.new result }
+        ensures posted { PostedAt (virt_posts self.old.ends)
+            (2 + length (from_queues self.old.ends) + place) (gives_at self.old.work place) result
+            (virt_posts self.new.ends) }
+        ensures still { is_mark result.op result.answer ≡ false
+            → WorkIsStill self.old.work self.new.work }
+        ensures turn { self.new.ends.turn ≡ self.old.ends.turn }
+    {
+        if !self.work.gives(place) {
+            let mut nothing = None;
+            return step_to_client(&mut self.ends, wires, place, &mut nothing);
+        }
+        self.work.give(&mut self.ends, wires, place)
+    }
+
+    // The end that is stepped now.
+    fn choose(&mut self) -> VirtEnd
+        requires from_clients { length (from_queues self.old.ends) < 2 ^ 32 }
+        requires to_clients { length (to_queues self.old.ends) < 2 ^ 32 }
+        ensures place { place_of self.old.ends result
+            ≡ chosen_place (choice_of (blk_virt_round self.old)) }
+        ensures there { IsThere self.old.ends result }
+        ensures after { self.new ≡ record self.old {
+          ends = record self.old.ends {
+            turn = record { last = last_after (choice_of (blk_virt_round self.old)) };
+          };
+        } }
+    {
+        let free = self.work.stray.is_none();
+        let owes = self.work.is_owing();
+        let wanting = Wanting { work: &self.work };
+        let giving = Giving { work: &self.work };
+        self.ends.choose(free, owes, &wanting, &giving)
+    }
+
+    // The next call at an end.
+    fn step_at<W: Wires>(&mut self, wires: &mut W, at: VirtEnd) -> Event
+        requires fits { FitsBlkVirt (W.ends wires.old) self.old }
+        requires there { IsThere self.old.ends at }
+        ensures fits { FitsBlkVirt (W.ends wires.new) self.new }
+        ensures own { BlkVirtEnd self.old (role_of result.op) result.queue.0 }
+        ensures same { SameBlkVirt self.old self.new }
+        ensures stepped { Stepped BlkVirtStandsFor W.did wires.old wires.new
+            self.old self.new result }
+        ensures posted { PostedAt (virt_posts self.old.ends) (place_of self.old.ends at) (need_of
+            (is_none self.old.work.stray) (is_owing self.old.work) (wants_at self.old.work)
+            (gives_at self.old.work) at) result (virt_posts self.new.ends) }
+        ensures still { is_mark result.op result.answer ≡ false
+            → WorkIsStill self.old.work self.new.work }
+        ensures turn { self.new.ends.turn ≡ self.old.ends.turn }
+    {
+        match at {
+            VirtEnd::Input => self.step_response(wires),
+            VirtEnd::Output => self.step_driver(wires),
+            VirtEnd::FromClient(place) => self.step_request(wires, place),
+            VirtEnd::ToClient(place) => self.step_answer(wires, place),
+        }
+    }
+
+    /// Makes one call on one of its ends.
+    pub fn step<W: Wires>(&mut self, wires: &mut W) -> Event
+        requires { FitsBlkVirt (W.ends wires.old) self.old }
+        ensures fits { FitsBlkVirt (W.ends wires.new) self.new }
+        ensures own { BlkVirtEnd self.old (role_of result.op) result.queue.0 }
+        ensures same { SameBlkVirt self.old self.new }
+        ensures stepped { Stepped BlkVirtStandsFor W.did wires.old wires.new
+            self.old self.new result }
+        ensures turned { Turned (blk_virt_round self.old) result (blk_virt_round self.new) }
+    {
+        let at = self.choose();
+        self.step_at(wires, at)
+    }
+}
+
+/// Whatever it stands for meets its row.
+pub fn row_law()
+    ensures { (v : BlkVirt) (passed : Passed) → BlkVirtStandsFor v passed → BlkVirtRow v passed }
+{}
+
+/// What it had at the start and what came is what went and what is in its hand.
+pub fn hand_law()
+    ensures { (v : BlkVirt) (passed : Passed) → BlkVirtStandsFor v passed
+        → BlkVirtBalances v passed }
+{}
