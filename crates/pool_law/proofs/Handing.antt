@@ -3,6 +3,7 @@ use Rattle.std.specs.Prelude.{slice_index_or}
 use Rattle.std.proofs.Math.Dec.{eqb}
 use Rattle.std.proofs.lemmas.Bool.Decides.{eqb_tells}
 use Rattle.std.proofs.lemmas.List.{append-nil}
+use Rattle.cargo_core.specs.Lists.{IsPrefix}
 use Rattle.cargo_core.specs.declared.item.Item.{Item}
 use Rattle.wire_core.specs.declared.names.QueueRow.{QueueRow}
 use Rattle.wire_core.specs.declared.names.Op.{Op}
@@ -119,3 +120,9 @@ module _ (naming : Naming) (old new : Moved) (passed : Passed) (d : Deed) (ends 
 
   pub carry_step : CarryPages naming new after
   carry_step = record { sent = x.sent; taken = x.taken; bodies = λ n k c at b. all_carry n k c at b }
+
+-- what was taken carries, where all that was put does
+pub carry_takes : (naming : Naming) (m : Moved) (passed : Passed) (ends : List Seat) → CarryPages naming m passed → ((n : ℕ) → IsPrefix (passed.taken n) (passed.sent n)) → TakesPages naming m passed ends
+carry_takes naming m passed ends carry begins i s at consumer k c c_at =
+    let pre = begins s.queue in
+    carry.bodies s.queue k c (ap (λ xs. slice_get xs k) (sym pre.1) ∙ get_first (passed.taken s.queue) pre.0 k c c_at)

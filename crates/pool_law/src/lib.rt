@@ -4,6 +4,7 @@
 
 ghost use Rattle.std.specs.Prelude.{◌≡◌, ◌+◌, ℕ, List, [], sum_by};
 ghost use Rattle.cargo_core.specs.Bodies.{buffers_of};
+ghost use Rattle.cargo_core.specs.Lists.{IsPrefix};
 ghost use Rattle.cargo_core.specs.declared.item.Body.{Body};
 ghost use Rattle.cargo_core.specs.declared.item.PoolId.{PoolId};
 ghost use Rattle.wire_core.specs.declared.names.QueueRow.{QueueRow};
@@ -23,13 +24,17 @@ ghost use Rattle.pool_law.specs.Handing.{IsOnward, NameNothing, TakesPages};
 ghost use Rattle.pool_law.specs.Lines.{Holder, AreLines, HoldsIts, came, went};
 
 /// Entries carry the pages that their items name at the start, where there are none, and after each
-/// call of an actor that hands pages on.
+/// call of an actor that hands pages on. So do those that were taken.
 pub fn carry_law()
     ensures start { (naming : Naming) (rows : List QueueRow)
         → CarryPages naming (moved (start_history rows) []) nothing_passed }
     ensures step { (naming : Naming) (old new : Moved) (passed : Passed) (d : Deed)
         (ends : List Seat) → IsOnward naming old new passed d ends
         → CarryPages naming new (with_deed passed d) }
+    ensures takes { (naming : Naming) (m : Moved) (passed : Passed) (seats : List Seat)
+        → CarryPages naming m passed
+        → ((n : ℕ) → IsPrefix (passed.taken n) (passed.sent n))
+        → TakesPages naming m passed seats }
 {}
 
 /// The line of each pool after a journal: the buffers that the table has in queues are the pages

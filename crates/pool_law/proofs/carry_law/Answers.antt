@@ -1,4 +1,4 @@
-use Rattle.pool_law.proofs.Handing.{carry_start, carry_step}
+use Rattle.pool_law.proofs.Handing.{carry_start, carry_step, carry_takes}
 use Rattle.pool_law.proofs.carry_law.Goals as goal
 
 pub returns-clause-start : goal.returns-clause-start
@@ -6,3 +6,6 @@ returns-clause-start c = carry_start
 
 pub returns-clause-step : goal.returns-clause-step
 returns-clause-step c = carry_step
+
+pub returns-clause-takes : goal.returns-clause-takes
+returns-clause-takes c = carry_takes
