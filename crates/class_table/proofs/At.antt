@@ -10,7 +10,7 @@ use Rattle.class_table.specs.Table.{Element, numbered}
 use Rattle.class_table.specs.Shown.{Shelved, element_shown}
 
 -- the client with a number
-numbered-get : {C T : Type 0} (give : ℕ → C → T) (c : ℕ) (clients : List C) (k : ℕ) → slice_get (numbered give c clients) k ≡ option_map (give (c + k)) (slice_get clients k)
+pub numbered-get : {C T : Type 0} (give : ℕ → C → T) (c : ℕ) (clients : List C) (k : ℕ) → slice_get (numbered give c clients) k ≡ option_map (give (c + k)) (slice_get clients k)
 numbered-get give c [] k = refl
 numbered-get give c (client ∷ rest) zero = ap (λ n. Some (give n client)) (sym (add-zero c))
 numbered-get give c (client ∷ rest) (suc k) =

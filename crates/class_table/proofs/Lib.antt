@@ -1,3 +1,4 @@
 pub mod At
 pub mod Numbered
 pub mod Whole
+pub mod Everywhere

@@ -1,5 +1,8 @@
 -- The rows of each element (Rows), the table of a plan (Table), the programs of a role (Roles),
--- what queues and pools take of their regions (Sizes), and what the program's rows show (Shown).
+-- what queues and pools take of their regions (Sizes), the texts of their names (Named), how many
+-- clients there may be (Numbers), and what the program's rows show (Shown).
+pub mod Named
+pub mod Numbers
 pub mod Roles
 pub mod Rows
 pub mod Shown

@@ -1,12 +1,14 @@
 //! The elements of the classes of a plan, and which of them stands at a place.
-ghost use Rattle.std.specs.Prelude.{◌≡◌, ⊤, Some, None, slice_get, MatchOption};
+ghost use Rattle.std.specs.Prelude.{◌≡◌, ◌++◌, ⊤, Some, None, map, slice_get, IfOk, OnOk, MatchOption};
+ghost use Rattle.class_table.specs.Numbers.{seen};
 ghost use Rattle.sdf_plan.specs.declared.plan.Plan.{Plan};
 ghost use Rattle.class_table.specs.Shown.{element_shown, AreClasses};
-ghost use Rattle.class_table.specs.Table.{OfElement};
+ghost use Rattle.class_table.specs.Table.{OfElement, table_of};
 
 use crate::uses::ClassElement;
-use cargo_core::Series;
+use cargo_core::{Memory, Series};
 use sdf_plan::Place;
+use std::alloc::Global;
 
 /// Of each class that a plan has, the element of the class itself, and then those of its clients.
 #[derive(Debug, Drop)]
@@ -31,7 +33,34 @@ fn nth<'b, 'a>(
     }
 }
 
+// Appends the elements of a class.
+fn push_all<'b, 'a>(
+    all: &mut Vec<&'b ClassElement<&'a str>>,
+    elements: &'b [ClassElement<&'a str>],
+) -> Result<(), Memory>
+    ensures { OnOk result (map seen all.new.items
+        ≡ map seen all.old.items ++ map element_shown elements.now) }
+{
+    for element in elements {
+        all.push(element)?;
+    }
+    Ok(())
+}
+
 impl<'a> Classes<'a> {
+    /// All elements, in the order of the walk.
+    #[tactic(auto, unfolding(crate::specs::Table::table_of))]
+    pub fn in_order<'b>(&'b self, alloc: Global) -> Result<Vec<&'b ClassElement<&'a str>>, Memory>
+        ensures { IfOk result (λ all. (plan : Plan) → AreClasses self.now plan
+            → map seen all.items ≡ table_of plan) }
+    {
+        let mut all = Vec::new(alloc);
+        push_all(&mut all, self.net.as_slice())?;
+        push_all(&mut all, self.serial.as_slice())?;
+        push_all(&mut all, self.blk.as_slice())?;
+        Ok(all)
+    }
+
     /// The element at a place; none where no class and no client of the plan stands there.
     pub fn at(&self, place: Place) -> Option<&ClassElement<&'a str>>
         ensures { (plan : Plan) → AreClasses self.now plan

@@ -1,5 +1,5 @@
 //! What the elements of the classes use: roles, queues and pools, one row each, as the tables of
-//! queues and pools say. The rules on classes are read off these rows; the layout is to be.
+//! queues and pools say. The rules on classes and the layout are read off these rows.
 #![tactic(auto)]
 
 mod blk;
@@ -16,8 +16,8 @@ mod uses;
 pub use classes::Classes;
 pub use law::table_law;
 pub use role::{Role, is_program_of};
-pub use sizes::{pool_bytes, queue_end};
-pub use table::classes_of;
+pub use sizes::{pool_bytes, queue_end, queue_offset};
+pub use table::{classes_of, classes_of_few};
 pub use uses::{ClassElement, Ends, Grant, Link, PoolUse, QueueUse, RoleUse, UseName};
 
 #[cfg(test)]

@@ -1,5 +1,5 @@
 //! What the queues and the pools of the table take of their regions.
-ghost use Rattle.std.specs.Prelude.{◌≡◌, ◌≤◌, ◌^◌, ◌<◌};
+ghost use Rattle.std.specs.Prelude.{◌≡◌, ◌+◌, ◌*◌, ◌≤◌, ◌^◌, ◌<◌};
 ghost use Rattle.class_table.specs.Shown.{queue_shown, pool_shown};
 ghost use Rattle.class_table.specs.Sizes.{entry_size, queue_size, second_offset, offset_behind, queue_end, pool_bytes};
 
@@ -21,7 +21,7 @@ fn entry_size(kind: QueueKind) -> u128
 // The bytes of a queue: a header of 64, and its entries.
 fn queue_size(kind: QueueKind, capacity: u64) -> u128
     ensures size { result ≡ queue_size kind capacity }
-    ensures small { result < 2 ^ 70 }
+    ensures near { result ≤ 64 + 32 * capacity }
 {
     64 + entry_size(kind) * capacity as u128
 }
@@ -30,7 +30,7 @@ fn queue_size(kind: QueueKind, capacity: u64) -> u128
 fn second_offset(bytes: u128) -> u128
     requires { bytes < 2 ^ 70 }
     ensures offset { result ≡ second_offset bytes }
-    ensures small { result < 2 ^ 71 }
+    ensures near { result ≤ bytes + 63 }
 {
     (bytes + 63) / 64 * 64
 }
@@ -38,7 +38,7 @@ fn second_offset(bytes: u128) -> u128
 // Where a queue begins in its region: behind one of a kind with as many entries, or at the front.
 fn offset_behind(first: Option<QueueKind>, capacity: u64) -> u128
     ensures offset { result ≡ offset_behind first capacity }
-    ensures small { result < 2 ^ 71 }
+    ensures near { result ≤ 127 + 32 * capacity }
 {
     match first {
         Some(kind) => second_offset(queue_size(kind, capacity)),
@@ -46,11 +46,19 @@ fn offset_behind(first: Option<QueueKind>, capacity: u64) -> u128
     }
 }
 
+/// Where a queue begins in its region, counted from the region's begin; 0 where it stands in none.
+pub fn queue_offset(queue: &QueueUse<&str>) -> u128
+    ensures offset { result ≡ offset_behind queue.now.behind queue.now.capacity }
+    ensures near { result ≤ 127 + 32 * queue.now.capacity }
+{
+    offset_behind(queue.behind, queue.capacity)
+}
+
 /// Where a queue ends in its region, counted from the region's begin.
 pub fn queue_end(queue: &QueueUse<&str>) -> u128
     ensures { result ≡ queue_end (queue_shown queue.now) }
 {
-    offset_behind(queue.behind, queue.capacity) + queue_size(queue.kind, queue.capacity)
+    queue_offset(queue) + queue_size(queue.kind, queue.capacity)
 }
 
 /// The bytes of all buffers of a pool.

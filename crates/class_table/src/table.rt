@@ -3,6 +3,7 @@ ghost use Rattle.std.specs.Prelude.{◌≡◌, ◌<◌, ◌^◌, ◌++◌, [], l
 ghost use Rattle.std.specs.Option.{option_map_or};
 ghost use Rattle.sdf_plan.specs.Elements.{IsNumbered};
 ghost use Rattle.class_table.specs.Shown.{element_shown, AreClasses};
+ghost use Rattle.class_table.specs.Numbers.{AreNumbered};
 ghost use Rattle.class_table.specs.Table.{net_elements, serial_elements, blk_elements, numbered, net_client_element, serial_client_element, blk_client_element};
 
 use crate::blk::{blk_client_element, blk_element};
@@ -17,6 +18,14 @@ use std::alloc::Global;
 /// The elements of the classes of a plan, in the order of the walk. Their texts are the plan's.
 pub fn classes_of<'a>(alloc: Global, plan: &'a Plan) -> Result<Classes<'a>, Memory>
     requires { IsNumbered plan.now }
+    ensures { IfOk result (λ classes. AreClasses classes plan.now) }
+{
+    classes_of_few(alloc, plan)
+}
+
+/// The same where it is known only that each class has fewer than 2^32 clients.
+pub fn classes_of_few<'a>(alloc: Global, plan: &'a Plan) -> Result<Classes<'a>, Memory>
+    requires { AreNumbered plan.now }
     ensures { IfOk result (λ classes. AreClasses classes plan.now) }
 {
     let mut net = Vec::new(alloc);

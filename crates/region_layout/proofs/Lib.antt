@@ -2,6 +2,9 @@ pub mod BaseLemmas
 pub mod KeptLemmas
 pub mod NameLemmas
 pub mod RowLemmas
+pub mod FlatLemmas
+pub mod SameLemmas
+pub mod SmallLemmas
 pub mod DisjointLemmas
 pub mod WalkLemmas
 pub mod ValidLemmas

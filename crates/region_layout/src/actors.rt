@@ -3,9 +3,10 @@ ghost use Rattle.std.specs.Prelude.{◌≡◌, ◌+◌, ◌<◌, ◌≤◌, ◌+
 ghost use Rattle.sdf_check.specs.Names.{place_of, region_named, region_names_of};
 ghost use Rattle.region_layout.specs.Bases.{bases_of};
 ghost use Rattle.region_layout.specs.Rows.{acts, actors_of, devices_of, name_if, actor_named, acting_count, one_if, eth_number, uart_number, disk_number};
+ghost use Rattle.region_layout.specs.Uses.{device_at};
 
 use cargo_core::{Memory, Series, Text};
-use sdf_plan::{Domain, Plan, Region};
+use sdf_plan::{Domain, Place, Plan, Region};
 use std::alloc::Global;
 use wire_core::ActorId;
 
@@ -57,6 +58,17 @@ impl Names<'_> {
     {
         let before = one_if(self.plan.net.is_some()) + one_if(self.plan.serial.is_some());
         ActorId(self.acting() as u16 + before)
+    }
+
+    // The number of the device of the class at a place.
+    pub fn device(&self, place: Place) -> ActorId
+        ensures { result ≡ device_at self.now.plan.now place }
+    {
+        match place {
+            Place::Net => self.eth(),
+            Place::Serial => self.uart(),
+            _ => self.disk(),
+        }
     }
 
     // The number of a domain that acts.

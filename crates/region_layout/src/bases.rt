@@ -68,7 +68,7 @@ fn given_end(region: &Region) -> u64
 }
 
 // The least multiple of a size that isn't below a number.
-pub fn round_up(number: u64, size: u64) -> u64
+fn round_up(number: u64, size: u64) -> u64
     requires some { 1 ≤ size }
     requires low { number + size ≤ 2 ^ 62 }
     ensures up { result ≡ round_up number size }

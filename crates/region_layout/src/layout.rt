@@ -1,5 +1,6 @@
 //! The layout of a plan, and how a valid plan is laid out.
 ghost use Rattle.std.specs.Prelude.{◌≡◌, ◌<◌, length, slice_get, Some, IfOk};
+ghost use Rattle.class_table.specs.Numbers.{AreNumbered};
 ghost use Rattle.sdf_check.specs.Valid.{Valid};
 ghost use Rattle.region_layout.specs.Bases.{AreDisjoint, AreGivenApart};
 ghost use Rattle.region_layout.specs.Layouts.{layout_of};
@@ -10,6 +11,7 @@ use crate::bases::bases_of;
 use crate::pools::pools_of;
 use crate::queues::queues_of;
 use cargo_core::{Memory, Series, Text};
+use class_table::classes_of_few;
 use sdf_plan::Plan;
 use std::alloc::Global;
 use wire_core::{PoolRow, QueueRow};
@@ -72,19 +74,21 @@ pub fn lay_out(alloc: Global, plan: &Plan) -> Result<Layout, Memory>
 // Lays out a plan whose numbers are such as the rules allow, and in which no two given ranges meet.
 fn laid_out(alloc: Global, plan: &Plan) -> Result<Layout, Memory>
     requires small { HasSmallNumbers plan.now }
+    requires numbered { AreNumbered plan.now }
     requires apart { AreGivenApart plan.now.memory_region }
     ensures layout { IfOk result (λ layout. layout ≡ layout_of plan.now) }
     ensures disjoint { IfOk result (λ layout. AreDisjoint plan.now.memory_region layout.bases) }
 {
     let actors = actors_of(alloc, plan)?;
     let bases = bases_of(alloc, plan.memory_region.as_slice())?;
+    let classes = classes_of_few(alloc, plan)?;
     let names = Names {
         plan,
         actors: &actors,
         bases: &bases,
     };
-    let queues = queues_of(alloc, &names)?;
-    let pools = pools_of(alloc, &names)?;
+    let queues = queues_of(alloc, &names, &classes)?;
+    let pools = pools_of(alloc, &names, &classes)?;
     Ok(Layout {
         bases,
         queues,

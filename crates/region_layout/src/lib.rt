@@ -6,6 +6,7 @@ mod bases;
 mod layout;
 mod pools;
 mod queues;
+mod texts;
 
 pub use layout::{Layout, lay_out};
 pub use wire_core::{PoolRow, QueueRow};

@@ -16,7 +16,8 @@ ghost use Rattle.sdf_check.specs.ClassRules.{class_domains, SomeOf};
 ghost use Rattle.sdf_check.specs.Names.{net_regions, net_client_regions, serial_regions, serial_client_regions, blk_regions, blk_client_regions};
 ghost use Rattle.class_table.specs.Table.{table_of, net_element, net_client_element, serial_element, serial_client_element, blk_element, blk_client_element};
 ghost use Rattle.region_layout.specs.Rows.{queues_of, pools_of};
-ghost use Rattle.table_laws.specs.Ties.{queue_rows, pool_rows, domains_of, regions_of};
+ghost use Rattle.region_layout.specs.Uses.{queue_rows, pool_rows};
+ghost use Rattle.table_laws.specs.Ties.{domains_of, regions_of};
 
 /// The queues and the pools of the layout of a plan are those of the table, row by row; the domains
 /// that class elements name are those to which it gives roles.

@@ -1,4 +1,5 @@
-use Rattle.table_laws.proofs.Same.{queues_same, pools_same, domains_same}
+use Rattle.region_layout.proofs.SameLemmas.{queues_same, pools_same}
+use Rattle.table_laws.proofs.Same.{domains_same}
 use Rattle.table_laws.proofs.layout_tie.Goals as goal
 
 pub returns-clause-queues : goal.returns-clause-queues

@@ -2,6 +2,7 @@ use Rattle.std.proofs.Common.{refl}
 use Rattle.region_layout.specs.Layouts.{layout_of}
 use Rattle.region_layout.proofs.NameLemmas.{few_actors}
 use Rattle.region_layout.proofs.DisjointLemmas.{are_disjoint}
+use Rattle.region_layout.proofs.SmallLemmas.{small_elements}
 use Rattle.region_layout.proofs.layout.laid_out.Goals as goal
 
 pub returns-clause-layout : goal.returns-clause-layout
@@ -18,3 +19,9 @@ invariant_of-names c = record {
   few_actors = rw c.in_ok-actors.ensures (few_actors c.args.plan.now c.requires.small.domains);
   few_regions = c.requires.small.regions.few;
 }
+
+pub queues_of-requires-clause-small : goal.queues_of-requires-clause-small
+queues_of-requires-clause-small c = small_elements c.args.plan.now c.requires.small
+
+pub pools_of-requires-clause-small : goal.pools_of-requires-clause-small
+pools_of-requires-clause-small c = small_elements c.args.plan.now c.requires.small
