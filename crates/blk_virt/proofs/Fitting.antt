@@ -16,7 +16,7 @@ use Rattle.turn_kit.specs.declared.intakes.Intakes.{Intakes}
 use Rattle.turn_kit.specs.declared.outlets.Outlets.{Outlets}
 use Rattle.turn_kit.specs.declared.end_state.EndState.{EndState}
 use Rattle.net_kit.specs.declared.virt_ends.VirtEnds.{VirtEnds}
-use Rattle.net_kit.specs.Virtualising.{FitsVirt, from_queues, to_queues}
+use Rattle.net_kit.specs.Virtualising.{FitsVirt, SameVirt, from_queues, to_queues}
 use Rattle.net_kit.proofs.VirtFits.{input_moved, output_moved, from_moved, to_moved}
 use Rattle.blk_virt.specs.Ends.{FitsEnds}
 
@@ -114,3 +114,12 @@ module _ (ends ends' : Role → ℕ → End) (e : Event) (moves : Moves ends e e
 
   pub fits_to : (xs : Outlets) (k : ℕ) → outlet_queues xs ≡ to_queues v → role_of e.op ≡ Producer → slice_get (to_queues v) k ≡ Some e.queue → FitsOutlets ends' xs → FitsEnds ends' (record v { to_clients = xs })
   fits_to xs k same role on fits = plain_fits ends' (record v { to_clients = xs }) (to_moved (plain ends) (plain ends') e (plain_moves ends ends' e moves) v (fits_plain ends v h) xs k same role on (outlets_to ends' xs fits)) (kinds_stay (record v { to_clients = xs }) refl refl refl same)
+
+-- the looks don't matter
+pub fits_forgot : (v v' : VirtEnds) → ((ends : Role → ℕ → End) → FitsVirt ends v → FitsVirt ends v') → SameVirt v v' → (ends : Role → ℕ → End) → FitsEnds ends v → FitsEnds ends v'
+fits_forgot v v' fits same ends h = plain_fits ends v' (fits (plain ends) (fits_plain ends v h)) (record {
+  comes = rw same.input h.comes;
+  goes = rw same.output h.goes;
+  come_from = λ k q at. h.come_from k q (ap (λ qs. slice_get qs k) (sym same.from_clients) ∙ at);
+  go_to = λ k q at. h.go_to k q (ap (λ qs. slice_get qs k) (sym same.to_clients) ∙ at);
+})

@@ -9,3 +9,4 @@ pub mod Sending
 pub mod Stepping
 pub mod Turning
 pub mod Rows
+pub mod Starting

@@ -1,22 +1,24 @@
 -- The block virtualiser: what it must fit, what it stands for, and its row.
-use Rattle.std.specs.Prelude.{◌≡◌, ◌+◌, ◌≤◌, ◌<◌, ◌^◌, ◌%◌, ℕ, is_none, Option, Some, List, [], ◌∷◌, ◌++◌, All, length, map, drop, slice_get, slice_index_or}
+use Rattle.std.specs.Prelude.{◌≡◌, ◌+◌, ◌*◌, ◌≤◌, ◌<◌, ◌^◌, ◌%◌, ℕ, is_none, Option, None, Some, List, [], ◌∷◌, ◌++◌, All, length, map, drop, slice_get, slice_index_or}
 use Rattle.std.specs.List.{filter}
 use Rattle.std.specs.Option.{option_to_list}
 use Rattle.cargo_core.specs.declared.item.Body.TheVariants as Carried
 use Rattle.cargo_core.specs.Lists.{IsPrefix}
 use Rattle.cargo_core.specs.Pages.{Paged}
+use Rattle.cargo_core.specs.Ranges.{AreRanges}
 use Rattle.wire_core.specs.declared.names.QueueId.{QueueId}
 use Rattle.wire_core.specs.Deeds.{Cargo}
 use Rattle.wire_core.specs.Lists.{Passed}
 use Rattle.wire_core.specs.Ends.{Role, End}
 use Rattle.turn_kit.specs.Turns.{Round}
 use Rattle.turn_kit.specs.Hands.{Balances, bodies_of, bodies_at}
-use Rattle.net_kit.specs.Virtualising.{SameVirt, VirtForgot, VirtOwns, virt_round, virt_came, virt_went, from_queues, to_queues}
+use Rattle.net_kit.specs.Virtualising.{SameVirt, IsNewVirt, VirtForgot, VirtOwns, virt_round, virt_came, virt_went, from_queues, to_queues}
 use Rattle.blk_mbr.specs.declared.part.Part.{Part}
 use Rattle.blk_virt.specs.declared.client.Client.{Client}
+use Rattle.blk_virt.specs.declared.virtualiser.BlkEnds.{BlkEnds}
 use Rattle.blk_virt.specs.declared.virtualiser.BlkVirt.{BlkVirt}
 use Rattle.blk_virt.specs.declared.work.Work.{Work}
-use Rattle.blk_virt.specs.Requests.{is_bad, number_of}
+use Rattle.blk_virt.specs.Requests.{is_bad, number_of, range_of}
 use Rattle.blk_virt.specs.Serving.{IsServed}
 use Rattle.blk_virt.specs.Clients.{capped}
 use Rattle.blk_virt.specs.Ends.{FitsEnds}
@@ -116,3 +118,38 @@ blk_virt_round v = virt_round v.ends (is_none v.work.stray) (is_owing v.work) (w
 pub record BlkVirtForgot (old new : BlkVirt) : Type 0 where
   pub ends : VirtForgot old.ends new.ends
   pub work : new.work ≡ old.work
+
+-- what is kept of a client at the start
+abbrev pub new_client : BlkEnds → Client
+new_client e = record {
+  holder = record {
+    pool = e.pool;
+    buffers = e.buffers;
+    base = e.base;
+    partition = e.partition;
+  };
+  current = None;
+  leaving = None;
+  held = None;
+  bad = 0;
+}
+
+-- each of these clients has some buffers, which end at most at 2^62, and an entry of the table; and
+-- no two clients' buffers meet
+pub record AreClients (clients : List BlkEnds) : Type 0 where
+  pub some : (k : ℕ) (e : BlkEnds) → slice_get clients k ≡ Some e → 0 < e.buffers
+  pub entry : (k : ℕ) (e : BlkEnds) → slice_get clients k ≡ Some e → e.partition < 4
+  pub room : (k : ℕ) (e : BlkEnds) → slice_get clients k ≡ Some e
+      → e.base + e.buffers * 32768 ≤ 2 ^ 62
+  pub apart : AreRanges (map (λ (e : BlkEnds). range_of (new_client e).holder) clients)
+
+-- a virtualiser in its start state
+pub record IsNewBlkVirt (req resp : QueueId) (clients : List BlkEnds) (page : Paged)
+    (base disk_sectors : ℕ) (v : BlkVirt) : Type 0 where
+  pub ends : IsNewVirt resp req (map (λ (e : BlkEnds). e.req) clients)
+      (map (λ (e : BlkEnds). e.resp) clients) v.ends
+  pub clients_are : v.work.desk.clients.items ≡ map new_client clients
+  pub own : v.work.opening.own ≡ record { pool = page.pool; no = page.no }
+  pub base_is : v.work.opening.base ≡ base
+  pub sectors : v.work.opening.disk_sectors ≡ disk_sectors
+  pub stray : v.work.stray ≡ None

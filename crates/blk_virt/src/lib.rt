@@ -21,5 +21,5 @@ pub use requests::{
     BUFFER_SIZE, Holder, PageName, brings, moves_blocks, numbered, page_named, passed_on,
     request_of, response_of,
 };
-pub use virtualiser::BlkVirt;
+pub use virtualiser::{BlkEnds, BlkVirt, hand_law, row_law};
 pub use work::{Giving, Wanting, Work};

@@ -1,18 +1,33 @@
 //! The block virtualiser itself: the ends that it steps, and whose turn it is.
-ghost use Rattle.std.specs.Prelude.{◌≡◌, ◌+◌, ◌<◌, ◌^◌, is_none, length, false};
+ghost use Rattle.std.specs.Prelude.{◌≡◌, ◌+◌, ◌<◌, ◌^◌, ℕ, IfOk, is_none, length, map, false};
 ghost use Rattle.wire_core.specs.Ends.{role_of, Role, End};
-ghost use Rattle.wire_core.specs.Lists.{Passed, Stepped};
+ghost use Rattle.wire_core.specs.Lists.{Passed, Stepped, nothing_passed};
 ghost use Rattle.wire_core.specs.Marks.{is_mark};
 ghost use Rattle.turn_kit.specs.Turns.{Turned, PostedAt, choice_of, chosen_place, last_after, is_at_rest};
 ghost use Rattle.net_kit.specs.Virtualising.{from_queues, to_queues, virt_posts, place_of, IsThere, need_of};
 ghost use Rattle.blk_virt.specs.Desks.{bad_count};
-ghost use Rattle.blk_virt.specs.Works.{WorkIsStill, wants_at, gives_at, is_owing};
-ghost use Rattle.blk_virt.specs.Virtualising.{FitsBlkVirt, BlkVirtStandsFor, BlkVirtEnd, SameBlkVirt, BlkVirtRow, BlkVirtBalances, blk_virt_round};
+ghost use Rattle.blk_virt.specs.Works.{IsWork, WorkIsStill, wants_at, gives_at, is_owing};
+ghost use Rattle.blk_virt.specs.Virtualising.{FitsBlkVirt, BlkVirtStandsFor, BlkVirtEnd, SameBlkVirt, BlkVirtForgot, BlkVirtRow, BlkVirtBalances, AreClients, IsNewBlkVirt, new_client, blk_virt_round};
 
 use crate::ends::{step_from_client, step_input, step_output, step_to_client};
-use crate::{Giving, Wanting, Work};
+use crate::{Client, Desk, Giving, Holder, Line, Opening, Wanting, Work};
+use cargo_core::{Memory, Page, PoolId};
 use net_kit::{VirtEnd, VirtEnds};
-use wire_core::{Event, Wires};
+use std::alloc::Global;
+use wire_core::{Event, QueueId, Wires};
+
+/// A client of the virtualiser: the queues on which its requests come and its responses go, the entry
+/// of its partition, its pool, how many buffers that has, and the device address at which the first
+/// of them begins.
+#[derive(Clone, Copy, Debug, PartialEq, Eq)]
+pub struct BlkEnds {
+    pub base: u64,
+    pub buffers: u32,
+    pub req: QueueId,
+    pub resp: QueueId,
+    pub pool: PoolId,
+    pub partition: u8,
+}
 
 /// The block virtualiser.
 #[derive(Drop)]
@@ -21,7 +36,103 @@ pub struct BlkVirt {
     pub work: Work,
 }
 
+// The queues on which requests come.
+fn reqs_of(alloc: Global, clients: &[BlkEnds]) -> Result<Vec<QueueId>, Memory>
+    ensures { IfOk result (λ v. v.items ≡ map (λ (c : BlkEnds). c.req) clients.now) }
+{
+    let mut queues = Vec::with_capacity(alloc, clients.len())?;
+    for client in clients {
+        queues.push(client.req)?;
+    }
+    Ok(queues)
+}
+
+// The queues to which responses go.
+fn resps_of(alloc: Global, clients: &[BlkEnds]) -> Result<Vec<QueueId>, Memory>
+    ensures { IfOk result (λ v. v.items ≡ map (λ (c : BlkEnds). c.resp) clients.now) }
+{
+    let mut queues = Vec::with_capacity(alloc, clients.len())?;
+    for client in clients {
+        queues.push(client.resp)?;
+    }
+    Ok(queues)
+}
+
+// What is kept of a client at the start.
+fn new_client(ends: &BlkEnds) -> Client
+    ensures { result ≡ new_client ends.now }
+{
+    let holder = Holder {
+        pool: ends.pool,
+        buffers: ends.buffers,
+        base: ends.base,
+        partition: ends.partition,
+    };
+    Client {
+        holder,
+        current: None,
+        leaving: None,
+        held: None,
+        bad: 0,
+    }
+}
+
+// What is kept of the clients at the start.
+fn clients_of(alloc: Global, clients: &[BlkEnds]) -> Result<Vec<Client>, Memory>
+    ensures { IfOk result (λ v. v.items ≡ map new_client clients.now) }
+{
+    let mut kept = Vec::with_capacity(alloc, clients.len())?;
+    for client in clients {
+        kept.push(new_client(client))?;
+    }
+    Ok(kept)
+}
+
 impl BlkVirt {
+    /// A virtualiser in its start state. Requests go to `req`, and responses come at `resp`; the
+    /// page is its own buffer, which begins at the device address `base`. It takes the memory for
+    /// one request of each client at the driver.
+    pub fn new(
+        alloc: Global,
+        req: QueueId,
+        resp: QueueId,
+        clients: Vec<BlkEnds>,
+        page: Page,
+        base: u64,
+        disk_sectors: u32,
+    ) -> Result<BlkVirt, Memory>
+        requires { AreClients clients.items }
+        ensures new { IfOk result (λ v. IsNewBlkVirt req resp clients.items page base
+            disk_sectors v) }
+        ensures work { IfOk result (λ v. IsWork v.work) }
+        ensures stands { IfOk result (λ v. BlkVirtStandsFor v nothing_passed) }
+    {
+        let from_clients = reqs_of(alloc, &clients)?;
+        let to_clients = resps_of(alloc, &clients)?;
+        let ends = VirtEnds::new(alloc, resp, req, &from_clients, &to_clients)?;
+        let line = Line::new(alloc, clients.len())?;
+        let clients = clients_of(alloc, &clients)?;
+        let work = Work {
+            opening: Opening::new(page, base, disk_sectors),
+            desk: Desk { clients, line },
+            number: 0,
+            stray: None,
+        };
+        Ok(BlkVirt { ends, work })
+    }
+
+    /// Discards the last look of each end, and nothing else.
+    pub fn forget(&mut self)
+        ensures after { BlkVirtForgot self.old self.new }
+        ensures same { SameBlkVirt self.old self.new }
+        ensures fits { (ends : Role → ℕ → End) → FitsBlkVirt ends self.old
+            → FitsBlkVirt ends self.new }
+        ensures lists { (passed : Passed) → BlkVirtStandsFor self.old passed
+            → BlkVirtStandsFor self.new passed }
+    {
+        self.ends.forget();
+    }
+
     /// How many requests had a buffer that wasn't the client's own. The count stands still at its
     /// type's end.
     pub fn bad(&self) -> u64
