@@ -1,7 +1,8 @@
-//! One byte is put or taken by hand: the other end of a queue, whose actor is missing. The hand
+//! An entry is put or taken by hand: the other end of a queue, whose actor is missing. The hand
 //! keeps the discipline of its end, but never asks for a notification.
 
 ghost use Rattle.std.specs.Prelude.{◌≡◌, ◌<◌, length};
+ghost use Rattle.cargo_core.specs.Items.{kind_of};
 ghost use Rattle.wire_core.specs.Ends.{Producer, Consumer, Allows, ringing_role};
 ghost use Rattle.wire_core.specs.Queues.{end_at};
 ghost use Rattle.actor_rows.specs.Hands.{OnlyAt};
@@ -21,11 +22,11 @@ fn notify(world: &mut World, q: QueueId, side: Side)
     }
 }
 
-/// Puts a byte into a queue of bytes, and notifies the consumer where it wants that; false where
-/// there is no room.
-pub fn give(world: &mut World, q: QueueId, byte: u8) -> bool
+/// Puts an entry into a queue of its kind, and notifies the consumer where it wants that; false
+/// where there is no room.
+pub fn put_in(world: &mut World, q: QueueId, item: Item, body: Body) -> bool
     requires there { q.0 < length world.old }
-    requires kind { (end_at world.old Producer q.0).kind ≡ QueueKind.Byte }
+    requires kind { kind_of item ≡ (end_at world.old Producer q.0).kind }
     ensures { OnlyAt Producer q.0 world.old world.new }
 {
     if world.bell(q, Side::Backward).waiter == Waiter::Clear {
@@ -37,9 +38,18 @@ pub fn give(world: &mut World, q: QueueId, byte: u8) -> bool
     if !world.room(q) {
         return false;
     }
-    world.put(q, Item::Byte(byte), Body::Empty);
+    world.put(q, item, body);
     notify(world, q, Side::Forward);
     true
+}
+
+/// Puts a byte into a queue of bytes; false where there is no room.
+pub fn give(world: &mut World, q: QueueId, byte: u8) -> bool
+    requires there { q.0 < length world.old }
+    requires kind { (end_at world.old Producer q.0).kind ≡ QueueKind.Byte }
+    ensures { OnlyAt Producer q.0 world.old world.new }
+{
+    put_in(world, q, Item::Byte(byte), Body::Empty)
 }
 
 /// Takes an entry, and notifies the producer where it wants that; None where none stands there.

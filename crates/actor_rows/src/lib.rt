@@ -6,5 +6,5 @@ mod rows;
 #[cfg(test)]
 mod tests;
 
-pub use hand::{get, give};
-pub use rows::{one_or_two, queues};
+pub use hand::{get, give, put_in};
+pub use rows::{one_or_two, queues, queues_of};

@@ -1,21 +1,21 @@
-//! Rows of queues of bytes for one actor, as a layout would give them.
+//! Rows of queues for one actor, as a layout would give them.
 
 ghost use Rattle.std.specs.Prelude.{◌≡◌, IfOk};
 ghost use Rattle.cargo_core.specs.Capacities.{IsCapacity};
-ghost use Rattle.actor_rows.specs.Hands.{AreByteQueues};
+ghost use Rattle.actor_rows.specs.Hands.{AreByteQueues, AreQueues};
 
 use cargo_core::{Memory, QueueKind, Text};
 use plain_wires::World;
 use std::alloc::Global;
 use wire_core::{ActorId, QueueRow};
 
-fn row(alloc: Global, capacity: u32) -> Result<QueueRow, Memory>
-    ensures kind { IfOk result (λ r. r.kind ≡ QueueKind.Byte) }
+fn row(alloc: Global, kind: QueueKind, capacity: u32) -> Result<QueueRow, Memory>
+    ensures kind { IfOk result (λ r. r.kind ≡ kind) }
     ensures capacity { IfOk result (λ r. r.capacity ≡ capacity) }
 {
     Ok(QueueRow {
         name: Text::new(alloc, "queue")?,
-        kind: QueueKind::Byte,
+        kind,
         capacity,
         producer: ActorId(0),
         consumer: ActorId(1),
@@ -31,15 +31,22 @@ pub fn one_or_two(two: bool) -> u32
     if two { 2 } else { 1 }
 }
 
+/// So many queues of a kind in their start state, each of which holds up to `capacity` entries.
+pub fn queues_of(alloc: Global, kind: QueueKind, count: u16, capacity: u32) -> Result<World, Memory>
+    requires { IsCapacity capacity }
+    ensures { IfOk result (λ w. AreQueues kind count w) }
+{
+    let mut rows = Vec::new(alloc);
+    for _place in 0..count {
+        rows.push(row(alloc, kind, capacity)?)?;
+    }
+    World::new(alloc, &rows)
+}
+
 /// So many queues of bytes in their start state, each of which holds up to `capacity` of them.
-#[tactic(auto, using(crate::proofs::Started::byte_queues))]
 pub fn queues(alloc: Global, count: u16, capacity: u32) -> Result<World, Memory>
     requires { IsCapacity capacity }
     ensures { IfOk result (λ w. AreByteQueues count w) }
 {
-    let mut rows = Vec::new(alloc);
-    for _place in 0..count {
-        rows.push(row(alloc, capacity)?)?;
-    }
-    World::new(alloc, &rows)
+    queues_of(alloc, QueueKind::Byte, count, capacity)
 }

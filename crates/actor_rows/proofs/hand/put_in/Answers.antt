@@ -3,7 +3,7 @@ use Rattle.wire_core.specs.declared.names.Op.TheVariants as Do
 use Rattle.wire_core.specs.Ends.{Producer}
 use Rattle.wire_core.specs.Deeds.{look_deed, move_deed}
 use Rattle.actor_rows.proofs.Moved.{one, then}
-use Rattle.actor_rows.proofs.hand.give.Goals as goal
+use Rattle.actor_rows.proofs.hand.put_in.Goals as goal
 
 pub returns : goal.returns
 returns c = then Producer c.args.q.0 _ c.put.new.self _

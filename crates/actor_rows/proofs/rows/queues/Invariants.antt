@@ -1,7 +1,0 @@
-use Rattle.std.proofs.Common.{◌≡◌, length, All}
-use Rattle.cargo_core.specs.declared.item.QueueKind.TheVariants as Kind
-use Rattle.cargo_core.specs.Capacities.{IsCapacity}
-use Rattle.actor_rows.proofs.rows.queues.Given as goal
-
-abbrev pub invariant-loop-place : goal.invariant-loop-place
-invariant-loop-place l = (length l.rows.items ≡ l._place) × All (λ r. r.kind ≡ Kind.Byte) l.rows.items × All (λ r. IsCapacity r.capacity) l.rows.items

@@ -1,0 +1,2 @@
+-- What the helpers of these tests say.
+pub mod Standings
