@@ -1,9 +1,9 @@
-use Rattle.std.proofs.Common.{◌≡◌, ℕ, refl, sym, ◌∙◌, subst, inl, inr}
+use Rattle.std.proofs.Common.{◌≡◌, ℕ, refl, sym, ◌∙◌, subst}
 use Rattle.wire_core.specs.Ends.{Role, Consumer, Producer, End}
 use Rattle.wire_core.specs.Lists.{Passed}
 use Rattle.turn_kit.specs.Table.{Agrees}
-use Rattle.turn_kit.specs.Pipes.{FitsPipe, PipeStandsFor}
-use Rattle.turn_kit.specs.declared.pipe.Pipe.{Pipe}
+use Rattle.pipe_driver.specs.Lengths.{two_pipes}
+use Rattle.eth_driver.specs.Four.{four_pipes}
 use Rattle.serial_terminal.specs.Terminals.{FitsTerminal, TerminalStandsFor}
 use Rattle.serial_terminal.specs.declared.Terminal.{Terminal}
 use Rattle.wire_core.specs.declared.names.QueueId.{QueueId}
@@ -15,9 +15,10 @@ use Rattle.serial_virt.specs.declared.rx.SerialVirtRx.{SerialVirtRx}
 use Rattle.serial_virt.specs.Sending.{FitsTx, TxStandsFor, TxEnd}
 use Rattle.serial_virt.specs.declared.tx.SerialVirtTx.{SerialVirtTx}
 use Rattle.play_core.proofs.Lists.{map_get, map_alike}
-use Rattle.actor_set.specs.Actors.{FitsActor, ActorStandsFor, ActorEnd}
+use Rattle.actor_set.specs.Actors.{FitsActor, ActorStandsFor, ActorEnd, IsWhole}
 use Rattle.actor_set.specs.declared.actor.Actor.{Actor}
 use Rattle.actor_set.specs.declared.actor.Actor.TheVariants as Kinds
+use Rattle.actor_law.proofs.NetBeside.{fits_pipes, fits_device, fits_receiver, fits_copier, fits_client, stands_pipes, stands_device, stands_receiver, stands_copier, stands_client}
 
 -- where an actor's ends stay, it fits as before
 module _ (ends ends' : Role → ℕ → End) (kinds : (r : Role) (n : ℕ) → (ends' r n).kind ≡ (ends r n).kind) where
@@ -28,14 +29,6 @@ module _ (ends ends' : Role → ℕ → End) (kinds : (r : Role) (n : ℕ) → (
     hears = kinds Consumer t.input.queue.0 ∙ f.hears;
     says = kinds Producer t.output.queue.0 ∙ f.says;
     next = f.next;
-  }
-
-  fits_pipe : (p : Pipe) → ends' Consumer p.input.queue.0 ≡ ends Consumer p.input.queue.0 → ends' Producer p.output.queue.0 ≡ ends Producer p.output.queue.0 → FitsPipe ends p → FitsPipe ends' p
-  fits_pipe p i o f = record {
-    input = subst (λ e. Agrees e p.input.state) (sym i) f.input;
-    output = subst (λ e. Agrees e p.output.state) (sym o) f.output;
-    kinds = kinds Consumer p.input.queue.0 ∙ (f.kinds ∙ sym (kinds Producer p.output.queue.0));
-    load = rw o f.load;
   }
 
   fits_rx : (v : SerialVirtRx) → ((r : Role) (n : ℕ) → RxEnd v r n → ends' r n ≡ ends r n) → FitsRx ends v → FitsRx ends' v
@@ -67,22 +60,17 @@ module _ (ends ends' : Role → ℕ → End) (kinds : (r : Role) (n : ℕ) → (
   fits_beside (Kinds.SerialClient x) same f = fits_terminal x.terminal (same Consumer x.terminal.input.queue.0 refl) (same Producer x.terminal.output.queue.0 refl) f
   fits_beside (Kinds.SerialVirtRx x) same f = fits_rx x same f
   fits_beside (Kinds.SerialVirtTx x) same f = fits_tx x same f
-  fits_beside (Kinds.UartDriver x) same f = record {
-    each = (
-      fits_pipe x.driver.pipes.first (same Consumer x.driver.pipes.first.input.queue.0 (inl refl)) (same Producer x.driver.pipes.first.output.queue.0 (inl refl)) f.each.0,
-      (fits_pipe x.driver.pipes.rest (same Consumer x.driver.pipes.rest.input.queue.0 (inr (inl refl))) (same Producer x.driver.pipes.rest.output.queue.0 (inr (inl refl))) f.each.1.0, tt),
-    );
-    inputs = f.inputs;
-    outputs = f.outputs;
-  }
+  fits_beside (Kinds.UartDriver x) same f = fits_pipes ends ends' kinds (two_pipes x.driver.pipes) same f
+  fits_beside (Kinds.EthDevice x) same f = fits_device ends ends' kinds x same f
+  fits_beside (Kinds.EthDriver x) same f = fits_pipes ends ends' kinds (four_pipes x.driver.pipes) same f
+  fits_beside (Kinds.NetVirtRx x) same f = (fits_receiver ends ends' kinds x same f.0, f.1)
+  fits_beside (Kinds.NetCopier x) same f = fits_copier ends ends' kinds x same f
+  fits_beside (Kinds.NetClient x) same f = (fits_client ends ends' kinds x same f.0, f.1)
 
 -- where nothing moved at an actor's ends, it stands for the same lists
 module _ (passed passed' : Passed) where
   stands_terminal : (t : Terminal) → passed'.taken t.input.queue.0 ≡ passed.taken t.input.queue.0 → passed'.sent t.output.queue.0 ≡ passed.sent t.output.queue.0 → TerminalStandsFor t passed → TerminalStandsFor t passed'
   stands_terminal t i o f = record { sent_is = o ∙ f.sent_is; record_is = rw i f.record_is }
-
-  stands_pipe : (p : Pipe) → passed'.taken p.input.queue.0 ≡ passed.taken p.input.queue.0 → passed'.sent p.output.queue.0 ≡ passed.sent p.output.queue.0 → PipeStandsFor p passed → PipeStandsFor p passed'
-  stands_pipe p i o f = rw (i, o) f
 
   stands_rx : (v : SerialVirtRx) → ((n : ℕ) → RxEnd v Consumer n → passed'.taken n ≡ passed.taken n) → ((n : ℕ) → RxEnd v Producer n → passed'.sent n ≡ passed.sent n) → RxStandsFor v passed → RxStandsFor v passed'
   stands_rx v ins outs f = record {
@@ -94,12 +82,14 @@ module _ (passed passed' : Passed) where
   stands_tx : (v : SerialVirtTx) → ((n : ℕ) → TxEnd v Consumer n → passed'.taken n ≡ passed.taken n) → ((n : ℕ) → TxEnd v Producer n → passed'.sent n ≡ passed.sent n) → TxStandsFor v passed → TxStandsFor v passed'
   stands_tx v ins outs f = rw (outs v.output.queue.0 refl, map_alike (λ (q : QueueId). passed'.taken q.0) (λ (q : QueueId). passed.taken q.0) (intake_queues v.inputs) (λ k q at. ins q.0 (k, q, at, refl))) f
 
-  pub stands_beside : (x : Actor) → ((n : ℕ) → ActorEnd x Consumer n → passed'.taken n ≡ passed.taken n) → ((n : ℕ) → ActorEnd x Producer n → passed'.sent n ≡ passed.sent n) → ActorStandsFor x passed → ActorStandsFor x passed'
-  stands_beside (Kinds.UartDevice x) ins outs f = stands_terminal x.terminal (ins x.terminal.input.queue.0 refl) (outs x.terminal.output.queue.0 refl) f
-  stands_beside (Kinds.SerialClient x) ins outs f = stands_terminal x.terminal (ins x.terminal.input.queue.0 refl) (outs x.terminal.output.queue.0 refl) f
-  stands_beside (Kinds.SerialVirtRx x) ins outs f = stands_rx x ins outs f
-  stands_beside (Kinds.SerialVirtTx x) ins outs f = stands_tx x ins outs f
-  stands_beside (Kinds.UartDriver x) ins outs f = (
-    stands_pipe x.driver.pipes.first (ins x.driver.pipes.first.input.queue.0 (inl refl)) (outs x.driver.pipes.first.output.queue.0 (inl refl)) f.0,
-    (stands_pipe x.driver.pipes.rest (ins x.driver.pipes.rest.input.queue.0 (inr (inl refl))) (outs x.driver.pipes.rest.output.queue.0 (inr (inl refl))) f.1.0, tt),
-  )
+  pub stands_beside : (x : Actor) → IsWhole x → ((n : ℕ) → ActorEnd x Consumer n → passed'.taken n ≡ passed.taken n) → ((n : ℕ) → ActorEnd x Producer n → passed'.sent n ≡ passed.sent n) → ActorStandsFor x passed → ActorStandsFor x passed'
+  stands_beside (Kinds.UartDevice x) whole ins outs f = stands_terminal x.terminal (ins x.terminal.input.queue.0 refl) (outs x.terminal.output.queue.0 refl) f
+  stands_beside (Kinds.SerialClient x) whole ins outs f = stands_terminal x.terminal (ins x.terminal.input.queue.0 refl) (outs x.terminal.output.queue.0 refl) f
+  stands_beside (Kinds.SerialVirtRx x) whole ins outs f = stands_rx x ins outs f
+  stands_beside (Kinds.SerialVirtTx x) whole ins outs f = stands_tx x ins outs f
+  stands_beside (Kinds.UartDriver x) whole ins outs f = stands_pipes passed passed' (two_pipes x.driver.pipes) ins outs f
+  stands_beside (Kinds.EthDevice x) whole ins outs f = stands_device passed passed' x ins outs f
+  stands_beside (Kinds.EthDriver x) whole ins outs f = stands_pipes passed passed' (four_pipes x.driver.pipes) ins outs f
+  stands_beside (Kinds.NetVirtRx x) whole ins outs f = stands_receiver passed passed' x whole.from_each whole.to_each ins outs f
+  stands_beside (Kinds.NetCopier x) whole ins outs f = stands_copier passed passed' x ins outs f
+  stands_beside (Kinds.NetClient x) whole ins outs f = stands_client passed passed' x ins outs f

@@ -1,3 +1,8 @@
+pub mod NetEnds
+pub mod NetRows
+pub mod NetBeside
+pub mod NetPaces
+pub mod NetStarts
 pub mod Calm
 pub mod PartEnds
 pub mod Rounds

@@ -1,4 +1,4 @@
-use Rattle.std.proofs.Common.{◌≡◌, ◌⊎◌, ◌==◌, ◌<◌, ◌+◌, ◌&&◌, ◌||◌, ℕ, zero, suc, Bool, true, false, Some, List, [], ◌∷◌, length, slice_get, refl, sym, ap, ◌∙◌, subst, arith, inl, inr}
+use Rattle.std.proofs.Common.{◌≡◌, ◌⊎◌, ◌==◌, ◌<◌, ◌+◌, ◌&&◌, ◌||◌, ℕ, zero, suc, Bool, true, false, Some, is_some, List, [], ◌∷◌, length, slice_get, slice_index_or, refl, sym, ap, ◌∙◌, subst, arith, inl, inr}
 use Rattle.std.proofs.lemmas.Bool.{eqb-true}
 use Rattle.wire_core.specs.declared.names.QueueRow.{QueueRow}
 use Rattle.wire_core.specs.declared.names.Entry.{Entry}
@@ -20,7 +20,12 @@ use Rattle.actor_set.specs.declared.actor.Actor.TheVariants as Kinds
 use Rattle.serial_terminal.specs.declared.Terminal.{Terminal}
 use Rattle.serial_terminal.specs.Terminals.{terminal_round}
 use Rattle.serial_virt.proofs.Sizes.{rx_size, tx_size}
+use Rattle.eth_driver.specs.Four.{four_pipes}
+use Rattle.eth_device.specs.Devices as device
+use Rattle.net_client.specs.Clients as client
+use Rattle.net_virt_rx.specs.Sharing.{is_idle}
 use Rattle.actor_law.specs.StartStates.{HasApartEnds, HasNoLoop}
+use Rattle.actor_law.proofs.NetPaces.{IsPostAt, four_posts, pipes_post, pipes_has, pipes_size, pipes_apart, virt_post, virt_has, virt_size, virt_apart}
 use Rattle.play_core.specs.Runs.{called_from}
 use Rattle.turn_kit.specs.Pace.{pendings, IsCalled}
 use Rattle.play_core.proofs.Lists.{some_is, map_get, map_from}
@@ -29,7 +34,7 @@ use Rattle.play_core.proofs.Lists.{some_is, map_get, map_from}
 
 -- an end of the actor, at which it doesn't drop
 abbrev pub IsPostOf : Actor → Post → Type 0
-IsPostOf x p = ActorEnd x (waiting_role p.side) p.queue × (p.drops ≡ false)
+IsPostOf x p = IsPostAt (ActorEnd x) p
 
 pub post_stands : (x : Actor) (k : ℕ) (p : Post) → slice_get (actor_round x).posts k ≡ Some p → IsPostOf x p
 post_stands (Kinds.UartDevice x) zero p at = subst (IsPostOf (Kinds.UartDevice x)) (some_is at) (refl, refl)
@@ -47,6 +52,11 @@ post_stands (Kinds.SerialVirtRx x) zero p at = subst (IsPostOf (Kinds.SerialVirt
 post_stands (Kinds.SerialVirtRx x) (suc k) p at = let m = map_from outlet_post x.outputs.ends.items k p at in subst (IsPostOf (Kinds.SerialVirtRx x)) m.2 ((k, m.0.queue, map_get (λ (o : Outlet). o.queue) x.outputs.ends.items k m.0 m.1, refl), refl)
 post_stands (Kinds.SerialVirtTx x) zero p at = subst (IsPostOf (Kinds.SerialVirtTx x)) (some_is at) (refl, refl)
 post_stands (Kinds.SerialVirtTx x) (suc k) p at = let m = map_from intake_post x.inputs.ends.items k p at in subst (IsPostOf (Kinds.SerialVirtTx x)) m.2 ((k, m.0.queue, map_get (λ (i : Intake). i.queue) x.inputs.ends.items k m.0 m.1, refl), refl)
+post_stands (Kinds.EthDevice x) k p at = four_posts (ActorEnd (Kinds.EthDevice x)) (intake_post x.free) (outlet_post x.active) (intake_post x.wire.pipe.input) (outlet_post x.wire.pipe.output) (inl refl, refl) (inl refl, refl) (inr refl, refl) (inr refl, refl) k p at
+post_stands (Kinds.EthDriver x) k p at = pipes_post (four_pipes x.driver.pipes) k p at
+post_stands (Kinds.NetVirtRx x) k p at = virt_post x.ends k p at
+post_stands (Kinds.NetCopier x) k p at = four_posts (ActorEnd (Kinds.NetCopier x)) (intake_post x.lease_input) (intake_post x.buffer_input) (outlet_post x.buffer_output) (outlet_post x.lease_output) (inl refl, refl) (inr refl, refl) (inl refl, refl) (inr refl, refl) k p at
+post_stands (Kinds.NetClient x) k p at = four_posts (ActorEnd (Kinds.NetClient x)) (intake_post x.frames.pipe.input) (outlet_post x.frames.pipe.output) (intake_post x.sent) (outlet_post x.send) (inl refl, refl) (inl refl, refl) (inr refl, refl) (inr refl, refl) k p at
 
 pub post_end : (x : Actor) (k : ℕ) (p : Post) → slice_get (actor_round x).posts k ≡ Some p → ActorEnd x (waiting_role p.side) p.queue
 post_end x k p at = (post_stands x k p at).0
@@ -73,6 +83,20 @@ end_post (Kinds.SerialVirtRx x) Forward n h = (0, intake_post x.input, refl, sym
 end_post (Kinds.SerialVirtRx x) Backward n h = let m = map_from (λ (o : Outlet). o.queue) x.outputs.ends.items h.0 h.1 h.2 in (suc h.0, outlet_post m.0, map_get outlet_post x.outputs.ends.items h.0 m.0 m.1, ap (λ (q : QueueId). q.0) m.2 ∙ sym h.3, refl)
 end_post (Kinds.SerialVirtTx x) Forward n h = let m = map_from (λ (i : Intake). i.queue) x.inputs.ends.items h.0 h.1 h.2 in (suc h.0, intake_post m.0, map_get intake_post x.inputs.ends.items h.0 m.0 m.1, ap (λ (q : QueueId). q.0) m.2 ∙ sym h.3, refl)
 end_post (Kinds.SerialVirtTx x) Backward n h = (0, outlet_post x.output, refl, sym h, refl)
+end_post (Kinds.EthDevice x) Forward n (inl h) = (0, intake_post x.free, refl, sym h, refl)
+end_post (Kinds.EthDevice x) Forward n (inr h) = (2, intake_post x.wire.pipe.input, refl, sym h, refl)
+end_post (Kinds.EthDevice x) Backward n (inl h) = (1, outlet_post x.active, refl, sym h, refl)
+end_post (Kinds.EthDevice x) Backward n (inr h) = (3, outlet_post x.wire.pipe.output, refl, sym h, refl)
+end_post (Kinds.EthDriver x) s n h = pipes_has (four_pipes x.driver.pipes) s n h
+end_post (Kinds.NetVirtRx x) s n h = virt_has x.ends s n h
+end_post (Kinds.NetCopier x) Forward n (inl h) = (0, intake_post x.lease_input, refl, sym h, refl)
+end_post (Kinds.NetCopier x) Forward n (inr h) = (1, intake_post x.buffer_input, refl, sym h, refl)
+end_post (Kinds.NetCopier x) Backward n (inl h) = (2, outlet_post x.buffer_output, refl, sym h, refl)
+end_post (Kinds.NetCopier x) Backward n (inr h) = (3, outlet_post x.lease_output, refl, sym h, refl)
+end_post (Kinds.NetClient x) Forward n (inl h) = (0, intake_post x.frames.pipe.input, refl, sym h, refl)
+end_post (Kinds.NetClient x) Forward n (inr h) = (2, intake_post x.sent, refl, sym h, refl)
+end_post (Kinds.NetClient x) Backward n (inl h) = (1, outlet_post x.frames.pipe.output, refl, sym h, refl)
+end_post (Kinds.NetClient x) Backward n (inr h) = (3, outlet_post x.send, refl, sym h, refl)
 
 -- each end has its need
 sizes : (x : Actor) → length (actor_round x).needs ≡ length (actor_round x).posts
@@ -81,6 +105,11 @@ sizes (Kinds.SerialClient x) = refl
 sizes (Kinds.UartDriver x) = refl
 sizes (Kinds.SerialVirtRx x) = rx_size x
 sizes (Kinds.SerialVirtTx x) = tx_size x
+sizes (Kinds.EthDevice x) = refl
+sizes (Kinds.EthDriver x) = pipes_size (four_pipes x.driver.pipes)
+sizes (Kinds.NetVirtRx x) = virt_size x.ends (is_idle x.work) (is_some x.work.stock.next) (λ k. is_idle x.work) (λ k. slice_index_or x.work.owed k false)
+sizes (Kinds.NetCopier x) = refl
+sizes (Kinds.NetClient x) = refl
 
 some_ends : (x : Actor) → 0 < length (actor_round x).posts
 some_ends (Kinds.UartDevice x) = omega arith
@@ -88,6 +117,11 @@ some_ends (Kinds.SerialClient x) = omega arith
 some_ends (Kinds.UartDriver x) = omega arith
 some_ends (Kinds.SerialVirtRx x) = omega arith
 some_ends (Kinds.SerialVirtTx x) = omega arith
+some_ends (Kinds.EthDevice x) = omega arith
+some_ends (Kinds.EthDriver x) = omega arith
+some_ends (Kinds.NetVirtRx x) = omega arith
+some_ends (Kinds.NetCopier x) = omega arith
+some_ends (Kinds.NetClient x) = omega arith
 
 abbrev Apart : Actor → Type 0
 Apart x = (k j : ℕ) (p q : Post) → slice_get (actor_round x).posts k ≡ Some p → slice_get (actor_round x).posts j ≡ Some q → p.queue ≡ q.queue → k ≡ j
@@ -161,6 +195,11 @@ apart_posts (Kinds.SerialVirtTx x) h d (suc k) (suc j) p q a b e =
     let o = map_from intake_post x.inputs.ends.items k p a in
     let r = map_from intake_post x.inputs.ends.items j q b in
     ap suc (h k j o.0.queue r.0.queue (map_get (λ (y : Intake). y.queue) x.inputs.ends.items k o.0 o.1) (map_get (λ (y : Intake). y.queue) x.inputs.ends.items j r.0 r.1) (ap (λ (z : Post). z.queue) o.2 ∙ (e ∙ sym (ap (λ (z : Post). z.queue) r.2))))
+apart_posts (Kinds.EthDevice x) h d k j p q a b e = four_apart (intake_post x.free) (outlet_post x.active) (intake_post x.wire.pipe.input) (outlet_post x.wire.pipe.output) (λ e. d (device.rx_free x) (inl refl) (inl e)) h.0 (λ e. d (device.rx_free x) (inl refl) (inr e)) (λ e. d (device.tx_active x) (inr refl) (inl (sym e))) h.1 (λ e. d (device.tx_active x) (inr refl) (inr e)) k j p q a b e
+apart_posts (Kinds.EthDriver x) h d k j p q a b e = pipes_apart (four_pipes x.driver.pipes) h.0 h.1 d k j p q a b e
+apart_posts (Kinds.NetVirtRx x) h d k j p q a b e = virt_apart x.ends h d k j p q a b e
+apart_posts (Kinds.NetCopier x) h d k j p q a b e = four_apart (intake_post x.lease_input) (intake_post x.buffer_input) (outlet_post x.buffer_output) (outlet_post x.lease_output) h.0 (λ e. d x.lease_input.queue.0 (inl refl) (inl e)) (λ e. d x.lease_input.queue.0 (inl refl) (inr e)) (λ e. d x.buffer_input.queue.0 (inr refl) (inl e)) (λ e. d x.buffer_input.queue.0 (inr refl) (inr e)) h.1 k j p q a b e
+apart_posts (Kinds.NetClient x) h d k j p q a b e = four_apart (intake_post x.frames.pipe.input) (outlet_post x.frames.pipe.output) (intake_post x.sent) (outlet_post x.send) (λ e. d (client.rx_active x) (inl refl) (inl e)) h.0 (λ e. d (client.rx_active x) (inl refl) (inr e)) (λ e. d (client.tx_free x) (inr refl) (inl (sym e))) h.1 (λ e. d (client.tx_free x) (inr refl) (inr e)) k j p q a b e
 
 pub start_round : (x : Actor) → HasApartEnds x → HasNoLoop x → IsRound (actor_round x)
 start_round x h d = record { some = some_ends x; needs = sizes x; apart = apart_posts x h d }

@@ -2,8 +2,11 @@ use Rattle.std.proofs.Common.{◌≡◌, ◌⊎◌, ℕ, Some, List, [], ◌∷�
 use Rattle.wire_core.specs.declared.names.QueueId.{QueueId}
 use Rattle.turn_kit.specs.ManyEnds.{intake_queues, outlet_queues}
 use Rattle.wire_core.specs.Ends.{Role, Consumer, Producer}
-use Rattle.actor_set.specs.Parts.{Part, UartPart, DriverPart, RxPart, TxPart, ClientPart}
-use Rattle.actor_set.specs.Actors.{ActorEnd, part_of, numbers}
+use Rattle.actor_set.specs.Parts.{Part, UartPart, DriverPart, RxPart, TxPart, ClientPart, NetworkPart}
+use Rattle.eth_driver.specs.Four.{four_pipes}
+use Rattle.eth_device.specs.Devices as device
+use Rattle.net_client.specs.Clients as client
+use Rattle.actor_set.specs.Actors.{ActorEnd, IsWhole, part_of, numbers}
 use Rattle.actor_set.specs.declared.actor.Actor.{Actor}
 use Rattle.actor_set.specs.declared.actor.Actor.TheVariants as Kinds
 use Rattle.play_core.specs.Moved.{Seat}
@@ -11,6 +14,7 @@ use Rattle.play_core.specs.Wants.{intake, outlet}
 use Rattle.play_core.specs.Sheets.{Scene}
 use Rattle.play_core.proofs.Lists.{some_is, map_get, map_from}
 use Rattle.actor_law.specs.Kinds.{sheet}
+use Rattle.actor_law.proofs.NetEnds.{IsThere, ends_of, ends_same, turns_to, turns_from, twos_to, twos_from, pipes_to, pipes_from, receiver_to, receiver_from}
 
 -- one of a part's ends
 abbrev pub PartEnd : Part → Role → ℕ → Type 0
@@ -24,6 +28,7 @@ PartEnd (TxPart tx clients) Consumer n = (k : ℕ) × (slice_get clients k ≡ S
 PartEnd (TxPart tx clients) Producer n = n ≡ tx
 PartEnd (ClientPart rx tx script) Consumer n = n ≡ rx
 PartEnd (ClientPart rx tx script) Producer n = n ≡ tx
+PartEnd (NetworkPart p) r n = IsThere (ends_of p) r n
 
 pub number_there : (qs : List QueueId) (k : ℕ) (q : QueueId) (n : ℕ) → slice_get qs k ≡ Some q → n ≡ q.0 → slice_get (numbers qs) k ≡ Some n
 number_there [] k q n h e = cc
@@ -36,21 +41,29 @@ queue_there (a ∷ qs) zero n h = (a, refl, sym (some_is h))
 queue_there (a ∷ qs) (suc k) n h = queue_there qs k n h
 
 -- an actor's ends are those of its part
-pub to_part : (x : Actor) (r : Role) (n : ℕ) → ActorEnd x r n → PartEnd (part_of x) r n
-to_part (Kinds.UartDevice x) Consumer n h = h
-to_part (Kinds.UartDevice x) Producer n h = h
-to_part (Kinds.SerialVirtRx x) Consumer n h = h
-to_part (Kinds.SerialVirtRx x) Producer n h = (h.0, number_there (outlet_queues x.outputs) h.0 h.1 n h.2 h.3)
-to_part (Kinds.SerialVirtTx x) Consumer n h = (h.0, number_there (intake_queues x.inputs) h.0 h.1 n h.2 h.3)
-to_part (Kinds.SerialVirtTx x) Producer n h = h
-to_part (Kinds.SerialClient x) Consumer n h = h
-to_part (Kinds.SerialClient x) Producer n h = h
-to_part (Kinds.UartDriver x) Consumer n (inl h) = inl h
-to_part (Kinds.UartDriver x) Consumer n (inr (inl h)) = inr h
-to_part (Kinds.UartDriver x) Consumer n (inr (inr h)) = absurd h
-to_part (Kinds.UartDriver x) Producer n (inl h) = inl h
-to_part (Kinds.UartDriver x) Producer n (inr (inl h)) = inr h
-to_part (Kinds.UartDriver x) Producer n (inr (inr h)) = absurd h
+pub to_part : (x : Actor) (r : Role) (n : ℕ) → IsWhole x → ActorEnd x r n → PartEnd (part_of x) r n
+to_part (Kinds.UartDevice x) Consumer n whole h = h
+to_part (Kinds.UartDevice x) Producer n whole h = h
+to_part (Kinds.SerialVirtRx x) Consumer n whole h = h
+to_part (Kinds.SerialVirtRx x) Producer n whole h = (h.0, number_there (outlet_queues x.outputs) h.0 h.1 n h.2 h.3)
+to_part (Kinds.SerialVirtTx x) Consumer n whole h = (h.0, number_there (intake_queues x.inputs) h.0 h.1 n h.2 h.3)
+to_part (Kinds.SerialVirtTx x) Producer n whole h = h
+to_part (Kinds.SerialClient x) Consumer n whole h = h
+to_part (Kinds.SerialClient x) Producer n whole h = h
+to_part (Kinds.UartDriver x) Consumer n whole (inl h) = inl h
+to_part (Kinds.UartDriver x) Consumer n whole (inr (inl h)) = inr h
+to_part (Kinds.UartDriver x) Consumer n whole (inr (inr h)) = absurd h
+to_part (Kinds.UartDriver x) Producer n whole (inl h) = inl h
+to_part (Kinds.UartDriver x) Producer n whole (inr (inl h)) = inr h
+to_part (Kinds.UartDriver x) Producer n whole (inr (inr h)) = absurd h
+to_part (Kinds.EthDevice x) Consumer n whole h = turns_to (device.rx_free x) (device.rx_active x) (device.tx_active x) (device.tx_free x) Consumer n h
+to_part (Kinds.EthDevice x) Producer n whole h = turns_to (device.rx_free x) (device.rx_active x) (device.tx_active x) (device.tx_free x) Producer n h
+to_part (Kinds.EthDriver x) r n whole h = pipes_to (four_pipes x.driver.pipes) r n h
+to_part (Kinds.NetVirtRx x) r n whole h = receiver_to x whole.from_each whole.to_each r n h
+to_part (Kinds.NetCopier x) Consumer n whole h = twos_to x.lease_input.queue.0 x.buffer_input.queue.0 x.buffer_output.queue.0 x.lease_output.queue.0 Consumer n h
+to_part (Kinds.NetCopier x) Producer n whole h = twos_to x.lease_input.queue.0 x.buffer_input.queue.0 x.buffer_output.queue.0 x.lease_output.queue.0 Producer n h
+to_part (Kinds.NetClient x) Consumer n whole h = turns_to (client.rx_active x) (client.rx_free x) (client.tx_free x) (client.tx_active x) Consumer n h
+to_part (Kinds.NetClient x) Producer n whole h = turns_to (client.rx_active x) (client.rx_free x) (client.tx_free x) (client.tx_active x) Producer n h
 
 pub from_part : (x : Actor) (r : Role) (n : ℕ) → PartEnd (part_of x) r n → ActorEnd x r n
 from_part (Kinds.UartDevice x) Consumer n h = h
@@ -65,9 +78,17 @@ from_part (Kinds.UartDriver x) Consumer n (inl h) = inl h
 from_part (Kinds.UartDriver x) Consumer n (inr h) = inr (inl h)
 from_part (Kinds.UartDriver x) Producer n (inl h) = inl h
 from_part (Kinds.UartDriver x) Producer n (inr h) = inr (inl h)
+from_part (Kinds.EthDevice x) Consumer n h = turns_from (device.rx_free x) (device.rx_active x) (device.tx_active x) (device.tx_free x) Consumer n h.0 h.1
+from_part (Kinds.EthDevice x) Producer n h = turns_from (device.rx_free x) (device.rx_active x) (device.tx_active x) (device.tx_free x) Producer n h.0 h.1
+from_part (Kinds.EthDriver x) r n h = pipes_from (four_pipes x.driver.pipes) r n h.0 h.1
+from_part (Kinds.NetVirtRx x) r n h = receiver_from x r n h.0 h.1
+from_part (Kinds.NetCopier x) Consumer n h = twos_from x.lease_input.queue.0 x.buffer_input.queue.0 x.buffer_output.queue.0 x.lease_output.queue.0 Consumer n h.0 h.1
+from_part (Kinds.NetCopier x) Producer n h = twos_from x.lease_input.queue.0 x.buffer_input.queue.0 x.buffer_output.queue.0 x.lease_output.queue.0 Producer n h.0 h.1
+from_part (Kinds.NetClient x) Consumer n h = turns_from (client.rx_active x) (client.rx_free x) (client.tx_free x) (client.tx_active x) Consumer n h.0 h.1
+from_part (Kinds.NetClient x) Producer n h = turns_from (client.rx_active x) (client.rx_free x) (client.tx_free x) (client.tx_active x) Producer n h.0 h.1
 
-pub same_part : (x y : Actor) (r : Role) (n : ℕ) → part_of y ≡ part_of x → ActorEnd y r n → ActorEnd x r n
-same_part x y r n e h = from_part x r n (subst (λ p. PartEnd p r n) e (to_part y r n h))
+pub same_part : (x y : Actor) (r : Role) (n : ℕ) → part_of y ≡ part_of x → IsWhole y → ActorEnd y r n → ActorEnd x r n
+same_part x y r n e whole h = from_part x r n (subst (λ p. PartEnd p r n) e (to_part y r n whole h))
 
 -- a part's ends as its sheet has them
 pub end_seat : (scene : Scene) (p : Part) (r : Role) (n : ℕ) → PartEnd p r n → (i : ℕ) × (slice_get (sheet scene p).ends i ≡ Some (record { queue = n; role = r }))
@@ -83,6 +104,7 @@ end_seat scene (TxPart tx clients) Consumer n e = (suc e.0, map_get intake clien
 end_seat scene (TxPart tx clients) Producer n e = (0, ap (λ m. Some (outlet m)) (sym e))
 end_seat scene (ClientPart rx tx script) Consumer n e = (0, ap (λ m. Some (intake m)) (sym e))
 end_seat scene (ClientPart rx tx script) Producer n e = (1, ap (λ m. Some (outlet m)) (sym e))
+end_seat scene (NetworkPart p) r n e = (e.0, ap (λ l. slice_get l e.0) (ends_same scene p) ∙ e.1)
 
 as_end : (p : Part) (a b : Seat) → a ≡ b → PartEnd p a.role a.queue → PartEnd p b.role b.queue
 as_end p a b e h = subst (λ (x : Seat). PartEnd p x.role x.queue) e h
@@ -103,3 +125,4 @@ seat_end scene (TxPart tx clients) (suc i) x at = let m = map_from intake client
 seat_end scene (ClientPart rx tx script) zero x at = as_end (ClientPart rx tx script) (intake rx) x (some_is at) refl
 seat_end scene (ClientPart rx tx script) (suc zero) x at = as_end (ClientPart rx tx script) (outlet tx) x (some_is at) refl
 seat_end scene (ClientPart rx tx script) (suc (suc i)) x at = cc
+seat_end scene (NetworkPart p) i x at = (i, ap (λ l. slice_get l i) (sym (ends_same scene p)) ∙ at)

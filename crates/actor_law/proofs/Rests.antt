@@ -1,21 +1,17 @@
-use Rattle.std.proofs.Common.{◌≡◌, ◌<◌, ◌≤◌, ◌+◌, ℕ, Bool, true, false, not, ◌&&◌, ◌||◌, nat_lt, Option, Some, None, is_some, is_none, List, [], ◌∷◌, ◌++◌, map, length, length-append, length-take, slice_get, subst, refl, sym, ap, ◌∙◌, arith, suc}
+use Rattle.std.proofs.Common.{◌≡◌, ◌<◌, ◌≤◌, ◌+◌, ℕ, Bool, true, false, not, ◌||◌, nat_lt, Option, Some, None, is_some, is_none, List, [], ◌∷◌, ◌++◌, map, length, length-append, length-take, slice_get, subst, refl, sym, ap, ◌∙◌, arith, suc}
 use Rattle.std.specs.Option.{option_to_list}
 use Rattle.std.proofs.lemmas.List.{length-map}
 use Rattle.std.proofs.lemmas.Bool.{lt-ltb, le-ltb}
-use Rattle.cargo_core.specs.declared.item.QueueKind.{QueueKind}
 use Rattle.wire_core.specs.declared.names.Entry.{Entry}
 use Rattle.wire_core.specs.Deeds.{Cargo}
 use Rattle.wire_core.specs.Ends.{Role, Consumer, Producer, End}
-use Rattle.wire_core.specs.Queues.{Bells, Queue, items_of, queue_at, end_at, end_of}
+use Rattle.wire_core.specs.Queues.{Queue, items_of, end_at}
 use Rattle.wire_core.specs.Lists.{Passed}
 use Rattle.wire_core.specs.Journal.{History}
-use Rattle.wire_core.proofs.Moving.{there_if_owned}
-use Rattle.turn_kit.specs.Table.{Agrees, is_settled}
-use Rattle.turn_kit.specs.Turns.{Post, settled_all}
-use Rattle.turn_kit.specs.declared.end_state.EndState.{EndState}
+use Rattle.turn_kit.specs.Table.{Agrees}
 use Rattle.turn_kit.specs.Pipes.{PipeStandsFor}
 use Rattle.turn_kit.specs.declared.pipe.Pipe.{Pipe}
-use Rattle.serial_terminal.specs.Terminals.{FitsTerminal, TerminalStandsFor}
+use Rattle.serial_terminal.specs.Terminals.{FitsTerminal, TerminalStandsFor, terminal_round}
 use Rattle.serial_terminal.specs.declared.Terminal.{Terminal}
 use Rattle.std.proofs.Common.{◌⊎◌, ◌≢◌, nat_eq, if◌then◌else◌, inl, inr}
 use Rattle.std.specs.Option.{option_map}
@@ -36,47 +32,26 @@ use Rattle.serial_virt.specs.declared.rx.SerialVirtRx.{SerialVirtRx}
 use Rattle.serial_virt.specs.Sending.{FitsTx, TxStandsFor, tx_round}
 use Rattle.serial_virt.specs.declared.tx.SerialVirtTx.{SerialVirtTx}
 use Rattle.play_core.specs.Moved.{Moved, moved}
-use Rattle.play_core.specs.Wants.{Want, intake_want, end_settled, bells_settled, want_settled, all_settled}
+use Rattle.play_core.specs.Wants.{intake_want, outlet_want, all_settled}
 use Rattle.play_core.specs.Sheets.{Scene}
 use Rattle.serial_law.specs.Bytes.{bytes_in, is_owed}
 use Rattle.serial_law.specs.Table.{some_owed, shares, taken_count, is_held}
 use Rattle.actor_law.specs.Kinds.{sheet}
 use Rattle.actor_law.proofs.Rounds.{rests_is}
 use Rattle.actor_set.specs.Actors.{FitsActor, ActorStandsFor, part_of, actor_round, actor_rests, numbers}
-use Rattle.actor_law.specs.Showing.{HaveItems, HaveBells}
+use Rattle.rest_law.specs.Showing.{HaveItems, HaveBells}
+use Rattle.rest_law.specs.Meeting.{Meet}
+use Rattle.rest_law.proofs.Settling.{none_is, held_is, all_here}
+use Rattle.uart_driver.specs.declared.UartDriver.{UartDriver}
+use Rattle.eth_driver.specs.Four.{four_pipes}
+use Rattle.net_rests.proofs.Resting.{device_rest, driver_rest, receiver_rest, copier_rest, sink_rest}
+use Rattle.actor_law.specs.Turning.{InTurn}
 use Rattle.actor_set.specs.declared.actor.Actor.{Actor}
 use Rattle.actor_set.specs.declared.actor.Actor.TheVariants as Kinds
-
-pub both : {a b c d : Bool} → a ≡ b → c ≡ d → (a && c) ≡ (b && d)
-both e f = cc
-
-state_settled : (e : End) (k : EndState) (need : Bool) → Agrees e k → is_settled k need ≡ end_settled e.waiter e.ringer need
-state_settled e k need a = rw (a.ringer, a.waiter) refl
-
-same_settled : (mine : Bool) (k : QueueKind) (b : Bells) (r : Role) (need : Bool) → end_settled (end_of mine k b r).waiter (end_of mine k b r).ringer need ≡ bells_settled b r need
-same_settled mine k b Consumer need = refl
-same_settled mine k b Producer need = refl
 
 some_is : (sent taken : List Cargo) (load : Option Cargo) → taken ≡ sent ++ option_to_list load → is_some load ≡ nat_lt (length (items_of sent)) (length (items_of taken))
 some_is sent taken None h = sym (le-ltb _ _ (simp (length-map) (omega (arith, ap length h, length-append sent []))))
 some_is sent taken (Some c) h = sym (lt-ltb _ _ (simp (length-map) (omega (arith, ap length h, length-append sent (c ∷ [])))))
-
-none_is : (load : Option Cargo) → is_none load ≡ not (is_some load)
-none_is None = refl
-none_is (Some c) = refl
-
--- an actor's end as it keeps it, and what it needs there, as a part has it
-pub record Met (ends : Role → ℕ → End) (p : Post) (need : Bool) (w : Want) : Type 0 where
-  pub needs : need ≡ w.need
-  pub agrees : Agrees (ends w.role w.queue) p.state
-
-abbrev pub Meet : (Role → ℕ → End) → List Post → List Bool → List Want → Type 0
-Meet ends [] [] [] = Unit {0}
-Meet ends [] [] (w ∷ ws) = ⊥
-Meet ends [] (n ∷ ns) ws = ⊥
-Meet ends (p ∷ ps) [] ws = ⊥
-Meet ends (p ∷ ps) (n ∷ ns) [] = ⊥
-Meet ends (p ∷ ps) (n ∷ ns) (w ∷ ws) = Met ends p n w × Meet ends ps ns ws
 
 -- what is owed to the client at a place, by how much was put to it
 owed_here : (load : Option Cargo) (to k n m : ℕ) → n + length (owed_to load to k) ≡ m → ((eqb to k ≡ true) × (to ≡ k)) ⊎ ((eqb to k ≡ false) × (to ≢ k)) → is_here (option_map (λ c. to) load) k ≡ nat_lt n m
@@ -84,10 +59,6 @@ owed_here None to k n m e (inl t) = let f : length (owed_to None to k) ≡ 0 = a
 owed_here None to k n m e (inr t) = let f : length (owed_to None to k) ≡ 0 = ap (λ b. length (if b then option_to_list {X = Cargo} None else [])) t.0 in sym (le-ltb n m (omega (arith, e, f)))
 owed_here (Some c) to k n m e (inl t) = let f : length (owed_to (Some c) to k) ≡ 1 = ap (λ b. length (if b then option_to_list (Some c) else [])) t.0 in t.0 ∙ sym (lt-ltb n m (omega (arith, e, f)))
 owed_here (Some c) to k n m e (inr t) = let f : length (owed_to (Some c) to k) ≡ 0 = ap (λ b. length (if b then option_to_list (Some c) else [])) t.0 in t.0 ∙ sym (le-ltb n m (omega (arith, e, f)))
-
-held_is : (load : Option Cargo) (n m : ℕ) → n + length (option_to_list load) ≡ m → is_some load ≡ nat_lt n m
-held_is None n m e = sym (le-ltb n m (omega (arith, e)))
-held_is (Some c) n m e = sym (lt-ltb n m (omega (arith, e)))
 
 index_moves : (c k : ℕ) → c + suc k ≡ (c + 1) + k
 index_moves c k = omega arith
@@ -174,12 +145,11 @@ module _ (scene : Scene) (w : List Queue) (passed : Passed) (items : Moved) (h :
       let held : is_some v.load ≡ is_held v.output.queue.0 (numbers (intake_queues v.inputs)) items = tx_held v st in
       (record { needs = held; agrees = f.output }, inputs_meet (end_at w) (is_none v.load) (not (is_held v.output.queue.0 (numbers (intake_queues v.inputs)) items)) 0 v.inputs.ends.items (none_is v.load ∙ ap not held) f.inputs.agrees)
 
-  meets : (x : Actor) → FitsActor (end_at w) x → ActorStandsFor x passed → Meet (end_at w) (actor_round x).posts (actor_round x).needs ((sheet scene (part_of x)).wants items)
-  meets (Kinds.UartDevice x) f st = (record { needs = refl; agrees = f.input }, (record { needs = said x.terminal f st; agrees = f.output }, tt))
-  meets (Kinds.SerialClient x) f st = (record { needs = refl; agrees = f.input }, (record { needs = said x.terminal f st; agrees = f.output }, tt))
-  meets (Kinds.SerialVirtRx x) f st = rx_meets x f st
-  meets (Kinds.SerialVirtTx x) f st = tx_meets x f st
-  meets (Kinds.UartDriver x) f st = (
+  terminal_meets : (t : Terminal) → FitsTerminal (end_at w) t → TerminalStandsFor t passed → Meet (end_at w) (terminal_round t).posts (terminal_round t).needs (intake_want t.input.queue.0 true ∷ outlet_want t.output.queue.0 (is_owed (items.sent t.output.queue.0) t.script) ∷ [])
+  terminal_meets t f st = (record { needs = refl; agrees = f.input }, (record { needs = said t f st; agrees = f.output }, tt))
+
+  driver_meets : (x : UartDriver) → FitsActor (end_at w) (Kinds.UartDriver x) → ActorStandsFor (Kinds.UartDriver x) passed → Meet (end_at w) (actor_round (Kinds.UartDriver x)).posts (actor_round (Kinds.UartDriver x)).needs ((sheet scene (part_of (Kinds.UartDriver x))).wants items)
+  driver_meets x f st = (
     record { needs = free x.driver.pipes.first st.0; agrees = f.each.0.input },
     (
       record { needs = loaded x.driver.pipes.first st.0; agrees = f.each.0.output },
@@ -190,23 +160,22 @@ module _ (scene : Scene) (w : List Queue) (passed : Passed) (items : Moved) (h :
     ),
   )
 
--- and is settled where history and journal say so
-module _ (history : History) (journal : List Entry) (w : List Queue) (bells : HaveBells w history journal) where
-  settled_here : (p : Post) (need : Bool) (x : Want) → Met (end_at w) p need x → is_settled p.state need ≡ want_settled history journal x
-  settled_here p need x m =
-      ap (is_settled p.state) m.needs
-      ∙ (state_settled (end_at w x.role x.queue) p.state x.need m.agrees
-      ∙ (same_settled (nat_lt x.queue (length w)) (queue_at w x.queue).kind (queue_at w x.queue).bells x.role x.need
-      ∙ ap (λ b. bells_settled b x.role x.need) (bells x.queue (there_if_owned w x.role x.queue m.agrees.owned))))
+-- an actor is at rest where its sheet's wants are settled
+module _ (history : History) (journal : List Entry) (w : List Queue) (bells : HaveBells w history journal) (scene : Scene) (passed : Passed) (has : HaveItems passed (moved history journal)) where
+  settled_so : (x : Actor) → Meet (end_at w) (actor_round x).posts (actor_round x).needs ((sheet scene (part_of x)).wants (moved history journal)) → actor_rests x ≡ all_settled history journal ((sheet scene (part_of x)).wants (moved history journal))
+  settled_so x meet = rests_is x ∙ all_here history journal w bells (actor_round x).posts (actor_round x).needs ((sheet scene (part_of x)).wants (moved history journal)) meet
 
-  all_here : (ps : List Post) (needs : List Bool) (ws : List Want) → Meet (end_at w) ps needs ws → settled_all ps needs ≡ all_settled history journal ws
-  all_here [] [] [] m = refl
-  all_here [] [] (x ∷ ws) m = absurd m
-  all_here [] (n ∷ ns) ws m = absurd m
-  all_here (p ∷ ps) [] ws m = absurd m
-  all_here (p ∷ ps) (n ∷ ns) [] m = absurd m
-  all_here (p ∷ ps) (n ∷ ns) (x ∷ ws) m = both (settled_here p n x m.0) (all_here ps ns ws m.1)
+  rest_of : (x : Actor) → InTurn scene x passed → FitsActor (end_at w) x → ActorStandsFor x passed → actor_rests x ≡ all_settled history journal ((sheet scene (part_of x)).wants (moved history journal))
+  rest_of (Kinds.UartDevice x) turn f st = settled_so (Kinds.UartDevice x) (terminal_meets scene w passed (moved history journal) has x.terminal f st)
+  rest_of (Kinds.SerialClient x) turn f st = settled_so (Kinds.SerialClient x) (terminal_meets scene w passed (moved history journal) has x.terminal f st)
+  rest_of (Kinds.SerialVirtRx x) turn f st = settled_so (Kinds.SerialVirtRx x) (rx_meets scene w passed (moved history journal) has x f st)
+  rest_of (Kinds.SerialVirtTx x) turn f st = settled_so (Kinds.SerialVirtTx x) (tx_meets scene w passed (moved history journal) has x f st)
+  rest_of (Kinds.UartDriver x) turn f st = settled_so (Kinds.UartDriver x) (driver_meets scene w passed (moved history journal) has x f st)
+  rest_of (Kinds.EthDevice x) turn f st = device_rest scene history journal w passed has bells x f st
+  rest_of (Kinds.EthDriver x) turn f st = driver_rest scene history journal w passed has bells (four_pipes x.driver.pipes) x.driver.turn.last f st
+  rest_of (Kinds.NetVirtRx x) turn f st = receiver_rest scene history journal w passed has bells x turn f.0 st
+  rest_of (Kinds.NetCopier x) turn f st = copier_rest scene history journal w passed has bells x turn f st
+  rest_of (Kinds.NetClient x) turn f st = sink_rest scene history journal w passed has bells x f.0 st
 
-  -- an actor is at rest where its sheet's wants are settled
-  pub rests : (scene : Scene) (x : Actor) (passed : Passed) → FitsActor (end_at w) x → ActorStandsFor x passed → HaveItems passed (moved history journal) → actor_rests x ≡ all_settled history journal ((sheet scene (part_of x)).wants (moved history journal))
-  rests scene x passed fits stands has = rests_is x ∙ all_here (actor_round x).posts (actor_round x).needs ((sheet scene (part_of x)).wants (moved history journal)) (meets scene w passed (moved history journal) has x fits stands)
+pub rests : (history : History) (journal : List Entry) (w : List Queue) → HaveBells w history journal → (scene : Scene) (x : Actor) (passed : Passed) → InTurn scene x passed → FitsActor (end_at w) x → ActorStandsFor x passed → HaveItems passed (moved history journal) → actor_rests x ≡ all_settled history journal ((sheet scene (part_of x)).wants (moved history journal))
+rests history journal w bells scene x passed turn fits stands has = rest_of history journal w bells scene passed has x turn fits stands

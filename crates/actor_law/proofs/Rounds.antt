@@ -12,6 +12,11 @@ rests_is (Kinds.UartDriver x) = refl
 rests_is (Kinds.SerialVirtRx x) = refl
 rests_is (Kinds.SerialVirtTx x) = refl
 rests_is (Kinds.SerialClient x) = refl
+rests_is (Kinds.EthDevice x) = refl
+rests_is (Kinds.EthDriver x) = refl
+rests_is (Kinds.NetVirtRx x) = refl
+rests_is (Kinds.NetCopier x) = refl
+rests_is (Kinds.NetClient x) = refl
 
 -- and take their ends in turn
 pub turned_is : (x y : Actor) (e : Event) → ActorTurned x e y → Turned (actor_round x) e (actor_round y)
@@ -20,3 +25,8 @@ turned_is (Kinds.UartDriver x) y e t = t
 turned_is (Kinds.SerialVirtRx x) y e t = t
 turned_is (Kinds.SerialVirtTx x) y e t = t
 turned_is (Kinds.SerialClient x) y e t = t
+turned_is (Kinds.EthDevice x) y e t = t
+turned_is (Kinds.EthDriver x) y e t = t
+turned_is (Kinds.NetVirtRx x) y e t = t
+turned_is (Kinds.NetCopier x) y e t = t
+turned_is (Kinds.NetClient x) y e t = t

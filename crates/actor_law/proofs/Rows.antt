@@ -26,10 +26,19 @@ use Rattle.actor_law.proofs.PartEnds.{queue_there}
 use Rattle.play_core.proofs.Merges.{merge_map}
 use Rattle.play_core.specs.Moved.{Moved}
 use Rattle.play_core.specs.Sheets.{Scene}
+use Rattle.eth_driver.specs.Four.{four_pipes}
+use Rattle.net_copier.proofs.Holding.{row_of as copier_row_of}
+use Rattle.net_virt_rx.proofs.Rounds.{row_of as receiver_row_of}
+use Rattle.net_parts.specs.Table.{net_sheet}
+use Rattle.net_parts.specs.Playing.{device_part, driver_part, receiver_part, copier_part, sink_part}
+use Rattle.net_parts.proofs.Items.{device_row, driver_row, copier_row, sink_row}
+use Rattle.net_parts.proofs.Leasing.{receiver_row}
 use Rattle.actor_law.specs.Kinds.{sheet}
+use Rattle.actor_law.specs.Turning.{InTurn}
+use Rattle.actor_law.proofs.NetRows.{device_row_of, pipes_row_of, client_row_of, items_at}
 use Rattle.actor_set.specs.Actors.{ActorStandsFor, part_of, numbers}
-use Rattle.actor_law.specs.Showing.{HaveItems}
-use Rattle.actor_law.specs.Records.{record_of, record_by}
+use Rattle.rest_law.specs.Showing.{HaveItems}
+use Rattle.actor_law.specs.Records.{record_of, record_by, frames_got, frames_by}
 use Rattle.actor_set.specs.declared.actor.Actor.{Actor}
 use Rattle.actor_set.specs.declared.actor.Actor.TheVariants as Kinds
 
@@ -88,12 +97,17 @@ module _ (scene : Scene) (passed : Passed) (items : Moved) (h : HaveItems passed
       taken_alike (q ∷ qs) = ap (λ l. l ∷ map items_of (map (λ (q : QueueId). passed.taken q.0) qs)) (h.taken q.0) ∙ ap (λ ls. (items.taken q.0) ∷ ls) (taken_alike qs)
 
   -- the row of its sheet
-  pub actor_row : (x : Actor) → ActorStandsFor x passed → (sheet scene (part_of x)).row (items)
-  actor_row (Kinds.UartDevice x) f = terminal_row x.terminal f
-  actor_row (Kinds.SerialClient x) f = terminal_row x.terminal f
-  actor_row (Kinds.SerialVirtRx x) f = rx_row x f
-  actor_row (Kinds.SerialVirtTx x) f = tx_row x f
-  actor_row (Kinds.UartDriver x) f = (pipe_row x.driver.pipes.first f.0, pipe_row x.driver.pipes.rest f.1.0)
+  pub actor_row : (x : Actor) → InTurn scene x passed → ActorStandsFor x passed → (sheet scene (part_of x)).row (items)
+  actor_row (Kinds.UartDevice x) turn f = terminal_row x.terminal f
+  actor_row (Kinds.SerialClient x) turn f = terminal_row x.terminal f
+  actor_row (Kinds.SerialVirtRx x) turn f = rx_row x f
+  actor_row (Kinds.SerialVirtTx x) turn f = tx_row x f
+  actor_row (Kinds.UartDriver x) turn f = (pipe_row x.driver.pipes.first f.0, pipe_row x.driver.pipes.rest f.1.0)
+  actor_row (Kinds.EthDevice x) turn f = device_row scene x passed items (items_at (net_sheet scene (device_part x)).ends passed items h) (device_row_of x passed f)
+  actor_row (Kinds.EthDriver x) turn f = driver_row scene (four_pipes x.driver.pipes) passed items (items_at (net_sheet scene (driver_part (four_pipes x.driver.pipes))).ends passed items h) (pipes_row_of (four_pipes x.driver.pipes) passed f)
+  actor_row (Kinds.NetVirtRx x) turn f = let row = receiver_row_of x passed f in receiver_row scene x passed items turn.size (items_at (net_sheet scene (receiver_part x)).ends passed items h) turn.takes row (turn.in_turn row)
+  actor_row (Kinds.NetCopier x) turn f = copier_row scene x passed items (items_at (net_sheet scene (copier_part x)).ends passed items h) turn (copier_row_of x passed f)
+  actor_row (Kinds.NetClient x) turn f = sink_row scene x passed items turn.base turn.size (items_at (net_sheet scene (sink_part x)).ends passed items h) (client_row_of x passed f)
 
 module _ (passed : Passed) (items : Moved) (h : HaveItems passed items) where
   -- what it recorded is what the items say of its part
@@ -103,3 +117,21 @@ module _ (passed : Passed) (items : Moved) (h : HaveItems passed items) where
   heard_here (Kinds.UartDriver x) st = refl
   heard_here (Kinds.SerialVirtRx x) st = refl
   heard_here (Kinds.SerialVirtTx x) st = refl
+  heard_here (Kinds.EthDevice x) st = refl
+  heard_here (Kinds.EthDriver x) st = refl
+  heard_here (Kinds.NetVirtRx x) st = refl
+  heard_here (Kinds.NetCopier x) st = refl
+  heard_here (Kinds.NetClient x) st = refl
+
+-- the frames that it recorded are those of the entries that it took
+pub frames_here : (passed : Passed) (x : Actor) → ActorStandsFor x passed → frames_got x ≡ frames_by passed (part_of x)
+frames_here passed (Kinds.UartDevice x) st = refl
+frames_here passed (Kinds.SerialClient x) st = refl
+frames_here passed (Kinds.UartDriver x) st = refl
+frames_here passed (Kinds.SerialVirtRx x) st = refl
+frames_here passed (Kinds.SerialVirtTx x) st = refl
+frames_here passed (Kinds.EthDevice x) st = st.sends.recorded
+frames_here passed (Kinds.EthDriver x) st = refl
+frames_here passed (Kinds.NetVirtRx x) st = refl
+frames_here passed (Kinds.NetCopier x) st = refl
+frames_here passed (Kinds.NetClient x) st = st.got

@@ -7,7 +7,9 @@ use Rattle.play_core.specs.Manners.{Manner, Calm, Hostile, Manners, hostile_by}
 use Rattle.play_core.specs.Sheets.{Scene, Sheet}
 use Rattle.serial_law.specs.Parts.{SerialPart, SerialDevice, SerialDriver, SerialReceiver, SerialSender, SerialClient}
 use Rattle.serial_law.specs.Table.{serial_sheet}
-use Rattle.actor_set.specs.Parts.{Part, UartPart, DriverPart, RxPart, TxPart, ClientPart}
+use Rattle.net_parts.specs.Parts.{NetPart, NetDevice, NetDriver, NetReceiver, NetCopier, NetSink}
+use Rattle.net_parts.specs.Table.{net_sheet}
+use Rattle.actor_set.specs.Parts.{Part, UartPart, DriverPart, RxPart, TxPart, ClientPart, NetworkPart}
 
 -- an actor of the serial class as one of all
 abbrev pub serial_part : SerialPart → Part
@@ -17,13 +19,22 @@ serial_part (SerialReceiver rx clients) = RxPart rx clients
 serial_part (SerialSender tx clients) = TxPart tx clients
 serial_part (SerialClient rx tx script) = ClientPart rx tx script
 
--- the frames that a trace gives a part: none of these has any
+-- the frames that a trace gives an actor of the network class: those that its device receives
+abbrev pub net_frames_of : NetPart → List (List ℕ)
+net_frames_of (NetDevice rx_free rx_active tx_active tx_free frames) = frames
+net_frames_of (NetDriver ways) = []
+net_frames_of (NetReceiver active free pool clients) = []
+net_frames_of (NetCopier lease_active lease_free rx_active rx_free) = []
+net_frames_of (NetSink rx_active rx_free tx_active tx_free rx tx) = []
+
+-- the frames that a trace gives a part
 abbrev pub frames_of : Part → List (List ℕ)
 frames_of (UartPart rx tx input) = []
 frames_of (DriverPart device_rx device_tx rx tx) = []
 frames_of (RxPart rx clients) = []
 frames_of (TxPart tx clients) = []
 frames_of (ClientPart rx tx script) = []
+frames_of (NetworkPart p) = net_frames_of p
 
 -- the image that a trace gives a part: none of these has one
 abbrev pub image_of : Part → List ℕ
@@ -32,6 +43,7 @@ image_of (DriverPart device_rx device_tx rx tx) = []
 image_of (RxPart rx clients) = []
 image_of (TxPart tx clients) = []
 image_of (ClientPart rx tx script) = []
+image_of (NetworkPart p) = []
 
 -- what a trace gives a cast beside its parts
 abbrev pub scene_of : List Part → Scene
@@ -45,6 +57,7 @@ sheet scene (DriverPart device_rx device_tx rx tx) =
 sheet scene (RxPart rx clients) = serial_sheet (SerialReceiver rx clients)
 sheet scene (TxPart tx clients) = serial_sheet (SerialSender tx clients)
 sheet scene (ClientPart rx tx script) = serial_sheet (SerialClient rx tx script)
+sheet scene (NetworkPart p) = net_sheet scene p
 
 -- how a part goes about: all of these are calm
 abbrev pub manner_of : Part → Manner
@@ -53,6 +66,7 @@ manner_of (DriverPart device_rx device_tx rx tx) = Calm
 manner_of (RxPart rx clients) = Calm
 manner_of (TxPart tx clients) = Calm
 manner_of (ClientPart rx tx script) = Calm
+manner_of (NetworkPart p) = Calm
 
 -- how each actor of a cast goes about
 abbrev pub manners : List Part → Manners

@@ -1,17 +1,62 @@
 -- Actors in their start state, and the ends that rows give them.
-use Rattle.std.specs.Prelude.{◌≡◌, ℕ, Some, List, slice_get}
+use Rattle.std.specs.Prelude.{◌≡◌, ◌+◌, ◌-◌, ◌<◌, ◌^◌, ℕ, Some, List, All, length, slice_get}
+use Rattle.cargo_core.specs.declared.item.PoolId.{PoolId}
+use Rattle.cargo_core.specs.declared.item.QueueKind.{QueueKind}
 use Rattle.cargo_core.specs.declared.item.QueueKind.TheVariants as Kind
+use Rattle.cargo_core.specs.Pages.{Paged}
 use Rattle.wire_core.specs.declared.names.QueueRow.{QueueRow}
 use Rattle.wire_core.specs.Ends.{Role, Consumer, Producer}
 use Rattle.wire_core.specs.Journal.{owner_of}
+use Rattle.wire_core.specs.declared.names.QueueId.{QueueId}
+use Rattle.wire_core.specs.Lists.{nothing_passed}
 use Rattle.turn_kit.specs.ManyEnds.{AreApart, intake_queues, outlet_queues}
 use Rattle.turn_kit.specs.Pipes.{IsNewPipe}
 use Rattle.serial_terminal.specs.Terminals.{IsNewTerminal}
 use Rattle.serial_virt.specs.Receiving.{IsNewRx}
 use Rattle.serial_virt.specs.Sending.{IsNewTx}
+use Rattle.pipe_driver.specs.Drivers.{EachPipe, AreDistinct, inputs_of, outputs_of}
+use Rattle.eth_driver.specs.Four.{four_pipes}
+use Rattle.eth_device.specs.Devices.{IsNewDevice, rx_free, rx_active, tx_active, tx_free}
+use Rattle.eth_device.specs.declared.EthDevice.{EthDevice}
+use Rattle.net_kit.specs.Pools.{ArePool}
+use Rattle.net_kit.specs.Virtualising.{from_queues, to_queues}
+use Rattle.net_kit.specs.declared.virt_ends.VirtEnds.{VirtEnds}
+use Rattle.net_virt_rx.specs.Receiving.{IsNewRx as IsNewNetRx, RxStandsFor as NetRxStandsFor}
+use Rattle.net_virt_rx.specs.declared.LeaseEnds.{LeaseEnds}
+use Rattle.net_virt_rx.specs.declared.NetVirtRx.{NetVirtRx}
+use Rattle.net_copier.specs.Copying.{IsNewCopier}
+use Rattle.net_client.specs.Clients.{IsNewClient}
+use Rattle.net_client.specs.Clients as client
+use Rattle.net_client.specs.declared.NetClient.{NetClient}
 use Rattle.actor_set.specs.Actors.{ActorEnd}
 use Rattle.actor_set.specs.declared.actor.Actor.{Actor}
 use Rattle.actor_set.specs.declared.actor.Actor.TheVariants as Kinds
+
+-- an Ethernet device in its start state, each of whose frames has at most 65,535 bytes
+pub record IsNewReceiving (d : EthDevice) : Type 0 where
+  pub new : IsNewDevice d.free.queue d.active.queue d.wire.pipe.input.queue
+      d.wire.pipe.output.queue d.frames d
+  pub short : All (λ frame. length frame < 2 ^ 16) d.frames
+
+-- a receiving virtualiser of the network in its start state, with all buffers of its pool, each of
+-- 2,048 bytes
+pub record IsNewLender (v : NetVirtRx) : Type 0 where
+  pub base : ℕ
+  pub clients : List LeaseEnds
+  pub pages : List Paged
+  pub new : IsNewNetRx v.ends.input.queue v.ends.output.queue base clients pages v
+  pub stands : NetRxStandsFor v nothing_passed
+  pub size : v.work.stock.size ≡ 2048
+
+-- a network client in its start state, with all buffers of its two pools; those in which it
+-- receives have 2,048 bytes
+pub record IsNewClientOf (c : NetClient) : Type 0 where
+  pub pages : List Paged
+  pub new : IsNewClient c.frames.pipe.input.queue c.frames.pipe.output.queue c.send.queue
+      c.sent.queue pages c.spare.items c
+  pub size : c.stock.size ≡ 2048
+  pub spare : (pool : PoolId) × (bytes : ℕ) × ArePool 0 pool bytes c.spare.items
+  pub few : length pages + length c.spare.items < 2 ^ 32 - 2
 
 -- an actor in its start state
 abbrev pub IsNew : Actor → Type 0
@@ -26,6 +71,22 @@ IsNew (Kinds.UartDriver x) =
     x.driver.pipes.rest
 IsNew (Kinds.SerialVirtRx x) = IsNewRx x.input.queue (outlet_queues x.outputs) x
 IsNew (Kinds.SerialVirtTx x) = IsNewTx x.output.queue (intake_queues x.inputs) x
+IsNew (Kinds.EthDevice x) = IsNewReceiving x
+IsNew (Kinds.EthDriver x) =
+    EachPipe (λ p. IsNewPipe p.input.queue p.output.queue p) (four_pipes x.driver.pipes)
+IsNew (Kinds.NetVirtRx x) = IsNewLender x
+IsNew (Kinds.NetCopier x) = IsNewCopier x.lease_input.queue x.lease_output.queue
+    x.buffer_output.queue x.buffer_input.queue x
+IsNew (Kinds.NetClient x) = IsNewClientOf x
+
+-- of a virtualiser of the network: its ends on each side are of queues of their own
+pub record HasApartQueues (v : VirtEnds) : Type 0 where
+  pub from : AreApart (from_queues v)
+  pub to : AreApart (to_queues v)
+  pub input : (k : ℕ) (q : QueueId) → slice_get (from_queues v) k ≡ Some q
+      → v.input.queue.0 ≡ q.0 → ⊥
+  pub output : (k : ℕ) (q : QueueId) → slice_get (to_queues v) k ≡ Some q
+      → v.output.queue.0 ≡ q.0 → ⊥
 
 -- no two of its ends on one side are of one queue
 abbrev pub HasApartEnds : Actor → Type 0
@@ -36,14 +97,39 @@ HasApartEnds (Kinds.UartDriver x) =
     × (x.driver.pipes.first.output.queue.0 ≡ x.driver.pipes.rest.output.queue.0 → ⊥)
 HasApartEnds (Kinds.SerialVirtRx x) = AreApart (outlet_queues x.outputs)
 HasApartEnds (Kinds.SerialVirtTx x) = AreApart (intake_queues x.inputs)
+HasApartEnds (Kinds.EthDevice x) =
+    (rx_free x ≡ tx_active x → ⊥) × (rx_active x ≡ tx_free x → ⊥)
+HasApartEnds (Kinds.EthDriver x) =
+    AreDistinct (inputs_of (four_pipes x.driver.pipes))
+    × AreDistinct (outputs_of (four_pipes x.driver.pipes))
+HasApartEnds (Kinds.NetVirtRx x) = HasApartQueues x.ends
+HasApartEnds (Kinds.NetCopier x) =
+    (x.lease_input.queue.0 ≡ x.buffer_input.queue.0 → ⊥)
+    × (x.buffer_output.queue.0 ≡ x.lease_output.queue.0 → ⊥)
+HasApartEnds (Kinds.NetClient x) =
+    (client.rx_active x ≡ client.tx_free x → ⊥) × (client.rx_free x ≡ client.tx_active x → ⊥)
 
 -- no queue has both its ends with the actor
 abbrev pub HasNoLoop : Actor → Type 0
 HasNoLoop x = (n : ℕ) → ActorEnd x Consumer n → ActorEnd x Producer n → ⊥
 
--- by the rows, actor k has this end of queue n, which carries bytes
-pub record HasSeat (rows : List QueueRow) (k : ℕ) (r : Role) (n : ℕ) : Type 0 where
+-- what the queues of an actor carry
+abbrev pub kind_at : Actor → QueueKind
+kind_at (Kinds.UartDevice x) = Kind.Byte
+kind_at (Kinds.UartDriver x) = Kind.Byte
+kind_at (Kinds.SerialVirtRx x) = Kind.Byte
+kind_at (Kinds.SerialVirtTx x) = Kind.Byte
+kind_at (Kinds.SerialClient x) = Kind.Byte
+kind_at (Kinds.EthDevice x) = Kind.Net
+kind_at (Kinds.EthDriver x) = Kind.Net
+kind_at (Kinds.NetVirtRx x) = Kind.Net
+kind_at (Kinds.NetCopier x) = Kind.Net
+kind_at (Kinds.NetClient x) = Kind.Net
+
+-- by the rows, actor k has this end of queue n, which carries this kind
+pub record HasSeat (rows : List QueueRow) (kind : QueueKind) (k : ℕ) (r : Role) (n : ℕ) :
+    Type 0 where
   pub row : QueueRow
   pub there : slice_get rows n ≡ Some row
   pub owner : owner_of row r ≡ k
-  pub kind : row.kind ≡ Kind.Byte
+  pub carries : row.kind ≡ kind

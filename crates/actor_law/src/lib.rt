@@ -19,29 +19,35 @@ ghost use Rattle.play_core.specs.Wants.{all_settled};
 ghost use Rattle.play_core.specs.Runs.{called_from};
 ghost use Rattle.play_core.specs.Sheets.{Scene, IsOwn};
 ghost use Rattle.actor_set.specs.Parts.{Part};
-ghost use Rattle.actor_set.specs.Actors.{FitsActor, ActorStandsFor, ActorEnd, ActorTurned, actor_round, actor_rests, actor_hand, part_of};
+ghost use Rattle.actor_set.specs.Actors.{FitsActor, ActorStandsFor, ActorEnd, ActorTurned, IsWhole, actor_round, actor_rests, actor_hand, part_of};
 ghost use Rattle.actor_set.specs.declared.actor.Actor.{Actor};
 ghost use Rattle.actor_law.specs.Kinds.{sheet};
-ghost use Rattle.actor_law.specs.Records.{record_of, record_by};
-ghost use Rattle.actor_law.specs.StartStates.{IsNew, HasApartEnds, HasNoLoop, HasSeat};
-ghost use Rattle.actor_law.specs.Showing.{HaveItems, HaveBells};
+ghost use Rattle.actor_law.specs.Records.{record_of, record_by, frames_got, frames_by};
+ghost use Rattle.actor_law.specs.Turning.{InTurn};
+ghost use Rattle.actor_law.specs.StartStates.{IsNew, HasApartEnds, HasNoLoop, HasSeat, kind_at};
+ghost use Rattle.rest_law.specs.Showing.{HaveItems, HaveBells};
 
-/// An actor of any kind, beside its sheet. Where it stands for its lists, its sheet's row holds of
-/// their items, and it recorded what these say; it is at rest exactly where all that its sheet
-/// wants is settled. Its ends are its sheet's, which speaks of no others; where nothing changes at
-/// them, it fits them as before and stands for the same lists.
+/// An actor of any kind, beside its sheet. Where it stands for its lists and nothing came out of
+/// turn, its sheet's row holds of their items, and it is at rest exactly where all that its sheet
+/// wants is settled; whatever came, it recorded what its lists say. Its ends are its sheet's, which
+/// speaks of no others; where nothing changes at them, it fits them as before and stands for the
+/// same lists.
 pub fn actor_law()
     ensures row { (scene : Scene) (a : Actor) (passed : Passed) (m : Moved)
-        → ActorStandsFor a passed → HaveItems passed m → (sheet scene (part_of a)).row m }
+        → InTurn scene a passed → ActorStandsFor a passed → HaveItems passed m
+        → (sheet scene (part_of a)).row m }
     ensures record { (a : Actor) (passed : Passed) (m : Moved)
         → ActorStandsFor a passed → HaveItems passed m → record_of a ≡ record_by m (part_of a) }
+    ensures frames { (a : Actor) (passed : Passed) → ActorStandsFor a passed
+        → frames_got a ≡ frames_by passed (part_of a) }
     ensures rests { (scene : Scene) (history : History) (journal : List Entry) (world : List Queue)
-        (a : Actor) (passed : Passed)
+        (a : Actor) (passed : Passed) → InTurn scene a passed
         → FitsActor (end_at world) a → ActorStandsFor a passed
         → HaveItems passed (moved history journal) → HaveBells world history journal
         → actor_rests a
         ≡ all_settled history journal ((sheet scene (part_of a)).wants (moved history journal)) }
-    ensures ends { (scene : Scene) (a : Actor) (r : Role) (n : ℕ) → ActorEnd a r n
+    ensures whole { (ends : Role → ℕ → End) (a : Actor) → FitsActor ends a → IsWhole a }
+    ensures ends { (scene : Scene) (a : Actor) (r : Role) (n : ℕ) → IsWhole a → ActorEnd a r n
         → (i : ℕ) × (slice_get (sheet scene (part_of a)).ends i
         ≡ Some (record { queue = n; role = r })) }
     ensures no_others { (scene : Scene) (a : Actor) (i : ℕ) (s : Seat)
@@ -51,7 +57,7 @@ pub fn actor_law()
         → ((r : Role) (n : ℕ) → (new r n).kind ≡ (old r n).kind)
         → ((r : Role) (n : ℕ) → ActorEnd a r n → new r n ≡ old r n)
         → FitsActor old a → FitsActor new a }
-    ensures stands_on { (old new : Passed) (a : Actor)
+    ensures stands_on { (old new : Passed) (a : Actor) → IsWhole a
         → ((n : ℕ) → ActorEnd a Consumer n → new.taken n ≡ old.taken n)
         → ((n : ℕ) → ActorEnd a Producer n → new.sent n ≡ old.sent n)
         → ActorStandsFor a old → ActorStandsFor a new }
@@ -78,10 +84,11 @@ pub fn turn_law()
 /// where no queue is twice among them.
 pub fn start_law()
     ensures stands { (a : Actor) → IsNew a → ActorStandsFor a nothing_passed }
+    ensures whole { (a : Actor) → IsNew a → IsWhole a }
     ensures hand { (scene : Scene) (a : Actor) → IsNew a → (pool : PoolId)
         → buffers_of pool (actor_hand a) ≡ length ((sheet scene (part_of a)).hand pool.0) }
     ensures fits { (rows : List QueueRow) (k : ℕ) (a : Actor) → IsNew a → HasApartEnds a
-        → ((r : Role) (n : ℕ) → ActorEnd a r n → HasSeat rows k r n)
+        → ((r : Role) (n : ℕ) → ActorEnd a r n → HasSeat rows (kind_at a) k r n)
         → FitsActor (end_at (starts rows)) a }
     ensures round { (a : Actor) → HasApartEnds a → HasNoLoop a → IsRound (actor_round a) }
 {}

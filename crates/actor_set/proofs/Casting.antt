@@ -12,6 +12,15 @@ use Rattle.serial_virt.specs.Receiving.{RxStandsFor, RxRow, RxBalances}
 use Rattle.serial_virt.specs.declared.rx.SerialVirtRx.{SerialVirtRx}
 use Rattle.serial_virt.specs.Sending.{TxStandsFor, TxRow, TxBalances}
 use Rattle.serial_virt.specs.declared.tx.SerialVirtTx.{SerialVirtTx}
+use Rattle.eth_driver.specs.Four.{four_pipes}
+use Rattle.eth_device.specs.Devices.{DeviceStandsFor, DeviceRow, DeviceBalances}
+use Rattle.eth_device.specs.declared.EthDevice.{EthDevice}
+use Rattle.net_virt_rx.specs.Receiving.{RxStandsFor as NetRxStandsFor, RxRow as NetRxRow, RxBalances as NetRxBalances}
+use Rattle.net_virt_rx.specs.declared.NetVirtRx.{NetVirtRx}
+use Rattle.net_copier.specs.Copying.{CopierStandsFor, CopierRow, CopierBalances}
+use Rattle.net_copier.specs.declared.NetCopier.{NetCopier}
+use Rattle.net_client.specs.Clients.{ClientStandsFor, ClientRow, ClientBalances}
+use Rattle.net_client.specs.declared.NetClient.{NetClient}
 use Rattle.actor_set.specs.Actors.{ActorStandsFor, ActorRow, ActorBalances}
 use Rattle.actor_set.specs.declared.actor.Actor.{Actor}
 use Rattle.actor_set.specs.declared.actor.Actor.TheVariants as Kinds
@@ -26,18 +35,30 @@ ok_actor S did w v old new a a' (Err m) was is st = st
 
 -- the row of each kind is that of an actor
 pub rows : ((x : Terminal) (p : Passed) → TerminalStandsFor x p → TerminalRow x p) → ((ps : List Pipe) (p : Passed) → PipesStandFor ps p → PipesRow ps p) → ((x : SerialVirtRx) (p : Passed) → RxStandsFor x p → RxRow x p) → ((x : SerialVirtTx) (p : Passed) → TxStandsFor x p → TxRow x p)
+    → ((x : EthDevice) (p : Passed) → DeviceStandsFor x p → DeviceRow x p) → ((x : NetVirtRx) (p : Passed) → NetRxStandsFor x p → NetRxRow x p) → ((x : NetCopier) (p : Passed) → CopierStandsFor x p → CopierRow x p) → ((x : NetClient) (p : Passed) → ClientStandsFor x p → ClientRow x p)
     → (a : Actor) (p : Passed) → ActorStandsFor a p → ActorRow a p
-rows terminal driver rx tx (Kinds.UartDevice x) p h = terminal x.terminal p h
-rows terminal driver rx tx (Kinds.UartDriver x) p h = driver (two_pipes x.driver.pipes) p h
-rows terminal driver rx tx (Kinds.SerialVirtRx x) p h = rx x p h
-rows terminal driver rx tx (Kinds.SerialVirtTx x) p h = tx x p h
-rows terminal driver rx tx (Kinds.SerialClient x) p h = terminal x.terminal p h
+rows terminal driver rx tx device lender copier client (Kinds.UartDevice x) p h = terminal x.terminal p h
+rows terminal driver rx tx device lender copier client (Kinds.UartDriver x) p h = driver (two_pipes x.driver.pipes) p h
+rows terminal driver rx tx device lender copier client (Kinds.SerialVirtRx x) p h = rx x p h
+rows terminal driver rx tx device lender copier client (Kinds.SerialVirtTx x) p h = tx x p h
+rows terminal driver rx tx device lender copier client (Kinds.SerialClient x) p h = terminal x.terminal p h
+rows terminal driver rx tx device lender copier client (Kinds.EthDevice x) p h = device x p h
+rows terminal driver rx tx device lender copier client (Kinds.EthDriver x) p h = driver (four_pipes x.driver.pipes) p h
+rows terminal driver rx tx device lender copier client (Kinds.NetVirtRx x) p h = lender x p h
+rows terminal driver rx tx device lender copier client (Kinds.NetCopier x) p h = copier x p h
+rows terminal driver rx tx device lender copier client (Kinds.NetClient x) p h = client x p h
 
 -- and so is its balance
 pub balances : ((x : Terminal) (p : Passed) → TerminalStandsFor x p → TerminalBalances x p) → ((ps : List Pipe) (p : Passed) → PipesStandFor ps p → PipesBalance ps p) → ((x : SerialVirtRx) (p : Passed) → RxStandsFor x p → RxBalances x p) → ((x : SerialVirtTx) (p : Passed) → TxStandsFor x p → TxBalances x p)
+    → ((x : EthDevice) (p : Passed) → DeviceStandsFor x p → DeviceBalances x p) → ((x : NetVirtRx) (p : Passed) → NetRxStandsFor x p → NetRxBalances x p) → ((x : NetCopier) (p : Passed) → CopierStandsFor x p → CopierBalances x p) → ((x : NetClient) (p : Passed) → ClientStandsFor x p → ClientBalances x p)
     → (a : Actor) (p : Passed) → ActorStandsFor a p → ActorBalances a p
-balances terminal driver rx tx (Kinds.UartDevice x) p h = terminal x.terminal p h
-balances terminal driver rx tx (Kinds.UartDriver x) p h = driver (two_pipes x.driver.pipes) p h
-balances terminal driver rx tx (Kinds.SerialVirtRx x) p h = rx x p h
-balances terminal driver rx tx (Kinds.SerialVirtTx x) p h = tx x p h
-balances terminal driver rx tx (Kinds.SerialClient x) p h = terminal x.terminal p h
+balances terminal driver rx tx device lender copier client (Kinds.UartDevice x) p h = terminal x.terminal p h
+balances terminal driver rx tx device lender copier client (Kinds.UartDriver x) p h = driver (two_pipes x.driver.pipes) p h
+balances terminal driver rx tx device lender copier client (Kinds.SerialVirtRx x) p h = rx x p h
+balances terminal driver rx tx device lender copier client (Kinds.SerialVirtTx x) p h = tx x p h
+balances terminal driver rx tx device lender copier client (Kinds.SerialClient x) p h = terminal x.terminal p h
+balances terminal driver rx tx device lender copier client (Kinds.EthDevice x) p h = device x p h
+balances terminal driver rx tx device lender copier client (Kinds.EthDriver x) p h = driver (four_pipes x.driver.pipes) p h
+balances terminal driver rx tx device lender copier client (Kinds.NetVirtRx x) p h = lender x p h
+balances terminal driver rx tx device lender copier client (Kinds.NetCopier x) p h = copier x p h
+balances terminal driver rx tx device lender copier client (Kinds.NetClient x) p h = client x p h

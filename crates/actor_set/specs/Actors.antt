@@ -1,5 +1,5 @@
 -- What is said of an actor of any kind: one case for each kind.
-use Rattle.std.specs.Prelude.{◌≡◌, ℕ, Bool, List, length, map}
+use Rattle.std.specs.Prelude.{◌≡◌, ◌+◌, ◌-◌, ◌<◌, ◌^◌, ℕ, Bool, List, length, map}
 use Rattle.cargo_core.specs.declared.item.Body.{Body}
 use Rattle.wire_core.specs.Lists.{Passed}
 use Rattle.wire_core.specs.Ends.{Role, End}
@@ -12,17 +12,31 @@ use Rattle.turn_kit.specs.ManyEnds.{intake_queues, outlet_queues}
 use Rattle.wire_core.specs.declared.names.QueueId.{QueueId}
 use Rattle.pipe_driver.specs.Drivers.{FitsPipes, PipesStandFor, PipesRow, PipesBalance, PipesEnd, pipes_round, pipes_hand, pipe_forgotten}
 use Rattle.pipe_driver.specs.Lengths.{two_pipes}
-use Rattle.actor_set.specs.Parts.{Part, UartPart, DriverPart, RxPart, TxPart, ClientPart}
+use Rattle.eth_driver.specs.Four.{four_pipes}
+use Rattle.eth_device.specs.Devices.{FitsDevice, DeviceStandsFor, DeviceRow, DeviceBalances, DeviceEnd, device_round, device_hand, device_forgotten}
+use Rattle.net_virt_rx.specs.Receiving.{FitsRx as FitsNetRx, RxStandsFor as NetRxStandsFor, RxRow as NetRxRow, RxBalances as NetRxBalances, RxEnd as NetRxEnd, RxForgot as NetRxForgot, rx_round as net_rx_round}
+use Rattle.net_virt_rx.specs.Sharing.{IsSharer, sharer_hand}
+use Rattle.net_virt_rx.specs.declared.NetVirtRx.{NetVirtRx}
+use Rattle.net_kit.specs.Virtualising.{from_queues, to_queues}
+use Rattle.net_copier.specs.Copying.{FitsCopier, CopierStandsFor, CopierRow, CopierBalances, CopierEnd, copier_round, copier_hand, copier_forgotten}
+use Rattle.net_client.specs.Clients.{FitsClient, ClientStandsFor, ClientRow, ClientBalances, ClientEnd, client_round, client_hand, client_forgotten}
+use Rattle.net_parts.specs.Playing.{HasBuffers, device_part, driver_part, receiver_part, copier_part, sink_part}
+use Rattle.actor_set.specs.Parts.{Part, UartPart, DriverPart, RxPart, TxPart, ClientPart, NetworkPart}
 use Rattle.actor_set.specs.declared.actor.Actor.{Actor}
 use Rattle.actor_set.specs.declared.actor.Actor.TheVariants as Kinds
 
--- the actor's ends are its own, and as it keeps them
+-- the actor's ends are its own, and as it keeps them; and a buffer of the network has 2,048 bytes
 abbrev pub FitsActor : (Role → ℕ → End) → Actor → Type 0
 FitsActor ends (Kinds.UartDevice x) = FitsTerminal ends x.terminal
 FitsActor ends (Kinds.UartDriver x) = FitsPipes ends (two_pipes x.driver.pipes)
 FitsActor ends (Kinds.SerialVirtRx x) = FitsRx ends x
 FitsActor ends (Kinds.SerialVirtTx x) = FitsTx ends x
 FitsActor ends (Kinds.SerialClient x) = FitsTerminal ends x.terminal
+FitsActor ends (Kinds.EthDevice x) = FitsDevice ends x
+FitsActor ends (Kinds.EthDriver x) = FitsPipes ends (four_pipes x.driver.pipes)
+FitsActor ends (Kinds.NetVirtRx x) = FitsNetRx ends x × (x.work.stock.size ≡ 2048)
+FitsActor ends (Kinds.NetCopier x) = FitsCopier ends x
+FitsActor ends (Kinds.NetClient x) = FitsClient ends x × HasBuffers x
 
 -- what it keeps, by what it took and what it put
 abbrev pub ActorStandsFor : Actor → Passed → Type 0
@@ -31,6 +45,11 @@ ActorStandsFor (Kinds.UartDriver x) passed = PipesStandFor (two_pipes x.driver.p
 ActorStandsFor (Kinds.SerialVirtRx x) passed = RxStandsFor x passed
 ActorStandsFor (Kinds.SerialVirtTx x) passed = TxStandsFor x passed
 ActorStandsFor (Kinds.SerialClient x) passed = TerminalStandsFor x.terminal passed
+ActorStandsFor (Kinds.EthDevice x) passed = DeviceStandsFor x passed
+ActorStandsFor (Kinds.EthDriver x) passed = PipesStandFor (four_pipes x.driver.pipes) passed
+ActorStandsFor (Kinds.NetVirtRx x) passed = NetRxStandsFor x passed
+ActorStandsFor (Kinds.NetCopier x) passed = CopierStandsFor x passed
+ActorStandsFor (Kinds.NetClient x) passed = ClientStandsFor x passed
 
 -- what it may have put and recorded, for what it took
 abbrev pub ActorRow : Actor → Passed → Type 0
@@ -39,6 +58,11 @@ ActorRow (Kinds.UartDriver x) passed = PipesRow (two_pipes x.driver.pipes) passe
 ActorRow (Kinds.SerialVirtRx x) passed = RxRow x passed
 ActorRow (Kinds.SerialVirtTx x) passed = TxRow x passed
 ActorRow (Kinds.SerialClient x) passed = TerminalRow x.terminal passed
+ActorRow (Kinds.EthDevice x) passed = DeviceRow x passed
+ActorRow (Kinds.EthDriver x) passed = PipesRow (four_pipes x.driver.pipes) passed
+ActorRow (Kinds.NetVirtRx x) passed = NetRxRow x passed
+ActorRow (Kinds.NetCopier x) passed = CopierRow x passed
+ActorRow (Kinds.NetClient x) passed = ClientRow x passed
 
 -- what it had at the start and what came is what went, what is in its hand, and what it keeps for
 -- good or lends
@@ -48,6 +72,11 @@ ActorBalances (Kinds.UartDriver x) passed = PipesBalance (two_pipes x.driver.pip
 ActorBalances (Kinds.SerialVirtRx x) passed = RxBalances x passed
 ActorBalances (Kinds.SerialVirtTx x) passed = TxBalances x passed
 ActorBalances (Kinds.SerialClient x) passed = TerminalBalances x.terminal passed
+ActorBalances (Kinds.EthDevice x) passed = DeviceBalances x passed
+ActorBalances (Kinds.EthDriver x) passed = PipesBalance (four_pipes x.driver.pipes) passed
+ActorBalances (Kinds.NetVirtRx x) passed = NetRxBalances x passed
+ActorBalances (Kinds.NetCopier x) passed = CopierBalances x passed
+ActorBalances (Kinds.NetClient x) passed = ClientBalances x passed
 
 -- one of its ends
 abbrev pub ActorEnd : Actor → Role → ℕ → Type 0
@@ -56,6 +85,31 @@ ActorEnd (Kinds.UartDriver x) r n = PipesEnd (two_pipes x.driver.pipes) r n
 ActorEnd (Kinds.SerialVirtRx x) r n = RxEnd x r n
 ActorEnd (Kinds.SerialVirtTx x) r n = TxEnd x r n
 ActorEnd (Kinds.SerialClient x) r n = TerminalEnd x.terminal r n
+ActorEnd (Kinds.EthDevice x) r n = DeviceEnd x r n
+ActorEnd (Kinds.EthDriver x) r n = PipesEnd (four_pipes x.driver.pipes) r n
+ActorEnd (Kinds.NetVirtRx x) r n = NetRxEnd x r n
+ActorEnd (Kinds.NetCopier x) r n = CopierEnd x r n
+ActorEnd (Kinds.NetClient x) r n = ClientEnd x r n
+
+-- what a receiving virtualiser keeps fits together: it has one queue each way for each client
+pub record IsWholeReceiver (v : NetVirtRx) : Type 0 where
+  pub work : IsSharer v.work
+  pub from_each : length (from_queues v.ends) ≡ length v.work.macs.items
+  pub to_each : length (to_queues v.ends) ≡ length v.work.macs.items
+
+-- what it keeps fits together, so that its ends can be told and its buffers counted
+abbrev pub IsWhole : Actor → Type 0
+IsWhole (Kinds.UartDevice x) = Unit {0}
+IsWhole (Kinds.UartDriver x) = Unit {0}
+IsWhole (Kinds.SerialVirtRx x) = Unit {0}
+IsWhole (Kinds.SerialVirtTx x) = Unit {0}
+IsWhole (Kinds.SerialClient x) = Unit {0}
+IsWhole (Kinds.EthDevice x) = Unit {0}
+IsWhole (Kinds.EthDriver x) = Unit {0}
+IsWhole (Kinds.NetVirtRx x) = IsWholeReceiver x
+IsWhole (Kinds.NetCopier x) = Unit {0}
+IsWhole (Kinds.NetClient x) =
+    length x.stock.rest.items + length x.spare.items < 2 ^ 32 - 2
 
 -- its ends, and which of them it needs
 abbrev pub actor_round : Actor → Round
@@ -64,6 +118,11 @@ actor_round (Kinds.UartDriver x) = pipes_round (two_pipes x.driver.pipes) x.driv
 actor_round (Kinds.SerialVirtRx x) = rx_round x
 actor_round (Kinds.SerialVirtTx x) = tx_round x
 actor_round (Kinds.SerialClient x) = terminal_round x.terminal
+actor_round (Kinds.EthDevice x) = device_round x
+actor_round (Kinds.EthDriver x) = pipes_round (four_pipes x.driver.pipes) x.driver.turn.last
+actor_round (Kinds.NetVirtRx x) = net_rx_round x
+actor_round (Kinds.NetCopier x) = copier_round x
+actor_round (Kinds.NetClient x) = client_round x
 
 -- nothing is to be done before a notification comes: each of these kinds says it of its ends, and a
 -- kind without such ends would say it otherwise
@@ -74,6 +133,12 @@ actor_rests (Kinds.UartDriver x) = is_at_rest (pipes_round
 actor_rests (Kinds.SerialVirtRx x) = is_at_rest (rx_round x)
 actor_rests (Kinds.SerialVirtTx x) = is_at_rest (tx_round x)
 actor_rests (Kinds.SerialClient x) = is_at_rest (terminal_round x.terminal)
+actor_rests (Kinds.EthDevice x) = is_at_rest (device_round x)
+actor_rests (Kinds.EthDriver x) = is_at_rest (pipes_round
+    (four_pipes x.driver.pipes) x.driver.turn.last)
+actor_rests (Kinds.NetVirtRx x) = is_at_rest (net_rx_round x)
+actor_rests (Kinds.NetCopier x) = is_at_rest (copier_round x)
+actor_rests (Kinds.NetClient x) = is_at_rest (client_round x)
 
 -- a call is its turn: each of these kinds takes its ends in turn
 abbrev pub ActorTurned : Actor → Event → Actor → Type 0
@@ -83,6 +148,12 @@ ActorTurned (Kinds.UartDriver x) e y =
 ActorTurned (Kinds.SerialVirtRx x) e y = Turned (rx_round x) e (actor_round y)
 ActorTurned (Kinds.SerialVirtTx x) e y = Turned (tx_round x) e (actor_round y)
 ActorTurned (Kinds.SerialClient x) e y = Turned (terminal_round x.terminal) e (actor_round y)
+ActorTurned (Kinds.EthDevice x) e y = Turned (device_round x) e (actor_round y)
+ActorTurned (Kinds.EthDriver x) e y =
+    Turned (pipes_round (four_pipes x.driver.pipes) x.driver.turn.last) e (actor_round y)
+ActorTurned (Kinds.NetVirtRx x) e y = Turned (net_rx_round x) e (actor_round y)
+ActorTurned (Kinds.NetCopier x) e y = Turned (copier_round x) e (actor_round y)
+ActorTurned (Kinds.NetClient x) e y = Turned (client_round x) e (actor_round y)
 
 -- the bodies in its hand
 abbrev pub actor_hand : Actor → List Body
@@ -91,6 +162,11 @@ actor_hand (Kinds.UartDriver x) = pipes_hand (two_pipes x.driver.pipes)
 actor_hand (Kinds.SerialVirtRx x) = rx_hand x
 actor_hand (Kinds.SerialVirtTx x) = tx_hand x
 actor_hand (Kinds.SerialClient x) = terminal_hand x.terminal
+actor_hand (Kinds.EthDevice x) = device_hand x
+actor_hand (Kinds.EthDriver x) = pipes_hand (four_pipes x.driver.pipes)
+actor_hand (Kinds.NetVirtRx x) = sharer_hand x.work
+actor_hand (Kinds.NetCopier x) = copier_hand x
+actor_hand (Kinds.NetClient x) = client_hand x
 
 -- the numbers of queues
 abbrev pub numbers : List QueueId → List ℕ
@@ -107,14 +183,24 @@ part_of (Kinds.SerialVirtRx x) = RxPart x.input.queue.0 (numbers (outlet_queues 
 part_of (Kinds.SerialVirtTx x) = TxPart x.output.queue.0 (numbers (intake_queues x.inputs))
 part_of (Kinds.SerialClient x) =
     ClientPart x.terminal.input.queue.0 x.terminal.output.queue.0 x.terminal.script
+part_of (Kinds.EthDevice x) = NetworkPart (device_part x)
+part_of (Kinds.EthDriver x) = NetworkPart (driver_part (four_pipes x.driver.pipes))
+part_of (Kinds.NetVirtRx x) = NetworkPart (receiver_part x)
+part_of (Kinds.NetCopier x) = NetworkPart (copier_part x)
+part_of (Kinds.NetClient x) = NetworkPart (sink_part x)
 
--- the length of a client's record
+-- the length of a client's record: how many bytes, or frames
 abbrev pub record_length : Actor → ℕ
 record_length (Kinds.UartDevice x) = 0
 record_length (Kinds.UartDriver x) = 0
 record_length (Kinds.SerialVirtRx x) = 0
 record_length (Kinds.SerialVirtTx x) = 0
 record_length (Kinds.SerialClient x) = length x.terminal.recorded.shown
+record_length (Kinds.EthDevice x) = 0
+record_length (Kinds.EthDriver x) = 0
+record_length (Kinds.NetVirtRx x) = 0
+record_length (Kinds.NetCopier x) = 0
+record_length (Kinds.NetClient x) = length x.frames.tape.shown
 
 -- the same actor without the last looks
 abbrev pub Forgot : Actor → Actor → Type 0
@@ -125,4 +211,11 @@ Forgot (Kinds.UartDriver x) (Kinds.UartDriver y) =
 Forgot (Kinds.SerialVirtRx x) (Kinds.SerialVirtRx y) = RxForgot x y
 Forgot (Kinds.SerialVirtTx x) (Kinds.SerialVirtTx y) = TxForgot x y
 Forgot (Kinds.SerialClient x) (Kinds.SerialClient y) = y.terminal ≡ terminal_forgotten x.terminal
+Forgot (Kinds.EthDevice x) (Kinds.EthDevice y) = y ≡ device_forgotten x
+Forgot (Kinds.EthDriver x) (Kinds.EthDriver y) =
+    (four_pipes y.driver.pipes ≡ map pipe_forgotten (four_pipes x.driver.pipes))
+    × (y.driver.turn ≡ x.driver.turn)
+Forgot (Kinds.NetVirtRx x) (Kinds.NetVirtRx y) = NetRxForgot x y
+Forgot (Kinds.NetCopier x) (Kinds.NetCopier y) = y ≡ copier_forgotten x
+Forgot (Kinds.NetClient x) (Kinds.NetClient y) = y ≡ client_forgotten x
 Forgot x y = ⊥

@@ -4,11 +4,14 @@ ghost use Rattle.std.specs.Prelude.{◌≡◌, ℕ, IfOk, OnErr};
 ghost use Rattle.wire_core.specs.Ends.{role_of, Role, End};
 ghost use Rattle.wire_core.specs.Lists.{Passed, Stepped};
 ghost use Rattle.cargo_core.specs.Bodies.{buffers_of};
-ghost use Rattle.actor_set.specs.Actors.{FitsActor, ActorStandsFor, ActorRow, ActorBalances, ActorEnd, ActorTurned, Forgot, actor_rests, actor_hand, part_of, record_length};
+ghost use Rattle.actor_set.specs.Actors.{FitsActor, ActorStandsFor, ActorRow, ActorBalances, ActorEnd, ActorTurned, IsWhole, Forgot, actor_rests, actor_hand, part_of, record_length};
 
 use cargo_core::{Memory, PoolId};
-use client_programs::SerialClient;
-use device_model::UartDevice;
+use client_programs::{NetClient, SerialClient};
+use device_model::{EthDevice, UartDevice};
+use eth_driver::EthDriver;
+use net_copier::NetCopier;
+use net_virt_rx::NetVirtRx;
 use serial_virt::{SerialVirtRx, SerialVirtTx};
 use uart_driver::UartDriver;
 use wire_core::{Event, Wires};
@@ -21,11 +24,17 @@ pub enum Actor {
     SerialVirtRx(SerialVirtRx),
     SerialVirtTx(SerialVirtTx),
     SerialClient(SerialClient),
+    EthDevice(EthDevice),
+    EthDriver(EthDriver),
+    NetVirtRx(NetVirtRx),
+    NetCopier(NetCopier),
+    NetClient(NetClient),
 }
 
 impl Actor {
     /// Whether nothing is to be done before a notification comes.
     pub fn at_rest(&self) -> bool
+        requires { IsWhole self.now }
         ensures { result ≡ actor_rests self.now }
     {
         match self {
@@ -34,21 +43,28 @@ impl Actor {
             Actor::SerialVirtRx(virt) => virt.at_rest(),
             Actor::SerialVirtTx(virt) => virt.at_rest(),
             Actor::SerialClient(client) => client.at_rest(),
+            Actor::EthDevice(device) => device.at_rest(),
+            Actor::EthDriver(driver) => driver.at_rest(),
+            Actor::NetVirtRx(virt) => virt.at_rest(),
+            Actor::NetCopier(copier) => copier.at_rest(),
+            Actor::NetClient(client) => client.at_rest(),
         }
     }
 
-    /// The length of a client's record, and 0 for an actor of another kind.
+    /// The length of a client's record, in bytes or in frames, and 0 for an actor of another kind.
     pub fn recorded(&self) -> u64
         ensures { result ≡ record_length self.now }
     {
         match self {
             Actor::SerialClient(client) => client.got().len() as u64,
+            Actor::NetClient(client) => client.got().len() as u64,
             _ => 0,
         }
     }
 
     /// How many buffers of a pool are in its hand; one that it lent isn't.
     pub fn held(&self, pool: PoolId) -> u32
+        requires { IsWhole self.now }
         ensures { result ≡ buffers_of pool (actor_hand self.now) }
     {
         match self {
@@ -57,6 +73,11 @@ impl Actor {
             Actor::SerialVirtRx(virt) => virt.held(pool),
             Actor::SerialVirtTx(virt) => virt.held(pool),
             Actor::SerialClient(client) => client.held(pool),
+            Actor::EthDevice(device) => device.held(pool),
+            Actor::EthDriver(driver) => driver.held(pool),
+            Actor::NetVirtRx(virt) => virt.held(pool),
+            Actor::NetCopier(copier) => copier.held(pool),
+            Actor::NetClient(client) => client.held(pool),
         }
     }
 
@@ -79,6 +100,11 @@ impl Actor {
             Actor::SerialVirtRx(virt) => Ok(virt.step(wires)),
             Actor::SerialVirtTx(virt) => Ok(virt.step(wires)),
             Actor::SerialClient(client) => client.step(wires),
+            Actor::EthDevice(device) => device.step(wires),
+            Actor::EthDriver(driver) => Ok(driver.step(wires)),
+            Actor::NetVirtRx(virt) => virt.step(wires),
+            Actor::NetCopier(copier) => Ok(copier.step(wires)),
+            Actor::NetClient(client) => client.step(wires),
         }
     }
 
@@ -87,6 +113,7 @@ impl Actor {
         ensures after { Forgot self.old self.new }
         ensures part { part_of self.new ≡ part_of self.old }
         ensures recorded { record_length self.new ≡ record_length self.old }
+        ensures whole { IsWhole self.old → IsWhole self.new }
         ensures fits { (ends : Role → ℕ → End) → FitsActor ends self.old → FitsActor ends self.new }
         ensures lists { (passed : Passed) → ActorStandsFor self.old passed
             → ActorStandsFor self.new passed }
@@ -97,6 +124,11 @@ impl Actor {
             Actor::SerialVirtRx(virt) => virt.forget(),
             Actor::SerialVirtTx(virt) => virt.forget(),
             Actor::SerialClient(client) => client.forget(),
+            Actor::EthDevice(device) => device.forget(),
+            Actor::EthDriver(driver) => driver.forget(),
+            Actor::NetVirtRx(virt) => virt.forget(),
+            Actor::NetCopier(copier) => copier.forget(),
+            Actor::NetClient(client) => client.forget(),
         }
     }
 }
@@ -109,6 +141,10 @@ pub fn row_law()
     pipe_driver::row_law();
     serial_virt::rx_row_law();
     serial_virt::tx_row_law();
+    eth_device::row_law();
+    net_virt_rx::row_law();
+    net_copier::row_law();
+    net_client::row_law();
 }
 
 /// For each pool, what an actor had at the start and what came is what went, what is in its hand,
@@ -120,4 +156,8 @@ pub fn hand_law()
     pipe_driver::hand_law();
     serial_virt::rx_hand_law();
     serial_virt::tx_hand_law();
+    eth_device::hand_law();
+    net_virt_rx::hand_law();
+    net_copier::hand_law();
+    net_client::hand_law();
 }

@@ -1,6 +1,7 @@
 //! An actor of each kind begins with its looks to make, and one of them fills its queue.
 
 ghost use Rattle.std.specs.Prelude.{◌≡◌, IfOk};
+ghost use Rattle.actor_set.specs.Actors.{IsWhole};
 
 use crate::Actor;
 use cargo_core::{Bytes, Memory, QueueKind, Text};
@@ -30,7 +31,9 @@ fn row(alloc: Global) -> Result<QueueRow, Memory>
 
 // Whether an actor has looks to make, before they are forgotten and after, and has recorded
 // nothing.
-fn has_looks_to_make(mut actor: Actor) -> bool {
+fn has_looks_to_make(mut actor: Actor) -> bool
+    requires { IsWhole actor }
+{
     let rested = actor.at_rest();
     actor.forget();
     !rested && !actor.at_rest() && actor.recorded() == 0

@@ -1,22 +1,29 @@
 use Rattle.actor_law.proofs.Calm.{sheet_own}
 use Rattle.actor_law.proofs.PartEnds.{to_part, from_part, end_seat, seat_end}
-use Rattle.actor_law.proofs.Rows.{actor_row, heard_here}
+use Rattle.actor_law.proofs.Rows.{actor_row, heard_here, frames_here}
 use Rattle.actor_law.proofs.Rests.{rests}
 use Rattle.actor_law.proofs.Beside.{fits_beside, stands_beside}
+use Rattle.actor_law.proofs.Starts.{fits_whole}
 use Rattle.actor_set.specs.Actors.{part_of}
 use Rattle.actor_law.proofs.actor_law.Goals as goal
 
 pub returns-clause-row : goal.returns-clause-row
-returns-clause-row c = λ scene a passed m stands has. actor_row scene passed m has a stands
+returns-clause-row c = λ scene a passed m turn stands has. actor_row scene passed m has a turn stands
 
 pub returns-clause-record : goal.returns-clause-record
 returns-clause-record c = λ a passed m stands has. heard_here passed m has a stands
 
 pub returns-clause-rests : goal.returns-clause-rests
-returns-clause-rests c = λ scene history journal world a passed fits stands has bells. rests history journal world bells scene a passed fits stands has
+returns-clause-rests c = λ scene history journal world a passed turn fits stands has bells. rests history journal world bells scene a passed turn fits stands has
+
+pub returns-clause-frames : goal.returns-clause-frames
+returns-clause-frames c = λ a passed stands. frames_here passed a stands
+
+pub returns-clause-whole : goal.returns-clause-whole
+returns-clause-whole c = fits_whole
 
 pub returns-clause-ends : goal.returns-clause-ends
-returns-clause-ends c = λ scene a r n own. end_seat scene (part_of a) r n (to_part a r n own)
+returns-clause-ends c = λ scene a r n whole own. end_seat scene (part_of a) r n (to_part a r n whole own)
 
 pub returns-clause-no_others : goal.returns-clause-no_others
 returns-clause-no_others c = λ scene a i s at. from_part a s.role s.queue (seat_end scene (part_of a) i s at)
@@ -28,4 +35,4 @@ pub returns-clause-fits_on : goal.returns-clause-fits_on
 returns-clause-fits_on c = λ old new a kinds same fits. fits_beside old new kinds a same fits
 
 pub returns-clause-stands_on : goal.returns-clause-stands_on
-returns-clause-stands_on c = λ old new a ins outs stands. stands_beside old new a ins outs stands
+returns-clause-stands_on c = λ old new a whole ins outs stands. stands_beside old new a whole ins outs stands

@@ -1,9 +1,12 @@
 use Rattle.actor_law.proofs.Paces.{start_round}
-use Rattle.actor_law.proofs.Starts.{new_stands, new_hand, new_fits}
+use Rattle.actor_law.proofs.Starts.{new_stands, new_whole, new_hand, new_fits}
 use Rattle.actor_law.proofs.start_law.Goals as goal
 
 pub returns-clause-stands : goal.returns-clause-stands
 returns-clause-stands c = new_stands
+
+pub returns-clause-whole : goal.returns-clause-whole
+returns-clause-whole c = new_whole
 
 pub returns-clause-hand : goal.returns-clause-hand
 returns-clause-hand c = new_hand

@@ -1,7 +1,8 @@
-use Rattle.std.proofs.Common.{◌∙◌, sym, ap, subst}
+use Rattle.std.proofs.Common.{◌∙◌, sym, ap, subst, length}
 use Rattle.serial_terminal.specs.Terminals.{terminal_forgotten}
 use Rattle.actor_set.specs.declared.actor.Actor.TheVariants as Kinds
-use Rattle.actor_set.specs.Actors.{FitsActor, Forgot}
+use Rattle.net_virt_rx.specs.Sharing.{IsSharer}
+use Rattle.actor_set.specs.Actors.{FitsActor, IsWhole, IsWholeReceiver, Forgot}
 use Rattle.actor_set.proofs.actor.Actor.forget.Goals as goal
 
 pub returns-in-SerialVirtRx-clause-fits : goal.returns-in-SerialVirtRx-clause-fits
@@ -21,3 +22,19 @@ returns-in-SerialVirtTx-clause-after c = subst (λ a. Forgot a (Kinds.SerialVirt
 
 pub returns-in-SerialClient-clause-after : goal.returns-in-SerialClient-clause-after
 returns-in-SerialClient-clause-after c = subst (λ a. Forgot a (Kinds.SerialClient (record { terminal = c.forget-in-SerialClient.new.self }))) (sym c.in-SerialClient.is) (c.forget-in-SerialClient.ensures.after ∙ ap terminal_forgotten c.deref_mut-in-SerialClient.ensures.value)
+
+pub returns-in-NetVirtRx-clause-fits : goal.returns-in-NetVirtRx-clause-fits
+returns-in-NetVirtRx-clause-fits c = λ ends h. let f = subst (FitsActor ends) c.in-NetVirtRx.is h in (c.forget-in-NetVirtRx.ensures.fits ends f.0, c.forget-in-NetVirtRx.ensures.same.work.stock.size ∙ f.1)
+
+pub returns-in-NetClient-clause-fits : goal.returns-in-NetClient-clause-fits
+returns-in-NetClient-clause-fits c = λ ends h. let f = subst (FitsActor ends) c.in-NetClient.is h in (c.forget-in-NetClient.ensures.fits ends f.0, record { base = c.forget-in-NetClient.ensures.same.stock.base ∙ f.1.base; size = c.forget-in-NetClient.ensures.same.stock.size ∙ f.1.size })
+
+pub returns-in-NetVirtRx-clause-whole : goal.returns-in-NetVirtRx-clause-whole
+returns-in-NetVirtRx-clause-whole c = λ h.
+    let was : IsWholeReceiver c.in-NetVirtRx.virt = subst IsWhole c.in-NetVirtRx.is h in
+    let same = c.forget-in-NetVirtRx.ensures.same in
+    record {
+      work = subst IsSharer (sym c.forget-in-NetVirtRx.ensures.after.work) was.work;
+      from_each = ap (λ qs. length qs) same.ends.from_clients ∙ (was.from_each ∙ sym (ap (λ ms. length ms.items) same.work.macs));
+      to_each = ap (λ qs. length qs) same.ends.to_clients ∙ (was.to_each ∙ sym (ap (λ ms. length ms.items) same.work.macs));
+    }

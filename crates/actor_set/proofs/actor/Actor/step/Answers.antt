@@ -1,10 +1,11 @@
-use Rattle.std.proofs.Common.{sym, subst}
+use Rattle.std.proofs.Common.{◌∙◌, sym, subst}
 use Rattle.serial_terminal.specs.Terminals.{TerminalStandsFor}
 use Rattle.pipe_driver.specs.Drivers.{PipesStandFor}
 use Rattle.pipe_driver.specs.Lengths.{two_pipes}
 use Rattle.serial_virt.specs.Receiving.{RxStandsFor}
 use Rattle.serial_virt.specs.Sending.{TxStandsFor}
-use Rattle.actor_set.specs.Actors.{ActorStandsFor}
+use Rattle.net_client.specs.Clients.{ClientStandsFor}
+use Rattle.actor_set.specs.Actors.{FitsActor, ActorStandsFor}
 use Rattle.actor_set.proofs.Casting.{ok_actor, as_actor}
 use Rattle.actor_set.proofs.actor.Actor.step.Goals as goal
 
@@ -22,3 +23,18 @@ returns-in-SerialVirtRx-clause-stepped g c = as_actor RxStandsFor _ _ _ _ _ _ _ 
 
 pub returns-in-SerialVirtTx-clause-stepped : goal.returns-in-SerialVirtTx-clause-stepped
 returns-in-SerialVirtTx-clause-stepped g c = as_actor TxStandsFor _ _ _ _ _ _ _ _ (λ passed h. subst (λ a. ActorStandsFor a passed) c.in-SerialVirtTx.is h) (λ passed h. h) c.step-in-SerialVirtTx.ensures.stepped
+
+pub returns-in-NetClient-clause-stepped : goal.returns-in-NetClient-clause-stepped
+returns-in-NetClient-clause-stepped g c = ok_actor ClientStandsFor _ _ _ _ _ _ _ c.step-in-NetClient.result (λ passed h. subst (λ a. ActorStandsFor a passed) c.in-NetClient.is h) (λ passed h. h) c.step-in-NetClient.ensures.stepped
+
+pub step-requires-in-NetVirtRx : goal.step-requires-in-NetVirtRx
+step-requires-in-NetVirtRx g c = let f = subst (FitsActor (g.W.Wires.ends c.args.wires.now)) c.in-NetVirtRx.is c.requires in f.0
+
+pub step-requires-in-NetClient : goal.step-requires-in-NetClient
+step-requires-in-NetClient g c = let f = subst (FitsActor (g.W.Wires.ends c.args.wires.now)) c.in-NetClient.is c.requires in f.0
+
+pub returns-in-NetVirtRx-clause-fits : goal.returns-in-NetVirtRx-clause-fits
+returns-in-NetVirtRx-clause-fits g c = let f = subst (FitsActor (g.W.Wires.ends c.args.wires.now)) c.in-NetVirtRx.is c.requires in (c.step-in-NetVirtRx.ensures.fits, c.step-in-NetVirtRx.ensures.same.work.stock.size ∙ f.1)
+
+pub returns-in-NetClient-clause-fits : goal.returns-in-NetClient-clause-fits
+returns-in-NetClient-clause-fits g c = let f = subst (FitsActor (g.W.Wires.ends c.args.wires.now)) c.in-NetClient.is c.requires in (c.step-in-NetClient.ensures.fits, record { base = c.step-in-NetClient.ensures.same.stock.base ∙ f.1.base; size = c.step-in-NetClient.ensures.same.stock.size ∙ f.1.size })

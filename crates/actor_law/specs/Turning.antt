@@ -1,0 +1,21 @@
+-- Where nothing came out of turn at an actor, so that what passed there is as its sheet says of
+-- items.
+use Rattle.wire_core.specs.Lists.{Passed}
+use Rattle.play_core.specs.Sheets.{Scene}
+use Rattle.net_parts.specs.Playing.{AreLeases, ReceivesInTurn, HasBuffers}
+use Rattle.actor_set.specs.declared.actor.Actor.{Actor}
+use Rattle.actor_set.specs.declared.actor.Actor.TheVariants as Kinds
+
+-- nothing came out of turn at an actor: what passed there is what its sheet speaks of. Of most
+-- kinds nothing is asked
+abbrev pub InTurn : Scene → Actor → Passed → Type 0
+InTurn scene (Kinds.UartDevice x) passed = Unit {0}
+InTurn scene (Kinds.UartDriver x) passed = Unit {0}
+InTurn scene (Kinds.SerialVirtRx x) passed = Unit {0}
+InTurn scene (Kinds.SerialVirtTx x) passed = Unit {0}
+InTurn scene (Kinds.SerialClient x) passed = Unit {0}
+InTurn scene (Kinds.EthDevice x) passed = Unit {0}
+InTurn scene (Kinds.EthDriver x) passed = Unit {0}
+InTurn scene (Kinds.NetVirtRx x) passed = ReceivesInTurn scene.frames x passed
+InTurn scene (Kinds.NetCopier x) passed = AreLeases (passed.taken x.lease_input.queue.0)
+InTurn scene (Kinds.NetClient x) passed = HasBuffers x
