@@ -25,6 +25,7 @@ use Rattle.actor_law.specs.Kinds.{serial_part}
 use Rattle.system_core.specs.Shows.{Setting, Shown, hostile_in, moved_in}
 use Rattle.actor_law.specs.Records.{record_by}
 use Rattle.system_core.specs.Lawful.{record_at, IsTold}
+use Rattle.cargo_core.specs.declared.item.QueueKind.TheVariants as Kind
 use Rattle.actor_law.specs.StartStates.{HasSeat}
 use Rattle.system_core.specs.Builds.{number_named, serial_class, first_serial, HasSerial}
 use Rattle.system_core.specs.PlanPlays.{ShowsInPart, ShowsWhole}
@@ -44,7 +45,7 @@ module _ (plan : Plan) (serial : Serial) (has : plan.serial ≡ Some serial) (fi
   abbrev count : ℕ
   count = length serial.client
 
-  holds : (n k : ℕ) (r : Role) → HasSeat (queues_of plan) k r n → Holds (hostile_in s) s.rows n 1
+  holds : (n k : ℕ) (r : Role) → HasSeat (queues_of plan) Kind.Byte k r n → Holds (hostile_in s) s.rows n 1
   holds n k r seat =
       let there : slice_get s.rows n ≡ Some seat.row = ap (λ rs. slice_get rs n) rows ∙ seat.there in
       let c = places n seat.row there in

@@ -10,13 +10,17 @@ use Rattle.sdf_plan.specs.declared.plan.SerialClient.{SerialClient}
 use Rattle.sdf_check.specs.Valid.{Valid}
 use Rattle.trace_text.specs.declared.trace.Trace.{Trace}
 use Rattle.region_layout.specs.Rows.{queues_of, actors_of}
-use Rattle.actor_set.specs.Parts.{Part, UartPart, DriverPart, RxPart, TxPart, ClientPart}
+use Rattle.actor_set.specs.Parts.{Part, UartPart, DriverPart, RxPart, TxPart, ClientPart, NetworkPart}
 use Rattle.actor_set.specs.Actors.{part_of}
 use Rattle.actor_set.specs.declared.actor.Actor.{Actor}
 use Rattle.actor_set.specs.declared.actor.Actor.TheVariants as Kinds
 use Rattle.system_core.specs.Shows.{Setting}
 use Rattle.system_core.specs.States.{begun, crew_of}
-use Rattle.actor_law.specs.StartStates.{HasSeat, HasApartEnds}
+use Rattle.cargo_core.specs.declared.item.QueueKind.TheVariants as Kind
+use Rattle.net_parts.specs.Parts.{NetPart}
+use Rattle.actor_law.specs.StartStates.{HasSeat, HasApartEnds, kind_at}
+use Rattle.actor_law.proofs.Starts.{new_whole}
+use Rattle.wired_law.specs.Wiring.{HasNoNetwork}
 use Rattle.system_core.specs.Seats.{AreSeated}
 use Rattle.system_core.specs.Builds.{HasSerial, first_serial}
 use Rattle.system_core.specs.Jobs.{IsOwner, within, known_queue, known_role, HasJob, SomeJob, job_part, AreCast, AreClients}
@@ -38,6 +42,7 @@ ApartIn (DriverPart device_rx device_tx rx tx) = (device_rx ≡ tx → ⊥) × (
 ApartIn (RxPart rx clients) = (k j m : ℕ) → slice_get clients k ≡ Some m → slice_get clients j ≡ Some m → k ≡ j
 ApartIn (TxPart tx clients) = (k j m : ℕ) → slice_get clients k ≡ Some m → slice_get clients j ≡ Some m → k ≡ j
 ApartIn (ClientPart rx tx script) = Unit {0}
+ApartIn (NetworkPart p) = ⊥
 
 apart_of : (x : Actor) → ApartIn (part_of x) → HasApartEnds x
 apart_of (Kinds.UartDevice x) h = tt
@@ -45,6 +50,31 @@ apart_of (Kinds.SerialClient x) h = tt
 apart_of (Kinds.UartDriver x) h = h
 apart_of (Kinds.SerialVirtRx x) h = λ k j q q' p r e. h k j q.0 (number_there (outlet_queues x.outputs) k q q.0 p refl) (number_there (outlet_queues x.outputs) j q' q.0 r e)
 apart_of (Kinds.SerialVirtTx x) h = λ k j q q' p r e. h k j q.0 (number_there (intake_queues x.inputs) k q q.0 p refl) (number_there (intake_queues x.inputs) j q' q.0 r e)
+apart_of (Kinds.EthDevice x) h = absurd h
+apart_of (Kinds.EthDriver x) h = absurd h
+apart_of (Kinds.NetVirtRx x) h = absurd h
+apart_of (Kinds.NetCopier x) h = absurd h
+apart_of (Kinds.NetClient x) h = absurd h
+
+-- no job of the serial class is one of the network
+not_net : (first n : ℕ) (trace : Trace) (job : Job) (p : NetPart) → NetworkPart p ≡ job_part first n trace job → ⊥
+not_net first n trace Of.Device p e = cc
+not_net first n trace Of.Driver p e = cc
+not_net first n trace Of.Receiver p e = cc
+not_net first n trace Of.Sender p e = cc
+not_net first n trace (Of.Client c) p e = cc
+
+byte_at : (first n : ℕ) (trace : Trace) (job : Job) (x : Actor) → part_of x ≡ job_part first n trace job → kind_at x ≡ Kind.Byte
+byte_at first n trace job (Kinds.UartDevice x) e = refl
+byte_at first n trace job (Kinds.UartDriver x) e = refl
+byte_at first n trace job (Kinds.SerialVirtRx x) e = refl
+byte_at first n trace job (Kinds.SerialVirtTx x) e = refl
+byte_at first n trace job (Kinds.SerialClient x) e = refl
+byte_at first n trace job (Kinds.EthDevice x) e = absurd (not_net first n trace job _ e)
+byte_at first n trace job (Kinds.EthDriver x) e = absurd (not_net first n trace job _ e)
+byte_at first n trace job (Kinds.NetVirtRx x) e = absurd (not_net first n trace job _ e)
+byte_at first n trace job (Kinds.NetCopier x) e = absurd (not_net first n trace job _ e)
+byte_at first n trace job (Kinds.NetClient x) e = absurd (not_net first n trace job _ e)
 
 job_apart : (first n : ℕ) (trace : Trace) (job : Job) → ApartIn (job_part first n trace job)
 job_apart first n trace Of.Device = tt
@@ -125,8 +155,8 @@ module _ (plan : Plan) (valid : Valid plan) (serial : Serial) (net : plan.net �
   named_acts (Of.Client c) a h = role_is_actor plan valid serial net blk has (suc (suc (suc c))) a h
 
   -- a seat under another name of its actor
-  moved : (a b : Peer) (r : Role) (m : ℕ) → HasSeat rows (number a) r m → Some a ≡ Some b → HasSeat rows (number b) r m
-  moved a b r m s e = subst (λ x. HasSeat rows (number x) r m) (some_is e) s
+  moved : (a b : Peer) (r : Role) (m : ℕ) → HasSeat rows Kind.Byte (number a) r m → Some a ≡ Some b → HasSeat rows Kind.Byte (number b) r m
+  moved a b r m s e = subst (λ x. HasSeat rows Kind.Byte (number x) r m) (some_is e) s
 
   client_named : (c : ℕ) (a : Peer) → slice_get roles (suc (suc (suc c))) ≡ Some a → (client : SerialClient) × (slice_get serial.client c ≡ Some client) × (Some client.pd ≡ a)
   client_named c a h =
@@ -135,7 +165,7 @@ module _ (plan : Plan) (valid : Valid plan) (serial : Serial) (net : plan.net �
       (n.0, n.1, ap Some n.2 ∙ m.2)
 
   -- each end of a part is a seat of the actor that has the part's job
-  name_seats : (trace : Trace) (job : Job) (a : Peer) (r : Role) (m : ℕ) → Named job a → PartEnd (job_part first count trace job) r m → HasSeat rows (number a) r m
+  name_seats : (trace : Trace) (job : Job) (a : Peer) (r : Role) (m : ℕ) → Named job a → PartEnd (job_part first count trace job) r m → HasSeat rows Kind.Byte (number a) r m
   name_seats trace Of.Device a Consumer m h e = moved device a Consumer m (seats_1 plan serial has first starts m e).1 (ap Some h)
   name_seats trace Of.Device a Producer m h e = moved device a Producer m (seats_0 plan serial has first starts m e).0 (ap Some h)
   name_seats trace Of.Driver a Consumer m h (inl e) = moved (Some serial.driver) a Consumer m (seats_0 plan serial has first starts m e).1 h
@@ -159,7 +189,7 @@ module _ (plan : Plan) (valid : Valid plan) (serial : Serial) (net : plan.net �
       let client = client_named c a h in
       moved (Some client.0.pd) a Producer m (seats_tx plan serial has first starts c m client.0 e client.1).0 (ap Some client.2)
 
-  known_seat : (job : Job) (a : Peer) → Named job a → within count job × HasSeat rows (number a) (known_role job) (known_queue first job)
+  known_seat : (job : Job) (a : Peer) → Named job a → within count job × HasSeat rows Kind.Byte (number a) (known_role job) (known_queue first job)
   known_seat Of.Device a h = (tt, moved device a Producer first (seats_0 plan serial has first starts first refl).0 (ap Some h))
   known_seat Of.Driver a h = (tt, moved (Some serial.driver) a Consumer first (seats_0 plan serial has first starts first refl).1 h)
   known_seat Of.Receiver a h = (tt, moved (Some serial.rx_virt) a Consumer (first + 2) (seats_2 plan serial has first starts (first + 2) refl).1 h)
@@ -180,7 +210,7 @@ module _ (plan : Plan) (valid : Valid plan) (serial : Serial) (net : plan.net �
         | inr role ↦ (of_role role.0, subst (λ m. HasJob rows first count m (of_role role.0)) w.1 (named_job (of_role role.0) w.0 (named_role role.0 w.0 role.1)))
       ]
 
-  seat_owner : (k j : ℕ) (r : Role) (n : ℕ) → HasSeat rows k r n → IsOwner rows n r j → k ≡ j
+  seat_owner : (k j : ℕ) (r : Role) (n : ℕ) → HasSeat rows Kind.Byte k r n → IsOwner rows n r j → k ≡ j
   seat_owner k j r n s o = sym s.owner ∙ (ap (λ row. owner_of row r) (some_is (sym s.there ∙ o.1)) ∙ o.2)
 
   job_from_name : (job : Job) (a : Peer) (k : ℕ) → Named job a → HasJob rows first count k job → number a ≡ k
@@ -232,17 +262,17 @@ module _ (plan : Plan) (valid : Valid plan) (serial : Serial) (net : plan.net �
 
   -- with the actors that the rows give
   module _ (trace : Trace) (actors : List Actor) (cast : AreCast rows first count (length (actors_of plan)) trace actors) where
-    job_seats : (k : ℕ) (job : Job) (r : Role) (m : ℕ) → HasJob rows first count k job → PartEnd (job_part first count trace job) r m → HasSeat rows k r m
-    job_seats k job r m h e = let n = job_name job k h in subst (λ j. HasSeat rows j r m) n.2 (name_seats trace job n.0 r m n.1 e)
+    job_seats : (k : ℕ) (job : Job) (r : Role) (m : ℕ) → HasJob rows first count k job → PartEnd (job_part first count trace job) r m → HasSeat rows Kind.Byte k r m
+    job_seats k job r m h e = let n = job_name job k h in subst (λ j. HasSeat rows Kind.Byte j r m) n.2 (name_seats trace job n.0 r m n.1 e)
 
     -- a seat of the actor of a name is an end of the part with its job
-    by_role : (i : ℕ) (a : Peer) (r : Role) (n k : ℕ) (row : QueueRow) (job : Job) → slice_get roles i ≡ Some a → HasSeat rows (number a) r n → slice_get rows n ≡ Some row → owner_of row r ≡ k → HasJob rows first count k job → PartEnd (job_part first count trace (of_role i)) r n → PartEnd (job_part first count trace job) r n
+    by_role : (i : ℕ) (a : Peer) (r : Role) (n k : ℕ) (row : QueueRow) (job : Job) → slice_get roles i ≡ Some a → HasSeat rows Kind.Byte (number a) r n → slice_get rows n ≡ Some row → owner_of row r ≡ k → HasJob rows first count k job → PartEnd (job_part first count trace (of_role i)) r n → PartEnd (job_part first count trace job) r n
     by_role i a r n k row job p s there own held end =
         let same : number a ≡ k = sym s.owner ∙ (ap (λ q. owner_of q r) (some_is (sym s.there ∙ there)) ∙ own) in
         let is : job ≡ of_role i = job_of_role i a job p (subst (λ j. HasJob rows first count j job) (sym same) held) in
         subst (λ j. PartEnd (job_part first count trace j) r n) (sym is) end
 
-    by_device : (r : Role) (n k : ℕ) (row : QueueRow) (job : Job) → HasSeat rows (number device) r n → slice_get rows n ≡ Some row → owner_of row r ≡ k → HasJob rows first count k job → PartEnd (job_part first count trace Of.Device) r n → PartEnd (job_part first count trace job) r n
+    by_device : (r : Role) (n k : ℕ) (row : QueueRow) (job : Job) → HasSeat rows Kind.Byte (number device) r n → slice_get rows n ≡ Some row → owner_of row r ≡ k → HasJob rows first count k job → PartEnd (job_part first count trace Of.Device) r n → PartEnd (job_part first count trace job) r n
     by_device r n k row job s there own held end =
         let same : number device ≡ k = sym s.owner ∙ (ap (λ q. owner_of q r) (some_is (sym s.there ∙ there)) ∙ own) in
         let is : job ≡ Of.Device = job_of_device job (subst (λ j. HasJob rows first count j job) (sym same) held) in
@@ -282,13 +312,17 @@ module _ (plan : Plan) (valid : Valid plan) (serial : Serial) (net : plan.net �
     row_end : (n k : ℕ) (r : Role) (row : QueueRow) (job : Job) → slice_get rows n ≡ Some row → owner_of row r ≡ k → HasJob rows first count k job → PartEnd (job_part first count trace job) r n
     row_end n k r row job = let none : first ≡ 0 = first_none plan serial has first starts net blk in class_end n n k r row job (omega (arith, none))
 
+    pub no_network : HasNoNetwork (map part_of actors)
+    no_network k p at = let y = map_from part_of actors k (NetworkPart p) at in let c = cast.each k y.0 y.1 in not_net first count trace c.job p (sym y.2 ∙ c.part)
+
     pub seated : length actors ≤ 65536 → AreSeated rows actors
     seated few = record {
       new = λ k x at. (cast.each k x at).new;
       apart = λ k x at. let c = cast.each k x at in apart_of x (subst ApartIn (sym c.part) (job_apart first count trace c.job));
-      seats = λ k x at r m end. let c = cast.each k x at in job_seats k c.job r m c.has (subst (λ p. PartEnd p r m) c.part (to_part x r m end));
+      seats = λ k x at r m end. let c = cast.each k x at in subst (λ kind. HasSeat rows kind k r m) (sym (byte_at first count trace c.job x c.part)) (job_seats k c.job r m c.has (subst (λ p. PartEnd p r m) c.part (to_part x r m (new_whole x c.new) end)));
       ends = λ k x at n row there r own. let c = cast.each k x at in from_part x r n (subst (λ p. PartEnd p r n) (sym c.part) (row_end n k r row c.job there own c.has));
-      split = λ k x at n a b. let c = cast.each k x at in job_split first count trace c.job n (subst (λ p. PartEnd p Consumer n) c.part (to_part x Consumer n a)) (subst (λ p. PartEnd p Producer n) c.part (to_part x Producer n b));
+      split = λ k x at n a b. let c = cast.each k x at in job_split first count trace c.job n (subst (λ p. PartEnd p Consumer n) c.part (to_part x Consumer n (new_whole x c.new) a)) (subst (λ p. PartEnd p Producer n) c.part (to_part x Producer n (new_whole x c.new) b));
+      wired = inl no_network;
       places = has_places plan valid;
       numbered = let size : length rows ≡ 4 + 2 * count = row_count plan serial has first starts net blk in let c = client_count plan valid serial net blk has in let most : count ≤ 8 = c.1 in omega (arith, size, most);
       peers = λ m row at r. let o = owner_named plan serial has first starts net blk m row at r in

@@ -1,4 +1,4 @@
-use Rattle.std.proofs.Common.{◌≡◌, ◌+◌, ◌*◌, ◌<◌, ◌≤◌, ℕ, Option, Some, None, is_some, List, [], length, map, get_or, refl, sym, ap, ◌∙◌, subst, arith}
+use Rattle.std.proofs.Common.{◌≡◌, ◌+◌, ◌*◌, ◌<◌, ◌≤◌, ℕ, Option, Some, None, is_some, inl, List, [], length, map, get_or, refl, sym, ap, ◌∙◌, subst, arith}
 use Rattle.std.proofs.lemmas.List.{length-map}
 use Rattle.std.proofs.lemmas.Option.{slice_get_read}
 use Rattle.wire_core.specs.declared.names.QueueRow.{QueueRow}
@@ -26,7 +26,7 @@ use Rattle.system_core.specs.Jobs.{IsOwner, SomeJob, AreCast, AreClients}
 use Rattle.system_core.proofs.Scenes.{bare_scene}
 use Rattle.system_core.proofs.Named.{domains_few, client_count}
 use Rattle.system_core.proofs.SerialRows.{row_count, first_none}
-use Rattle.system_core.proofs.Building.{some_job, seated, has_serial}
+use Rattle.system_core.proofs.Building.{some_job, seated, no_network, has_serial}
 use Rattle.system_core.proofs.Begun.{no_queues, no_actors}
 use Rattle.play_core.proofs.Lists.{some_is}
 
@@ -110,7 +110,7 @@ module _ (plan : Plan) (valid : Valid plan) (played : unplayed plan ≡ None) wh
             cast = record {
               rows = rows_are;
               count = length-map actors part_of ∙ cast_of.count_is;
-              scene = bare_scene plan trace (map part_of actors) net blk;
+              scene = bare_scene plan trace (map part_of actors) (no_network plan valid serial net blk has first (sym first_is) trace actors cast_of) net blk;
               serial = λ s is. subst (λ n. HasSerial n plan s trace (begun (start_history rows) rows actors crew)) first_is (subst (λ (x : Serial). HasSerial first plan x trace (begun (start_history rows) rows actors crew)) (some_is (sym has ∙ is)) serial_begun);
               nobody = λ none. let no : None ≡ Some serial = sym none ∙ has in cc;
             };
@@ -128,6 +128,7 @@ module _ (plan : Plan) (valid : Valid plan) (played : unplayed plan ≡ None) wh
         seats = λ k x at. cc;
         ends = λ k x at. cc;
         split = λ k x at. cc;
+        wired = inl (λ k p at. cc);
         places = λ n row at. cc;
         numbered = omega arith;
         peers = λ n row at. cc;
@@ -139,7 +140,7 @@ module _ (plan : Plan) (valid : Valid plan) (played : unplayed plan ≡ None) wh
         cast = record {
           rows = rows_are;
           count = ap length (sym (no_actors plan valid net none blk));
-          scene = bare_scene plan trace [] net blk;
+          scene = bare_scene plan trace [] (λ k p at. cc) net blk;
           serial = λ s is. let no : None ≡ Some s = sym none ∙ is in cc;
           nobody = λ h. record { cast = refl; device = refl; clients = refl };
         };

@@ -22,6 +22,7 @@ use Rattle.system_core.specs.Lawful.{IsFitted}
 use Rattle.system_core.specs.Systems.{GoesOn}
 use Rattle.system_core.proofs.Starting.{start_holds}
 use Rattle.system_core.proofs.Seating.{seated_start}
+use Rattle.actor_law.proofs.Starts.{new_whole}
 use Rattle.actor_law.proofs.PartEnds.{PartEnd, to_part, from_part, end_seat, seat_end}
 
 -- the queues have sizes that wires take
@@ -47,7 +48,7 @@ module _ (history : History) (rows : List QueueRow) (actors : List Actor) (seria
   seat_given k p at x seat =
       let y = map_from part_of actors k p at in
       let own = s.ends k y.0 y.1 x.queue seat.0 seat.1 x.role seat.2 in
-      end_seat scene p x.role x.queue (subst (λ q. PartEnd q x.role x.queue) y.2 (to_part y.0 x.role x.queue own))
+      end_seat scene p x.role x.queue (subst (λ q. PartEnd q x.role x.queue) y.2 (to_part y.0 x.role x.queue (new_whole y.0 (s.new k y.0 y.1)) own))
 
   two_owners : (n : ℕ) (row : QueueRow) → slice_get rows n ≡ Some row → row.producer.0 ≡ row.consumer.0 → ⊥
   two_owners n row at same =
@@ -60,6 +61,7 @@ module _ (history : History) (rows : List QueueRow) (actors : List Actor) (seria
     seated = end_given;
     ends = seat_given;
     split = two_owners;
+    wired = s.wired;
     places = s.places;
   }
 

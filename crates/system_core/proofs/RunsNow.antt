@@ -13,11 +13,12 @@ use Rattle.play_core.specs.Sheets.{Scene, RowsHold}
 use Rattle.play_core.proofs.Lists.{map_from}
 use Rattle.actor_set.specs.Actors.{part_of, actor_rests}
 use Rattle.actor_set.specs.declared.actor.Actor.{Actor}
-use Rattle.actor_law.specs.Kinds.{sheet, manner_of, idles}
-use Rattle.actor_law.specs.Showing.{HaveItems, HaveBells}
+use Rattle.actor_law.specs.Kinds.{sheet, scene_of, manner_of, idles}
+use Rattle.actor_law.specs.Turning.{InTurn}
+use Rattle.rest_law.specs.Showing.{HaveItems, HaveBells}
 use Rattle.actor_law.proofs.Calm.{calm_part}
 use Rattle.actor_law.proofs.Rows.{actor_row}
-use Rattle.actor_law.proofs.Rests.{both, rests}
+use Rattle.actor_law.proofs.Rests.{rests}
 use Rattle.system_core.specs.Systems.{Holds}
 use Rattle.system_core.proofs.SystemStep.{no_row}
 
@@ -27,6 +28,9 @@ not_not false = refl
 
 either : {a b c d : Bool} → a ≡ b → c ≡ d → (a || c) ≡ (b || d)
 either e f = cc
+
+both : {a b c d : Bool} → a ≡ b → c ≡ d → (a && c) ≡ (b && d)
+both e f = cc
 
 -- whose waiters the queues call, as their tracks tell it
 called_queues : (actor n : ℕ) (history : History) (journal : List Entry) (rows : List QueueRow) (world : List Queue) → length world ≡ length rows → ((m : ℕ) (row : QueueRow) → slice_get rows m ≡ Some row → IsShown row (queue_at world m) (track history (n + m) journal)) → list_any (is_called actor) world ≡ called_from actor n history rows journal
@@ -47,14 +51,17 @@ module _ (history : History) (rows : List QueueRow) (w : List Queue) (actors : L
   bells_here : HaveBells w history journal
   bells_here n lt = (h.queues n (get_or rows n no_row) (slice_get-get_or rows n no_row (subst (λ m. n < m) h.size lt))).bells
 
-module _ (scene : Scene) (history : History) (rows : List QueueRow) (w : List Queue) (actors : List Actor) (journal : List Entry) (h : Holds history rows w actors journal) where
+module _ (scene : Scene) (history : History) (rows : List QueueRow) (w : List Queue) (actors : List Actor) (journal : List Entry) (h : Holds history rows w actors journal) (same : scene_of (map part_of actors) ≡ scene) where
+  turns_here : (k : ℕ) (x : Actor) → slice_get actors k ≡ Some x → InTurn scene x h.passed
+  turns_here k x at = subst (λ s. InTurn s x h.passed) same (h.in_turn k x at)
+
   -- each actor's row holds now
   pub rows_now : (hostile : Hostiles) → RowsHold (sheet scene) hostile (map part_of actors) (moved history journal)
-  rows_now hostile k p calm at = let m = map_from part_of actors k p at in subst (λ q. (sheet scene q).row (moved history journal)) m.2 (actor_row scene h.passed (moved history journal) (items_here history rows w actors journal h) m.0 (h.stands k m.0 m.1))
+  rows_now hostile k p calm at = let m = map_from part_of actors k p at in subst (λ q. (sheet scene q).row (moved history journal)) m.2 (actor_row scene h.passed (moved history journal) (items_here history rows w actors journal h) m.0 (turns_here k m.0 m.1) (h.stands k m.0 m.1))
 
   -- an actor is at rest where its part is
   pub rests_here : (k : ℕ) (x : Actor) → slice_get actors k ≡ Some x → actor_rests x ≡ all_settled history journal ((sheet scene (part_of x)).wants (moved history journal))
-  rests_here k x at = rests history journal w (bells_here history rows w actors journal h) scene x h.passed (h.fits k x at) (h.stands k x at) (items_here history rows w actors journal h)
+  rests_here k x at = rests history journal w (bells_here history rows w actors journal h) scene x h.passed (turns_here k x at) (h.fits k x at) (h.stands k x at) (items_here history rows w actors journal h)
 
   pub called_here : (actor : ℕ) → is_pending actor w ≡ called_from actor 0 history rows journal
   called_here actor = called_queues actor 0 history journal rows w h.size (λ m row at. let e : m ≡ 0 + m = omega arith in subst (λ i. IsShown row (queue_at w m) (track history i journal)) e (h.queues m row at))

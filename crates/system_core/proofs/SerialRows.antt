@@ -97,12 +97,12 @@ module _ (plan : Plan) (serial : Serial) (has : plan.serial ≡ Some serial) (fi
 
   -- the two seats at a queue
   seats_at : (n : ℕ) (region : Option ℕ) (offset : ℕ) (name : List ℕ) (from to : ActorId) (capacity : ℕ) → slice_get (queues_of plan) n ≡ Some (queue_in plan region offset name Kind.Byte from to capacity)
-      → HasSeat (queues_of plan) from.0 Producer n × HasSeat (queues_of plan) to.0 Consumer n
+      → HasSeat (queues_of plan) Kind.Byte from.0 Producer n × HasSeat (queues_of plan) Kind.Byte to.0 Consumer n
   unfolding queue_in
-  seats_at n region offset name from to capacity there = (record { row = _; there = there; owner = refl; kind = refl }, record { row = _; there = there; owner = refl; kind = refl })
+  seats_at n region offset name from to capacity there = (record { row = _; there = there; owner = refl; carries = refl }, record { row = _; there = there; owner = refl; carries = refl })
 
   abbrev pub Seat : ActorId → Role → ℕ → Type 0
-  Seat a r n = HasSeat (queues_of plan) a.0 r n
+  Seat a r n = HasSeat (queues_of plan) Kind.Byte a.0 r n
 
   pub seats_0 : (n : ℕ) → n ≡ first → Seat uart Producer n × Seat (named serial.driver) Consumer n
   seats_0 n is = seats_at n _ _ _ _ _ _ (at_row n 0 row_0 (omega (arith, is)) refl)

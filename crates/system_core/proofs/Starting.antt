@@ -3,7 +3,7 @@ use Rattle.std.proofs.lemmas.List.{take_all, take_more, length-map, append-nil}
 use Rattle.std.proofs.lemmas.Option.{slice_get_read, get_or_from_slice_get}
 use Rattle.wire_core.specs.declared.names.QueueRow.{QueueRow}
 use Rattle.wire_core.specs.Lists.{nothing_passed}
-use Rattle.wire_core.specs.Queues.{Queue, starts, queue_at, is_pending}
+use Rattle.wire_core.specs.Queues.{Queue, starts, queue_at, end_at, is_pending}
 use Rattle.wire_core.specs.Journal.{History, start_track, start_history, IsShown}
 use Rattle.wire_core.proofs.BellTheorem.{start_is}
 use Rattle.turn_kit.specs.Pace.{pendings}
@@ -16,8 +16,9 @@ use Rattle.play_core.specs.Wants.{Needful}
 use Rattle.play_core.specs.Sheets.{Scene, needful}
 use Rattle.actor_set.specs.Parts.{Part}
 use Rattle.play_core.specs.Manners.{Manner}
-use Rattle.actor_law.specs.Kinds.{sheet, manner_of, manners, idles}
+use Rattle.actor_law.specs.Kinds.{sheet, scene_of, manner_of, manners, idles}
 use Rattle.actor_law.proofs.Calm.{manner_at}
+use Rattle.wired_law.proofs.Wiring.{in_turn}
 use Rattle.system_core.specs.Runnings.{with_number}
 use Rattle.system_core.specs.Starts.{AreStarting}
 use Rattle.system_core.specs.Systems.{Holds}
@@ -44,10 +45,12 @@ start_holds rows actors s = record {
   stands_there = λ n. sym (nothing_there rows n);
   shows_taken = λ n. ap (λ t. t.taken) (sym (start_is rows n));
   shows_sent = λ n. ap (λ t. t.sent) (sym (start_is rows n));
+  kinds = λ n row at k c there. cc;
   size = simp length-map;
   queues = λ n row at. subst (IsShown row (queue_at (starts rows) n)) (sym (start_is rows n)) (starts_shown rows n row at);
   fits = s.fits;
   stands = s.stands;
+  in_turn = in_turn (end_at (starts rows)) rows actors nothing_passed s.wired (record { fits = s.fits; stands = s.stands; hands_over = λ n. ([], refl); kinds = λ n row at k c there. cc });
   owners = s.owners;
   paced = λ k x at calm. paced_anew (pendings (start_history rows) []) (actor_round x) (s.rounds k x at);
   peers = s.peers;
@@ -122,9 +125,9 @@ module _ (history : History) (rows : List QueueRow) (actors : List Actor) (scene
   flags_many = flags_length (manners cast) 0 history rows wanted [] ∙ simp length-map
 
   -- whether an actor is runnable then
-  pub flag_start : (world : List Queue) (k : ℕ) (x : Actor) (idle : Bool) → Holds history rows world actors [] → k < length actors → x ≡ slice_index_or actors k x → idle ≡ idles (manner_of (part_of x)) (actor_rests x) (is_pending k world) → slice_get flags k ≡ Some (not idle)
-  flag_start world k x idle holds lt at is =
+  pub flag_start : (world : List Queue) (k : ℕ) (x : Actor) (idle : Bool) → scene_of cast ≡ scene → Holds history rows world actors [] → k < length actors → x ≡ slice_index_or actors k x → idle ≡ idles (manner_of (part_of x)) (actor_rests x) (is_pending k world) → slice_get flags k ≡ Some (not idle)
+  flag_start world k x idle same holds lt at is =
       let here : slice_get actors k ≡ Some x = slice_get_read actors _ k x refl lt at in
       let runs : Manner → Bool = λ m. is_runnable m k ((sheet scene (part_of x)).wants (moved history [])) history rows [] in
-      let said : idle ≡ not (runs (manner_of (part_of x))) = is ∙ idle_here scene history rows world actors [] holds k x here in
+      let said : idle ≡ not (runs (manner_of (part_of x))) = is ∙ idle_here scene history rows world actors [] holds same k x here in
       flag_at (manners cast) 0 history rows wanted [] k k ((sheet scene (part_of x)).wants (moved history [])) (omega arith) (map_get (λ p. (sheet scene p).wants (moved history [])) cast k (part_of x) (map_get part_of actors k x here)) ∙ ap Some (ap runs (manner_at cast k (part_of x) (map_get part_of actors k x here)) ∙ (not_not (runs (manner_of (part_of x))) ∙ ap not (sym said)))

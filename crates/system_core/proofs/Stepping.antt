@@ -9,7 +9,9 @@ use Rattle.wire_core.specs.Lists.{Stepped}
 use Rattle.wire_core.specs.Queues.{Queue, Happens, end_at, is_pending}
 use Rattle.wire_core.specs.Journal.{History, Hostiles, MayCall, EachMoment, EachFrom, LegalEntry, owner_of}
 use Rattle.wire_core.proofs.Tracks.{EachFrom-append}
-use Rattle.wire_core.proofs.Places.{slice_get_written}
+use Rattle.wire_core.proofs.Places.{slice_get_written, slice_get_beside}
+use Rattle.std.proofs.Math.Dec.{eqb}
+use Rattle.std.proofs.lemmas.Bool.Decides.{eqb_tells}
 use Rattle.wire_core.specs.Marks.{no_drops, since, since_from, calls_at, AreFew, Brisk}
 use Rattle.turn_kit.specs.Turns.{is_at_rest}
 use Rattle.turn_kit.specs.Pace.{pendings, IsCalled}
@@ -22,7 +24,7 @@ use Rattle.play_core.proofs.Lists.{some_is, map_get, there_is}
 use Rattle.play_core.proofs.Flags.{differs_at, differs_twice, flag_at, flags_length, reach_owns}
 use Rattle.play_core.proofs.Tables.{others_run}
 use Rattle.actor_set.specs.Parts.{Part}
-use Rattle.actor_set.specs.Actors.{FitsActor, ActorStandsFor, ActorEnd, ActorTurned, actor_round, actor_rests, part_of}
+use Rattle.actor_set.specs.Actors.{FitsActor, ActorStandsFor, ActorEnd, ActorTurned, IsWhole, actor_round, actor_rests, part_of}
 use Rattle.actor_set.specs.declared.actor.Actor.{Actor}
 use Rattle.play_core.specs.Manners.{Manner, Manners, Calm}
 use Rattle.actor_law.specs.Kinds.{scene_of, sheet, manner_of, manners, hostiles, idles}
@@ -38,6 +40,8 @@ use Rattle.system_core.proofs.RunsNow.{idle_here, not_not, rests_here}
 use Rattle.actor_law.proofs.PartEnds.{from_part, seat_end}
 use Rattle.actor_law.proofs.Paces.{called_end}
 use Rattle.actor_law.proofs.Rounds.{rests_is}
+use Rattle.actor_law.proofs.Starts.{fits_whole}
+use Rattle.wired_law.specs.Wiring.{IsWired}
 use Rattle.wire_core.proofs.Sinces.{eqb_apart}
 use Rattle.system_core.proofs.Places.{places_kept, places_clear, places_so, places_below, places_few}
 
@@ -92,7 +96,7 @@ module _ (history : History) (rows : List QueueRow) (cast : List Part) where
   running_few room le j = let f : length (places_from 0 (flags j)) ≤ length (flags j) = places_few 0 (flags j) in let g : length (flags j) ≡ length cast = flags_count j in omega arith
 
 -- actor k, which is x, makes the call of event e on a queue of this row, and is then x'
-module _ (history : History) (rows : List QueueRow) (w v : List Queue) (actors : List Actor) (journal : List Entry) (k : ℕ) (x x' : Actor) (e : Event) (row : QueueRow) (here : slice_get actors k ≡ Some x) (old : Holds history rows w actors journal) (seated : AreSeated (sheet (scene_of (map part_of actors))) rows (map part_of actors)) (own : ActorEnd x (role_of e.op) e.queue.0) (st : Stepped ActorStandsFor Happens w v x x' e) (turned : ActorTurned x e x') (pressed : is_at_rest (actor_round x) ≡ true → IsCalled (pendings history journal) (actor_round x).posts) (fits : FitsActor (end_at v) x') (part : part_of x' ≡ part_of x) (there : slice_get rows e.queue.0 ≡ Some row) where
+module _ (history : History) (rows : List QueueRow) (w v : List Queue) (actors : List Actor) (journal : List Entry) (k : ℕ) (x x' : Actor) (e : Event) (row : QueueRow) (here : slice_get actors k ≡ Some x) (old : Holds history rows w actors journal) (seated : AreSeated (sheet (scene_of (map part_of actors))) rows (map part_of actors)) (wired : IsWired rows (map part_of actors)) (own : ActorEnd x (role_of e.op) e.queue.0) (st : Stepped ActorStandsFor Happens w v x x' e) (turned : ActorTurned x e x') (pressed : is_at_rest (actor_round x) ≡ true → IsCalled (pendings history journal) (actor_round x).posts) (fits : FitsActor (end_at v) x') (part : part_of x' ≡ part_of x) (there : slice_get rows e.queue.0 ≡ Some row) where
   abbrev cast : List Part
   cast = map part_of actors
 
@@ -103,7 +107,7 @@ module _ (history : History) (rows : List QueueRow) (w v : List Queue) (actors :
   flag j = flags history rows cast j
 
   then_holds : Holds history rows v (slice_set actors k x') after_
-  then_holds = step_holds history rows w v actors journal k x x' e here old own st turned pressed fits part
+  then_holds = step_holds history rows w v actors journal k x x' e here old own st turned pressed wired fits part
 
   owner : owner_of row (role_of e.op) ≡ k
   owner = old.owners k x here (role_of e.op) e.queue.0 own row there
@@ -137,7 +141,7 @@ module _ (history : History) (rows : List QueueRow) (w v : List Queue) (actors :
       flag_of history rows cast after_ m (part_of z) there
       ∙ ap Some (ap run (manner_at cast m (part_of z) there)
       ∙ (not_not (run (manner_of (part_of z)))
-      ∙ (ap not (sym (idle_here (scene_of cast) history rows v (slice_set actors k x') after_ then_holds m z at)) ∙ sym is)))
+      ∙ (ap not (sym (idle_here (scene_of cast) history rows v (slice_set actors k x') after_ then_holds (ap scene_of (map_same part_of actors k x x' here part)) m z at)) ∙ sym is)))
 
   caller_then : (idle : Bool) → idle ≡ idles (manner_of (part_of x')) (actor_rests x') (is_pending k v) → slice_get (flag after_) k ≡ Some (not idle)
   caller_then idle is = asked_then k x' (not idle) (slice_get_written actors k x x' here) (ap not is)
@@ -172,6 +176,16 @@ rung_there history rows w actors journal old k x e row m within is rung =
     let lt : m < length actors = subst (λ n. n < length actors) o.1 (old.peers e.queue.0 row there o.0) in
     rw length-set lt
 
+-- after a call of one of them all actors fit together as before
+pub all_whole : (w v : List Queue) (actors : List Actor) (k : ℕ) (x x' : Actor) → slice_get actors k ≡ Some x → ((j : ℕ) (y : Actor) → slice_get actors j ≡ Some y → FitsActor (end_at w) y) → FitsActor (end_at v) x' → (j : ℕ) (y : Actor) → slice_get (slice_set actors k x') j ≡ Some y → IsWhole y
+all_whole w v actors k x x' here fits new j y at = by (eqb_tells j k)
+  where
+    by : ((eqb j k ≡ true) × (j ≡ k)) ⊎ ((eqb j k ≡ false) × (j ≢ k)) → IsWhole y
+    by (inl same) =
+        let is : x' ≡ y = some_is (sym (slice_get_written actors k x x' here) ∙ (ap (slice_get (slice_set actors k x')) (sym same.1) ∙ at)) in
+        fits_whole (end_at v) y (subst (FitsActor (end_at v)) is new)
+    by (inr away) = fits_whole (end_at w) y (fits j y (sym (slice_get_beside actors k j x' away.1) ∙ at))
+
 called_so : (a b : Bool) → a ≡ true → (not a || b) ≡ true → b ≡ true
 called_so true b e g = g
 called_so false b e g = cc
@@ -186,7 +200,7 @@ module _ (history : History) (rows : List QueueRow) (serial : Crew) (w : List Qu
       let part : slice_get (map part_of actors) k ≡ Some (part_of x) = map_get part_of actors k x here in
       let so = places_so 0 k k place (flags history rows (map part_of actors) journal) (omega arith) at in
       let flag : is_runnable Calm k (wanted history rows (map part_of actors) (part_of x) journal) history rows journal ≡ true = subst (λ m. is_runnable m k (wanted history rows (map part_of actors) (part_of x) journal) history rows journal ≡ true) (calm_manner (map part_of actors) k) (some_is (sym (flag_of history rows (map part_of actors) journal k (part_of x) part) ∙ so)) in
-      let settled : all_settled history journal (wanted history rows (map part_of actors) (part_of x) journal) ≡ true = sym (rests_here (scene_of (map part_of actors)) history rows w actors journal old k x here) ∙ (rests_is x ∙ rest) in
+      let settled : all_settled history journal (wanted history rows (map part_of actors) (part_of x) journal) ≡ true = sym (rests_here (scene_of (map part_of actors)) history rows w actors journal old refl k x here) ∙ (rests_is x ∙ rest) in
       called_end k x history rows journal
       (λ n row there r owner. let g = fitted.ends k (part_of x) part (record { queue = n; role = r }) (row, there, owner) in from_part x r n (seat_end (scene_of (map part_of actors)) (part_of x) g.0 (record { queue = n; role = r }) g.1))
       (called_so (all_settled history journal (wanted history rows (map part_of actors) (part_of x) journal)) (called_from k 0 history rows journal) settled flag)
@@ -232,15 +246,15 @@ module _ (history : History) (rows : List QueueRow) (serial : Crew) (w v : List 
       let here : slice_get actors k ≡ Some x = slice_get_read actors _ k x refl lt x_is in
       let there : slice_get rows e.queue.0 ≡ Some row = slice_get_read rows _ e.queue.0 row refl (subst (λ n. e.queue.0 < n) old.size st.happened.there) row_is in
       let pressed = runs_called history rows serial w actors journal k x place fitted old here at' in
-      let new = step_holds history rows w v actors journal k x x' e here old own st turned pressed fits part in
+      let new = step_holds history rows w v actors journal k x x' e here old own st turned pressed fitted.wired fits part in
       let cast_is = map_same part_of actors k x x' here part in
       let y_same : y ≡ x' = some_is (sym (slice_get_read (slice_set actors k x') _ k y refl (subst (λ n. k < n) (sym (length-set actors k x')) lt) y_is) ∙ slice_get_written actors k x x' here) in
-      let then_is = running_then history rows w v actors journal k x x' e row here old fitted.seated own st turned pressed fits part there rung woken idle place (sym rung_is) asked (idle_is ∙ ap (λ a. idles (manner_of (part_of a)) (actor_rests a) (is_pending k v)) y_same) at' in
+      let then_is = running_then history rows w v actors journal k x x' e row here old fitted.seated fitted.wired own st turned pressed fits part there rung woken idle place (sym rung_is) asked (idle_is ∙ ap (λ a. idles (manner_of (part_of a)) (actor_rests a) (is_pending k v)) y_same) at' in
       let list_is : with_option rung woken (removed_if idle list place) ≡ runs setting (journal ++ entry_of k e ∷ []) = ap (λ l. with_option rung woken (removed_if idle l place)) running ∙ sym then_is in
       record {
         holds = new;
         cast_is = cast_is;
-        rows_hold = (rows_old.0, EachFrom-append _ [] journal _ rows_old.1 (subst (λ cast. RowsHold (sheet (scene_of (map part_of actors))) (hostiles (map part_of actors)) cast (moved history (journal ++ entry_of k e ∷ []))) cast_is (rows_now (scene_of (map part_of actors)) history rows v (slice_set actors k x') (journal ++ entry_of k e ∷ []) new (hostiles (map part_of actors)))));
+        rows_hold = (rows_old.0, EachFrom-append _ [] journal _ rows_old.1 (subst (λ cast. RowsHold (sheet (scene_of (map part_of actors))) (hostiles (map part_of actors)) cast (moved history (journal ++ entry_of k e ∷ []))) cast_is (rows_now (scene_of (map part_of actors)) history rows v (slice_set actors k x') (journal ++ entry_of k e ∷ []) new (ap scene_of cast_is) (hostiles (map part_of actors)))));
         brisk = (brisk.0, EachFrom-append (λ b d. AreFew (hostile_in setting) no_drops (b ++ d ∷ [])) [] journal (entry_of k e) brisk.1 (subst (λ cast. AreFew (hostiles cast) no_drops (journal ++ entry_of k e ∷ [])) cast_is (few_holds history rows v (slice_set actors k x') (journal ++ entry_of k e ∷ []) new)));
         running = list_is;
         room_is = rw length-set le;

@@ -4,6 +4,7 @@ use Rattle.std.proofs.lemmas.List.{append-nil, map-append}
 use Rattle.std.proofs.lemmas.Option.{slice_get-get_or}
 use Rattle.std.proofs.Math.Dec.{eqb}
 use Rattle.std.proofs.lemmas.Bool.Decides.{eqb_tells}
+use Rattle.cargo_core.specs.Items.{kind_of}
 use Rattle.cargo_core.specs.declared.item.Item.{Item}
 use Rattle.cargo_core.specs.declared.item.QueueKind.TheVariants as Kind
 use Rattle.wire_core.specs.declared.names.QueueRow.{QueueRow}
@@ -27,7 +28,7 @@ use Rattle.turn_kit.specs.Pace.{Paced, pendings, IsCalled}
 use Rattle.turn_kit.proofs.Playing.{pace_own, pace_beside}
 use Rattle.actor_law.proofs.Calm.{calm_row}
 use Rattle.actor_law.proofs.Paces.{post_end, post_waits}
-use Rattle.actor_set.specs.Actors.{FitsActor, ActorStandsFor, ActorEnd, ActorTurned, part_of, actor_round}
+use Rattle.actor_set.specs.Actors.{FitsActor, ActorStandsFor, ActorEnd, ActorTurned, IsWhole, part_of, actor_round}
 use Rattle.actor_law.proofs.Rounds.{turned_is}
 use Rattle.actor_set.specs.Parts.{Part}
 use Rattle.actor_law.specs.Kinds.{hostiles}
@@ -35,6 +36,9 @@ use Rattle.system_core.specs.Systems.{Holds}
 use Rattle.actor_set.specs.declared.actor.Actor.{Actor}
 use Rattle.actor_law.proofs.Beside.{fits_beside, stands_beside}
 use Rattle.actor_law.proofs.PartEnds.{same_part}
+use Rattle.actor_law.proofs.Starts.{fits_whole}
+use Rattle.wired_law.specs.Wiring.{IsWired}
+use Rattle.wired_law.proofs.Wiring.{in_turn}
 use Rattle.play_core.proofs.Lists.{some_is}
 
 pub no_row : QueueRow
@@ -99,6 +103,32 @@ moved_there q (Do.Wanted s) c ss ts m h = still_there q.entries ss ts h
 moved_there q (Do.Settle s) c ss ts m h = still_there q.entries ss ts h
 moved_there q (Do.Ring s) c ss ts m h = still_there q.entries ss ts h
 
+last_or : {X : Type 0} (xs : List X) (l x : X) (k : ℕ) → slice_get (xs ++ l ∷ []) k ≡ Some x → (slice_get xs k ≡ Some x) ⊎ (l ≡ x)
+last_or [] l x zero at = inr (some_is at)
+last_or [] l x (suc k) at = cc
+last_or (y ∷ xs) l x zero at = inl at
+last_or (y ∷ xs) l x (suc k) at = last_or xs l x k at
+
+none_put : (ss : List Cargo) (k : ℕ) (x : Cargo) → slice_get (ss ++ []) k ≡ Some x → slice_get ss k ≡ Some x
+none_put ss k x at = ap (λ l. slice_get l k) (sym (append-nil ss)) ∙ at
+
+-- what is put to a queue is of its kind
+put_kind : (q : Queue) (o : Op) (c ss : List Cargo) → Carries q o c → (k : ℕ) (x : Cargo) → slice_get (ss ++ if_put o c) k ≡ Some x → (slice_get ss k ≡ Some x) ⊎ (kind_of x.0 ≡ q.kind)
+put_kind q Do.Put c ss m k x at = by (last_or ss m.0 x k (ap (λ d. slice_get (ss ++ d) k) (sym m.1) ∙ at))
+  where
+    by : (slice_get ss k ≡ Some x) ⊎ (m.0 ≡ x) → (slice_get ss k ≡ Some x) ⊎ (kind_of x.0 ≡ q.kind)
+    by (inl h) = inl h
+    by (inr e) = inr (ap (λ (y : Cargo). kind_of y.0) (sym e) ∙ m.2)
+put_kind q Do.Take c ss m k x at = inl (none_put ss k x at)
+put_kind q Do.See c ss m k x at = inl (none_put ss k x at)
+put_kind q Do.Room c ss m k x at = inl (none_put ss k x at)
+put_kind q (Do.Ask s) c ss m k x at = inl (none_put ss k x at)
+put_kind q (Do.Waive s) c ss m k x at = inl (none_put ss k x at)
+put_kind q (Do.Wake s) c ss m k x at = inl (none_put ss k x at)
+put_kind q (Do.Wanted s) c ss m k x at = inl (none_put ss k x at)
+put_kind q (Do.Settle s) c ss m k x at = inl (none_put ss k x at)
+put_kind q (Do.Ring s) c ss m k x at = inl (none_put ss k x at)
+
 -- actor k, which is x, makes the call of event e, and is then x'
 module _ (history : History) (rows : List QueueRow) (w v : List Queue) (actors : List Actor) (journal : List Entry) (k : ℕ) (x x' : Actor) (e : Event) (here : slice_get actors k ≡ Some x) (old : Holds history rows w actors journal) (own : ActorEnd x (role_of e.op) e.queue.0) (st : Stepped ActorStandsFor Happens w v x x' e) (turned : ActorTurned x e x') (runs : is_at_rest (actor_round x) ≡ true → IsCalled (pendings history journal) (actor_round x).posts) where
   deed : Deed
@@ -123,6 +153,18 @@ module _ (history : History) (rows : List QueueRow) (w v : List Queue) (actors :
   shows_sent' : (n : ℕ) → items_of (passed'.sent n) ≡ (track history n (journal ++ entry_of k e ∷ [])).sent
   unfolding passed' deed
   shows_sent' n = sent_shown (e.queue.0 == n) (track history n journal) e (cargo_of deed) (old.passed.sent n) st.happened.may.item (old.shows_sent n) ∙ ap (λ t. t.sent) (sym (more n))
+
+  kinds' : (n : ℕ) (row : QueueRow) → slice_get rows n ≡ Some row → (j : ℕ) (c : Cargo) → slice_get (passed'.sent n) j ≡ Some c → ((eqb e.queue.0 n ≡ true) × (e.queue.0 ≡ n)) ⊎ ((eqb e.queue.0 n ≡ false) × (e.queue.0 ≢ n)) → kind_of c.0 ≡ row.kind
+  unfolding passed' deed
+  kinds' n row rat j c at (inl same) =
+      let here : slice_get (old.passed.sent n ++ if_put e.op (cargo_of deed)) j ≡ Some c = subst (λ b. slice_get (old.passed.sent n ++ if_there b (if_put e.op (cargo_of deed))) j ≡ Some c) same.0 at in
+      elim (put_kind (queue_at w e.queue.0) e.op (cargo_of deed) (old.passed.sent n) st.happened.may.carries j c here) [
+        | inl was ↦ old.kinds n row rat j c was
+        | inr is ↦ is ∙ (old.queues e.queue.0 row (rw same.1 rat)).kind
+      ]
+  kinds' n row rat j c at (inr away) =
+      let here : slice_get (old.passed.sent n ++ []) j ≡ Some c = subst (λ b. slice_get (old.passed.sent n ++ if_there b (if_put e.op (cargo_of deed))) j ≡ Some c) away.0 at in
+      old.kinds n row rat j c (none_put (old.passed.sent n) j c here)
 
   size' : length v ≡ length rows
   size' = ap length st.happened.after_is ∙ (length-set w e.queue.0 _ ∙ old.size)
@@ -163,14 +205,14 @@ module _ (history : History) (rows : List QueueRow) (w v : List Queue) (actors :
   stands' j y at (inl same) = let e : x' ≡ y = some_is (sym (slice_get_written actors k x x' here) ∙ (ap (slice_get (slice_set actors k x')) (sym same.1) ∙ at)) in subst (λ a. ActorStandsFor a passed') e (st.kept old.passed (old.stands k x here))
   stands' j y at (inr away) =
       let was : slice_get actors j ≡ Some y = sym (slice_get_beside actors k j x' away.1) ∙ at in
-      stands_beside old.passed passed' y
+      stands_beside old.passed passed' y (fits_whole (end_at w) y (old.fits j y was))
       (λ n theirs. ap (λ c. old.passed.taken n ++ c) (take_beside deed n (λ a b. apart j y was away.1 (subst (λ r. ActorEnd y r e.queue.0) (sym a) (subst (ActorEnd y Consumer) (sym b) theirs)))) ∙ append-nil (old.passed.taken n))
       (λ n theirs. ap (λ c. old.passed.sent n ++ c) (put_beside deed n (λ a b. apart j y was away.1 (subst (λ r. ActorEnd y r e.queue.0) (sym a) (subst (ActorEnd y Producer) (sym b) theirs)))) ∙ append-nil (old.passed.sent n))
       (old.stands j y was)
 
-  owners' : part_of x' ≡ part_of x → (j : ℕ) (y : Actor) → slice_get (slice_set actors k x') j ≡ Some y → ((eqb j k ≡ true) × (j ≡ k)) ⊎ ((eqb j k ≡ false) × (j ≢ k)) → (r : Role) (n : ℕ) → ActorEnd y r n → (row : QueueRow) → slice_get rows n ≡ Some row → owner_of row r ≡ j
-  owners' part j y at (inl same) r n theirs row rat = let e : y ≡ x' = some_is (sym at ∙ (ap (slice_get (slice_set actors k x')) same.1 ∙ slice_get_written actors k x x' here)) in old.owners k x here r n (same_part x x' r n part (subst (λ a. ActorEnd a r n) e theirs)) row rat ∙ sym same.1
-  owners' part j y at (inr away) r n theirs row rat = old.owners j y (sym (slice_get_beside actors k j x' away.1) ∙ at) r n theirs row rat
+  owners' : part_of x' ≡ part_of x → IsWhole x' → (j : ℕ) (y : Actor) → slice_get (slice_set actors k x') j ≡ Some y → ((eqb j k ≡ true) × (j ≡ k)) ⊎ ((eqb j k ≡ false) × (j ≢ k)) → (r : Role) (n : ℕ) → ActorEnd y r n → (row : QueueRow) → slice_get rows n ≡ Some row → owner_of row r ≡ j
+  owners' part whole j y at (inl same) r n theirs row rat = let e : y ≡ x' = some_is (sym at ∙ (ap (slice_get (slice_set actors k x')) same.1 ∙ slice_get_written actors k x x' here)) in old.owners k x here r n (same_part x x' r n part whole (subst (λ a. ActorEnd a r n) e theirs)) row rat ∙ sym same.1
+  owners' part whole j y at (inr away) r n theirs row rat = old.owners j y (sym (slice_get_beside actors k j x' away.1) ∙ at) r n theirs row rat
 
   abbrev hostile : Hostiles
   hostile = hostiles (map part_of actors)
@@ -205,17 +247,24 @@ module _ (history : History) (rows : List QueueRow) (w v : List Queue) (actors :
       pace_beside hostile no_drops history rows journal (entry_of k e) legal' (calm_row (map part_of actors) legal'.row) j (actor_round y) (λ h. away.1 (sym h)) (λ i p pat row rat. old.owners j y was (waiting_role p.side) p.queue (post_end y i p pat) row rat) (old.paced j y was calm)
 
   -- all goes on to hold
-  pub step_holds : FitsActor (end_at v) x' → part_of x' ≡ part_of x → Holds history rows v (slice_set actors k x') (journal ++ entry_of k e ∷ [])
-  step_holds new part = record {
+  pub step_holds : IsWired rows (map part_of actors) → FitsActor (end_at v) x' → part_of x' ≡ part_of x → Holds history rows v (slice_set actors k x') (journal ++ entry_of k e ∷ [])
+  step_holds wired new part = record {
     passed = passed';
     stands_there = λ n. there_after n (eqb_tells e.queue.0 n);
     shows_taken = shows_taken';
     shows_sent = shows_sent';
+    kinds = λ n row at j c there. kinds' n row at j c there (eqb_tells e.queue.0 n);
     size = size';
     queues = queues';
     fits = λ j y at. fits' new j y at (eqb_tells j k);
     stands = λ j y at. stands' j y at (eqb_tells j k);
-    owners = λ j y at. owners' part j y at (eqb_tells j k);
+    in_turn = in_turn (end_at v) rows (slice_set actors k x') passed' (subst (IsWired rows) (sym (map_same part_of actors k x x' here part)) wired) (record {
+      fits = λ j y at. fits' new j y at (eqb_tells j k);
+      stands = λ j y at. stands' j y at (eqb_tells j k);
+      hands_over = λ n. ((queue_at v n).entries, sym (there_after n (eqb_tells e.queue.0 n)));
+      kinds = λ n row at j c there. kinds' n row at j c there (eqb_tells e.queue.0 n);
+    });
+    owners = λ j y at. owners' part (fits_whole (end_at v) x' new) j y at (eqb_tells j k);
     paced = λ j y at calm. paced' j y at (subst (λ cast. hostiles cast j ≡ false) (map_same part_of actors k x x' here part) calm) (eqb_tells j k);
     peers = λ n row at r. rw length-set (old.peers n row at r);
     few = rw length-set old.few;

@@ -1,7 +1,7 @@
 -- What a step asks of the other owner that its call reaches.
 use Rattle.std.specs.Prelude.{◌≡◌, ℕ, Bool, not, Option, Some, List, slice_get}
 use Rattle.wire_core.specs.Queues.{Queue, is_pending}
-use Rattle.actor_set.specs.Actors.{actor_rests, part_of}
+use Rattle.actor_set.specs.Actors.{IsWhole, actor_rests, part_of}
 use Rattle.actor_set.specs.declared.actor.Actor.{Actor}
 use Rattle.actor_law.specs.Kinds.{manner_of, idles}
 
@@ -10,3 +10,7 @@ abbrev pub IsAsked : List Actor → List Queue → Option ℕ → Bool → Type 
 IsAsked actors world other runs = (k : ℕ) → other ≡ Some k
     → (x : Actor) × (slice_get actors k ≡ Some x)
     × (runs ≡ not (idles (manner_of (part_of x)) (actor_rests x) (is_pending k world)))
+
+-- what each of these actors keeps fits together
+abbrev pub AreWhole : List Actor → Type 0
+AreWhole actors = (k : ℕ) (x : Actor) → slice_get actors k ≡ Some x → IsWhole x

@@ -12,6 +12,7 @@ use Rattle.play_core.specs.Sheets.{AreSeated, IsSeat}
 use Rattle.play_core.specs.Still.{IsPeopled}
 use Rattle.actor_set.specs.Parts.{Part}
 use Rattle.actor_law.specs.Records.{record_by}
+use Rattle.wired_law.specs.Wiring.{IsWired}
 use Rattle.system_core.specs.Shows.{Setting, Shown, hostile_in, sheet_in, moved_in, RowsStand}
 
 -- the rows and the actors fit one another
@@ -26,6 +27,8 @@ pub record IsFitted (s : Setting) : Type 0 where
   -- no actor has both ends of a queue
   pub split : (n : ℕ) (row : QueueRow) → slice_get s.rows n ≡ Some row
       → row.producer.0 ≡ row.consumer.0 → ⊥
+  -- the network's actors, if there are any, are a whole receive half at the layout's queues
+  pub wired : IsWired s.rows s.cast
   -- each queue can hold an entry
   pub places : (n : ℕ) (row : QueueRow) → slice_get s.rows n ≡ Some row → IsCapacity row.capacity
 

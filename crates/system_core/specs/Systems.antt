@@ -9,7 +9,9 @@ use Rattle.wire_core.specs.Journal.{History, track, IsShown, LegalJournal, Bells
 use Rattle.wire_core.specs.Marks.{no_drops, since}
 use Rattle.turn_kit.specs.Pace.{Paced, pendings}
 use Rattle.actor_set.specs.Actors.{FitsActor, ActorStandsFor, ActorEnd, part_of, actor_round}
-use Rattle.actor_law.specs.Kinds.{hostiles}
+use Rattle.actor_law.specs.Kinds.{hostiles, scene_of}
+use Rattle.actor_law.specs.Turning.{InTurn}
+use Rattle.wired_law.specs.Wiring.{AreOfKind}
 use Rattle.system_core.specs.Shows.{Setting, hostile_in}
 use Rattle.system_core.specs.Lawful.{IsFitted}
 use Rattle.actor_set.specs.declared.actor.Actor.{Actor}
@@ -23,11 +25,16 @@ pub record Holds (history : History) (rows : List QueueRow) (world : List Queue)
   pub stands_there : (n : ℕ) → passed.sent n ≡ passed.taken n ++ (queue_at world n).entries
   pub shows_taken : (n : ℕ) → items_of (passed.taken n) ≡ (track history n journal).taken
   pub shows_sent : (n : ℕ) → items_of (passed.sent n) ≡ (track history n journal).sent
+  -- what was put to a queue is of its kind
+  pub kinds : AreOfKind rows passed
   pub size : length world ≡ length rows
   pub queues : (n : ℕ) (row : QueueRow) → slice_get rows n ≡ Some row
       → IsShown row (queue_at world n) (track history n journal)
   pub fits : (k : ℕ) (x : Actor) → slice_get actors k ≡ Some x → FitsActor (end_at world) x
   pub stands : (k : ℕ) (x : Actor) → slice_get actors k ≡ Some x → ActorStandsFor x passed
+  -- nothing came out of turn at any actor
+  pub in_turn : (k : ℕ) (x : Actor) → slice_get actors k ≡ Some x
+      → InTurn (scene_of (map part_of actors)) x passed
   pub owners : (k : ℕ) (x : Actor) → slice_get actors k ≡ Some x → (r : Role) (n : ℕ)
       → ActorEnd x r n → (row : QueueRow) → slice_get rows n ≡ Some row → owner_of row r ≡ k
   -- what each actor that isn't hostile did since its last mark

@@ -6,7 +6,7 @@ ghost use Rattle.wire_core.specs.Queues.{is_pending};
 ghost use Rattle.wire_core.specs.Ends.{role_of};
 ghost use Rattle.wire_core.specs.Journal.{start_history, owner_of};
 ghost use Rattle.play_core.specs.Runs.{other_owner, reaches, reach_of};
-ghost use Rattle.actor_set.specs.Actors.{actor_rests, part_of};
+ghost use Rattle.actor_set.specs.Actors.{IsWhole, actor_rests, part_of};
 ghost use Rattle.trace_text.specs.Traces.{IsReadFor};
 ghost use Rattle.region_layout.specs.Layouts.{layout_of};
 ghost use Rattle.sdf_check.specs.Valid.{Valid};
@@ -20,7 +20,7 @@ ghost use Rattle.system_core.specs.Lawful.{StandsLawful};
 ghost use Rattle.system_core.specs.Reports.{report_of};
 ghost use Rattle.system_core.specs.Runnings.{removed_if, with_option};
 ghost use Rattle.system_core.specs.Plays.{Played, IsSpent, StepsAt, runnable_now};
-ghost use Rattle.system_core.specs.Asking.{IsAsked};
+ghost use Rattle.system_core.specs.Asking.{IsAsked, AreWhole};
 ghost use Rattle.system_core.specs.Builds.{unplayed, IsBuilt};
 ghost use Rattle.system_core.specs.PlanPlays.{IsPlayed, HasEnded};
 
@@ -92,6 +92,7 @@ pub fn unplayed(plan: &Plan) -> Option<Place>
 
 // Whether the actor at a place isn't runnable.
 fn is_idle(actor: &Actor, world: &World, place: ActorId) -> bool
+    requires { IsWhole actor.now }
     ensures { result ≡ idles (manner_of (part_of actor.now)) (actor_rests actor.now)
         (is_pending place.0 world.now) }
 {
@@ -147,7 +148,8 @@ fn reach(op: Op, row: &QueueRow, caller: u16) -> Option<u16>
 
 // Whether the other owner that a call reaches is runnable now.
 fn is_runnable(actors: &[Actor], world: &World, other: Option<u16>) -> bool
-    requires { (k : ℕ) → other ≡ Some k → k < length actors.now }
+    requires there { (k : ℕ) → other ≡ Some k → k < length actors.now }
+    requires whole { AreWhole actors.now }
     ensures { IsAsked actors.now world.now other result }
 {
     match other {

@@ -1,4 +1,4 @@
-use Rattle.std.proofs.Common.{◌∙◌, ap, None, [], map, arith}
+use Rattle.std.proofs.Common.{◌∙◌, ap, refl, None, [], map, arith}
 use Rattle.actor_set.specs.Actors.{part_of}
 use Rattle.actor_law.specs.Kinds.{scene_of, hostiles}
 use Rattle.system_core.specs.States.{history_of, begun, crew_of}
@@ -14,7 +14,7 @@ invariant_of-system c = record {
   fitted = c.requires.fitted;
   before = c.requires.before;
   holds = rw c.new.ensures.items c.requires.holds;
-  rows_hold = rw c.new.ensures.items (rows_now (scene_of (map part_of c.args.actors.items)) (history_of c.args.rows.items c.args.past.value.items) c.args.rows.items c.args.world c.args.actors.items [] c.requires.holds (hostiles (map part_of c.args.actors.items)), tt);
+  rows_hold = rw c.new.ensures.items (rows_now (scene_of (map part_of c.args.actors.items)) (history_of c.args.rows.items c.args.past.value.items) c.args.rows.items c.args.world c.args.actors.items [] c.requires.holds refl (hostiles (map part_of c.args.actors.items)), tt);
   brisk = rw c.new.ensures.items ((λ a calm r n. omega arith), tt);
   running = rw c.new.ensures.items (c.in_ok-running.ensures.list
       ∙ (ap (λ rs. runs (begun (history_of rs c.args.past.value.items) rs c.deref-2.result.now (crew_of None [])) []) c.deref.ensures.value

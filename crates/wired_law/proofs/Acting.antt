@@ -1,0 +1,76 @@
+-- Which kind of actor plays a part of the network.
+use Rattle.std.proofs.Common.{◌≡◌, ℕ, List, refl}
+use Rattle.frame_core.specs.declared.mac.Mac.{Mac}
+use Rattle.eth_device.specs.declared.EthDevice.{EthDevice}
+use Rattle.eth_driver.specs.Four.{four_pipes}
+use Rattle.eth_driver.specs.declared.EthDriver.{EthDriver}
+use Rattle.net_client.specs.declared.NetClient.{NetClient}
+use Rattle.net_copier.specs.declared.NetCopier.{NetCopier}
+use Rattle.net_virt_rx.specs.declared.NetVirtRx.{NetVirtRx}
+use Rattle.net_owners.specs.Names.{PoolAt, ClientPools}
+use Rattle.net_parts.specs.Numbers.{device_at, driver_at, receiver_at, copier_at, sink_at}
+use Rattle.net_parts.specs.Playing.{device_part, driver_part, receiver_part, copier_part, sink_part}
+use Rattle.actor_set.specs.Parts.{NetworkPart}
+use Rattle.actor_set.specs.Actors.{part_of}
+use Rattle.actor_set.specs.declared.actor.Actor.{Actor}
+use Rattle.actor_set.specs.declared.actor.Actor.TheVariants as Kinds
+
+pub device_actor : (first : ℕ) (frames : List (List ℕ)) (x : Actor) → part_of x ≡ NetworkPart (device_at first frames) → (d : EthDevice) × (x ≡ Kinds.EthDevice d) × (device_part d ≡ device_at first frames)
+device_actor first frames (Kinds.UartDevice x) e = absurd cc
+device_actor first frames (Kinds.UartDriver x) e = absurd cc
+device_actor first frames (Kinds.SerialVirtRx x) e = absurd cc
+device_actor first frames (Kinds.SerialVirtTx x) e = absurd cc
+device_actor first frames (Kinds.SerialClient x) e = absurd cc
+device_actor first frames (Kinds.EthDevice x) e = (x, refl, cc)
+device_actor first frames (Kinds.EthDriver x) e = absurd cc
+device_actor first frames (Kinds.NetVirtRx x) e = absurd cc
+device_actor first frames (Kinds.NetCopier x) e = absurd cc
+device_actor first frames (Kinds.NetClient x) e = absurd cc
+
+pub driver_actor : (first : ℕ) (x : Actor) → part_of x ≡ NetworkPart (driver_at first) → (d : EthDriver) × (x ≡ Kinds.EthDriver d) × (driver_part (four_pipes d.driver.pipes) ≡ driver_at first)
+driver_actor first (Kinds.UartDevice x) e = absurd cc
+driver_actor first (Kinds.UartDriver x) e = absurd cc
+driver_actor first (Kinds.SerialVirtRx x) e = absurd cc
+driver_actor first (Kinds.SerialVirtTx x) e = absurd cc
+driver_actor first (Kinds.SerialClient x) e = absurd cc
+driver_actor first (Kinds.EthDevice x) e = absurd cc
+driver_actor first (Kinds.EthDriver x) e = (x, refl, cc)
+driver_actor first (Kinds.NetVirtRx x) e = absurd cc
+driver_actor first (Kinds.NetCopier x) e = absurd cc
+driver_actor first (Kinds.NetClient x) e = absurd cc
+
+pub receiver_actor : (first : ℕ) (pool : PoolAt) (macs : List Mac) (x : Actor) → part_of x ≡ NetworkPart (receiver_at first pool macs) → (v : NetVirtRx) × (x ≡ Kinds.NetVirtRx v) × (receiver_part v ≡ receiver_at first pool macs)
+receiver_actor first pool macs (Kinds.UartDevice x) e = absurd cc
+receiver_actor first pool macs (Kinds.UartDriver x) e = absurd cc
+receiver_actor first pool macs (Kinds.SerialVirtRx x) e = absurd cc
+receiver_actor first pool macs (Kinds.SerialVirtTx x) e = absurd cc
+receiver_actor first pool macs (Kinds.SerialClient x) e = absurd cc
+receiver_actor first pool macs (Kinds.EthDevice x) e = absurd cc
+receiver_actor first pool macs (Kinds.EthDriver x) e = absurd cc
+receiver_actor first pool macs (Kinds.NetVirtRx x) e = (x, refl, cc)
+receiver_actor first pool macs (Kinds.NetCopier x) e = absurd cc
+receiver_actor first pool macs (Kinds.NetClient x) e = absurd cc
+
+pub copier_actor : (first k : ℕ) (x : Actor) → part_of x ≡ NetworkPart (copier_at first k) → (c : NetCopier) × (x ≡ Kinds.NetCopier c) × (copier_part c ≡ copier_at first k)
+copier_actor first k (Kinds.UartDevice x) e = absurd cc
+copier_actor first k (Kinds.UartDriver x) e = absurd cc
+copier_actor first k (Kinds.SerialVirtRx x) e = absurd cc
+copier_actor first k (Kinds.SerialVirtTx x) e = absurd cc
+copier_actor first k (Kinds.SerialClient x) e = absurd cc
+copier_actor first k (Kinds.EthDevice x) e = absurd cc
+copier_actor first k (Kinds.EthDriver x) e = absurd cc
+copier_actor first k (Kinds.NetVirtRx x) e = absurd cc
+copier_actor first k (Kinds.NetCopier x) e = (x, refl, cc)
+copier_actor first k (Kinds.NetClient x) e = absurd cc
+
+pub client_actor : (first k : ℕ) (pools : ClientPools) (x : Actor) → part_of x ≡ NetworkPart (sink_at first k pools) → (c : NetClient) × (x ≡ Kinds.NetClient c) × (sink_part c ≡ sink_at first k pools)
+client_actor first k pools (Kinds.UartDevice x) e = absurd cc
+client_actor first k pools (Kinds.UartDriver x) e = absurd cc
+client_actor first k pools (Kinds.SerialVirtRx x) e = absurd cc
+client_actor first k pools (Kinds.SerialVirtTx x) e = absurd cc
+client_actor first k pools (Kinds.SerialClient x) e = absurd cc
+client_actor first k pools (Kinds.EthDevice x) e = absurd cc
+client_actor first k pools (Kinds.EthDriver x) e = absurd cc
+client_actor first k pools (Kinds.NetVirtRx x) e = absurd cc
+client_actor first k pools (Kinds.NetCopier x) e = absurd cc
+client_actor first k pools (Kinds.NetClient x) e = (x, refl, cc)

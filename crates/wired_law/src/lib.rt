@@ -1,0 +1,37 @@
+//! The actors of a cast, of all classes, where the network's are a whole receive half at the
+//! layout's queues: nothing comes out of turn at any actor, so what passed at each is as its sheet
+//! says.
+#![tactic(auto)]
+
+ghost use Rattle.std.specs.Prelude.{◌≡◌, ◌≤◌, ℕ, Some, List, map, slice_get};
+ghost use Rattle.cargo_core.specs.Lists.{IsPrefix};
+ghost use Rattle.frame_core.specs.declared.mac.Mac.{Mac};
+ghost use Rattle.wire_core.specs.declared.names.QueueRow.{QueueRow};
+ghost use Rattle.wire_core.specs.Ends.{Role, End};
+ghost use Rattle.wire_core.specs.Lists.{Passed};
+ghost use Rattle.net_expect.specs.Expecting.{frames_for};
+ghost use Rattle.net_owners.specs.Names.{ClientPools};
+ghost use Rattle.net_parts.specs.Numbers.{sink_at};
+ghost use Rattle.actor_set.specs.Parts.{NetworkPart};
+ghost use Rattle.actor_set.specs.Actors.{part_of};
+ghost use Rattle.actor_set.specs.declared.actor.Actor.{Actor};
+ghost use Rattle.actor_law.specs.Kinds.{scene_of};
+ghost use Rattle.actor_law.specs.Records.{frames_got};
+ghost use Rattle.actor_law.specs.Turning.{InTurn};
+ghost use Rattle.wired_law.specs.Wiring.{NetPlace, HasHalf, IsWired, AreAtWork};
+
+/// Nothing comes out of turn at any actor of a cast that is wired. A network client with buffers of
+/// its own recorded a beginning of the frames that are for its address.
+pub fn wired_law()
+    ensures turns { (ends : Role → ℕ → End) (rows : List QueueRow) (actors : List Actor)
+        (passed : Passed) → IsWired rows (map part_of actors) → AreAtWork ends rows actors passed
+        → (k : ℕ) (x : Actor) → slice_get actors k ≡ Some x
+        → InTurn (scene_of (map part_of actors)) x passed }
+    ensures records { (ends : Role → ℕ → End) (rows : List QueueRow) (actors : List Actor)
+        (passed : Passed) (net : NetPlace) → HasHalf rows net (map part_of actors)
+        → AreAtWork ends rows actors passed
+        → (k c : ℕ) (x : Actor) (mac : Mac) (pools : ClientPools) → slice_get actors k ≡ Some x
+        → part_of x ≡ NetworkPart (sink_at net.first c pools) → 1 ≤ pools.rx.buffers
+        → slice_get net.macs c ≡ Some mac
+        → IsPrefix (frames_got x) (frames_for mac (scene_of (map part_of actors)).frames) }
+{}
