@@ -1,10 +1,8 @@
 -- All clients stand for what passed after one of them was served further.
-use Rattle.std.proofs.Common.{◌≡◌, ◌⊎◌, ◌+◌, ◌<◌, ◌≤◌, ◌==◌, ◌&&◌, ℕ, zero, suc, Bool, true, false, if◌then◌else◌, inl, inr, Option, Some, None, List, [], ◌∷◌, ◌++◌, length, map, flat_map, slice_get, slice_set, refl, sym, ap, ◌∙◌, subst, append_assoc, add-zero, eq-eqb, ne_eqb, length-append, arith}
-use Rattle.std.specs.List.{filter}
-use Rattle.std.specs.Option.{option_to_list}
+use Rattle.std.proofs.Common.{◌≡◌, ◌⊎◌, ◌+◌, ◌≤◌, ◌==◌, ℕ, zero, suc, Bool, true, false, if◌then◌else◌, inl, inr, Option, Some, List, [], ◌∷◌, ◌++◌, length, map, flat_map, slice_get, slice_set, refl, sym, ap, ◌∙◌, subst, append_assoc, eq-eqb, ne_eqb, length-append, arith}
 use Rattle.std.proofs.Math.Seq.{map-set_same}
-use Rattle.std.proofs.lemmas.Bool.{cases_eq, cases_Bool}
-use Rattle.std.proofs.lemmas.Option.{slice_get_within, get_or_from_slice_get}
+use Rattle.std.proofs.lemmas.Bool.{cases_eq}
+use Rattle.std.proofs.lemmas.Option.{get_or_from_slice_get}
 use Rattle.std.proofs.lemmas.List.{append-nil, length-set}
 use Rattle.cargo_core.specs.declared.item.PoolId.{PoolId}
 use Rattle.cargo_core.specs.Ranges.{AreRanges}
@@ -16,16 +14,15 @@ use Rattle.turn_kit.proofs.Holding.{cargo-append}
 use Rattle.turn_kit.proofs.Offers.{get_map}
 use Rattle.blk_mbr.specs.declared.part.Part.{Part}
 use Rattle.blk_virt.specs.declared.client.Client.{Client}
-use Rattle.blk_virt.specs.declared.client.Current.{Current}
 use Rattle.blk_virt.specs.declared.desk.Desk.{Desk}
 use Rattle.blk_virt.specs.declared.requests.Holder.{Holder}
-use Rattle.blk_virt.specs.Requests.{request_of, page_named, is_at, range_of}
+use Rattle.blk_virt.specs.Requests.{request_of, is_at, range_of}
 use Rattle.blk_virt.specs.Serving.{own_of, own_back}
-use Rattle.blk_virt.specs.Clients.{IsClient, ClientStands, Moved, carried, client_cargo, is_away}
-use Rattle.blk_virt.specs.Desks.{IsDesk, DeskStands, OneMoved, LineMoves, SentAs, IsRequestOf, AreOf, IsSomeones, holders, times, away_many, away_at, with_more, desk_cargo}
+use Rattle.blk_virt.specs.Clients.{IsClient, ClientStands, carried, client_cargo, is_away}
+use Rattle.blk_virt.specs.Desks.{IsDesk, DeskStands, OneMoved, LineMoves, IsRequestOf, AreOf, IsSomeones, holders, times, away_many, away_at, with_more, desk_cargo}
 use Rattle.blk_virt.proofs.Moving.{some_eq}
 use Rattle.blk_virt.proofs.Serving.{own_more, own_beside}
-use Rattle.blk_virt.proofs.Desking.{bit_zero, first_is}
+use Rattle.blk_virt.proofs.Desking.{first_is}
 
 -- responses at a client's buffers, where more is sent or answered
 back_none : (h : Holder) (xs : List Cargo) → own_back h xs [] ≡ []

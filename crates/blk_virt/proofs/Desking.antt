@@ -1,26 +1,18 @@
 -- What is kept of all clients, where one of them is served further.
-use Rattle.std.proofs.Common.{◌≡◌, ◌⊎◌, ◌+◌, ◌<◌, ◌≤◌, ◌==◌, ◌&&◌, ◌||◌, ℕ, zero, suc, Bool, true, false, is_some, is_none, inl, inr, Option, Some, None, List, [], ◌∷◌, ◌++◌, length, map, flat_map, slice_get, slice_set, refl, sym, ap, ◌∙◌, subst, eq-eqb, ne_eqb, length-append, arith}
-use Rattle.std.specs.List.{filter, list_any}
-use Rattle.std.specs.Option.{option_map, option_to_list}
+use Rattle.std.proofs.Common.{◌≡◌, ◌⊎◌, ◌+◌, ◌<◌, ◌≤◌, ◌==◌, ◌&&◌, ◌||◌, ℕ, zero, suc, Bool, true, false, is_some, is_none, inl, inr, Option, Some, None, List, [], ◌∷◌, ◌++◌, length, slice_get, slice_set, refl, sym, ap, ◌∙◌, subst, eq-eqb, arith}
+use Rattle.std.specs.List.{list_any}
+use Rattle.std.specs.Option.{option_map}
 use Rattle.std.proofs.lemmas.Bool.{cases_eq, cases_Bool}
-use Rattle.std.proofs.lemmas.Option.{slice_get_within}
-use Rattle.std.proofs.lemmas.List.{append-nil, length-set}
-use Rattle.cargo_core.specs.declared.item.PoolId.{PoolId}
-use Rattle.cargo_core.specs.Ranges.{AreRanges, is_within}
 use Rattle.wire_core.specs.Bells.{bit}
 use Rattle.wire_core.specs.Deeds.{Cargo}
-use Rattle.wire_core.specs.Lists.{if_there}
 use Rattle.wire_core.proofs.Places.{slice_get_written, slice_get_beside}
-use Rattle.turn_kit.proofs.Holding.{cargo-append}
-use Rattle.turn_kit.proofs.Offers.{get_map}
 use Rattle.blk_mbr.specs.declared.part.Part.{Part}
 use Rattle.blk_virt.specs.declared.client.Client.{Client}
-use Rattle.blk_virt.specs.declared.client.Current.{Current}
 use Rattle.blk_virt.specs.declared.desk.Desk.{Desk}
 use Rattle.blk_virt.specs.declared.requests.Holder.{Holder}
-use Rattle.blk_virt.specs.Requests.{request_of, page_named, numbered, number_of, is_at, range_of}
-use Rattle.blk_virt.specs.Clients.{IsClient, ClientStands, Moved, WentOff, carried, client_cargo, is_away, is_held, is_idle, is_leaving, leaving_as}
-use Rattle.blk_virt.specs.Desks.{IsDesk, OneMoved, LineMoves, IsStill, SentAs, IsRequestOf, is_so, needs_at, loaded_at, owes, held_in, held_at, leaving_in, leaving_at, leaving_with, holders, times, away_many, away_at}
+use Rattle.blk_virt.specs.Requests.{numbered, is_at}
+use Rattle.blk_virt.specs.Clients.{Moved, WentOff, is_away, is_held, is_idle, is_leaving, leaving_as}
+use Rattle.blk_virt.specs.Desks.{IsDesk, OneMoved, LineMoves, IsStill, SentAs, is_so, held_in, held_at, leaving_in, leaving_with, times, away_many, away_at}
 use Rattle.blk_virt.proofs.Moving.{some_eq}
 
 bit_one : (b : Bool) → 1 ≤ bit b → b ≡ true

@@ -1,12 +1,11 @@
 -- Which requests go on to the disk, and the addresses at which they are there.
-use Rattle.std.proofs.Common.{◌≡◌, ◌+◌, ◌*◌, ◌<◌, ◌≤◌, ◌==◌, ◌&&◌, ℕ, nat_le, nat_lt, Bool, true, false, ◌⊎◌, inl, inr, length-append, if◌then◌else◌, Option, Some, None, List, ◌∷◌, ◌++◌, [], length, min, ◌^◌, refl, sym, ap, ◌∙◌, subst, arith}
+use Rattle.std.proofs.Common.{◌≡◌, ◌+◌, ◌*◌, ◌<◌, ◌≤◌, ◌==◌, ◌&&◌, ℕ, nat_le, nat_lt, Bool, true, false, ◌⊎◌, inl, inr, length-append, if◌then◌else◌, Option, Some, None, List, ◌∷◌, ◌++◌, [], length, refl, sym, ap, ◌∙◌, arith}
 use Rattle.std.specs.List.{filter}
 use Rattle.std.proofs.lemmas.Bool.{and_parts, and_from, eqb-true, ltb-true, lt-ltb, le-leb, cases_Bool}
 use Rattle.cargo_core.specs.declared.item.Body.TheVariants as Carried
 use Rattle.cargo_core.specs.declared.item.BlkStatus.TheVariants as Answered
 use Rattle.cargo_core.specs.declared.item.Code.{Code}
 use Rattle.cargo_core.specs.declared.item.Code.TheVariants as Asked
-use Rattle.cargo_core.specs.declared.item.Item.TheVariants as ItemOf
 use Rattle.wire_core.specs.Deeds.{Cargo}
 use Rattle.blk_mbr.specs.declared.part.Part.{Part}
 use Rattle.blk_expect.specs.Judging.{status_of, can_move}

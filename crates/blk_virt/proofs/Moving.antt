@@ -1,20 +1,18 @@
 -- What a client stands for after it was served further.
-use Rattle.std.proofs.Common.{◌≡◌, ◌⊎◌, inl, inr, ◌+◌, ◌<◌, ◌≤◌, ◌&&◌, ℕ, Bool, true, false, is_some, is_none, Option, Some, None, List, [], ◌∷◌, ◌++◌, length, map, refl, sym, ap, ◌∙◌, subst, length-append, add-zero, arith}
+use Rattle.std.proofs.Common.{◌≡◌, ◌⊎◌, inl, inr, ◌+◌, ◌&&◌, ℕ, Bool, true, false, is_some, is_none, Option, Some, None, List, [], ◌∷◌, ◌++◌, length, map, refl, sym, ap, ◌∙◌, subst, length-append, arith}
 use Rattle.std.specs.List.{filter}
 use Rattle.std.specs.Option.{option_to_list}
 use Rattle.std.proofs.lemmas.List.{append-nil, map-append}
 use Rattle.cargo_core.specs.declared.item.PoolId.{PoolId}
-use Rattle.cargo_core.specs.declared.item.QueueKind.TheVariants as Kind
 use Rattle.cargo_core.specs.Items.{kind_of}
 use Rattle.wire_core.specs.Deeds.{Cargo}
 use Rattle.turn_kit.proofs.Holding.{cargo-append}
 use Rattle.blk_mbr.specs.declared.part.Part.{Part}
 use Rattle.blk_virt.specs.declared.client.Client.{Client}
 use Rattle.blk_virt.specs.declared.client.Current.{Current}
-use Rattle.blk_virt.specs.declared.requests.Holder.{Holder}
-use Rattle.blk_virt.specs.Requests.{request_of, goes_on, for_disk, numbered, number_of, refusal, passed_on, page_named, brings, is_at}
+use Rattle.blk_virt.specs.Requests.{goes_on, for_disk, numbered, number_of, refusal, passed_on, page_named, brings, is_at}
 use Rattle.blk_virt.specs.Serving.{answers_to, AllBring, unnumbered}
-use Rattle.blk_virt.specs.Clients.{IsClient, ClientStands, Moved, IsPending, IsCurrent, IsOfPage, WentOff, is_idle, is_away, carried, client_cargo, counted}
+use Rattle.blk_virt.specs.Clients.{IsClient, ClientStands, Moved, IsPending, IsOfPage, WentOff, carried, client_cargo, counted}
 use Rattle.blk_virt.proofs.Serving.{filter_yes, filter_no, refused_more, answered_more, bring_more, own_page, numbered_disk}
 use Rattle.blk_virt.proofs.Judging.{at_disk, bad_more}
 

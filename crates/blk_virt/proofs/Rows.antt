@@ -1,5 +1,5 @@
 -- Whatever the virtualiser stands for meets its row.
-use Rattle.std.proofs.Common.{◌≡◌, ◌+◌, ◌<◌, ◌≤◌, ℕ, zero, suc, Option, Some, None, List, [], ◌∷◌, ◌++◌, All, length, map, drop, slice_get, slice_index_or, is_some, true, append_assoc, refl, sym, ap, ◌∙◌, subst, length-append, arith}
+use Rattle.std.proofs.Common.{◌≡◌, ◌+◌, ◌≤◌, ℕ, Option, Some, None, List, [], ◌∷◌, ◌++◌, All, length, drop, slice_get, is_some, true, append_assoc, refl, sym, ap, ◌∙◌, subst, length-append, arith}
 use Rattle.std.specs.List.{filter}
 use Rattle.std.specs.Option.{option_to_list}
 use Rattle.std.proofs.lemmas.List.{append-nil, map-append, length-map}
@@ -18,12 +18,10 @@ use Rattle.blk_virt.specs.declared.opening.Block.{Block}
 use Rattle.blk_virt.specs.declared.requests.Holder.{Holder}
 use Rattle.blk_virt.specs.declared.virtualiser.BlkVirt.{BlkVirt}
 use Rattle.blk_virt.specs.declared.work.Work.{Work}
-use Rattle.blk_virt.specs.Requests.{goes_on, for_disk, numbered, is_bad}
+use Rattle.blk_virt.specs.Requests.{numbered, is_bad}
 use Rattle.blk_virt.specs.Serving.{IsServed, AllBring, answers_to, own_of, own_back, unnumbered}
 use Rattle.blk_virt.specs.Clients.{ClientStands, IsClient, IsPending, capped}
 use Rattle.blk_virt.specs.Openings.{IsOutOfTurn, OpeningStands, KnowsParts, first_read, sector_of}
-use Rattle.blk_virt.specs.Desks.{IsDesk, holders}
-use Rattle.blk_virt.specs.Works.{WorkStands}
 use Rattle.blk_virt.specs.Virtualising.{BlkVirtStandsFor, BlkVirtRow, queue_at}
 use Rattle.blk_virt.proofs.Serving.{answers_front, bring_front}
 

@@ -1,14 +1,12 @@
 -- What the virtualiser stands for after each entry that it put.
-use Rattle.std.proofs.Common.{◌≡◌, ◌⊎◌, ◌+◌, ◌<◌, ◌≤◌, ◌%◌, ◌^◌, ◌&&◌, ◌||◌, ℕ, zero, suc, Bool, true, false, is_some, is_none, inl, inr, Option, Some, None, List, [], ◌∷◌, ◌++◌, length, drop, slice_get, refl, sym, ap, ◌∙◌, subst, length-append, arith}
+use Rattle.std.proofs.Common.{◌≡◌, ◌⊎◌, ◌+◌, ◌<◌, ◌%◌, ◌^◌, ◌&&◌, ◌||◌, ℕ, zero, suc, Bool, true, false, is_some, is_none, inl, inr, Option, Some, None, List, [], ◌∷◌, ◌++◌, length, drop, slice_get, refl, sym, ap, ◌∙◌, subst, length-append, arith}
 use Rattle.std.specs.Option.{option_to_list}
 use Rattle.std.proofs.Math.Nat.{mod-add-mod}
 use Rattle.std.proofs.lemmas.List.{append-nil}
-use Rattle.cargo_core.specs.declared.item.PoolId.{PoolId}
 use Rattle.cargo_core.specs.Pages.{Paged}
 use Rattle.wire_core.specs.declared.names.Event.{Event}
 use Rattle.wire_core.specs.Deeds.{Cargo, put_of}
 use Rattle.wire_core.proofs.Places.{slice_get_written}
-use Rattle.turn_kit.proofs.Holding.{cargo-cons}
 use Rattle.blk_mbr.specs.declared.part.Part.{Part}
 use Rattle.blk_virt.specs.declared.client.Client.{Client}
 use Rattle.blk_virt.specs.declared.desk.Desk.{Desk}
@@ -16,12 +14,12 @@ use Rattle.blk_virt.specs.declared.opening.Block.{Block}
 use Rattle.blk_virt.specs.declared.work.Work.{Work}
 use Rattle.blk_virt.specs.Requests.{number_of}
 use Rattle.blk_virt.specs.Clients.{carried, is_away, is_leaving, is_held}
-use Rattle.blk_virt.specs.Openings.{OpeningStands, KnowsParts, first_read, block_of, block_cargo, is_open, is_reading}
-use Rattle.blk_virt.specs.Desks.{IsDesk, DeskStands, OneMoved, IsRequestOf, IsStill, SentAs, desk_cargo, holders, with_more, needs_at, loaded_at, owes}
-use Rattle.blk_virt.specs.Works.{IsWork, SameWork, WorkStands, WorkIsStill, Sent, Gave, work_cargo}
+use Rattle.blk_virt.specs.Openings.{OpeningStands, first_read, block_of, is_open, is_reading}
+use Rattle.blk_virt.specs.Desks.{IsDesk, DeskStands, OneMoved, IsRequestOf, IsStill, SentAs, desk_cargo, with_more}
+use Rattle.blk_virt.specs.Works.{IsWork, WorkStands, WorkIsStill, Sent, Gave}
 use Rattle.blk_virt.proofs.Moving.{some_eq}
 use Rattle.blk_virt.proofs.Desking.{leaving_not_away}
-use Rattle.blk_virt.proofs.Answering.{moved_desk, moved_held, same_holders, stays, goes}
+use Rattle.blk_virt.proofs.Answering.{moved_held, same_holders, stays, goes}
 use Rattle.blk_virt.proofs.Working.{opened, work_parts, none_lists}
 
 -- what an event put, of a load

@@ -1,7 +1,7 @@
 -- The answers to a client's requests, one more at a time.
-use Rattle.std.proofs.Common.{◌≡◌, ◌+◌, ◌≤◌, ℕ, zero, suc, Bool, true, false, cond, ◌⊎◌, inl, inr, ◌==◌, eq-eqb, if◌then◌else◌, Option, List, [], ◌∷◌, ◌++◌, length, map, refl, sym, ap, ◌∙◌, subst, length-append, arith}
+use Rattle.std.proofs.Common.{◌≡◌, ℕ, suc, Bool, true, false, cond, ◌⊎◌, inl, inr, ◌==◌, eq-eqb, if◌then◌else◌, Option, List, [], ◌∷◌, ◌++◌, length, refl, sym, ap, ◌∙◌, arith}
 use Rattle.std.specs.List.{filter}
-use Rattle.std.proofs.lemmas.List.{append-nil, map-append}
+use Rattle.std.proofs.lemmas.List.{append-nil}
 use Rattle.std.proofs.lemmas.List.Elements.{filter-append}
 use Rattle.std.proofs.lemmas.Bool.{cases_Bool, and_from}
 use Rattle.cargo_core.specs.declared.item.Body.TheVariants as Carried
@@ -12,7 +12,7 @@ use Rattle.wire_core.specs.Deeds.{Cargo}
 use Rattle.blk_mbr.specs.declared.part.Part.{Part}
 use Rattle.blk_virt.specs.declared.requests.Holder.{Holder}
 use Rattle.blk_virt.specs.Requests.{request_of, asked_of_disk, first_block, goes_on, for_disk, numbered, refusal, passed_on, page_named, brings, is_at}
-use Rattle.blk_virt.specs.Serving.{own_of, own_back, answers_to, AllBring, unnumbered}
+use Rattle.blk_virt.specs.Serving.{own_of, answers_to, AllBring}
 
 -- one element more passes, or doesn't
 pub filter_yes : (p : Cargo → Bool) (xs : List Cargo) (x : Cargo) → p x ≡ true → filter p (xs ++ x ∷ []) ≡ filter p xs ++ x ∷ []

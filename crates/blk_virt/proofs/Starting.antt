@@ -1,22 +1,17 @@
 -- The virtualiser at its start.
-use Rattle.std.proofs.Common.{◌≡◌, ◌+◌, ◌<◌, ◌≤◌, ℕ, zero, suc, false, Option, Some, None, List, [], ◌∷◌, ◌++◌, length, map, flat_map, ◌*◌, ◌^◌, slice_get, refl, sym, ap, ◌∙◌, subst, arith}
+use Rattle.std.proofs.Common.{◌≡◌, ◌+◌, ◌<◌, ◌≤◌, ℕ, zero, suc, Option, Some, None, List, [], ◌∷◌, length, map, flat_map, ◌*◌, ◌^◌, slice_get, refl, sym, ap, ◌∙◌, subst, arith}
 use Rattle.std.specs.Option.{option_to_list}
 use Rattle.std.proofs.lemmas.List.{length-map}
 use Rattle.cargo_core.specs.declared.item.PoolId.{PoolId}
-use Rattle.cargo_core.specs.declared.item.Body.TheVariants as Carried
 use Rattle.cargo_core.specs.Bodies.{buffers_of}
 use Rattle.cargo_core.specs.Pages.{Paged}
 use Rattle.cargo_core.specs.Ranges.{AreRanges}
 use Rattle.wire_core.specs.declared.names.QueueId.{QueueId}
 use Rattle.wire_core.specs.Deeds.{Cargo}
 use Rattle.wire_core.specs.Lists.{nothing_passed}
-use Rattle.turn_kit.specs.Hands.{bodies_of, bodies_at}
-use Rattle.turn_kit.proofs.Holding.{cargo-append, cargo-cons}
+use Rattle.turn_kit.specs.Hands.{bodies_at}
 use Rattle.blk_mbr.specs.declared.part.Part.{Part}
 use Rattle.blk_virt.specs.declared.client.Client.{Client}
-use Rattle.blk_virt.specs.declared.desk.Desk.{Desk}
-use Rattle.blk_virt.specs.declared.requests.Holder.{Holder}
-use Rattle.blk_virt.specs.declared.opening.Opening.{Opening}
 use Rattle.blk_virt.specs.declared.virtualiser.BlkEnds.{BlkEnds}
 use Rattle.blk_virt.specs.declared.work.Work.{Work}
 use Rattle.blk_virt.specs.Requests.{range_of}
@@ -24,8 +19,8 @@ use Rattle.blk_virt.specs.Clients.{IsClient, ClientStands, carried, client_cargo
 use Rattle.blk_virt.specs.Openings.{OpeningStands, first_read, block_cargo}
 use Rattle.blk_virt.specs.declared.opening.Block.{Block}
 use Rattle.cargo_core.specs.Items.{kind_of}
-use Rattle.blk_virt.specs.Desks.{IsDesk, DeskStands, AreOf, holders, desk_cargo, away_at, away_many}
-use Rattle.blk_virt.specs.Works.{IsWork, WorkStands, work_cargo}
+use Rattle.blk_virt.specs.Desks.{IsDesk, DeskStands, AreOf, desk_cargo, away_at, away_many}
+use Rattle.blk_virt.specs.Works.{IsWork, WorkStands}
 use Rattle.blk_virt.specs.Virtualising.{AreClients, VirtStands, new_client}
 use Rattle.blk_virt.proofs.Moving.{some_eq}
 use Rattle.blk_virt.proofs.Working.{work_parts}

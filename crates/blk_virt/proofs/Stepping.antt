@@ -1,5 +1,5 @@
 -- What the virtualiser stands for after each call.
-use Rattle.std.proofs.Common.{◌≡◌, ◌⊎◌, ◌+◌, ◌<◌, ◌≤◌, ◌==◌, ℕ, Bool, true, false, not, ◌&&◌, is_some, is_none, inl, inr, Option, Some, None, List, [], ◌∷◌, ◌++◌, length, map, drop, slice_get, slice_index_or, refl, sym, ap, ◌∙◌, subst, eq-eqb, ne_eqb, length-append, arith}
+use Rattle.std.proofs.Common.{◌≡◌, ◌⊎◌, ◌+◌, ◌<◌, ◌==◌, ℕ, Bool, true, false, not, ◌&&◌, is_some, is_none, inl, inr, Option, Some, None, List, [], ◌∷◌, ◌++◌, length, map, drop, slice_get, slice_index_or, refl, sym, ap, ◌∙◌, subst, eq-eqb, ne_eqb, arith}
 use Rattle.std.specs.Option.{option_to_list}
 use Rattle.std.proofs.lemmas.Bool.{cases_eq}
 use Rattle.std.proofs.lemmas.Option.{slice_get-get_or, slice_get_within, get_or_from_slice_get}
@@ -22,11 +22,10 @@ use Rattle.net_kit.proofs.Passing.{none_more, beside, count_more, first_more, la
 use Rattle.blk_mbr.specs.declared.part.Part.{Part}
 use Rattle.blk_virt.specs.declared.client.Client.{Client}
 use Rattle.blk_virt.specs.declared.desk.Desk.{Desk}
-use Rattle.blk_virt.specs.declared.requests.Holder.{Holder}
 use Rattle.blk_virt.specs.declared.work.Work.{Work}
 use Rattle.blk_virt.specs.Serving.{own_of, own_back}
-use Rattle.blk_virt.specs.Clients.{carried, ClientStands}
-use Rattle.blk_virt.specs.Openings.{IsOutOfTurn, OpeningStands}
+use Rattle.blk_virt.specs.Clients.{carried}
+use Rattle.blk_virt.specs.Openings.{IsOutOfTurn}
 use Rattle.blk_virt.specs.Desks.{DeskStands, holders, with_more}
 use Rattle.blk_virt.specs.Works.{IsWork, SameWork, WorkStands, Received, work_cargo}
 use Rattle.blk_virt.specs.Virtualising.{VirtStands, queue_at}

@@ -1,13 +1,12 @@
 -- The turns of the virtualiser.
-use Rattle.std.proofs.Common.{◌≡◌, ℕ, Bool, false, is_none, sym, ap, ◌∙◌, subst, refl}
+use Rattle.std.proofs.Common.{◌≡◌, false, is_none, ap, subst, refl}
 use Rattle.wire_core.specs.declared.names.Event.{Event}
 use Rattle.wire_core.specs.Marks.{is_mark}
 use Rattle.turn_kit.specs.declared.turns.Turn.{Turn}
 use Rattle.turn_kit.specs.Turns.{PostedAt, Turned, choice_of, chosen_place, last_after}
 use Rattle.net_kit.specs.declared.virt_ends.VirtEnd.{VirtEnd}
-use Rattle.net_kit.specs.declared.virt_ends.VirtEnds.{VirtEnds}
-use Rattle.net_kit.specs.Virtualising.{SameVirt, IsThere, virt_posts, place_of, need_of}
-use Rattle.net_kit.proofs.VirtTurns.{turned, SameNeeds}
+use Rattle.net_kit.specs.Virtualising.{IsThere, virt_posts, place_of, need_of}
+use Rattle.net_kit.proofs.VirtTurns.{turned}
 use Rattle.blk_virt.specs.declared.virtualiser.BlkVirt.{BlkVirt}
 use Rattle.blk_virt.specs.declared.work.Work.{Work}
 use Rattle.blk_virt.specs.Works.{WorkIsStill, wants_at, gives_at, is_owing}

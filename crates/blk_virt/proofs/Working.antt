@@ -1,32 +1,28 @@
 -- What the virtualiser stands for after each entry that it took.
-use Rattle.std.proofs.Common.{◌≡◌, ◌⊎◌, ◌+◌, ◌<◌, ◌≤◌, ◌==◌, ◌&&◌, ◌%◌, ◌^◌, ℕ, zero, suc, Bool, true, false, is_some, is_none, inl, inr, Option, Some, None, List, [], ◌∷◌, ◌++◌, length, map, drop, slice_get, refl, sym, ap, ◌∙◌, subst, length-append, arith}
+use Rattle.std.proofs.Common.{◌≡◌, ◌+◌, ◌==◌, ◌&&◌, ℕ, Bool, true, false, is_some, is_none, Option, Some, None, List, [], ◌∷◌, ◌++◌, length, drop, slice_get, refl, sym, ap, ◌∙◌, subst, arith}
 use Rattle.std.specs.Option.{option_to_list}
-use Rattle.std.proofs.lemmas.Bool.{and_parts, cases_Bool}
 use Rattle.std.proofs.lemmas.List.{append-nil}
 use Rattle.cargo_core.specs.declared.item.PoolId.{PoolId}
-use Rattle.cargo_core.specs.Bodies.{buffers_of, buffers_in}
 use Rattle.cargo_core.specs.Pages.{Paged}
 use Rattle.wire_core.specs.Deeds.{Cargo}
 use Rattle.wire_core.specs.Lists.{if_there}
-use Rattle.turn_kit.proofs.Holding.{cargo-append, cargo-cons}
+use Rattle.turn_kit.proofs.Holding.{cargo-append}
 use Rattle.blk_mbr.specs.declared.part.Part.{Part}
 use Rattle.blk_mbr.specs.Partitions.{part_of}
 use Rattle.blk_virt.specs.declared.client.Client.{Client}
 use Rattle.blk_virt.specs.declared.client.Current.{Current}
 use Rattle.blk_virt.specs.declared.desk.Desk.{Desk}
 use Rattle.blk_virt.specs.declared.opening.Block.{Block}
-use Rattle.blk_virt.specs.declared.opening.Opening.{Opening}
-use Rattle.blk_virt.specs.declared.requests.Holder.{Holder}
 use Rattle.blk_virt.specs.declared.requests.PageName.{PageName}
 use Rattle.blk_virt.specs.declared.work.Work.{Work}
-use Rattle.blk_virt.specs.Requests.{page_named, brings, number_of}
+use Rattle.blk_virt.specs.Requests.{brings}
 use Rattle.blk_virt.specs.Clients.{carried, is_away, is_idle, brought}
 use Rattle.blk_virt.specs.Openings.{OpeningStands, KnowsParts, IsOutOfTurn, IsLate, first_read, has_sector, sector_of, block_of, block_cargo, is_first, is_open}
-use Rattle.blk_virt.specs.Desks.{IsDesk, DeskStands, OneMoved, AreOf, IsRequestOf, desk_cargo, holders, due_for, brought_in, is_due, with_more, needs_at, is_so}
-use Rattle.blk_virt.specs.Works.{IsWork, SameWork, WorkStands, Received, work_cargo}
+use Rattle.blk_virt.specs.Desks.{DeskStands, OneMoved, AreOf, due_for, brought_in, is_due, with_more}
+use Rattle.blk_virt.specs.Works.{IsWork, WorkStands}
 use Rattle.blk_virt.proofs.Moving.{some_eq}
-use Rattle.blk_virt.proofs.Desking.{first_is, so_there}
-use Rattle.blk_virt.proofs.Answering.{moved_desk, moved_held, same_holders, stays, answers}
+use Rattle.blk_virt.proofs.Desking.{first_is}
+use Rattle.blk_virt.proofs.Answering.{same_holders, stays, answers}
 
 -- the parts of the hand
 pub work_parts : (pool : PoolId) (first : Option Cargo) (block : Option Block) (desk : List Cargo) (stray : Option Cargo) → carried pool (option_to_list first ++ (block_cargo block ++ (desk ++ option_to_list stray))) ≡ carried pool (option_to_list first) + (carried pool (block_cargo block) + (carried pool desk + carried pool (option_to_list stray)))

@@ -1,13 +1,12 @@
 -- How the block virtualiser begins: it reads the disk's first block with its own buffer, and knows
 -- the partitions once that came.
-use Rattle.std.specs.Prelude.{◌≡◌, ◌&&◌, ◌<◌, ◌^◌, ℕ, nat_le, Bool, true, false, is_none, is_some, Option, None, Some, List, [], ◌∷◌, length, take}
+use Rattle.std.specs.Prelude.{◌≡◌, ◌&&◌, ℕ, nat_le, Bool, false, is_none, is_some, Option, None, Some, List, [], ◌∷◌, length, take}
 use Rattle.cargo_core.specs.declared.item.Body.{Body}
 use Rattle.cargo_core.specs.declared.item.Body.TheVariants as Carried
 use Rattle.cargo_core.specs.declared.item.Code.TheVariants as Asked
 use Rattle.cargo_core.specs.declared.item.Item.TheVariants as ItemOf
 use Rattle.cargo_core.specs.Pages.{Paged}
 use Rattle.wire_core.specs.Deeds.{Cargo}
-use Rattle.std.specs.Option.{option_to_list}
 use Rattle.blk_mbr.specs.declared.part.Part.{Part}
 use Rattle.blk_mbr.specs.Partitions.{part_of, partitions_of}
 use Rattle.blk_virt.specs.declared.opening.Block.{Block}

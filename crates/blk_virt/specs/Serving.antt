@@ -1,6 +1,6 @@
 -- What the block virtualiser does for one client, by what came from it, what went to the driver,
 -- what came back from the driver and what went back to the client.
-use Rattle.std.specs.Prelude.{◌≡◌, ◌+◌, ◌≤◌, ℕ, true, if◌then◌else◌, Option, List, [], ◌∷◌, length, map}
+use Rattle.std.specs.Prelude.{◌≡◌, ◌+◌, ◌≤◌, true, if◌then◌else◌, Option, List, [], ◌∷◌, length, map}
 use Rattle.std.specs.List.{filter}
 use Rattle.cargo_core.specs.Lists.{IsPrefix}
 use Rattle.wire_core.specs.Deeds.{Cargo}

@@ -1,5 +1,4 @@
 use Rattle.std.proofs.Common.{◌≡◌, map, take}
-use Rattle.blk_virt.specs.declared.virtualiser.BlkEnds.{BlkEnds}
 use Rattle.blk_virt.specs.Virtualising.{new_client}
 use Rattle.blk_virt.proofs.virtualiser.clients_of.Given as goal
 

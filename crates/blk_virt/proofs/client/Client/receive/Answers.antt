@@ -1,8 +1,8 @@
-use Rattle.std.proofs.Common.{◌≡◌, Bool, true, false, Some, Option, [], ◌∷◌, sym, ap, ◌∙◌, subst}
+use Rattle.std.proofs.Common.{◌≡◌, true, false, Some, [], ◌∷◌, sym, ap, ◌∙◌, subst}
 use Rattle.wire_core.specs.Deeds.{Cargo}
 use Rattle.blk_virt.specs.declared.client.Client.{Client}
 use Rattle.blk_virt.specs.Requests.{goes_on, for_disk, number_of, page_named, refusal}
-use Rattle.blk_virt.specs.Clients.{Moved, counted}
+use Rattle.blk_virt.specs.Clients.{Moved}
 use Rattle.blk_virt.proofs.Moving.{accepted, refused, idle_parts}
 use Rattle.blk_virt.proofs.client.Client.receive.Goals as goal
 

@@ -1,7 +1,6 @@
 use Rattle.std.proofs.Common.{Some, None, Option, [], ◌∷◌, sym, ap, ◌∙◌, subst}
 use Rattle.blk_virt.specs.declared.client.Current.{Current}
 use Rattle.wire_core.specs.Deeds.{Cargo}
-use Rattle.blk_virt.specs.declared.client.Client.{Client}
 use Rattle.blk_virt.specs.Clients.{Moved, brought}
 use Rattle.blk_virt.proofs.Moving.{came_back, away_parts}
 use Rattle.blk_virt.proofs.client.Client.take_back.Goals as goal

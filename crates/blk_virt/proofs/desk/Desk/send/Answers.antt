@@ -1,15 +1,12 @@
-use Rattle.std.proofs.Common.{◌≡◌, ◌==◌, ℕ, Bool, true, false, Some, Option, [], List, slice_get, slice_set, refl, sym, ap, ◌∙◌, subst}
+use Rattle.std.proofs.Common.{◌≡◌, ◌==◌, ℕ, true, false, Some, Option, [], slice_get, slice_set, refl, sym, ap, ◌∙◌, subst}
 use Rattle.std.specs.Option.{option_to_list, is_some}
 use Rattle.std.proofs.lemmas.Option.{slice_get_read, slice_get_within}
 use Rattle.wire_core.specs.Deeds.{put_of, deed_of, Cargo}
 use Rattle.wire_core.specs.Lists.{put_by, if_there}
 use Rattle.wire_core.proofs.Places.{slice_get_written}
-use Rattle.blk_mbr.specs.declared.part.Part.{Part}
 use Rattle.blk_virt.specs.declared.desk.Desk.{Desk}
-use Rattle.blk_virt.specs.declared.client.Client.{Client}
 use Rattle.blk_virt.specs.Clients.{Moved, WentOff, is_away, is_held, is_idle, is_leaving, leaving_as}
 use Rattle.blk_virt.specs.Desks.{leaving_in, leaving_with}
-use Rattle.blk_virt.proofs.Moving.{some_eq}
 use Rattle.blk_virt.proofs.Desking.{leaving_there, leaving_load, leaving_not_away, has_room, sent_moved, sent_as, still_set, same_leaving}
 use Rattle.blk_virt.proofs.desk.Desk.send.Given as given
 use Rattle.blk_virt.proofs.desk.Desk.send.Goals as goal

@@ -1,7 +1,6 @@
-use Rattle.std.proofs.Common.{◌≡◌, Some, sym, ap, ◌∙◌, arith}
-use Rattle.blk_mbr.specs.Partitions.{part_of, IsPartition}
+use Rattle.std.proofs.Common.{sym, ap, ◌∙◌, arith}
 use Rattle.blk_virt.specs.declared.opening.Block.{Block}
-use Rattle.blk_virt.specs.Openings.{sector_of, block_of}
+use Rattle.blk_virt.specs.Openings.{sector_of}
 use Rattle.blk_virt.proofs.Moving.{some_eq}
 use Rattle.blk_virt.proofs.opening.Opening.part.Goals as goal
 

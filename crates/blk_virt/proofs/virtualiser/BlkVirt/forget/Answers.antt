@@ -1,4 +1,4 @@
-use Rattle.std.proofs.Common.{length, ap, ◌∙◌, subst, sym}
+use Rattle.std.proofs.Common.{length, ap, ◌∙◌}
 use Rattle.blk_virt.proofs.Fitting.{fits_forgot}
 use Rattle.blk_virt.proofs.Stepping.{moved}
 use Rattle.blk_virt.proofs.virtualiser.BlkVirt.forget.Goals as goal

@@ -1,10 +1,8 @@
-use Rattle.std.proofs.Common.{◌≡◌, ◌==◌, ◌<◌, ◌&&◌, true, false, Some, None, Option, List, [], ◌∷◌, is_none, is_some, slice_get, sym, ap, ◌∙◌, subst, refl}
+use Rattle.std.proofs.Common.{◌==◌, None, Option, sym, ap, ◌∙◌}
 use Rattle.std.specs.Option.{option_map, option_to_list}
-use Rattle.std.proofs.lemmas.Bool.{and_parts}
 use Rattle.wire_core.specs.Deeds.{Cargo, deed_of, put_of}
 use Rattle.wire_core.specs.Lists.{if_there, with_deed}
 use Rattle.net_kit.specs.Virtualising.{from_queues, to_queues}
-use Rattle.blk_virt.specs.Virtualising.{queue_at}
 use Rattle.blk_virt.specs.Desks.{leaving_with}
 use Rattle.blk_virt.proofs.Stepping.{still, moved, none_if, nothing_put, driver_out, free_from}
 use Rattle.blk_virt.proofs.virtualiser.BlkVirt.step_driver.Goals as goal

@@ -1,4 +1,4 @@
-use Rattle.std.proofs.Common.{[], None, refl, sym, ap, ◌∙◌, slice_get, is_none}
+use Rattle.std.proofs.Common.{[], None, refl, ap, slice_get, is_none}
 use Rattle.std.specs.Option.{option_to_list}
 use Rattle.std.proofs.lemmas.Bool.{and_parts}
 use Rattle.wire_core.specs.Deeds.{put_of}

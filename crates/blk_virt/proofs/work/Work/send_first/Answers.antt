@@ -1,8 +1,5 @@
-use Rattle.std.proofs.Common.{◌≡◌, ◌⊎◌, Some, None, Option, [], ◌∷◌, List, inl, inr, is_some, not, sym, ap, ◌∙◌, subst}
-use Rattle.std.specs.Option.{option_to_list}
+use Rattle.std.proofs.Common.{Option, is_some, not, ap, ◌∙◌}
 use Rattle.wire_core.specs.Deeds.{Cargo, put_of}
-use Rattle.blk_virt.specs.declared.work.Work.{Work}
-use Rattle.blk_virt.specs.Works.{Sent}
 use Rattle.blk_virt.proofs.Moving.{there_is, put_cases}
 use Rattle.blk_virt.proofs.Sending.{first_went, first_stays}
 use Rattle.blk_virt.proofs.work.Work.send_first.Goals as goal

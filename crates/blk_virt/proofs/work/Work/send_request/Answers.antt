@@ -1,8 +1,7 @@
-use Rattle.std.proofs.Common.{◌≡◌, Some, None, Option, [], ◌∷◌, List, slice_get, refl, sym, ap, ◌∙◌, subst}
+use Rattle.std.proofs.Common.{None, Option, [], slice_get, refl, sym, ap, ◌∙◌}
 use Rattle.std.specs.Option.{option_map, option_to_list, is_some}
 use Rattle.wire_core.specs.Deeds.{Cargo, put_of}
 use Rattle.blk_virt.specs.Requests.{numbered}
-use Rattle.blk_virt.specs.Clients.{is_leaving}
 use Rattle.blk_virt.specs.Desks.{leaving_in, leaving_at, leaving_with}
 use Rattle.blk_virt.proofs.Moving.{there_is}
 use Rattle.blk_virt.proofs.Desking.{leaving_there}
