@@ -1,0 +1,3 @@
+pub mod Standing
+pub mod Having
+pub mod Owning
