@@ -1,3 +1,4 @@
 pub mod Beginnings
 pub mod Filled
 pub mod Arriving
+pub mod Answering

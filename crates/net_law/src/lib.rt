@@ -1,22 +1,35 @@
 //! The network class apart from any system: what reaches a client, from the rows of the actors on
-//! the way and the law of the queues between them, at any moment.
+//! the way and the law of the queues between them, and what it sends then, at any moment.
 #![tactic(auto)]
 
+ghost use Rattle.std.specs.Prelude.{ℕ, List, map};
 ghost use Rattle.cargo_core.specs.Lists.{IsPrefix};
 ghost use Rattle.frame_core.specs.declared.mac.Mac.{Mac};
 ghost use Rattle.wire_core.specs.Lists.{Passed};
 ghost use Rattle.turn_kit.specs.declared.pipe.Pipe.{Pipe};
 ghost use Rattle.pipe_driver.specs.declared.pipes.Pipes.{Pipes};
-ghost use Rattle.net_expect.specs.Expecting.{frames_for};
+ghost use Rattle.net_expect.specs.Expecting.{frames_for, sends_of};
 ghost use Rattle.eth_device.specs.declared.EthDevice.{EthDevice};
 ghost use Rattle.net_copier.specs.declared.NetCopier.{NetCopier};
 ghost use Rattle.net_virt_rx.specs.declared.NetVirtRx.{NetVirtRx};
+ghost use Rattle.net_kit.specs.Entries.{frame_of};
 ghost use Rattle.net_client.specs.declared.NetClient.{NetClient};
+ghost use Rattle.net_client.specs.Programs.{program_of};
+ghost use Rattle.net_client.specs.Clients.{tx_active};
 ghost use Rattle.net_law.specs.Receiving.{IsReceiving};
+ghost use Rattle.net_law.specs.Sending.{IsSending};
 
 /// A client's record is a beginning of the device's frames that are for it.
 pub fn receive_law()
     ensures { (d : EthDevice) (p : Pipes (Pipes (Pipes Pipe))) (v : NetVirtRx) (k : NetCopier)
         (c : NetClient) (mac : Mac) (passed : Passed) → IsReceiving d p v k c mac passed
         → IsPrefix c.frames.tape.shown (frames_for mac d.frames) }
+{}
+
+/// The frames that a client puts to be sent are a beginning of those that it sends by its program:
+/// of a source its script, of an echo the answers to the frames that are for it.
+pub fn send_law()
+    ensures { (c : NetClient) (mac : Mac) (frames : List (List ℕ)) (passed : Passed)
+        → IsSending c mac frames passed → IsPrefix (map frame_of (passed.sent (tx_active c)))
+        (sends_of (program_of c.program) mac frames) }
 {}

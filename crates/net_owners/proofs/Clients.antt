@@ -10,12 +10,15 @@ use Rattle.owner_law.specs.Things.{is_named, times, names_in, Buffer, is_same, W
 use Rattle.owner_law.specs.Keeping.{Keeps, at_start, all_taken, all_put, things_in, things_out}
 use Rattle.owner_law.proofs.Sums.{sum_flat}
 use Rattle.owner_law.proofs.Named.{carried, buffers_are, buffers_none, keeps_plain}
+use Rattle.net_kit.specs.Entries.{frame_of}
 use Rattle.net_kit.specs.Pools.{given_entry}
+use Rattle.net_kit.specs.Stocks.{IsStart}
 use Rattle.net_kit.specs.declared.stock.Stock.{Stock}
+use Rattle.net_client.specs.Programs.{frames_out}
 use Rattle.net_client.specs.Clients.{ClientRow, rx_active, rx_free, tx_active, tx_free}
 use Rattle.net_client.specs.declared.NetClient.{NetClient}
-use Rattle.net_owners.specs.Ends.{AreItemsOf, client_ends, ClientNames, stock_window, numbers_from, numbers_of, client_start}
-use Rattle.net_owners.proofs.Few.{few, named}
+use Rattle.net_owners.specs.Ends.{AreItemsOf, client_ends, ClientNames, stock_window, numbers_from, stock_numbers, client_start}
+use Rattle.net_owners.proofs.Few.{few, filled_few, named}
 
 -- a buffer is named by the address at which it begins
 number_is : (w : Window) (k : ℕ) → 0 < w.size → number_at w (w.base + k * w.size) ≡ k
@@ -55,9 +58,27 @@ given_few s b (p ∷ pages) k some numbered le =
     shift : (i : ℕ) → k + suc i ≡ k + 1 + i
     shift i = omega arith
 
-module _ (naming : Naming) (sending : List Window) (c : NetClient) (passed : Passed) (m : Moved) (names : ClientNames naming sending c) (items : AreItemsOf (client_ends c) passed m) (row : ClientRow c passed) where
+-- names of two lists
+split : (b : Buffer) (ws : List Window) (xs ys : List Cargo) → times b (named ws (xs ++ ys)) ≡ times b (named ws xs) + times b (named ws ys)
+split b ws [] ys = omega arith
+split b ws (x ∷ xs) ys = omega (arith, split b ws xs ys, sum_by-cons (is_named b) (Rattle.owner_law.specs.Things.buffer_of ws x.0) (named ws (xs ++ ys)), sum_by-cons (is_named b) (Rattle.owner_law.specs.Things.buffer_of ws x.0) (named ws xs))
+
+-- the buffers by which a stock began are named by its numbers
+start_few : (s : Stock) (b : Buffer) (pages : List Paged) → IsStart s pages → times b (named (stock_window s ∷ []) (map (given_entry s.base s.size) pages)) ≤ count_by (λ x. x == b.no) (stock_numbers s b.pool)
+start_few s b pages is =
+    let stock = given_few s b pages 0 is.are_pool.some (λ i p at. is.are_pool.numbered i p at ∙ first i) (omega (arith, is.many)) in
+    let many : count_by (λ x. x == b.no) (if s.pool.0 == b.pool then numbers_from 0 (length pages) else []) ≡ count_by (λ x. x == b.no) (if s.pool.0 == b.pool then numbers_from 0 s.buffers else []) = ap (λ n. count_by (λ x. x == b.no) (if s.pool.0 == b.pool then numbers_from 0 n else [])) is.many in
+    omega (arith, stock, many)
+  where
+    first : (i : ℕ) → i ≡ 0 + i
+    first i = omega arith
+
+module _ (naming : Naming) (c : NetClient) (passed : Passed) (m : Moved) (names : ClientNames naming c) (items : AreItemsOf (client_ends c) passed m) (row : ClientRow c passed) where
   abbrev ws : List Window
   ws = stock_window c.stock ∷ []
+
+  abbrev sending : List Window
+  sending = stock_window c.outbox.stock ∷ []
 
   client_came : (f : Thing → ℕ) → sum_by f (all_taken naming m (client_ends c)) ≡ carried naming m (rx_active c) (m.taken (rx_active c)) f + carried naming m (tx_free c) (m.taken (tx_free c)) f
   client_came f =
@@ -79,31 +100,26 @@ module _ (naming : Naming) (sending : List Window) (c : NetClient) (passed : Pas
   client_buffers b =
       let into = buffers_are naming m (rx_active c) (m.taken (rx_active c)) ws (as_buffer b) b names.active refl (λ d. refl) ∙ ap (λ xs. times b (names_in ws xs)) (items 0 _ refl) in
       let out = buffers_are naming m (rx_free c) (m.sent (rx_free c)) ws (as_buffer b) b names.free refl (λ d. refl) ∙ ap (λ xs. times b (names_in ws xs)) (items 1 _ refl) in
-      let sends = buffers_are naming m (tx_active c) (m.sent (tx_active c)) sending (as_buffer b) b names.sends refl (λ d. refl) ∙ (ap (λ xs. times b (names_in sending xs)) (items 3 _ refl) ∙ ap (λ cs. times b (named sending cs)) row.sends) in
+      let back = buffers_are naming m (tx_free c) (m.taken (tx_free c)) sending (as_buffer b) b names.sent refl (λ d. refl) ∙ ap (λ xs. times b (names_in sending xs)) (items 2 _ refl) in
+      let sends = buffers_are naming m (tx_active c) (m.sent (tx_active c)) sending (as_buffer b) b names.sends refl (λ d. refl) ∙ ap (λ xs. times b (names_in sending xs)) (items 3 _ refl) in
       let given = map (given_entry c.stock.base c.stock.size) row.start in
-      let parts : times b (named ws (given ++ passed.taken (rx_active c))) ≡ times b (named ws given) + times b (named ws (passed.taken (rx_active c))) = split given (passed.taken (rx_active c)) in
-      let stock = given_few c.stock b row.start 0 row.is_start.are_pool.some (λ i p at. row.is_start.are_pool.numbered i p at ∙ first i) (omega (arith, row.is_start.many)) in
-      let many : count_by (λ x. x == b.no) (if c.stock.pool.0 == b.pool then numbers_from 0 (length row.start) else []) ≡ count_by (λ x. x == b.no) (if c.stock.pool.0 == b.pool then numbers_from 0 c.stock.buffers else []) = ap (λ n. count_by (λ x. x == b.no) (if c.stock.pool.0 == b.pool then numbers_from 0 n else [])) row.is_start.many in
+      let spare = map (given_entry c.outbox.stock.base c.outbox.stock.size) row.spare in
       omega (
         arith,
         client_came (as_buffer b),
         client_went (as_buffer b),
         into,
         out,
+        back,
         sends,
         few b ws (passed.sent (rx_free c)) (given ++ passed.taken (rx_active c)) row.given,
-        parts,
-        stock,
-        many,
-        sum_by-append (λ x. cond {A = ℕ} (x == b.no) 1 0) (if c.stock.pool.0 == b.pool then numbers_from 0 c.stock.buffers else []) (numbers_of b.pool c.spare.items),
+        filled_few b sending (frames_out c.program (map frame_of (passed.taken (rx_active c)))) (passed.sent (tx_active c)) (spare ++ passed.taken (tx_free c)) row.sends.filled,
+        split b ws given (passed.taken (rx_active c)),
+        split b sending spare (passed.taken (tx_free c)),
+        start_few c.stock b row.start row.is_start,
+        start_few c.outbox.stock b row.spare row.is_spare,
+        sum_by-append (λ x. cond {A = ℕ} (x == b.no) 1 0) (stock_numbers c.stock b.pool) (stock_numbers c.outbox.stock b.pool),
       )
-    where
-      first : (i : ℕ) → i ≡ 0 + i
-      first i = omega arith
-
-      split : (xs ys : List Cargo) → times b (named ws (xs ++ ys)) ≡ times b (named ws xs) + times b (named ws ys)
-      split [] ys = omega arith
-      split (x ∷ xs) ys = omega (arith, split xs ys, sum_by-cons (is_named b) (Rattle.owner_law.specs.Things.buffer_of ws x.0) (named ws (xs ++ ys)), sum_by-cons (is_named b) (Rattle.owner_law.specs.Things.buffer_of ws x.0) (named ws xs))
 
   pub client_keeps : Keeps (client_start c) (all_taken naming m (client_ends c)) (all_put naming m (client_ends c))
   client_keeps = keeps_plain (client_start c) (all_taken naming m (client_ends c)) (all_put naming m (client_ends c))

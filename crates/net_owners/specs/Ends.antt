@@ -1,6 +1,5 @@
 -- The ends of the network's actors, the items that passed there, and what these name.
-use Rattle.std.specs.Prelude.{◌≡◌, ◌⊎◌, ◌==◌, ◌+◌, ℕ, zero, suc, if◌then◌else◌, Some, List, [], ◌∷◌, ◌++◌, slice_get, flat_map}
-use Rattle.cargo_core.specs.Pages.{Paged}
+use Rattle.std.specs.Prelude.{◌≡◌, ◌⊎◌, ◌==◌, ◌+◌, ℕ, zero, suc, if◌then◌else◌, Some, List, [], ◌∷◌, ◌++◌, slice_get}
 use Rattle.wire_core.specs.Deeds.{Cargo}
 use Rattle.wire_core.specs.Ends.{Role, Consumer, Producer}
 use Rattle.wire_core.specs.Lists.{Passed}
@@ -80,23 +79,21 @@ abbrev pub stock_window : Stock → Window
 stock_window s = record { pool = s.pool.0; base = s.base; size = s.size; buffers = s.buffers }
 
 -- a client's buffers are named by their addresses, on their way to it and from it
-pub record ClientNames (naming : Naming) (sending : List Window) (c : NetClient) : Type 0 where
+pub record ClientNames (naming : Naming) (c : NetClient) : Type 0 where
   pub active : naming (client.rx_active c) ≡ Buffers (stock_window c.stock ∷ [])
   pub free : naming (client.rx_free c) ≡ Buffers (stock_window c.stock ∷ [])
-  pub sends : naming (client.tx_active c) ≡ Buffers sending
-  pub sent : naming (client.tx_free c) ≡ Buffers sending
+  pub sends : naming (client.tx_active c) ≡ Buffers (stock_window c.outbox.stock ∷ [])
+  pub sent : naming (client.tx_free c) ≡ Buffers (stock_window c.outbox.stock ∷ [])
 
 -- so many numbers from one on
 abbrev pub numbers_from : ℕ → ℕ → List ℕ
 numbers_from first zero = []
 numbers_from first (suc count) = first ∷ numbers_from (first + 1) count
 
--- the numbers of those buffers that are of a pool
-abbrev pub numbers_of : (pool : ℕ) → List Paged → List ℕ
-numbers_of pool pages = flat_map (λ (p : Paged). if p.pool.0 == pool then p.no ∷ [] else []) pages
+-- the numbers of a stock's buffers in a pool
+abbrev pub stock_numbers : Stock → ℕ → List ℕ
+stock_numbers s pool = if s.pool.0 == pool then numbers_from 0 s.buffers else []
 
--- what a client has at the start: its stock, and the buffers in which it could send
+-- what a client has at the start: the buffers in which it receives, and those in which it sends
 abbrev pub client_start : NetClient → ℕ → List ℕ
-client_start c pool =
-    (if c.stock.pool.0 == pool then numbers_from 0 c.stock.buffers else [])
-    ++ numbers_of pool c.spare.items
+client_start c pool = stock_numbers c.stock pool ++ stock_numbers c.outbox.stock pool

@@ -19,7 +19,8 @@ ghost use Rattle.net_owners.specs.Lending.{Lender, lender_ends, LenderNames, Len
 ghost use Rattle.net_owners.specs.Ends.{AreItemsOf, device_ends, DeviceNames, pipe_ends, DriverNames, copier_ends, CopierNames, client_ends, ClientNames, client_start};
 
 /// The rows of a device, a driver, a copier and a client let each put only what was in its hand: of
-/// the first three, which have nothing at the start, what they took; of a client its stock too.
+/// the first three, which have nothing at the start, what they took; of a client the buffers that
+/// it had too.
 pub fn net_owner_law()
     ensures device { (naming : Naming) (rx tx : List Window) (d : EthDevice) (passed : Passed)
         (m : Moved) → DeviceNames naming rx tx d → AreItemsOf (device_ends d) passed m
@@ -34,8 +35,8 @@ pub fn net_owner_law()
         → AreItemsOf (copier_ends c) passed m → CopierRow c passed
         → Keeps (λ pool. []) (all_taken naming m (copier_ends c))
         (all_put naming m (copier_ends c)) }
-    ensures client { (naming : Naming) (sending : List Window) (c : NetClient) (passed : Passed)
-        (m : Moved) → ClientNames naming sending c → AreItemsOf (client_ends c) passed m
+    ensures client { (naming : Naming) (c : NetClient) (passed : Passed)
+        (m : Moved) → ClientNames naming c → AreItemsOf (client_ends c) passed m
         → ClientRow c passed
         → Keeps (client_start c) (all_taken naming m (client_ends c))
         (all_put naming m (client_ends c)) }
