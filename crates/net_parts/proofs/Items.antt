@@ -1,6 +1,8 @@
-use Rattle.std.proofs.Common.{◌≡◌, ◌+◌, ◌++◌, ℕ, zero, suc, true, false, Some, List, [], ◌∷◌, All, length, map, slice_get, refl, sym, ap, ap₂, ◌∙◌, subst, arith}
+use Rattle.std.proofs.Common.{◌≡◌, ◌+◌, ◌++◌, ℕ, zero, suc, true, false, Some, List, [], ◌∷◌, All, length, map, take, slice_get, refl, sym, ap, ap₂, ◌∙◌, subst, arith}
 use Rattle.std.proofs.lemmas.List.{append-nil, length-map, map-append}
+use Rattle.std.proofs.Math.Seq.{take-append_seam}
 use Rattle.cargo_core.specs.Lists.{IsPrefix}
+use Rattle.frame_core.specs.declared.mac.Mac.{Mac}
 use Rattle.cargo_core.specs.Pages.{Paged}
 use Rattle.wire_core.specs.Deeds.{Cargo}
 use Rattle.wire_core.specs.Lists.{Passed}
@@ -11,10 +13,17 @@ use Rattle.play_core.proofs.Lists.{some_is}
 use Rattle.owner_law.specs.Things.{Window}
 use Rattle.turn_kit.specs.declared.pipe.Pipe.{Pipe}
 use Rattle.pipe_driver.specs.Drivers.{PipesRow}
-use Rattle.net_kit.specs.Entries.{all_filled, len_of}
+use Rattle.net_expect.specs.Expecting.{frames_for, answers_for}
+use Rattle.net_kit.specs.declared.stock.Stock.{Stock}
+use Rattle.net_kit.specs.Entries.{all_filled, frame_of, len_of}
 use Rattle.net_kit.specs.Pools.{given_entry}
+use Rattle.net_kit.specs.Stocks.{IsStart}
 use Rattle.eth_device.specs.Devices.{DeviceRow, rx_free as device_free, rx_active as device_active, tx_active as device_sent, tx_free as device_back}
 use Rattle.eth_device.specs.declared.EthDevice.{EthDevice}
+use Rattle.net_client.specs.declared.program.NetProgram.{NetProgram}
+use Rattle.net_client.specs.declared.program.NetProgram.TheVariants as Kind
+use Rattle.net_client.specs.Programs.{program_with, program_of, sent_for, frames_out, answer_to, is_echo}
+use Rattle.net_client.specs.Sending.{SendsFrames}
 use Rattle.net_client.specs.Clients.{ClientRow, rx_active, rx_free, tx_active, tx_free}
 use Rattle.net_client.specs.declared.NetClient.{NetClient}
 use Rattle.net_copier.specs.Copying.{CopierRow, is_stray, leased_bytes}
@@ -22,10 +31,11 @@ use Rattle.net_copier.specs.declared.NetCopier.{NetCopier}
 use Rattle.net_owners.specs.Names.{by_offset}
 use Rattle.net_owners.specs.Ends.{AreItemsOf, numbers_from}
 use Rattle.net_law.proofs.Beginnings.{begins_map}
+use Rattle.net_law.proofs.Answering.{answers_are}
 use Rattle.net_parts.specs.Parts.{Way}
-use Rattle.net_parts.specs.Rows.{FillsFrames, CopiesLeases, ReturnsBuffers, sized_items, given_item, given_items}
+use Rattle.net_parts.specs.Rows.{FillsFrames, CopiesLeases, ServesClient, SendsItems, sent_where, is_answering, sized_items, given_item, given_items}
 use Rattle.net_parts.specs.Table.{net_sheet}
-use Rattle.net_parts.specs.Playing.{device_part, driver_part, copier_part, sink_part, stock_pool, AreLeases}
+use Rattle.net_parts.specs.Playing.{device_part, driver_part, copier_part, client_part, stock_pool, AreLeases, HasBuffers, AnswersInTurn}
 use Rattle.net_parts.proofs.Pairs.{carry}
 
 pub all_at : {X : Type 0} (P : X → Type 0) (xs : List X) → All P xs → (k : ℕ) (x : X) → slice_get xs k ≡ Some x → P x
@@ -111,21 +121,57 @@ given_are w (p ∷ pages) first numbered =
     shift : (i : ℕ) → first + suc i ≡ first + 1 + i
     shift i = omega arith
 
-pub sink_row : (scene : Scene) (c : NetClient) (passed : Passed) (m : Moved) → c.stock.base ≡ 0 → c.stock.size ≡ 2048 → AreItemsOf (net_sheet scene (sink_part c)).ends passed m → ClientRow c passed → (net_sheet scene (sink_part c)).row m
-sink_row scene c passed m base size items row =
-    let w : Window = by_offset (stock_pool c.stock) in
-    let came = passed.taken (rx_active c) in
-    let gave = passed.sent (rx_free c) in
-    let start = row.start in
-    let entries : map (given_entry c.stock.base c.stock.size) start ≡ map (given_entry w.base w.size) start = ap₂ (λ b n. map (given_entry b n) start) base size in
-    let stock : items_of (map (given_entry c.stock.base c.stock.size) start) ≡ given_items w = ap items_of entries ∙ (given_are w start 0 (λ i p at. row.is_start.are_pool.numbered i p at ∙ first i) ∙ ap (λ n. map (given_item w) (numbers_from 0 n)) row.is_start.many) in
-    let all : items_of (map (given_entry c.stock.base c.stock.size) start ++ came) ≡ given_items w ++ items_of came = map-append (λ (d : Cargo). d.0) (map (given_entry c.stock.base c.stock.size) start) came ∙ ap (λ l. l ++ items_of came) stock in
-    let said : ReturnsBuffers w (items_of came) (items_of gave) (items_of (passed.sent (tx_active c))) (items_of (passed.taken (tx_free c))) = record {
-      given = subst (IsPrefix (items_of gave)) all (items_begin gave (map (given_entry c.stock.base c.stock.size) start ++ came) row.given);
-      sends = ap items_of row.sends;
-      returned = ap items_of row.returned;
-    } in
-    carry (λ x y z u. ReturnsBuffers w x y z u) (items_of came) (items_of gave) (items_of (passed.sent (tx_active c))) (items_of (passed.taken (tx_free c))) (m.taken (rx_active c)) (m.sent (rx_free c)) (m.sent (tx_active c)) (m.taken (tx_free c)) (sym (items 0 _ refl)) (sym (items 1 _ refl)) (sym (items 3 _ refl)) (sym (items 2 _ refl)) said
+-- a stock's start entries have the items of its window
+stock_items : (s : Stock) (pages : List Paged) → s.base ≡ 0 → s.size ≡ 2048 → IsStart s pages → items_of (map (given_entry s.base s.size) pages) ≡ given_items (by_offset (stock_pool s))
+stock_items s pages base size is =
+    let w : Window = by_offset (stock_pool s) in
+    ap items_of (ap₂ (λ b n. map (given_entry b n) pages) base size) ∙ (given_are w pages 0 (λ i p at. is.are_pool.numbered i p at ∙ first i) ∙ ap (λ n. map (given_item w) (numbers_from 0 n)) is.many)
   where
     first : (i : ℕ) → i ≡ 0 + i
     first i = omega arith
+
+items_more : (xs ys : List Cargo) → items_of (xs ++ ys) ≡ items_of xs ++ items_of ys
+items_more xs ys = map-append (λ (d : Cargo). d.0) xs ys
+
+-- the frames that a client sends for those that came are those that it sends by their number
+pub sent_by : (k : NetProgram) (script : List (List ℕ)) (mac : Mac) (came frames : List (List ℕ)) (n : ℕ) → (is_echo k ≡ true → IsPrefix came (frames_for mac frames)) → length came ≡ n → sent_for (program_with k script) mac came ≡ sent_where (program_with k script) mac frames n
+sent_by Kind.Sink script mac came frames n h many = refl
+sent_by Kind.Source script mac came frames n h many = refl
+sent_by Kind.Echo script mac came frames n h many =
+    let begins = h refl in
+    let answers : map (answer_to mac) came ++ map (answer_to mac) begins.0 ≡ answers_for mac frames = sym (map-append (answer_to mac) came begins.0) ∙ (ap (map (answer_to mac)) begins.1 ∙ answers_are mac frames) in
+    let long : length (map (answer_to mac) came) ≡ n = length-map came (answer_to mac) ∙ many in
+    sym (take-append_seam (map (answer_to mac) came) (map (answer_to mac) begins.0)) ∙ (ap (λ l. take (length (map (answer_to mac) came)) l) answers ∙ ap (λ i. take i (answers_for mac frames)) long)
+
+pub echo_is : (k : NetProgram) (script : List (List ℕ)) → is_answering (program_with k script) ≡ is_echo k
+echo_is Kind.Sink script = refl
+echo_is Kind.Source script = refl
+echo_is Kind.Echo script = refl
+
+pub client_row : (scene : Scene) (c : NetClient) (passed : Passed) (m : Moved) → HasBuffers c → AnswersInTurn scene.frames c → AreItemsOf (net_sheet scene (client_part c)).ends passed m → ClientRow c passed → (net_sheet scene (client_part c)).row m
+client_row scene c passed m has turn items row =
+    let came = passed.taken (rx_active c) in
+    let gave = passed.sent (rx_free c) in
+    let back = passed.taken (tx_free c) in
+    let put = passed.sent (tx_active c) in
+    let rx : Window = by_offset (stock_pool c.stock) in
+    let tx : Window = by_offset (stock_pool c.outbox.stock) in
+    let first = map (given_entry c.stock.base c.stock.size) row.start in
+    let spare = map (given_entry c.outbox.stock.base c.outbox.stock.size) row.spare in
+    let all : items_of (first ++ came) ≡ given_items rx ++ items_of came = items_more first came ∙ ap (λ l. l ++ items_of came) (stock_items c.stock row.start has.base has.size row.is_start) in
+    let all_spare : items_of (spare ++ back) ≡ given_items tx ++ items_of back = items_more spare back ∙ ap (λ l. l ++ items_of back) (stock_items c.outbox.stock row.spare has.spare_base has.spare_size row.is_spare) in
+    let frames = sent_where (program_of c.program) c.program.mac scene.frames (length (items_of came)) in
+    let many : length (map frame_of came) ≡ length (items_of came) = length-map came frame_of ∙ sym (items_long came) in
+    let same : frames_out c.program (map frame_of came) ≡ frames = sent_by c.program.kind c.program.script c.program.mac (map frame_of came) scene.frames (length (items_of came)) (λ echo. subst (λ l. IsPrefix l (frames_for c.program.mac scene.frames)) row.got (turn echo)) many in
+    let spare_long : length spare ≡ c.outbox.stock.buffers = length-map row.spare (given_entry c.outbox.stock.base c.outbox.stock.size) ∙ row.is_spare.many in
+    let sent : SendsFrames frames spare back put = subst (λ fs. SendsFrames fs spare back put) same row.sends in
+    let said : ServesClient (program_of c.program) c.program.mac scene.frames rx tx (items_of came) (items_of gave) (items_of back) (items_of put) = record {
+      given = subst (IsPrefix (items_of gave)) all (items_begin gave (first ++ came) row.given);
+      sends = record {
+        filled = subst (IsPrefix (items_of put)) (sized_is frames (spare ++ back) ∙ ap (sized_items (map (λ f. length f) frames)) all_spare) (items_begin put (all_filled frames (spare ++ back)) sent.filled);
+        needed = λ some. omega (arith, sent.needed (omega (arith, some, items_long back)), spare_long, items_long back);
+        none_in_hand = λ some. omega (arith, sent.none_in_hand (omega (arith, some, items_long back)), spare_long, items_long back, items_long put);
+      };
+      answered = λ echo. omega (arith, row.answered (sym (echo_is c.program.kind c.program.script) ∙ echo), items_long came, items_long put);
+    } in
+    carry (λ x y z u. ServesClient (program_of c.program) c.program.mac scene.frames rx tx x y z u) (items_of came) (items_of gave) (items_of back) (items_of put) (m.taken (rx_active c)) (m.sent (rx_free c)) (m.taken (tx_free c)) (m.sent (tx_active c)) (sym (items 0 _ refl)) (sym (items 1 _ refl)) (sym (items 2 _ refl)) (sym (items 3 _ refl)) said

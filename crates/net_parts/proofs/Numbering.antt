@@ -3,12 +3,13 @@ use Rattle.frame_core.specs.declared.mac.Mac.{Mac}
 use Rattle.play_core.specs.Sheets.{Scene}
 use Rattle.play_core.proofs.Lists.{some_is, map_from, there_is, there_below}
 use Rattle.owner_law.specs.Things.{Names, NoBuffers, Leases, Returns}
+use Rattle.net_expect.specs.Expecting.{Program}
 use Rattle.net_owners.specs.Names.{PoolAt, ClientPools, by_address, by_offset, client_names}
 use Rattle.net_owners.specs.Lending.{Borrower, receivers_of}
 use Rattle.net_parts.specs.Parts.{Lessee}
 use Rattle.net_parts.specs.Rows.{lender_of, borrower_of}
 use Rattle.net_parts.specs.Naming.{NamesPart, NameWay}
-use Rattle.net_parts.specs.Numbers.{device_at, driver_at, client_first, lessees_from, receiver_at, copier_at, sink_at, layout_naming}
+use Rattle.net_parts.specs.Numbers.{device_at, driver_at, client_first, lessees_from, receiver_at, copier_at, client_at, layout_naming}
 
 -- each client has its six queues
 client_name : (pool : PoolAt) (pools : List ClientPools) (k : ℕ) (p : ClientPools) (i j : ℕ) (names : Names) → slice_get pools k ≡ Some p → ((rest : List Names) → slice_index_or (client_names pool p ++ rest) i NoBuffers ≡ names) → j ≡ 6 * k + i → slice_index_or (flat_map (client_names pool) pools) j NoBuffers ≡ names
@@ -46,10 +47,10 @@ module _ (scene : Scene) (pool : PoolAt) (macs : List Mac) (pools : List ClientP
       plus : (n : ℕ) → n ≡ n + 0
       plus n = omega arith
 
-  pub sink_named : (k : ℕ) (p : ClientPools) → slice_get pools k ≡ Some p → NamesPart (layout_naming scene pool macs pools) scene (sink_at 0 k p)
-  sink_named k p at = (
+  pub client_named : (k : ℕ) (p : ClientPools) (program : Program) (mac : Mac) → slice_get pools k ≡ Some p → NamesPart (layout_naming scene pool macs pools) scene (client_at 0 k program mac p)
+  client_named k p program mac at = (
     (named_at k p 2 _ _ at (λ rest. refl) refl, named_at k p 3 _ _ at (λ rest. refl) refl),
-    (by_offset p.tx ∷ [], (named_at k p 4 _ _ at (λ rest. refl) refl, named_at k p 5 _ _ at (λ rest. refl) refl)),
+    (named_at k p 4 _ _ at (λ rest. refl) refl, named_at k p 5 _ _ at (λ rest. refl) refl),
   )
 
   -- a client of the virtualiser's has the queues of its number

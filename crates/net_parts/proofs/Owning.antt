@@ -11,7 +11,7 @@ use Rattle.owner_law.specs.Things.{Buffer, Window, Naming, Thing, Nothing, Whole
 use Rattle.owner_law.specs.Keeping.{Keeps, PutsItsOwn, at_start, all_taken, all_put, things_in, things_out}
 use Rattle.owner_law.proofs.Sums.{sum_flat}
 use Rattle.owner_law.proofs.Named.{carried, buffers_are, buffers_none, leases_are, leases_none, returns_are, returns_none, keeps_plain, times_few}
-use Rattle.net_expect.specs.Expecting.{is_for_client}
+use Rattle.net_expect.specs.Expecting.{Program, is_for_client}
 use Rattle.net_kit.specs.Entries.{addr_of, with_len}
 use Rattle.net_law.proofs.Beginnings.{begins_map}
 use Rattle.net_owners.specs.Names.{PoolAt, by_address, by_offset}
@@ -20,8 +20,8 @@ use Rattle.net_owners.specs.Lending.{Borrower, Lender, LenderRow, lender_ends, n
 use Rattle.net_owners.proofs.Clients.{at_address, here_or_not}
 use Rattle.net_owners.proofs.Few.{address_still, either_are, either_none}
 use Rattle.net_owners.proofs.Lenders.{lender_keeps}
-use Rattle.net_parts.specs.Parts.{NetPart, NetDevice, NetDriver, NetReceiver, NetCopier, NetSink, Way, Lessee}
-use Rattle.net_parts.specs.Rows.{AllCopy, IsIn, AreIn, sized_items, given_item, given_items, frame_at, lease_item, leases_from, pool_hand, borrower_of, lender_of}
+use Rattle.net_parts.specs.Parts.{NetPart, NetDevice, NetDriver, NetReceiver, NetCopier, NetClient, Way, Lessee}
+use Rattle.net_parts.specs.Rows.{sent_where, AllCopy, IsIn, AreIn, sized_items, given_item, given_items, frame_at, lease_item, leases_from, pool_hand, borrower_of, lender_of}
 use Rattle.net_parts.specs.Table.{net_sheet, way_ends}
 use Rattle.net_parts.specs.Naming.{NamesPart, NameWay}
 use Rattle.net_parts.proofs.Counting.{numbered, buffer_is}
@@ -130,53 +130,58 @@ given_few w b k (suc count) some le =
     let head : is_named b (buffer_of (w ∷ []) (given_item w k)) ≡ is_named b (Some (numbered w.pool k)) = ap (is_named b) (at_address w k some (omega (arith, le))) in
     omega (arith, sum_by-cons (is_named b) (buffer_of (w ∷ []) (given_item w k)) (names_in (w ∷ []) (map (given_item w) (numbers_from (k + 1) count))), head, here_or_not (w.pool == b.pool) b.no k (numbers_from (k + 1) count) (times b (names_in (w ∷ []) (map (given_item w) (numbers_from (k + 1) count)))) (given_few w b (k + 1) count some (omega (arith, le))))
 
--- a client that sends nothing
-module _ (naming : Naming) (scene : Scene) (rx_active rx_free tx_active tx_free : ℕ) (rx tx : PoolAt) (m : Moved) (names : NamesPart naming scene (NetSink rx_active rx_free tx_active tx_free rx tx)) (row : (net_sheet scene (NetSink rx_active rx_free tx_active tx_free rx tx)).row m) where
-  abbrev Sink : Sheet
-  Sink = net_sheet scene (NetSink rx_active rx_free tx_active tx_free rx tx)
+-- names of two lists
+split : (b : Buffer) (ws : List Window) (xs ys : List Item) → times b (names_in ws (xs ++ ys)) ≡ times b (names_in ws xs) + times b (names_in ws ys)
+split b ws [] ys = omega arith
+split b ws (x ∷ xs) ys = omega (arith, split b ws xs ys, sum_by-cons (is_named b) (buffer_of ws x) (names_in ws (xs ++ ys)), sum_by-cons (is_named b) (buffer_of ws x) (names_in ws xs))
+
+-- a client
+module _ (naming : Naming) (scene : Scene) (program : Program) (mac : Mac) (rx_active rx_free tx_active tx_free : ℕ) (rx tx : PoolAt) (m : Moved) (names : NamesPart naming scene (NetClient program mac rx_active rx_free tx_active tx_free rx tx)) (row : (net_sheet scene (NetClient program mac rx_active rx_free tx_active tx_free rx tx)).row m) where
+  abbrev Client : Sheet
+  Client = net_sheet scene (NetClient program mac rx_active rx_free tx_active tx_free rx tx)
 
   abbrev own : Window
   own = by_offset rx
 
-  sink_came : (f : Thing → ℕ) → sum_by f (all_taken naming m Sink.ends) ≡ carried naming m rx_active (m.taken rx_active) f + carried naming m tx_free (m.taken tx_free) f
-  sink_came f =
-      let parts : sum_by f (all_taken naming m Sink.ends) ≡ 0 + carried naming m rx_active (m.taken rx_active) f + 0 + carried naming m tx_free (m.taken tx_free) f + 0 = sum_flat f (things_in naming m) Sink.ends in
+  abbrev spare : Window
+  spare = by_offset tx
+
+  client_came : (f : Thing → ℕ) → sum_by f (all_taken naming m Client.ends) ≡ carried naming m rx_active (m.taken rx_active) f + carried naming m tx_free (m.taken tx_free) f
+  client_came f =
+      let parts : sum_by f (all_taken naming m Client.ends) ≡ 0 + carried naming m rx_active (m.taken rx_active) f + 0 + carried naming m tx_free (m.taken tx_free) f + 0 = sum_flat f (things_in naming m) Client.ends in
       omega (arith, parts)
 
-  sink_went : (f : Thing → ℕ) → sum_by f (all_put naming m Sink.ends) ≡ carried naming m rx_free (m.sent rx_free) f + carried naming m tx_active (m.sent tx_active) f
-  sink_went f =
-      let parts : sum_by f (all_put naming m Sink.ends) ≡ 0 + 0 + carried naming m rx_free (m.sent rx_free) f + 0 + carried naming m tx_active (m.sent tx_active) f = sum_flat f (things_out naming m) Sink.ends in
+  client_went : (f : Thing → ℕ) → sum_by f (all_put naming m Client.ends) ≡ carried naming m rx_free (m.sent rx_free) f + carried naming m tx_active (m.sent tx_active) f
+  client_went f =
+      let parts : sum_by f (all_put naming m Client.ends) ≡ 0 + 0 + carried naming m rx_free (m.sent rx_free) f + 0 + carried naming m tx_active (m.sent tx_active) f = sum_flat f (things_out naming m) Client.ends in
       omega (arith, parts)
 
-  sink_buffers : (b : Buffer) → sum_by (as_buffer b) (all_put naming m Sink.ends) ≤ at_start Sink.hand b + sum_by (as_buffer b) (all_taken naming m Sink.ends)
-  sink_buffers b =
-      let sending = names.1.0 in
-      let sends = buffers_are naming m tx_active (m.sent tx_active) sending (as_buffer b) b names.1.1.0 refl (λ d. refl) ∙ ap (λ xs. times b (names_in sending xs)) row.sends in
-      let parts : times b (names_in (own ∷ []) (given_items own ++ m.taken rx_active)) ≡ times b (names_in (own ∷ []) (given_items own)) + times b (names_in (own ∷ []) (m.taken rx_active)) = split (given_items own) (m.taken rx_active) in
+  client_buffers : (b : Buffer) → sum_by (as_buffer b) (all_put naming m Client.ends) ≤ at_start Client.hand b + sum_by (as_buffer b) (all_taken naming m Client.ends)
+  client_buffers b =
+      let frames = sent_where program mac scene.frames (length (m.taken rx_active)) in
       omega (
         arith,
-        sink_came (as_buffer b),
-        sink_went (as_buffer b),
+        client_came (as_buffer b),
+        client_went (as_buffer b),
         buffers_are naming m rx_active (m.taken rx_active) (own ∷ []) (as_buffer b) b names.0.0 refl (λ d. refl),
         buffers_are naming m rx_free (m.sent rx_free) (own ∷ []) (as_buffer b) b names.0.1 refl (λ d. refl),
-        sends,
+        buffers_are naming m tx_active (m.sent tx_active) (spare ∷ []) (as_buffer b) b names.1.0 refl (λ d. refl),
+        buffers_are naming m tx_free (m.taken tx_free) (spare ∷ []) (as_buffer b) b names.1.1 refl (λ d. refl),
         few_of b (own ∷ []) (m.sent rx_free) (given_items own ++ m.taken rx_active) row.given,
-        parts,
+        sized_few b (spare ∷ []) (map (λ frame. length frame) frames) (m.sent tx_active) (given_items spare ++ m.taken tx_free) row.sends.filled,
+        split b (own ∷ []) (given_items own) (m.taken rx_active),
+        split b (spare ∷ []) (given_items spare) (m.taken tx_free),
         given_few own b 0 rx.buffers (omega arith) (omega arith),
+        given_few spare b 0 tx.buffers (omega arith) (omega arith),
         sum_by-append (λ x. cond {A = ℕ} (x == b.no) 1 0) (pool_hand rx b.pool) (pool_hand tx b.pool),
       )
-    where
-      split : (xs ys : List Item) → times b (names_in (own ∷ []) (xs ++ ys)) ≡ times b (names_in (own ∷ []) xs) + times b (names_in (own ∷ []) ys)
-      split [] ys = omega arith
-      split (x ∷ xs) ys = omega (arith, split xs ys, sum_by-cons (is_named b) (buffer_of (own ∷ []) x) (names_in (own ∷ []) (xs ++ ys)), sum_by-cons (is_named b) (buffer_of (own ∷ []) x) (names_in (own ∷ []) xs))
 
-  pub sink_keeps : Keeps Sink.hand (all_taken naming m Sink.ends) (all_put naming m Sink.ends)
-  sink_keeps =
-      let sending = names.1.0 in
-      keeps_plain Sink.hand (all_taken naming m Sink.ends) (all_put naming m Sink.ends)
-      (λ b. omega (arith, sink_came (lends b), buffers_none naming m rx_active (m.taken rx_active) (own ∷ []) (lends b) names.0.0 refl (λ d. refl), buffers_none naming m tx_free (m.taken tx_free) sending (lends b) names.1.1.1 refl (λ d. refl)))
-      sink_buffers
-      (λ b. omega (arith, sink_went (as_lease b), buffers_none naming m rx_free (m.sent rx_free) (own ∷ []) (as_lease b) names.0.1 refl (λ d. refl), buffers_none naming m tx_active (m.sent tx_active) sending (as_lease b) names.1.1.0 refl (λ d. refl)))
+  pub client_keeps : Keeps Client.hand (all_taken naming m Client.ends) (all_put naming m Client.ends)
+  client_keeps =
+      keeps_plain Client.hand (all_taken naming m Client.ends) (all_put naming m Client.ends)
+      (λ b. omega (arith, client_came (lends b), buffers_none naming m rx_active (m.taken rx_active) (own ∷ []) (lends b) names.0.0 refl (λ d. refl), buffers_none naming m tx_free (m.taken tx_free) (spare ∷ []) (lends b) names.1.1 refl (λ d. refl)))
+      client_buffers
+      (λ b. omega (arith, client_went (as_lease b), buffers_none naming m rx_free (m.sent rx_free) (own ∷ []) (as_lease b) names.0.1 refl (λ d. refl), buffers_none naming m tx_active (m.sent tx_active) (spare ∷ []) (as_lease b) names.1.0 refl (λ d. refl)))
 
 -- a lease names the buffer of its frame
 lease_name : (pool : PoolAt) (frame : List ℕ) (x : Item) → IsIn (by_address pool) x → buffer_of (by_offset pool ∷ []) (lease_item pool.base frame x) ≡ buffer_of (by_address pool ∷ []) x
@@ -222,4 +227,4 @@ net_puts naming scene (NetDevice rx_free rx_active tx_active tx_free frames) nam
 net_puts naming scene (NetDriver ways) names m apart row = driver_keeps naming m ways names row
 net_puts naming scene (NetReceiver active free pool clients) names m apart row = receiver_keeps naming scene active free pool clients m names row
 net_puts naming scene (NetCopier lease_active lease_free rx_active rx_free) names m apart row = copier_keeps naming scene lease_active lease_free rx_active rx_free m names row
-net_puts naming scene (NetSink rx_active rx_free tx_active tx_free rx tx) names m apart row = sink_keeps naming scene rx_active rx_free tx_active tx_free rx tx m names row
+net_puts naming scene (NetClient program mac rx_active rx_free tx_active tx_free rx tx) names m apart row = client_keeps naming scene program mac rx_active rx_free tx_active tx_free rx tx m names row

@@ -1,8 +1,10 @@
-use Rattle.std.proofs.Common.{◌≡◌, ◌≢◌, ◌+◌, ◌++◌, ◌<◌, ℕ, zero, suc, true, false, nat_lt, Some, List, length, map, slice_get, length-append, refl, sym, ap, ◌∙◌, subst, arith}
+use Rattle.std.proofs.Common.{◌≡◌, ◌≢◌, ◌+◌, ◌++◌, ◌<◌, ◌≤◌, ℕ, zero, suc, true, false, nat_lt, Some, List, length, map, slice_get, length-append, refl, sym, ap, ◌∙◌, subst, arith}
 use Rattle.std.proofs.lemmas.Bool.{ltb-true, lt-ltb}
 use Rattle.std.proofs.lemmas.List.{length-map}
 use Rattle.cargo_core.specs.Lists.{IsPrefix}
 use Rattle.cargo_core.specs.declared.item.Item.{Item}
+use Rattle.frame_core.specs.declared.mac.Mac.{Mac}
+use Rattle.net_expect.specs.Expecting.{Program}
 use Rattle.play_core.specs.Moved.{Moved, AreAlike}
 use Rattle.play_core.specs.Wants.{intake, outlet, intake_want, outlet_want}
 use Rattle.play_core.specs.Sheets.{Scene, Sheet, Due, CouldPut, IsOwn, NeedsFollow, AreApart, due_want}
@@ -12,9 +14,9 @@ use Rattle.play_core.proofs.Walks.{begins_few}
 use Rattle.net_kit.specs.Entries.{len_of}
 use Rattle.net_owners.specs.Names.{PoolAt, by_offset}
 use Rattle.net_owners.specs.Ends.{numbers_from}
-use Rattle.net_parts.specs.Parts.{NetDevice, NetDriver, NetCopier, NetSink, Way}
-use Rattle.net_parts.specs.Rows.{FillsFrames, CopiesLeases, ReturnsBuffers, sized_items, given_item, given_items}
-use Rattle.net_parts.specs.Table.{net_sheet, is_short, way_wants, way_due}
+use Rattle.net_parts.specs.Parts.{NetDevice, NetDriver, NetCopier, NetClient, Way}
+use Rattle.net_parts.specs.Rows.{FillsFrames, CopiesLeases, ServesClient, SendsItems, sent_where, sized_items, given_item, given_items}
+use Rattle.net_parts.specs.Table.{net_sheet, is_short, way_wants, way_due, client_items}
 use Rattle.net_parts.proofs.Fits.{Fits, AllFit, intake_fits, outlet_fits, pairs_fit, sheet_follows}
 use Rattle.net_parts.proofs.Pairs.{twice, twice_same, pair_first, pair_second, pair_seats, flat_alike, each_owed, carry, put_length, sized_length}
 
@@ -198,54 +200,85 @@ module _ (scene : Scene) (lease_active lease_free rx_active rx_free : ℕ) where
   pub copier_follows : NeedsFollow Copier
   copier_follows = sheet_follows Copier (λ m apart row. copier_fits m apart row) copier_due
 
-numbers_length : (first count : ℕ) → length (numbers_from first count) ≡ count
+pub numbers_length : (first count : ℕ) → length (numbers_from first count) ≡ count
 numbers_length first zero = refl
 numbers_length first (suc count) = let rest = numbers_length (first + 1) count in omega (arith, rest)
 
--- a client that sends nothing
-module _ (scene : Scene) (rx_active rx_free tx_active tx_free : ℕ) (rx tx : PoolAt) where
-  abbrev Sink : Sheet
-  Sink = net_sheet scene (NetSink rx_active rx_free tx_active tx_free rx tx)
+-- a client
+module _ (scene : Scene) (program : Program) (mac : Mac) (rx_active rx_free tx_active tx_free : ℕ) (rx tx : PoolAt) where
+  abbrev Client : Sheet
+  Client = net_sheet scene (NetClient program mac rx_active rx_free tx_active tx_free rx tx)
 
-  pub sink_own : IsOwn Sink
-  sink_own = record {
-    row = λ a b alike h. carry (λ x y z w. ReturnsBuffers (by_offset rx) x y z w) (a.taken rx_active) (a.sent rx_free) (a.sent tx_active) (a.taken tx_free) (b.taken rx_active) (b.sent rx_free) (b.sent tx_active) (b.taken tx_free) (alike 0 (intake rx_active) refl) (alike 1 (outlet rx_free) refl) (alike 3 (outlet tx_active) refl) (alike 2 (intake tx_free) refl) h;
+  pub client_own : IsOwn Client
+  client_own = record {
+    row = λ a b alike h. carry (λ x y z w. ServesClient program mac scene.frames (by_offset rx) (by_offset tx) x y z w) (a.taken rx_active) (a.sent rx_free) (a.taken tx_free) (a.sent tx_active) (b.taken rx_active) (b.sent rx_free) (b.taken tx_free) (b.sent tx_active) (alike 0 (intake rx_active) refl) (alike 1 (outlet rx_free) refl) (alike 2 (intake tx_free) refl) (alike 3 (outlet tx_active) refl) h;
     wants = λ a b alike.
         let e0 : a.taken rx_active ≡ b.taken rx_active = alike 0 (intake rx_active) refl in
         let e1 : a.sent rx_free ≡ b.sent rx_free = alike 1 (outlet rx_free) refl in
-        rw (e0, e1) refl;
+        let e2 : a.taken tx_free ≡ b.taken tx_free = alike 2 (intake tx_free) refl in
+        let e3 : a.sent tx_active ≡ b.sent tx_active = alike 3 (outlet tx_active) refl in
+        rw (e0, e1, e2, e3) refl;
     ends = λ m. refl;
   }
 
-  module _ (m : Moved) (apart : AreApart Sink.ends) (row : Sink.row m) where
+  module _ (m : Moved) (apart : AreApart Client.ends) (row : Client.row m) where
     abbrev due : List Item
     due = given_items (by_offset rx) ++ m.taken rx_active
+
+    abbrev to_send : List Item
+    to_send = client_items program mac scene.frames (m.taken rx_active) tx (m.taken tx_free)
 
     due_long : length due ≡ rx.buffers + length (m.taken rx_active)
     due_long =
         let made : length (given_items (by_offset rx)) ≡ length (numbers_from 0 rx.buffers) = length-map (numbers_from 0 rx.buffers) (given_item (by_offset rx)) in
         omega (arith, length-append (given_items (by_offset rx)) (m.taken rx_active), made, numbers_length 0 rx.buffers)
 
-    sink_away : rx_free ≢ tx_active
-    sink_away same = let e : 1 ≡ 3 = apart 1 3 (outlet rx_free) refl (ap (λ n. Some (outlet n)) (sym same)) in omega (arith, e)
+    client_away : rx_free ≢ tx_active
+    client_away same = let e : 1 ≡ 3 = apart 1 3 (outlet rx_free) refl (ap (λ n. Some (outlet n)) (sym same)) in omega (arith, e)
 
-    hands : nat_lt (length (m.sent rx_free)) (rx.buffers + length (m.taken rx_active)) ≡ true → CouldPut Sink m rx_free
+    hands : nat_lt (length (m.sent rx_free)) (rx.buffers + length (m.taken rx_active)) ≡ true → CouldPut Client m rx_free
     hands lt =
         let more = copy_more m rx_free due row.given (subst (λ n. nat_lt (length (m.sent rx_free)) n ≡ true) (sym due_long) lt) in
-        (more.0, record { given = more.1; sends = put_beside m rx_free more.0 tx_active sink_away ∙ row.sends; returned = row.returned })
+        let still = sym (put_beside m rx_free more.0 tx_active client_away) in
+        (
+          more.0,
+          record {
+            given = more.1;
+            sends = subst (λ l. SendsItems (sent_where program mac scene.frames (length (m.taken rx_active))) (by_offset tx) (m.taken tx_free) l) still row.sends;
+            answered = λ echo. subst (λ l. length (m.taken rx_active) ≤ length l + 1) still (row.answered echo);
+          },
+        )
 
-    hands_only : CouldPut Sink m rx_free → nat_lt (length (m.sent rx_free)) (rx.buffers + length (m.taken rx_active)) ≡ true
+    hands_only : CouldPut Client m rx_free → nat_lt (length (m.sent rx_free)) (rx.buffers + length (m.taken rx_active)) ≡ true
     hands_only put = subst (λ n. nat_lt (length (m.sent rx_free)) n ≡ true) due_long (copy_shorter m rx_free due put.0 put.1.given)
 
-    sends_only : CouldPut Sink m tx_active → false ≡ true
-    sends_only put = let none : 0 ≡ length (m.sent tx_active) + 1 = sym (ap length put.1.sends) ∙ put_length m tx_active put.0 in absurd (omega (arith, none))
+    sends : nat_lt (length (m.sent tx_active)) (length to_send) ≡ true → CouldPut Client m tx_active
+    sends lt =
+        let more = copy_more m tx_active to_send row.sends.filled lt in
+        let longer = put_length m tx_active more.0 in
+        (
+          more.0,
+          record {
+            given = subst (λ l. IsPrefix l due) (sym (put_beside m tx_active more.0 rx_free (λ same. client_away (sym same)))) row.given;
+            sends = record {
+              filled = more.1;
+              needed = row.sends.needed;
+              none_in_hand = λ some. omega (arith, row.sends.none_in_hand some, longer);
+            };
+            answered = λ echo. omega (arith, row.answered echo, longer);
+          },
+        )
 
-    sink_fits : AllFit Sink m (Sink.wants m)
-    sink_fits = (intake_fits Sink m rx_active _, (outlet_fits Sink m rx_free _ hands hands_only, (intake_fits Sink m tx_free _, (outlet_fits Sink m tx_active false (λ e. cc) sends_only, tt))))
+    sends_only : CouldPut Client m tx_active → nat_lt (length (m.sent tx_active)) (length to_send) ≡ true
+    sends_only put = copy_shorter m tx_active to_send put.0 put.1.sends.filled
 
-  sink_due : (m : Moved) (i : ℕ) (d : Due) → slice_get (Sink.dues m) i ≡ Some d → (k : ℕ) × (slice_get (Sink.wants m) k ≡ Some (due_want m d))
-  sink_due m zero d at = (1, ap (λ (x : Due). Some (due_want m x)) (some_is at))
-  sink_due m (suc i) d at = cc
+    client_fits : AllFit Client m (Client.wants m)
+    client_fits = (intake_fits Client m rx_active _, (outlet_fits Client m rx_free _ hands hands_only, (intake_fits Client m tx_free _, (outlet_fits Client m tx_active _ sends sends_only, tt))))
 
-  pub sink_follows : NeedsFollow Sink
-  sink_follows = sheet_follows Sink (λ m apart row. sink_fits m apart row) sink_due
+  client_due : (m : Moved) (i : ℕ) (d : Due) → slice_get (Client.dues m) i ≡ Some d → (k : ℕ) × (slice_get (Client.wants m) k ≡ Some (due_want m d))
+  client_due m zero d at = (1, ap (λ (x : Due). Some (due_want m x)) (some_is at))
+  client_due m (suc zero) d at = (3, ap (λ (x : Due). Some (due_want m x)) (some_is at))
+  client_due m (suc (suc i)) d at = cc
+
+  pub client_follows : NeedsFollow Client
+  client_follows = sheet_follows Client (λ m apart row. client_fits m apart row) client_due

@@ -5,7 +5,7 @@ use Rattle.owner_law.specs.Things.{Window, Buffers, Leases, Returns, Naming}
 use Rattle.net_owners.specs.Names.{by_address, by_offset}
 use Rattle.net_owners.specs.Ends.{NameBuffers}
 use Rattle.net_owners.specs.Lending.{LenderNames}
-use Rattle.net_parts.specs.Parts.{NetPart, NetDevice, NetDriver, NetReceiver, NetCopier, NetSink, Way}
+use Rattle.net_parts.specs.Parts.{NetPart, NetDevice, NetDriver, NetReceiver, NetCopier, NetClient, Way}
 use Rattle.net_parts.specs.Rows.{lender_of}
 
 -- at two queues buffers are named in the same windows
@@ -32,6 +32,6 @@ NamesPart naming scene (NetCopier lease_active lease_free rx_active rx_free) =
     ((leased : List Window) × (naming lease_active ≡ Leases leased)
     × (naming lease_free ≡ Returns leased))
     × ((buffers : List Window) × NamePair naming buffers rx_free rx_active)
-NamesPart naming scene (NetSink rx_active rx_free tx_active tx_free rx tx) =
+NamesPart naming scene (NetClient program mac rx_active rx_free tx_active tx_free rx tx) =
     NamePair naming (by_offset rx ∷ []) rx_active rx_free
-    × ((sending : List Window) × NamePair naming sending tx_active tx_free)
+    × NamePair naming (by_offset tx ∷ []) tx_active tx_free

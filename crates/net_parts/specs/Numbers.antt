@@ -4,9 +4,10 @@ use Rattle.std.specs.Prelude.{◌+◌, ◌*◌, ℕ, List, [], ◌∷◌}
 use Rattle.frame_core.specs.declared.mac.Mac.{Mac}
 use Rattle.owner_law.specs.Things.{Naming, naming_of}
 use Rattle.play_core.specs.Sheets.{Scene}
+use Rattle.net_expect.specs.Expecting.{Program}
 use Rattle.net_owners.specs.Names.{PoolAt, ClientPools, net_names}
 use Rattle.net_owners.specs.Lending.{receivers_of}
-use Rattle.net_parts.specs.Parts.{NetPart, NetDevice, NetDriver, NetReceiver, NetCopier, NetSink, Lessee}
+use Rattle.net_parts.specs.Parts.{NetPart, NetDevice, NetDriver, NetReceiver, NetCopier, NetClient, Lessee}
 use Rattle.net_parts.specs.Rows.{lender_of}
 
 -- the device's part, with the frames that it receives
@@ -41,10 +42,11 @@ abbrev pub copier_at : (first k : ℕ) → NetPart
 copier_at first k = NetCopier (client_first first k) (client_first first k + 1)
     (client_first first k + 2) (client_first first k + 3)
 
--- the part of the client of a number, with its pools
-abbrev pub sink_at : (first k : ℕ) → ClientPools → NetPart
-sink_at first k pools = NetSink (client_first first k + 2) (client_first first k + 3)
-    (client_first first k + 4) (client_first first k + 5) pools.rx pools.tx
+-- the part of the client of a number, with its program, its address and its pools
+abbrev pub client_at : (first k : ℕ) → Program → Mac → ClientPools → NetPart
+client_at first k program mac pools = NetClient program mac (client_first first k + 2)
+    (client_first first k + 3) (client_first first k + 4) (client_first first k + 5)
+    pools.rx pools.tx
 
 -- what items name by the layout's table, where the network's queues are the first
 abbrev pub layout_naming : Scene → PoolAt → List Mac → List ClientPools → Naming

@@ -1,7 +1,7 @@
 -- Which part each actor of the network's receive half plays, and what the laws ask of what passed
 -- at its ends.
-use Rattle.std.specs.Prelude.{◌≡◌, ℕ, false, Some, List, [], ◌∷◌, length, map, slice_get}
-use Rattle.cargo_core.specs.Pages.{Paged}
+use Rattle.std.specs.Prelude.{◌≡◌, ℕ, true, false, Some, List, [], ◌∷◌, length, map, slice_get}
+use Rattle.cargo_core.specs.Lists.{IsPrefix}
 use Rattle.frame_core.specs.declared.mac.Mac.{Mac}
 use Rattle.wire_core.specs.declared.names.QueueId.{QueueId}
 use Rattle.wire_core.specs.Deeds.{Cargo}
@@ -12,6 +12,7 @@ use Rattle.net_kit.specs.Virtualising.{from_queues, to_queues}
 use Rattle.net_kit.specs.declared.stock.Stock.{Stock}
 use Rattle.eth_device.specs.Devices as device
 use Rattle.eth_device.specs.declared.EthDevice.{EthDevice}
+use Rattle.net_client.specs.Programs.{program_of, is_echo}
 use Rattle.net_client.specs.Clients as client
 use Rattle.net_client.specs.declared.NetClient.{NetClient}
 use Rattle.net_copier.specs.Copying.{is_stray, leased_bytes}
@@ -19,9 +20,10 @@ use Rattle.net_copier.specs.declared.NetCopier.{NetCopier}
 use Rattle.net_virt_rx.specs.Receiving.{RxRow}
 use Rattle.net_virt_rx.specs.declared.NetVirtRx.{NetVirtRx}
 use Rattle.net_rx_owners.specs.Virtualiser.{TakesFrames}
+use Rattle.net_expect.specs.Expecting.{frames_for}
 use Rattle.net_owners.specs.Names.{PoolAt}
 use Rattle.net_parts.specs.Rows.{frame_at}
-use Rattle.net_parts.specs.Parts.{NetPart, NetDevice, NetDriver, NetReceiver, NetCopier as CopierPart, NetSink, Way, Lessee}
+use Rattle.net_parts.specs.Parts.{NetPart, NetDevice, NetDriver, NetReceiver, NetCopier as CopierPart, NetClient as ClientPart, Way, Lessee}
 
 -- a device's part
 abbrev pub device_part : EthDevice → NetPart
@@ -45,16 +47,11 @@ copier_part c = CopierPart c.lease_input.queue.0 c.lease_output.queue.0 c.buffer
 abbrev pub stock_pool : Stock → PoolAt
 stock_pool s = record { number = s.pool.0; base = s.base; buffers = s.buffers }
 
--- the pool of which these are all buffers, by offsets; none tell of none, whichever pool it is
-abbrev pub pool_of : List Paged → PoolAt
-pool_of [] = record { number = 0; base = 0; buffers = 0 }
-pool_of (page ∷ pages) =
-    record { number = page.pool.0; base = 0; buffers = length (page ∷ pages) }
-
--- the part of a client that sends nothing, with the pool in whose buffers it could send
-abbrev pub sink_part : NetClient → NetPart
-sink_part c = NetSink (client.rx_active c) (client.rx_free c) (client.tx_active c)
-    (client.tx_free c) (stock_pool c.stock) (pool_of c.spare.items)
+-- a client's part
+abbrev pub client_part : NetClient → NetPart
+client_part c = ClientPart (program_of c.program) c.program.mac (client.rx_active c)
+    (client.rx_free c) (client.tx_active c) (client.tx_free c) (stock_pool c.stock)
+    (stock_pool c.outbox.stock)
 
 -- clients with these addresses and queues
 abbrev pub lessees : List Mac → (to from : List QueueId) → List Lessee
@@ -94,3 +91,10 @@ pub record ReceivesInTurn (frames : List (List ℕ)) (v : NetVirtRx) (passed : P
 pub record HasBuffers (c : NetClient) : Type 0 where
   pub base : c.stock.base ≡ 0
   pub size : c.stock.size ≡ 2048
+  pub spare_base : c.outbox.stock.base ≡ 0
+  pub spare_size : c.outbox.stock.size ≡ 2048
+
+-- what an echo recorded is a beginning of those of the device's frames that are for it
+abbrev pub AnswersInTurn : List (List ℕ) → NetClient → Type 0
+AnswersInTurn frames c = is_echo c.program.kind ≡ true
+    → IsPrefix c.frames.tape.shown (frames_for c.program.mac frames)

@@ -1,5 +1,5 @@
 -- What each actor of the network's receive half may have put for what it took, of items alone.
-use Rattle.std.specs.Prelude.{◌≡◌, ◌==◌, ◌+◌, ◌-◌, ◌*◌, ◌<◌, ◌≤◌, ℕ, Bool, nat_lt, if◌then◌else◌, Some, List, [], ◌∷◌, ◌++◌, length, map, slice_get, slice_index_or}
+use Rattle.std.specs.Prelude.{◌≡◌, ◌==◌, ◌+◌, ◌-◌, ◌*◌, ◌<◌, ◌≤◌, ℕ, Bool, true, false, nat_lt, if◌then◌else◌, Some, List, [], ◌∷◌, ◌++◌, length, map, take, slice_get, slice_index_or}
 use Rattle.cargo_core.specs.Items.{kind_of}
 use Rattle.cargo_core.specs.Lists.{IsPrefix}
 use Rattle.cargo_core.specs.declared.item.Item.{Item}
@@ -10,7 +10,7 @@ use Rattle.wire_core.specs.Bells.{bit}
 use Rattle.play_core.specs.Moved.{Moved}
 use Rattle.owner_law.specs.Things.{Buffer, Window, names_in, times}
 use Rattle.owner_law.specs.Keeping.{at_start}
-use Rattle.net_expect.specs.Expecting.{is_for_client}
+use Rattle.net_expect.specs.Expecting.{Program, Sink, Source, Echo, is_for_client, answers_for}
 use Rattle.net_kit.specs.Entries.{addr_of, len_of, with_len}
 use Rattle.net_owners.specs.Names.{PoolAt, by_address, by_offset}
 use Rattle.net_owners.specs.Ends.{numbers_from}
@@ -53,12 +53,40 @@ given_item w k = ItemOf.Net (record { addr = w.base + k * w.size; len = 0 })
 abbrev pub given_items : Window → List Item
 given_items w = map (given_item w) (numbers_from 0 w.buffers)
 
--- what a client that sends nothing may have put: its own buffers in rising number and then those
--- that it took, as they came
-pub record ReturnsBuffers (own : Window) (came gave sent back : List Item) : Type 0 where
-  pub given : IsPrefix gave (given_items own ++ came)
-  pub sends : sent ≡ []
-  pub returned : back ≡ []
+-- the frames that the client of an address sends by its program where so many came, of those that
+-- the device receives
+abbrev pub sent_where : Program → Mac → List (List ℕ) → (came : ℕ) → List (List ℕ)
+sent_where Sink mac frames came = []
+sent_where (Source script) mac frames came = script
+sent_where Echo mac frames came = take came (answers_for mac frames)
+
+-- it answers each frame before it takes the next
+abbrev pub is_answering : Program → Bool
+is_answering Sink = false
+is_answering (Source script) = false
+is_answering Echo = true
+
+-- the items by which it sends these frames: its own buffers in rising number and then those that
+-- came back, each with the length of the frame of its place
+abbrev pub sent_items : List (List ℕ) → Window → List Item → List Item
+sent_items frames own back =
+    sized_items (map (λ frame. length frame) frames) (given_items own ++ back)
+
+-- what a client may have put to be sent: the first of those items; and it takes a buffer only where
+-- it has a frame to send and no buffer in its hand
+pub record SendsItems (frames : List (List ℕ)) (own : Window) (back put : List Item) : Type 0 where
+  pub filled : IsPrefix put (sent_items frames own back)
+  pub needed : 0 < length back → own.buffers + length back ≤ length frames
+  pub none_in_hand : 0 < length back → own.buffers + length back ≤ length put + 1
+
+-- what a client may have put: its own buffers in rising number and then those that it took, as they
+-- came; and the frames of its program, where an echo takes a frame only after its answer to the one
+-- before
+pub record ServesClient (program : Program) (mac : Mac) (frames : List (List ℕ)) (rx tx : Window)
+    (came gave back put : List Item) : Type 0 where
+  pub given : IsPrefix gave (given_items rx ++ came)
+  pub sends : SendsItems (sent_where program mac frames (length came)) tx back put
+  pub answered : is_answering program ≡ true → length came ≤ length put + 1
 
 -- an item of the network names a buffer of a window, by the address at which it begins
 pub record IsIn (w : Window) (item : Item) : Type 0 where

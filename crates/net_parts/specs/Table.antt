@@ -1,16 +1,18 @@
 -- The table of the network's receive half: all that is said of one of its actors, one case for each
 -- kind.
-use Rattle.std.specs.Prelude.{◌+◌, ◌&&◌, ◌||◌, ℕ, Bool, false, not, nat_lt, List, [], ◌∷◌, ◌++◌, length, map, flat_map}
+use Rattle.std.specs.Prelude.{◌+◌, ◌&&◌, ◌||◌, ℕ, Bool, not, false, nat_lt, List, [], ◌∷◌, ◌++◌, length, map, flat_map}
 use Rattle.cargo_core.specs.declared.item.Item.{Item}
 use Rattle.wire_core.specs.Bells.{bit}
 use Rattle.wire_core.specs.Marks.{sum_below}
 use Rattle.play_core.specs.Moved.{Moved, Seat}
 use Rattle.play_core.specs.Wants.{Want, intake, outlet, intake_want, outlet_want}
 use Rattle.play_core.specs.Sheets.{Scene, Sheet, Due}
+use Rattle.frame_core.specs.declared.mac.Mac.{Mac}
+use Rattle.net_expect.specs.Expecting.{Program}
 use Rattle.net_owners.specs.Names.{PoolAt, by_offset}
 use Rattle.net_owners.specs.Lending.{Lender}
-use Rattle.net_parts.specs.Parts.{NetPart, NetDevice, NetDriver, NetReceiver, NetCopier, NetSink, Way, Lessee}
-use Rattle.net_parts.specs.Rows.{FillsFrames, AllCopy, CopiesLeases, ReturnsBuffers, SharesFrames, leases_from, lender_of, is_lent, pool_hand}
+use Rattle.net_parts.specs.Parts.{NetPart, NetDevice, NetDriver, NetReceiver, NetCopier, NetClient, Way, Lessee}
+use Rattle.net_parts.specs.Rows.{FillsFrames, AllCopy, CopiesLeases, ServesClient, sent_where, sent_items, is_answering, SharesFrames, leases_from, lender_of, is_lent, pool_hand}
 
 -- the first list is shorter than the second
 abbrev pub is_short : {T U : Type 0} → List T → List U → Bool
@@ -66,6 +68,12 @@ abbrev pub lessee_wants : List (List ℕ) → PoolAt → (active : ℕ) → (bus
 lessee_wants frames pool active busy m c =
     outlet_want c.active (is_short (m.sent c.active) (leases_of frames pool active m c))
     ∷ intake_want c.free (not busy) ∷ []
+
+-- the items by which a client sends, where these came to it and those buffers came back
+abbrev pub client_items : Program → Mac → List (List ℕ) → (came : List Item) → PoolAt
+    → (back : List Item) → List Item
+client_items program mac frames came tx back =
+    sent_items (sent_where program mac frames (length came)) (by_offset tx) back
 
 -- what is said of an actor: what it puts is what the device's frames and what it took allow; it
 -- needs room for what it still has to put, and an input while nothing that came there is still to
@@ -124,17 +132,27 @@ net_sheet scene (NetCopier lease_active lease_free rx_active rx_free) = record {
       ∷ record { queue = lease_free; number = length (m.sent rx_active) } ∷ [];
   hand = λ pool. [];
 }
-net_sheet scene (NetSink rx_active rx_free tx_active tx_free rx tx) = record {
+net_sheet scene (NetClient program mac rx_active rx_free tx_active tx_free rx tx) = record {
   ends = intake rx_active ∷ outlet rx_free ∷ intake tx_free ∷ outlet tx_active ∷ [];
-  row = λ m. ReturnsBuffers (by_offset rx) (m.taken rx_active) (m.sent rx_free) (m.sent tx_active)
-      (m.taken tx_free);
+  row = λ m. ServesClient program mac scene.frames (by_offset rx) (by_offset tx)
+      (m.taken rx_active) (m.sent rx_free) (m.taken tx_free) (m.sent tx_active);
   wants = λ m.
       intake_want rx_active (not (nat_lt 0 (length (m.taken rx_active))
-      && nat_lt (length (m.sent rx_free)) (rx.buffers + length (m.taken rx_active))))
+      && nat_lt (length (m.sent rx_free)) (rx.buffers + length (m.taken rx_active)))
+      && not (is_answering program && is_short (m.sent tx_active) (m.taken rx_active)))
       ∷ outlet_want rx_free
       (nat_lt (length (m.sent rx_free)) (rx.buffers + length (m.taken rx_active)))
-      ∷ intake_want tx_free false ∷ outlet_want tx_active false ∷ [];
+      ∷ intake_want tx_free (is_short (m.sent tx_active)
+      (sent_where program mac scene.frames (length (m.taken rx_active)))
+      && not (nat_lt (length (m.sent tx_active)) (tx.buffers + length (m.taken tx_free))))
+      ∷ outlet_want tx_active (is_short (m.sent tx_active)
+      (client_items program mac scene.frames (m.taken rx_active) tx (m.taken tx_free))) ∷ [];
   dues = λ m.
-      record { queue = rx_free; number = rx.buffers + length (m.taken rx_active) } ∷ [];
+      record { queue = rx_free; number = rx.buffers + length (m.taken rx_active) }
+      ∷ record {
+        queue = tx_active;
+        number = length (client_items program mac scene.frames (m.taken rx_active) tx
+            (m.taken tx_free));
+      } ∷ [];
   hand = λ pool. pool_hand rx pool ++ pool_hand tx pool;
 }

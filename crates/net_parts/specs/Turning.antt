@@ -42,7 +42,7 @@ pub record IsReceiveHalf (d : EthDevice) (p : Pipes (Pipes (Pipes Pipe))) (v : N
   pub room_at_device : AreRoomy d.frames (passed.taken d.free.queue.0)
   pub short : (k : ℕ) (frame : List ℕ) → slice_get d.frames k ≡ Some frame → length frame < 65536
 
--- a client that sends nothing, by its place and with its address, whose row holds; and each of its
+-- a client, by its place and with its address, whose row holds; and each of its
 -- buffers that is filled is long enough
 pub record IsClient (v : NetVirtRx) (copiers : List NetCopier) (k : ℕ) (mac : Mac) (c : NetClient)
     (passed : Passed) : Type 0 where

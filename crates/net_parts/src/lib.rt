@@ -15,7 +15,7 @@ ghost use Rattle.owner_law.specs.Keeping.{PutsItsOwn};
 ghost use Rattle.turn_kit.specs.declared.pipe.Pipe.{Pipe};
 ghost use Rattle.pipe_driver.specs.Drivers.{PipesRow};
 ghost use Rattle.pipe_driver.specs.declared.pipes.Pipes.{Pipes};
-ghost use Rattle.net_expect.specs.Expecting.{frames_for};
+ghost use Rattle.net_expect.specs.Expecting.{Program, frames_for};
 ghost use Rattle.net_kit.specs.Entries.{frame_of};
 ghost use Rattle.eth_device.specs.Devices.{DeviceRow};
 ghost use Rattle.eth_device.specs.declared.EthDevice.{EthDevice};
@@ -31,8 +31,8 @@ ghost use Rattle.net_parts.specs.Parts.{NetPart};
 ghost use Rattle.net_parts.specs.Rows.{frame_at};
 ghost use Rattle.net_parts.specs.Table.{net_sheet};
 ghost use Rattle.net_parts.specs.Naming.{NamesPart};
-ghost use Rattle.net_parts.specs.Numbers.{device_at, driver_at, receiver_at, copier_at, sink_at, layout_naming};
-ghost use Rattle.net_parts.specs.Playing.{device_part, driver_part, copier_part, sink_part, receiver_part, AreLeases, ReceivesInTurn, HasBuffers};
+ghost use Rattle.net_parts.specs.Numbers.{device_at, driver_at, receiver_at, copier_at, client_at, layout_naming};
+ghost use Rattle.net_parts.specs.Playing.{device_part, driver_part, copier_part, client_part, receiver_part, AreLeases, ReceivesInTurn, HasBuffers, AnswersInTurn};
 ghost use Rattle.net_parts.specs.Turning.{IsReceiveHalf, IsClient};
 
 /// What is said of an actor speaks of its own ends alone, and an output is owed exactly where the
@@ -61,9 +61,10 @@ pub fn row_law()
         → AreItemsOf (net_sheet scene (copier_part c)).ends passed m
         → AreLeases (passed.taken c.lease_input.queue.0)
         → CopierRow c passed → (net_sheet scene (copier_part c)).row m }
-    ensures sink { (scene : Scene) (c : NetClient) (passed : Passed) (m : Moved)
-        → HasBuffers c → AreItemsOf (net_sheet scene (sink_part c)).ends passed m
-        → ClientRow c passed → (net_sheet scene (sink_part c)).row m }
+    ensures client { (scene : Scene) (c : NetClient) (passed : Passed) (m : Moved)
+        → HasBuffers c → AnswersInTurn scene.frames c
+        → AreItemsOf (net_sheet scene (client_part c)).ends passed m
+        → ClientRow c passed → (net_sheet scene (client_part c)).row m }
 {}
 
 /// What is said of an actor lets it put only buffers and leases that were in its hand, where its
@@ -114,7 +115,7 @@ pub fn name_law()
     ensures copier { (scene : Scene) (pool : PoolAt) (macs : List Mac) (pools : List ClientPools)
         (k : ℕ) (p : ClientPools) → slice_get pools k ≡ Some p
         → NamesPart (layout_naming scene pool macs pools) scene (copier_at 0 k) }
-    ensures sink { (scene : Scene) (pool : PoolAt) (macs : List Mac) (pools : List ClientPools)
-        (k : ℕ) (p : ClientPools) → slice_get pools k ≡ Some p
-        → NamesPart (layout_naming scene pool macs pools) scene (sink_at 0 k p) }
+    ensures client { (scene : Scene) (pool : PoolAt) (macs : List Mac) (pools : List ClientPools)
+        (k : ℕ) (p : ClientPools) (program : Program) (mac : Mac) → slice_get pools k ≡ Some p
+        → NamesPart (layout_naming scene pool macs pools) scene (client_at 0 k program mac p) }
 {}

@@ -1,4 +1,5 @@
 pub mod Plain
+pub mod Clients
 pub mod Counting
 pub mod Receiving
 pub mod Resting

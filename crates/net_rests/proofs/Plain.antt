@@ -22,10 +22,8 @@ use Rattle.net_copier.specs.Copying.{FitsCopier, CopierStandsFor, IfThere, IsAt,
 use Rattle.net_copier.specs.declared.NetCopier.{NetCopier}
 use Rattle.net_copier.specs.declared.Stage.{Stage}
 use Rattle.net_copier.specs.declared.Stage.TheVariants as At
-use Rattle.net_client.specs.Clients.{FitsClient, ClientStandsFor, is_giving, client_round, client_owes, rx_active, rx_free}
-use Rattle.net_client.specs.declared.NetClient.{NetClient}
 use Rattle.net_parts.specs.Table.{net_sheet, is_short}
-use Rattle.net_parts.specs.Playing.{device_part, driver_part, copier_part, sink_part, AreLeases}
+use Rattle.net_parts.specs.Playing.{device_part, driver_part, copier_part, AreLeases}
 use Rattle.rest_law.specs.Showing.{HaveItems}
 use Rattle.rest_law.specs.Meeting.{Meet}
 use Rattle.rest_law.proofs.Settling.{both, took, put, none_is, held_is, bit_is}
@@ -52,32 +50,15 @@ wanting_is (Some x) (Some y) At.Taken at turn filled back gave buffers leases a 
 wanting_is (Some x) (Some y) At.Copied at turn filled back gave buffers leases a b c = let e : At.Copied ≡ At.Taken = (filled refl).1 in cc
 wanting_is (Some x) (Some y) At.Stray at turn filled back gave buffers leases a b c = let e : At.Stray ≡ At.Taken = (filled refl).1 in cc
 
--- whether a client owes a buffer, and whether it holds one that came, by how many came and went
-owing_is : (next load : Option Cargo) (stock gave due : ℕ) → (next ≡ None → stock ≡ 0) → (is_some next ≡ true → 0 < stock) → gave + (stock + length (option_to_list load)) ≡ due → (is_some next || is_some load) ≡ nat_lt gave due
-owing_is None None stock gave due none some all = sym (le-ltb gave due (let z = none refl in omega (arith, z, all)))
-owing_is None (Some x) stock gave due none some all = sym (lt-ltb gave due (omega (arith, all)))
-owing_is (Some y) load stock gave due none some all = sym (lt-ltb gave due (let z = some refl in omega (arith, z, all)))
-
-holding_is : (next load : Option Cargo) (stock gave own came : ℕ) → (next ≡ None → stock ≡ 0) → gave + (stock + length (option_to_list load)) ≡ own + came → length (option_to_list load) ≤ came → (is_some next ≡ true → came ≤ length (option_to_list load)) → is_none load ≡ not (nat_lt 0 came && nat_lt gave (own + came))
-holding_is next (Some x) stock gave own came none all some first = rw (lt-ltb 0 came some, lt-ltb gave (own + came) (omega (arith, all))) refl
-holding_is None None stock gave own came none all some first =
-    let z = none refl in
-    rw (le-ltb gave (own + came) (omega (arith, z, all))) (sym (ap not (off (nat_lt 0 came))))
-  where
-    off : (b : Bool) → (b && false) ≡ false
-    off true = refl
-    off false = refl
-holding_is (Some y) None stock gave own came none all some first = rw (le-ltb 0 came (first refl)) refl
-
 -- a stock has nothing to give where nothing is ready
-none_left : (s : Stock) → IsStock s → s.next ≡ None → length (stock_list s) ≡ 0
+pub none_left : (s : Stock) → IsStock s → s.next ≡ None → length (stock_list s) ≡ 0
 none_left s is none =
     let a = length-append (option_to_list s.next) (map (given_entry s.base s.size) (reverse s.rest.items)) in
     let b : length (option_to_list s.next) ≡ 0 = ap (λ o. length (option_to_list o)) none in
     let c : length (map (given_entry s.base s.size) (reverse s.rest.items)) ≡ 0 = ap (λ (ps : List Paged). length (map (given_entry s.base s.size) (reverse ps))) (is.ready none) in
     omega (arith, a, b, c)
 
-some_left : (s : Stock) → is_some s.next ≡ true → 0 < length (stock_list s)
+pub some_left : (s : Stock) → is_some s.next ≡ true → 0 < length (stock_list s)
 some_left s some =
     let a = length-append (option_to_list s.next) (map (given_entry s.base s.size) (reverse s.rest.items)) in
     let b = one s.next some in
@@ -143,26 +124,5 @@ module _ (scene : Scene) (w : List Queue) (passed : Passed) (m : Moved) (h : Hav
         (
           record { needs = wants; agrees = f.buffer_input },
           (record { needs = fills; agrees = f.buffer_output }, (record { needs = returns; agrees = f.lease_output }, tt)),
-        ),
-      )
-
-  pub sink_meets : (c : NetClient) → FitsClient (end_at w) c → ClientStandsFor c passed → Meet (end_at w) (client_round c).posts (client_round c).needs ((net_sheet scene (sink_part c)).wants m)
-  sink_meets c f st =
-      let load = c.frames.pipe.load in
-      let n = length (m.sent (rx_free c)) in
-      let t = length (m.taken (rx_active c)) in
-      let q = length (stock_list c.stock) in
-      let all = ap (λ l. length l) st.given in
-      let gone = length-append (passed.sent (rx_free c)) (client_owes c) in
-      let owes = length-append (stock_list c.stock) (option_to_list load) in
-      let come = length-append (map (given_entry c.stock.base c.stock.size) st.start) (passed.taken (rx_active c)) in
-      let own = length-map st.start (given_entry c.stock.base c.stock.size) in
-      let sum : n + (q + length (option_to_list load)) ≡ c.stock.buffers + t = omega (arith, all, gone, owes, come, own, st.is_start.many, took passed m h (rx_active c), put passed m h (rx_free c)) in
-      let gives : is_giving c ≡ nat_lt n (c.stock.buffers + t) = owing_is c.stock.next load q n (c.stock.buffers + t) (none_left c.stock f.stock) (some_left c.stock) sum in
-      let holds : is_none load ≡ not (nat_lt 0 t && nat_lt n (c.stock.buffers + t)) = holding_is c.stock.next load q n c.stock.buffers t (none_left c.stock f.stock) sum (omega (arith, st.came, took passed m h (rx_active c))) (λ some. let few = st.first some in omega (arith, few, took passed m h (rx_active c))) in (
-        record { needs = holds; agrees = f.frames.input },
-        (
-          record { needs = gives; agrees = f.frames.output },
-          (record { needs = refl; agrees = f.sent }, (record { needs = refl; agrees = f.send }, tt)),
         ),
       )

@@ -18,10 +18,11 @@ use Rattle.net_client.specs.declared.NetClient.{NetClient}
 use Rattle.net_virt_rx.specs.Receiving.{FitsRx, RxStandsFor, rx_round}
 use Rattle.net_virt_rx.specs.declared.NetVirtRx.{NetVirtRx}
 use Rattle.net_parts.specs.Table.{net_sheet}
-use Rattle.net_parts.specs.Playing.{device_part, driver_part, receiver_part, copier_part, sink_part, AreLeases, ReceivesInTurn}
+use Rattle.net_parts.specs.Playing.{device_part, driver_part, receiver_part, copier_part, client_part, AreLeases, ReceivesInTurn, AnswersInTurn}
 use Rattle.rest_law.specs.Showing.{HaveItems, HaveBells}
 use Rattle.rest_law.proofs.Settling.{all_here}
-use Rattle.net_rests.proofs.Plain.{device_meets, pipes_meet, copier_meets, sink_meets}
+use Rattle.net_rests.proofs.Plain.{device_meets, pipes_meet, copier_meets}
+use Rattle.net_rests.proofs.Clients.{client_meets}
 use Rattle.net_rests.proofs.Receiving.{receiver_rests}
 
 module _ (scene : Scene) (history : History) (journal : List Entry) (world : List Queue) (passed : Passed) (items : HaveItems passed (moved history journal)) (bells : HaveBells world history journal) where
@@ -37,5 +38,5 @@ module _ (scene : Scene) (history : History) (journal : List Entry) (world : Lis
   pub copier_rest : (c : NetCopier) → AreLeases (passed.taken c.lease_input.queue.0) → FitsCopier (end_at world) c → CopierStandsFor c passed → is_at_rest (copier_round c) ≡ all_settled history journal ((net_sheet scene (copier_part c)).wants (moved history journal))
   copier_rest c leases f st = all_here history journal world bells (copier_round c).posts (copier_round c).needs ((net_sheet scene (copier_part c)).wants (moved history journal)) (copier_meets scene world passed (moved history journal) items c leases f st)
 
-  pub sink_rest : (c : NetClient) → FitsClient (end_at world) c → ClientStandsFor c passed → is_at_rest (client_round c) ≡ all_settled history journal ((net_sheet scene (sink_part c)).wants (moved history journal))
-  sink_rest c f st = all_here history journal world bells (client_round c).posts (client_round c).needs ((net_sheet scene (sink_part c)).wants (moved history journal)) (sink_meets scene world passed (moved history journal) items c f st)
+  pub client_rest : (c : NetClient) → AnswersInTurn scene.frames c → FitsClient (end_at world) c → ClientStandsFor c passed → is_at_rest (client_round c) ≡ all_settled history journal ((net_sheet scene (client_part c)).wants (moved history journal))
+  client_rest c turn f st = all_here history journal world bells (client_round c).posts (client_round c).needs ((net_sheet scene (client_part c)).wants (moved history journal)) (client_meets scene world passed (moved history journal) items c turn f st)

@@ -22,7 +22,7 @@ ghost use Rattle.net_copier.specs.declared.NetCopier.{NetCopier};
 ghost use Rattle.net_client.specs.Clients.{FitsClient, ClientStandsFor, client_round};
 ghost use Rattle.net_client.specs.declared.NetClient.{NetClient};
 ghost use Rattle.net_parts.specs.Table.{net_sheet};
-ghost use Rattle.net_parts.specs.Playing.{device_part, driver_part, receiver_part, copier_part, sink_part, AreLeases, ReceivesInTurn};
+ghost use Rattle.net_parts.specs.Playing.{device_part, driver_part, receiver_part, copier_part, client_part, AreLeases, ReceivesInTurn, AnswersInTurn};
 ghost use Rattle.rest_law.specs.Showing.{HaveItems, HaveBells};
 
 /// An actor that fits the queues as history and journal show them, and stands for the entries that
@@ -55,10 +55,11 @@ pub fn rests_law()
         → FitsCopier (end_at world) c → CopierStandsFor c passed
         → is_at_rest (copier_round c) ≡ all_settled history journal
         ((net_sheet scene (copier_part c)).wants (moved history journal)) }
-    ensures sink { (scene : Scene) (history : History) (journal : List Entry)
+    ensures client { (scene : Scene) (history : History) (journal : List Entry)
         (world : List Queue) (passed : Passed)
         → HaveItems passed (moved history journal) → HaveBells world history journal
-        → (c : NetClient) → FitsClient (end_at world) c → ClientStandsFor c passed
+        → (c : NetClient) → AnswersInTurn scene.frames c
+        → FitsClient (end_at world) c → ClientStandsFor c passed
         → is_at_rest (client_round c) ≡ all_settled history journal
-        ((net_sheet scene (sink_part c)).wants (moved history journal)) }
+        ((net_sheet scene (client_part c)).wants (moved history journal)) }
 {}

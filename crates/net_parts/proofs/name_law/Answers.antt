@@ -1,4 +1,4 @@
-use Rattle.net_parts.proofs.Numbering.{device_named, driver_named, receiver_named, copier_named, sink_named}
+use Rattle.net_parts.proofs.Numbering.{device_named, driver_named, receiver_named, copier_named, client_named}
 use Rattle.net_parts.proofs.name_law.Goals as goal
 
 pub returns-clause-device : goal.returns-clause-device
@@ -13,5 +13,5 @@ returns-clause-receiver c = receiver_named
 pub returns-clause-copier : goal.returns-clause-copier
 returns-clause-copier c = copier_named
 
-pub returns-clause-sink : goal.returns-clause-sink
-returns-clause-sink c = sink_named
+pub returns-clause-client : goal.returns-clause-client
+returns-clause-client c = client_named

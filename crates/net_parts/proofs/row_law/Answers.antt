@@ -1,4 +1,4 @@
-use Rattle.net_parts.proofs.Items.{device_row, driver_row, copier_row, sink_row}
+use Rattle.net_parts.proofs.Items.{device_row, driver_row, copier_row, client_row}
 use Rattle.net_parts.proofs.Leasing.{receiver_row}
 use Rattle.net_parts.proofs.row_law.Goals as goal
 
@@ -14,5 +14,5 @@ returns-clause-receiver c = λ scene v passed m turn items row. receiver_row sce
 pub returns-clause-copier : goal.returns-clause-copier
 returns-clause-copier c = copier_row
 
-pub returns-clause-sink : goal.returns-clause-sink
-returns-clause-sink c = λ scene x passed m has items row. sink_row scene x passed m has.base has.size items row
+pub returns-clause-client : goal.returns-clause-client
+returns-clause-client c = client_row

@@ -1,4 +1,4 @@
-use Rattle.net_rests.proofs.Resting.{device_rest, driver_rest, receiver_rest, copier_rest, sink_rest}
+use Rattle.net_rests.proofs.Resting.{device_rest, driver_rest, receiver_rest, copier_rest, client_rest}
 use Rattle.net_rests.proofs.rests_law.Goals as goal
 
 pub returns-clause-device : goal.returns-clause-device
@@ -13,5 +13,5 @@ returns-clause-receiver c = receiver_rest
 pub returns-clause-copier : goal.returns-clause-copier
 returns-clause-copier c = copier_rest
 
-pub returns-clause-sink : goal.returns-clause-sink
-returns-clause-sink c = sink_rest
+pub returns-clause-client : goal.returns-clause-client
+returns-clause-client c = client_rest
