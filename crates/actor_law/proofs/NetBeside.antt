@@ -31,6 +31,7 @@ use Rattle.net_copier.specs.declared.NetCopier.{NetCopier}
 use Rattle.net_client.specs.Clients.{FitsClient, ClientStandsFor, ClientEnd}
 use Rattle.net_client.specs.Clients as client
 use Rattle.net_client.specs.declared.NetClient.{NetClient}
+use Rattle.net_client.proofs.Standing.{held_on}
 
 module _ (ends ends' : Role → ℕ → End) (kinds : (r : Role) (n : ℕ) → (ends' r n).kind ≡ (ends r n).kind) where
   pub fits_pipe : (p : Pipe) → ends' Consumer p.input.queue.0 ≡ ends Consumer p.input.queue.0 → ends' Producer p.output.queue.0 ≡ ends Producer p.output.queue.0 → FitsPipe ends p → FitsPipe ends' p
@@ -85,9 +86,14 @@ module _ (ends ends' : Role → ℕ → End) (kinds : (r : Role) (n : ℕ) → (
     sent = subst (λ e. Agrees e c.sent.state) (sym (same Consumer (client.tx_free c) (inr refl))) f.sent;
     send = subst (λ e. Agrees e c.send.state) (sym (same Producer (client.tx_active c) (inr refl))) f.send;
     gives = kinds Producer (client.rx_free c) ∙ f.gives;
+    comes_back = kinds Consumer (client.tx_free c) ∙ f.comes_back;
+    sends = kinds Producer (client.tx_active c) ∙ f.sends;
     inputs_apart = f.inputs_apart;
     outputs_apart = f.outputs_apart;
     stock = f.stock;
+    outbox = f.outbox;
+    script = f.script;
+    record_ = f.record_;
     few = f.few;
   }
 
@@ -167,16 +173,7 @@ module _ (passed passed' : Passed) where
       let tf : passed'.taken (client.tx_free c) ≡ passed.taken (client.tx_free c) = ins (client.tx_free c) (inr refl) in
       let rf : passed'.sent (client.rx_free c) ≡ passed.sent (client.rx_free c) = outs (client.rx_free c) (inl refl) in
       let ta : passed'.sent (client.tx_active c) ≡ passed.sent (client.tx_active c) = outs (client.tx_active c) (inr refl) in
-      record {
-        start = f.start;
-        is_start = f.is_start;
-        given = rw (ra, rf) f.given;
-        came = rw ra f.came;
-        first = rw ra f.first;
-        got = rw ra f.got;
-        sends = rw ta f.sends;
-        returned = rw tf f.returned;
-      }
+      held_on c (passed.taken (client.rx_active c)) (passed.sent (client.rx_free c)) (passed.taken (client.tx_free c)) (passed.sent (client.tx_active c)) _ _ _ _ ra rf tf ta f
 
   -- a receiving virtualiser: what it took in turn is now what was taken, but where its stray came
   module _ (v : NetVirtRx) (from_each : length (from_queues v.ends) ≡ length v.work.macs.items) (to_each : length (to_queues v.ends) ≡ length v.work.macs.items)

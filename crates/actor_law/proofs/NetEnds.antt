@@ -10,7 +10,7 @@ use Rattle.play_core.specs.Sheets.{Scene}
 use Rattle.play_core.proofs.Lists.{some_is, there_is, there_below}
 use Rattle.net_kit.specs.Virtualising.{VirtOwns, from_queues, to_queues}
 use Rattle.net_virt_rx.specs.declared.NetVirtRx.{NetVirtRx}
-use Rattle.net_parts.specs.Parts.{NetPart, NetDevice, NetDriver, NetReceiver, NetCopier, NetSink, Lessee}
+use Rattle.net_parts.specs.Parts.{NetPart, NetDevice, NetDriver, NetReceiver, NetCopier, NetClient, Lessee}
 use Rattle.net_parts.specs.Table.{net_sheet, way_ends, lessee_ends}
 use Rattle.net_parts.specs.Playing.{way_of, lessees_of, receiver_part}
 use Rattle.net_parts.proofs.Pairs.{twice, pair_first, pair_second}
@@ -34,7 +34,7 @@ ends_same scene (NetDevice rx_free rx_active tx_active tx_free frames) = refl
 ends_same scene (NetDriver ways) = refl
 ends_same scene (NetReceiver active free pool clients) = refl
 ends_same scene (NetCopier lease_active lease_free rx_active rx_free) = refl
-ends_same scene (NetSink rx_active rx_free tx_active tx_free rx tx) = refl
+ends_same scene (NetClient program mac rx_active rx_free tx_active tx_free rx tx) = refl
 
 queue_of : (s : Seat) (r : Role) (n : ℕ) → Some s ≡ Some (seat r n) → n ≡ s.queue
 queue_of s r n h = sym (ap (λ (x : Seat). x.queue) (some_is h))

@@ -9,8 +9,6 @@ use Rattle.pipe_driver.specs.Drivers.{PipesStandFor, PipesRow}
 use Rattle.play_core.specs.Moved.{Moved, Seat, went}
 use Rattle.eth_device.specs.Devices.{DeviceStandsFor, DeviceRow}
 use Rattle.eth_device.specs.declared.EthDevice.{EthDevice}
-use Rattle.net_client.specs.Clients.{ClientStandsFor, ClientRow, client_owes}
-use Rattle.net_client.specs.declared.NetClient.{NetClient}
 use Rattle.net_owners.specs.Ends.{AreItemsOf, passed_at}
 use Rattle.rest_law.specs.Showing.{HaveItems}
 
@@ -25,16 +23,6 @@ device_row_of d passed st = record {
 pub pipes_row_of : (ps : List Pipe) (passed : Passed) → PipesStandFor ps passed → PipesRow ps passed
 pipes_row_of [] passed st = tt
 pipes_row_of (p ∷ ps) passed st = ((option_to_list p.load, sym st.0), pipes_row_of ps passed st.1)
-
-pub client_row_of : (c : NetClient) (passed : Passed) → ClientStandsFor c passed → ClientRow c passed
-client_row_of c passed st = record {
-  start = st.start;
-  is_start = st.is_start;
-  given = (client_owes c, st.given);
-  got = st.got;
-  sends = st.sends;
-  returned = st.returned;
-}
 
 -- the items at each end are those of the entries that passed there
 pub items_at : (seats : List Seat) (passed : Passed) (m : Moved) → HaveItems passed m → AreItemsOf seats passed m

@@ -1,6 +1,6 @@
 -- The network's actors in their start state: they fit the ends that rows give them, stand for
 -- nothing, and have the start hand of their sheets.
-use Rattle.std.proofs.Common.{◌≡◌, ◌≢◌, ◌⊎◌, ◌==◌, ◌+◌, ◌++◌, ◌<◌, ◌^◌, ◌-◌, ℕ, zero, suc, Bool, true, false, cond, if◌then◌else◌, Option, Some, None, is_some, List, [], ◌∷◌, length, map, reverse, slice_get, length-append, refl, sym, ap, ◌∙◌, subst, arith, eq-eqb, inl, inr}
+use Rattle.std.proofs.Common.{◌≡◌, ◌≢◌, ◌⊎◌, ◌==◌, ◌+◌, ◌++◌, ◌<◌, ◌≤◌, ◌^◌, ◌-◌, ℕ, zero, suc, Bool, true, false, cond, if◌then◌else◌, Option, Some, None, is_some, List, [], ◌∷◌, All, length, map, reverse, slice_get, length-append, refl, sym, ap, ◌∙◌, subst, arith, eq-eqb, inl, inr}
 use Rattle.std.specs.Option.{option_to_list, ForSome}
 use Rattle.std.proofs.Math.Dec.{eqb}
 use Rattle.std.proofs.lemmas.Bool.{ne_eqb}
@@ -31,6 +31,7 @@ use Rattle.eth_device.specs.Devices.{FitsDevice, DeviceStandsFor, DeviceEnd, rx_
 use Rattle.eth_device.specs.declared.EthDevice.{EthDevice}
 use Rattle.net_kit.specs.Pools.{given_entry, page_bodies}
 use Rattle.net_kit.specs.Stocks.{stock_list, stock_hand}
+use Rattle.net_kit.specs.declared.stock.Stock.{Stock}
 use Rattle.net_kit.specs.Virtualising.{VirtOwns, new_intake, new_outlet}
 use Rattle.net_kit.proofs.Counts.{stock_count, given_count}
 use Rattle.net_kit.proofs.Filling.{no_entries}
@@ -40,14 +41,16 @@ use Rattle.net_virt_rx.specs.Sharing.{sharer_hand}
 use Rattle.net_virt_rx.specs.declared.NetVirtRx.{NetVirtRx}
 use Rattle.net_copier.specs.Copying.{FitsCopier, CopierStandsFor, CopierEnd, IfThere, IsAt, IsWork, IsNewCopier}
 use Rattle.net_copier.specs.declared.NetCopier.{NetCopier}
-use Rattle.net_client.specs.Clients.{FitsClient, ClientStandsFor, ClientEnd, client_hand, client_owes}
+use Rattle.net_client.specs.Clients.{FitsClient, ClientStandsFor, ClientEnd, client_hand}
 use Rattle.net_client.specs.Clients as client
 use Rattle.net_client.specs.declared.NetClient.{NetClient}
-use Rattle.net_client.proofs.Holding.{hand_count}
+use Rattle.net_client.proofs.Holding.{hand_count, outbox_count}
+use Rattle.net_client.proofs.Sending.{outbox_starts}
+use Rattle.net_client.proofs.Standing.{new_holds}
 use Rattle.net_owners.specs.Ends.{numbers_from}
 use Rattle.net_parts.specs.Rows.{pool_hand}
 use Rattle.net_parts.specs.Table.{net_sheet}
-use Rattle.net_parts.specs.Playing.{receiver_part, sink_part, stock_pool, pool_of}
+use Rattle.net_parts.specs.Playing.{receiver_part, client_part, stock_pool}
 use Rattle.actor_set.specs.Actors.{IsWholeReceiver}
 use Rattle.actor_law.specs.StartStates.{IsNewReceiving, IsNewLender, IsNewClientOf, HasApartQueues}
 
@@ -112,15 +115,24 @@ module _ (ends : Role → ℕ → End) where
     work = work;
   }
 
-  pub new_client_fits : (c : NetClient) → (new : IsNewClientOf c) → (length c.stock.rest.items + length c.spare.items < 2 ^ 32 - 2) → (client.rx_active c ≡ client.tx_free c → ⊥) → (client.rx_free c ≡ client.tx_active c → ⊥) → Seated (ClientEnd c) → FitsClient ends c
+  pub new_client_fits : (c : NetClient) → (new : IsNewClientOf c) → (length c.stock.rest.items + length c.outbox.stock.rest.items < 2 ^ 32 - 4) → (client.rx_active c ≡ client.tx_free c → ⊥) → (client.rx_free c ≡ client.tx_active c → ⊥) → Seated (ClientEnd c) → FitsClient ends c
   new_client_fits c new few i o s = record {
     frames = new_pipe_fits (ClientEnd c) s c.frames.pipe new.new.frames (inl refl) (inl refl);
     sent = s.inputs (client.tx_free c) c.sent.state (inr refl) (ap (λ (x : Intake). x.state) new.new.sent);
     send = s.outputs (client.tx_active c) c.send.state (inr refl) (ap (λ (x : Outlet). x.state) new.new.send);
     gives = s.carries Producer (client.rx_free c) (inl refl);
+    comes_back = s.carries Consumer (client.tx_free c) (inr refl);
+    sends = s.carries Producer (client.tx_active c) (inr refl);
     inputs_apart = i;
     outputs_apart = o;
     stock = new.new.ready;
+    outbox = record {
+      stock = new.new.outbox.ready;
+      load = for_none c.outbox.load (λ x. kind_of x.0 ≡ Kind.Net) new.new.outbox.load;
+      next = let next = new.new.outbox.next in omega (arith, next);
+    };
+    script = new.short;
+    record_ = subst (λ fs. All (λ frame. length frame < 2 ^ 16) fs) (sym new.new.got) (λ k d lt. absurd (omega (arith, lt)));
     few = few;
   }
 
@@ -164,14 +176,17 @@ new_receiver_whole v new =
     record { work = new.stands.work; from_each = omega (arith, macs, from, from_is); to_each = omega (arith, macs, to, to_is) }
 
 -- a new client's buffers can be counted
-pub new_client_few : (c : NetClient) → IsNewClientOf c → length c.stock.rest.items + length c.spare.items < 2 ^ 32 - 2
-new_client_few c new =
-    let all = ap (λ l. length l) new.new.stock in
-    let parts = length-append (option_to_list c.stock.next) (map (given_entry c.stock.base c.stock.size) (reverse c.stock.rest.items)) in
-    let rest = length-map (reverse c.stock.rest.items) (given_entry c.stock.base c.stock.size) in
-    let turned = length-reverse c.stock.rest.items in
-    let pages = length-map new.pages (given_entry 0 c.stock.size) in
-    omega (arith, all, parts, rest, turned, pages, new.few)
+pub new_client_few : (c : NetClient) → IsNewClientOf c → length c.stock.rest.items + length c.outbox.stock.rest.items < 2 ^ 32 - 4
+new_client_few c new = omega (arith, rest_few c.stock new.pages new.new.stock, rest_few c.outbox.stock new.spare new.new.outbox.stock, new.few)
+  where
+    rest_few : (s : Stock) (pages : List Paged) → stock_list s ≡ map (given_entry 0 s.size) pages → length s.rest.items ≤ length pages
+    rest_few s pages list =
+        let all = ap (λ l. length l) list in
+        let parts = length-append (option_to_list s.next) (map (given_entry s.base s.size) (reverse s.rest.items)) in
+        let rest = length-map (reverse s.rest.items) (given_entry s.base s.size) in
+        let turned = length-reverse s.rest.items in
+        let pages_ = length-map pages (given_entry 0 s.size) in
+        omega (arith, all, parts, rest, turned, pages_)
 
 -- it stands for nothing
 
@@ -207,20 +222,7 @@ new_copier_stands c new = record {
 }
 
 pub new_client_stands : (c : NetClient) → IsNewClientOf c → ClientStandsFor c nothing_passed
-new_client_stands c new =
-    let given : map (given_entry c.stock.base c.stock.size) new.pages ≡ map (given_entry 0 c.stock.size) new.pages = ap (λ b. map (given_entry b c.stock.size) new.pages) new.new.base in
-    let none : stock_list c.stock ++ option_to_list c.frames.pipe.load ≡ stock_list c.stock ++ [] = ap (λ o. stock_list c.stock ++ option_to_list o) new.new.frames.load in
-    let held : length (option_to_list c.frames.pipe.load) ≡ 0 = ap (λ o. length (option_to_list o)) new.new.frames.load in
-    record {
-      start = new.pages;
-      is_start = new.new.is_start;
-      given = none ∙ ap (λ l. l ++ []) (new.new.stock ∙ sym given);
-      came = omega (arith, held);
-      first = λ some. omega arith;
-      got = new.new.got;
-      sends = refl;
-      returned = refl;
-    }
+new_client_stands c new = new_holds c new.pages new.new.frames.load new.new.got new.new.is_start new.new.stock new.new.base (outbox_starts c.outbox new.spare (client.client_frames c) new.new.outbox)
 
 -- its hand is the start hand of its sheet
 
@@ -265,15 +267,7 @@ new_receiver_hand scene v new pool =
     let pages = pages_are v.work.stock.pool.0 v.work.stock.base v.work.stock.buffers v.work.stock.pool pool new.pages refl w.is_start.many w.is_start.are_pool.same_pool in
     omega (arith, parts, none, stock, list, given, pages)
 
-spare_are : (pool : PoolId) (spare : List Paged) (of_pool : PoolId) → ((k : ℕ) (p : Paged) → slice_get spare k ≡ Some p → p.pool ≡ of_pool) → buffers_of pool (page_bodies spare) ≡ length (pool_hand (pool_of spare) pool.0)
-spare_are pool [] of_pool all = by (0 == pool.0)
-  where
-    by : (b : Bool) → 0 ≡ length (if b then numbers_from 0 0 else [])
-    by true = refl
-    by false = refl
-spare_are pool (p ∷ spare) of_pool all = pages_are p.pool.0 0 (length (p ∷ spare)) of_pool pool (p ∷ spare) (ap (λ (x : PoolId). x.0) (all 0 p refl)) refl all
-
-pub new_client_hand : (scene : Scene) (c : NetClient) → IsNewClientOf c → (pool : PoolId) → buffers_of pool (client_hand c) ≡ length ((net_sheet scene (sink_part c)).hand pool.0)
+pub new_client_hand : (scene : Scene) (c : NetClient) → IsNewClientOf c → (pool : PoolId) → buffers_of pool (client_hand c) ≡ length ((net_sheet scene (client_part c)).hand pool.0)
 new_client_hand scene c new pool =
     let parts = hand_count pool c in
     let none = ap (λ o. buffers_of pool (bodies_of (option_to_list o))) new.new.frames.load in
@@ -281,6 +275,12 @@ new_client_hand scene c new pool =
     let list = ap (λ l. buffers_of pool (bodies_of l)) new.new.stock in
     let given = given_count pool 0 c.stock.size new.pages in
     let own = pages_are c.stock.pool.0 c.stock.base c.stock.buffers c.stock.pool pool new.pages refl new.new.is_start.many new.new.is_start.are_pool.same_pool in
-    let spare = spare_are pool c.spare.items new.spare.0 new.spare.2.same_pool in
-    let all = length-append (pool_hand (stock_pool c.stock) pool.0) (pool_hand (pool_of c.spare.items) pool.0) in
-    omega (arith, parts, none, stock, list, given, own, spare, all)
+    let o = c.outbox in
+    let out = outbox_count pool o in
+    let out_none = ap (λ l. buffers_of pool (bodies_of (option_to_list l))) new.new.outbox.load in
+    let out_stock = stock_count pool o.stock in
+    let out_list = ap (λ l. buffers_of pool (bodies_of l)) new.new.outbox.stock in
+    let out_given = given_count pool 0 o.stock.size new.spare in
+    let out_own = pages_are o.stock.pool.0 o.stock.base o.stock.buffers o.stock.pool pool new.spare refl new.new.outbox.is_start.many new.new.outbox.is_start.are_pool.same_pool in
+    let all = length-append (pool_hand (stock_pool c.stock) pool.0) (pool_hand (stock_pool o.stock) pool.0) in
+    omega (arith, parts, none, stock, list, given, own, out, out_none, out_stock, out_list, out_given, out_own, all)

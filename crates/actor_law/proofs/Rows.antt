@@ -30,12 +30,13 @@ use Rattle.eth_driver.specs.Four.{four_pipes}
 use Rattle.net_copier.proofs.Holding.{row_of as copier_row_of}
 use Rattle.net_virt_rx.proofs.Rounds.{row_of as receiver_row_of}
 use Rattle.net_parts.specs.Table.{net_sheet}
-use Rattle.net_parts.specs.Playing.{device_part, driver_part, receiver_part, copier_part, sink_part}
-use Rattle.net_parts.proofs.Items.{device_row, driver_row, copier_row, sink_row}
+use Rattle.net_parts.specs.Playing.{device_part, driver_part, receiver_part, copier_part, client_part}
+use Rattle.net_client.proofs.Standing.{row_of}
+use Rattle.net_parts.proofs.Items.{device_row, driver_row, copier_row, client_row}
 use Rattle.net_parts.proofs.Leasing.{receiver_row}
 use Rattle.actor_law.specs.Kinds.{sheet}
 use Rattle.actor_law.specs.Turning.{InTurn}
-use Rattle.actor_law.proofs.NetRows.{device_row_of, pipes_row_of, client_row_of, items_at}
+use Rattle.actor_law.proofs.NetRows.{device_row_of, pipes_row_of, items_at}
 use Rattle.actor_set.specs.Actors.{ActorStandsFor, part_of, numbers}
 use Rattle.rest_law.specs.Showing.{HaveItems}
 use Rattle.actor_law.specs.Records.{record_of, record_by, frames_got, frames_by}
@@ -107,7 +108,7 @@ module _ (scene : Scene) (passed : Passed) (items : Moved) (h : HaveItems passed
   actor_row (Kinds.EthDriver x) turn f = driver_row scene (four_pipes x.driver.pipes) passed items (items_at (net_sheet scene (driver_part (four_pipes x.driver.pipes))).ends passed items h) (pipes_row_of (four_pipes x.driver.pipes) passed f)
   actor_row (Kinds.NetVirtRx x) turn f = let row = receiver_row_of x passed f in receiver_row scene x passed items turn.size (items_at (net_sheet scene (receiver_part x)).ends passed items h) turn.takes row (turn.in_turn row)
   actor_row (Kinds.NetCopier x) turn f = copier_row scene x passed items (items_at (net_sheet scene (copier_part x)).ends passed items h) turn (copier_row_of x passed f)
-  actor_row (Kinds.NetClient x) turn f = sink_row scene x passed items turn.base turn.size (items_at (net_sheet scene (sink_part x)).ends passed items h) (client_row_of x passed f)
+  actor_row (Kinds.NetClient x) turn f = client_row scene x passed items turn.0 turn.1 (items_at (net_sheet scene (client_part x)).ends passed items h) (row_of x passed f)
 
 module _ (passed : Passed) (items : Moved) (h : HaveItems passed items) where
   -- what it recorded is what the items say of its part

@@ -155,7 +155,7 @@ module _ (rows : List QueueRow) (k : ℕ) where
   new_fits (Kinds.EthDriver x) new apart seats = new_pipes_fit ends (four_pipes x.driver.pipes) new apart.0 apart.1 (net_seats (ActorEnd (Kinds.EthDriver x)) seats)
   new_fits (Kinds.NetVirtRx x) new apart seats = (new_receiver_fits ends x new (new_receiver_whole x new) apart (net_seats (ActorEnd (Kinds.NetVirtRx x)) seats), new.size)
   new_fits (Kinds.NetCopier x) new apart seats = new_copier_fits ends x new apart.0 apart.1 (new_copier_work x new) (net_seats (ActorEnd (Kinds.NetCopier x)) seats)
-  new_fits (Kinds.NetClient x) new apart seats = (new_client_fits ends x new (new_client_few x new) apart.0 apart.1 (net_seats (ActorEnd (Kinds.NetClient x)) seats), record { base = new.new.base; size = new.size })
+  new_fits (Kinds.NetClient x) new apart seats = (new_client_fits ends x new (new_client_few x new) apart.0 apart.1 (net_seats (ActorEnd (Kinds.NetClient x)) seats), record { base = new.new.base; size = new.size; spare_base = new.new.outbox.base; spare_size = new.spare_size })
 
 terminal_stands : (t : Terminal) → IsNewTerminal t.input.queue t.output.queue t.script t → TerminalStandsFor t nothing_passed
 terminal_stands t new = record { sent_is = rw new.next refl; record_is = new.recorded }

@@ -7,7 +7,7 @@ use Rattle.play_core.specs.Manners.{Manner, Calm, Hostile, Manners, hostile_by}
 use Rattle.play_core.specs.Sheets.{Scene, Sheet}
 use Rattle.serial_law.specs.Parts.{SerialPart, SerialDevice, SerialDriver, SerialReceiver, SerialSender, SerialClient}
 use Rattle.serial_law.specs.Table.{serial_sheet}
-use Rattle.net_parts.specs.Parts.{NetPart, NetDevice, NetDriver, NetReceiver, NetCopier, NetSink}
+use Rattle.net_parts.specs.Parts.{NetPart, NetDevice, NetDriver, NetReceiver, NetCopier, NetClient}
 use Rattle.net_parts.specs.Table.{net_sheet}
 use Rattle.actor_set.specs.Parts.{Part, UartPart, DriverPart, RxPart, TxPart, ClientPart, NetworkPart}
 
@@ -25,7 +25,7 @@ net_frames_of (NetDevice rx_free rx_active tx_active tx_free frames) = frames
 net_frames_of (NetDriver ways) = []
 net_frames_of (NetReceiver active free pool clients) = []
 net_frames_of (NetCopier lease_active lease_free rx_active rx_free) = []
-net_frames_of (NetSink rx_active rx_free tx_active tx_free rx tx) = []
+net_frames_of (NetClient program mac rx_active rx_free tx_active tx_free rx tx) = []
 
 -- the frames that a trace gives a part
 abbrev pub frames_of : Part → List (List ℕ)

@@ -4,7 +4,7 @@ use Rattle.wire_core.specs.Lists.{Passed}
 use Rattle.play_core.specs.Moved.{Moved}
 use Rattle.serial_law.specs.Bytes.{bytes_in}
 use Rattle.net_kit.specs.Entries.{frame_of}
-use Rattle.net_parts.specs.Parts.{NetPart, NetDevice, NetDriver, NetReceiver, NetCopier, NetSink}
+use Rattle.net_parts.specs.Parts.{NetPart, NetDevice, NetDriver, NetReceiver, NetCopier, NetClient}
 use Rattle.actor_set.specs.Parts.{Part, UartPart, DriverPart, RxPart, TxPart, ClientPart, NetworkPart}
 use Rattle.actor_set.specs.declared.actor.Actor.{Actor}
 use Rattle.actor_set.specs.declared.actor.Actor.TheVariants as Kinds
@@ -49,7 +49,7 @@ frames_got (Kinds.NetClient x) = x.frames.tape.shown
 abbrev pub net_frames_by : Passed → NetPart → List (List ℕ)
 net_frames_by passed (NetDevice rx_free rx_active tx_active tx_free frames) =
     map frame_of (passed.taken tx_active)
-net_frames_by passed (NetSink rx_active rx_free tx_active tx_free rx tx) =
+net_frames_by passed (NetClient program mac rx_active rx_free tx_active tx_free rx tx) =
     map frame_of (passed.taken rx_active)
 net_frames_by passed (NetDriver ways) = []
 net_frames_by passed (NetReceiver active free pool clients) = []

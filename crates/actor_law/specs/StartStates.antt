@@ -1,6 +1,5 @@
 -- Actors in their start state, and the ends that rows give them.
 use Rattle.std.specs.Prelude.{◌≡◌, ◌+◌, ◌-◌, ◌<◌, ◌^◌, ℕ, Some, List, All, length, slice_get}
-use Rattle.cargo_core.specs.declared.item.PoolId.{PoolId}
 use Rattle.cargo_core.specs.declared.item.QueueKind.{QueueKind}
 use Rattle.cargo_core.specs.declared.item.QueueKind.TheVariants as Kind
 use Rattle.cargo_core.specs.Pages.{Paged}
@@ -18,7 +17,6 @@ use Rattle.pipe_driver.specs.Drivers.{EachPipe, AreDistinct, inputs_of, outputs_
 use Rattle.eth_driver.specs.Four.{four_pipes}
 use Rattle.eth_device.specs.Devices.{IsNewDevice, rx_free, rx_active, tx_active, tx_free}
 use Rattle.eth_device.specs.declared.EthDevice.{EthDevice}
-use Rattle.net_kit.specs.Pools.{ArePool}
 use Rattle.net_kit.specs.Virtualising.{from_queues, to_queues}
 use Rattle.net_kit.specs.declared.virt_ends.VirtEnds.{VirtEnds}
 use Rattle.net_virt_rx.specs.Receiving.{IsNewRx as IsNewNetRx, RxStandsFor as NetRxStandsFor}
@@ -48,15 +46,17 @@ pub record IsNewLender (v : NetVirtRx) : Type 0 where
   pub stands : NetRxStandsFor v nothing_passed
   pub size : v.work.stock.size ≡ 2048
 
--- a network client in its start state, with all buffers of its two pools; those in which it
--- receives have 2,048 bytes
+-- a network client in its start state, with all buffers of its two pools, which have 2,048 bytes;
+-- each frame of its script has at most 65,535
 pub record IsNewClientOf (c : NetClient) : Type 0 where
   pub pages : List Paged
-  pub new : IsNewClient c.frames.pipe.input.queue c.frames.pipe.output.queue c.send.queue
-      c.sent.queue pages c.spare.items c
+  pub spare : List Paged
+  pub new : IsNewClient c.program.kind c.program.mac c.frames.pipe.input.queue
+      c.frames.pipe.output.queue c.send.queue c.sent.queue pages spare c.program.script c
   pub size : c.stock.size ≡ 2048
-  pub spare : (pool : PoolId) × (bytes : ℕ) × ArePool 0 pool bytes c.spare.items
-  pub few : length pages + length c.spare.items < 2 ^ 32 - 2
+  pub spare_size : c.outbox.stock.size ≡ 2048
+  pub short : All (λ frame. length frame < 2 ^ 16) c.program.script
+  pub few : length pages + length spare < 2 ^ 32 - 4
 
 -- an actor in its start state
 abbrev pub IsNew : Actor → Type 0

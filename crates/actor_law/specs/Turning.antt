@@ -2,7 +2,7 @@
 -- items.
 use Rattle.wire_core.specs.Lists.{Passed}
 use Rattle.play_core.specs.Sheets.{Scene}
-use Rattle.net_parts.specs.Playing.{AreLeases, ReceivesInTurn, HasBuffers}
+use Rattle.net_parts.specs.Playing.{AreLeases, ReceivesInTurn, HasBuffers, AnswersInTurn}
 use Rattle.actor_set.specs.declared.actor.Actor.{Actor}
 use Rattle.actor_set.specs.declared.actor.Actor.TheVariants as Kinds
 
@@ -18,4 +18,4 @@ InTurn scene (Kinds.EthDevice x) passed = Unit {0}
 InTurn scene (Kinds.EthDriver x) passed = Unit {0}
 InTurn scene (Kinds.NetVirtRx x) passed = ReceivesInTurn scene.frames x passed
 InTurn scene (Kinds.NetCopier x) passed = AreLeases (passed.taken x.lease_input.queue.0)
-InTurn scene (Kinds.NetClient x) passed = HasBuffers x
+InTurn scene (Kinds.NetClient x) passed = HasBuffers x × AnswersInTurn scene.frames x

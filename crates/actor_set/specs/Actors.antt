@@ -20,7 +20,7 @@ use Rattle.net_virt_rx.specs.declared.NetVirtRx.{NetVirtRx}
 use Rattle.net_kit.specs.Virtualising.{from_queues, to_queues}
 use Rattle.net_copier.specs.Copying.{FitsCopier, CopierStandsFor, CopierRow, CopierBalances, CopierEnd, copier_round, copier_hand, copier_forgotten}
 use Rattle.net_client.specs.Clients.{FitsClient, ClientStandsFor, ClientRow, ClientBalances, ClientEnd, client_round, client_hand, client_forgotten}
-use Rattle.net_parts.specs.Playing.{HasBuffers, device_part, driver_part, receiver_part, copier_part, sink_part}
+use Rattle.net_parts.specs.Playing.{HasBuffers, device_part, driver_part, receiver_part, copier_part, client_part}
 use Rattle.actor_set.specs.Parts.{Part, UartPart, DriverPart, RxPart, TxPart, ClientPart, NetworkPart}
 use Rattle.actor_set.specs.declared.actor.Actor.{Actor}
 use Rattle.actor_set.specs.declared.actor.Actor.TheVariants as Kinds
@@ -109,7 +109,7 @@ IsWhole (Kinds.EthDriver x) = Unit {0}
 IsWhole (Kinds.NetVirtRx x) = IsWholeReceiver x
 IsWhole (Kinds.NetCopier x) = Unit {0}
 IsWhole (Kinds.NetClient x) =
-    length x.stock.rest.items + length x.spare.items < 2 ^ 32 - 2
+    length x.stock.rest.items + length x.outbox.stock.rest.items < 2 ^ 32 - 4
 
 -- its ends, and which of them it needs
 abbrev pub actor_round : Actor → Round
@@ -187,7 +187,7 @@ part_of (Kinds.EthDevice x) = NetworkPart (device_part x)
 part_of (Kinds.EthDriver x) = NetworkPart (driver_part (four_pipes x.driver.pipes))
 part_of (Kinds.NetVirtRx x) = NetworkPart (receiver_part x)
 part_of (Kinds.NetCopier x) = NetworkPart (copier_part x)
-part_of (Kinds.NetClient x) = NetworkPart (sink_part x)
+part_of (Kinds.NetClient x) = NetworkPart (client_part x)
 
 -- the length of a client's record: how many bytes, or frames
 abbrev pub record_length : Actor → ℕ

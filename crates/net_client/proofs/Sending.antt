@@ -20,7 +20,7 @@ use Rattle.net_client.specs.declared.program.NetProgram.TheVariants as Kind
 use Rattle.net_client.specs.declared.program.ClientProgram.{ClientProgram}
 use Rattle.net_client.specs.declared.outbox.Outbox.{Outbox}
 use Rattle.net_client.specs.Programs.{sent_for, program_with, frames_out, answer_to, is_echo}
-use Rattle.net_client.specs.Sending.{FitsOutbox, OutboxStandsFor, SendsFrames, needs_buffer, is_through}
+use Rattle.net_client.specs.Sending.{IsNewOutbox, FitsOutbox, OutboxStandsFor, SendsFrames, needs_buffer, is_through}
 
 -- the first entries are filled as they would be without the others
 filled_front : (fs : List (List ℕ)) (xs ys : List Cargo) → IsPrefix (all_filled fs xs) (all_filled fs (xs ++ ys))
@@ -173,15 +173,15 @@ outbox_filled o s e x f fs back put load list same at is left h =
     }
 
 -- nothing was put yet
-pub outbox_new : (s : Stock) (pages : List Paged) (fs : List (List ℕ)) → IsStart s pages → stock_list s ≡ map (given_entry 0 s.size) pages → s.base ≡ 0 → OutboxStandsFor (record { stock = s; load = None; next = 0 }) fs [] []
-outbox_new s pages fs start list base = record {
+pub outbox_starts : (o : Outbox) (pages : List Paged) (fs : List (List ℕ)) → IsNewOutbox pages o → OutboxStandsFor o fs [] []
+outbox_starts o pages fs new = record {
   start = pages;
-  is_start = start;
+  is_start = new.is_start;
   used = [];
-  had = append-nil (map (given_entry s.base s.size) pages) ∙ (ap (λ b. map (given_entry b s.size) pages) base ∙ sym list);
-  filled = sym (no_entries fs);
-  many = refl;
-  few = omega arith;
+  had = append-nil (map (given_entry o.stock.base o.stock.size) pages) ∙ (ap (λ b. map (given_entry b o.stock.size) pages) new.base ∙ sym new.stock);
+  filled = ap (λ (l : Option Cargo). option_to_list l) new.load ∙ sym (no_entries fs);
+  many = sym new.next;
+  few = let next = new.next in omega (arith, next);
   needed = λ some. absurd (omega (arith, some));
   none_in_hand = λ some. absurd (omega (arith, some));
 }

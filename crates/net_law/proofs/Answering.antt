@@ -55,7 +55,7 @@ sends_begin c mac frames passed h =
     let fs = frames_out c.program (map frame_of (passed.taken (rx_active c))) in
     let had = map (given_entry c.outbox.stock.base c.outbox.stock.size) h.row.spare ++ passed.taken (tx_free c) in
     let came : IsPrefix (map frame_of (passed.taken (rx_active c))) (frames_for c.program.mac frames) =
-        subst (λ m. IsPrefix (map frame_of (passed.taken (rx_active c))) (frames_for m frames)) (sym h.address) (subst (λ l. IsPrefix l (frames_for mac frames)) h.row.got h.came) in
+    subst (λ m. IsPrefix (map frame_of (passed.taken (rx_active c))) (frames_for m frames)) (sym h.address) (subst (λ l. IsPrefix l (frames_for mac frames)) h.row.got h.came) in
     subst (λ m. IsPrefix (map frame_of put) (sends_of (program_of c.program) m frames)) h.address
     (begins_on (map frame_of put) fs (sends_of (program_of c.program) c.program.mac frames)
     (begins_on (map frame_of put) (map frame_of (all_filled fs had)) fs (begins_map frame_of put (all_filled fs had) h.row.sends.filled) (frames_are fs had h.room))

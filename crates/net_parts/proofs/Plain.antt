@@ -239,8 +239,7 @@ module _ (scene : Scene) (program : Program) (mac : Mac) (rx_active rx_free tx_a
     hands : nat_lt (length (m.sent rx_free)) (rx.buffers + length (m.taken rx_active)) ≡ true → CouldPut Client m rx_free
     hands lt =
         let more = copy_more m rx_free due row.given (subst (λ n. nat_lt (length (m.sent rx_free)) n ≡ true) (sym due_long) lt) in
-        let still = sym (put_beside m rx_free more.0 tx_active client_away) in
-        (
+        let still = sym (put_beside m rx_free more.0 tx_active client_away) in (
           more.0,
           record {
             given = more.1;
@@ -255,8 +254,7 @@ module _ (scene : Scene) (program : Program) (mac : Mac) (rx_active rx_free tx_a
     sends : nat_lt (length (m.sent tx_active)) (length to_send) ≡ true → CouldPut Client m tx_active
     sends lt =
         let more = copy_more m tx_active to_send row.sends.filled lt in
-        let longer = put_length m tx_active more.0 in
-        (
+        let longer = put_length m tx_active more.0 in (
           more.0,
           record {
             given = subst (λ l. IsPrefix l due) (sym (put_beside m tx_active more.0 rx_free (λ same. client_away (sym same)))) row.given;

@@ -152,12 +152,11 @@ module _ (scene : Scene) (w : List Queue) (passed : Passed) (m : Moved) (h : Hav
       let ns_long : length ns ≡ length fs = length-map where_ (λ (frame : List ℕ). length frame) ∙ long in
       let least = sized_as ns items in
       let buffer : needs_buffer o (length fs) ≡ (nat_lt p (length where_) && not (nat_lt p (o.stock.buffers + b))) =
-          needed_is o.load o.stock.next o.next sq (length fs) p (o.stock.buffers + b) sent had s.few (none_left o.stock f.outbox.stock) (some_left o.stock) ∙ ap (λ k. nat_lt p k && not (nat_lt p (o.stock.buffers + b))) (sym long) in
+      needed_is o.load o.stock.next o.next sq (length fs) p (o.stock.buffers + b) sent had s.few (none_left o.stock f.outbox.stock) (some_left o.stock) ∙ ap (λ k. nat_lt p k && not (nat_lt p (o.stock.buffers + b))) (sym long) in
       let sends : is_sending o (length fs) ≡ nat_lt p (length (sized_items ns items)) =
-          sending_is o.load o.stock.next o.next sq (length fs) p (o.stock.buffers + b) (length (sized_items ns items)) sent had s.few (none_left o.stock f.outbox.stock) (some_left o.stock) (omega (arith, least.0, ns_long)) (omega (arith, least.1, items_long)) (either (length (sized_items ns items)) (length ns) (length items) (length fs) (o.stock.buffers + b) ns_long items_long least.2) in
+      sending_is o.load o.stock.next o.next sq (length fs) p (o.stock.buffers + b) (length (sized_items ns items)) sent had s.few (none_left o.stock f.outbox.stock) (some_left o.stock) (omega (arith, least.0, ns_long)) (omega (arith, least.1, items_long)) (either (length (sized_items ns items)) (length ns) (length items) (length fs) (o.stock.buffers + b) ns_long items_long least.2) in
       let frame : needs_frame c ≡ (not (nat_lt 0 t && nat_lt n (c.stock.buffers + t)) && not (is_answering (program_of c.program) && nat_lt p t)) =
-          both holds (ap not (echo_by (is_echo c.program.kind) (is_answering (program_of c.program)) (not (is_through o (length fs))) (nat_lt p t) (sym (echo_is c.program.kind c.program.script)) (λ echo. unanswered o.load o.next (length fs) p sent s.few ∙ ap (nat_lt p) (echo_long c.program c.frames.tape.shown echo ∙ got_long)))) in
-      (
+      both holds (ap not (echo_by (is_echo c.program.kind) (is_answering (program_of c.program)) (not (is_through o (length fs))) (nat_lt p t) (sym (echo_is c.program.kind c.program.script)) (λ echo. unanswered o.load o.next (length fs) p sent s.few ∙ ap (nat_lt p) (echo_long c.program c.frames.tape.shown echo ∙ got_long)))) in (
         record { needs = frame; agrees = f.frames.input },
         (
           record { needs = gives; agrees = f.frames.output },

@@ -7,9 +7,10 @@ use Rattle.eth_driver.specs.declared.EthDriver.{EthDriver}
 use Rattle.net_client.specs.declared.NetClient.{NetClient}
 use Rattle.net_copier.specs.declared.NetCopier.{NetCopier}
 use Rattle.net_virt_rx.specs.declared.NetVirtRx.{NetVirtRx}
+use Rattle.net_expect.specs.Expecting.{Program}
 use Rattle.net_owners.specs.Names.{PoolAt, ClientPools}
-use Rattle.net_parts.specs.Numbers.{device_at, driver_at, receiver_at, copier_at, sink_at}
-use Rattle.net_parts.specs.Playing.{device_part, driver_part, receiver_part, copier_part, sink_part}
+use Rattle.net_parts.specs.Numbers.{device_at, driver_at, receiver_at, copier_at, client_at}
+use Rattle.net_parts.specs.Playing.{device_part, driver_part, receiver_part, copier_part, client_part}
 use Rattle.actor_set.specs.Parts.{NetworkPart}
 use Rattle.actor_set.specs.Actors.{part_of}
 use Rattle.actor_set.specs.declared.actor.Actor.{Actor}
@@ -63,14 +64,14 @@ copier_actor first k (Kinds.NetVirtRx x) e = absurd cc
 copier_actor first k (Kinds.NetCopier x) e = (x, refl, cc)
 copier_actor first k (Kinds.NetClient x) e = absurd cc
 
-pub client_actor : (first k : ℕ) (pools : ClientPools) (x : Actor) → part_of x ≡ NetworkPart (sink_at first k pools) → (c : NetClient) × (x ≡ Kinds.NetClient c) × (sink_part c ≡ sink_at first k pools)
-client_actor first k pools (Kinds.UartDevice x) e = absurd cc
-client_actor first k pools (Kinds.UartDriver x) e = absurd cc
-client_actor first k pools (Kinds.SerialVirtRx x) e = absurd cc
-client_actor first k pools (Kinds.SerialVirtTx x) e = absurd cc
-client_actor first k pools (Kinds.SerialClient x) e = absurd cc
-client_actor first k pools (Kinds.EthDevice x) e = absurd cc
-client_actor first k pools (Kinds.EthDriver x) e = absurd cc
-client_actor first k pools (Kinds.NetVirtRx x) e = absurd cc
-client_actor first k pools (Kinds.NetCopier x) e = absurd cc
-client_actor first k pools (Kinds.NetClient x) e = (x, refl, cc)
+pub client_actor : (first k : ℕ) (program : Program) (mac : Mac) (pools : ClientPools) (x : Actor) → part_of x ≡ NetworkPart (client_at first k program mac pools) → (c : NetClient) × (x ≡ Kinds.NetClient c) × (client_part c ≡ client_at first k program mac pools)
+client_actor first k program mac pools (Kinds.UartDevice x) e = absurd cc
+client_actor first k program mac pools (Kinds.UartDriver x) e = absurd cc
+client_actor first k program mac pools (Kinds.SerialVirtRx x) e = absurd cc
+client_actor first k program mac pools (Kinds.SerialVirtTx x) e = absurd cc
+client_actor first k program mac pools (Kinds.SerialClient x) e = absurd cc
+client_actor first k program mac pools (Kinds.EthDevice x) e = absurd cc
+client_actor first k program mac pools (Kinds.EthDriver x) e = absurd cc
+client_actor first k program mac pools (Kinds.NetVirtRx x) e = absurd cc
+client_actor first k program mac pools (Kinds.NetCopier x) e = absurd cc
+client_actor first k program mac pools (Kinds.NetClient x) e = (x, refl, cc)

@@ -8,16 +8,17 @@ use Rattle.wire_core.specs.Lists.{Passed}
 use Rattle.play_core.proofs.Lists.{map_get, map_from}
 use Rattle.eth_driver.specs.Four.{four_pipes}
 use Rattle.pipe_driver.proofs.Holding.{row_of as driver_row}
-use Rattle.net_expect.specs.Expecting.{frames_for}
+use Rattle.net_expect.specs.Expecting.{Program, frames_for}
 use Rattle.net_copier.proofs.Holding.{row_of as copier_row}
 use Rattle.net_virt_rx.proofs.Rounds.{row_of as receiver_row}
 use Rattle.net_virt_rx.specs.declared.NetVirtRx.{NetVirtRx}
 use Rattle.net_copier.specs.declared.NetCopier.{NetCopier}
 use Rattle.net_client.specs.declared.NetClient.{NetClient}
+use Rattle.net_client.proofs.Standing.{row_of as client_row}
 use Rattle.net_owners.specs.Names.{PoolAt, ClientPools}
 use Rattle.net_parts.specs.Parts.{NetPart}
-use Rattle.net_parts.specs.Numbers.{device_at, driver_at, client_first, receiver_at, copier_at, sink_at}
-use Rattle.net_parts.specs.Playing.{receiver_part, copier_part, sink_part, stock_pool, AreLeases, ReceivesInTurn}
+use Rattle.net_parts.specs.Numbers.{device_at, driver_at, client_first, receiver_at, copier_at, client_at}
+use Rattle.net_parts.specs.Playing.{receiver_part, copier_part, client_part, stock_pool, AreLeases, ReceivesInTurn, AnswersInTurn}
 use Rattle.net_cast.specs.Casting.{IsCast, IsReceiverAt, IsCopierAt, IsClientAt}
 use Rattle.net_cast.proofs.Numbers.{copier_queues}
 use Rattle.net_cast.proofs.Casting.{cast_in_turn, cast_takes, cast_leases, cast_records}
@@ -28,7 +29,7 @@ use Rattle.actor_set.specs.declared.actor.Actor.TheVariants as Kinds
 use Rattle.actor_law.specs.Kinds.{scene_of}
 use Rattle.actor_law.specs.Records.{frames_got}
 use Rattle.actor_law.specs.Turning.{InTurn}
-use Rattle.actor_law.proofs.NetRows.{device_row_of, client_row_of}
+use Rattle.actor_law.proofs.NetRows.{device_row_of}
 use Rattle.wired_law.specs.Wiring.{NetPlace, IsOfHalf, HasHalf, HasNoNetwork, HasPart, IsWired, AreAtWork}
 use Rattle.wired_law.proofs.Acting.{device_actor, driver_actor, receiver_actor, copier_actor, client_actor}
 
@@ -105,6 +106,27 @@ module _ (ends : Role → ℕ → End) (rows : List QueueRow) (actors : List Act
       in_turn = cast_in_turn net.first frames net.pool net.macs passed (half_with v is);
     }
 
+    client_is : (c : NetClient) → IsOfHalf net frames (client_part c) → (k : ℕ) × (program : Program) × (mac : Mac) × (q : ClientPools) × (slice_get net.macs k ≡ Some mac) × (slice_get net.pools k ≡ Some q) × (1 ≤ q.rx.buffers) × (client_part c ≡ client_at net.first k program mac q)
+    client_is c (inl e) = absurd cc
+    client_is c (inr (inl e)) = absurd cc
+    client_is c (inr (inr (inl e))) = absurd cc
+    client_is c (inr (inr (inr (inl k)))) = let e = k.2 in absurd cc
+    client_is c (inr (inr (inr (inr k)))) = k
+
+    -- a client recorded a beginning of the frames for its address
+    client_records : (k : ℕ) (program : Program) (mac : Mac) (pools : ClientPools) (c : NetClient) → client_part c ≡ client_at net.first k program mac pools → 1 ≤ pools.rx.buffers → slice_get net.macs k ≡ Some mac → FitsActor ends (Kinds.NetClient c) → ActorStandsFor (Kinds.NetClient c) passed → IsPrefix c.frames.tape.shown (frames_for mac frames)
+    client_records k program mac pools c part some address fits stands =
+        let own : stock_pool c.stock ≡ pools.rx = cc in
+        let many : c.stock.buffers ≡ pools.rx.buffers = ap (λ (p : PoolAt). p.buffers) own in
+        let client : IsClientAt net.first k c passed = record {
+          active = cc;
+          free = cc;
+          size = fits.1.size;
+          some = omega (arith, many, some);
+          row = client_row c passed stands;
+        } in
+        cast_records net.first frames net.pool net.macs passed half_there k mac address c client
+
     half_turns : (k : ℕ) (x : Actor) → slice_get actors k ≡ Some x → FitsActor ends x → ActorStandsFor x passed → InTurn (scene_of cast) x passed
     half_turns k (Kinds.UartDevice x) at fits stands = tt
     half_turns k (Kinds.UartDriver x) at fits stands = tt
@@ -118,23 +140,19 @@ module _ (ends : Role → ℕ → End) (rows : List QueueRow) (actors : List Act
         let is = copier_is c (half.only k (copier_part c) (map_get part_of actors k (Kinds.NetCopier c) at)) in
         let own = copier_queues net.first is.0 c is.2 in
         subst (λ n. AreLeases (passed.taken n)) (sym own.0) (cast_leases net.first frames net.pool net.macs passed half_there is.0 is.1)
-    half_turns k (Kinds.NetClient c) at fits stands = fits.1
+    half_turns k (Kinds.NetClient c) at fits stands =
+        let is = client_is c (half.only k (client_part c) (map_get part_of actors k (Kinds.NetClient c) at)) in
+        let part = is.7 in
+        let own : c.program.mac ≡ is.2 = cc in
+        let records = client_records is.0 is.1 is.2 is.3 c part is.6 is.4 fits stands in
+        (fits.1, λ echo. subst (λ m. IsPrefix c.frames.tape.shown (frames_for m frames)) (sym own) records)
 
-    pub recorded_here : (k c : ℕ) (x : Actor) (mac : Mac) (pools : ClientPools) → slice_get actors k ≡ Some x → part_of x ≡ NetworkPart (sink_at net.first c pools) → 1 ≤ pools.rx.buffers → slice_get net.macs c ≡ Some mac → IsPrefix (frames_got x) (frames_for mac frames)
-    recorded_here k c x mac pools at part some address =
-        let y = client_actor net.first c pools x part in
+    pub recorded_here : (k c : ℕ) (x : Actor) (program : Program) (mac : Mac) (pools : ClientPools) → slice_get actors k ≡ Some x → part_of x ≡ NetworkPart (client_at net.first c program mac pools) → 1 ≤ pools.rx.buffers → slice_get net.macs c ≡ Some mac → IsPrefix (frames_got x) (frames_for mac frames)
+    recorded_here k c x program mac pools at part some address =
+        let y = client_actor net.first c program mac pools x part in
         let fits : FitsActor ends (Kinds.NetClient y.0) = subst (FitsActor ends) y.1 (work.fits k x at) in
         let stands : ActorStandsFor (Kinds.NetClient y.0) passed = subst (λ a. ActorStandsFor a passed) y.1 (work.stands k x at) in
-        let own : stock_pool y.0.stock ≡ pools.rx = (let e = y.2 in cc) in
-        let many : y.0.stock.buffers ≡ pools.rx.buffers = ap (λ (p : PoolAt). p.buffers) own in
-        let client : IsClientAt net.first c y.0 passed = record {
-          active = (let e = y.2 in cc);
-          free = (let e = y.2 in cc);
-          size = fits.1.size;
-          some = omega (arith, many, some);
-          row = client_row_of y.0 passed stands;
-        } in
-        subst (λ a. IsPrefix (frames_got a) (frames_for mac frames)) (sym y.1) (cast_records net.first frames net.pool net.macs passed half_there c mac address y.0 client)
+        subst (λ a. IsPrefix (frames_got a) (frames_for mac frames)) (sym y.1) (client_records c program mac pools y.0 y.2 some address fits stands)
 
   none_turns : HasNoNetwork cast → (k : ℕ) (x : Actor) → slice_get actors k ≡ Some x → InTurn (scene_of cast) x passed
   none_turns none k (Kinds.UartDevice x) at = tt
@@ -146,7 +164,7 @@ module _ (ends : Role → ℕ → End) (rows : List QueueRow) (actors : List Act
   none_turns none k (Kinds.EthDriver x) at = tt
   none_turns none k (Kinds.NetVirtRx v) at = absurd (none k (receiver_part v) (map_get part_of actors k (Kinds.NetVirtRx v) at))
   none_turns none k (Kinds.NetCopier c) at = absurd (none k (copier_part c) (map_get part_of actors k (Kinds.NetCopier c) at))
-  none_turns none k (Kinds.NetClient c) at = absurd (none k (sink_part c) (map_get part_of actors k (Kinds.NetClient c) at))
+  none_turns none k (Kinds.NetClient c) at = absurd (none k (client_part c) (map_get part_of actors k (Kinds.NetClient c) at))
 
   turns_by : IsWired rows cast → (k : ℕ) (x : Actor) → slice_get actors k ≡ Some x → InTurn (scene_of cast) x passed
   turns_by (inl none) k x at = none_turns none k x at
@@ -155,6 +173,6 @@ module _ (ends : Role → ℕ → End) (rows : List QueueRow) (actors : List Act
 pub in_turn : (ends : Role → ℕ → End) (rows : List QueueRow) (actors : List Actor) (passed : Passed) → IsWired rows (map part_of actors) → AreAtWork ends rows actors passed → (k : ℕ) (x : Actor) → slice_get actors k ≡ Some x → InTurn (scene_of (map part_of actors)) x passed
 in_turn ends rows actors passed wired work = turns_by ends rows actors passed work wired
 
-pub recorded : (ends : Role → ℕ → End) (rows : List QueueRow) (actors : List Actor) (passed : Passed) (net : NetPlace) → HasHalf rows net (map part_of actors) → AreAtWork ends rows actors passed → (k c : ℕ) (x : Actor) (mac : Mac) (pools : ClientPools) → slice_get actors k ≡ Some x → part_of x ≡ NetworkPart (sink_at net.first c pools) → 1 ≤ pools.rx.buffers → slice_get net.macs c ≡ Some mac
+pub recorded : (ends : Role → ℕ → End) (rows : List QueueRow) (actors : List Actor) (passed : Passed) (net : NetPlace) → HasHalf rows net (map part_of actors) → AreAtWork ends rows actors passed → (k c : ℕ) (x : Actor) (program : Program) (mac : Mac) (pools : ClientPools) → slice_get actors k ≡ Some x → part_of x ≡ NetworkPart (client_at net.first c program mac pools) → 1 ≤ pools.rx.buffers → slice_get net.macs c ≡ Some mac
     → IsPrefix (frames_got x) (frames_for mac (scene_of (map part_of actors)).frames)
 recorded ends rows actors passed net half work = recorded_here ends rows actors passed work net half

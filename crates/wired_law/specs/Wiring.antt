@@ -9,9 +9,10 @@ use Rattle.wire_core.specs.Deeds.{Cargo}
 use Rattle.wire_core.specs.Ends.{Role, End}
 use Rattle.wire_core.specs.Lists.{Passed}
 use Rattle.net_law.specs.Receiving.{HandsOver}
+use Rattle.net_expect.specs.Expecting.{Program}
 use Rattle.net_owners.specs.Names.{PoolAt, ClientPools}
 use Rattle.net_parts.specs.Parts.{NetPart}
-use Rattle.net_parts.specs.Numbers.{device_at, driver_at, receiver_at, copier_at, sink_at}
+use Rattle.net_parts.specs.Numbers.{device_at, driver_at, receiver_at, copier_at, client_at}
 use Rattle.actor_set.specs.Parts.{Part, NetworkPart}
 use Rattle.actor_set.specs.Actors.{FitsActor, ActorStandsFor}
 use Rattle.actor_set.specs.declared.actor.Actor.{Actor}
@@ -30,14 +31,15 @@ abbrev pub HasPart : List Part → NetPart → Type 0
 HasPart cast p = (k : ℕ) × (slice_get cast k ≡ Some (NetworkPart p))
 
 -- a part is one of the receive half: that of the device, the driver or the receiving virtualiser,
--- or that of a client's copier or of the client
+-- or that of a client's copier or of the client, which has buffers to receive in
 abbrev pub IsOfHalf : NetPlace → (frames : List (List ℕ)) → NetPart → Type 0
 IsOfHalf net frames p =
     (p ≡ device_at net.first frames) ⊎ (p ≡ driver_at net.first)
     ⊎ (p ≡ receiver_at net.first net.pool net.macs)
     ⊎ ((k : ℕ) × (k < length net.macs) × (p ≡ copier_at net.first k))
-    ⊎ ((k : ℕ) × (q : ClientPools) × (slice_get net.pools k ≡ Some q)
-    × (p ≡ sink_at net.first k q))
+    ⊎ ((k : ℕ) × (program : Program) × (mac : Mac) × (q : ClientPools)
+    × (slice_get net.macs k ≡ Some mac) × (slice_get net.pools k ≡ Some q)
+    × (1 ≤ q.rx.buffers) × (p ≡ client_at net.first k program mac q))
 
 -- a cast has the whole receive half and no other actor of the network; the class's queues carry
 -- entries of the network, and no frame is longer than a buffer

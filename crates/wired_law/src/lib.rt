@@ -9,9 +9,9 @@ ghost use Rattle.frame_core.specs.declared.mac.Mac.{Mac};
 ghost use Rattle.wire_core.specs.declared.names.QueueRow.{QueueRow};
 ghost use Rattle.wire_core.specs.Ends.{Role, End};
 ghost use Rattle.wire_core.specs.Lists.{Passed};
-ghost use Rattle.net_expect.specs.Expecting.{frames_for};
+ghost use Rattle.net_expect.specs.Expecting.{Program, frames_for};
 ghost use Rattle.net_owners.specs.Names.{ClientPools};
-ghost use Rattle.net_parts.specs.Numbers.{sink_at};
+ghost use Rattle.net_parts.specs.Numbers.{client_at};
 ghost use Rattle.actor_set.specs.Parts.{NetworkPart};
 ghost use Rattle.actor_set.specs.Actors.{part_of};
 ghost use Rattle.actor_set.specs.declared.actor.Actor.{Actor};
@@ -30,8 +30,10 @@ pub fn wired_law()
     ensures records { (ends : Role → ℕ → End) (rows : List QueueRow) (actors : List Actor)
         (passed : Passed) (net : NetPlace) → HasHalf rows net (map part_of actors)
         → AreAtWork ends rows actors passed
-        → (k c : ℕ) (x : Actor) (mac : Mac) (pools : ClientPools) → slice_get actors k ≡ Some x
-        → part_of x ≡ NetworkPart (sink_at net.first c pools) → 1 ≤ pools.rx.buffers
+        → (k c : ℕ) (x : Actor) (program : Program) (mac : Mac) (pools : ClientPools)
+        → slice_get actors k ≡ Some x
+        → part_of x ≡ NetworkPart (client_at net.first c program mac pools)
+        → 1 ≤ pools.rx.buffers
         → slice_get net.macs c ≡ Some mac
         → IsPrefix (frames_got x) (frames_for mac (scene_of (map part_of actors)).frames) }
 {}

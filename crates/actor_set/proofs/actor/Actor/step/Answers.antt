@@ -37,4 +37,4 @@ pub returns-in-NetVirtRx-clause-fits : goal.returns-in-NetVirtRx-clause-fits
 returns-in-NetVirtRx-clause-fits g c = let f = subst (FitsActor (g.W.Wires.ends c.args.wires.now)) c.in-NetVirtRx.is c.requires in (c.step-in-NetVirtRx.ensures.fits, c.step-in-NetVirtRx.ensures.same.work.stock.size ∙ f.1)
 
 pub returns-in-NetClient-clause-fits : goal.returns-in-NetClient-clause-fits
-returns-in-NetClient-clause-fits g c = let f = subst (FitsActor (g.W.Wires.ends c.args.wires.now)) c.in-NetClient.is c.requires in (c.step-in-NetClient.ensures.fits, record { base = c.step-in-NetClient.ensures.same.stock.base ∙ f.1.base; size = c.step-in-NetClient.ensures.same.stock.size ∙ f.1.size })
+returns-in-NetClient-clause-fits g c = let f = subst (FitsActor (g.W.Wires.ends c.args.wires.now)) c.in-NetClient.is c.requires in (c.step-in-NetClient.ensures.fits, record { base = c.step-in-NetClient.ensures.same.stock.base ∙ f.1.base; size = c.step-in-NetClient.ensures.same.stock.size ∙ f.1.size; spare_base = c.step-in-NetClient.ensures.same.spare.base ∙ f.1.spare_base; spare_size = c.step-in-NetClient.ensures.same.spare.size ∙ f.1.spare_size })

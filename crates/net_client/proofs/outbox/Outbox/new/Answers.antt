@@ -1,5 +1,6 @@
-use Rattle.net_client.proofs.Sending.{outbox_new}
+use Rattle.std.proofs.Common.{refl}
+use Rattle.net_client.proofs.Sending.{outbox_starts}
 use Rattle.net_client.proofs.outbox.Outbox.new.Goals as goal
 
 pub returns-clause-stands : goal.returns-clause-stands
-returns-clause-stands c = λ frames. outbox_new c.new.result c.args.pages.items frames c.new.ensures.start c.new.ensures.list c.new.ensures.base
+returns-clause-stands c = λ frames. outbox_starts _ c.args.pages.items frames (record { load = refl; next = refl; is_start = c.new.ensures.start; base = c.new.ensures.base; stock = c.new.ensures.list; ready = c.new.ensures.stock })
