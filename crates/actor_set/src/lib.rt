@@ -4,6 +4,3 @@
 mod actor;
 
 pub use actor::{Actor, hand_law, row_law};
-
-#[cfg(test)]
-mod tests;

@@ -323,24 +323,3 @@ pub fn hand_law()
     ensures { (c : NetClient) (passed : Passed) → ClientStandsFor c passed
         → ClientBalances c passed }
 {}
-
-#[cfg(test)]
-mod tests {
-    use super::*;
-
-    #[test]
-    fn a_new_sink_recorded_nothing_and_waits(rt: HostRuntime) {
-        let rx = [QueueId(0), QueueId(1)];
-        let tx = [QueueId(2), QueueId(3)];
-        let received = Vec::new(rt.alloc());
-        let sent = Vec::new(rt.alloc());
-        let mac = Mac([2, 0, 0, 0, 0, 1]);
-        let script = FrameLog::new(rt.alloc());
-        let program = NetProgram::Sink;
-        let mut client = NetClient::new(rt.alloc(), program, mac, rx, tx, received, sent, script);
-        assert!(rt; client.got().is_empty());
-        assert!(rt; !client.at_rest());
-        client.forget();
-        assert_eq!(rt; client.send.queue, QueueId(2));
-    }
-}
