@@ -10,7 +10,7 @@ use Rattle.sdf_plan.specs.declared.plan.SerialClient.{SerialClient}
 use Rattle.sdf_check.specs.Valid.{Valid}
 use Rattle.trace_text.specs.declared.trace.Trace.{Trace}
 use Rattle.region_layout.specs.Rows.{queues_of, actors_of}
-use Rattle.actor_set.specs.Parts.{Part, UartPart, DriverPart, RxPart, TxPart, ClientPart, NetworkPart}
+use Rattle.actor_set.specs.Parts.{Part, UartPart, DriverPart, RxPart, TxPart, ClientPart, NetworkPart, SendingPart}
 use Rattle.actor_set.specs.Actors.{part_of}
 use Rattle.actor_set.specs.declared.actor.Actor.{Actor}
 use Rattle.actor_set.specs.declared.actor.Actor.TheVariants as Kinds
@@ -18,6 +18,7 @@ use Rattle.system_core.specs.Shows.{Setting}
 use Rattle.system_core.specs.States.{begun, crew_of}
 use Rattle.cargo_core.specs.declared.item.QueueKind.TheVariants as Kind
 use Rattle.net_parts.specs.Parts.{NetPart}
+use Rattle.net_tx_parts.specs.Parts.{SendPart}
 use Rattle.actor_set.specs.StartStates.{HasSeat, HasApartEnds, kind_at}
 use Rattle.actor_law.proofs.Starts.{new_whole}
 use Rattle.wired_law.specs.Wiring.{HasNoNetwork}
@@ -43,6 +44,7 @@ ApartIn (RxPart rx clients) = (k j m : ℕ) → slice_get clients k ≡ Some m �
 ApartIn (TxPart tx clients) = (k j m : ℕ) → slice_get clients k ≡ Some m → slice_get clients j ≡ Some m → k ≡ j
 ApartIn (ClientPart rx tx script) = Unit {0}
 ApartIn (NetworkPart p) = ⊥
+ApartIn (SendingPart p) = ⊥
 
 apart_of : (x : Actor) → ApartIn (part_of x) → HasApartEnds x
 apart_of (Kinds.UartDevice x) h = tt
@@ -55,6 +57,7 @@ apart_of (Kinds.EthDriver x) h = absurd h
 apart_of (Kinds.NetVirtRx x) h = absurd h
 apart_of (Kinds.NetCopier x) h = absurd h
 apart_of (Kinds.NetClient x) h = absurd h
+apart_of (Kinds.NetVirtTx x) h = absurd h
 
 -- no job of the serial class is one of the network
 not_net : (first n : ℕ) (trace : Trace) (job : Job) (p : NetPart) → NetworkPart p ≡ job_part first n trace job → ⊥
@@ -63,6 +66,13 @@ not_net first n trace Of.Driver p e = cc
 not_net first n trace Of.Receiver p e = cc
 not_net first n trace Of.Sender p e = cc
 not_net first n trace (Of.Client c) p e = cc
+
+not_sending : (first n : ℕ) (trace : Trace) (job : Job) (p : SendPart) → SendingPart p ≡ job_part first n trace job → ⊥
+not_sending first n trace Of.Device p e = cc
+not_sending first n trace Of.Driver p e = cc
+not_sending first n trace Of.Receiver p e = cc
+not_sending first n trace Of.Sender p e = cc
+not_sending first n trace (Of.Client c) p e = cc
 
 byte_at : (first n : ℕ) (trace : Trace) (job : Job) (x : Actor) → part_of x ≡ job_part first n trace job → kind_at x ≡ Kind.Byte
 byte_at first n trace job (Kinds.UartDevice x) e = refl
@@ -75,6 +85,7 @@ byte_at first n trace job (Kinds.EthDriver x) e = absurd (not_net first n trace 
 byte_at first n trace job (Kinds.NetVirtRx x) e = absurd (not_net first n trace job _ e)
 byte_at first n trace job (Kinds.NetCopier x) e = absurd (not_net first n trace job _ e)
 byte_at first n trace job (Kinds.NetClient x) e = absurd (not_net first n trace job _ e)
+byte_at first n trace job (Kinds.NetVirtTx x) e = absurd (not_sending first n trace job _ e)
 
 job_apart : (first n : ℕ) (trace : Trace) (job : Job) → ApartIn (job_part first n trace job)
 job_apart first n trace Of.Device = tt
@@ -313,7 +324,10 @@ module _ (plan : Plan) (valid : Valid plan) (serial : Serial) (net : plan.net �
     row_end n k r row job = let none : first ≡ 0 = first_none plan serial has first starts net blk in class_end n n k r row job (omega (arith, none))
 
     pub no_network : HasNoNetwork (map part_of actors)
-    no_network k p at = let y = map_from part_of actors k (NetworkPart p) at in let c = cast.each k y.0 y.1 in not_net first count trace c.job p (sym y.2 ∙ c.part)
+    no_network = record {
+      none = λ k p at. let y = map_from part_of actors k (NetworkPart p) at in let c = cast.each k y.0 y.1 in not_net first count trace c.job p (sym y.2 ∙ c.part);
+      no_sender = λ k p at. let y = map_from part_of actors k (SendingPart p) at in let c = cast.each k y.0 y.1 in not_sending first count trace c.job p (sym y.2 ∙ c.part);
+    }
 
     pub seated : length actors ≤ 65536 → AreSeated rows actors
     seated few = record {
