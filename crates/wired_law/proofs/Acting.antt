@@ -7,11 +7,14 @@ use Rattle.eth_driver.specs.declared.EthDriver.{EthDriver}
 use Rattle.net_client.specs.declared.NetClient.{NetClient}
 use Rattle.net_copier.specs.declared.NetCopier.{NetCopier}
 use Rattle.net_virt_rx.specs.declared.NetVirtRx.{NetVirtRx}
+use Rattle.net_virt_tx.specs.declared.NetVirtTx.{NetVirtTx}
 use Rattle.net_expect.specs.Expecting.{Program}
 use Rattle.net_owners.specs.Names.{PoolAt, ClientPools}
 use Rattle.net_parts.specs.Numbers.{device_at, driver_at, receiver_at, copier_at, client_at}
 use Rattle.net_parts.specs.Playing.{device_part, driver_part, receiver_part, copier_part, client_part}
-use Rattle.actor_set.specs.Parts.{NetworkPart}
+use Rattle.net_tx_parts.specs.Numbers.{sender_at}
+use Rattle.net_tx_parts.specs.Playing.{send_part}
+use Rattle.actor_set.specs.Parts.{NetworkPart, SendingPart}
 use Rattle.actor_set.specs.Actors.{part_of}
 use Rattle.actor_set.specs.declared.actor.Actor.{Actor}
 use Rattle.actor_set.specs.declared.actor.Actor.TheVariants as Kinds
@@ -27,6 +30,7 @@ device_actor first frames (Kinds.EthDriver x) e = absurd cc
 device_actor first frames (Kinds.NetVirtRx x) e = absurd cc
 device_actor first frames (Kinds.NetCopier x) e = absurd cc
 device_actor first frames (Kinds.NetClient x) e = absurd cc
+device_actor first frames (Kinds.NetVirtTx x) e = absurd cc
 
 pub driver_actor : (first : ℕ) (x : Actor) → part_of x ≡ NetworkPart (driver_at first) → (d : EthDriver) × (x ≡ Kinds.EthDriver d) × (driver_part (four_pipes d.driver.pipes) ≡ driver_at first)
 driver_actor first (Kinds.UartDevice x) e = absurd cc
@@ -39,6 +43,7 @@ driver_actor first (Kinds.EthDriver x) e = (x, refl, cc)
 driver_actor first (Kinds.NetVirtRx x) e = absurd cc
 driver_actor first (Kinds.NetCopier x) e = absurd cc
 driver_actor first (Kinds.NetClient x) e = absurd cc
+driver_actor first (Kinds.NetVirtTx x) e = absurd cc
 
 pub receiver_actor : (first : ℕ) (pool : PoolAt) (macs : List Mac) (x : Actor) → part_of x ≡ NetworkPart (receiver_at first pool macs) → (v : NetVirtRx) × (x ≡ Kinds.NetVirtRx v) × (receiver_part v ≡ receiver_at first pool macs)
 receiver_actor first pool macs (Kinds.UartDevice x) e = absurd cc
@@ -51,6 +56,7 @@ receiver_actor first pool macs (Kinds.EthDriver x) e = absurd cc
 receiver_actor first pool macs (Kinds.NetVirtRx x) e = (x, refl, cc)
 receiver_actor first pool macs (Kinds.NetCopier x) e = absurd cc
 receiver_actor first pool macs (Kinds.NetClient x) e = absurd cc
+receiver_actor first pool macs (Kinds.NetVirtTx x) e = absurd cc
 
 pub copier_actor : (first k : ℕ) (x : Actor) → part_of x ≡ NetworkPart (copier_at first k) → (c : NetCopier) × (x ≡ Kinds.NetCopier c) × (copier_part c ≡ copier_at first k)
 copier_actor first k (Kinds.UartDevice x) e = absurd cc
@@ -63,6 +69,7 @@ copier_actor first k (Kinds.EthDriver x) e = absurd cc
 copier_actor first k (Kinds.NetVirtRx x) e = absurd cc
 copier_actor first k (Kinds.NetCopier x) e = (x, refl, cc)
 copier_actor first k (Kinds.NetClient x) e = absurd cc
+copier_actor first k (Kinds.NetVirtTx x) e = absurd cc
 
 pub client_actor : (first k : ℕ) (program : Program) (mac : Mac) (pools : ClientPools) (x : Actor) → part_of x ≡ NetworkPart (client_at first k program mac pools) → (c : NetClient) × (x ≡ Kinds.NetClient c) × (client_part c ≡ client_at first k program mac pools)
 client_actor first k program mac pools (Kinds.UartDevice x) e = absurd cc
@@ -75,3 +82,17 @@ client_actor first k program mac pools (Kinds.EthDriver x) e = absurd cc
 client_actor first k program mac pools (Kinds.NetVirtRx x) e = absurd cc
 client_actor first k program mac pools (Kinds.NetCopier x) e = absurd cc
 client_actor first k program mac pools (Kinds.NetClient x) e = (x, refl, cc)
+client_actor first k program mac pools (Kinds.NetVirtTx x) e = absurd cc
+
+pub sender_actor : (first : ℕ) (pools : List ClientPools) (x : Actor) → part_of x ≡ SendingPart (sender_at first pools) → (v : NetVirtTx) × (x ≡ Kinds.NetVirtTx v) × (send_part v ≡ sender_at first pools)
+sender_actor first pools (Kinds.UartDevice x) e = absurd cc
+sender_actor first pools (Kinds.UartDriver x) e = absurd cc
+sender_actor first pools (Kinds.SerialVirtRx x) e = absurd cc
+sender_actor first pools (Kinds.SerialVirtTx x) e = absurd cc
+sender_actor first pools (Kinds.SerialClient x) e = absurd cc
+sender_actor first pools (Kinds.EthDevice x) e = absurd cc
+sender_actor first pools (Kinds.EthDriver x) e = absurd cc
+sender_actor first pools (Kinds.NetVirtRx x) e = absurd cc
+sender_actor first pools (Kinds.NetCopier x) e = absurd cc
+sender_actor first pools (Kinds.NetClient x) e = absurd cc
+sender_actor first pools (Kinds.NetVirtTx x) e = (x, refl, cc)
