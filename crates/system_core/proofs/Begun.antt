@@ -26,7 +26,7 @@ use Rattle.system_core.specs.Shows.{Setting, Shown, hostile_in, moved_in}
 use Rattle.actor_law.specs.Records.{record_by}
 use Rattle.system_core.specs.Lawful.{record_at, IsTold}
 use Rattle.cargo_core.specs.declared.item.QueueKind.TheVariants as Kind
-use Rattle.actor_law.specs.StartStates.{HasSeat}
+use Rattle.actor_set.specs.StartStates.{HasSeat}
 use Rattle.system_core.specs.Builds.{number_named, serial_class, first_serial, HasSerial}
 use Rattle.system_core.specs.PlanPlays.{ShowsInPart, ShowsWhole}
 use Rattle.actor_law.proofs.Calm.{calm_row}

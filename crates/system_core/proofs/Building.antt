@@ -18,7 +18,7 @@ use Rattle.system_core.specs.Shows.{Setting}
 use Rattle.system_core.specs.States.{begun, crew_of}
 use Rattle.cargo_core.specs.declared.item.QueueKind.TheVariants as Kind
 use Rattle.net_parts.specs.Parts.{NetPart}
-use Rattle.actor_law.specs.StartStates.{HasSeat, HasApartEnds, kind_at}
+use Rattle.actor_set.specs.StartStates.{HasSeat, HasApartEnds, kind_at}
 use Rattle.actor_law.proofs.Starts.{new_whole}
 use Rattle.wired_law.specs.Wiring.{HasNoNetwork}
 use Rattle.system_core.specs.Seats.{AreSeated}

@@ -15,7 +15,7 @@ use Rattle.layout_laws.proofs.Lists.{all-at, each-at, all-clients}
 use Rattle.region_layout.specs.Rows.{actor_named, uart_number, device_queue, only_queue, queue_in, client_name, each_client, uart_queues, shared_serial_queues, serial_client_queues, net_queues, serial_queues, blk_queues, queues_of, queue_pair, eth_rx_queues, eth_tx_queues, net_rx_queues, net_tx_queues, net_client_queues, lease_queues, client_rx_queues, client_tx_queues}
 use Rattle.std.specs.Option.{option_map_or}
 use Rattle.system_core.specs.Builds.{first_serial}
-use Rattle.actor_law.specs.StartStates.{HasSeat}
+use Rattle.actor_set.specs.StartStates.{HasSeat}
 use Rattle.play_core.proofs.Lists.{some_is}
 use Rattle.system_core.proofs.Named.{Peer, peer_number}
 

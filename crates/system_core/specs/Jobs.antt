@@ -8,7 +8,7 @@ use Rattle.actor_set.specs.Actors.{part_of}
 use Rattle.actor_set.specs.Parts.{Part, UartPart, DriverPart, RxPart, TxPart, ClientPart}
 use Rattle.actor_set.specs.declared.actor.Actor.{Actor}
 use Rattle.system_core.specs.Builds.{every_second}
-use Rattle.actor_law.specs.StartStates.{IsNew}
+use Rattle.actor_set.specs.StartStates.{IsNew}
 use Rattle.system_core.specs.declared.build.Job.{Job}
 use Rattle.system_core.specs.declared.build.Job.TheVariants as Of
 

@@ -6,7 +6,7 @@ use Rattle.wire_core.specs.Journal.{owner_of}
 use Rattle.cargo_core.specs.Capacities.{IsCapacity}
 use Rattle.actor_set.specs.Actors.{ActorEnd, part_of}
 use Rattle.actor_set.specs.declared.actor.Actor.{Actor}
-use Rattle.actor_law.specs.StartStates.{IsNew, HasApartEnds, HasSeat, kind_at}
+use Rattle.actor_set.specs.StartStates.{IsNew, HasApartEnds, HasSeat, kind_at}
 use Rattle.wired_law.specs.Wiring.{IsWired}
 
 -- actors in their start state, each with the ends that the rows give it, and the owners of each

@@ -3,7 +3,7 @@ ghost use Rattle.std.specs.Prelude.{◌≡◌, ◌<◌, ◌≤◌, ◌+◌, ◌*
 ghost use Rattle.actor_set.specs.Actors.{part_of, numbers};
 ghost use Rattle.system_core.specs.Builds.{every_second, first_serial};
 ghost use Rattle.system_core.specs.Jobs.{HasJob, SomeJob, AreCast, AreClients, job_part, within};
-ghost use Rattle.actor_law.specs.StartStates.{IsNew};
+ghost use Rattle.actor_set.specs.StartStates.{IsNew};
 
 use actor_set::Actor;
 use cargo_core::{Bytes, Memory, Text};
