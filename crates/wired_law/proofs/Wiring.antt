@@ -1,5 +1,5 @@
 -- A wired cast has the whole network at the layout's queues, at which nothing comes out of turn.
-use Rattle.std.proofs.Common.{◌≡◌, ◌⊎◌, ◌+◌, ◌*◌, ◌<◌, ◌≤◌, ℕ, Some, List, length, map, slice_get, inl, inr, refl, sym, ap, ◌∙◌, subst, arith}
+use Rattle.std.proofs.Common.{◌≡◌, ◌⊎◌, ◌+◌, ◌<◌, ◌≤◌, ℕ, Some, List, length, map, slice_get, inl, inr, sym, ap, ◌∙◌, subst, arith}
 use Rattle.cargo_core.specs.Lists.{IsPrefix, PrefixMerge}
 use Rattle.frame_core.specs.declared.mac.Mac.{Mac}
 use Rattle.wire_core.specs.declared.names.QueueRow.{QueueRow}
@@ -21,16 +21,15 @@ use Rattle.net_copier.specs.declared.NetCopier.{NetCopier}
 use Rattle.net_client.specs.declared.NetClient.{NetClient}
 use Rattle.net_client.proofs.Standing.{row_of as client_row}
 use Rattle.net_owners.specs.Names.{PoolAt, ClientPools}
-use Rattle.net_parts.specs.Parts.{NetPart, NetClient as ClientPart}
+use Rattle.net_parts.specs.Parts.{NetClient as ClientPart}
 use Rattle.net_parts.specs.Numbers.{device_at, driver_at, client_first, receiver_at, copier_at, client_at}
-use Rattle.net_parts.specs.Playing.{device_part, receiver_part, copier_part, client_part, stock_pool, AreLeases, ReceivesInTurn, AnswersInTurn}
-use Rattle.net_tx_parts.specs.Parts.{SendPart}
+use Rattle.net_parts.specs.Playing.{device_part, receiver_part, copier_part, client_part, stock_pool, AreLeases, ReceivesInTurn}
 use Rattle.net_tx_parts.specs.Numbers.{NetPlace, own_pool, own_pools, sender_at}
 use Rattle.net_tx_parts.specs.Playing.{send_part}
 use Rattle.net_cast.specs.Casting.{IsCast, IsReceiverAt, IsCopierAt, IsClientAt}
 use Rattle.net_cast.proofs.Numbers.{copier_queues}
 use Rattle.net_cast.proofs.Casting.{cast_in_turn, cast_takes, cast_leases, cast_records}
-use Rattle.net_tx_cast.specs.Casting.{AreSends, AllSend, IsSend, IsClientOf, IsSenderAt, IsSendingClient, IsWholeCast, sends_at}
+use Rattle.net_tx_cast.specs.Casting.{AreSends, AllSend, IsClientOf, IsSenderAt, IsSendingClient, IsWholeCast, sends_at}
 use Rattle.net_tx_cast.proofs.Wholes.{none_out, good_taken, back_is, client_puts, wire_is}
 use Rattle.actor_set.specs.Parts.{Part, NetworkPart, SendingPart}
 use Rattle.actor_set.specs.Actors.{FitsActor, ActorStandsFor, part_of}
@@ -273,27 +272,27 @@ module _ (ends : Role → ℕ → End) (rows : List QueueRow) (actors : List Act
     -- what came back to a client is in its own buffers
     pub back_here : ClientsSend cast passed → (k : ℕ) (program : Program) (mac : Mac) (q : ClientPools) → IsClientOf net k program mac q → AreSends q.tx (passed.taken (client_first net.first k + 5))
     unfolding whole_with
-    back_here sends = back_is net frames passed whole_there sender_there.1.row (all_send sends)
+    back_here sends = back_is net frames passed (whole_with device_there.0 device_there.1 device_there.2 sender_there.0 sender_there.1) sender_there.1.row (all_send sends)
 
     -- and then what it puts sends frames in them
     pub puts_here : (k : ℕ) (program : Program) (mac : Mac) (q : ClientPools) → IsClientOf net k program mac q → AreSends q.tx (passed.taken (client_first net.first k + 5)) → AreSends q.tx (passed.sent (client_first net.first k + 4))
     puts_here = client_puts net frames passed whole_there
 
   none_turns : HasNoNetwork cast → (k : ℕ) (x : Actor) → slice_get actors k ≡ Some x → InTurn (scene_of cast) x passed
-  none_turns no k (Kinds.UartDevice x) at = tt
-  none_turns no k (Kinds.UartDriver x) at = tt
-  none_turns no k (Kinds.SerialVirtRx x) at = tt
-  none_turns no k (Kinds.SerialVirtTx x) at = tt
-  none_turns no k (Kinds.SerialClient x) at = tt
-  none_turns no k (Kinds.EthDevice x) at = tt
-  none_turns no k (Kinds.EthDriver x) at = tt
-  none_turns no k (Kinds.NetVirtRx v) at = absurd (no.none k (receiver_part v) (map_get part_of actors k (Kinds.NetVirtRx v) at))
-  none_turns no k (Kinds.NetCopier c) at = absurd (no.none k (copier_part c) (map_get part_of actors k (Kinds.NetCopier c) at))
-  none_turns no k (Kinds.NetClient c) at = absurd (no.none k (client_part c) (map_get part_of actors k (Kinds.NetClient c) at))
-  none_turns no k (Kinds.NetVirtTx v) at = absurd (no.no_sender k (send_part v) (map_get part_of actors k (Kinds.NetVirtTx v) at))
+  none_turns empty k (Kinds.UartDevice x) at = tt
+  none_turns empty k (Kinds.UartDriver x) at = tt
+  none_turns empty k (Kinds.SerialVirtRx x) at = tt
+  none_turns empty k (Kinds.SerialVirtTx x) at = tt
+  none_turns empty k (Kinds.SerialClient x) at = tt
+  none_turns empty k (Kinds.EthDevice x) at = tt
+  none_turns empty k (Kinds.EthDriver x) at = tt
+  none_turns empty k (Kinds.NetVirtRx v) at = absurd (empty.none k (receiver_part v) (map_get part_of actors k (Kinds.NetVirtRx v) at))
+  none_turns empty k (Kinds.NetCopier c) at = absurd (empty.none k (copier_part c) (map_get part_of actors k (Kinds.NetCopier c) at))
+  none_turns empty k (Kinds.NetClient c) at = absurd (empty.none k (client_part c) (map_get part_of actors k (Kinds.NetClient c) at))
+  none_turns empty k (Kinds.NetVirtTx v) at = absurd (empty.no_sender k (send_part v) (map_get part_of actors k (Kinds.NetVirtTx v) at))
 
   turns_by : IsWired rows cast → ClientsSend cast passed → (k : ℕ) (x : Actor) → slice_get actors k ≡ Some x → InTurn (scene_of cast) x passed
-  turns_by (inl no) sends k x at = none_turns no k x at
+  turns_by (inl empty) sends k x at = none_turns empty k x at
   turns_by (inr net) sends k x at = whole_turns net.0 net.1 sends k x at (work.fits k x at) (work.stands k x at)
 
 pub in_turn : (ends : Role → ℕ → End) (rows : List QueueRow) (actors : List Actor) (passed : Passed) → IsWired rows (map part_of actors) → AreAtWork ends rows actors passed → ClientsSend (map part_of actors) passed → (k : ℕ) (x : Actor) → slice_get actors k ≡ Some x → InTurn (scene_of (map part_of actors)) x passed
@@ -335,7 +334,7 @@ module _ (ends ends' : Role → ℕ → End) (rows : List QueueRow) (actors acto
         subst (λ n. AreSends tx ((with_deed passed deed).sent n)) (sym queue) (subst (λ p. AreSends p ((with_deed passed deed).sent (client_first net.first is.0 + 4))) (sym pool) new)
 
   sends_by : IsWired rows (map part_of actors) → ClientsSend (map part_of actors) (with_deed passed deed)
-  sends_by (inl no) k program mac rx_active rx_free tx_active tx_free rx tx at = absurd (no.none k (ClientPart program mac rx_active rx_free tx_active tx_free rx tx) at)
+  sends_by (inl empty) = λ k program mac rx_active rx_free tx_active tx_free rx tx at. absurd (empty.none k (ClientPart program mac rx_active rx_free tx_active tx_free rx tx) at)
   sends_by (inr net) = whole_sends_on net.0 net.1
 
 pub sends_on : (ends ends' : Role → ℕ → End) (rows : List QueueRow) (actors actors' : List Actor) (passed : Passed) (deed : Deed) → IsWired rows (map part_of actors) → map part_of actors' ≡ map part_of actors → AreAtWork ends rows actors passed → ClientsSend (map part_of actors) passed → AreAtWork ends' rows actors' (with_deed passed deed) → ClientsSend (map part_of actors') (with_deed passed deed)
