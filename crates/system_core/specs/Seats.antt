@@ -22,7 +22,7 @@ pub record AreSeated (rows : List QueueRow) (actors : List Actor) : Type 0 where
   -- no actor has both ends of a queue
   pub split : (k : ℕ) (x : Actor) → slice_get actors k ≡ Some x → (n : ℕ) → ActorEnd x Consumer n
       → ActorEnd x Producer n → ⊥
-  -- the network's actors, if there are any, are a whole receive half at the layout's queues
+  -- the network's actors, if there are any, are a whole class at the layout's queues
   pub wired : IsWired rows (map part_of actors)
   -- each queue can hold an entry: its capacity is a power of two up to 32,768
   pub places : (n : ℕ) (row : QueueRow) → slice_get rows n ≡ Some row → IsCapacity row.capacity
