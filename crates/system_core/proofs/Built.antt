@@ -18,6 +18,7 @@ use Rattle.region_layout.specs.Rows.{queues_of, actors_of}
 use Rattle.region_layout.proofs.NameLemmas.{few_actors}
 use Rattle.actor_set.specs.Actors.{part_of}
 use Rattle.actor_set.specs.declared.actor.Actor.{Actor}
+use Rattle.wired_law.specs.Wiring.{HasNoNetwork}
 use Rattle.system_core.specs.Shows.{Crew}
 use Rattle.system_core.specs.States.{begun, crew_of, nobody, started}
 use Rattle.system_core.specs.Seats.{AreSeated}
@@ -119,6 +120,9 @@ module _ (plan : Plan) (valid : Valid plan) (played : unplayed plan ≡ None) wh
           }
 
   -- without a class
+  nobody_there : HasNoNetwork []
+  nobody_there = record { none = λ k p at. cc; no_sender = λ k p at. cc }
+
   module _ (none : plan.serial ≡ None) where
     module _ (rows : List QueueRow) (rows_are : rows ≡ queues_of plan) where
       pub none_seated : AreSeated rows []
@@ -128,7 +132,7 @@ module _ (plan : Plan) (valid : Valid plan) (played : unplayed plan ≡ None) wh
         seats = λ k x at. cc;
         ends = λ k x at. cc;
         split = λ k x at. cc;
-        wired = inl (λ k p at. cc);
+        wired = inl nobody_there;
         places = λ n row at. cc;
         numbered = omega arith;
         peers = λ n row at. cc;
@@ -140,7 +144,7 @@ module _ (plan : Plan) (valid : Valid plan) (played : unplayed plan ≡ None) wh
         cast = record {
           rows = rows_are;
           count = ap length (sym (no_actors plan valid net none blk));
-          scene = bare_scene plan trace [] (λ k p at. cc) net blk;
+          scene = bare_scene plan trace [] nobody_there net blk;
           serial = λ s is. let no : None ≡ Some s = sym none ∙ is in cc;
           nobody = λ h. record { cast = refl; device = refl; clients = refl };
         };
