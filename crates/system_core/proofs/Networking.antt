@@ -1,4 +1,4 @@
-use Rattle.std.proofs.Common.{◌≡◌, ◌+◌, ◌≤◌, ◌<◌, ℕ, Some, List, [], length, map, slice_get, refl, sym, ap, ◌∙◌, subst, arith}
+use Rattle.std.proofs.Common.{◌≡◌, ◌+◌, ◌<◌, ℕ, Some, List, [], length, map, slice_get, sym, ap, ◌∙◌, subst, arith}
 use Rattle.std.proofs.lemmas.List.{length-map}
 use Rattle.std.specs.Option.{option_map_or}
 use Rattle.cargo_core.specs.Lists.{IsPrefix, PrefixMerge}
@@ -16,7 +16,7 @@ use Rattle.net_tx_cast.specs.Casting.{sends_at}
 use Rattle.job_law.specs.Jobs as jobs
 use Rattle.play_core.specs.Sheets.{Scene}
 use Rattle.play_core.specs.Totals.{total}
-use Rattle.play_core.proofs.Lists.{some_is, map_get, there_is}
+use Rattle.play_core.proofs.Lists.{map_get, there_is}
 use Rattle.play_core.proofs.Merges.{prefix_merge_whole}
 use Rattle.play_core.proofs.OneQueue.{whole_prefix}
 use Rattle.net_quiet.specs.Still.{ArrivesAll, SendsAll}
@@ -102,8 +102,8 @@ module _ (plan : Plan) (net : Net) (trace : Trace) (s : Shown) (cast : IsCastOf 
         wire_is.0,
         wire_is.1,
         (let all = sends.wire in
-        let same = ap (λ fs. total (sends_at place.programs place.macs fs)) frames in
-        let long = wire_is.3 in
-        prefix_merge_whole (sends_at place.programs place.macs trace.frames) wire_is.0 wire_is.2 (omega (arith, long, all, same))),
+            let same = ap (λ fs. total (sends_at place.programs place.macs fs)) frames in
+            let long = wire_is.3 in
+            prefix_merge_whole (sends_at place.programs place.macs trace.frames) wire_is.0 wire_is.2 (omega (arith, long, all, same))),
       );
     }

@@ -6,7 +6,6 @@ use Rattle.sdf_plan.specs.declared.plan.Plan.{Plan}
 use Rattle.sdf_plan.specs.declared.plan.Net.{Net}
 use Rattle.sdf_check.specs.Valid.{Valid}
 use Rattle.trace_text.specs.declared.trace.Trace.{Trace}
-use Rattle.region_layout.specs.Rows.{queues_of}
 use Rattle.play_core.specs.Wants.{Needful}
 use Rattle.play_core.specs.Sheets.{needful}
 use Rattle.play_core.specs.Still.{IsStill}

@@ -1,9 +1,8 @@
-use Rattle.std.proofs.Common.{◌≡◌, ◌≤◌, ◌++◌, ℕ, Some, None, List, [], length, refl, sym, ap, ◌∙◌, subst, arith}
-use Rattle.std.proofs.lemmas.List.{length-map}
+use Rattle.std.proofs.Common.{◌≡◌, ◌≤◌, ◌++◌, ℕ, Some, None, List, [], length, sym, ap, ◌∙◌, subst}
 use Rattle.wire_core.specs.declared.names.QueueRow.{QueueRow}
 use Rattle.wire_core.specs.declared.names.Entry.{Entry}
 use Rattle.wire_core.specs.Picks.{PickedFrom}
-use Rattle.wire_core.specs.Journal.{History, Hostiles, EachMoment, BellsHold, QueuesFlow}
+use Rattle.wire_core.specs.Journal.{History, Hostiles, EachMoment, QueuesFlow}
 use Rattle.sdf_plan.specs.declared.plan.Plan.{Plan}
 use Rattle.sdf_plan.specs.declared.plan.Serial.{Serial}
 use Rattle.sdf_check.specs.Valid.{Valid}
@@ -20,7 +19,7 @@ use Rattle.serial_law.specs.Table.{serial_sheet}
 use Rattle.serial_law.specs.Serial.{SerialClass, IsSerial, ArrivesInPart, ArrivesWhole}
 use Rattle.serial_law.proofs.Arrivals.{as_there, RowAt}
 use Rattle.actor_law.specs.Kinds.{serial_part, scene_of}
-use Rattle.system_core.specs.Shows.{Setting, Shown, manner_in, hostile_in, sheet_in, moved_in, runs, RowsStand}
+use Rattle.system_core.specs.Shows.{Setting, Shown, hostile_in, sheet_in, moved_in, runs, RowsStand}
 use Rattle.system_core.specs.Plays.{Played, runnable_now}
 use Rattle.system_core.specs.Lawful.{StandsLawful}
 use Rattle.system_core.specs.Builds.{unplayed, IsBuilt, IsCastOf, BeginsAnew, serial_class}
