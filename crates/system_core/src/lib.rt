@@ -3,6 +3,7 @@
 
 mod build;
 mod crew;
+mod lines;
 mod records;
 mod running;
 mod system;
