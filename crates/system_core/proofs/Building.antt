@@ -15,7 +15,7 @@ use Rattle.actor_set.specs.Actors.{part_of}
 use Rattle.actor_set.specs.declared.actor.Actor.{Actor}
 use Rattle.actor_set.specs.declared.actor.Actor.TheVariants as Kinds
 use Rattle.system_core.specs.Shows.{Setting}
-use Rattle.system_core.specs.States.{begun, crew_of}
+use Rattle.system_core.specs.States.{begun, crew_of, nobody}
 use Rattle.cargo_core.specs.declared.item.QueueKind.TheVariants as Kind
 use Rattle.net_parts.specs.Parts.{NetPart}
 use Rattle.actor_law.specs.StartStates.{HasSeat, HasApartEnds, kind_at}
@@ -346,7 +346,7 @@ module _ (plan : Plan) (valid : Valid plan) (serial : Serial) (net : plan.net �
 
     module _ (place : ℕ) (numbers : List ℕ) (device_owner : IsOwner rows first Producer place) (owners : AreClients rows first count numbers) where
       abbrev state : Setting
-      state = begun (start_history rows) rows actors (crew_of (Some place) numbers)
+      state = begun (start_history rows) rows actors nobody (crew_of (Some place) numbers)
 
       clients_are : numbers ≡ map (λ (c : SerialClient). number (Some c.pd)) serial.client
       clients_are = same_lists numbers (map (λ (c : SerialClient). number (Some c.pd)) serial.client) (owners.count ∙ sym (length-map serial.client (λ (c : SerialClient). number (Some c.pd))))

@@ -19,7 +19,7 @@ use Rattle.region_layout.proofs.NameLemmas.{few_actors}
 use Rattle.actor_set.specs.Actors.{part_of}
 use Rattle.actor_set.specs.declared.actor.Actor.{Actor}
 use Rattle.system_core.specs.Shows.{Crew}
-use Rattle.system_core.specs.States.{begun, crew_of, started}
+use Rattle.system_core.specs.States.{begun, crew_of, nobody, started}
 use Rattle.system_core.specs.Seats.{AreSeated}
 use Rattle.system_core.specs.Builds.{unplayed, first_serial, IsBuilt, HasSerial}
 use Rattle.system_core.specs.Jobs.{IsOwner, SomeJob, AreCast, AreClients}
@@ -102,16 +102,16 @@ module _ (plan : Plan) (valid : Valid plan) (played : unplayed plan ≡ None) wh
           abbrev crew : Crew
           crew = crew_of (Some device) numbers
 
-          serial_begun : HasSerial first plan serial trace (begun (start_history rows) rows actors crew)
+          serial_begun : HasSerial first plan serial trace (begun (start_history rows) rows actors nobody crew)
           serial_begun = rw rows_are (has_serial plan valid serial net blk has first (sym first_is) trace actors cast_of device numbers (rw rows_are at owner) (rw (rows_are, clients_are) at owners))
 
-          pub is_built : IsBuilt plan trace (started (start_history rows) rows actors crew)
+          pub is_built : IsBuilt plan trace (started (start_history rows) rows actors nobody crew)
           is_built = record {
             cast = record {
               rows = rows_are;
               count = length-map actors part_of ∙ cast_of.count_is;
               scene = bare_scene plan trace (map part_of actors) (no_network plan valid serial net blk has first (sym first_is) trace actors cast_of) net blk;
-              serial = λ s is. subst (λ n. HasSerial n plan s trace (begun (start_history rows) rows actors crew)) first_is (subst (λ (x : Serial). HasSerial first plan x trace (begun (start_history rows) rows actors crew)) (some_is (sym has ∙ is)) serial_begun);
+              serial = λ s is. subst (λ n. HasSerial n plan s trace (begun (start_history rows) rows actors nobody crew)) first_is (subst (λ (x : Serial). HasSerial first plan x trace (begun (start_history rows) rows actors nobody crew)) (some_is (sym has ∙ is)) serial_begun);
               nobody = λ none. let no : None ≡ Some serial = sym none ∙ has in cc;
             };
             begins = refl;
@@ -135,7 +135,7 @@ module _ (plan : Plan) (valid : Valid plan) (played : unplayed plan ≡ None) wh
         few = omega arith;
       })
 
-      pub none_built : (trace : Trace) → IsBuilt plan trace (started (start_history rows) rows [] (crew_of None []))
+      pub none_built : (trace : Trace) → IsBuilt plan trace (started (start_history rows) rows [] nobody nobody)
       none_built trace = record {
         cast = record {
           rows = rows_are;

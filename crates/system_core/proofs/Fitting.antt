@@ -33,7 +33,7 @@ pub are_sized : (rows : List QueueRow) → length rows ≤ 65536 → ((n : ℕ) 
 are_sized rows few places = record { few = few; capacities = capacities rows places }
 
 -- seated actors fit the rows
-module _ (history : History) (rows : List QueueRow) (actors : List Actor) (serial : Crew) (s : AreSeated rows actors) where
+module _ (history : History) (rows : List QueueRow) (actors : List Actor) (net serial : Crew) (s : AreSeated rows actors) where
   abbrev scene : Scene
   scene = scene_of (map part_of actors)
 
@@ -55,7 +55,7 @@ module _ (history : History) (rows : List QueueRow) (actors : List Actor) (seria
       let y = there_is actors row.producer.0 (s.peers n row at Producer) in
       s.split row.producer.0 y.0 y.1 n (s.ends row.producer.0 y.0 y.1 n row at Consumer (sym same)) (s.ends row.producer.0 y.0 y.1 n row at Producer refl)
 
-  pub seated_fit : IsFitted (begun history rows actors serial)
+  pub seated_fit : IsFitted (begun history rows actors net serial)
   seated_fit = record {
     peopled = λ n row at r. subst (λ m. owner_of row r < m) (sym (length-map actors part_of)) (s.peers n row at r);
     seated = end_given;
@@ -66,9 +66,9 @@ module _ (history : History) (rows : List QueueRow) (actors : List Actor) (seria
   }
 
 -- the start state goes on from a history in which nothing happened
-pub start_goes : (rows : List QueueRow) (actors : List Actor) (serial : Crew) → AreSeated rows actors → GoesOn (begun (start_history rows) rows actors serial) (starts rows) actors
-start_goes rows actors serial s = record {
-  fitted = seated_fit (start_history rows) rows actors serial s;
+pub start_goes : (rows : List QueueRow) (actors : List Actor) (net serial : Crew) → AreSeated rows actors → GoesOn (begun (start_history rows) rows actors net serial) (starts rows) actors
+start_goes rows actors net serial s = record {
+  fitted = seated_fit (start_history rows) rows actors net serial s;
   before = record { bells_hold = starts_hold (hostiles (map part_of actors)) rows; flows = starts_flow (hostiles (map part_of actors)) rows };
   holds = start_holds rows actors (seated_start rows actors s);
 }

@@ -1,4 +1,4 @@
-use Rattle.std.proofs.Common.{◌≡◌, ◌<◌, arith, length, ℕ, Option, Some, None, List, [], map, slice_get, refl, sym, ap, ◌∙◌}
+use Rattle.std.proofs.Common.{◌≡◌, ◌<◌, arith, length, ℕ, Option, Some, None, is_some, List, [], map, slice_get, refl, sym, ap, ◌∙◌}
 use Rattle.std.specs.Option.{option_map, option_map_or}
 use Rattle.std.proofs.lemmas.Option.{slice_get-map}
 use Rattle.wire_core.specs.Queues.{Queue}
@@ -12,7 +12,7 @@ use Rattle.actor_set.specs.Actors.{part_of}
 use Rattle.actor_set.specs.declared.actor.Actor.{Actor}
 use Rattle.actor_law.specs.Records.{record_of, record_by}
 use Rattle.system_core.specs.Shows.{hostile_in}
-use Rattle.system_core.specs.States.{record_from}
+use Rattle.system_core.specs.States.{record_from, frames_from}
 use Rattle.system_core.specs.Lawful.{record_at, IsTold, StandsLawful}
 use Rattle.system_core.specs.Systems.{Holds}
 use Rattle.system_core.specs.Inside.{shown_of, setting_of, IsSystem}
@@ -21,6 +21,7 @@ use Rattle.std.proofs.lemmas.List.{length-map}
 use Rattle.system_core.proofs.Stepping.{runs_below}
 use Rattle.actor_law.proofs.Rows.{heard_here}
 use Rattle.system_core.proofs.RunsNow.{items_here}
+use Rattle.system_core.proofs.Recording.{records_at}
 
 module _ (history : History) (rows : List QueueRow) (w : List Queue) (actors : List Actor) (journal : List Entry) (h : Holds history rows w actors journal) where
   pub same_heard : (k : ℕ) → record_from actors k ≡ option_map_or (record_by (moved history journal)) (slice_get (map part_of actors) k) []
@@ -36,13 +37,20 @@ module _ (a : Inside) (i : IsSystem a) where
 
   told : IsTold (shown_of a)
   told = record {
-    line = line a.device;
-    serial = map_alike (record_from a.actors.items) (record_at (shown_of a)) a.clients.items (λ c k at. heard k);
+    line = line a.serial.device;
+    serial = map_alike (record_from a.actors.items) (record_at (shown_of a)) a.serial.clients (λ c k at. heard k);
+    wire = wire a.net.device;
+    net = length-map a.net.clients (frames_from a.actors.items);
+    frames = λ net half. record { records = records_at (setting_of a).history a.rows.items a.world a.actors.items a.journal.items i.holds net half a.net.clients };
   }
     where
       line : (device : Option ℕ) → option_map (record_from a.actors.items) device ≡ option_map (record_at (shown_of a)) device
       line None = refl
       line (Some k) = ap Some (heard k)
+
+      wire : (device : Option ℕ) → is_some (option_map (frames_from a.actors.items) device) ≡ is_some device
+      wire None = refl
+      wire (Some k) = refl
 
   -- a runnable actor is one of its actors
   pub runner_there : (place k : ℕ) → slice_get a.running.list place ≡ Some k → k < length a.actors.items

@@ -5,6 +5,7 @@ pub mod Playing
 pub mod RunsNow
 pub mod Stepping
 pub mod Starting
+pub mod Recording
 pub mod Hearing
 pub mod Seating
 pub mod Fitting

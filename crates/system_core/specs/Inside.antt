@@ -3,7 +3,7 @@ use Rattle.std.specs.Prelude.{◌≡◌, ◌≤◌, length}
 use Rattle.wire_core.specs.Journal.{EachMoment}
 use Rattle.wire_core.specs.Marks.{no_drops, Brisk}
 use Rattle.system_core.specs.Shows.{Setting, Shown, hostile_in, runs, RowsStand}
-use Rattle.system_core.specs.States.{state_of, history_of, begun, crew_of}
+use Rattle.system_core.specs.States.{state_of, history_of, begun}
 use Rattle.system_core.specs.Lawful.{IsFitted}
 use Rattle.system_core.specs.Systems.{Holds, HoldsBefore}
 use Rattle.system_core.specs.declared.system.System.TheInside.{Inside}
@@ -11,15 +11,15 @@ use Rattle.system_core.specs.declared.system.System.TheInside.{Inside}
 -- what stays the same
 abbrev pub setting_of : Inside → Setting
 setting_of a =
-    begun (history_of a.rows.items a.past.value.items) a.rows.items a.actors.items
-    (crew_of a.device a.clients.items)
+    begun (history_of a.rows.items a.past.value.items) a.rows.items a.actors.items a.net
+    a.serial
 
 -- the view
 abbrev pub shown_of : Inside → Shown
 shown_of a = record {
   setting = setting_of a;
   journal = a.journal.items;
-  state = state_of a.actors.items (crew_of a.device a.clients.items);
+  state = state_of a.actors.items a.net a.serial;
 }
 
 -- the parts of a system belong together, and which actors are runnable is kept

@@ -1,18 +1,24 @@
 -- What holds of every system, however it was built and played: its seats, its journal at each
 -- moment, and what is seen of it.
-use Rattle.std.specs.Prelude.{◌≡◌, ℕ, Some, List, [], length, map, slice_get}
+use Rattle.std.specs.Prelude.{◌≡◌, ◌≤◌, ℕ, Some, is_some, List, [], length, map, slice_get}
 use Rattle.std.specs.Option.{option_map, option_map_or}
 use Rattle.wire_core.specs.declared.names.QueueRow.{QueueRow}
 use Rattle.wire_core.specs.declared.names.Entry.{Entry}
 use Rattle.wire_core.specs.Journal.{LegalJournal, EachMoment, BellsHold, QueuesFlow}
 use Rattle.wire_core.specs.Marks.{no_drops, Brisk}
 use Rattle.cargo_core.specs.Capacities.{IsCapacity}
+use Rattle.cargo_core.specs.Lists.{IsPrefix}
+use Rattle.frame_core.specs.declared.mac.Mac.{Mac}
+use Rattle.net_expect.specs.Expecting.{Program, frames_for}
+use Rattle.net_owners.specs.Names.{ClientPools}
+use Rattle.net_parts.specs.Numbers.{client_at}
 use Rattle.play_core.specs.Moved.{Seat}
 use Rattle.play_core.specs.Sheets.{AreSeated, IsSeat}
 use Rattle.play_core.specs.Still.{IsPeopled}
-use Rattle.actor_set.specs.Parts.{Part}
+use Rattle.actor_set.specs.Parts.{Part, NetworkPart}
+use Rattle.actor_law.specs.Kinds.{scene_of}
 use Rattle.actor_law.specs.Records.{record_by}
-use Rattle.wired_law.specs.Wiring.{IsWired}
+use Rattle.wired_law.specs.Wiring.{NetPlace, HasHalf, IsWired}
 use Rattle.system_core.specs.Shows.{Setting, Shown, hostile_in, sheet_in, moved_in, RowsStand}
 
 -- the rows and the actors fit one another
@@ -47,10 +53,24 @@ abbrev pub record_at : Shown → ℕ → List ℕ
 record_at s k = option_map_or (record_by (moved_in s.setting s.journal))
     (slice_get s.setting.cast k) []
 
--- line and records are what the journal says that device and clients took
+-- at a place of the network the record of a client that has buffers is a beginning of the frames for
+-- its address
+pub record TellsFrames (s : Shown) (net : NetPlace) : Type 0 where
+  pub records : (c k j : ℕ) (program : Program) (mac : Mac) (pools : ClientPools)
+      (got : List (List ℕ)) → slice_get s.setting.net.clients c ≡ Some k
+      → slice_get s.setting.cast k
+      ≡ Some (NetworkPart (client_at net.first j program mac pools))
+      → 1 ≤ pools.rx.buffers → slice_get net.macs j ≡ Some mac → slice_get s.state.net c ≡ Some got
+      → IsPrefix got (frames_for mac (scene_of s.setting.cast).frames)
+
+-- line and records are what the journal says that device and clients took; those of the network,
+-- whose frames no journal has, are what its place says of them
 pub record IsTold (s : Shown) : Type 0 where
   pub line : s.state.line ≡ option_map (record_at s) s.setting.serial.device
   pub serial : s.state.serial ≡ map (record_at s) s.setting.serial.clients
+  pub wire : is_some s.state.wire ≡ is_some s.setting.net.device
+  pub net : length s.state.net ≡ length s.setting.net.clients
+  pub frames : (net : NetPlace) → HasHalf s.setting.rows net s.setting.cast → TellsFrames s net
 
 -- all that holds of every system
 pub record StandsLawful (s : Shown) : Type 0 where

@@ -20,11 +20,12 @@ pub record Crew : Type 0 where
   pub clients : List ℕ
 
 -- what stays the same while a system is played: what its queues had before its journal begins, its
--- queues, its actors' parts, and who is who in the serial class
+-- queues, its actors' parts, and who is who in the classes
 pub record Setting : Type 0 where
   pub history : History
   pub rows : List QueueRow
   pub cast : List Part
+  pub net : Crew
   pub serial : Crew
 
 -- what can be seen of a system: the wire, the line, what each client of each class recorded, where

@@ -7,18 +7,22 @@ use Rattle.wire_core.specs.Queues.{items_of}
 use Rattle.spsc_queue.specs.Known.Ends.{EndedIs}
 use Rattle.actor_set.specs.Actors.{part_of}
 use Rattle.actor_set.specs.declared.actor.Actor.{Actor}
-use Rattle.actor_law.specs.Records.{record_of}
+use Rattle.actor_law.specs.Records.{record_of, frames_got}
 use Rattle.system_core.specs.Shows.{Crew, Setting, State, Shown}
 
 -- what the actor at a place recorded
 abbrev pub record_from : List Actor → ℕ → List ℕ
 record_from actors k = option_map_or record_of (slice_get actors k) []
 
--- what is seen of actors: there are no pages, and none of them counts what is bad
-abbrev pub state_of : List Actor → Crew → State
-state_of actors serial = record {
-  wire = None;
-  net = [];
+-- the frames that the actor at a place recorded
+abbrev pub frames_from : List Actor → ℕ → List (List ℕ)
+frames_from actors k = option_map_or frames_got (slice_get actors k) []
+
+-- what is seen of actors: pages aren't counted yet, nor what is bad
+abbrev pub state_of : List Actor → (net serial : Crew) → State
+state_of actors net serial = record {
+  wire = option_map (frames_from actors) net.device;
+  net = map (frames_from actors) net.clients;
   line = option_map (record_from actors) serial.device;
   serial = map (record_from actors) serial.clients;
   blk = [];
@@ -43,18 +47,27 @@ history_of rows [] = start_history rows
 history_of rows (ring ∷ rings) = map track_of (ring ∷ rings)
 
 -- these queues and these actors, with what the queues had before the journal begins
-abbrev pub begun : History → List QueueRow → List Actor → Crew → Setting
-begun history rows actors serial =
-    record { history = history; rows = rows; cast = map part_of actors; serial = serial }
+abbrev pub begun : History → List QueueRow → List Actor → (net serial : Crew) → Setting
+begun history rows actors net serial = record {
+  history = history;
+  rows = rows;
+  cast = map part_of actors;
+  net = net;
+  serial = serial;
+}
 
 -- a device and clients
 abbrev pub crew_of : Option ℕ → List ℕ → Crew
 crew_of device clients = record { device = device; clients = clients }
 
+-- nobody
+abbrev pub nobody : Crew
+nobody = crew_of None []
+
 -- a system whose journal begins with this history
-abbrev pub started : History → List QueueRow → List Actor → Crew → Shown
-started history rows actors serial = record {
-  setting = begun history rows actors serial;
+abbrev pub started : History → List QueueRow → List Actor → (net serial : Crew) → Shown
+started history rows actors net serial = record {
+  setting = begun history rows actors net serial;
   journal = [];
-  state = state_of actors serial;
+  state = state_of actors net serial;
 }

@@ -2,8 +2,11 @@
 #![tactic(auto)]
 
 mod build;
+mod crew;
+mod records;
 mod running;
 mod system;
 
 pub use actor_set::Actor;
+pub use crew::Crew;
 pub use system::{Ending, System, unplayed};

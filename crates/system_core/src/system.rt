@@ -1,7 +1,6 @@
 //! The system at play: the queues of a layout with the actors at them, its steps, and what is seen
 //! of it. It stands here, above actors and descriptions, since a plan and a trace say who acts.
 ghost use Rattle.std.specs.Prelude.{◌≡◌, ◌<◌, ◌≤◌, ℕ, List, length, map, OnOk, OnErr, IfOk, slice_get, Some, None, []};
-ghost use Rattle.std.specs.Option.{option_map};
 ghost use Rattle.wire_core.specs.Queues.{is_pending};
 ghost use Rattle.wire_core.specs.Ends.{role_of};
 ghost use Rattle.wire_core.specs.Journal.{start_history, owner_of};
@@ -12,8 +11,7 @@ ghost use Rattle.region_layout.specs.Layouts.{layout_of};
 ghost use Rattle.sdf_check.specs.Valid.{Valid};
 ghost use Rattle.actor_law.specs.Kinds.{manner_of, idles};
 ghost use Rattle.system_core.specs.Shows.{runs};
-ghost use Rattle.actor_law.specs.Records.{record_of};
-ghost use Rattle.system_core.specs.States.{record_from, history_of, begun, crew_of, started};
+ghost use Rattle.system_core.specs.States.{history_of, begun, nobody, started};
 ghost use Rattle.system_core.specs.Systems.{Holds, GoesOn};
 ghost use Rattle.system_core.specs.Seats.{AreSeated};
 ghost use Rattle.system_core.specs.Lawful.{StandsLawful};
@@ -25,9 +23,11 @@ ghost use Rattle.system_core.specs.Builds.{unplayed, IsBuilt};
 ghost use Rattle.system_core.specs.PlanPlays.{IsPlayed, HasEnded};
 
 use crate::build::{cast, client_numbers, copies, first_serial};
+use crate::crew::Crew;
+use crate::records::{frame_records, line, records, wire};
 use crate::running::Running;
 use actor_set::Actor;
-use cargo_core::{Bytes, Memory, Series};
+use cargo_core::{Memory, Series};
 use expect_core::Report;
 use plain_wires::World;
 use region_layout::Layout;
@@ -56,8 +56,8 @@ pub struct System {
     rows: Vec<QueueRow>,
     world: World,
     actors: Vec<Actor>,
-    device: Option<u16>,
-    clients: Vec<u16>,
+    net: Crew,
+    serial: Crew,
     running: Running,
     journal: Vec<Entry>,
     // The rings that the system was made from, with what their queues had before the journal
@@ -190,7 +190,7 @@ fn first_running(
     requires { Holds (history_of rows.now past.now.value.items) rows.now world.now actors.now [] }
     ensures list { IfOk result (λ r. r.list
         ≡ runs (begun (history_of rows.now past.now.value.items) rows.now actors.now
-        (crew_of None [])) []) }
+        nobody nobody) []) }
     ensures room { IfOk result (λ r. length actors.now ≤ r.room) }
 {
     let mut running = Running::with_room(alloc, actors.len())?;
@@ -203,63 +203,20 @@ fn first_running(
     Ok(running)
 }
 
-// What an actor sent on its line, or recorded.
-fn record_of(actor: &Actor) -> &[u8]
-    ensures { result.now ≡ record_of actor.now }
-{
-    match actor {
-        Actor::UartDevice(device) => device.line(),
-        Actor::SerialClient(client) => client.got(),
-        _ => &[],
-    }
-}
-
-// What the actor at a place sent on its line, or recorded.
-fn record_from(actors: &[Actor], place: u16) -> &[u8]
-    ensures { result.now ≡ record_from actors.now place }
-{
-    match actors.get(place as usize) {
-        Some(actor) => record_of(actor),
-        None => &[],
-    }
-}
-
-// What was sent on the line of a device.
-fn line(alloc: Global, actors: &[Actor], device: Option<u16>) -> Result<Option<Bytes>, Memory>
-    ensures { IfOk result (λ l. l ≡ option_map (record_from actors.now) device) }
-{
-    match device {
-        Some(place) => Ok(Some(Bytes::from_slice(alloc, record_from(actors, place))?)),
-        None => Ok(None),
-    }
-}
-
-// What each of these actors recorded.
-fn records(alloc: Global, actors: &[Actor], clients: &[u16]) -> Result<Series<Bytes>, Memory>
-    ensures { IfOk result (λ rs. rs ≡ map (record_from actors.now) clients.now) }
-{
-    let mut records = Series::new(alloc);
-    for client in clients {
-        records.push(Bytes::from_slice(alloc, record_from(actors, *client))?)?;
-    }
-    Ok(records)
-}
-
 impl System {
     /// A system in its start state: actors in theirs, each with the ends that the rows give it.
-    /// `device` is the place of the serial device among the actors, `clients` the places of the
-    /// serial clients in their order.
+    /// `net` and `serial` say which of them are the devices and the clients of the classes.
     pub fn start(
         alloc: Global,
         rows: Vec<QueueRow>,
         actors: Vec<Actor>,
-        device: Option<u16>,
-        clients: Vec<u16>,
+        net: Crew,
+        serial: Crew,
     ) -> Result<System, Memory>
         requires { AreSeated rows.items actors.items }
         ensures state { IfOk result (λ s. s
             ≡ started (start_history rows.items) rows.items actors.items
-            (crew_of device clients.items)) }
+            net serial) }
         ensures stands { IfOk result StandsLawful }
     {
         let world = World::new(alloc, &rows)?;
@@ -269,8 +226,8 @@ impl System {
             rows,
             world,
             actors,
-            device,
-            clients,
+            net,
+            serial,
             Snapshot::of(&none),
         )
     }
@@ -282,15 +239,15 @@ impl System {
         rows: Vec<QueueRow>,
         world: World,
         actors: Vec<Actor>,
-        device: Option<u16>,
-        clients: Vec<u16>,
+        net: Crew,
+        serial: Crew,
         past: Snapshot<Vec<Ended>>,
     ) -> Result<System, Memory>
         requires { GoesOn (begun (history_of rows.items past.value.items) rows.items actors.items
-            (crew_of device clients.items)) world actors.items }
+            net serial) world actors.items }
         ensures state { IfOk result (λ s. s
             ≡ started (history_of rows.items past.value.items) rows.items actors.items
-            (crew_of device clients.items)) }
+            net serial) }
         ensures stands { IfOk result StandsLawful }
     {
         let running = first_running(alloc, &rows, &world, &actors, &past)?;
@@ -299,8 +256,8 @@ impl System {
             rows,
             world,
             actors,
-            device,
-            clients,
+            net,
+            serial,
             running,
             journal: Vec::new(alloc),
             past,
@@ -333,7 +290,8 @@ impl System {
     {
         let rows = copies(alloc, layout.queues())?;
         let Some(serial) = &plan.serial else {
-            return System::start(alloc, rows, Vec::new(alloc), None, Vec::new(alloc));
+            let actors = Vec::new(alloc);
+            return System::start(alloc, rows, actors, Crew::nobody(alloc), Crew::nobody(alloc));
         };
         let first = first_serial(plan);
         let clients = serial.client.len() as u16;
@@ -341,7 +299,8 @@ impl System {
         let device = rows[first as usize].producer.0;
         let numbers = client_numbers(alloc, &rows, first, clients)?;
         let actors = cast(alloc, &rows, first, clients, count, trace)?;
-        System::start(alloc, rows, actors, Some(device), numbers)
+        let crew = Crew::new(Some(device), numbers);
+        System::start(alloc, rows, actors, Crew::nobody(alloc), crew)
     }
 
     /// What is seen of the system as it is.
@@ -351,10 +310,10 @@ impl System {
         Ok(Report {
             quiet: self.running.len() == 0,
             steps: self.journal.len() as u64,
-            wire: None,
-            net: Series::new(self.alloc),
-            line: line(self.alloc, &self.actors, self.device)?,
-            serial: records(self.alloc, &self.actors, &self.clients)?,
+            wire: wire(self.alloc, &self.actors, self.net.device())?,
+            net: frame_records(self.alloc, &self.actors, self.net.clients())?,
+            line: line(self.alloc, &self.actors, self.serial.device())?,
+            serial: records(self.alloc, &self.actors, self.serial.clients())?,
             blk: Series::new(self.alloc),
             pools: Series::new(self.alloc),
             bad: 0,

@@ -1,6 +1,5 @@
 use Rattle.std.proofs.Common.{◌∙◌, ap}
 use Rattle.wire_core.specs.Queues.{starts}
-use Rattle.system_core.specs.States.{crew_of}
 use Rattle.system_core.proofs.Fitting.{are_sized, start_goes}
 use Rattle.system_core.proofs.system.System.start.Goals as goal
 
@@ -9,5 +8,5 @@ new-requires c = rw c.deref.ensures.value (are_sized c.args.rows.items c.require
 
 pub begin-requires : goal.begin-requires
 begin-requires c =
-    let goes = start_goes c.args.rows.items c.args.actors.items (crew_of c.args.device c.args.clients.items) c.requires in
+    let goes = start_goes c.args.rows.items c.args.actors.items c.args.net c.args.serial c.requires in
     rw (c.in_ok-world.ensures ∙ ap starts c.deref.ensures.value, c.of.ensures, c.new-none.ensures.items) goes

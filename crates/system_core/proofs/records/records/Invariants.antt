@@ -1,6 +1,6 @@
 use Rattle.std.proofs.Common.{◌≡◌, map, take}
 use Rattle.system_core.specs.States.{record_from}
-use Rattle.system_core.proofs.system.records.Given as goal
+use Rattle.system_core.proofs.records.records.Given as goal
 
 abbrev pub invariant-loop-client : goal.invariant-loop-client
 invariant-loop-client l = l.records ≡ map (record_from l.actors) (take l.client-index l.clients)

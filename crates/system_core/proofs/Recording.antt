@@ -1,0 +1,35 @@
+use Rattle.std.proofs.Common.{◌≡◌, ◌≤◌, ℕ, Some, List, [], map, slice_get, sym, ap, ◌∙◌, subst}
+use Rattle.std.specs.Option.{option_map_or}
+use Rattle.cargo_core.specs.Lists.{IsPrefix}
+use Rattle.frame_core.specs.declared.mac.Mac.{Mac}
+use Rattle.wire_core.specs.declared.names.QueueRow.{QueueRow}
+use Rattle.wire_core.specs.declared.names.Entry.{Entry}
+use Rattle.wire_core.specs.Queues.{Queue, queue_at, end_at}
+use Rattle.wire_core.specs.Journal.{History}
+use Rattle.net_expect.specs.Expecting.{Program, frames_for}
+use Rattle.net_owners.specs.Names.{ClientPools}
+use Rattle.net_parts.specs.Numbers.{client_at}
+use Rattle.actor_set.specs.Parts.{NetworkPart}
+use Rattle.actor_set.specs.Actors.{part_of}
+use Rattle.actor_set.specs.declared.actor.Actor.{Actor}
+use Rattle.actor_law.specs.Kinds.{scene_of}
+use Rattle.actor_law.specs.Records.{frames_got}
+use Rattle.wired_law.specs.Wiring.{NetPlace, HasHalf, AreAtWork}
+use Rattle.wired_law.proofs.Wiring.{recorded}
+use Rattle.play_core.proofs.Lists.{some_is, map_from}
+use Rattle.system_core.specs.States.{frames_from}
+use Rattle.system_core.specs.Systems.{Holds}
+
+module _ (history : History) (rows : List QueueRow) (w : List Queue) (actors : List Actor) (journal : List Entry) (h : Holds history rows w actors journal) where
+  at_work : AreAtWork (end_at w) rows actors h.passed
+  at_work = record { fits = h.fits; stands = h.stands; hands_over = λ n. ((queue_at w n).entries, sym (h.stands_there n)); kinds = h.kinds }
+
+  -- what the actors of these numbers recorded, one by one
+  pub records_at : (net : NetPlace) → HasHalf rows net (map part_of actors) → (numbers : List ℕ) (c k j : ℕ) (program : Program) (mac : Mac) (pools : ClientPools) (got : List (List ℕ)) → slice_get numbers c ≡ Some k → slice_get (map part_of actors) k ≡ Some (NetworkPart (client_at net.first j program mac pools)) → 1 ≤ pools.rx.buffers
+      → slice_get net.macs j ≡ Some mac → slice_get (map (frames_from actors) numbers) c ≡ Some got → IsPrefix got (frames_for mac (scene_of (map part_of actors)).frames)
+  records_at net half numbers c k j program mac pools got number part some address at =
+      let x = map_from part_of actors k (NetworkPart (client_at net.first j program mac pools)) part in
+      let m = map_from (frames_from actors) numbers c got at in
+      let same : m.0 ≡ k = some_is (sym m.1 ∙ number) in
+      let is : frames_got x.0 ≡ got = sym (ap (λ o. option_map_or frames_got o []) x.1) ∙ (ap (frames_from actors) (sym same) ∙ m.2) in
+      subst (λ g. IsPrefix g (frames_for mac (scene_of (map part_of actors)).frames)) is (recorded (end_at w) rows actors h.passed net half at_work k j x.0 program mac pools x.1 x.2 some address)

@@ -1,0 +1,112 @@
+//! What the actors of a class recorded: its device for its line or its wire, and each client.
+ghost use Rattle.std.specs.Prelude.{◌≡◌, List, map, IfOk, slice_get, Some, []};
+ghost use Rattle.std.specs.Option.{option_map};
+ghost use Rattle.actor_law.specs.Records.{record_of, frames_got};
+ghost use Rattle.system_core.specs.States.{record_from, frames_from};
+
+use actor_set::Actor;
+use cargo_core::{Bytes, FrameLog, Memory, Series};
+use std::alloc::Global;
+
+// What an actor sent on its line, or recorded.
+fn record_of(actor: &Actor) -> &[u8]
+    ensures { result.now ≡ record_of actor.now }
+{
+    match actor {
+        Actor::UartDevice(device) => device.line(),
+        Actor::SerialClient(client) => client.got(),
+        _ => &[],
+    }
+}
+
+// What the actor at a place sent on its line, or recorded.
+fn record_from(actors: &[Actor], place: u16) -> &[u8]
+    ensures { result.now ≡ record_from actors.now place }
+{
+    match actors.get(place as usize) {
+        Some(actor) => record_of(actor),
+        None => &[],
+    }
+}
+
+/// What was sent on the line of a device.
+pub fn line(alloc: Global, actors: &[Actor], device: Option<u16>) -> Result<Option<Bytes>, Memory>
+    ensures { IfOk result (λ l. l ≡ option_map (record_from actors.now) device) }
+{
+    match device {
+        Some(place) => Ok(Some(Bytes::from_slice(alloc, record_from(actors, place))?)),
+        None => Ok(None),
+    }
+}
+
+/// What each of these actors recorded.
+pub fn records(alloc: Global, actors: &[Actor], clients: &[u16]) -> Result<Series<Bytes>, Memory>
+    ensures { IfOk result (λ rs. rs ≡ map (record_from actors.now) clients.now) }
+{
+    let mut records = Series::new(alloc);
+    for client in clients {
+        records.push(Bytes::from_slice(alloc, record_from(actors, *client))?)?;
+    }
+    Ok(records)
+}
+
+// A copy of frames.
+fn copy(alloc: Global, frames: &FrameLog) -> Result<FrameLog, Memory>
+    ensures { IfOk result (λ l. l ≡ frames.now) }
+{
+    let mut copy = FrameLog::new(alloc);
+    for k in 0..frames.len() {
+        copy.push(frames.get(k))?;
+    }
+    Ok(copy)
+}
+
+// The frames that an actor sent on its wire, or recorded.
+fn frames_got(alloc: Global, actor: &Actor) -> Result<FrameLog, Memory>
+    ensures { IfOk result (λ l. l ≡ frames_got actor.now) }
+{
+    match actor {
+        Actor::EthDevice(device) => copy(alloc, device.wire()),
+        Actor::NetClient(client) => copy(alloc, client.got()),
+        _ => Ok(FrameLog::new(alloc)),
+    }
+}
+
+// The frames that the actor at a place sent on its wire, or recorded.
+fn frames_from(alloc: Global, actors: &[Actor], place: u16) -> Result<FrameLog, Memory>
+    ensures { IfOk result (λ l. l ≡ frames_from actors.now place) }
+{
+    match actors.get(place as usize) {
+        Some(actor) => frames_got(alloc, actor),
+        None => Ok(FrameLog::new(alloc)),
+    }
+}
+
+/// The frames that were sent on the wire of a device.
+pub fn wire(
+    alloc: Global,
+    actors: &[Actor],
+    device: Option<u16>,
+) -> Result<Option<FrameLog>, Memory>
+    ensures { IfOk result (λ l. l ≡ option_map (frames_from actors.now) device) }
+{
+    match device {
+        Some(place) => Ok(Some(frames_from(alloc, actors, place)?)),
+        None => Ok(None),
+    }
+}
+
+/// The frames that each of these actors recorded.
+pub fn frame_records(
+    alloc: Global,
+    actors: &[Actor],
+    clients: &[u16],
+) -> Result<Series<FrameLog>, Memory>
+    ensures { IfOk result (λ rs. rs ≡ map (frames_from actors.now) clients.now) }
+{
+    let mut records = Series::new(alloc);
+    for client in clients {
+        records.push(frames_from(alloc, actors, *client)?)?;
+    }
+    Ok(records)
+}
