@@ -21,7 +21,7 @@ use Rattle.std.proofs.lemmas.List.{length-map}
 use Rattle.system_core.proofs.Stepping.{runs_below}
 use Rattle.actor_law.proofs.Rows.{heard_here}
 use Rattle.system_core.proofs.RunsNow.{items_here}
-use Rattle.system_core.proofs.Recording.{records_at}
+use Rattle.system_core.proofs.Recording.{records_at, wire_at}
 
 module _ (history : History) (rows : List QueueRow) (w : List Queue) (actors : List Actor) (journal : List Entry) (h : Holds history rows w actors journal) where
   pub same_heard : (k : ℕ) → record_from actors k ≡ option_map_or (record_by (moved history journal)) (slice_get (map part_of actors) k) []
@@ -41,7 +41,10 @@ module _ (a : Inside) (i : IsSystem a) where
     serial = map_alike (record_from a.actors.items) (record_at (shown_of a)) a.serial.clients (λ c k at. heard k);
     wire = wire a.net.device;
     net = length-map a.net.clients (frames_from a.actors.items);
-    frames = λ net half. record { records = records_at (setting_of a).history a.rows.items a.world a.actors.items a.journal.items i.holds net half a.net.clients };
+    frames = λ net whole. record {
+      records = records_at (setting_of a).history a.rows.items a.world a.actors.items a.journal.items i.holds net whole a.net.clients;
+      wire = wire_at (setting_of a).history a.rows.items a.world a.actors.items a.journal.items i.holds net whole a.net.device;
+    };
   }
     where
       line : (device : Option ℕ) → option_map (record_from a.actors.items) device ≡ option_map (record_at (shown_of a)) device

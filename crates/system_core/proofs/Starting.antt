@@ -18,7 +18,7 @@ use Rattle.actor_set.specs.Parts.{Part}
 use Rattle.play_core.specs.Manners.{Manner}
 use Rattle.actor_law.specs.Kinds.{sheet, scene_of, manner_of, manners, idles}
 use Rattle.actor_law.proofs.Calm.{manner_at}
-use Rattle.wired_law.proofs.Wiring.{in_turn}
+use Rattle.wired_law.proofs.Wiring.{in_turn, nothing_sent}
 use Rattle.system_core.specs.Runnings.{with_number}
 use Rattle.system_core.specs.Starts.{AreStarting}
 use Rattle.system_core.specs.Systems.{Holds}
@@ -50,7 +50,8 @@ start_holds rows actors s = record {
   queues = λ n row at. subst (IsShown row (queue_at (starts rows) n)) (sym (start_is rows n)) (starts_shown rows n row at);
   fits = s.fits;
   stands = s.stands;
-  in_turn = in_turn (end_at (starts rows)) rows actors nothing_passed s.wired (record { fits = s.fits; stands = s.stands; hands_over = λ n. ([], refl); kinds = λ n row at k c there. cc });
+  sends = nothing_sent (map part_of actors);
+  in_turn = in_turn (end_at (starts rows)) rows actors nothing_passed s.wired (record { fits = s.fits; stands = s.stands; hands_over = λ n. ([], refl); kinds = λ n row at k c there. cc }) (nothing_sent (map part_of actors));
   owners = s.owners;
   paced = λ k x at calm. paced_anew (pendings (start_history rows) []) (actor_round x) (s.rounds k x at);
   peers = s.peers;

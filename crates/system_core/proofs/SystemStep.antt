@@ -37,8 +37,8 @@ use Rattle.actor_set.specs.declared.actor.Actor.{Actor}
 use Rattle.actor_law.proofs.Beside.{fits_beside, stands_beside}
 use Rattle.actor_law.proofs.PartEnds.{same_part}
 use Rattle.actor_law.proofs.Starts.{fits_whole}
-use Rattle.wired_law.specs.Wiring.{IsWired}
-use Rattle.wired_law.proofs.Wiring.{in_turn}
+use Rattle.wired_law.specs.Wiring.{IsWired, AreAtWork, ClientsSend}
+use Rattle.wired_law.proofs.Wiring.{in_turn, sends_on}
 use Rattle.play_core.proofs.Lists.{some_is}
 
 pub no_row : QueueRow
@@ -246,6 +246,24 @@ module _ (history : History) (rows : List QueueRow) (w v : List Queue) (actors :
       let was : slice_get actors j ≡ Some y = sym (slice_get_beside actors k j x' away.1) ∙ at in
       pace_beside hostile no_drops history rows journal (entry_of k e) legal' (calm_row (map part_of actors) legal'.row) j (actor_round y) (λ h. away.1 (sym h)) (λ i p pat row rat. old.owners j y was (waiting_role p.side) p.queue (post_end y i p pat) row rat) (old.paced j y was calm)
 
+  all_parts : part_of x' ≡ part_of x → map part_of (slice_set actors k x') ≡ map part_of actors
+  all_parts part = map_same part_of actors k x x' here part
+
+  works : AreAtWork (end_at w) rows actors old.passed
+  works = record { fits = old.fits; stands = old.stands; hands_over = λ n. ((queue_at w n).entries, sym (old.stands_there n)); kinds = old.kinds }
+
+  works' : FitsActor (end_at v) x' → AreAtWork (end_at v) rows (slice_set actors k x') passed'
+  works' new = record {
+    fits = λ j y at. fits' new j y at (eqb_tells j k);
+    stands = λ j y at. stands' j y at (eqb_tells j k);
+    hands_over = λ n. ((queue_at v n).entries, sym (there_after n (eqb_tells e.queue.0 n)));
+    kinds = λ n row at j c there. kinds' n row at j c there (eqb_tells e.queue.0 n);
+  }
+
+  sends' : IsWired rows (map part_of actors) → FitsActor (end_at v) x' → part_of x' ≡ part_of x → ClientsSend (map part_of (slice_set actors k x')) passed'
+  unfolding passed'
+  sends' wired new part = sends_on (end_at w) (end_at v) rows actors (slice_set actors k x') old.passed deed wired (all_parts part) works old.sends (works' new)
+
   -- all goes on to hold
   pub step_holds : IsWired rows (map part_of actors) → FitsActor (end_at v) x' → part_of x' ≡ part_of x → Holds history rows v (slice_set actors k x') (journal ++ entry_of k e ∷ [])
   step_holds wired new part = record {
@@ -258,12 +276,8 @@ module _ (history : History) (rows : List QueueRow) (w v : List Queue) (actors :
     queues = queues';
     fits = λ j y at. fits' new j y at (eqb_tells j k);
     stands = λ j y at. stands' j y at (eqb_tells j k);
-    in_turn = in_turn (end_at v) rows (slice_set actors k x') passed' (subst (IsWired rows) (sym (map_same part_of actors k x x' here part)) wired) (record {
-      fits = λ j y at. fits' new j y at (eqb_tells j k);
-      stands = λ j y at. stands' j y at (eqb_tells j k);
-      hands_over = λ n. ((queue_at v n).entries, sym (there_after n (eqb_tells e.queue.0 n)));
-      kinds = λ n row at j c there. kinds' n row at j c there (eqb_tells e.queue.0 n);
-    });
+    sends = sends' wired new part;
+    in_turn = in_turn (end_at v) rows (slice_set actors k x') passed' (subst (IsWired rows) (sym (all_parts part)) wired) (works' new) (sends' wired new part);
     owners = λ j y at. owners' part (fits_whole (end_at v) x' new) j y at (eqb_tells j k);
     paced = λ j y at calm. paced' j y at (subst (λ cast. hostiles cast j ≡ false) (map_same part_of actors k x x' here part) calm) (eqb_tells j k);
     peers = λ n row at r. rw length-set (old.peers n row at r);

@@ -10,7 +10,7 @@ use Rattle.trace_text.specs.declared.trace.Trace.{Trace}
 use Rattle.trace_text.specs.Traces.{IsReadFor}
 use Rattle.play_core.specs.Moved.{Moved, moved}
 use Rattle.play_core.specs.Wants.{Needful}
-use Rattle.play_core.specs.Sheets.{Sheet, needful}
+use Rattle.play_core.specs.Sheets.{Scene, Sheet, needful}
 use Rattle.play_core.specs.Still.{IsStill, Plays}
 use Rattle.play_core.proofs.Moments.{last_moment, each_moment}
 use Rattle.play_core.proofs.Quieting.{quiet_still}
@@ -27,6 +27,7 @@ use Rattle.system_core.specs.Builds.{IsBuilt, IsCastOf, BeginsAnew, HasSerial, s
 use Rattle.system_core.specs.PlanPlays.{IsPlayed, IsPlayedOn}
 use Rattle.actor_law.proofs.Calm.{calm_actor, sheet_is}
 use Rattle.system_core.proofs.Scripts.{scripts_length}
+use Rattle.system_core.proofs.Networking.{shows_frames, scene_frames}
 use Rattle.system_core.proofs.Begun.{There, serial_there, shows_in_part, shows_whole}
 
 -- what is said of a part of the serial class, as one of all
@@ -103,7 +104,7 @@ module _ (old new : Shown) (seed limit : ℕ) (none : old.journal ≡ []) (playe
       says = scripts_length plan serial trace has read
 
       there : IsSerial (There new.setting) (hostile_in new.setting) new.setting.rows class
-      there = serial_there plan serial has (first_serial plan) refl trace new.setting cast_is.rows stands.fitted.places class_is says
+      there = serial_there plan serial (first_serial plan) trace new.setting stands.fitted class_is says
 
     pub played_on : IsPlayedOn plan trace seed limit new
     played_on = record {
@@ -113,6 +114,7 @@ module _ (old new : Shown) (seed limit : ℕ) (none : old.journal ≡ []) (playe
       stands = stands;
       arrives = λ serial has. arrives new stands (class serial has) (there serial has) part;
       shows = λ serial has. shows_in_part plan serial (first_serial plan) trace new (class_is serial has) (says serial has) stands.told (arrives_now new stands (class serial has) (there serial has) part);
+      shows_net = λ net has. shows_frames plan net trace new (cast_is.net net has) (ap (λ (s : Scene). s.frames) cast_is.scene ∙ scene_frames plan net trace has) stands.told;
       whole = λ quiet serial has. shows_whole plan serial (first_serial plan) trace new (class_is serial has) (says serial has) stands.told (arrives_whole new stands (class serial has) (there serial has) whole quiet);
     }
 

@@ -7,18 +7,20 @@ use Rattle.wire_core.specs.declared.names.Entry.{Entry}
 use Rattle.wire_core.specs.Journal.{LegalJournal, EachMoment, BellsHold, QueuesFlow}
 use Rattle.wire_core.specs.Marks.{no_drops, Brisk}
 use Rattle.cargo_core.specs.Capacities.{IsCapacity}
-use Rattle.cargo_core.specs.Lists.{IsPrefix}
+use Rattle.cargo_core.specs.Lists.{IsPrefix, PrefixMerge}
 use Rattle.frame_core.specs.declared.mac.Mac.{Mac}
 use Rattle.net_expect.specs.Expecting.{Program, frames_for}
 use Rattle.net_owners.specs.Names.{ClientPools}
-use Rattle.net_parts.specs.Numbers.{client_at}
+use Rattle.net_parts.specs.Numbers.{device_at, client_at}
+use Rattle.net_tx_parts.specs.Numbers.{NetPlace}
+use Rattle.net_tx_cast.specs.Casting.{sends_at}
 use Rattle.play_core.specs.Moved.{Seat}
 use Rattle.play_core.specs.Sheets.{AreSeated, IsSeat}
 use Rattle.play_core.specs.Still.{IsPeopled}
 use Rattle.actor_set.specs.Parts.{Part, NetworkPart}
 use Rattle.actor_law.specs.Kinds.{scene_of}
 use Rattle.actor_law.specs.Records.{record_by}
-use Rattle.wired_law.specs.Wiring.{NetPlace, HasHalf, IsWired}
+use Rattle.wired_law.specs.Wiring.{HasWhole, IsWired}
 use Rattle.system_core.specs.Shows.{Setting, Shown, hostile_in, sheet_in, moved_in, RowsStand}
 
 -- the rows and the actors fit one another
@@ -33,7 +35,7 @@ pub record IsFitted (s : Setting) : Type 0 where
   -- no actor has both ends of a queue
   pub split : (n : ℕ) (row : QueueRow) → slice_get s.rows n ≡ Some row
       → row.producer.0 ≡ row.consumer.0 → ⊥
-  -- the network's actors, if there are any, are a whole receive half at the layout's queues
+  -- the network's actors, if there are any, are the whole class at the layout's queues
   pub wired : IsWired s.rows s.cast
   -- each queue can hold an entry
   pub places : (n : ℕ) (row : QueueRow) → slice_get s.rows n ≡ Some row → IsCapacity row.capacity
@@ -54,7 +56,8 @@ record_at s k = option_map_or (record_by (moved_in s.setting s.journal))
     (slice_get s.setting.cast k) []
 
 -- at a place of the network the record of a client that has buffers is a beginning of the frames for
--- its address
+-- its address, and what was sent on the device's wire is a merge of beginnings of what the clients
+-- send
 pub record TellsFrames (s : Shown) (net : NetPlace) : Type 0 where
   pub records : (c k j : ℕ) (program : Program) (mac : Mac) (pools : ClientPools)
       (got : List (List ℕ)) → slice_get s.setting.net.clients c ≡ Some k
@@ -62,6 +65,11 @@ pub record TellsFrames (s : Shown) (net : NetPlace) : Type 0 where
       ≡ Some (NetworkPart (client_at net.first j program mac pools))
       → 1 ≤ pools.rx.buffers → slice_get net.macs j ≡ Some mac → slice_get s.state.net c ≡ Some got
       → IsPrefix got (frames_for mac (scene_of s.setting.cast).frames)
+  pub wire : (k : ℕ) → s.setting.net.device ≡ Some k
+      → slice_get s.setting.cast k
+      ≡ Some (NetworkPart (device_at net.first (scene_of s.setting.cast).frames))
+      → (sent : List (List ℕ)) × (s.state.wire ≡ Some sent)
+      × PrefixMerge (sends_at net.programs net.macs (scene_of s.setting.cast).frames) sent
 
 -- line and records are what the journal says that device and clients took; those of the network,
 -- whose frames no journal has, are what its place says of them
@@ -70,7 +78,7 @@ pub record IsTold (s : Shown) : Type 0 where
   pub serial : s.state.serial ≡ map (record_at s) s.setting.serial.clients
   pub wire : is_some s.state.wire ≡ is_some s.setting.net.device
   pub net : length s.state.net ≡ length s.setting.net.clients
-  pub frames : (net : NetPlace) → HasHalf s.setting.rows net s.setting.cast → TellsFrames s net
+  pub frames : (net : NetPlace) → HasWhole s.setting.rows net s.setting.cast → TellsFrames s net
 
 -- all that holds of every system
 pub record StandsLawful (s : Shown) : Type 0 where

@@ -11,7 +11,7 @@ use Rattle.turn_kit.specs.Pace.{Paced, pendings}
 use Rattle.actor_set.specs.Actors.{FitsActor, ActorStandsFor, ActorEnd, part_of, actor_round}
 use Rattle.actor_law.specs.Kinds.{hostiles, scene_of}
 use Rattle.actor_law.specs.Turning.{InTurn}
-use Rattle.wired_law.specs.Wiring.{AreOfKind}
+use Rattle.wired_law.specs.Wiring.{AreOfKind, ClientsSend}
 use Rattle.system_core.specs.Shows.{Setting, hostile_in}
 use Rattle.system_core.specs.Lawful.{IsFitted}
 use Rattle.actor_set.specs.declared.actor.Actor.{Actor}
@@ -32,6 +32,8 @@ pub record Holds (history : History) (rows : List QueueRow) (world : List Queue)
       → IsShown row (queue_at world n) (track history n journal)
   pub fits : (k : ℕ) (x : Actor) → slice_get actors k ≡ Some x → FitsActor (end_at world) x
   pub stands : (k : ℕ) (x : Actor) → slice_get actors k ≡ Some x → ActorStandsFor x passed
+  -- the network's clients put good descriptors alone
+  pub sends : ClientsSend (map part_of actors) passed
   -- nothing came out of turn at any actor
   pub in_turn : (k : ℕ) (x : Actor) → slice_get actors k ≡ Some x
       → InTurn (scene_of (map part_of actors)) x passed
