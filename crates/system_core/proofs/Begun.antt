@@ -21,7 +21,9 @@ use Rattle.actor_law.specs.Kinds.{serial_part}
 use Rattle.system_core.specs.Shows.{Setting, Shown, hostile_in, sheet_in, moved_in}
 use Rattle.actor_law.specs.Records.{record_by}
 use Rattle.system_core.specs.Lawful.{record_at, IsFitted, IsTold}
-use Rattle.system_core.specs.Builds.{number_named, serial_class, first_serial, HasSerial}
+use Rattle.system_core.specs.Crews.{number_named}
+use Rattle.system_core.specs.Builds.{serial_class}
+use Rattle.system_core.proofs.Casting.{HasSerial}
 use Rattle.system_core.specs.PlanPlays.{ShowsInPart, ShowsWhole}
 use Rattle.actor_law.proofs.Calm.{calm_row}
 use Rattle.system_core.proofs.Seconds.{second_get, second_there, second_length}

@@ -11,6 +11,7 @@ pub mod Seating
 pub mod Fitting
 pub mod Seconds
 pub mod Scripts
+pub mod Casting
 pub mod Begun
 pub mod Networking
 pub mod Crewing

@@ -10,7 +10,7 @@ use Rattle.trace_text.specs.declared.trace.Trace.{Trace}
 use Rattle.trace_text.specs.Traces.{IsReadFor}
 use Rattle.play_core.specs.Moved.{Moved, moved}
 use Rattle.play_core.specs.Wants.{Needful}
-use Rattle.play_core.specs.Sheets.{Scene, Sheet, needful}
+use Rattle.play_core.specs.Sheets.{Sheet, needful}
 use Rattle.play_core.specs.Still.{IsStill, Plays}
 use Rattle.play_core.proofs.Moments.{last_moment, each_moment}
 use Rattle.play_core.proofs.Quieting.{quiet_still}
@@ -23,11 +23,13 @@ use Rattle.actor_law.specs.Kinds.{serial_part, scene_of}
 use Rattle.system_core.specs.Shows.{Setting, Shown, manner_in, hostile_in, sheet_in, moved_in, runs, RowsStand}
 use Rattle.system_core.specs.Plays.{Played, runnable_now}
 use Rattle.system_core.specs.Lawful.{StandsLawful}
-use Rattle.system_core.specs.Builds.{IsBuilt, IsCastOf, BeginsAnew, HasSerial, serial_class, first_serial}
+use Rattle.system_core.specs.Builds.{IsBuilt, IsCastOf, BeginsAnew, serial_class}
 use Rattle.system_core.specs.PlanPlays.{IsPlayed, IsPlayedOn}
 use Rattle.actor_law.proofs.Calm.{calm_actor, sheet_is}
 use Rattle.system_core.proofs.Scripts.{scripts_length}
-use Rattle.system_core.proofs.Networking.{shows_frames, scene_frames}
+use Rattle.cast_core.specs.Casts.{first_serial}
+use Rattle.system_core.proofs.Casting.{HasSerial, has_serial}
+use Rattle.system_core.proofs.Networking.{shows_frames}
 use Rattle.system_core.proofs.Begun.{There, serial_there, shows_in_part, shows_whole}
 
 -- what is said of a part of the serial class, as one of all
@@ -98,7 +100,7 @@ module _ (old new : Shown) (seed limit : ℕ) (none : old.journal ≡ []) (playe
       class = serial_class (first_serial plan) (length serial.client) trace
 
       class_is : HasSerial (first_serial plan) plan serial trace new.setting
-      class_is = cast_is.serial serial has
+      class_is = has_serial plan trace new.setting cast_is serial has
 
       says : length trace.says ≡ length serial.client
       says = scripts_length plan serial trace has read
@@ -114,7 +116,7 @@ module _ (old new : Shown) (seed limit : ℕ) (none : old.journal ≡ []) (playe
       stands = stands;
       arrives = λ serial has. arrives new stands (class serial has) (there serial has) part;
       shows = λ serial has. shows_in_part plan serial (first_serial plan) trace new (class_is serial has) (says serial has) stands.told (arrives_now new stands (class serial has) (there serial has) part);
-      shows_net = λ net has. shows_frames plan net trace new (cast_is.net net has) (ap (λ (s : Scene). s.frames) cast_is.scene ∙ scene_frames plan net trace has) stands.told;
+      shows_net = λ net has. shows_frames plan net trace new cast_is has stands.told;
       whole = λ quiet serial has. shows_whole plan serial (first_serial plan) trace new (class_is serial has) (says serial has) stands.told (arrives_whole new stands (class serial has) (there serial has) whole quiet);
     }
 

@@ -8,7 +8,7 @@ use Rattle.frame_core.specs.declared.mac.Mac.{Mac}
 use Rattle.net_expect.specs.Expecting.{frames_for}
 use Rattle.net_tx_parts.specs.Numbers.{NetPlace}
 use Rattle.net_tx_cast.specs.Casting.{sends_at}
-use Rattle.cast_core.specs.Casts.{net_place}
+use Rattle.cast_core.specs.Casts.{first_serial, net_place}
 use Rattle.serial_law.specs.Serial.{ArrivesInPart}
 use Rattle.sdf_plan.specs.declared.plan.Plan.{Plan}
 use Rattle.sdf_plan.specs.declared.plan.Net.{Net}
@@ -17,7 +17,7 @@ use Rattle.trace_text.specs.declared.trace.Trace.{Trace}
 use Rattle.system_core.specs.Shows.{State, Shown, runs, moved_in}
 use Rattle.system_core.specs.Plays.{runnable_now}
 use Rattle.system_core.specs.Lawful.{StandsLawful}
-use Rattle.system_core.specs.Builds.{IsCastOf, BeginsAnew, serial_class, first_serial}
+use Rattle.system_core.specs.Builds.{IsCastOf, BeginsAnew, serial_class}
 use Rattle.system_core.specs.declared.system.Ending.{Ending}
 use Rattle.system_core.specs.declared.system.Ending.TheVariants as Ends
 
@@ -58,7 +58,7 @@ pub record IsPlayedOn (plan : Plan) (trace : Trace) (seed limit : ℕ) (s : Show
   pub shows : (serial : Serial) → plan.serial ≡ Some serial
       → ShowsInPart (length serial.client) trace s.state
   pub shows_net : (net : Net) → plan.net ≡ Some net
-      → ShowsFrames (net_place plan net trace) trace.frames s.state
+      → ShowsFrames (net_place plan trace) trace.frames s.state
   -- where nobody is runnable, all bytes of the serial class arrived
   pub whole : runnable_now s ≡ [] → (serial : Serial) → plan.serial ≡ Some serial
       → ShowsWhole (length serial.client) trace s.state
