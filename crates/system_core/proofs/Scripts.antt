@@ -7,7 +7,7 @@ use Rattle.trace_text.specs.declared.trace.Trace.{Trace}
 use Rattle.trace_text.specs.Events.{serial_clients, net_clients}
 use Rattle.trace_text.specs.Traces.{IsReadFor, trace_of, trace_from, per_client}
 
-per_length : {T : Type 0} (n : ℕ) (value : ℕ → T) → length (per_client n value) ≡ n
+pub per_length : {T : Type 0} (n : ℕ) (value : ℕ → T) → length (per_client n value) ≡ n
 per_length zero value = refl
 per_length (suc n) value = ap suc (per_length n (λ c. value (suc c)))
 

@@ -1,0 +1,58 @@
+use Rattle.std.proofs.Common.{◌≡◌, ℕ, Option, Some, None, is_some, List, length, map, refl, sym, ◌∙◌, subst, ap}
+use Rattle.std.specs.Prelude.{if◌then◌else◌}
+use Rattle.std.proofs.lemmas.List.{length-map}
+use Rattle.wire_core.specs.declared.names.QueueRow.{QueueRow}
+use Rattle.wire_core.specs.Journal.{start_history}
+use Rattle.sdf_plan.specs.declared.plan.Plan.{Plan}
+use Rattle.sdf_plan.specs.declared.plan.Net.{Net}
+use Rattle.sdf_plan.specs.declared.plan.Blk.{Blk}
+use Rattle.sdf_plan.specs.declared.place.Place.TheVariants as At
+use Rattle.sdf_check.specs.Valid.{Valid}
+use Rattle.trace_text.specs.declared.trace.Trace.{Trace}
+use Rattle.trace_text.specs.Traces.{IsReadFor}
+use Rattle.region_layout.specs.declared.layout.Layout.{Layout}
+use Rattle.region_layout.specs.Layouts.{layout_of}
+use Rattle.region_layout.specs.Rows.{queues_of}
+use Rattle.actor_set.specs.Actors.{part_of}
+use Rattle.actor_set.specs.declared.actor.Actor.{Actor}
+use Rattle.wired_law.specs.Wiring.{HasWhole}
+use Rattle.cast_core.specs.Casts.{AreCast, net_place}
+use Rattle.cast_law.specs.Seats.{AreSeated}
+use Rattle.cast_law.proofs.Casting.{seated, parts_are, whole_is, scene_is}
+use Rattle.system_core.specs.Shows.{Crew}
+use Rattle.system_core.specs.States.{started}
+use Rattle.system_core.specs.Crews.{net_crew, serial_crew}
+use Rattle.system_core.specs.Builds.{unplayed, IsBuilt}
+
+pub layout_queues : (plan : Plan) (layout : Layout) → layout ≡ layout_of plan → layout.queues ≡ queues_of plan
+unfolding layout_of
+layout_queues plan layout h = ap (λ (l : Layout). l.queues) h
+
+-- a plan that can be played has no block class
+pub no_blk : (plan : Plan) → unplayed plan ≡ None → plan.blk ≡ None
+no_blk plan h = go plan.net plan.blk h
+  where
+    go : (net : Option Net) (blk : Option Blk) → (if is_some net then Some At.Net else (if is_some blk then Some At.Blk else None)) ≡ None → blk ≡ None
+    go None None h = refl
+    go None (Some b) h = cc
+    go (Some n) blk h = cc
+
+-- actors that are cast, at the plan's rows
+module _ (plan : Plan) (valid : Valid plan) (blk : plan.blk ≡ None) (trace : Trace) (read : IsReadFor plan trace) (actors : List Actor) (cast : AreCast plan trace actors) (rows : List QueueRow) (rows_are : rows ≡ queues_of plan) where
+  pub are_seated : AreSeated rows actors
+  are_seated = subst (λ rs. AreSeated rs actors) (sym rows_are) (seated plan trace actors valid blk read cast)
+
+  pub is_built : (net serial : Crew) → net ≡ net_crew plan → serial ≡ serial_crew plan → IsBuilt plan trace (started (start_history rows) rows actors net serial)
+  is_built net serial net_is serial_is = record {
+    cast = record {
+      rows = rows_are;
+      count = length-map actors part_of ∙ cast.count_is;
+      scene = scene_is plan trace actors valid blk read cast;
+      parts = parts_are plan trace actors valid blk read cast;
+      whole = λ n has. subst (λ rs. HasWhole rs (net_place plan trace) (map part_of actors)) (sym rows_are) (whole_is plan trace actors valid blk read cast n has);
+      net = net_is;
+      serial = serial_is;
+    };
+    begins = refl;
+    journal = refl;
+  }
