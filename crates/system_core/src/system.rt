@@ -221,15 +221,7 @@ impl System {
     {
         let world = World::new(alloc, &rows)?;
         let none: Vec<Ended> = Vec::new(alloc);
-        System::begin(
-            alloc,
-            rows,
-            world,
-            actors,
-            net,
-            serial,
-            Snapshot::of(&none),
-        )
+        System::begin(alloc, rows, world, actors, net, serial, Snapshot::of(&none))
     }
 
     // A system whose queues and actors go on from what rings had that came to their end; where
@@ -291,7 +283,13 @@ impl System {
         let rows = copies(alloc, layout.queues())?;
         let Some(serial) = &plan.serial else {
             let actors = Vec::new(alloc);
-            return System::start(alloc, rows, actors, Crew::nobody(alloc), Crew::nobody(alloc));
+            return System::start(
+                alloc,
+                rows,
+                actors,
+                Crew::nobody(alloc),
+                Crew::nobody(alloc),
+            );
         };
         let first = first_serial(plan);
         let clients = serial.client.len() as u16;
