@@ -35,7 +35,7 @@ pub has_serial : (plan : Plan) (trace : Trace) (s : Setting) → IsCastOf plan t
 has_serial plan trace s cast serial has =
     let first = first_serial plan in
     let who : s.serial ≡ crew_of (Some (uart_number plan).0) (map (λ (c : Client). number_named plan c.pd) serial.client) =
-        cast.serial ∙ ap (λ o. option_map_or (λ (x : Serial). crew_of (Some (uart_number plan).0) (map (λ (c : Client). number_named plan c.pd) x.client)) o nobody) has in
+    cast.serial ∙ ap (λ o. option_map_or (λ (x : Serial). crew_of (Some (uart_number plan).0) (map (λ (c : Client). number_named plan c.pd) x.client)) o nobody) has in
     let clients = serials plan serial has in
     record {
       device_is = ap (λ (c : Crew). c.device) who;

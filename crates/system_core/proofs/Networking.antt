@@ -56,7 +56,7 @@ module _ (plan : Plan) (net : Net) (trace : Trace) (s : Shown) (cast : IsCastOf 
       let below : c < length (net_clients plan) = a.0 in
       let client = there_is net.client c (omega (arith, below, many)) in
       let number : slice_get s.setting.net.clients c ≡ Some (number_named plan client.0.pd) =
-          ap (λ (k : Crew). slice_get k.clients c) who ∙ map_get (λ (k : Client). number_named plan k.pd) net.client c client.0 client.1 in
+      ap (λ (k : Crew). slice_get k.clients c) who ∙ map_get (λ (k : Client). number_named plan k.pd) net.client c client.0 client.1 in
       let part = cast.parts (jobs.NetClient c) (number_named plan client.0.pd) (net_client_job plan net has c client.0 client.1) in
       let some = whole.some c (client_pools plan c) (per_there (length (net_clients plan)) (client_pools plan) c below) in
       let is = tells.records c (number_named plan client.0.pd) c (client_program plan trace c) (client_mac plan c) (own_pools (client_pools plan c)) got number part some (per_there (length (net_clients plan)) (client_mac plan) c below) at in

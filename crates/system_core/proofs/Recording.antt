@@ -40,8 +40,7 @@ module _ (history : History) (rows : List QueueRow) (w : List Queue) (actors : L
   pub wire_at : (net : NetPlace) → HasWhole rows net (map part_of actors) → (device : Option ℕ) (k : ℕ) → device ≡ Some k → slice_get (map part_of actors) k ≡ Some (NetworkPart (device_at net.first (scene_of (map part_of actors)).frames))
       → (sent : List (List ℕ)) × (option_map (frames_from actors) device ≡ Some sent) × PrefixMerge (sends_at net.programs net.macs (scene_of (map part_of actors)).frames) sent
   wire_at net whole device k is part =
-      let x = map_from part_of actors k (NetworkPart (device_at net.first (scene_of (map part_of actors)).frames)) part in
-      (
+      let x = map_from part_of actors k (NetworkPart (device_at net.first (scene_of (map part_of actors)).frames)) part in (
         frames_got x.0,
         ap (option_map (frames_from actors)) is ∙ ap Some (ap (λ o. option_map_or frames_got o []) x.1),
         sent_on (end_at w) rows actors h.passed net whole at_work h.sends k x.0 x.1 x.2,

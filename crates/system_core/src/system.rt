@@ -222,15 +222,7 @@ impl System {
     {
         let world = World::new(alloc, &rows)?;
         let none: Vec<Ended> = Vec::new(alloc);
-        System::begin(
-            alloc,
-            rows,
-            world,
-            actors,
-            net,
-            serial,
-            Snapshot::of(&none),
-        )
+        System::begin(alloc, rows, world, actors, net, serial, Snapshot::of(&none))
     }
 
     // A system whose queues and actors go on from what rings had that came to their end; where
