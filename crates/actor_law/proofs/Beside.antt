@@ -19,6 +19,7 @@ use Rattle.actor_set.specs.Actors.{FitsActor, ActorStandsFor, ActorEnd, IsWhole}
 use Rattle.actor_set.specs.declared.actor.Actor.{Actor}
 use Rattle.actor_set.specs.declared.actor.Actor.TheVariants as Kinds
 use Rattle.actor_law.proofs.NetBeside.{fits_pipes, fits_device, fits_receiver, fits_copier, fits_client, stands_pipes, stands_device, stands_receiver, stands_copier, stands_client}
+use Rattle.actor_law.proofs.TxBeside.{fits_sender, stands_sender}
 
 -- where an actor's ends stay, it fits as before
 module _ (ends ends' : Role → ℕ → End) (kinds : (r : Role) (n : ℕ) → (ends' r n).kind ≡ (ends r n).kind) where
@@ -66,6 +67,7 @@ module _ (ends ends' : Role → ℕ → End) (kinds : (r : Role) (n : ℕ) → (
   fits_beside (Kinds.NetVirtRx x) same f = (fits_receiver ends ends' kinds x same f.0, f.1)
   fits_beside (Kinds.NetCopier x) same f = fits_copier ends ends' kinds x same f
   fits_beside (Kinds.NetClient x) same f = (fits_client ends ends' kinds x same f.0, f.1)
+  fits_beside (Kinds.NetVirtTx x) same f = fits_sender ends ends' kinds x same f
 
 -- where nothing moved at an actor's ends, it stands for the same lists
 module _ (passed passed' : Passed) where
@@ -93,3 +95,4 @@ module _ (passed passed' : Passed) where
   stands_beside (Kinds.NetVirtRx x) whole ins outs f = stands_receiver passed passed' x whole.from_each whole.to_each ins outs f
   stands_beside (Kinds.NetCopier x) whole ins outs f = stands_copier passed passed' x ins outs f
   stands_beside (Kinds.NetClient x) whole ins outs f = stands_client passed passed' x ins outs f
+  stands_beside (Kinds.NetVirtTx x) whole ins outs f = stands_sender passed passed' x whole.from_each whole.to_each ins outs f

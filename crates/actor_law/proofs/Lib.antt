@@ -3,6 +3,9 @@ pub mod NetRows
 pub mod NetBeside
 pub mod NetPaces
 pub mod NetStarts
+pub mod TxEnds
+pub mod TxBeside
+pub mod TxStarts
 pub mod Calm
 pub mod PartEnds
 pub mod Rounds

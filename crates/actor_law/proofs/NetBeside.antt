@@ -97,7 +97,7 @@ module _ (ends ends' : Role → ℕ → End) (kinds : (r : Role) (n : ℕ) → (
     few = f.few;
   }
 
-  fits_virt : (v : VirtEnds) → ((r : Role) (n : ℕ) → VirtOwns v r n → ends' r n ≡ ends r n) → FitsVirt ends v → FitsVirt ends' v
+  pub fits_virt : (v : VirtEnds) → ((r : Role) (n : ℕ) → VirtOwns v r n → ends' r n ≡ ends r n) → FitsVirt ends v → FitsVirt ends' v
   fits_virt v same f = record {
     input = subst (λ e. Agrees e v.input.state) (sym (same Consumer v.input.queue.0 (inl refl))) f.input;
     output = subst (λ e. Agrees e v.output.state) (sym (same Producer v.output.queue.0 (inl refl))) f.output;
@@ -123,14 +123,14 @@ module _ (ends ends' : Role → ℕ → End) (kinds : (r : Role) (n : ℕ) → (
   fits_receiver v same f = record { ends_fit = fits_virt v.ends same f.ends_fit; work = f.work; from_each = f.from_each; to_each = f.to_each }
 
 -- the same bodies passed at queues where the same entries did
-bodies_same : (a b : Lists) (ns : List ℕ) → ((k n : ℕ) → slice_get ns k ≡ Some n → b n ≡ a n) → bodies_at b ns ≡ bodies_at a ns
+pub bodies_same : (a b : Lists) (ns : List ℕ) → ((k n : ℕ) → slice_get ns k ≡ Some n → b n ≡ a n) → bodies_at b ns ≡ bodies_at a ns
 bodies_same a b [] same = refl
 bodies_same a b (n ∷ ns) same =
     let head : b n ≡ a n = same 0 n refl in
     ap (λ l. bodies_of l ++ bodies_at b ns) head ∙ ap (λ l. bodies_of (a n) ++ l) (bodies_same a b ns (λ k m at. same (suc k) m at))
 
 -- lists as they were at one place, and as they are at all others
-abbrev turned : ℕ → Lists → Lists → Lists
+abbrev pub turned : ℕ → Lists → Lists → Lists
 turned place was now n = if place == n then was n else now n
 
 module _ (passed passed' : Passed) where

@@ -36,14 +36,14 @@ ends_same scene (NetReceiver active free pool clients) = refl
 ends_same scene (NetCopier lease_active lease_free rx_active rx_free) = refl
 ends_same scene (NetClient program mac rx_active rx_free tx_active tx_free rx tx) = refl
 
-queue_of : (s : Seat) (r : Role) (n : ℕ) → Some s ≡ Some (seat r n) → n ≡ s.queue
+pub queue_of : (s : Seat) (r : Role) (n : ℕ) → Some s ≡ Some (seat r n) → n ≡ s.queue
 queue_of s r n h = sym (ap (λ (x : Seat). x.queue) (some_is h))
 
 -- an end of one role is none of the other
-not_out : (m n : ℕ) → Some (intake m) ≡ Some (seat Producer n) → ⊥
+pub not_out : (m n : ℕ) → Some (intake m) ≡ Some (seat Producer n) → ⊥
 not_out m n h = let e : Consumer ≡ Producer = ap (λ (x : Seat). x.role) (some_is h) in cc
 
-not_in : (m n : ℕ) → Some (outlet m) ≡ Some (seat Consumer n) → ⊥
+pub not_in : (m n : ℕ) → Some (outlet m) ≡ Some (seat Consumer n) → ⊥
 not_in m n h = let e : Producer ≡ Consumer = ap (λ (x : Seat). x.role) (some_is h) in cc
 
 -- four ends, two of each role
@@ -112,7 +112,7 @@ client_there (c ∷ cs) Producer n (suc zero) at = absurd (not_out c.free n at)
 client_there (c ∷ cs) Consumer n (suc zero) at = (0, c, refl, inl (queue_of (intake c.free) Consumer n at))
 client_there (c ∷ cs) r n (suc (suc i)) at = let rest = client_there cs r n i at in (suc rest.0, rest.1, rest.2, rest.3)
 
-either_one : {A : Type 0} → A ⊎ A → A
+pub either_one : {A : Type 0} → A ⊎ A → A
 either_one (inl h) = h
 either_one (inr h) = h
 

@@ -16,7 +16,7 @@ use Rattle.play_core.proofs.Lists.{some_is, map_get, map_from}
 use Rattle.net_kit.specs.Virtualising.{VirtOwns, from_queues, to_queues, virt_posts, virt_needs}
 use Rattle.net_kit.specs.declared.virt_ends.VirtEnds.{VirtEnds}
 use Rattle.net_kit.proofs.TwoLists.{get_front}
-use Rattle.actor_law.specs.StartStates.{HasApartQueues}
+use Rattle.actor_set.specs.StartStates.{HasApartQueues}
 
 -- a post is one of these ends, and never drops
 abbrev pub IsPostAt : (Role → ℕ → Type 0) → Post → Type 0

@@ -1,6 +1,6 @@
 -- The network's actors in their start state: they fit the ends that rows give them, stand for
 -- nothing, and have the start hand of their sheets.
-use Rattle.std.proofs.Common.{◌≡◌, ◌≢◌, ◌⊎◌, ◌==◌, ◌+◌, ◌++◌, ◌<◌, ◌≤◌, ◌^◌, ◌-◌, ℕ, zero, suc, Bool, true, false, cond, if◌then◌else◌, Option, Some, None, is_some, List, [], ◌∷◌, All, length, map, reverse, slice_get, length-append, refl, sym, ap, ◌∙◌, subst, arith, eq-eqb, inl, inr}
+use Rattle.std.proofs.Common.{◌≡◌, ◌≢◌, ◌⊎◌, ◌==◌, ◌+◌, ◌<◌, ◌≤◌, ◌^◌, ◌-◌, ℕ, zero, suc, true, false, cond, if◌then◌else◌, Option, Some, None, is_some, List, [], ◌∷◌, All, length, map, reverse, slice_get, length-append, refl, sym, ap, ◌∙◌, subst, arith, eq-eqb, inl, inr}
 use Rattle.std.specs.Option.{option_to_list, ForSome}
 use Rattle.std.proofs.Math.Dec.{eqb}
 use Rattle.std.proofs.lemmas.Bool.{ne_eqb}
@@ -32,7 +32,9 @@ use Rattle.eth_device.specs.declared.EthDevice.{EthDevice}
 use Rattle.net_kit.specs.Pools.{given_entry, page_bodies}
 use Rattle.net_kit.specs.Stocks.{stock_list, stock_hand}
 use Rattle.net_kit.specs.declared.stock.Stock.{Stock}
-use Rattle.net_kit.specs.Virtualising.{VirtOwns, new_intake, new_outlet}
+use Rattle.wire_core.specs.declared.names.QueueId.{QueueId}
+use Rattle.net_kit.specs.Virtualising.{FitsVirt, IsNewVirt, VirtOwns, from_queues, to_queues, new_intake, new_outlet}
+use Rattle.net_kit.specs.declared.virt_ends.VirtEnds.{VirtEnds}
 use Rattle.net_kit.proofs.Counts.{stock_count, given_count}
 use Rattle.net_kit.proofs.Filling.{no_entries}
 use Rattle.net_virt_rx.specs.declared.LeaseEnds.{LeaseEnds}
@@ -52,7 +54,7 @@ use Rattle.net_parts.specs.Rows.{pool_hand}
 use Rattle.net_parts.specs.Table.{net_sheet}
 use Rattle.net_parts.specs.Playing.{receiver_part, client_part, stock_pool}
 use Rattle.actor_set.specs.Actors.{IsWholeReceiver}
-use Rattle.actor_law.specs.StartStates.{IsNewReceiving, IsNewLender, IsNewClientOf, HasApartQueues}
+use Rattle.actor_set.specs.StartStates.{IsNewReceiving, IsNewLender, IsNewClientOf, HasApartQueues}
 
 no_load : (o : Option Cargo) → o ≡ None → (c : Cargo) → o ≡ Some c → ⊥
 no_load o none c some = let e : None ≡ Some c = sym none ∙ some in cc
@@ -136,34 +138,36 @@ module _ (ends : Role → ℕ → End) where
     few = few;
   }
 
+  -- a virtualiser's ends, where it has few clients
+  pub new_virt_fits : (v : VirtEnds) (input output : QueueId) (from to : List QueueId) → IsNewVirt input output from to v → HasApartQueues v → length (from_queues v) < 2 ^ 32 → length (to_queues v) < 2 ^ 32 → Seated (VirtOwns v) → FitsVirt ends v
+  new_virt_fits v input output from to e apart few_from few_to s = record {
+    input = s.inputs v.input.queue.0 v.input.state (inl refl) (ap (λ (x : Intake). x.state) e.input_is);
+    output = s.outputs v.output.queue.0 v.output.state (inl refl) (ap (λ (x : Outlet). x.state) e.output_is);
+    from_clients = record {
+      agrees = λ k i at. s.inputs i.queue.0 i.state (inr (k, i.queue, map_get (λ (x : Intake). x.queue) v.from_clients.ends.items k i at, refl)) (let f = map_from new_intake from k i (ap (λ l. slice_get l k) (sym e.from_is) ∙ at) in ap (λ (x : Intake). x.state) (sym f.2));
+      apart = apart.from;
+    };
+    to_clients = record {
+      agrees = λ k i at. s.outputs i.queue.0 i.state (inr (k, i.queue, map_get (λ (x : Outlet). x.queue) v.to_clients.ends.items k i at, refl)) (let f = map_from new_outlet to k i (ap (λ l. slice_get l k) (sym e.to_is) ∙ at) in ap (λ (x : Outlet). x.state) (sym f.2));
+      apart = apart.to;
+    };
+    comes = s.carries Consumer v.input.queue.0 (inl refl);
+    goes = s.carries Producer v.output.queue.0 (inl refl);
+    come_from = λ k q at. s.carries Consumer q.0 (inr (k, q, at, refl));
+    go_to = λ k q at. s.carries Producer q.0 (inr (k, q, at, refl));
+    inputs_apart = apart.input;
+    outputs_apart = apart.output;
+    few_from = few_from;
+    few_to = few_to;
+  }
+
   pub new_receiver_fits : (v : NetVirtRx) → (new : IsNewLender v) → IsWholeReceiver v → HasApartQueues v.ends → Seated (VirtOwns v.ends) → FitsRx ends v
-  new_receiver_fits v new whole apart s =
-      let e = new.new.ends in
-      record {
-        ends_fit = record {
-          input = s.inputs v.ends.input.queue.0 v.ends.input.state (inl refl) (ap (λ (x : Intake). x.state) e.input_is);
-          output = s.outputs v.ends.output.queue.0 v.ends.output.state (inl refl) (ap (λ (x : Outlet). x.state) e.output_is);
-          from_clients = record {
-            agrees = λ k i at. s.inputs i.queue.0 i.state (inr (k, i.queue, map_get (λ (x : Intake). x.queue) v.ends.from_clients.ends.items k i at, refl)) (let f = map_from new_intake (map (λ (c : LeaseEnds). c.free) new.clients) k i (ap (λ l. slice_get l k) (sym e.from_is) ∙ at) in ap (λ (x : Intake). x.state) (sym f.2));
-            apart = apart.from;
-          };
-          to_clients = record {
-            agrees = λ k i at. s.outputs i.queue.0 i.state (inr (k, i.queue, map_get (λ (x : Outlet). x.queue) v.ends.to_clients.ends.items k i at, refl)) (let f = map_from new_outlet (map (λ (c : LeaseEnds). c.active) new.clients) k i (ap (λ l. slice_get l k) (sym e.to_is) ∙ at) in ap (λ (x : Outlet). x.state) (sym f.2));
-            apart = apart.to;
-          };
-          comes = s.carries Consumer v.ends.input.queue.0 (inl refl);
-          goes = s.carries Producer v.ends.output.queue.0 (inl refl);
-          come_from = λ k q at. s.carries Consumer q.0 (inr (k, q, at, refl));
-          go_to = λ k q at. s.carries Producer q.0 (inr (k, q, at, refl));
-          inputs_apart = apart.input;
-          outputs_apart = apart.output;
-          few_from = omega (arith, whole.from_each, whole.work.few);
-          few_to = omega (arith, whole.to_each, whole.work.few);
-        };
-        work = whole.work;
-        from_each = whole.from_each;
-        to_each = whole.to_each;
-      }
+  new_receiver_fits v new whole apart s = record {
+    ends_fit = new_virt_fits v.ends v.ends.input.queue v.ends.output.queue (map (λ (c : LeaseEnds). c.free) new.clients) (map (λ (c : LeaseEnds). c.active) new.clients) new.new.ends apart (omega (arith, whole.from_each, whole.work.few)) (omega (arith, whole.to_each, whole.work.few)) s;
+    work = whole.work;
+    from_each = whole.from_each;
+    to_each = whole.to_each;
+  }
 
 -- a new receiving virtualiser has one queue each way for each client
 pub new_receiver_whole : (v : NetVirtRx) → IsNewLender v → IsWholeReceiver v

@@ -24,7 +24,8 @@ use Rattle.eth_driver.specs.Four.{four_pipes}
 use Rattle.eth_device.specs.Devices as device
 use Rattle.net_client.specs.Clients as client
 use Rattle.net_virt_rx.specs.Sharing.{is_idle}
-use Rattle.actor_law.specs.StartStates.{HasApartEnds, HasNoLoop}
+use Rattle.net_virt_tx.specs.Traffics.{is_free, owes, needs_at, loaded_at}
+use Rattle.actor_set.specs.StartStates.{HasApartEnds, HasNoLoop}
 use Rattle.actor_law.proofs.NetPaces.{IsPostAt, four_posts, pipes_post, pipes_has, pipes_size, pipes_apart, virt_post, virt_has, virt_size, virt_apart}
 use Rattle.play_core.specs.Runs.{called_from}
 use Rattle.turn_kit.specs.Pace.{pendings, IsCalled}
@@ -57,6 +58,7 @@ post_stands (Kinds.EthDriver x) k p at = pipes_post (four_pipes x.driver.pipes) 
 post_stands (Kinds.NetVirtRx x) k p at = virt_post x.ends k p at
 post_stands (Kinds.NetCopier x) k p at = four_posts (ActorEnd (Kinds.NetCopier x)) (intake_post x.lease_input) (intake_post x.buffer_input) (outlet_post x.buffer_output) (outlet_post x.lease_output) (inl refl, refl) (inr refl, refl) (inl refl, refl) (inr refl, refl) k p at
 post_stands (Kinds.NetClient x) k p at = four_posts (ActorEnd (Kinds.NetClient x)) (intake_post x.frames.pipe.input) (outlet_post x.frames.pipe.output) (intake_post x.sent) (outlet_post x.send) (inl refl, refl) (inl refl, refl) (inr refl, refl) (inr refl, refl) k p at
+post_stands (Kinds.NetVirtTx x) k p at = virt_post x.ends k p at
 
 pub post_end : (x : Actor) (k : ℕ) (p : Post) → slice_get (actor_round x).posts k ≡ Some p → ActorEnd x (waiting_role p.side) p.queue
 post_end x k p at = (post_stands x k p at).0
@@ -97,6 +99,7 @@ end_post (Kinds.NetClient x) Forward n (inl h) = (0, intake_post x.frames.pipe.i
 end_post (Kinds.NetClient x) Forward n (inr h) = (2, intake_post x.sent, refl, sym h, refl)
 end_post (Kinds.NetClient x) Backward n (inl h) = (1, outlet_post x.frames.pipe.output, refl, sym h, refl)
 end_post (Kinds.NetClient x) Backward n (inr h) = (3, outlet_post x.send, refl, sym h, refl)
+end_post (Kinds.NetVirtTx x) s n h = virt_has x.ends s n h
 
 -- each end has its need
 sizes : (x : Actor) → length (actor_round x).needs ≡ length (actor_round x).posts
@@ -110,6 +113,7 @@ sizes (Kinds.EthDriver x) = pipes_size (four_pipes x.driver.pipes)
 sizes (Kinds.NetVirtRx x) = virt_size x.ends (is_idle x.work) (is_some x.work.stock.next) (λ k. is_idle x.work) (λ k. slice_index_or x.work.owed k false)
 sizes (Kinds.NetCopier x) = refl
 sizes (Kinds.NetClient x) = refl
+sizes (Kinds.NetVirtTx x) = virt_size x.ends (is_free x.work) (owes x.work) (needs_at x.work) (loaded_at x.work)
 
 some_ends : (x : Actor) → 0 < length (actor_round x).posts
 some_ends (Kinds.UartDevice x) = omega arith
@@ -122,6 +126,7 @@ some_ends (Kinds.EthDriver x) = omega arith
 some_ends (Kinds.NetVirtRx x) = omega arith
 some_ends (Kinds.NetCopier x) = omega arith
 some_ends (Kinds.NetClient x) = omega arith
+some_ends (Kinds.NetVirtTx x) = omega arith
 
 abbrev Apart : Actor → Type 0
 Apart x = (k j : ℕ) (p q : Post) → slice_get (actor_round x).posts k ≡ Some p → slice_get (actor_round x).posts j ≡ Some q → p.queue ≡ q.queue → k ≡ j
@@ -200,6 +205,7 @@ apart_posts (Kinds.EthDriver x) h d k j p q a b e = pipes_apart (four_pipes x.dr
 apart_posts (Kinds.NetVirtRx x) h d k j p q a b e = virt_apart x.ends h d k j p q a b e
 apart_posts (Kinds.NetCopier x) h d k j p q a b e = four_apart (intake_post x.lease_input) (intake_post x.buffer_input) (outlet_post x.buffer_output) (outlet_post x.lease_output) h.0 (λ e. d x.lease_input.queue.0 (inl refl) (inl e)) (λ e. d x.lease_input.queue.0 (inl refl) (inr e)) (λ e. d x.buffer_input.queue.0 (inr refl) (inl e)) (λ e. d x.buffer_input.queue.0 (inr refl) (inr e)) h.1 k j p q a b e
 apart_posts (Kinds.NetClient x) h d k j p q a b e = four_apart (intake_post x.frames.pipe.input) (outlet_post x.frames.pipe.output) (intake_post x.sent) (outlet_post x.send) (λ e. d (client.rx_active x) (inl refl) (inl e)) h.0 (λ e. d (client.rx_active x) (inl refl) (inr e)) (λ e. d (client.tx_free x) (inr refl) (inl (sym e))) h.1 (λ e. d (client.tx_free x) (inr refl) (inr e)) k j p q a b e
+apart_posts (Kinds.NetVirtTx x) h d k j p q a b e = virt_apart x.ends h d k j p q a b e
 
 pub start_round : (x : Actor) → HasApartEnds x → HasNoLoop x → IsRound (actor_round x)
 start_round x h d = record { some = some_ends x; needs = sizes x; apart = apart_posts x h d }

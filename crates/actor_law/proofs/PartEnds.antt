@@ -2,7 +2,7 @@ use Rattle.std.proofs.Common.{◌≡◌, ◌⊎◌, ℕ, Some, List, [], ◌∷�
 use Rattle.wire_core.specs.declared.names.QueueId.{QueueId}
 use Rattle.turn_kit.specs.ManyEnds.{intake_queues, outlet_queues}
 use Rattle.wire_core.specs.Ends.{Role, Consumer, Producer}
-use Rattle.actor_set.specs.Parts.{Part, UartPart, DriverPart, RxPart, TxPart, ClientPart, NetworkPart}
+use Rattle.actor_set.specs.Parts.{Part, UartPart, DriverPart, RxPart, TxPart, ClientPart, NetworkPart, SendingPart}
 use Rattle.eth_driver.specs.Four.{four_pipes}
 use Rattle.eth_device.specs.Devices as device
 use Rattle.net_client.specs.Clients as client
@@ -13,8 +13,10 @@ use Rattle.play_core.specs.Moved.{Seat}
 use Rattle.play_core.specs.Wants.{intake, outlet}
 use Rattle.play_core.specs.Sheets.{Scene}
 use Rattle.play_core.proofs.Lists.{some_is, map_get, map_from}
+use Rattle.net_tx_parts.specs.Table.{send_sheet}
 use Rattle.actor_law.specs.Kinds.{sheet}
 use Rattle.actor_law.proofs.NetEnds.{IsThere, ends_of, ends_same, turns_to, turns_from, twos_to, twos_from, pipes_to, pipes_from, receiver_to, receiver_from}
+use Rattle.actor_law.proofs.TxEnds.{sender_to, sender_from}
 
 -- one of a part's ends
 abbrev pub PartEnd : Part → Role → ℕ → Type 0
@@ -29,6 +31,7 @@ PartEnd (TxPart tx clients) Producer n = n ≡ tx
 PartEnd (ClientPart rx tx script) Consumer n = n ≡ rx
 PartEnd (ClientPart rx tx script) Producer n = n ≡ tx
 PartEnd (NetworkPart p) r n = IsThere (ends_of p) r n
+PartEnd (SendingPart p) r n = IsThere (send_sheet p).ends r n
 
 pub number_there : (qs : List QueueId) (k : ℕ) (q : QueueId) (n : ℕ) → slice_get qs k ≡ Some q → n ≡ q.0 → slice_get (numbers qs) k ≡ Some n
 number_there [] k q n h e = cc
@@ -64,6 +67,7 @@ to_part (Kinds.NetCopier x) Consumer n whole h = twos_to x.lease_input.queue.0 x
 to_part (Kinds.NetCopier x) Producer n whole h = twos_to x.lease_input.queue.0 x.buffer_input.queue.0 x.buffer_output.queue.0 x.lease_output.queue.0 Producer n h
 to_part (Kinds.NetClient x) Consumer n whole h = turns_to (client.rx_active x) (client.rx_free x) (client.tx_free x) (client.tx_active x) Consumer n h
 to_part (Kinds.NetClient x) Producer n whole h = turns_to (client.rx_active x) (client.rx_free x) (client.tx_free x) (client.tx_active x) Producer n h
+to_part (Kinds.NetVirtTx x) r n whole h = sender_to x whole.from_each whole.to_each r n h
 
 pub from_part : (x : Actor) (r : Role) (n : ℕ) → PartEnd (part_of x) r n → ActorEnd x r n
 from_part (Kinds.UartDevice x) Consumer n h = h
@@ -86,6 +90,7 @@ from_part (Kinds.NetCopier x) Consumer n h = twos_from x.lease_input.queue.0 x.b
 from_part (Kinds.NetCopier x) Producer n h = twos_from x.lease_input.queue.0 x.buffer_input.queue.0 x.buffer_output.queue.0 x.lease_output.queue.0 Producer n h.0 h.1
 from_part (Kinds.NetClient x) Consumer n h = turns_from (client.rx_active x) (client.rx_free x) (client.tx_free x) (client.tx_active x) Consumer n h.0 h.1
 from_part (Kinds.NetClient x) Producer n h = turns_from (client.rx_active x) (client.rx_free x) (client.tx_free x) (client.tx_active x) Producer n h.0 h.1
+from_part (Kinds.NetVirtTx x) r n h = sender_from x r n h.0 h.1
 
 pub same_part : (x y : Actor) (r : Role) (n : ℕ) → part_of y ≡ part_of x → IsWhole y → ActorEnd y r n → ActorEnd x r n
 same_part x y r n e whole h = from_part x r n (subst (λ p. PartEnd p r n) e (to_part y r n whole h))
@@ -105,6 +110,7 @@ end_seat scene (TxPart tx clients) Producer n e = (0, ap (λ m. Some (outlet m))
 end_seat scene (ClientPart rx tx script) Consumer n e = (0, ap (λ m. Some (intake m)) (sym e))
 end_seat scene (ClientPart rx tx script) Producer n e = (1, ap (λ m. Some (outlet m)) (sym e))
 end_seat scene (NetworkPart p) r n e = (e.0, ap (λ l. slice_get l e.0) (ends_same scene p) ∙ e.1)
+end_seat scene (SendingPart p) r n e = e
 
 as_end : (p : Part) (a b : Seat) → a ≡ b → PartEnd p a.role a.queue → PartEnd p b.role b.queue
 as_end p a b e h = subst (λ (x : Seat). PartEnd p x.role x.queue) e h
@@ -126,3 +132,4 @@ seat_end scene (ClientPart rx tx script) zero x at = as_end (ClientPart rx tx sc
 seat_end scene (ClientPart rx tx script) (suc zero) x at = as_end (ClientPart rx tx script) (outlet tx) x (some_is at) refl
 seat_end scene (ClientPart rx tx script) (suc (suc i)) x at = cc
 seat_end scene (NetworkPart p) i x at = (i, ap (λ l. slice_get l i) (sym (ends_same scene p)) ∙ at)
+seat_end scene (SendingPart p) i x at = (i, at)

@@ -17,6 +17,7 @@ rests_is (Kinds.EthDriver x) = refl
 rests_is (Kinds.NetVirtRx x) = refl
 rests_is (Kinds.NetCopier x) = refl
 rests_is (Kinds.NetClient x) = refl
+rests_is (Kinds.NetVirtTx x) = refl
 
 -- and take their ends in turn
 pub turned_is : (x y : Actor) (e : Event) → ActorTurned x e y → Turned (actor_round x) e (actor_round y)
@@ -30,3 +31,4 @@ turned_is (Kinds.EthDriver x) y e t = t
 turned_is (Kinds.NetVirtRx x) y e t = t
 turned_is (Kinds.NetCopier x) y e t = t
 turned_is (Kinds.NetClient x) y e t = t
+turned_is (Kinds.NetVirtTx x) y e t = t

@@ -29,11 +29,15 @@ use Rattle.play_core.specs.Sheets.{Scene}
 use Rattle.eth_driver.specs.Four.{four_pipes}
 use Rattle.net_copier.proofs.Holding.{row_of as copier_row_of}
 use Rattle.net_virt_rx.proofs.Rounds.{row_of as receiver_row_of}
+use Rattle.net_virt_tx.proofs.Rounds.{row_of as sender_row_of}
 use Rattle.net_parts.specs.Table.{net_sheet}
 use Rattle.net_parts.specs.Playing.{device_part, driver_part, receiver_part, copier_part, client_part}
 use Rattle.net_client.proofs.Standing.{row_of}
 use Rattle.net_parts.proofs.Items.{device_row, driver_row, copier_row, client_row}
 use Rattle.net_parts.proofs.Leasing.{receiver_row}
+use Rattle.net_tx_parts.specs.Table.{send_sheet}
+use Rattle.net_tx_parts.specs.Playing.{send_part}
+use Rattle.net_tx_parts.proofs.Items.{send_row}
 use Rattle.actor_law.specs.Kinds.{sheet}
 use Rattle.actor_law.specs.Turning.{InTurn}
 use Rattle.actor_law.proofs.NetRows.{device_row_of, pipes_row_of, items_at}
@@ -109,6 +113,7 @@ module _ (scene : Scene) (passed : Passed) (items : Moved) (h : HaveItems passed
   actor_row (Kinds.NetVirtRx x) turn f = let row = receiver_row_of x passed f in receiver_row scene x passed items turn.size (items_at (net_sheet scene (receiver_part x)).ends passed items h) turn.takes row (turn.in_turn row)
   actor_row (Kinds.NetCopier x) turn f = copier_row scene x passed items (items_at (net_sheet scene (copier_part x)).ends passed items h) turn (copier_row_of x passed f)
   actor_row (Kinds.NetClient x) turn f = client_row scene x passed items turn.0 turn.1 (items_at (net_sheet scene (client_part x)).ends passed items h) (row_of x passed f)
+  actor_row (Kinds.NetVirtTx x) turn f = let row = sender_row_of x passed f in send_row x passed items (items_at (send_sheet (send_part x)).ends passed items h) turn.good row (turn.in_turn row)
 
 module _ (passed : Passed) (items : Moved) (h : HaveItems passed items) where
   -- what it recorded is what the items say of its part
@@ -123,6 +128,7 @@ module _ (passed : Passed) (items : Moved) (h : HaveItems passed items) where
   heard_here (Kinds.NetVirtRx x) st = refl
   heard_here (Kinds.NetCopier x) st = refl
   heard_here (Kinds.NetClient x) st = refl
+  heard_here (Kinds.NetVirtTx x) st = refl
 
 -- the frames that it recorded are those of the entries that it took
 pub frames_here : (passed : Passed) (x : Actor) → ActorStandsFor x passed → frames_got x ≡ frames_by passed (part_of x)
@@ -136,3 +142,4 @@ frames_here passed (Kinds.EthDriver x) st = refl
 frames_here passed (Kinds.NetVirtRx x) st = refl
 frames_here passed (Kinds.NetCopier x) st = refl
 frames_here passed (Kinds.NetClient x) st = st.got
+frames_here passed (Kinds.NetVirtTx x) st = refl

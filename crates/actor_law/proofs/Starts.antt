@@ -34,9 +34,10 @@ use Rattle.actor_set.specs.Actors.{FitsActor, ActorStandsFor, ActorEnd, IsWhole,
 use Rattle.actor_law.specs.Kinds.{sheet}
 use Rattle.actor_set.specs.declared.actor.Actor.{Actor}
 use Rattle.actor_set.specs.declared.actor.Actor.TheVariants as Kinds
-use Rattle.actor_law.specs.StartStates.{IsNew, HasApartEnds, HasSeat, kind_at}
+use Rattle.actor_set.specs.StartStates.{IsNew, HasApartEnds, HasSeat, kind_at}
 use Rattle.eth_driver.specs.Four.{four_pipes}
 use Rattle.actor_law.proofs.NetStarts.{Seated, new_pipes_fit, new_device_fits, new_copier_fits, new_client_fits, new_receiver_fits, new_receiver_whole, new_client_few, new_copier_work, new_pipes_stand, new_device_stands, new_copier_stands, new_client_stands, new_receiver_hand, new_client_hand}
+use Rattle.actor_law.proofs.TxStarts.{new_sender_fits, new_sender_whole, new_sender_hand}
 use Rattle.play_core.proofs.Lists.{there_below, some_is, map_get, map_from}
 
 abbrev start_end : QueueKind → Role → End
@@ -156,6 +157,7 @@ module _ (rows : List QueueRow) (k : ℕ) where
   new_fits (Kinds.NetVirtRx x) new apart seats = (new_receiver_fits ends x new (new_receiver_whole x new) apart (net_seats (ActorEnd (Kinds.NetVirtRx x)) seats), new.size)
   new_fits (Kinds.NetCopier x) new apart seats = new_copier_fits ends x new apart.0 apart.1 (new_copier_work x new) (net_seats (ActorEnd (Kinds.NetCopier x)) seats)
   new_fits (Kinds.NetClient x) new apart seats = (new_client_fits ends x new (new_client_few x new) apart.0 apart.1 (net_seats (ActorEnd (Kinds.NetClient x)) seats), record { base = new.new.base; size = new.size; spare_base = new.new.outbox.base; spare_size = new.spare_size })
+  new_fits (Kinds.NetVirtTx x) new apart seats = new_sender_fits ends x new (new_sender_whole x new) apart (net_seats (ActorEnd (Kinds.NetVirtTx x)) seats)
 
 terminal_stands : (t : Terminal) → IsNewTerminal t.input.queue t.output.queue t.script t → TerminalStandsFor t nothing_passed
 terminal_stands t new = record { sent_is = rw new.next refl; record_is = new.recorded }
@@ -188,6 +190,7 @@ new_stands (Kinds.EthDriver x) new = new_pipes_stand (four_pipes x.driver.pipes)
 new_stands (Kinds.NetVirtRx x) new = new.stands
 new_stands (Kinds.NetCopier x) new = new_copier_stands x new
 new_stands (Kinds.NetClient x) new = new_client_stands x new
+new_stands (Kinds.NetVirtTx x) new = new.stands
 
 -- what it keeps fits together
 pub new_whole : (x : Actor) → IsNew x → IsWhole x
@@ -201,6 +204,7 @@ new_whole (Kinds.EthDriver x) new = tt
 new_whole (Kinds.NetVirtRx x) new = new_receiver_whole x new
 new_whole (Kinds.NetCopier x) new = tt
 new_whole (Kinds.NetClient x) new = new_client_few x new
+new_whole (Kinds.NetVirtTx x) new = new_sender_whole x new
 
 -- and what fits its ends does
 pub fits_whole : (ends : Role → ℕ → End) (x : Actor) → FitsActor ends x → IsWhole x
@@ -214,6 +218,7 @@ fits_whole ends (Kinds.EthDriver x) f = tt
 fits_whole ends (Kinds.NetVirtRx x) f = record { work = f.0.work; from_each = f.0.from_each; to_each = f.0.to_each }
 fits_whole ends (Kinds.NetCopier x) f = tt
 fits_whole ends (Kinds.NetClient x) f = f.0.few
+fits_whole ends (Kinds.NetVirtTx x) f = record { work = f.work; from_each = f.from_each; to_each = f.to_each }
 
 -- its hand is the start hand of its sheet
 pub new_hand : (scene : Scene) (x : Actor) → IsNew x → (pool : PoolId) → buffers_of pool (actor_hand x) ≡ length ((sheet scene (part_of x)).hand pool.0)
@@ -227,3 +232,4 @@ new_hand scene (Kinds.EthDriver x) new pool = rw (new.0.load, new.1.0.load, new.
 new_hand scene (Kinds.NetVirtRx x) new pool = new_receiver_hand scene x new pool
 new_hand scene (Kinds.NetCopier x) new pool = rw (new.lease, new.buffer) refl
 new_hand scene (Kinds.NetClient x) new pool = new_client_hand scene x new pool
+new_hand scene (Kinds.NetVirtTx x) new pool = new_sender_hand x new pool

@@ -9,7 +9,8 @@ use Rattle.serial_law.specs.Parts.{SerialPart, SerialDevice, SerialDriver, Seria
 use Rattle.serial_law.specs.Table.{serial_sheet}
 use Rattle.net_parts.specs.Parts.{NetPart, NetDevice, NetDriver, NetReceiver, NetCopier, NetClient}
 use Rattle.net_parts.specs.Table.{net_sheet}
-use Rattle.actor_set.specs.Parts.{Part, UartPart, DriverPart, RxPart, TxPart, ClientPart, NetworkPart}
+use Rattle.net_tx_parts.specs.Table.{send_sheet}
+use Rattle.actor_set.specs.Parts.{Part, UartPart, DriverPart, RxPart, TxPart, ClientPart, NetworkPart, SendingPart}
 
 -- an actor of the serial class as one of all
 abbrev pub serial_part : SerialPart → Part
@@ -35,6 +36,7 @@ frames_of (RxPart rx clients) = []
 frames_of (TxPart tx clients) = []
 frames_of (ClientPart rx tx script) = []
 frames_of (NetworkPart p) = net_frames_of p
+frames_of (SendingPart p) = []
 
 -- the image that a trace gives a part: none of these has one
 abbrev pub image_of : Part → List ℕ
@@ -44,6 +46,7 @@ image_of (RxPart rx clients) = []
 image_of (TxPart tx clients) = []
 image_of (ClientPart rx tx script) = []
 image_of (NetworkPart p) = []
+image_of (SendingPart p) = []
 
 -- what a trace gives a cast beside its parts
 abbrev pub scene_of : List Part → Scene
@@ -58,6 +61,7 @@ sheet scene (RxPart rx clients) = serial_sheet (SerialReceiver rx clients)
 sheet scene (TxPart tx clients) = serial_sheet (SerialSender tx clients)
 sheet scene (ClientPart rx tx script) = serial_sheet (SerialClient rx tx script)
 sheet scene (NetworkPart p) = net_sheet scene p
+sheet scene (SendingPart p) = send_sheet p
 
 -- how a part goes about: all of these are calm
 abbrev pub manner_of : Part → Manner
@@ -67,6 +71,7 @@ manner_of (RxPart rx clients) = Calm
 manner_of (TxPart tx clients) = Calm
 manner_of (ClientPart rx tx script) = Calm
 manner_of (NetworkPart p) = Calm
+manner_of (SendingPart p) = Calm
 
 -- how each actor of a cast goes about
 abbrev pub manners : List Part → Manners

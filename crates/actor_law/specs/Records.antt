@@ -5,7 +5,7 @@ use Rattle.play_core.specs.Moved.{Moved}
 use Rattle.serial_law.specs.Bytes.{bytes_in}
 use Rattle.net_kit.specs.Entries.{frame_of}
 use Rattle.net_parts.specs.Parts.{NetPart, NetDevice, NetDriver, NetReceiver, NetCopier, NetClient}
-use Rattle.actor_set.specs.Parts.{Part, UartPart, DriverPart, RxPart, TxPart, ClientPart, NetworkPart}
+use Rattle.actor_set.specs.Parts.{Part, UartPart, DriverPart, RxPart, TxPart, ClientPart, NetworkPart, SendingPart}
 use Rattle.actor_set.specs.declared.actor.Actor.{Actor}
 use Rattle.actor_set.specs.declared.actor.Actor.TheVariants as Kinds
 
@@ -21,6 +21,7 @@ record_of (Kinds.EthDriver x) = []
 record_of (Kinds.NetVirtRx x) = []
 record_of (Kinds.NetCopier x) = []
 record_of (Kinds.NetClient x) = []
+record_of (Kinds.NetVirtTx x) = []
 
 -- the bytes that a part recorded: a device for its line and a client for its record what they took
 abbrev pub record_by : Moved → Part → List ℕ
@@ -30,6 +31,7 @@ record_by m (DriverPart device_rx device_tx rx tx) = []
 record_by m (RxPart rx clients) = []
 record_by m (TxPart tx clients) = []
 record_by m (NetworkPart p) = []
+record_by m (SendingPart p) = []
 
 -- the frames that an actor recorded: a device what was sent on its wire, a client what it got
 abbrev pub frames_got : Actor → List (List ℕ)
@@ -43,6 +45,7 @@ frames_got (Kinds.EthDriver x) = []
 frames_got (Kinds.NetVirtRx x) = []
 frames_got (Kinds.NetCopier x) = []
 frames_got (Kinds.NetClient x) = x.frames.tape.shown
+frames_got (Kinds.NetVirtTx x) = []
 
 -- the frames that a part of the network class recorded, by the entries that it took with their
 -- bodies: a device for its wire and a client for its record the frames in them
@@ -63,3 +66,4 @@ frames_by passed (RxPart rx clients) = []
 frames_by passed (TxPart tx clients) = []
 frames_by passed (ClientPart rx tx script) = []
 frames_by passed (NetworkPart p) = net_frames_by passed p
+frames_by passed (SendingPart p) = []

@@ -1,10 +1,20 @@
 -- Where nothing came out of turn at an actor, so that what passed there is as its sheet says of
 -- items.
+use Rattle.std.specs.Prelude.{◌≡◌, []}
 use Rattle.wire_core.specs.Lists.{Passed}
 use Rattle.play_core.specs.Sheets.{Scene}
 use Rattle.net_parts.specs.Playing.{AreLeases, ReceivesInTurn, HasBuffers, AnswersInTurn}
+use Rattle.net_virt_tx.specs.declared.NetVirtTx.{NetVirtTx}
+use Rattle.net_virt_tx.specs.Sending.{TxRow}
+use Rattle.net_tx_parts.specs.Playing.{TakesGood}
 use Rattle.actor_set.specs.declared.actor.Actor.{Actor}
 use Rattle.actor_set.specs.declared.actor.Actor.TheVariants as Kinds
+
+-- nothing came out of turn at a sending virtualiser of the network, and each descriptor that came is
+-- good
+pub record SendsInTurn (v : NetVirtTx) (passed : Passed) : Type 0 where
+  pub good : TakesGood v passed
+  pub in_turn : (row : TxRow v passed) → row.stray ≡ []
 
 -- nothing came out of turn at an actor: what passed there is what its sheet speaks of. Of most
 -- kinds nothing is asked
@@ -19,3 +29,4 @@ InTurn scene (Kinds.EthDriver x) passed = Unit {0}
 InTurn scene (Kinds.NetVirtRx x) passed = ReceivesInTurn scene.frames x passed
 InTurn scene (Kinds.NetCopier x) passed = AreLeases (passed.taken x.lease_input.queue.0)
 InTurn scene (Kinds.NetClient x) passed = HasBuffers x × AnswersInTurn scene.frames x
+InTurn scene (Kinds.NetVirtTx x) passed = SendsInTurn x passed

@@ -24,7 +24,7 @@ ghost use Rattle.actor_set.specs.declared.actor.Actor.{Actor};
 ghost use Rattle.actor_law.specs.Kinds.{sheet};
 ghost use Rattle.actor_law.specs.Records.{record_of, record_by, frames_got, frames_by};
 ghost use Rattle.actor_law.specs.Turning.{InTurn};
-ghost use Rattle.actor_law.specs.StartStates.{IsNew, HasApartEnds, HasNoLoop, HasSeat, kind_at};
+ghost use Rattle.actor_set.specs.StartStates.{IsNew, HasApartEnds, HasNoLoop, HasSeat, kind_at};
 ghost use Rattle.rest_law.specs.Showing.{HaveItems, HaveBells};
 
 /// An actor of any kind, beside its sheet. Where it stands for its lists and nothing came out of

@@ -21,6 +21,8 @@ use Rattle.net_copier.specs.Copying.{CopierStandsFor, CopierRow, CopierBalances}
 use Rattle.net_copier.specs.declared.NetCopier.{NetCopier}
 use Rattle.net_client.specs.Clients.{ClientStandsFor, ClientRow, ClientBalances}
 use Rattle.net_client.specs.declared.NetClient.{NetClient}
+use Rattle.net_virt_tx.specs.Sending.{TxStandsFor as NetTxStandsFor, TxRow as NetTxRow, TxBalances as NetTxBalances}
+use Rattle.net_virt_tx.specs.declared.NetVirtTx.{NetVirtTx}
 use Rattle.actor_set.specs.Actors.{ActorStandsFor, ActorRow, ActorBalances}
 use Rattle.actor_set.specs.declared.actor.Actor.{Actor}
 use Rattle.actor_set.specs.declared.actor.Actor.TheVariants as Kinds
@@ -35,30 +37,32 @@ ok_actor S did w v old new a a' (Err m) was is st = st
 
 -- the row of each kind is that of an actor
 pub rows : ((x : Terminal) (p : Passed) → TerminalStandsFor x p → TerminalRow x p) → ((ps : List Pipe) (p : Passed) → PipesStandFor ps p → PipesRow ps p) → ((x : SerialVirtRx) (p : Passed) → RxStandsFor x p → RxRow x p) → ((x : SerialVirtTx) (p : Passed) → TxStandsFor x p → TxRow x p)
-    → ((x : EthDevice) (p : Passed) → DeviceStandsFor x p → DeviceRow x p) → ((x : NetVirtRx) (p : Passed) → NetRxStandsFor x p → NetRxRow x p) → ((x : NetCopier) (p : Passed) → CopierStandsFor x p → CopierRow x p) → ((x : NetClient) (p : Passed) → ClientStandsFor x p → ClientRow x p)
+    → ((x : EthDevice) (p : Passed) → DeviceStandsFor x p → DeviceRow x p) → ((x : NetVirtRx) (p : Passed) → NetRxStandsFor x p → NetRxRow x p) → ((x : NetCopier) (p : Passed) → CopierStandsFor x p → CopierRow x p) → ((x : NetClient) (p : Passed) → ClientStandsFor x p → ClientRow x p) → ((x : NetVirtTx) (p : Passed) → NetTxStandsFor x p → NetTxRow x p)
     → (a : Actor) (p : Passed) → ActorStandsFor a p → ActorRow a p
-rows terminal driver rx tx device lender copier client (Kinds.UartDevice x) p h = terminal x.terminal p h
-rows terminal driver rx tx device lender copier client (Kinds.UartDriver x) p h = driver (two_pipes x.driver.pipes) p h
-rows terminal driver rx tx device lender copier client (Kinds.SerialVirtRx x) p h = rx x p h
-rows terminal driver rx tx device lender copier client (Kinds.SerialVirtTx x) p h = tx x p h
-rows terminal driver rx tx device lender copier client (Kinds.SerialClient x) p h = terminal x.terminal p h
-rows terminal driver rx tx device lender copier client (Kinds.EthDevice x) p h = device x p h
-rows terminal driver rx tx device lender copier client (Kinds.EthDriver x) p h = driver (four_pipes x.driver.pipes) p h
-rows terminal driver rx tx device lender copier client (Kinds.NetVirtRx x) p h = lender x p h
-rows terminal driver rx tx device lender copier client (Kinds.NetCopier x) p h = copier x p h
-rows terminal driver rx tx device lender copier client (Kinds.NetClient x) p h = client x p h
+rows terminal driver rx tx device lender copier client sender (Kinds.UartDevice x) p h = terminal x.terminal p h
+rows terminal driver rx tx device lender copier client sender (Kinds.UartDriver x) p h = driver (two_pipes x.driver.pipes) p h
+rows terminal driver rx tx device lender copier client sender (Kinds.SerialVirtRx x) p h = rx x p h
+rows terminal driver rx tx device lender copier client sender (Kinds.SerialVirtTx x) p h = tx x p h
+rows terminal driver rx tx device lender copier client sender (Kinds.SerialClient x) p h = terminal x.terminal p h
+rows terminal driver rx tx device lender copier client sender (Kinds.EthDevice x) p h = device x p h
+rows terminal driver rx tx device lender copier client sender (Kinds.EthDriver x) p h = driver (four_pipes x.driver.pipes) p h
+rows terminal driver rx tx device lender copier client sender (Kinds.NetVirtRx x) p h = lender x p h
+rows terminal driver rx tx device lender copier client sender (Kinds.NetCopier x) p h = copier x p h
+rows terminal driver rx tx device lender copier client sender (Kinds.NetClient x) p h = client x p h
+rows terminal driver rx tx device lender copier client sender (Kinds.NetVirtTx x) p h = sender x p h
 
 -- and so is its balance
 pub balances : ((x : Terminal) (p : Passed) → TerminalStandsFor x p → TerminalBalances x p) → ((ps : List Pipe) (p : Passed) → PipesStandFor ps p → PipesBalance ps p) → ((x : SerialVirtRx) (p : Passed) → RxStandsFor x p → RxBalances x p) → ((x : SerialVirtTx) (p : Passed) → TxStandsFor x p → TxBalances x p)
-    → ((x : EthDevice) (p : Passed) → DeviceStandsFor x p → DeviceBalances x p) → ((x : NetVirtRx) (p : Passed) → NetRxStandsFor x p → NetRxBalances x p) → ((x : NetCopier) (p : Passed) → CopierStandsFor x p → CopierBalances x p) → ((x : NetClient) (p : Passed) → ClientStandsFor x p → ClientBalances x p)
+    → ((x : EthDevice) (p : Passed) → DeviceStandsFor x p → DeviceBalances x p) → ((x : NetVirtRx) (p : Passed) → NetRxStandsFor x p → NetRxBalances x p) → ((x : NetCopier) (p : Passed) → CopierStandsFor x p → CopierBalances x p) → ((x : NetClient) (p : Passed) → ClientStandsFor x p → ClientBalances x p) → ((x : NetVirtTx) (p : Passed) → NetTxStandsFor x p → NetTxBalances x p)
     → (a : Actor) (p : Passed) → ActorStandsFor a p → ActorBalances a p
-balances terminal driver rx tx device lender copier client (Kinds.UartDevice x) p h = terminal x.terminal p h
-balances terminal driver rx tx device lender copier client (Kinds.UartDriver x) p h = driver (two_pipes x.driver.pipes) p h
-balances terminal driver rx tx device lender copier client (Kinds.SerialVirtRx x) p h = rx x p h
-balances terminal driver rx tx device lender copier client (Kinds.SerialVirtTx x) p h = tx x p h
-balances terminal driver rx tx device lender copier client (Kinds.SerialClient x) p h = terminal x.terminal p h
-balances terminal driver rx tx device lender copier client (Kinds.EthDevice x) p h = device x p h
-balances terminal driver rx tx device lender copier client (Kinds.EthDriver x) p h = driver (four_pipes x.driver.pipes) p h
-balances terminal driver rx tx device lender copier client (Kinds.NetVirtRx x) p h = lender x p h
-balances terminal driver rx tx device lender copier client (Kinds.NetCopier x) p h = copier x p h
-balances terminal driver rx tx device lender copier client (Kinds.NetClient x) p h = client x p h
+balances terminal driver rx tx device lender copier client sender (Kinds.UartDevice x) p h = terminal x.terminal p h
+balances terminal driver rx tx device lender copier client sender (Kinds.UartDriver x) p h = driver (two_pipes x.driver.pipes) p h
+balances terminal driver rx tx device lender copier client sender (Kinds.SerialVirtRx x) p h = rx x p h
+balances terminal driver rx tx device lender copier client sender (Kinds.SerialVirtTx x) p h = tx x p h
+balances terminal driver rx tx device lender copier client sender (Kinds.SerialClient x) p h = terminal x.terminal p h
+balances terminal driver rx tx device lender copier client sender (Kinds.EthDevice x) p h = device x p h
+balances terminal driver rx tx device lender copier client sender (Kinds.EthDriver x) p h = driver (four_pipes x.driver.pipes) p h
+balances terminal driver rx tx device lender copier client sender (Kinds.NetVirtRx x) p h = lender x p h
+balances terminal driver rx tx device lender copier client sender (Kinds.NetCopier x) p h = copier x p h
+balances terminal driver rx tx device lender copier client sender (Kinds.NetClient x) p h = client x p h
+balances terminal driver rx tx device lender copier client sender (Kinds.NetVirtTx x) p h = sender x p h

@@ -1,5 +1,5 @@
 -- What is said of an actor of any kind: one case for each kind.
-use Rattle.std.specs.Prelude.{◌≡◌, ◌+◌, ◌-◌, ◌<◌, ◌^◌, ℕ, Bool, List, length, map}
+use Rattle.std.specs.Prelude.{◌≡◌, ◌+◌, ◌-◌, ◌<◌, ◌^◌, ◌==◌, if◌then◌else◌, ℕ, Bool, List, length, map}
 use Rattle.cargo_core.specs.declared.item.Body.{Body}
 use Rattle.wire_core.specs.Lists.{Passed}
 use Rattle.wire_core.specs.Ends.{Role, End}
@@ -15,13 +15,17 @@ use Rattle.pipe_driver.specs.Lengths.{two_pipes}
 use Rattle.eth_driver.specs.Four.{four_pipes}
 use Rattle.eth_device.specs.Devices.{FitsDevice, DeviceStandsFor, DeviceRow, DeviceBalances, DeviceEnd, device_round, device_hand, device_forgotten}
 use Rattle.net_virt_rx.specs.Receiving.{FitsRx as FitsNetRx, RxStandsFor as NetRxStandsFor, RxRow as NetRxRow, RxBalances as NetRxBalances, RxEnd as NetRxEnd, RxForgot as NetRxForgot, rx_round as net_rx_round}
-use Rattle.net_virt_rx.specs.Sharing.{IsSharer, sharer_hand}
+use Rattle.net_virt_rx.specs.Sharing.{IsSharer, lent_many, sharer_hand}
 use Rattle.net_virt_rx.specs.declared.NetVirtRx.{NetVirtRx}
+use Rattle.net_virt_tx.specs.Sending.{FitsTx as FitsNetTx, TxStandsFor as NetTxStandsFor, TxRow as NetTxRow, TxBalances as NetTxBalances, TxEnd as NetTxEnd, TxForgot as NetTxForgot, tx_round as net_tx_round}
+use Rattle.net_virt_tx.specs.Traffics.{IsTraffic, bad_count, traffic_hand}
+use Rattle.net_virt_tx.specs.declared.NetVirtTx.{NetVirtTx}
 use Rattle.net_kit.specs.Virtualising.{from_queues, to_queues}
 use Rattle.net_copier.specs.Copying.{FitsCopier, CopierStandsFor, CopierRow, CopierBalances, CopierEnd, copier_round, copier_hand, copier_forgotten}
 use Rattle.net_client.specs.Clients.{FitsClient, ClientStandsFor, ClientRow, ClientBalances, ClientEnd, client_round, client_hand, client_forgotten}
 use Rattle.net_parts.specs.Playing.{HasBuffers, device_part, driver_part, receiver_part, copier_part, client_part}
-use Rattle.actor_set.specs.Parts.{Part, UartPart, DriverPart, RxPart, TxPart, ClientPart, NetworkPart}
+use Rattle.net_tx_parts.specs.Playing.{send_part}
+use Rattle.actor_set.specs.Parts.{Part, UartPart, DriverPart, RxPart, TxPart, ClientPart, NetworkPart, SendingPart}
 use Rattle.actor_set.specs.declared.actor.Actor.{Actor}
 use Rattle.actor_set.specs.declared.actor.Actor.TheVariants as Kinds
 
@@ -37,6 +41,7 @@ FitsActor ends (Kinds.EthDriver x) = FitsPipes ends (four_pipes x.driver.pipes)
 FitsActor ends (Kinds.NetVirtRx x) = FitsNetRx ends x × (x.work.stock.size ≡ 2048)
 FitsActor ends (Kinds.NetCopier x) = FitsCopier ends x
 FitsActor ends (Kinds.NetClient x) = FitsClient ends x × HasBuffers x
+FitsActor ends (Kinds.NetVirtTx x) = FitsNetTx ends x
 
 -- what it keeps, by what it took and what it put
 abbrev pub ActorStandsFor : Actor → Passed → Type 0
@@ -50,6 +55,7 @@ ActorStandsFor (Kinds.EthDriver x) passed = PipesStandFor (four_pipes x.driver.p
 ActorStandsFor (Kinds.NetVirtRx x) passed = NetRxStandsFor x passed
 ActorStandsFor (Kinds.NetCopier x) passed = CopierStandsFor x passed
 ActorStandsFor (Kinds.NetClient x) passed = ClientStandsFor x passed
+ActorStandsFor (Kinds.NetVirtTx x) passed = NetTxStandsFor x passed
 
 -- what it may have put and recorded, for what it took
 abbrev pub ActorRow : Actor → Passed → Type 0
@@ -63,6 +69,7 @@ ActorRow (Kinds.EthDriver x) passed = PipesRow (four_pipes x.driver.pipes) passe
 ActorRow (Kinds.NetVirtRx x) passed = NetRxRow x passed
 ActorRow (Kinds.NetCopier x) passed = CopierRow x passed
 ActorRow (Kinds.NetClient x) passed = ClientRow x passed
+ActorRow (Kinds.NetVirtTx x) passed = NetTxRow x passed
 
 -- what it had at the start and what came is what went, what is in its hand, and what it keeps for
 -- good or lends
@@ -77,6 +84,7 @@ ActorBalances (Kinds.EthDriver x) passed = PipesBalance (four_pipes x.driver.pip
 ActorBalances (Kinds.NetVirtRx x) passed = NetRxBalances x passed
 ActorBalances (Kinds.NetCopier x) passed = CopierBalances x passed
 ActorBalances (Kinds.NetClient x) passed = ClientBalances x passed
+ActorBalances (Kinds.NetVirtTx x) passed = NetTxBalances x passed
 
 -- one of its ends
 abbrev pub ActorEnd : Actor → Role → ℕ → Type 0
@@ -90,12 +98,19 @@ ActorEnd (Kinds.EthDriver x) r n = PipesEnd (four_pipes x.driver.pipes) r n
 ActorEnd (Kinds.NetVirtRx x) r n = NetRxEnd x r n
 ActorEnd (Kinds.NetCopier x) r n = CopierEnd x r n
 ActorEnd (Kinds.NetClient x) r n = ClientEnd x r n
+ActorEnd (Kinds.NetVirtTx x) r n = NetTxEnd x r n
 
 -- what a receiving virtualiser keeps fits together: it has one queue each way for each client
 pub record IsWholeReceiver (v : NetVirtRx) : Type 0 where
   pub work : IsSharer v.work
   pub from_each : length (from_queues v.ends) ≡ length v.work.macs.items
   pub to_each : length (to_queues v.ends) ≡ length v.work.macs.items
+
+-- what a sending virtualiser keeps fits together: it has one queue each way for each client
+pub record IsWholeSender (v : NetVirtTx) : Type 0 where
+  pub work : IsTraffic v.work
+  pub from_each : length (from_queues v.ends) ≡ length v.work.clients.items
+  pub to_each : length (to_queues v.ends) ≡ length v.work.clients.items
 
 -- what it keeps fits together, so that its ends can be told and its buffers counted
 abbrev pub IsWhole : Actor → Type 0
@@ -110,6 +125,7 @@ IsWhole (Kinds.NetVirtRx x) = IsWholeReceiver x
 IsWhole (Kinds.NetCopier x) = Unit {0}
 IsWhole (Kinds.NetClient x) =
     length x.stock.rest.items + length x.outbox.stock.rest.items < 2 ^ 32 - 4
+IsWhole (Kinds.NetVirtTx x) = IsWholeSender x
 
 -- its ends, and which of them it needs
 abbrev pub actor_round : Actor → Round
@@ -123,6 +139,7 @@ actor_round (Kinds.EthDriver x) = pipes_round (four_pipes x.driver.pipes) x.driv
 actor_round (Kinds.NetVirtRx x) = net_rx_round x
 actor_round (Kinds.NetCopier x) = copier_round x
 actor_round (Kinds.NetClient x) = client_round x
+actor_round (Kinds.NetVirtTx x) = net_tx_round x
 
 -- nothing is to be done before a notification comes: each of these kinds says it of its ends, and a
 -- kind without such ends would say it otherwise
@@ -139,6 +156,7 @@ actor_rests (Kinds.EthDriver x) = is_at_rest (pipes_round
 actor_rests (Kinds.NetVirtRx x) = is_at_rest (net_rx_round x)
 actor_rests (Kinds.NetCopier x) = is_at_rest (copier_round x)
 actor_rests (Kinds.NetClient x) = is_at_rest (client_round x)
+actor_rests (Kinds.NetVirtTx x) = is_at_rest (net_tx_round x)
 
 -- a call is its turn: each of these kinds takes its ends in turn
 abbrev pub ActorTurned : Actor → Event → Actor → Type 0
@@ -154,6 +172,7 @@ ActorTurned (Kinds.EthDriver x) e y =
 ActorTurned (Kinds.NetVirtRx x) e y = Turned (net_rx_round x) e (actor_round y)
 ActorTurned (Kinds.NetCopier x) e y = Turned (copier_round x) e (actor_round y)
 ActorTurned (Kinds.NetClient x) e y = Turned (client_round x) e (actor_round y)
+ActorTurned (Kinds.NetVirtTx x) e y = Turned (net_tx_round x) e (actor_round y)
 
 -- the bodies in its hand
 abbrev pub actor_hand : Actor → List Body
@@ -167,6 +186,7 @@ actor_hand (Kinds.EthDriver x) = pipes_hand (four_pipes x.driver.pipes)
 actor_hand (Kinds.NetVirtRx x) = sharer_hand x.work
 actor_hand (Kinds.NetCopier x) = copier_hand x
 actor_hand (Kinds.NetClient x) = client_hand x
+actor_hand (Kinds.NetVirtTx x) = traffic_hand x.work
 
 -- the numbers of queues
 abbrev pub numbers : List QueueId → List ℕ
@@ -188,6 +208,7 @@ part_of (Kinds.EthDriver x) = NetworkPart (driver_part (four_pipes x.driver.pipe
 part_of (Kinds.NetVirtRx x) = NetworkPart (receiver_part x)
 part_of (Kinds.NetCopier x) = NetworkPart (copier_part x)
 part_of (Kinds.NetClient x) = NetworkPart (client_part x)
+part_of (Kinds.NetVirtTx x) = SendingPart (send_part x)
 
 -- the length of a client's record: how many bytes, or frames
 abbrev pub record_length : Actor → ℕ
@@ -201,6 +222,38 @@ record_length (Kinds.EthDriver x) = 0
 record_length (Kinds.NetVirtRx x) = 0
 record_length (Kinds.NetCopier x) = 0
 record_length (Kinds.NetClient x) = length x.frames.tape.shown
+record_length (Kinds.NetVirtTx x) = 0
+
+-- what an actor counted as bad: a sending virtualiser of the network the descriptors that came bad
+-- from its clients, and an actor of another kind nothing
+abbrev pub bad_of : Actor → ℕ
+bad_of (Kinds.UartDevice x) = 0
+bad_of (Kinds.UartDriver x) = 0
+bad_of (Kinds.SerialVirtRx x) = 0
+bad_of (Kinds.SerialVirtTx x) = 0
+bad_of (Kinds.SerialClient x) = 0
+bad_of (Kinds.EthDevice x) = 0
+bad_of (Kinds.EthDriver x) = 0
+bad_of (Kinds.NetVirtRx x) = 0
+bad_of (Kinds.NetCopier x) = 0
+bad_of (Kinds.NetClient x) = 0
+bad_of (Kinds.NetVirtTx x) = bad_count x.work
+
+-- how many buffers of a pool an actor lent, by the pool's number: a receiving virtualiser of the
+-- network those of its own pool that are with a receiver, and an actor of another kind none
+abbrev pub actor_lent : Actor → ℕ → ℕ
+actor_lent (Kinds.UartDevice x) pool = 0
+actor_lent (Kinds.UartDriver x) pool = 0
+actor_lent (Kinds.SerialVirtRx x) pool = 0
+actor_lent (Kinds.SerialVirtTx x) pool = 0
+actor_lent (Kinds.SerialClient x) pool = 0
+actor_lent (Kinds.EthDevice x) pool = 0
+actor_lent (Kinds.EthDriver x) pool = 0
+actor_lent (Kinds.NetVirtRx x) pool =
+    if x.work.stock.pool.0 == pool then lent_many x.work.stock.buffers x.work.lent else 0
+actor_lent (Kinds.NetCopier x) pool = 0
+actor_lent (Kinds.NetClient x) pool = 0
+actor_lent (Kinds.NetVirtTx x) pool = 0
 
 -- the same actor without the last looks
 abbrev pub Forgot : Actor → Actor → Type 0
@@ -218,4 +271,5 @@ Forgot (Kinds.EthDriver x) (Kinds.EthDriver y) =
 Forgot (Kinds.NetVirtRx x) (Kinds.NetVirtRx y) = NetRxForgot x y
 Forgot (Kinds.NetCopier x) (Kinds.NetCopier y) = y ≡ copier_forgotten x
 Forgot (Kinds.NetClient x) (Kinds.NetClient y) = y ≡ client_forgotten x
+Forgot (Kinds.NetVirtTx x) (Kinds.NetVirtTx y) = NetTxForgot x y
 Forgot x y = ⊥

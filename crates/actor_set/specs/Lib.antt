@@ -1,3 +1,4 @@
 -- What the contracts of actors of all kinds say.
 pub mod Parts
 pub mod Actors
+pub mod StartStates

@@ -4,7 +4,7 @@ ghost use Rattle.std.specs.Prelude.{◌≡◌, ℕ, IfOk, OnErr};
 ghost use Rattle.wire_core.specs.Ends.{role_of, Role, End};
 ghost use Rattle.wire_core.specs.Lists.{Passed, Stepped};
 ghost use Rattle.cargo_core.specs.Bodies.{buffers_of};
-ghost use Rattle.actor_set.specs.Actors.{FitsActor, ActorStandsFor, ActorRow, ActorBalances, ActorEnd, ActorTurned, IsWhole, Forgot, actor_rests, actor_hand, part_of, record_length};
+ghost use Rattle.actor_set.specs.Actors.{FitsActor, ActorStandsFor, ActorRow, ActorBalances, ActorEnd, ActorTurned, IsWhole, Forgot, actor_rests, actor_hand, part_of, record_length, bad_of, actor_lent};
 
 use cargo_core::{Memory, PoolId};
 use client_programs::{NetClient, SerialClient};
@@ -12,6 +12,7 @@ use device_model::{EthDevice, UartDevice};
 use eth_driver::EthDriver;
 use net_copier::NetCopier;
 use net_virt_rx::NetVirtRx;
+use net_virt_tx::NetVirtTx;
 use serial_virt::{SerialVirtRx, SerialVirtTx};
 use uart_driver::UartDriver;
 use wire_core::{Event, Wires};
@@ -29,6 +30,7 @@ pub enum Actor {
     NetVirtRx(NetVirtRx),
     NetCopier(NetCopier),
     NetClient(NetClient),
+    NetVirtTx(NetVirtTx),
 }
 
 impl Actor {
@@ -48,6 +50,7 @@ impl Actor {
             Actor::NetVirtRx(virt) => virt.at_rest(),
             Actor::NetCopier(copier) => copier.at_rest(),
             Actor::NetClient(client) => client.at_rest(),
+            Actor::NetVirtTx(virt) => virt.at_rest(),
         }
     }
 
@@ -58,6 +61,17 @@ impl Actor {
         match self {
             Actor::SerialClient(client) => client.got().len() as u64,
             Actor::NetClient(client) => client.got().len() as u64,
+            _ => 0,
+        }
+    }
+
+    /// How many bad descriptors it counted: a sending virtualiser of the network those that came
+    /// from its clients, and an actor of another kind none.
+    pub fn bad(&self) -> u64
+        ensures { result ≡ bad_of self.now }
+    {
+        match self {
+            Actor::NetVirtTx(virt) => virt.bad(),
             _ => 0,
         }
     }
@@ -78,6 +92,18 @@ impl Actor {
             Actor::NetVirtRx(virt) => virt.held(pool),
             Actor::NetCopier(copier) => copier.held(pool),
             Actor::NetClient(client) => client.held(pool),
+            Actor::NetVirtTx(virt) => virt.held(pool),
+        }
+    }
+
+    /// How many buffers of a pool it lent: a receiving virtualiser of the network those of its own
+    /// pool that are with a receiver, and an actor of another kind none.
+    pub fn lent(&self, pool: PoolId) -> u32
+        ensures { result ≡ actor_lent self.now pool.0 }
+    {
+        match self {
+            Actor::NetVirtRx(virt) if virt.work.stock.pool.0 == pool.0 => virt.lent(),
+            _ => 0,
         }
     }
 
@@ -105,6 +131,7 @@ impl Actor {
             Actor::NetVirtRx(virt) => virt.step(wires),
             Actor::NetCopier(copier) => Ok(copier.step(wires)),
             Actor::NetClient(client) => client.step(wires),
+            Actor::NetVirtTx(virt) => Ok(virt.step(wires)),
         }
     }
 
@@ -129,6 +156,7 @@ impl Actor {
             Actor::NetVirtRx(virt) => virt.forget(),
             Actor::NetCopier(copier) => copier.forget(),
             Actor::NetClient(client) => client.forget(),
+            Actor::NetVirtTx(virt) => virt.forget(),
         }
     }
 }
@@ -145,6 +173,7 @@ pub fn row_law()
     net_virt_rx::row_law();
     net_copier::row_law();
     net_client::row_law();
+    net_virt_tx::row_law();
 }
 
 /// For each pool, what an actor had at the start and what came is what went, what is in its hand,
@@ -160,4 +189,5 @@ pub fn hand_law()
     net_virt_rx::hand_law();
     net_copier::hand_law();
     net_client::hand_law();
+    net_virt_tx::hand_law();
 }

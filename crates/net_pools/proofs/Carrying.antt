@@ -82,10 +82,10 @@ page_still b bytes (Carried.Page page) = by (Rattle.std.specs.Prelude.nat_le (le
     by true = refl
     by false = refl
 
-filled_page : (ws : List Window) (bytes : List ℕ) (c : Cargo) → HasPage ws c → HasPage ws (filled bytes c)
+pub filled_page : (ws : List Window) (bytes : List ℕ) (c : Cargo) → HasPage ws c → HasPage ws (filled bytes c)
 filled_page ws bytes c has b = page_still b bytes c.1 ∙ (has b ∙ sym (ap (λ a. is_named b (Rattle.std.specs.Option.option_and_then (buffer_at ws) a)) (address_still (length bytes) c.0)))
 
-filled_at : (fs : List (List ℕ)) (cs : List Cargo) (k : ℕ) (c : Cargo) → slice_get (all_filled fs cs) k ≡ Some c → (bytes : List ℕ) × (d : Cargo) × (slice_get cs k ≡ Some d) × (filled bytes d ≡ c)
+pub filled_at : (fs : List (List ℕ)) (cs : List Cargo) (k : ℕ) (c : Cargo) → slice_get (all_filled fs cs) k ≡ Some c → (bytes : List ℕ) × (d : Cargo) × (slice_get cs k ≡ Some d) × (filled bytes d ≡ c)
 filled_at [] cs k c at = cc
 filled_at (f ∷ fs) [] k c at = cc
 filled_at (f ∷ fs) (d ∷ cs) zero c at = (f, d, refl, some_is at)

@@ -16,6 +16,8 @@ ghost use Rattle.turn_kit.specs.declared.pipe.Pipe.{Pipe};
 ghost use Rattle.pipe_driver.specs.Drivers.{PipesRow, PipesBalance, pipes_hand};
 ghost use Rattle.eth_device.specs.Devices.{DeviceRow, DeviceBalances, device_hand};
 ghost use Rattle.eth_device.specs.declared.EthDevice.{EthDevice};
+ghost use Rattle.net_client.specs.Clients.{ClientRow, ClientBalances, client_hand};
+ghost use Rattle.net_client.specs.declared.NetClient.{NetClient};
 ghost use Rattle.net_copier.specs.Copying.{CopierRow, CopierBalances, copier_hand};
 ghost use Rattle.net_copier.specs.declared.NetCopier.{NetCopier};
 ghost use Rattle.net_kit.specs.Virtualising.{from_queues, to_queues};
@@ -28,7 +30,7 @@ ghost use Rattle.net_owners.specs.Ends.{AreItemsOf};
 ghost use Rattle.net_rx_owners.specs.Virtualiser.{AreNet, TakesFrames};
 ghost use Rattle.net_parts.specs.Naming.{NamesPart};
 ghost use Rattle.net_parts.specs.Numbers.{client_first, layout_naming};
-ghost use Rattle.net_parts.specs.Playing.{device_part, driver_part, copier_part, receiver_part};
+ghost use Rattle.net_parts.specs.Playing.{device_part, driver_part, copier_part, receiver_part, client_part, HasBuffers};
 ghost use Rattle.net_parts.specs.Rows.{frame_at, pool_hand};
 ghost use Rattle.net_parts.specs.Table.{net_sheet};
 ghost use Rattle.pool_law.specs.Handing.{HandsOn};
@@ -38,7 +40,8 @@ ghost use Rattle.net_pools.specs.Holders.{holder_of, no_lent, rx_lent};
 
 /// Where what it took carries the pages that are named, so does what an actor of the network put:
 /// by their rows a device and a copier fill buffers and hand them on, a driver hands them on as
-/// they came, and the receiving virtualiser puts its own buffers, and leases without a page.
+/// they came, the receiving virtualiser puts its own buffers, and leases without a page, and a client
+/// its own buffers and those that came, or came back.
 pub fn hand_on_law()
     ensures device { (naming : Naming) (scene : Scene) (d : EthDevice) (passed : Passed) (m : Moved)
         → NamesPart naming scene (device_part d) → DeviceRow d passed
@@ -53,6 +56,9 @@ pub fn hand_on_law()
         (m : Moved) → NamesPart naming scene (receiver_part v) → v.work.stock.size ≡ 2048
         → AreNet (passed.sent v.ends.output.queue.0) → RxRow v passed
         → HandsOn naming m passed (net_sheet scene (receiver_part v)).ends }
+    ensures client { (naming : Naming) (scene : Scene) (c : NetClient) (passed : Passed) (m : Moved)
+        → NamesPart naming scene (client_part c) → HasBuffers c → ClientRow c passed
+        → HandsOn naming m passed (net_sheet scene (client_part c)).ends }
 {}
 
 /// Of each pool such an actor had at the start and took what it put, has in its hand and has lent:
@@ -81,6 +87,10 @@ pub fn hold_law()
         → sizes v.work.stock.pool.0 ≡ v.work.stock.buffers
         → HoldsIts naming sizes m passed
         (holder_of (net_sheet scene (receiver_part v)) (sharer_hand v.work) (rx_lent v)) }
+    ensures client { (naming : Naming) (sizes : ℕ → ℕ) (scene : Scene) (c : NetClient)
+        (passed : Passed) (m : Moved) → NamesPart naming scene (client_part c)
+        → ClientBalances c passed → HoldsIts naming sizes m passed
+        (holder_of (net_sheet scene (client_part c)) (client_hand c) no_lent) }
 {}
 
 /// By the layout's table, where the network's queues are the first, all buffers that items name are

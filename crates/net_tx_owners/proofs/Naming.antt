@@ -6,14 +6,15 @@ use Rattle.owner_law.specs.Things.{Buffers}
 use Rattle.net_owners.specs.Names.{PoolAt, ClientPools, by_address, by_offset}
 use Rattle.net_parts.specs.Numbers.{client_first, layout_naming}
 use Rattle.net_parts.proofs.Numbering.{named_at}
+use Rattle.net_tx_parts.specs.Numbers.{shippers_from, sender_at}
 use Rattle.net_tx_parts.specs.Parts.{Shipper}
-use Rattle.net_tx_owners.specs.Shipping.{device_windows, NamesSend, shippers_from, sender_at}
+use Rattle.net_tx_owners.specs.Shipping.{device_windows, NamesSend}
 
-windows_are : (k : ℕ) (pools : List ClientPools) → map (λ (c : ClientPools). by_address c.tx) pools ≡ device_windows (shippers_from k pools)
+windows_are : (k : ℕ) (pools : List ClientPools) → map (λ (c : ClientPools). by_address c.tx) pools ≡ device_windows (shippers_from 0 k pools)
 windows_are k [] = refl
 windows_are k (c ∷ pools) = ap (λ ws. by_address c.tx ∷ ws) (windows_are (k + 1) pools)
 
-shipper_is : (from : ℕ) (pools : List ClientPools) (k : ℕ) (c : Shipper) → slice_get (shippers_from from pools) k ≡ Some c → (p : ClientPools) × (slice_get pools k ≡ Some p) × (c.active ≡ client_first 0 (from + k) + 4) × (c.free ≡ client_first 0 (from + k) + 5) × (p.tx ≡ c.pool)
+shipper_is : (from : ℕ) (pools : List ClientPools) (k : ℕ) (c : Shipper) → slice_get (shippers_from 0 from pools) k ≡ Some c → (p : ClientPools) × (slice_get pools k ≡ Some p) × (c.active ≡ client_first 0 (from + k) + 4) × (c.free ≡ client_first 0 (from + k) + 5) × (p.tx ≡ c.pool)
 shipper_is from [] k c at = cc
 shipper_is from (p ∷ pools) zero c at =
     let e = some_is at in
@@ -24,7 +25,7 @@ shipper_is from (p ∷ pools) (suc k) c at =
     let shift : client_first 0 (from + 1 + k) ≡ client_first 0 (from + suc k) = omega arith in
     (x.0, x.1, x.2 ∙ ap (λ n. n + 4) shift, x.3 ∙ ap (λ n. n + 5) shift, x.4)
 
-pub sender_named : (scene : Scene) (pool : PoolAt) (macs : List Mac) (pools : List ClientPools) → NamesSend (layout_naming scene pool macs pools) (sender_at pools)
+pub sender_named : (scene : Scene) (pool : PoolAt) (macs : List Mac) (pools : List ClientPools) → NamesSend (layout_naming scene pool macs pools) (sender_at 0 pools)
 sender_named scene pool macs pools = record {
   active = ap Buffers (windows_are 0 pools);
   free = ap Buffers (windows_are 0 pools);

@@ -1,8 +1,7 @@
 -- What items name at the sending virtualiser's queues, and how its clients' pools lie.
 use Rattle.std.specs.Prelude.{◌≡◌, ◌+◌, ◌*◌, ◌&&◌, ℕ, Bool, true, false, nat_le, nat_lt, Some, List, [], ◌∷◌, map, slice_get}
 use Rattle.owner_law.specs.Things.{Window, Buffers, Naming}
-use Rattle.net_owners.specs.Names.{PoolAt, ClientPools, by_address, by_offset}
-use Rattle.net_parts.specs.Numbers.{client_first}
+use Rattle.net_owners.specs.Names.{PoolAt, by_address, by_offset}
 use Rattle.net_tx_parts.specs.Parts.{SendPart, Shipper}
 
 -- the clients' buffers by device addresses
@@ -28,17 +27,3 @@ abbrev pub ArePoolsApart : List Shipper → Type 0
 ArePoolsApart clients = (j k : ℕ) (c d : Shipper) → slice_get clients j ≡ Some c
     → slice_get clients k ≡ Some d → (j ≡ k → ⊥) → (address : ℕ)
     → is_at c.pool address ≡ true → is_at d.pool address ≡ false
-
--- the virtualiser's clients by the layout's table, where the network's queues are the first, from a
--- number on
-abbrev pub shippers_from : (k : ℕ) → List ClientPools → List Shipper
-shippers_from k [] = []
-shippers_from k (c ∷ pools) = record {
-  active = client_first 0 k + 4;
-  free = client_first 0 k + 5;
-  pool = c.tx;
-} ∷ shippers_from (k + 1) pools
-
--- its part there
-abbrev pub sender_at : List ClientPools → SendPart
-sender_at pools = record { active = 6; free = 7; clients = shippers_from 0 pools }

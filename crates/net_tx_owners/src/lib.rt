@@ -16,13 +16,14 @@ ghost use Rattle.frame_core.specs.declared.mac.Mac.{Mac};
 ghost use Rattle.net_owners.specs.Names.{PoolAt, ClientPools};
 ghost use Rattle.net_parts.specs.Numbers.{layout_naming};
 ghost use Rattle.net_rx_owners.specs.Virtualiser.{AreNet};
+ghost use Rattle.net_tx_parts.specs.Numbers.{sender_at};
 ghost use Rattle.net_tx_parts.specs.Parts.{SendPart};
 ghost use Rattle.net_tx_parts.specs.Playing.{send_part};
 ghost use Rattle.net_tx_parts.specs.Table.{send_sheet};
 ghost use Rattle.pool_law.specs.Handing.{HandsOn};
 ghost use Rattle.pool_law.specs.Lines.{HoldsIts};
 ghost use Rattle.net_pools.specs.Holders.{holder_of, no_lent};
-ghost use Rattle.net_tx_owners.specs.Shipping.{NamesSend, ArePoolsApart, sender_at};
+ghost use Rattle.net_tx_owners.specs.Shipping.{NamesSend, ArePoolsApart};
 
 /// What is said of the virtualiser lets it put only what it took: to the driver what came from the
 /// clients, and to each client what came back in its range.
@@ -52,5 +53,5 @@ pub fn send_pool_law()
 /// queues what the owners of buffers ask.
 pub fn send_name_law()
     ensures { (scene : Scene) (pool : PoolAt) (macs : List Mac) (pools : List ClientPools)
-        → NamesSend (layout_naming scene pool macs pools) (sender_at pools) }
+        → NamesSend (layout_naming scene pool macs pools) (sender_at 0 pools) }
 {}

@@ -3,3 +3,4 @@ pub mod Parts
 pub mod Rows
 pub mod Table
 pub mod Playing
+pub mod Numbers

@@ -23,7 +23,7 @@ use Rattle.net_virt_tx.proofs.Counting.{at_append, bit_same, good_is}
 use Rattle.net_tx_parts.specs.Playing.{TakesGood}
 use Rattle.net_tx_turns.specs.Turning.{IsSendHalf}
 
-at_few : (a : ℕ) (xs ys : List Cargo) → IsPrefix xs ys → at_address a xs ≤ at_address a ys
+pub at_few : (a : ℕ) (xs ys : List Cargo) → IsPrefix xs ys → at_address a xs ≤ at_address a ys
 at_few a xs ys h =
     let all = ap (at_address a) h.1 in
     let parts = at_append a xs h.0 in
@@ -50,7 +50,7 @@ module _ (d : EthDevice) (p : Pipes (Pipes (Pipes Pipe))) (v : NetVirtTx) (passe
   output = v.ends.output.queue.0
 
   -- what comes back is a beginning of what went to the driver
-  comes_back : IsPrefix (passed.taken input) (passed.sent output)
+  pub comes_back : IsPrefix (passed.taken input) (passed.sent output)
   comes_back =
       let s = h.sending in
       let i = p.rest.rest.first.input.queue.0 in

@@ -27,6 +27,7 @@ device_actor first frames (Kinds.EthDriver x) e = absurd cc
 device_actor first frames (Kinds.NetVirtRx x) e = absurd cc
 device_actor first frames (Kinds.NetCopier x) e = absurd cc
 device_actor first frames (Kinds.NetClient x) e = absurd cc
+device_actor first frames (Kinds.NetVirtTx x) e = absurd cc
 
 pub driver_actor : (first : ℕ) (x : Actor) → part_of x ≡ NetworkPart (driver_at first) → (d : EthDriver) × (x ≡ Kinds.EthDriver d) × (driver_part (four_pipes d.driver.pipes) ≡ driver_at first)
 driver_actor first (Kinds.UartDevice x) e = absurd cc
@@ -39,6 +40,7 @@ driver_actor first (Kinds.EthDriver x) e = (x, refl, cc)
 driver_actor first (Kinds.NetVirtRx x) e = absurd cc
 driver_actor first (Kinds.NetCopier x) e = absurd cc
 driver_actor first (Kinds.NetClient x) e = absurd cc
+driver_actor first (Kinds.NetVirtTx x) e = absurd cc
 
 pub receiver_actor : (first : ℕ) (pool : PoolAt) (macs : List Mac) (x : Actor) → part_of x ≡ NetworkPart (receiver_at first pool macs) → (v : NetVirtRx) × (x ≡ Kinds.NetVirtRx v) × (receiver_part v ≡ receiver_at first pool macs)
 receiver_actor first pool macs (Kinds.UartDevice x) e = absurd cc
@@ -51,6 +53,7 @@ receiver_actor first pool macs (Kinds.EthDriver x) e = absurd cc
 receiver_actor first pool macs (Kinds.NetVirtRx x) e = (x, refl, cc)
 receiver_actor first pool macs (Kinds.NetCopier x) e = absurd cc
 receiver_actor first pool macs (Kinds.NetClient x) e = absurd cc
+receiver_actor first pool macs (Kinds.NetVirtTx x) e = absurd cc
 
 pub copier_actor : (first k : ℕ) (x : Actor) → part_of x ≡ NetworkPart (copier_at first k) → (c : NetCopier) × (x ≡ Kinds.NetCopier c) × (copier_part c ≡ copier_at first k)
 copier_actor first k (Kinds.UartDevice x) e = absurd cc
@@ -63,6 +66,7 @@ copier_actor first k (Kinds.EthDriver x) e = absurd cc
 copier_actor first k (Kinds.NetVirtRx x) e = absurd cc
 copier_actor first k (Kinds.NetCopier x) e = (x, refl, cc)
 copier_actor first k (Kinds.NetClient x) e = absurd cc
+copier_actor first k (Kinds.NetVirtTx x) e = absurd cc
 
 pub client_actor : (first k : ℕ) (program : Program) (mac : Mac) (pools : ClientPools) (x : Actor) → part_of x ≡ NetworkPart (client_at first k program mac pools) → (c : NetClient) × (x ≡ Kinds.NetClient c) × (client_part c ≡ client_at first k program mac pools)
 client_actor first k program mac pools (Kinds.UartDevice x) e = absurd cc
@@ -75,3 +79,4 @@ client_actor first k program mac pools (Kinds.EthDriver x) e = absurd cc
 client_actor first k program mac pools (Kinds.NetVirtRx x) e = absurd cc
 client_actor first k program mac pools (Kinds.NetCopier x) e = absurd cc
 client_actor first k program mac pools (Kinds.NetClient x) e = (x, refl, cc)
+client_actor first k program mac pools (Kinds.NetVirtTx x) e = absurd cc

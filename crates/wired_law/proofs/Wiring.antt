@@ -1,5 +1,5 @@
 -- A wired cast has a receive half at the layout's queues, at which nothing comes out of turn.
-use Rattle.std.proofs.Common.{◌≡◌, ◌⊎◌, ◌+◌, ◌*◌, ◌<◌, ◌≤◌, ℕ, Some, List, length, map, slice_get, inl, inr, refl, sym, ap, ◌∙◌, subst, arith}
+use Rattle.std.proofs.Common.{◌≡◌, ◌+◌, ◌<◌, ◌≤◌, ℕ, Some, List, length, map, slice_get, inl, inr, sym, ap, ◌∙◌, subst, arith}
 use Rattle.cargo_core.specs.Lists.{IsPrefix}
 use Rattle.frame_core.specs.declared.mac.Mac.{Mac}
 use Rattle.wire_core.specs.declared.names.QueueRow.{QueueRow}
@@ -17,8 +17,9 @@ use Rattle.net_client.specs.declared.NetClient.{NetClient}
 use Rattle.net_client.proofs.Standing.{row_of as client_row}
 use Rattle.net_owners.specs.Names.{PoolAt, ClientPools}
 use Rattle.net_parts.specs.Parts.{NetPart}
-use Rattle.net_parts.specs.Numbers.{device_at, driver_at, client_first, receiver_at, copier_at, client_at}
-use Rattle.net_parts.specs.Playing.{receiver_part, copier_part, client_part, stock_pool, AreLeases, ReceivesInTurn, AnswersInTurn}
+use Rattle.net_parts.specs.Numbers.{device_at, driver_at, receiver_at, copier_at, client_at}
+use Rattle.net_parts.specs.Playing.{receiver_part, copier_part, client_part, stock_pool, AreLeases, ReceivesInTurn}
+use Rattle.net_tx_parts.specs.Playing.{send_part}
 use Rattle.net_cast.specs.Casting.{IsCast, IsReceiverAt, IsCopierAt, IsClientAt}
 use Rattle.net_cast.proofs.Numbers.{copier_queues}
 use Rattle.net_cast.proofs.Casting.{cast_in_turn, cast_takes, cast_leases, cast_records}
@@ -146,6 +147,7 @@ module _ (ends : Role → ℕ → End) (rows : List QueueRow) (actors : List Act
         let own : c.program.mac ≡ is.2 = cc in
         let records = client_records is.0 is.1 is.2 is.3 c part is.6 is.4 fits stands in
         (fits.1, λ echo. subst (λ m. IsPrefix c.frames.tape.shown (frames_for m frames)) (sym own) records)
+    half_turns k (Kinds.NetVirtTx v) at fits stands = absurd (half.no_sender k (send_part v) (map_get part_of actors k (Kinds.NetVirtTx v) at))
 
     pub recorded_here : (k c : ℕ) (x : Actor) (program : Program) (mac : Mac) (pools : ClientPools) → slice_get actors k ≡ Some x → part_of x ≡ NetworkPart (client_at net.first c program mac pools) → 1 ≤ pools.rx.buffers → slice_get net.macs c ≡ Some mac → IsPrefix (frames_got x) (frames_for mac frames)
     recorded_here k c x program mac pools at part some address =
@@ -162,9 +164,10 @@ module _ (ends : Role → ℕ → End) (rows : List QueueRow) (actors : List Act
   none_turns none k (Kinds.SerialClient x) at = tt
   none_turns none k (Kinds.EthDevice x) at = tt
   none_turns none k (Kinds.EthDriver x) at = tt
-  none_turns none k (Kinds.NetVirtRx v) at = absurd (none k (receiver_part v) (map_get part_of actors k (Kinds.NetVirtRx v) at))
-  none_turns none k (Kinds.NetCopier c) at = absurd (none k (copier_part c) (map_get part_of actors k (Kinds.NetCopier c) at))
-  none_turns none k (Kinds.NetClient c) at = absurd (none k (client_part c) (map_get part_of actors k (Kinds.NetClient c) at))
+  none_turns none k (Kinds.NetVirtRx v) at = absurd (none.none k (receiver_part v) (map_get part_of actors k (Kinds.NetVirtRx v) at))
+  none_turns none k (Kinds.NetCopier c) at = absurd (none.none k (copier_part c) (map_get part_of actors k (Kinds.NetCopier c) at))
+  none_turns none k (Kinds.NetClient c) at = absurd (none.none k (client_part c) (map_get part_of actors k (Kinds.NetClient c) at))
+  none_turns none k (Kinds.NetVirtTx v) at = absurd (none.no_sender k (send_part v) (map_get part_of actors k (Kinds.NetVirtTx v) at))
 
   turns_by : IsWired rows cast → (k : ℕ) (x : Actor) → slice_get actors k ≡ Some x → InTurn (scene_of cast) x passed
   turns_by (inl none) k x at = none_turns none k x at

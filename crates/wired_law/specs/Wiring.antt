@@ -12,8 +12,9 @@ use Rattle.net_law.specs.Receiving.{HandsOver}
 use Rattle.net_expect.specs.Expecting.{Program}
 use Rattle.net_owners.specs.Names.{PoolAt, ClientPools}
 use Rattle.net_parts.specs.Parts.{NetPart}
+use Rattle.net_tx_parts.specs.Parts.{SendPart}
 use Rattle.net_parts.specs.Numbers.{device_at, driver_at, receiver_at, copier_at, client_at}
-use Rattle.actor_set.specs.Parts.{Part, NetworkPart}
+use Rattle.actor_set.specs.Parts.{Part, NetworkPart, SendingPart}
 use Rattle.actor_set.specs.Actors.{FitsActor, ActorStandsFor}
 use Rattle.actor_set.specs.declared.actor.Actor.{Actor}
 use Rattle.actor_law.specs.Kinds.{scene_of}
@@ -50,14 +51,16 @@ pub record HasHalf (rows : List QueueRow) (net : NetPlace) (cast : List Part) : 
   pub copier : (k : ℕ) → k < length net.macs → HasPart cast (copier_at net.first k)
   pub only : (k : ℕ) (p : NetPart) → slice_get cast k ≡ Some (NetworkPart p)
       → IsOfHalf net (scene_of cast).frames p
+  pub no_sender : (k : ℕ) (p : SendPart) → slice_get cast k ≡ Some (SendingPart p) → ⊥
   pub kinds : (i : ℕ) → i < 8 + 6 * length net.macs → (row : QueueRow)
       × (slice_get rows (net.first + i) ≡ Some row) × (row.kind ≡ Kind.Net)
   pub short : (k : ℕ) (frame : List ℕ) → slice_get (scene_of cast).frames k ≡ Some frame
       → length frame ≤ 2048
 
 -- a cast has no actor of the network
-abbrev pub HasNoNetwork : List Part → Type 0
-HasNoNetwork cast = (k : ℕ) (p : NetPart) → slice_get cast k ≡ Some (NetworkPart p) → ⊥
+pub record HasNoNetwork (cast : List Part) : Type 0 where
+  pub none : (k : ℕ) (p : NetPart) → slice_get cast k ≡ Some (NetworkPart p) → ⊥
+  pub no_sender : (k : ℕ) (p : SendPart) → slice_get cast k ≡ Some (SendingPart p) → ⊥
 
 -- a cast has no actor of the network, or the whole receive half
 abbrev pub IsWired : List QueueRow → List Part → Type 0

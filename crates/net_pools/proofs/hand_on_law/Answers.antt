@@ -1,4 +1,5 @@
 use Rattle.net_pools.proofs.Handing.{device_on, driver_on, copier_on}
+use Rattle.net_pools.proofs.Clients.{client_on}
 use Rattle.net_pools.proofs.Receiving.{receiver_on}
 use Rattle.net_pools.proofs.hand_on_law.Goals as goal
 
@@ -13,3 +14,6 @@ returns-clause-copier c = λ naming scene x passed m. copier_on naming scene pas
 
 pub returns-clause-receiver : goal.returns-clause-receiver
 returns-clause-receiver c = λ naming scene v passed m names size net row. receiver_on naming scene passed m v names size net row
+
+pub returns-clause-client : goal.returns-clause-client
+returns-clause-client c = λ naming scene x passed m names has row. client_on naming scene passed m x names has row

@@ -1,3 +1,4 @@
+use Rattle.net_pools.proofs.Clients.{client_holds}
 use Rattle.net_pools.proofs.Holding.{device_holds, driver_holds, copier_holds}
 use Rattle.net_pools.proofs.Lending.{receiver_holds}
 use Rattle.net_pools.proofs.hold_law.Goals as goal
@@ -13,3 +14,6 @@ returns-clause-copier c = λ naming sizes scene x passed m. copier_holds naming 
 
 pub returns-clause-receiver : goal.returns-clause-receiver
 returns-clause-receiver c = receiver_holds
+
+pub returns-clause-client : goal.returns-clause-client
+returns-clause-client c = λ naming sizes scene x passed m names balance. client_holds naming scene passed m x names sizes balance

@@ -2,7 +2,8 @@ use Rattle.std.proofs.Common.{◌∙◌, sym, ap, subst, length}
 use Rattle.serial_terminal.specs.Terminals.{terminal_forgotten}
 use Rattle.actor_set.specs.declared.actor.Actor.TheVariants as Kinds
 use Rattle.net_virt_rx.specs.Sharing.{IsSharer}
-use Rattle.actor_set.specs.Actors.{FitsActor, IsWhole, IsWholeReceiver, Forgot}
+use Rattle.net_virt_tx.specs.Traffics.{IsTraffic}
+use Rattle.actor_set.specs.Actors.{FitsActor, IsWhole, IsWholeReceiver, IsWholeSender, Forgot}
 use Rattle.actor_set.proofs.actor.Actor.forget.Goals as goal
 
 pub returns-in-SerialVirtRx-clause-fits : goal.returns-in-SerialVirtRx-clause-fits
@@ -38,3 +39,17 @@ returns-in-NetVirtRx-clause-whole c = λ h.
       from_each = ap (λ qs. length qs) same.ends.from_clients ∙ (was.from_each ∙ sym (ap (λ ms. length ms.items) same.work.macs));
       to_each = ap (λ qs. length qs) same.ends.to_clients ∙ (was.to_each ∙ sym (ap (λ ms. length ms.items) same.work.macs));
     }
+
+pub returns-in-NetVirtTx-clause-whole : goal.returns-in-NetVirtTx-clause-whole
+returns-in-NetVirtTx-clause-whole c = λ h.
+    let was : IsWholeSender c.in-NetVirtTx.virt = subst IsWhole c.in-NetVirtTx.is h in
+    let same = c.forget-in-NetVirtTx.ensures.same in
+    let work = c.forget-in-NetVirtTx.ensures.after.work in
+    record {
+      work = subst IsTraffic (sym work) was.work;
+      from_each = ap (λ qs. length qs) same.ends.from_clients ∙ (was.from_each ∙ sym (ap (λ w. length w.clients.items) work));
+      to_each = ap (λ qs. length qs) same.ends.to_clients ∙ (was.to_each ∙ sym (ap (λ w. length w.clients.items) work));
+    }
+
+pub returns-in-NetVirtTx-clause-fits : goal.returns-in-NetVirtTx-clause-fits
+returns-in-NetVirtTx-clause-fits c = λ ends h. c.forget-in-NetVirtTx.ensures.fits ends (subst (FitsActor ends) c.in-NetVirtTx.is h)

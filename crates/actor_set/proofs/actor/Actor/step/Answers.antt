@@ -5,6 +5,8 @@ use Rattle.pipe_driver.specs.Lengths.{two_pipes}
 use Rattle.serial_virt.specs.Receiving.{RxStandsFor}
 use Rattle.serial_virt.specs.Sending.{TxStandsFor}
 use Rattle.net_client.specs.Clients.{ClientStandsFor}
+use Rattle.net_virt_rx.specs.Receiving.{RxStandsFor as NetRxStandsFor}
+use Rattle.net_virt_tx.specs.Sending.{TxStandsFor as NetTxStandsFor}
 use Rattle.actor_set.specs.Actors.{FitsActor, ActorStandsFor}
 use Rattle.actor_set.proofs.Casting.{ok_actor, as_actor}
 use Rattle.actor_set.proofs.actor.Actor.step.Goals as goal
@@ -38,3 +40,9 @@ returns-in-NetVirtRx-clause-fits g c = let f = subst (FitsActor (g.W.Wires.ends 
 
 pub returns-in-NetClient-clause-fits : goal.returns-in-NetClient-clause-fits
 returns-in-NetClient-clause-fits g c = let f = subst (FitsActor (g.W.Wires.ends c.args.wires.now)) c.in-NetClient.is c.requires in (c.step-in-NetClient.ensures.fits, record { base = c.step-in-NetClient.ensures.same.stock.base ∙ f.1.base; size = c.step-in-NetClient.ensures.same.stock.size ∙ f.1.size; spare_base = c.step-in-NetClient.ensures.same.spare.base ∙ f.1.spare_base; spare_size = c.step-in-NetClient.ensures.same.spare.size ∙ f.1.spare_size })
+
+pub returns-in-NetVirtRx-clause-stepped : goal.returns-in-NetVirtRx-clause-stepped
+returns-in-NetVirtRx-clause-stepped g c = ok_actor NetRxStandsFor _ _ _ _ _ _ _ c.step-in-NetVirtRx.result (λ passed h. subst (λ a. ActorStandsFor a passed) c.in-NetVirtRx.is h) (λ passed h. h) c.step-in-NetVirtRx.ensures.stepped
+
+pub returns-in-NetVirtTx-clause-stepped : goal.returns-in-NetVirtTx-clause-stepped
+returns-in-NetVirtTx-clause-stepped g c = as_actor NetTxStandsFor _ _ _ _ _ _ _ _ (λ passed h. subst (λ a. ActorStandsFor a passed) c.in-NetVirtTx.is h) (λ passed h. h) c.step-in-NetVirtTx.ensures.stepped

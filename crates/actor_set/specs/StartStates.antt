@@ -22,6 +22,9 @@ use Rattle.net_kit.specs.declared.virt_ends.VirtEnds.{VirtEnds}
 use Rattle.net_virt_rx.specs.Receiving.{IsNewRx as IsNewNetRx, RxStandsFor as NetRxStandsFor}
 use Rattle.net_virt_rx.specs.declared.LeaseEnds.{LeaseEnds}
 use Rattle.net_virt_rx.specs.declared.NetVirtRx.{NetVirtRx}
+use Rattle.net_virt_tx.specs.Sending.{IsNewTx as IsNewNetTx, TxStandsFor as NetTxStandsFor}
+use Rattle.net_virt_tx.specs.declared.TxEnds.{TxEnds}
+use Rattle.net_virt_tx.specs.declared.NetVirtTx.{NetVirtTx}
 use Rattle.net_copier.specs.Copying.{IsNewCopier}
 use Rattle.net_client.specs.Clients.{IsNewClient}
 use Rattle.net_client.specs.Clients as client
@@ -58,6 +61,12 @@ pub record IsNewClientOf (c : NetClient) : Type 0 where
   pub short : All (λ frame. length frame < 2 ^ 16) c.program.script
   pub few : length pages + length spare < 2 ^ 32 - 4
 
+-- a sending virtualiser of the network in its start state
+pub record IsNewSender (v : NetVirtTx) : Type 0 where
+  pub clients : List TxEnds
+  pub new : IsNewNetTx v.ends.output.queue v.ends.input.queue clients v
+  pub stands : NetTxStandsFor v nothing_passed
+
 -- an actor in its start state
 abbrev pub IsNew : Actor → Type 0
 IsNew (Kinds.UartDevice x) =
@@ -78,6 +87,7 @@ IsNew (Kinds.NetVirtRx x) = IsNewLender x
 IsNew (Kinds.NetCopier x) = IsNewCopier x.lease_input.queue x.lease_output.queue
     x.buffer_output.queue x.buffer_input.queue x
 IsNew (Kinds.NetClient x) = IsNewClientOf x
+IsNew (Kinds.NetVirtTx x) = IsNewSender x
 
 -- of a virtualiser of the network: its ends on each side are of queues of their own
 pub record HasApartQueues (v : VirtEnds) : Type 0 where
@@ -108,6 +118,7 @@ HasApartEnds (Kinds.NetCopier x) =
     × (x.buffer_output.queue.0 ≡ x.lease_output.queue.0 → ⊥)
 HasApartEnds (Kinds.NetClient x) =
     (client.rx_active x ≡ client.tx_free x → ⊥) × (client.rx_free x ≡ client.tx_active x → ⊥)
+HasApartEnds (Kinds.NetVirtTx x) = HasApartQueues x.ends
 
 -- no queue has both its ends with the actor
 abbrev pub HasNoLoop : Actor → Type 0
@@ -125,6 +136,7 @@ kind_at (Kinds.EthDriver x) = Kind.Net
 kind_at (Kinds.NetVirtRx x) = Kind.Net
 kind_at (Kinds.NetCopier x) = Kind.Net
 kind_at (Kinds.NetClient x) = Kind.Net
+kind_at (Kinds.NetVirtTx x) = Kind.Net
 
 -- by the rows, actor k has this end of queue n, which carries this kind
 pub record HasSeat (rows : List QueueRow) (kind : QueueKind) (k : ℕ) (r : Role) (n : ℕ) :

@@ -1,0 +1,2 @@
+-- The whole network at the layout's queues, apart from any system.
+pub mod Casting
