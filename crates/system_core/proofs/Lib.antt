@@ -4,6 +4,7 @@ pub mod SystemStep
 pub mod Playing
 pub mod RunsNow
 pub mod Stepping
+pub mod Taking
 pub mod Starting
 pub mod Recording
 pub mod Hearing

@@ -1,6 +1,6 @@
 use Rattle.std.proofs.Common.{◌≡◌, ◌<◌, ◌≤◌, ◌+◌, ℕ, Bool, true, false, not, Some, List, [], ◌∷◌, ◌++◌, length, map, take, slice_get, slice_index_or, length-append, length-take, refl, sym, ap, ◌∙◌, subst, arith, zero, suc, min}
-use Rattle.std.proofs.lemmas.List.{take_all, take_more, length-map, append-nil}
-use Rattle.std.proofs.lemmas.Option.{slice_get_read, get_or_from_slice_get}
+use Rattle.std.proofs.lemmas.List.{take_all, length-map, append-nil}
+use Rattle.std.proofs.lemmas.Option.{slice_get_read}
 use Rattle.wire_core.specs.declared.names.QueueRow.{QueueRow}
 use Rattle.wire_core.specs.Lists.{nothing_passed}
 use Rattle.wire_core.specs.Queues.{Queue, starts, queue_at, end_at, is_pending}
@@ -24,6 +24,7 @@ use Rattle.system_core.specs.Starts.{AreStarting}
 use Rattle.system_core.specs.Systems.{Holds}
 use Rattle.play_core.proofs.Lists.{some_is, map_get, there_below}
 use Rattle.system_core.proofs.Rising.{with_above}
+use Rattle.system_core.proofs.Taking.{take_with}
 use Rattle.system_core.proofs.Places.{places_few}
 use Rattle.play_core.proofs.Flags.{flag_at, flags_length}
 use Rattle.system_core.proofs.RunsNow.{idle_here, not_not}
@@ -78,9 +79,6 @@ places_push k m [] true e = let f : k ≡ m = omega arith in ap (λ x. x ∷ [])
 places_push k m [] false e = refl
 places_push k m (true ∷ bs) b e = ap (λ xs. k ∷ xs) (places_push (k + 1) m bs b (omega arith))
 places_push k m (false ∷ bs) b e = places_push (k + 1) m bs b (omega arith)
-
-take_with : (bs : List Bool) (k : ℕ) (b : Bool) → slice_get bs k ≡ Some b → take (k + 1) bs ≡ take k bs ++ b ∷ []
-take_with bs k b h = take_more bs k b (there_below bs k b h) ∙ ap (λ x. take k bs ++ x ∷ []) (get_or_from_slice_get bs k b b h)
 
 take_count : (bs : List Bool) (k : ℕ) (b : Bool) → slice_get bs k ≡ Some b → length (take k bs) ≡ k
 take_count bs k b h = let lt : k < length bs = there_below bs k b h in length-take k bs ∙ least k (length bs) (omega arith)

@@ -7,11 +7,14 @@ use Rattle.eth_driver.specs.declared.EthDriver.{EthDriver}
 use Rattle.net_client.specs.declared.NetClient.{NetClient}
 use Rattle.net_copier.specs.declared.NetCopier.{NetCopier}
 use Rattle.net_virt_rx.specs.declared.NetVirtRx.{NetVirtRx}
+use Rattle.net_virt_tx.specs.declared.NetVirtTx.{NetVirtTx}
 use Rattle.net_expect.specs.Expecting.{Program}
 use Rattle.net_owners.specs.Names.{PoolAt, ClientPools}
 use Rattle.net_parts.specs.Numbers.{device_at, driver_at, receiver_at, copier_at, client_at}
 use Rattle.net_parts.specs.Playing.{device_part, driver_part, receiver_part, copier_part, client_part}
-use Rattle.actor_set.specs.Parts.{NetworkPart}
+use Rattle.net_tx_parts.specs.Numbers.{sender_at}
+use Rattle.net_tx_parts.specs.Playing.{send_part}
+use Rattle.actor_set.specs.Parts.{NetworkPart, SendingPart}
 use Rattle.actor_set.specs.Actors.{part_of}
 use Rattle.actor_set.specs.declared.actor.Actor.{Actor}
 use Rattle.actor_set.specs.declared.actor.Actor.TheVariants as Kinds
@@ -80,3 +83,16 @@ client_actor first k program mac pools (Kinds.NetVirtRx x) e = absurd cc
 client_actor first k program mac pools (Kinds.NetCopier x) e = absurd cc
 client_actor first k program mac pools (Kinds.NetClient x) e = (x, refl, cc)
 client_actor first k program mac pools (Kinds.NetVirtTx x) e = absurd cc
+
+pub sender_actor : (first : ℕ) (pools : List ClientPools) (x : Actor) → part_of x ≡ SendingPart (sender_at first pools) → (v : NetVirtTx) × (x ≡ Kinds.NetVirtTx v) × (send_part v ≡ sender_at first pools)
+sender_actor first pools (Kinds.UartDevice x) e = absurd cc
+sender_actor first pools (Kinds.UartDriver x) e = absurd cc
+sender_actor first pools (Kinds.SerialVirtRx x) e = absurd cc
+sender_actor first pools (Kinds.SerialVirtTx x) e = absurd cc
+sender_actor first pools (Kinds.SerialClient x) e = absurd cc
+sender_actor first pools (Kinds.EthDevice x) e = absurd cc
+sender_actor first pools (Kinds.EthDriver x) e = absurd cc
+sender_actor first pools (Kinds.NetVirtRx x) e = absurd cc
+sender_actor first pools (Kinds.NetCopier x) e = absurd cc
+sender_actor first pools (Kinds.NetClient x) e = absurd cc
+sender_actor first pools (Kinds.NetVirtTx x) e = (x, refl, cc)

@@ -1,38 +1,87 @@
--- A wired cast has a receive half at the layout's queues, at which nothing comes out of turn.
-use Rattle.std.proofs.Common.{◌≡◌, ◌+◌, ◌<◌, ◌≤◌, ℕ, Some, List, length, map, slice_get, inl, inr, sym, ap, ◌∙◌, subst, arith}
-use Rattle.cargo_core.specs.Lists.{IsPrefix}
+-- A wired cast has the whole network at the layout's queues, at which nothing comes out of turn.
+use Rattle.std.proofs.Common.{◌≡◌, ◌⊎◌, ◌+◌, ◌<◌, ◌≤◌, ℕ, Some, List, length, map, slice_get, inl, inr, sym, ap, ◌∙◌, subst, arith}
+use Rattle.cargo_core.specs.Lists.{IsPrefix, PrefixMerge}
 use Rattle.frame_core.specs.declared.mac.Mac.{Mac}
 use Rattle.wire_core.specs.declared.names.QueueRow.{QueueRow}
+use Rattle.wire_core.specs.Deeds.{Deed}
 use Rattle.wire_core.specs.Ends.{Role, End}
-use Rattle.wire_core.specs.Lists.{Passed}
-use Rattle.play_core.proofs.Lists.{map_get, map_from}
+use Rattle.wire_core.specs.Lists.{Passed, nothing_passed, with_deed}
+use Rattle.play_core.proofs.Lists.{map_get, map_from, there_is, there_below}
+use Rattle.eth_device.specs.declared.EthDevice.{EthDevice}
+use Rattle.eth_device.specs.Devices.{DeviceRow}
 use Rattle.eth_driver.specs.Four.{four_pipes}
 use Rattle.pipe_driver.proofs.Holding.{row_of as driver_row}
 use Rattle.net_expect.specs.Expecting.{Program, frames_for}
 use Rattle.net_copier.proofs.Holding.{row_of as copier_row}
 use Rattle.net_virt_rx.proofs.Rounds.{row_of as receiver_row}
 use Rattle.net_virt_rx.specs.declared.NetVirtRx.{NetVirtRx}
+use Rattle.net_virt_tx.proofs.Rounds.{row_of as sender_row}
+use Rattle.net_virt_tx.specs.declared.NetVirtTx.{NetVirtTx}
 use Rattle.net_copier.specs.declared.NetCopier.{NetCopier}
 use Rattle.net_client.specs.declared.NetClient.{NetClient}
 use Rattle.net_client.proofs.Standing.{row_of as client_row}
 use Rattle.net_owners.specs.Names.{PoolAt, ClientPools}
-use Rattle.net_parts.specs.Parts.{NetPart}
-use Rattle.net_parts.specs.Numbers.{device_at, driver_at, receiver_at, copier_at, client_at}
-use Rattle.net_parts.specs.Playing.{receiver_part, copier_part, client_part, stock_pool, AreLeases, ReceivesInTurn}
+use Rattle.net_parts.specs.Parts.{NetClient as ClientPart}
+use Rattle.net_parts.specs.Numbers.{device_at, driver_at, client_first, receiver_at, copier_at, client_at}
+use Rattle.net_parts.specs.Playing.{device_part, receiver_part, copier_part, client_part, stock_pool, AreLeases, ReceivesInTurn}
+use Rattle.net_tx_parts.specs.Numbers.{NetPlace, own_pool, own_pools, sender_at}
 use Rattle.net_tx_parts.specs.Playing.{send_part}
 use Rattle.net_cast.specs.Casting.{IsCast, IsReceiverAt, IsCopierAt, IsClientAt}
 use Rattle.net_cast.proofs.Numbers.{copier_queues}
 use Rattle.net_cast.proofs.Casting.{cast_in_turn, cast_takes, cast_leases, cast_records}
-use Rattle.actor_set.specs.Parts.{Part, NetworkPart}
+use Rattle.net_tx_cast.specs.Casting.{AreSends, AllSend, IsClientOf, IsSenderAt, IsSendingClient, IsWholeCast, sends_at}
+use Rattle.net_tx_cast.proofs.Wholes.{none_out, good_taken, back_is, client_puts, wire_is}
+use Rattle.actor_set.specs.Parts.{Part, NetworkPart, SendingPart}
 use Rattle.actor_set.specs.Actors.{FitsActor, ActorStandsFor, part_of}
 use Rattle.actor_set.specs.declared.actor.Actor.{Actor}
 use Rattle.actor_set.specs.declared.actor.Actor.TheVariants as Kinds
 use Rattle.actor_law.specs.Kinds.{scene_of}
 use Rattle.actor_law.specs.Records.{frames_got}
-use Rattle.actor_law.specs.Turning.{InTurn}
+use Rattle.actor_law.specs.Turning.{InTurn, SendsInTurn}
 use Rattle.actor_law.proofs.NetRows.{device_row_of}
-use Rattle.wired_law.specs.Wiring.{NetPlace, IsOfHalf, HasHalf, HasNoNetwork, HasPart, IsWired, AreAtWork}
-use Rattle.wired_law.proofs.Acting.{device_actor, driver_actor, receiver_actor, copier_actor, client_actor}
+use Rattle.wired_law.specs.Wiring.{IsOfNetwork, HasWhole, HasNoNetwork, HasPart, IsWired, ClientsSend, AreAtWork}
+use Rattle.wired_law.proofs.Acting.{device_actor, driver_actor, receiver_actor, sender_actor, copier_actor, client_actor}
+use Rattle.wired_law.proofs.Deeds.{puts_or_takes}
+
+-- a pool's entries are the same whether told by offsets or by device addresses
+own_sends : (pool : PoolAt) (passed : Passed) (n : ℕ) → AreSends pool (passed.sent n) → AreSends (own_pool pool) (passed.sent n)
+own_sends pool passed n send k c at = let h = send k c at in record { good = h.good; long = h.long }
+
+sends_own : (pool : PoolAt) (passed : Passed) (n : ℕ) → AreSends (own_pool pool) (passed.sent n) → AreSends pool (passed.sent n)
+sends_own pool passed n send k c at = let h = send k c at in record { good = h.good; long = h.long }
+
+-- what a part is where it is one of the network's
+client_is : (net : NetPlace) (frames : List (List ℕ)) (program : Program) (mac : Mac) (rx_active rx_free tx_active tx_free : ℕ) (rx tx : PoolAt) → IsOfNetwork net frames (NetworkPart (ClientPart program mac rx_active rx_free tx_active tx_free rx tx)) → (k : ℕ) × (p : Program) × (m : Mac) × (q : ClientPools) × IsClientOf net k p m q × (ClientPart program mac rx_active rx_free tx_active tx_free rx tx ≡ client_at net.first k p m (own_pools q))
+client_is net frames program mac a b c d rx tx (inl e) = absurd cc
+client_is net frames program mac a b c d rx tx (inr (inl e)) = absurd cc
+client_is net frames program mac a b c d rx tx (inr (inr (inl e))) = absurd cc
+client_is net frames program mac a b c d rx tx (inr (inr (inr (inl e)))) = absurd cc
+client_is net frames program mac a b c d rx tx (inr (inr (inr (inr (inl k))))) = let e = k.2 in absurd cc
+client_is net frames program mac a b c d rx tx (inr (inr (inr (inr (inr k))))) = let e = k.5 in (k.0, k.1, k.2, k.3, k.4, cc)
+
+receiver_is : (net : NetPlace) (frames : List (List ℕ)) (v : NetVirtRx) → IsOfNetwork net frames (NetworkPart (receiver_part v)) → receiver_part v ≡ receiver_at net.first net.pool net.macs
+receiver_is net frames v (inl e) = absurd cc
+receiver_is net frames v (inr (inl e)) = absurd cc
+receiver_is net frames v (inr (inr (inl e))) = cc
+receiver_is net frames v (inr (inr (inr (inl e)))) = absurd cc
+receiver_is net frames v (inr (inr (inr (inr (inl k))))) = let e = k.2 in absurd cc
+receiver_is net frames v (inr (inr (inr (inr (inr k))))) = let e = k.5 in absurd cc
+
+copier_is : (net : NetPlace) (frames : List (List ℕ)) (c : NetCopier) → IsOfNetwork net frames (NetworkPart (copier_part c)) → (k : ℕ) × (k < length net.macs) × (copier_part c ≡ copier_at net.first k)
+copier_is net frames c (inl e) = absurd cc
+copier_is net frames c (inr (inl e)) = absurd cc
+copier_is net frames c (inr (inr (inl e))) = absurd cc
+copier_is net frames c (inr (inr (inr (inl e)))) = absurd cc
+copier_is net frames c (inr (inr (inr (inr (inl k))))) = let e = k.2 in (k.0, k.1, cc)
+copier_is net frames c (inr (inr (inr (inr (inr k))))) = let e = k.5 in absurd cc
+
+sender_is : (net : NetPlace) (frames : List (List ℕ)) (v : NetVirtTx) → IsOfNetwork net frames (SendingPart (send_part v)) → send_part v ≡ sender_at net.first net.pools
+sender_is net frames v (inl e) = absurd cc
+sender_is net frames v (inr (inl e)) = absurd cc
+sender_is net frames v (inr (inr (inl e))) = absurd cc
+sender_is net frames v (inr (inr (inr (inl e)))) = cc
+sender_is net frames v (inr (inr (inr (inr (inl k))))) = let e = k.2 in absurd cc
+sender_is net frames v (inr (inr (inr (inr (inr k))))) = let e = k.5 in absurd cc
 
 module _ (ends : Role → ℕ → End) (rows : List QueueRow) (actors : List Actor) (passed : Passed) (work : AreAtWork ends rows actors passed) where
   abbrev cast : List Part
@@ -42,77 +91,105 @@ module _ (ends : Role → ℕ → End) (rows : List QueueRow) (actors : List Act
   frames = (scene_of cast).frames
 
   -- the actor of a part
-  actor_of : (p : NetPart) → HasPart cast p → (x : Actor) × (part_of x ≡ NetworkPart p) × FitsActor ends x × ActorStandsFor x passed
-  actor_of p has = let x = map_from part_of actors has.0 (NetworkPart p) has.1 in (x.0, x.2, work.fits has.0 x.0 x.1, work.stands has.0 x.0 x.1)
+  actor_of : (p : Part) → HasPart cast p → (x : Actor) × (part_of x ≡ p) × FitsActor ends x × ActorStandsFor x passed
+  actor_of p has = let x = map_from part_of actors has.0 p has.1 in (x.0, x.2, work.fits has.0 x.0 x.1, work.stands has.0 x.0 x.1)
 
-  module _ (net : NetPlace) (half : HasHalf rows net cast) where
+  module _ (net : NetPlace) (whole : HasWhole rows net cast) where
     receiver_at_work : (v : NetVirtRx) → receiver_part v ≡ receiver_at net.first net.pool net.macs → FitsActor ends (Kinds.NetVirtRx v) → ActorStandsFor (Kinds.NetVirtRx v) passed → IsReceiverAt net.first net.pool net.macs v passed
     receiver_at_work v part fits stands = record { part = part; size = fits.1; to_each = fits.0.to_each; from_each = fits.0.from_each; row = receiver_row v passed stands }
 
     copier_there : (k : ℕ) → k < length net.macs → (c : NetCopier) × IsCopierAt net.first k c passed
     copier_there k lt =
-        let x = actor_of (copier_at net.first k) (half.copier k lt) in
+        let x = actor_of (NetworkPart (copier_at net.first k)) (whole.copier k lt) in
         let c = copier_actor net.first k x.0 x.1 in
         let stands : ActorStandsFor (Kinds.NetCopier c.0) passed = subst (λ a. ActorStandsFor a passed) c.1 x.3 in
         (c.0, record { part = c.2; row = copier_row c.0 passed stands })
 
-    -- the half with this receiving virtualiser
-    half_with : (v : NetVirtRx) → IsReceiverAt net.first net.pool net.macs v passed → IsCast net.first frames net.pool net.macs passed
-    half_with v at =
-        let x = actor_of (device_at net.first frames) half.device in
-        let d = device_actor net.first frames x.0 x.1 in
-        let device_stands : ActorStandsFor (Kinds.EthDevice d.0) passed = subst (λ a. ActorStandsFor a passed) d.1 x.3 in
-        let y = actor_of (driver_at net.first) half.driver in
+    short_frames : (k : ℕ) (frame : List ℕ) → slice_get frames k ≡ Some frame → length frame ≤ 2048
+    short_frames k frame at = let high = (whole.frames k frame at).1 in omega (arith, high)
+
+    -- the receive half with this device and this receiving virtualiser
+    half_with : (d : EthDevice) → device_part d ≡ device_at net.first frames → DeviceRow d passed → (v : NetVirtRx) → IsReceiverAt net.first net.pool net.macs v passed → IsCast net.first frames net.pool net.macs passed
+    half_with d part row v at =
+        let y = actor_of (NetworkPart (driver_at net.first)) whole.driver in
         let p = driver_actor net.first y.0 y.1 in
         let driver_stands : ActorStandsFor (Kinds.EthDriver p.0) passed = subst (λ a. ActorStandsFor a passed) p.1 y.3 in
         record {
-          device = d.0;
-          device_at = record { free = (let e = d.2 in cc); active = (let e = d.2 in cc); frames_are = (let e = d.2 in cc); row = device_row_of d.0 passed device_stands };
+          device = d;
+          device_at = record { free = cc; active = cc; frames_are = cc; row = row };
           driver = p.0.driver.pipes;
           driver_at = record { part = p.2; row = driver_row (four_pipes p.0.driver.pipes) passed driver_stands };
           receiver = v;
           receiver_at = at;
           copiers = copier_there;
           hands_over = work.hands_over;
-          net = λ i lt k c is. let row = half.kinds i lt in work.kinds (net.first + i) row.0 row.1 k c is ∙ row.2;
-          short = half.short;
+          net = λ i lt k c is. let row = whole.kinds i lt in work.kinds (net.first + i) row.0 row.1 k c is ∙ row.2;
+          short = short_frames;
         }
 
-    half_there : IsCast net.first frames net.pool net.macs passed
-    half_there =
-        let x = actor_of (receiver_at net.first net.pool net.macs) half.receiver in
+    -- the device and the virtualisers of the cast
+    device_there : (d : EthDevice) × (device_part d ≡ device_at net.first frames) × DeviceRow d passed
+    device_there =
+        let x = actor_of (NetworkPart (device_at net.first frames)) whole.device in
+        let d = device_actor net.first frames x.0 x.1 in
+        (d.0, d.2, device_row_of d.0 passed (subst (λ a. ActorStandsFor a passed) d.1 x.3))
+
+    receiver_there : (v : NetVirtRx) × IsReceiverAt net.first net.pool net.macs v passed
+    receiver_there =
+        let x = actor_of (NetworkPart (receiver_at net.first net.pool net.macs)) whole.receiver in
         let v = receiver_actor net.first net.pool net.macs x.0 x.1 in
-        half_with v.0 (receiver_at_work v.0 v.2 (subst (FitsActor ends) v.1 x.2) (subst (λ a. ActorStandsFor a passed) v.1 x.3))
+        (v.0, receiver_at_work v.0 v.2 (subst (FitsActor ends) v.1 x.2) (subst (λ a. ActorStandsFor a passed) v.1 x.3))
 
-    -- a receiving virtualiser and a copier of the cast are those of the half
-    receiver_is : (v : NetVirtRx) → IsOfHalf net frames (receiver_part v) → receiver_part v ≡ receiver_at net.first net.pool net.macs
-    receiver_is v (inl e) = absurd cc
-    receiver_is v (inr (inl e)) = absurd cc
-    receiver_is v (inr (inr (inl e))) = e
-    receiver_is v (inr (inr (inr (inl c)))) = let e = c.2 in absurd cc
-    receiver_is v (inr (inr (inr (inr c)))) = let e = c.3 in absurd cc
+    sender_there : (v : NetVirtTx) × IsSenderAt net v passed
+    sender_there =
+        let x = actor_of (SendingPart (sender_at net.first net.pools)) whole.sender in
+        let v = sender_actor net.first net.pools x.0 x.1 in
+        (v.0, record { part = v.2; row = sender_row v.0 passed (subst (λ a. ActorStandsFor a passed) v.1 x.3) })
 
-    copier_is : (c : NetCopier) → IsOfHalf net frames (copier_part c) → (k : ℕ) × (k < length net.macs) × (copier_part c ≡ copier_at net.first k)
-    copier_is c (inl e) = absurd cc
-    copier_is c (inr (inl e)) = absurd cc
-    copier_is c (inr (inr (inl e))) = absurd cc
-    copier_is c (inr (inr (inr (inl k)))) = k
-    copier_is c (inr (inr (inr (inr k)))) = let e = k.3 in absurd cc
+    half_there : IsCast net.first frames net.pool net.macs passed
+    half_there = half_with device_there.0 device_there.1 device_there.2 receiver_there.0 receiver_there.1
+
+    -- a client at work
+    client_at_work : (k : ℕ) (program : Program) (mac : Mac) (q : ClientPools) (c : NetClient) → client_part c ≡ client_at net.first k program mac (own_pools q) → 1 ≤ q.rx.buffers → FitsActor ends (Kinds.NetClient c) → ActorStandsFor (Kinds.NetClient c) passed → IsSendingClient net k program mac q c passed
+    client_at_work k program mac q c part some fits stands =
+        let own : stock_pool c.stock ≡ (own_pools q).rx = cc in
+        let many : c.stock.buffers ≡ q.rx.buffers = ap (λ (p : PoolAt). p.buffers) own in
+        record { part = part; size = fits.1.size; spare_size = fits.1.spare_size; some = omega (arith, many, some); row = client_row c passed stands }
+
+    client_there : (k : ℕ) (program : Program) (mac : Mac) (q : ClientPools) → IsClientOf net k program mac q → (c : NetClient) × IsSendingClient net k program mac q c passed
+    client_there k program mac q of =
+        let x = actor_of (NetworkPart (client_at net.first k program mac (own_pools q))) (whole.client k program mac q of) in
+        let c = client_actor net.first k program mac (own_pools q) x.0 x.1 in
+        (c.0, client_at_work k program mac q c.0 c.2 (whole.some k q of.pools) (subst (FitsActor ends) c.1 x.2) (subst (λ a. ActorStandsFor a passed) c.1 x.3))
+
+    -- the whole network with this device and this sending virtualiser
+    whole_with : (d : EthDevice) → device_part d ≡ device_at net.first frames → DeviceRow d passed → (v : NetVirtTx) → IsSenderAt net v passed → IsWholeCast net frames passed
+    unfolding half_with
+    whole_with d part row v at = record {
+      pools_many = whole.pools_many;
+      programs_many = whole.programs_many;
+      half = half_with d part row receiver_there.0 receiver_there.1;
+      device_at = part;
+      sender = v;
+      sender_at = at;
+      clients = client_there;
+      addresses = whole.addresses;
+      received = whole.frames;
+      scripts = whole.scripts;
+    }
+
+    whole_there : IsWholeCast net frames passed
+    whole_there = whole_with device_there.0 device_there.1 device_there.2 sender_there.0 sender_there.1
 
     receiver_turns : (v : NetVirtRx) → IsReceiverAt net.first net.pool net.macs v passed → v.work.stock.size ≡ 2048 → ReceivesInTurn frames v passed
     unfolding half_with
-    receiver_turns v is size = record {
-      size = size;
-      takes = cast_takes net.first frames net.pool net.macs passed (half_with v is);
-      in_turn = cast_in_turn net.first frames net.pool net.macs passed (half_with v is);
-    }
-
-    client_is : (c : NetClient) → IsOfHalf net frames (client_part c) → (k : ℕ) × (program : Program) × (mac : Mac) × (q : ClientPools) × (slice_get net.macs k ≡ Some mac) × (slice_get net.pools k ≡ Some q) × (1 ≤ q.rx.buffers) × (client_part c ≡ client_at net.first k program mac q)
-    client_is c (inl e) = absurd cc
-    client_is c (inr (inl e)) = absurd cc
-    client_is c (inr (inr (inl e))) = absurd cc
-    client_is c (inr (inr (inr (inl k)))) = let e = k.2 in absurd cc
-    client_is c (inr (inr (inr (inr k)))) = k
+    receiver_turns v is size =
+        let half = half_with device_there.0 device_there.1 device_there.2 v is in
+        record {
+          size = size;
+          takes = cast_takes net.first frames net.pool net.macs passed half;
+          in_turn = cast_in_turn net.first frames net.pool net.macs passed half;
+        }
 
     -- a client recorded a beginning of the frames for its address
     client_records : (k : ℕ) (program : Program) (mac : Mac) (pools : ClientPools) (c : NetClient) → client_part c ≡ client_at net.first k program mac pools → 1 ≤ pools.rx.buffers → slice_get net.macs k ≡ Some mac → FitsActor ends (Kinds.NetClient c) → ActorStandsFor (Kinds.NetClient c) passed → IsPrefix c.frames.tape.shown (frames_for mac frames)
@@ -128,26 +205,54 @@ module _ (ends : Role → ℕ → End) (rows : List QueueRow) (actors : List Act
         } in
         cast_records net.first frames net.pool net.macs passed half_there k mac address c client
 
-    half_turns : (k : ℕ) (x : Actor) → slice_get actors k ≡ Some x → FitsActor ends x → ActorStandsFor x passed → InTurn (scene_of cast) x passed
-    half_turns k (Kinds.UartDevice x) at fits stands = tt
-    half_turns k (Kinds.UartDriver x) at fits stands = tt
-    half_turns k (Kinds.SerialVirtRx x) at fits stands = tt
-    half_turns k (Kinds.SerialVirtTx x) at fits stands = tt
-    half_turns k (Kinds.SerialClient x) at fits stands = tt
-    half_turns k (Kinds.EthDevice x) at fits stands = tt
-    half_turns k (Kinds.EthDriver x) at fits stands = tt
-    half_turns k (Kinds.NetVirtRx v) at fits stands = receiver_turns v (receiver_at_work v (receiver_is v (half.only k (receiver_part v) (map_get part_of actors k (Kinds.NetVirtRx v) at))) fits stands) fits.1
-    half_turns k (Kinds.NetCopier c) at fits stands =
-        let is = copier_is c (half.only k (copier_part c) (map_get part_of actors k (Kinds.NetCopier c) at)) in
+    -- the part of a client of the cast
+    client_of : (k : ℕ) (c : NetClient) → slice_get actors k ≡ Some (Kinds.NetClient c) → (j : ℕ) × (p : Program) × (m : Mac) × (q : ClientPools) × IsClientOf net j p m q × (client_part c ≡ client_at net.first j p m (own_pools q))
+    client_of k c at = client_is net frames _ _ _ _ _ _ _ _ (whole.only k (client_part c) (map_get part_of actors k (Kinds.NetClient c) at))
+
+    -- what the clients put, by their numbers
+    all_send : ClientsSend cast passed → AllSend net passed
+    all_send sends k q at =
+        let below = there_below net.pools k q at in
+        let pools_many = whole.pools_many in
+        let programs_many = whole.programs_many in
+        let mac = there_is net.macs k (omega (arith, below, pools_many)) in
+        let program = there_is net.programs k (omega (arith, below, pools_many, programs_many)) in
+        let of : IsClientOf net k program.0 mac.0 q = record { address = mac.1; pools = at; plays = program.1 } in
+        let has = whole.client k program.0 mac.0 q of in
+        sends_own q.tx passed (client_first net.first k + 4) (sends has.0 program.0 mac.0 (client_first net.first k + 2) (client_first net.first k + 3) (client_first net.first k + 4) (client_first net.first k + 5) (own_pool q.rx) (own_pool q.tx) has.1)
+
+    sender_turns : ClientsSend cast passed → (v : NetVirtTx) → IsSenderAt net v passed → SendsInTurn v passed
+    unfolding whole_with
+    sender_turns sends v is =
+        let all = whole_with device_there.0 device_there.1 device_there.2 v is in
+        let send = all_send sends in
+        record {
+          good = good_taken net frames passed all is.row send;
+          in_turn = λ row. none_out net frames passed all row send;
+        }
+
+    whole_turns : ClientsSend cast passed → (k : ℕ) (x : Actor) → slice_get actors k ≡ Some x → FitsActor ends x → ActorStandsFor x passed → InTurn (scene_of cast) x passed
+    whole_turns sends k (Kinds.UartDevice x) at fits stands = tt
+    whole_turns sends k (Kinds.UartDriver x) at fits stands = tt
+    whole_turns sends k (Kinds.SerialVirtRx x) at fits stands = tt
+    whole_turns sends k (Kinds.SerialVirtTx x) at fits stands = tt
+    whole_turns sends k (Kinds.SerialClient x) at fits stands = tt
+    whole_turns sends k (Kinds.EthDevice x) at fits stands = tt
+    whole_turns sends k (Kinds.EthDriver x) at fits stands = tt
+    whole_turns sends k (Kinds.NetVirtRx v) at fits stands = receiver_turns v (receiver_at_work v (receiver_is net frames v (whole.only k (receiver_part v) (map_get part_of actors k (Kinds.NetVirtRx v) at))) fits stands) fits.1
+    whole_turns sends k (Kinds.NetCopier c) at fits stands =
+        let is = copier_is net frames c (whole.only k (copier_part c) (map_get part_of actors k (Kinds.NetCopier c) at)) in
         let own = copier_queues net.first is.0 c is.2 in
         subst (λ n. AreLeases (passed.taken n)) (sym own.0) (cast_leases net.first frames net.pool net.macs passed half_there is.0 is.1)
-    half_turns k (Kinds.NetClient c) at fits stands =
-        let is = client_is c (half.only k (client_part c) (map_get part_of actors k (Kinds.NetClient c) at)) in
-        let part = is.7 in
+    whole_turns sends k (Kinds.NetClient c) at fits stands =
+        let is = client_of k c at in
+        let part = is.5 in
         let own : c.program.mac ≡ is.2 = cc in
-        let records = client_records is.0 is.1 is.2 is.3 c part is.6 is.4 fits stands in
+        let records = client_records is.0 is.1 is.2 (own_pools is.3) c part (whole.some is.0 is.3 is.4.pools) is.4.address fits stands in
         (fits.1, λ echo. subst (λ m. IsPrefix c.frames.tape.shown (frames_for m frames)) (sym own) records)
-    half_turns k (Kinds.NetVirtTx v) at fits stands = absurd (half.no_sender k (send_part v) (map_get part_of actors k (Kinds.NetVirtTx v) at))
+    whole_turns sends k (Kinds.NetVirtTx v) at fits stands =
+        let part = sender_is net frames v (whole.only_sender k (send_part v) (map_get part_of actors k (Kinds.NetVirtTx v) at)) in
+        sender_turns sends v (record { part = part; row = sender_row v passed stands })
 
     pub recorded_here : (k c : ℕ) (x : Actor) (program : Program) (mac : Mac) (pools : ClientPools) → slice_get actors k ≡ Some x → part_of x ≡ NetworkPart (client_at net.first c program mac pools) → 1 ≤ pools.rx.buffers → slice_get net.macs c ≡ Some mac → IsPrefix (frames_got x) (frames_for mac frames)
     recorded_here k c x program mac pools at part some address =
@@ -156,26 +261,81 @@ module _ (ends : Role → ℕ → End) (rows : List QueueRow) (actors : List Act
         let stands : ActorStandsFor (Kinds.NetClient y.0) passed = subst (λ a. ActorStandsFor a passed) y.1 (work.stands k x at) in
         subst (λ a. IsPrefix (frames_got a) (frames_for mac frames)) (sym y.1) (client_records c program mac pools y.0 y.2 some address fits stands)
 
+    pub sent_here : ClientsSend cast passed → (k : ℕ) (x : Actor) → slice_get actors k ≡ Some x → part_of x ≡ NetworkPart (device_at net.first frames) → PrefixMerge (sends_at net.programs net.macs frames) (frames_got x)
+    unfolding whole_with half_with
+    sent_here sends k x at part =
+        let d = device_actor net.first frames x part in
+        let row = device_row_of d.0 passed (subst (λ a. ActorStandsFor a passed) d.1 (work.stands k x at)) in
+        let all = whole_with d.0 d.2 row sender_there.0 sender_there.1 in
+        subst (λ a. PrefixMerge (sends_at net.programs net.macs frames) (frames_got a)) (sym d.1) (wire_is net frames passed all sender_there.1.row (all_send sends))
+
+    -- what came back to a client is in its own buffers
+    pub back_here : ClientsSend cast passed → (k : ℕ) (program : Program) (mac : Mac) (q : ClientPools) → IsClientOf net k program mac q → AreSends q.tx (passed.taken (client_first net.first k + 5))
+    unfolding whole_with
+    back_here sends = back_is net frames passed (whole_with device_there.0 device_there.1 device_there.2 sender_there.0 sender_there.1) sender_there.1.row (all_send sends)
+
+    -- and then what it puts sends frames in them
+    pub puts_here : (k : ℕ) (program : Program) (mac : Mac) (q : ClientPools) → IsClientOf net k program mac q → AreSends q.tx (passed.taken (client_first net.first k + 5)) → AreSends q.tx (passed.sent (client_first net.first k + 4))
+    puts_here = client_puts net frames passed whole_there
+
   none_turns : HasNoNetwork cast → (k : ℕ) (x : Actor) → slice_get actors k ≡ Some x → InTurn (scene_of cast) x passed
-  none_turns none k (Kinds.UartDevice x) at = tt
-  none_turns none k (Kinds.UartDriver x) at = tt
-  none_turns none k (Kinds.SerialVirtRx x) at = tt
-  none_turns none k (Kinds.SerialVirtTx x) at = tt
-  none_turns none k (Kinds.SerialClient x) at = tt
-  none_turns none k (Kinds.EthDevice x) at = tt
-  none_turns none k (Kinds.EthDriver x) at = tt
-  none_turns none k (Kinds.NetVirtRx v) at = absurd (none.none k (receiver_part v) (map_get part_of actors k (Kinds.NetVirtRx v) at))
-  none_turns none k (Kinds.NetCopier c) at = absurd (none.none k (copier_part c) (map_get part_of actors k (Kinds.NetCopier c) at))
-  none_turns none k (Kinds.NetClient c) at = absurd (none.none k (client_part c) (map_get part_of actors k (Kinds.NetClient c) at))
-  none_turns none k (Kinds.NetVirtTx v) at = absurd (none.no_sender k (send_part v) (map_get part_of actors k (Kinds.NetVirtTx v) at))
+  none_turns empty k (Kinds.UartDevice x) at = tt
+  none_turns empty k (Kinds.UartDriver x) at = tt
+  none_turns empty k (Kinds.SerialVirtRx x) at = tt
+  none_turns empty k (Kinds.SerialVirtTx x) at = tt
+  none_turns empty k (Kinds.SerialClient x) at = tt
+  none_turns empty k (Kinds.EthDevice x) at = tt
+  none_turns empty k (Kinds.EthDriver x) at = tt
+  none_turns empty k (Kinds.NetVirtRx v) at = absurd (empty.none k (receiver_part v) (map_get part_of actors k (Kinds.NetVirtRx v) at))
+  none_turns empty k (Kinds.NetCopier c) at = absurd (empty.none k (copier_part c) (map_get part_of actors k (Kinds.NetCopier c) at))
+  none_turns empty k (Kinds.NetClient c) at = absurd (empty.none k (client_part c) (map_get part_of actors k (Kinds.NetClient c) at))
+  none_turns empty k (Kinds.NetVirtTx v) at = absurd (empty.no_sender k (send_part v) (map_get part_of actors k (Kinds.NetVirtTx v) at))
 
-  turns_by : IsWired rows cast → (k : ℕ) (x : Actor) → slice_get actors k ≡ Some x → InTurn (scene_of cast) x passed
-  turns_by (inl none) k x at = none_turns none k x at
-  turns_by (inr half) k x at = half_turns half.0 half.1 k x at (work.fits k x at) (work.stands k x at)
+  turns_by : IsWired rows cast → ClientsSend cast passed → (k : ℕ) (x : Actor) → slice_get actors k ≡ Some x → InTurn (scene_of cast) x passed
+  turns_by (inl empty) sends k x at = none_turns empty k x at
+  turns_by (inr net) sends k x at = whole_turns net.0 net.1 sends k x at (work.fits k x at) (work.stands k x at)
 
-pub in_turn : (ends : Role → ℕ → End) (rows : List QueueRow) (actors : List Actor) (passed : Passed) → IsWired rows (map part_of actors) → AreAtWork ends rows actors passed → (k : ℕ) (x : Actor) → slice_get actors k ≡ Some x → InTurn (scene_of (map part_of actors)) x passed
+pub in_turn : (ends : Role → ℕ → End) (rows : List QueueRow) (actors : List Actor) (passed : Passed) → IsWired rows (map part_of actors) → AreAtWork ends rows actors passed → ClientsSend (map part_of actors) passed → (k : ℕ) (x : Actor) → slice_get actors k ≡ Some x → InTurn (scene_of (map part_of actors)) x passed
 in_turn ends rows actors passed wired work = turns_by ends rows actors passed work wired
 
-pub recorded : (ends : Role → ℕ → End) (rows : List QueueRow) (actors : List Actor) (passed : Passed) (net : NetPlace) → HasHalf rows net (map part_of actors) → AreAtWork ends rows actors passed → (k c : ℕ) (x : Actor) (program : Program) (mac : Mac) (pools : ClientPools) → slice_get actors k ≡ Some x → part_of x ≡ NetworkPart (client_at net.first c program mac pools) → 1 ≤ pools.rx.buffers → slice_get net.macs c ≡ Some mac
+pub recorded : (ends : Role → ℕ → End) (rows : List QueueRow) (actors : List Actor) (passed : Passed) (net : NetPlace) → HasWhole rows net (map part_of actors) → AreAtWork ends rows actors passed → (k c : ℕ) (x : Actor) (program : Program) (mac : Mac) (pools : ClientPools) → slice_get actors k ≡ Some x → part_of x ≡ NetworkPart (client_at net.first c program mac pools) → 1 ≤ pools.rx.buffers → slice_get net.macs c ≡ Some mac
     → IsPrefix (frames_got x) (frames_for mac (scene_of (map part_of actors)).frames)
-recorded ends rows actors passed net half work = recorded_here ends rows actors passed work net half
+recorded ends rows actors passed net whole work = recorded_here ends rows actors passed work net whole
+
+pub sent_on : (ends : Role → ℕ → End) (rows : List QueueRow) (actors : List Actor) (passed : Passed) (net : NetPlace) → HasWhole rows net (map part_of actors) → AreAtWork ends rows actors passed → ClientsSend (map part_of actors) passed → (k : ℕ) (x : Actor) → slice_get actors k ≡ Some x → part_of x ≡ NetworkPart (device_at net.first (scene_of (map part_of actors)).frames)
+    → PrefixMerge (sends_at net.programs net.macs (scene_of (map part_of actors)).frames) (frames_got x)
+sent_on ends rows actors passed net whole work = sent_here ends rows actors passed work net whole
+
+-- nothing was put at the start
+pub nothing_sent : (cast : List Part) → ClientsSend cast nothing_passed
+nothing_sent cast k program mac rx_active rx_free tx_active tx_free rx tx at j c there = cc
+
+-- a client's entries after one more call: where it puts one, nothing came back to it in this call
+module _ (ends ends' : Role → ℕ → End) (rows : List QueueRow) (actors actors' : List Actor) (passed : Passed) (deed : Deed) (same : map part_of actors' ≡ map part_of actors) (work : AreAtWork ends rows actors passed) (sends : ClientsSend (map part_of actors) passed) (later : AreAtWork ends' rows actors' (with_deed passed deed)) where
+  module _ (net : NetPlace) (whole : HasWhole rows net (map part_of actors)) where
+    client_sends_on : (k : ℕ) (program : Program) (mac : Mac) (q : ClientPools) → IsClientOf net k program mac q → AreSends q.tx (passed.sent (client_first net.first k + 4)) → AreSends q.tx ((with_deed passed deed).sent (client_first net.first k + 4))
+    client_sends_on k program mac q of old = by (puts_or_takes passed deed)
+      where
+        by : ((n : ℕ) → (with_deed passed deed).sent n ≡ passed.sent n) ⊎ ((n : ℕ) → (with_deed passed deed).taken n ≡ passed.taken n) → AreSends q.tx ((with_deed passed deed).sent (client_first net.first k + 4))
+        by (inl still) = subst (AreSends q.tx) (sym (still (client_first net.first k + 4))) old
+        by (inr still) =
+            let back = back_here ends rows actors passed work net whole sends k program mac q of in
+            puts_here ends' rows actors' (with_deed passed deed) later net (subst (HasWhole rows net) (sym same) whole) k program mac q of (subst (AreSends q.tx) (sym (still (client_first net.first k + 5))) back)
+
+    whole_sends_on : ClientsSend (map part_of actors) (with_deed passed deed)
+    whole_sends_on k program mac rx_active rx_free tx_active tx_free rx tx at =
+        let is = client_is net (scene_of (map part_of actors)).frames program mac rx_active rx_free tx_active tx_free rx tx (whole.only k (ClientPart program mac rx_active rx_free tx_active tx_free rx tx) at) in
+        let e = is.5 in
+        let queue : tx_active ≡ client_first net.first is.0 + 4 = cc in
+        let pool : tx ≡ own_pool is.3.tx = cc in
+        let now = sends k program mac rx_active rx_free tx_active tx_free rx tx at in
+        let old = sends_own is.3.tx passed (client_first net.first is.0 + 4) (subst (λ p. AreSends p (passed.sent (client_first net.first is.0 + 4))) pool (subst (λ n. AreSends tx (passed.sent n)) queue now)) in
+        let new = own_sends is.3.tx (with_deed passed deed) (client_first net.first is.0 + 4) (client_sends_on is.0 is.1 is.2 is.3 is.4 old) in
+        subst (λ n. AreSends tx ((with_deed passed deed).sent n)) (sym queue) (subst (λ p. AreSends p ((with_deed passed deed).sent (client_first net.first is.0 + 4))) (sym pool) new)
+
+  sends_by : IsWired rows (map part_of actors) → ClientsSend (map part_of actors) (with_deed passed deed)
+  sends_by (inl empty) = λ k program mac rx_active rx_free tx_active tx_free rx tx at. absurd (empty.none k (ClientPart program mac rx_active rx_free tx_active tx_free rx tx) at)
+  sends_by (inr net) = whole_sends_on net.0 net.1
+
+pub sends_on : (ends ends' : Role → ℕ → End) (rows : List QueueRow) (actors actors' : List Actor) (passed : Passed) (deed : Deed) → IsWired rows (map part_of actors) → map part_of actors' ≡ map part_of actors → AreAtWork ends rows actors passed → ClientsSend (map part_of actors) passed → AreAtWork ends' rows actors' (with_deed passed deed) → ClientsSend (map part_of actors') (with_deed passed deed)
+sends_on ends ends' rows actors actors' passed deed wired same work sends later = subst (λ c. ClientsSend c (with_deed passed deed)) (sym same) (sends_by ends ends' rows actors actors' passed deed same work sends later wired)

@@ -1,4 +1,4 @@
--- The network's actors in a cast: there are none, or they are a whole receive half at the layout's
+-- The network's actors in a cast: there are none, or they are the whole network at the layout's
 -- queues.
 use Rattle.std.specs.Prelude.{◌≡◌, ◌⊎◌, ◌+◌, ◌*◌, ◌<◌, ◌≤◌, ℕ, Some, List, length, slice_get}
 use Rattle.cargo_core.specs.Items.{kind_of}
@@ -9,62 +9,76 @@ use Rattle.wire_core.specs.Deeds.{Cargo}
 use Rattle.wire_core.specs.Ends.{Role, End}
 use Rattle.wire_core.specs.Lists.{Passed}
 use Rattle.net_law.specs.Receiving.{HandsOver}
-use Rattle.net_expect.specs.Expecting.{Program}
+use Rattle.net_expect.specs.Expecting.{Program, Source}
 use Rattle.net_owners.specs.Names.{PoolAt, ClientPools}
-use Rattle.net_parts.specs.Parts.{NetPart}
-use Rattle.net_tx_parts.specs.Parts.{SendPart}
+use Rattle.net_parts.specs.Parts.{NetPart, NetClient}
 use Rattle.net_parts.specs.Numbers.{device_at, driver_at, receiver_at, copier_at, client_at}
+use Rattle.net_tx_parts.specs.Parts.{SendPart}
+use Rattle.net_tx_parts.specs.Numbers.{NetPlace, own_pools, sender_at}
+use Rattle.net_tx_cast.specs.Casting.{AreFrames, AreSends, IsClientOf}
 use Rattle.actor_set.specs.Parts.{Part, NetworkPart, SendingPart}
 use Rattle.actor_set.specs.Actors.{FitsActor, ActorStandsFor}
 use Rattle.actor_set.specs.declared.actor.Actor.{Actor}
 use Rattle.actor_law.specs.Kinds.{scene_of}
 
--- where the network class stands: its first queue, the pool in which the device receives, and of
--- each client its address and its pools
-pub record NetPlace : Type 0 where
-  pub first : ℕ
-  pub pool : PoolAt
-  pub macs : List Mac
-  pub pools : List ClientPools
+-- some actor of a cast plays this part
+abbrev pub HasPart : List Part → Part → Type 0
+HasPart cast p = (k : ℕ) × (slice_get cast k ≡ Some p)
 
--- some actor of a cast plays this part of the network class
-abbrev pub HasPart : List Part → NetPart → Type 0
-HasPart cast p = (k : ℕ) × (slice_get cast k ≡ Some (NetworkPart p))
-
--- a part is one of the receive half: that of the device, the driver or the receiving virtualiser,
--- or that of a client's copier or of the client, which has buffers to receive in
-abbrev pub IsOfHalf : NetPlace → (frames : List (List ℕ)) → NetPart → Type 0
-IsOfHalf net frames p =
-    (p ≡ device_at net.first frames) ⊎ (p ≡ driver_at net.first)
-    ⊎ (p ≡ receiver_at net.first net.pool net.macs)
-    ⊎ ((k : ℕ) × (k < length net.macs) × (p ≡ copier_at net.first k))
+-- a part is one of the network's at its place: that of the device, the driver, the receiving
+-- virtualiser or the sending one, or that of a client's copier or of a client
+abbrev pub IsOfNetwork : NetPlace → (frames : List (List ℕ)) → Part → Type 0
+IsOfNetwork net frames p =
+    (p ≡ NetworkPart (device_at net.first frames)) ⊎ (p ≡ NetworkPart (driver_at net.first))
+    ⊎ (p ≡ NetworkPart (receiver_at net.first net.pool net.macs))
+    ⊎ (p ≡ SendingPart (sender_at net.first net.pools))
+    ⊎ ((k : ℕ) × (k < length net.macs) × (p ≡ NetworkPart (copier_at net.first k)))
     ⊎ ((k : ℕ) × (program : Program) × (mac : Mac) × (q : ClientPools)
-    × (slice_get net.macs k ≡ Some mac) × (slice_get net.pools k ≡ Some q)
-    × (1 ≤ q.rx.buffers) × (p ≡ client_at net.first k program mac q))
+    × IsClientOf net k program mac q
+    × (p ≡ NetworkPart (client_at net.first k program mac (own_pools q))))
 
--- a cast has the whole receive half and no other actor of the network; the class's queues carry
--- entries of the network, and no frame is longer than a buffer
-pub record HasHalf (rows : List QueueRow) (net : NetPlace) (cast : List Part) : Type 0 where
-  pub device : HasPart cast (device_at net.first (scene_of cast).frames)
-  pub driver : HasPart cast (driver_at net.first)
-  pub receiver : HasPart cast (receiver_at net.first net.pool net.macs)
-  pub copier : (k : ℕ) → k < length net.macs → HasPart cast (copier_at net.first k)
+-- a cast has the whole network and no other actor of it; each client has buffers to receive in, and
+-- an address of six bytes; the class's queues carry entries of the network; and each frame,
+-- received or of a script, has 14 to 1,514 bytes
+pub record HasWhole (rows : List QueueRow) (net : NetPlace) (cast : List Part) : Type 0 where
+  pub pools_many : length net.pools ≡ length net.macs
+  pub programs_many : length net.programs ≡ length net.macs
+  pub device : HasPart cast (NetworkPart (device_at net.first (scene_of cast).frames))
+  pub driver : HasPart cast (NetworkPart (driver_at net.first))
+  pub receiver : HasPart cast (NetworkPart (receiver_at net.first net.pool net.macs))
+  pub sender : HasPart cast (SendingPart (sender_at net.first net.pools))
+  pub copier : (k : ℕ) → k < length net.macs → HasPart cast (NetworkPart (copier_at net.first k))
+  pub client : (k : ℕ) (program : Program) (mac : Mac) (q : ClientPools)
+      → IsClientOf net k program mac q
+      → HasPart cast (NetworkPart (client_at net.first k program mac (own_pools q)))
   pub only : (k : ℕ) (p : NetPart) → slice_get cast k ≡ Some (NetworkPart p)
-      → IsOfHalf net (scene_of cast).frames p
-  pub no_sender : (k : ℕ) (p : SendPart) → slice_get cast k ≡ Some (SendingPart p) → ⊥
+      → IsOfNetwork net (scene_of cast).frames (NetworkPart p)
+  pub only_sender : (k : ℕ) (p : SendPart) → slice_get cast k ≡ Some (SendingPart p)
+      → IsOfNetwork net (scene_of cast).frames (SendingPart p)
   pub kinds : (i : ℕ) → i < 8 + 6 * length net.macs → (row : QueueRow)
       × (slice_get rows (net.first + i) ≡ Some row) × (row.kind ≡ Kind.Net)
-  pub short : (k : ℕ) (frame : List ℕ) → slice_get (scene_of cast).frames k ≡ Some frame
-      → length frame ≤ 2048
+  pub some : (k : ℕ) (q : ClientPools) → slice_get net.pools k ≡ Some q → 1 ≤ q.rx.buffers
+  pub addresses : (k : ℕ) (mac : Mac) → slice_get net.macs k ≡ Some mac → length mac.0 ≡ 6
+  pub frames : AreFrames (scene_of cast).frames
+  pub scripts : (k : ℕ) (script : List (List ℕ)) → slice_get net.programs k ≡ Some (Source script)
+      → AreFrames script
 
 -- a cast has no actor of the network
 pub record HasNoNetwork (cast : List Part) : Type 0 where
   pub none : (k : ℕ) (p : NetPart) → slice_get cast k ≡ Some (NetworkPart p) → ⊥
   pub no_sender : (k : ℕ) (p : SendPart) → slice_get cast k ≡ Some (SendingPart p) → ⊥
 
--- a cast has no actor of the network, or the whole receive half
+-- a cast has no actor of the network, or the whole network
 abbrev pub IsWired : List QueueRow → List Part → Type 0
-IsWired rows cast = HasNoNetwork cast ⊎ ((net : NetPlace) × HasHalf rows net cast)
+IsWired rows cast = HasNoNetwork cast ⊎ ((net : NetPlace) × HasWhole rows net cast)
+
+-- each network client put entries alone that send frames in buffers of its pool for sending
+abbrev pub ClientsSend : List Part → Passed → Type 0
+ClientsSend cast passed = (k : ℕ) (program : Program) (mac : Mac)
+    (rx_active rx_free tx_active tx_free : ℕ) (rx tx : PoolAt)
+    → slice_get cast k
+    ≡ Some (NetworkPart (NetClient program mac rx_active rx_free tx_active tx_free rx tx))
+    → AreSends tx (passed.sent tx_active)
 
 -- what was put to each queue is of the queue's kind
 abbrev pub AreOfKind : List QueueRow → Passed → Type 0

@@ -1,34 +1,46 @@
-//! The actors of a cast, of all classes, where the network's are a whole receive half at the
-//! layout's queues: nothing comes out of turn at any actor, so what passed at each is as its sheet
-//! says.
+//! The actors of a cast, of all classes, where the network's are the whole network at the layout's
+//! queues: nothing comes out of turn at any actor, so what passed at each is as its sheet says; and
+//! what the network's device and clients recorded.
 #![tactic(auto)]
 
 ghost use Rattle.std.specs.Prelude.{◌≡◌, ◌≤◌, ℕ, Some, List, map, slice_get};
-ghost use Rattle.cargo_core.specs.Lists.{IsPrefix};
+ghost use Rattle.cargo_core.specs.Lists.{IsPrefix, PrefixMerge};
 ghost use Rattle.frame_core.specs.declared.mac.Mac.{Mac};
 ghost use Rattle.wire_core.specs.declared.names.QueueRow.{QueueRow};
+ghost use Rattle.wire_core.specs.Deeds.{Deed};
 ghost use Rattle.wire_core.specs.Ends.{Role, End};
-ghost use Rattle.wire_core.specs.Lists.{Passed};
+ghost use Rattle.wire_core.specs.Lists.{Passed, nothing_passed, with_deed};
 ghost use Rattle.net_expect.specs.Expecting.{Program, frames_for};
 ghost use Rattle.net_owners.specs.Names.{ClientPools};
-ghost use Rattle.net_parts.specs.Numbers.{client_at};
-ghost use Rattle.actor_set.specs.Parts.{NetworkPart};
+ghost use Rattle.net_parts.specs.Numbers.{device_at, client_at};
+ghost use Rattle.net_tx_parts.specs.Numbers.{NetPlace};
+ghost use Rattle.net_tx_cast.specs.Casting.{sends_at};
+ghost use Rattle.actor_set.specs.Parts.{Part, NetworkPart};
 ghost use Rattle.actor_set.specs.Actors.{part_of};
 ghost use Rattle.actor_set.specs.declared.actor.Actor.{Actor};
 ghost use Rattle.actor_law.specs.Kinds.{scene_of};
 ghost use Rattle.actor_law.specs.Records.{frames_got};
 ghost use Rattle.actor_law.specs.Turning.{InTurn};
-ghost use Rattle.wired_law.specs.Wiring.{NetPlace, HasHalf, IsWired, AreAtWork};
+ghost use Rattle.wired_law.specs.Wiring.{HasWhole, IsWired, ClientsSend, AreAtWork};
 
-/// Nothing comes out of turn at any actor of a cast that is wired. A network client with buffers of
-/// its own recorded a beginning of the frames that are for its address.
+/// Nothing comes out of turn at any actor of a cast that is wired, where its clients put good
+/// descriptors alone; so they did when nothing had passed yet, and after one more call they still
+/// have. A network client with buffers of its own recorded a beginning of the frames that are for
+/// its address; and the device a merge of beginnings of what the clients send by their programs.
 pub fn wired_law()
     ensures turns { (ends : Role → ℕ → End) (rows : List QueueRow) (actors : List Actor)
         (passed : Passed) → IsWired rows (map part_of actors) → AreAtWork ends rows actors passed
-        → (k : ℕ) (x : Actor) → slice_get actors k ≡ Some x
-        → InTurn (scene_of (map part_of actors)) x passed }
+        → ClientsSend (map part_of actors) passed → (k : ℕ) (x : Actor)
+        → slice_get actors k ≡ Some x → InTurn (scene_of (map part_of actors)) x passed }
+    ensures starts { (cast : List Part) → ClientsSend cast nothing_passed }
+    ensures goes_on { (ends later : Role → ℕ → End) (rows : List QueueRow)
+        (actors moved : List Actor) (passed : Passed) (deed : Deed)
+        → IsWired rows (map part_of actors) → map part_of moved ≡ map part_of actors
+        → AreAtWork ends rows actors passed → ClientsSend (map part_of actors) passed
+        → AreAtWork later rows moved (with_deed passed deed)
+        → ClientsSend (map part_of moved) (with_deed passed deed) }
     ensures records { (ends : Role → ℕ → End) (rows : List QueueRow) (actors : List Actor)
-        (passed : Passed) (net : NetPlace) → HasHalf rows net (map part_of actors)
+        (passed : Passed) (net : NetPlace) → HasWhole rows net (map part_of actors)
         → AreAtWork ends rows actors passed
         → (k c : ℕ) (x : Actor) (program : Program) (mac : Mac) (pools : ClientPools)
         → slice_get actors k ≡ Some x
@@ -36,4 +48,12 @@ pub fn wired_law()
         → 1 ≤ pools.rx.buffers
         → slice_get net.macs c ≡ Some mac
         → IsPrefix (frames_got x) (frames_for mac (scene_of (map part_of actors)).frames) }
+    ensures wire { (ends : Role → ℕ → End) (rows : List QueueRow) (actors : List Actor)
+        (passed : Passed) (net : NetPlace) → HasWhole rows net (map part_of actors)
+        → AreAtWork ends rows actors passed → ClientsSend (map part_of actors) passed
+        → (k : ℕ) (x : Actor) → slice_get actors k ≡ Some x
+        → part_of x
+        ≡ NetworkPart (device_at net.first (scene_of (map part_of actors)).frames)
+        → PrefixMerge (sends_at net.programs net.macs (scene_of (map part_of actors)).frames)
+        (frames_got x) }
 {}

@@ -1,8 +1,17 @@
-use Rattle.wired_law.proofs.Wiring.{in_turn, recorded}
+use Rattle.wired_law.proofs.Wiring.{in_turn, recorded, sent_on, nothing_sent, sends_on}
 use Rattle.wired_law.proofs.wired_law.Goals as goal
 
 pub returns-clause-turns : goal.returns-clause-turns
 returns-clause-turns c = in_turn
 
+pub returns-clause-starts : goal.returns-clause-starts
+returns-clause-starts c = nothing_sent
+
+pub returns-clause-goes_on : goal.returns-clause-goes_on
+returns-clause-goes_on c = sends_on
+
 pub returns-clause-records : goal.returns-clause-records
 returns-clause-records c = recorded
+
+pub returns-clause-wire : goal.returns-clause-wire
+returns-clause-wire c = sent_on
