@@ -14,3 +14,4 @@ pub mod Rests
 pub mod Beside
 pub mod Paces
 pub mod Starts
+pub mod Seating

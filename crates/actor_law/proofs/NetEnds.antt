@@ -138,20 +138,25 @@ module _ (v : NetVirtRx) where
     lessee_there : (k : ℕ) → k < length v.work.macs.items → (c : Lessee) × (slice_get (lessees_of v) k ≡ Some c)
     lessee_there k lt = let long = lessees_long v.work.macs.items (to_queues v.ends) (from_queues v.ends) to_each from_each in there_is (lessees_of v) k (omega (arith, lt, long))
 
+    -- the end from the client at a place, and the one to it
+    pub receiver_in : (k : ℕ) (q : QueueId) → slice_get (from_queues v.ends) k ≡ Some q → slice_get (ends_of (receiver_part v)) (suc (suc (suc (twice k)))) ≡ Some (intake q.0)
+    receiver_in k q at =
+        let below = there_below (from_queues v.ends) k q at in
+        let c = lessee_there k (omega (arith, below, from_each)) in
+        let own : At k c.0 = served_at v.work.macs.items (to_queues v.ends) (from_queues v.ends) k c.0 c.1 in
+        let same : q ≡ own.1 = some_is (sym at ∙ own.4) in
+        pair_second (λ (d : Lessee). outlet d.active) (λ d. intake d.free) (lessees_of v) k c.0 c.1 ∙ ap (λ n. Some (intake n)) (sym (ap (λ (x : QueueId). x.0) same ∙ own.6))
+
+    pub receiver_out : (k : ℕ) (q : QueueId) → slice_get (to_queues v.ends) k ≡ Some q → slice_get (ends_of (receiver_part v)) (suc (suc (twice k))) ≡ Some (outlet q.0)
+    receiver_out k q at =
+        let below = there_below (to_queues v.ends) k q at in
+        let c = lessee_there k (omega (arith, below, to_each)) in
+        let own : At k c.0 = served_at v.work.macs.items (to_queues v.ends) (from_queues v.ends) k c.0 c.1 in
+        let same : q ≡ own.0 = some_is (sym at ∙ own.3) in
+        pair_first (λ (d : Lessee). outlet d.active) (λ d. intake d.free) (lessees_of v) k c.0 c.1 ∙ ap (λ n. Some (outlet n)) (sym (ap (λ (x : QueueId). x.0) same ∙ own.5))
+
     pub receiver_to : (r : Role) (n : ℕ) → VirtOwns v.ends r n → IsThere (ends_of (receiver_part v)) r n
     receiver_to Consumer n (inl h) = (0, ap (λ k. Some (intake k)) (sym h))
     receiver_to Producer n (inl h) = (1, ap (λ k. Some (outlet k)) (sym h))
-    receiver_to Consumer n (inr h) =
-        let below = there_below (from_queues v.ends) h.0 h.1 h.2 in
-        let c = lessee_there h.0 (omega (arith, below, from_each)) in
-        let own : At h.0 c.0 = served_at v.work.macs.items (to_queues v.ends) (from_queues v.ends) h.0 c.0 c.1 in
-        let same : h.1 ≡ own.1 = some_is (sym h.2 ∙ own.4) in
-        let is : n ≡ c.0.free = h.3 ∙ (ap (λ (q : QueueId). q.0) same ∙ own.6) in
-        (suc (suc (suc (twice h.0))), pair_second (λ (d : Lessee). outlet d.active) (λ d. intake d.free) (lessees_of v) h.0 c.0 c.1 ∙ ap (λ k. Some (intake k)) (sym is))
-    receiver_to Producer n (inr h) =
-        let below = there_below (to_queues v.ends) h.0 h.1 h.2 in
-        let c = lessee_there h.0 (omega (arith, below, to_each)) in
-        let own : At h.0 c.0 = served_at v.work.macs.items (to_queues v.ends) (from_queues v.ends) h.0 c.0 c.1 in
-        let same : h.1 ≡ own.0 = some_is (sym h.2 ∙ own.3) in
-        let is : n ≡ c.0.active = h.3 ∙ (ap (λ (q : QueueId). q.0) same ∙ own.5) in
-        (suc (suc (twice h.0)), pair_first (λ (d : Lessee). outlet d.active) (λ d. intake d.free) (lessees_of v) h.0 c.0 c.1 ∙ ap (λ k. Some (outlet k)) (sym is))
+    receiver_to Consumer n (inr h) = (suc (suc (suc (twice h.0))), receiver_in h.0 h.1 h.2 ∙ ap (λ k. Some (intake k)) (sym h.3))
+    receiver_to Producer n (inr h) = (suc (suc (twice h.0)), receiver_out h.0 h.1 h.2 ∙ ap (λ k. Some (outlet k)) (sym h.3))

@@ -64,20 +64,25 @@ module _ (v : NetVirtTx) where
     many : length ss ≡ length v.work.clients.items
     many = length-map v.work.clients.items (λ (c : Client). c.sender)
 
+    -- the end from the client at a place, and the one to it
+    pub sender_in : (k : ℕ) (q : QueueId) → slice_get from k ≡ Some q → slice_get (send_sheet (send_part v)).ends (suc (suc (twice k))) ≡ Some (intake q.0)
+    sender_in k q at =
+        let below = there_below from k q at in
+        let all = many in
+        let s = there_is ss k (omega (arith, below, from_each, all)) in
+        let r = there_is to k (omega (arith, below, from_each, to_each)) in
+        pair_first (λ (d : Shipper). intake d.active) (λ d. outlet d.free) clients k _ (there_at ss from to k s.0 q r.0 s.1 at r.1)
+
+    pub sender_out : (k : ℕ) (q : QueueId) → slice_get to k ≡ Some q → slice_get (send_sheet (send_part v)).ends (suc (suc (suc (twice k)))) ≡ Some (outlet q.0)
+    sender_out k q at =
+        let below = there_below to k q at in
+        let all = many in
+        let s = there_is ss k (omega (arith, below, to_each, all)) in
+        let f = there_is from k (omega (arith, below, from_each, to_each)) in
+        pair_second (λ (d : Shipper). intake d.active) (λ d. outlet d.free) clients k _ (there_at ss from to k s.0 f.0 q s.1 f.1 at)
+
     pub sender_to : (r : Role) (n : ℕ) → VirtOwns v.ends r n → IsThere (send_sheet (send_part v)).ends r n
     sender_to Consumer n (inl h) = (0, ap (λ k. Some (intake k)) (sym h))
     sender_to Producer n (inl h) = (1, ap (λ k. Some (outlet k)) (sym h))
-    sender_to Consumer n (inr h) =
-        let below = there_below from h.0 h.1 h.2 in
-        let all = many in
-        let s = there_is ss h.0 (omega (arith, below, from_each, all)) in
-        let r = there_is to h.0 (omega (arith, below, from_each, to_each)) in
-        let at = there_at ss from to h.0 s.0 h.1 r.0 s.1 h.2 r.1 in
-        (suc (suc (twice h.0)), pair_first (λ (d : Shipper). intake d.active) (λ d. outlet d.free) clients h.0 _ at ∙ ap (λ k. Some (intake k)) (sym h.3))
-    sender_to Producer n (inr h) =
-        let below = there_below to h.0 h.1 h.2 in
-        let all = many in
-        let s = there_is ss h.0 (omega (arith, below, to_each, all)) in
-        let q = there_is from h.0 (omega (arith, below, from_each, to_each)) in
-        let at = there_at ss from to h.0 s.0 q.0 h.1 s.1 q.1 h.2 in
-        (suc (suc (suc (twice h.0))), pair_second (λ (d : Shipper). intake d.active) (λ d. outlet d.free) clients h.0 _ at ∙ ap (λ k. Some (outlet k)) (sym h.3))
+    sender_to Consumer n (inr h) = (suc (suc (twice h.0)), sender_in h.0 h.1 h.2 ∙ ap (λ k. Some (intake k)) (sym h.3))
+    sender_to Producer n (inr h) = (suc (suc (suc (twice h.0))), sender_out h.0 h.1 h.2 ∙ ap (λ k. Some (outlet k)) (sym h.3))

@@ -2,6 +2,8 @@
 -- and what a trace gives them beside what they say.
 use Rattle.std.specs.Prelude.{ℕ, Bool, not, ◌&&◌, List, [], flat_map, slice_get}
 use Rattle.std.specs.Option.{option_map_or}
+use Rattle.cargo_core.specs.declared.item.QueueKind.{QueueKind}
+use Rattle.cargo_core.specs.declared.item.QueueKind.TheVariants as Kind
 use Rattle.wire_core.specs.Journal.{Hostiles}
 use Rattle.play_core.specs.Manners.{Manner, Calm, Hostile, Manners, hostile_by}
 use Rattle.play_core.specs.Sheets.{Scene, Sheet}
@@ -76,6 +78,16 @@ manner_of (SendingPart p) = Calm
 -- how each actor of a cast goes about
 abbrev pub manners : List Part → Manners
 manners cast k = option_map_or manner_of (slice_get cast k) Calm
+
+-- what the queues of a part carry
+abbrev pub part_kind : Part → QueueKind
+part_kind (UartPart rx tx input) = Kind.Byte
+part_kind (DriverPart device_rx device_tx rx tx) = Kind.Byte
+part_kind (RxPart rx clients) = Kind.Byte
+part_kind (TxPart tx clients) = Kind.Byte
+part_kind (ClientPart rx tx script) = Kind.Byte
+part_kind (NetworkPart p) = Kind.Net
+part_kind (SendingPart p) = Kind.Net
 
 -- which of them are hostile
 abbrev pub hostiles : List Part → Hostiles

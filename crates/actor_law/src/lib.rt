@@ -17,11 +17,11 @@ ghost use Rattle.turn_kit.specs.Pace.{pendings, IsCalled};
 ghost use Rattle.play_core.specs.Moved.{Moved, Seat, moved};
 ghost use Rattle.play_core.specs.Wants.{all_settled};
 ghost use Rattle.play_core.specs.Runs.{called_from};
-ghost use Rattle.play_core.specs.Sheets.{Scene, IsOwn};
+ghost use Rattle.play_core.specs.Sheets.{Scene, IsOwn, AreApart};
 ghost use Rattle.actor_set.specs.Parts.{Part};
 ghost use Rattle.actor_set.specs.Actors.{FitsActor, ActorStandsFor, ActorEnd, ActorTurned, IsWhole, actor_round, actor_rests, actor_hand, part_of};
 ghost use Rattle.actor_set.specs.declared.actor.Actor.{Actor};
-ghost use Rattle.actor_law.specs.Kinds.{sheet};
+ghost use Rattle.actor_law.specs.Kinds.{part_kind, sheet};
 ghost use Rattle.actor_law.specs.Records.{record_of, record_by, frames_got, frames_by};
 ghost use Rattle.actor_law.specs.Turning.{InTurn};
 ghost use Rattle.actor_set.specs.StartStates.{IsNew, HasApartEnds, HasNoLoop, HasSeat, kind_at};
@@ -81,7 +81,8 @@ pub fn turn_law()
 
 /// An actor of any kind in its start state stands for nothing and has its sheet's start hand.
 /// Where rows give it ends of its own, it fits them in their start state; and its ends are a round
-/// where no queue is twice among them.
+/// where no queue is twice among them. Where no end of its sheet stands twice, its ends on each side
+/// are of queues of their own; and its part tells what these carry.
 pub fn start_law()
     ensures stands { (a : Actor) → IsNew a → ActorStandsFor a nothing_passed }
     ensures whole { (a : Actor) → IsNew a → IsWhole a }
@@ -91,4 +92,7 @@ pub fn start_law()
         → ((r : Role) (n : ℕ) → ActorEnd a r n → HasSeat rows (kind_at a) k r n)
         → FitsActor (end_at (starts rows)) a }
     ensures round { (a : Actor) → HasApartEnds a → HasNoLoop a → IsRound (actor_round a) }
+    ensures apart { (scene : Scene) (a : Actor) → IsWhole a
+        → AreApart (sheet scene (part_of a)).ends → HasApartEnds a }
+    ensures kind { (a : Actor) → kind_at a ≡ part_kind (part_of a) }
 {}

@@ -121,19 +121,19 @@ module _ (plan : Plan) where
     unfolding posts_of
     in_net p s = stands_left p (net_part ++ serial_part) blk_part (stands_left p net_part serial_part (subst (λ o. Stands p (option_map_or net_posts o [])) (sym is) s))
 
-    net_client : (k : ℕ) (x : NetClientKeys) (p : Post) → slice_get net.client k ≡ Some x → Stands p (net_client_posts (0 + k) x) → HasJob plan p.job (actor_named plan p.name).0
+    pub net_client : (k : ℕ) (x : NetClientKeys) (p : Post) → slice_get net.client k ≡ Some x → Stands p (net_client_posts (0 + k) x) → HasJob plan p.job (actor_named plan p.name).0
     net_client k x p there s = let e = stands_each net_client_posts p 0 net.client k x there s in hired p (in_net p (suc (suc (suc e.0)), e.1))
 
-    eth : HasJob plan EthDevice (eth_number plan).0
+    pub eth : HasJob plan EthDevice (eth_number plan).0
     eth = eth_at (ap is_some is)
 
-    driver : HasJob plan EthDriver (actor_named plan net.driver).0
+    pub driver : HasJob plan EthDriver (actor_named plan net.driver).0
     driver = hired (post EthDriver net.driver) (in_net (post EthDriver net.driver) (0, refl))
 
-    receiver : HasJob plan NetReceiver (actor_named plan net.rx_virt).0
+    pub receiver : HasJob plan NetReceiver (actor_named plan net.rx_virt).0
     receiver = hired (post NetReceiver net.rx_virt) (in_net (post NetReceiver net.rx_virt) (1, refl))
 
-    sender : HasJob plan NetSender (actor_named plan net.tx_virt).0
+    pub sender : HasJob plan NetSender (actor_named plan net.tx_virt).0
     sender = hired (post NetSender net.tx_virt) (in_net (post NetSender net.tx_virt) (2, refl))
 
     fit_net_client : (k : ℕ) (x : NetClientKeys) → slice_get net.client k ≡ Some x → Fit (net_client_queues plan net (0 + k) x) (net_client_owners (0 + k))
@@ -167,22 +167,22 @@ module _ (plan : Plan) where
     unfolding posts_of
     in_serial p s = stands_left p (net_part ++ serial_part) blk_part (stands_right p net_part serial_part (subst (λ o. Stands p (option_map_or serial_posts o [])) (sym is) s))
 
-    serial_client : (k : ℕ) (x : SerialClientKeys) → slice_get serial.client k ≡ Some x → HasJob plan (SerialClient (0 + k)) (actor_named plan x.pd).0
+    pub serial_client : (k : ℕ) (x : SerialClientKeys) → slice_get serial.client k ≡ Some x → HasJob plan (SerialClient (0 + k)) (actor_named plan x.pd).0
     serial_client k x there =
         let p = post (SerialClient (0 + k)) x.pd in
         let e = stands_each serial_client_posts p 0 serial.client k x there (0, refl) in
         hired p (in_serial p (suc (suc (suc e.0)), e.1))
 
-    uart : HasJob plan UartDevice (uart_number plan).0
+    pub uart : HasJob plan UartDevice (uart_number plan).0
     uart = uart_at (ap is_some is)
 
-    uart_driver : HasJob plan UartDriver (actor_named plan serial.driver).0
+    pub uart_driver : HasJob plan UartDriver (actor_named plan serial.driver).0
     uart_driver = hired (post UartDriver serial.driver) (in_serial (post UartDriver serial.driver) (0, refl))
 
-    serial_receiver : HasJob plan SerialReceiver (actor_named plan serial.rx_virt).0
+    pub serial_receiver : HasJob plan SerialReceiver (actor_named plan serial.rx_virt).0
     serial_receiver = hired (post SerialReceiver serial.rx_virt) (in_serial (post SerialReceiver serial.rx_virt) (1, refl))
 
-    serial_sender : HasJob plan SerialSender (actor_named plan serial.tx_virt).0
+    pub serial_sender : HasJob plan SerialSender (actor_named plan serial.tx_virt).0
     serial_sender = hired (post SerialSender serial.tx_virt) (in_serial (post SerialSender serial.tx_virt) (2, refl))
 
     fit_serial_client : (k : ℕ) (x : SerialClientKeys) → slice_get serial.client k ≡ Some x → Fit (serial_client_queues plan serial (0 + k) x) (serial_client_owners (0 + k))

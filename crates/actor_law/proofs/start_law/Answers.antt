@@ -1,5 +1,6 @@
 use Rattle.actor_law.proofs.Paces.{start_round}
 use Rattle.actor_law.proofs.Starts.{new_stands, new_whole, new_hand, new_fits}
+use Rattle.actor_law.proofs.Seating.{apart_ends, kind_is}
 use Rattle.actor_law.proofs.start_law.Goals as goal
 
 pub returns-clause-stands : goal.returns-clause-stands
@@ -16,3 +17,9 @@ returns-clause-fits c = new_fits
 
 pub returns-clause-round : goal.returns-clause-round
 returns-clause-round c = start_round
+
+pub returns-clause-apart : goal.returns-clause-apart
+returns-clause-apart c = apart_ends
+
+pub returns-clause-kind : goal.returns-clause-kind
+returns-clause-kind c = kind_is
