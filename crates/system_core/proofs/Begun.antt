@@ -26,7 +26,7 @@ use Rattle.system_core.specs.Builds.{serial_class}
 use Rattle.system_core.proofs.Casting.{HasSerial}
 use Rattle.system_core.specs.PlanPlays.{ShowsInPart, ShowsWhole}
 use Rattle.actor_law.proofs.Calm.{calm_row}
-use Rattle.system_core.proofs.Seconds.{second_get, second_there, second_length}
+use Rattle.cast_core.proofs.Seconds.{second_get, second_there, second_length}
 
 -- an actor of the serial class is one of a cast
 abbrev pub There : Setting → SerialPart → Type 0

@@ -18,7 +18,9 @@ use Rattle.actor_set.specs.declared.actor.Actor.{Actor}
 use Rattle.wired_law.specs.Wiring.{HasWhole}
 use Rattle.cast_core.specs.Casts.{AreCast, net_place}
 use Rattle.cast_law.specs.Seats.{AreSeated}
-use Rattle.cast_law.proofs.Casting.{seated, parts_are, whole_is, scene_is}
+use Rattle.cast_law.proofs.Joined.{all_seated, whole_network}
+use Rattle.cast_law.proofs.Seated.{part_there}
+use Rattle.cast_law.proofs.Wired.{scene_is}
 use Rattle.system_core.specs.Shows.{Crew}
 use Rattle.system_core.specs.States.{started}
 use Rattle.system_core.specs.Crews.{net_crew, serial_crew}
@@ -40,16 +42,16 @@ no_blk plan h = go plan.net plan.blk h
 -- actors that are cast, at the plan's rows
 module _ (plan : Plan) (valid : Valid plan) (blk : plan.blk ≡ None) (trace : Trace) (read : IsReadFor plan trace) (actors : List Actor) (cast : AreCast plan trace actors) (rows : List QueueRow) (rows_are : rows ≡ queues_of plan) where
   pub are_seated : AreSeated rows actors
-  are_seated = subst (λ rs. AreSeated rs actors) (sym rows_are) (seated plan trace actors valid blk read cast)
+  are_seated = subst (λ rs. AreSeated rs actors) (sym rows_are) (all_seated plan trace actors valid blk read cast)
 
   pub is_built : (net serial : Crew) → net ≡ net_crew plan → serial ≡ serial_crew plan → IsBuilt plan trace (started (start_history rows) rows actors net serial)
   is_built net serial net_is serial_is = record {
     cast = record {
       rows = rows_are;
       count = length-map actors part_of ∙ cast.count_is;
-      scene = scene_is plan trace actors valid blk read cast;
-      parts = parts_are plan trace actors valid blk read cast;
-      whole = λ n has. subst (λ rs. HasWhole rs (net_place plan trace) (map part_of actors)) (sym rows_are) (whole_is plan trace actors valid blk read cast n has);
+      scene = scene_is plan trace actors valid cast blk;
+      parts = part_there plan trace actors valid cast;
+      whole = λ n has. subst (λ rs. HasWhole rs (net_place plan trace) (map part_of actors)) (sym rows_are) (whole_network plan trace actors valid read cast n has);
       net = net_is;
       serial = serial_is;
     };

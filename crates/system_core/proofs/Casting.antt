@@ -9,8 +9,8 @@ use Rattle.serial_law.specs.Parts.{SerialPart, SerialDevice, SerialDriver, Seria
 use Rattle.job_law.specs.Jobs as jobs
 use Rattle.actor_set.specs.Parts.{RxPart, TxPart, ClientPart}
 use Rattle.actor_law.specs.Kinds.{serial_part}
-use Rattle.cast_core.specs.Casts.{every_second, first_serial}
-use Rattle.cast_law.proofs.Naming.{uart_job, uart_driver_job, serial_receiver_job, serial_sender_job, serial_client_job}
+use Rattle.cast_core.specs.Sources.{every_second, first_serial}
+use Rattle.seat_law.proofs.Naming.{serial_named}
 use Rattle.system_core.specs.Shows.{Crew, Setting}
 use Rattle.system_core.specs.States.{crew_of, nobody}
 use Rattle.system_core.specs.Crews.{number_named, serial_crew}
@@ -37,12 +37,13 @@ has_serial plan trace s cast serial has =
     let who : s.serial ≡ crew_of (Some (uart_number plan).0) (map (λ (c : Client). number_named plan c.pd) serial.client) =
     cast.serial ∙ ap (λ o. option_map_or (λ (x : Serial). crew_of (Some (uart_number plan).0) (map (λ (c : Client). number_named plan c.pd) x.client)) o nobody) has in
     let clients = serials plan serial has in
+    let named = serial_named plan serial has in
     record {
       device_is = ap (λ (c : Crew). c.device) who;
       clients_are = ap (λ (c : Crew). c.clients) who;
-      device = cast.parts jobs.UartDevice _ (uart_job plan serial has);
-      driver = cast.parts jobs.UartDriver _ (uart_driver_job plan serial has);
-      receiver = cast.parts jobs.SerialReceiver _ (serial_receiver_job plan serial has) ∙ ap (λ (cs : List Client). Some (RxPart (first + 2) (every_second (first + 4) (length cs)))) clients;
-      sender = cast.parts jobs.SerialSender _ (serial_sender_job plan serial has) ∙ ap (λ (cs : List Client). Some (TxPart (first + 3) (every_second (first + 5) (length cs)))) clients;
-      client = λ c client script at said. cast.parts (jobs.SerialClient c) _ (serial_client_job plan serial has c client at) ∙ ap (λ o. Some (ClientPart (first + 4 + 2 * c) (first + 5 + 2 * c) (unwrap_or o []))) said;
+      device = cast.parts jobs.UartDevice _ named.device;
+      driver = cast.parts jobs.UartDriver _ named.driver;
+      receiver = cast.parts jobs.SerialReceiver _ named.receiver ∙ ap (λ (cs : List Client). Some (RxPart (first + 2) (every_second (first + 4) (length cs)))) clients;
+      sender = cast.parts jobs.SerialSender _ named.sender ∙ ap (λ (cs : List Client). Some (TxPart (first + 3) (every_second (first + 5) (length cs)))) clients;
+      client = λ c client script at said. cast.parts (jobs.SerialClient c) _ (named.client c client at) ∙ ap (λ o. Some (ClientPart (first + 4 + 2 * c) (first + 5 + 2 * c) (unwrap_or o []))) said;
     }

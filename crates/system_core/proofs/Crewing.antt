@@ -14,8 +14,8 @@ use Rattle.play_core.specs.Wants.{intake, outlet}
 use Rattle.play_core.proofs.Lists.{some_is, map_from}
 use Rattle.job_law.specs.Jobs as jobs
 use Rattle.seat_law.proofs.Seats.{has_seat}
-use Rattle.cast_core.specs.Casts.{first_serial}
-use Rattle.cast_law.proofs.Naming.{eth_job, net_client_job, uart_job, serial_client_job}
+use Rattle.cast_core.specs.Sources.{first_serial}
+use Rattle.seat_law.proofs.Naming.{net_named, serial_named}
 use Rattle.system_core.specs.Shows.{Crew}
 use Rattle.system_core.specs.States.{crew_of, nobody}
 use Rattle.system_core.specs.Crews.{number_named, net_crew, serial_crew, AreTakers}
@@ -57,11 +57,11 @@ takers_more rows first apart count numbers new row old is there = record {
 module _ (plan : Plan) (blk : plan.blk ≡ None) (rows : List QueueRow) (rows_are : rows ≡ queues_of plan) where
   pub net_is : (net : Net) → plan.net ≡ Some net → (numbers : List ℕ) → AreTakers rows 10 6 (length net.client) numbers → (row : QueueRow) → slice_get rows 0 ≡ Some row → crew_of (Some row.consumer.0) numbers ≡ net_crew plan
   net_is net has numbers takers row at =
-      let device = has_seat plan blk jobs.EthDevice (eth_number plan).0 (eth_job plan net has) 0 (intake 0) refl in
+      let device = has_seat plan blk jobs.EthDevice (eth_number plan).0 (net_named plan net has).device 0 (intake 0) refl in
       let same : row ≡ device.0 = some_is (sym at ∙ (ap (λ rs. slice_get rs 0) rows_are ∙ device.1)) in
       let who : row.consumer.0 ≡ (eth_number plan).0 = ap (λ (r : QueueRow). r.consumer.0) same ∙ device.2 in
       let all = takers_are rows 10 6 numbers net.client (λ (c : NetClient). number_named plan c.pd) takers (λ c x client.
-      let seat = has_seat plan blk (jobs.NetClient c) (number_named plan x.pd) (net_client_job plan net has c x client) 0 (intake (8 + 6 * c + 2)) refl in
+      let seat = has_seat plan blk (jobs.NetClient c) (number_named plan x.pd) ((net_named plan net has).client c x client) 0 (intake (8 + 6 * c + 2)) refl in
       let e : 8 + 6 * c + 2 ≡ 10 + 6 * c = omega arith in
       (seat.0, ap (λ rs. slice_get rs (10 + 6 * c)) rows_are ∙ (ap (slice_get (queues_of plan)) (sym e) ∙ seat.1), seat.2)) in
       ap (λ k. crew_of (Some k) numbers) who
@@ -69,11 +69,11 @@ module _ (plan : Plan) (blk : plan.blk ≡ None) (rows : List QueueRow) (rows_ar
 
   pub serial_is : (serial : Serial) → plan.serial ≡ Some serial → (numbers : List ℕ) → AreTakers rows (first_serial plan + 4) 2 (length serial.client) numbers → (row : QueueRow) → slice_get rows (first_serial plan) ≡ Some row → crew_of (Some row.producer.0) numbers ≡ serial_crew plan
   serial_is serial has numbers takers row at =
-      let device = has_seat plan blk jobs.UartDevice (uart_number plan).0 (uart_job plan serial has) 1 (outlet (first_serial plan)) refl in
+      let device = has_seat plan blk jobs.UartDevice (uart_number plan).0 (serial_named plan serial has).device 1 (outlet (first_serial plan)) refl in
       let same : row ≡ device.0 = some_is (sym at ∙ (ap (λ rs. slice_get rs (first_serial plan)) rows_are ∙ device.1)) in
       let who : row.producer.0 ≡ (uart_number plan).0 = ap (λ (r : QueueRow). r.producer.0) same ∙ device.2 in
       let all = takers_are rows (first_serial plan + 4) 2 numbers serial.client (λ (c : SerialClient). number_named plan c.pd) takers (λ c x client.
-      let seat = has_seat plan blk (jobs.SerialClient c) (number_named plan x.pd) (serial_client_job plan serial has c x client) 0 (intake (first_serial plan + 4 + 2 * c)) refl in
+      let seat = has_seat plan blk (jobs.SerialClient c) (number_named plan x.pd) ((serial_named plan serial has).client c x client) 0 (intake (first_serial plan + 4 + 2 * c)) refl in
       (seat.0, ap (λ rs. slice_get rs (first_serial plan + 4 + 2 * c)) rows_are ∙ seat.1, seat.2)) in
       ap (λ k. crew_of (Some k) numbers) who
       ∙ (ap (crew_of (Some (uart_number plan).0)) all ∙ sym (ap (λ o. option_map_or (λ (n : Serial). crew_of (Some (uart_number plan).0) (map (λ (c : SerialClient). number_named plan c.pd) n.client)) o nobody) has))

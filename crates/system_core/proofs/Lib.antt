@@ -10,7 +10,6 @@ pub mod Recording
 pub mod Hearing
 pub mod Seating
 pub mod Fitting
-pub mod Seconds
 pub mod Scripts
 pub mod Casting
 pub mod Begun

@@ -19,15 +19,18 @@ use Rattle.play_core.proofs.Lists.{some_is, map_get, there_is}
 use Rattle.actor_set.specs.Parts.{NetworkPart}
 use Rattle.actor_law.specs.Kinds.{scene_of}
 use Rattle.wired_law.specs.Wiring.{HasWhole}
-use Rattle.cast_core.specs.Casts.{net_place, client_mac, client_pools, client_program}
-use Rattle.cast_law.proofs.Naming.{eth_job, net_client_job}
+use Rattle.cast_core.specs.Casts.{net_place, client_pools}
+use Rattle.cast_core.specs.Sources.{client_mac, client_program}
+use Rattle.cast_core.proofs.Listing.{value_count, value_at, value_is}
+use Rattle.seat_law.specs.Named.{AreNetNamed}
+use Rattle.seat_law.proofs.Naming.{net_named}
 use Rattle.system_core.specs.Shows.{Crew, Shown}
 use Rattle.system_core.specs.States.{crew_of, nobody}
 use Rattle.system_core.specs.Lawful.{IsTold, TellsFrames}
 use Rattle.system_core.specs.Crews.{number_named}
 use Rattle.system_core.specs.Builds.{IsCastOf}
 use Rattle.system_core.specs.PlanPlays.{ShowsFrames}
-use Rattle.system_core.proofs.Scripts.{nets, per_length, per_get, per_there}
+use Rattle.system_core.proofs.Scripts.{nets}
 
 -- what is seen of the network class is what its frames bring
 module _ (plan : Plan) (net : Net) (trace : Trace) (s : Shown) (cast : IsCastOf plan trace s.setting) (has : plan.net ≡ Some net) (told : IsTold s) where
@@ -47,30 +50,33 @@ module _ (plan : Plan) (net : Net) (trace : Trace) (s : Shown) (cast : IsCastOf 
   who : s.setting.net ≡ crew_of (Some (eth_number plan).0) (map (λ (c : Client). number_named plan c.pd) net.client)
   who = cast.net ∙ ap (λ o. option_map_or (λ (n : Net). crew_of (Some (eth_number plan).0) (map (λ (c : Client). number_named plan c.pd) n.client)) o nobody) has
 
+  named : AreNetNamed plan net
+  named = net_named plan net has
+
   many : length (net_clients plan) ≡ length net.client
   many = ap length (nets plan net has)
 
   record_is : (c : ℕ) (mac : Mac) (got : List (List ℕ)) → slice_get place.macs c ≡ Some mac → slice_get s.state.net c ≡ Some got → IsPrefix got (frames_for mac trace.frames)
   record_is c mac got address at =
-      let a = per_get (length (net_clients plan)) (client_mac plan) c mac address in
+      let a = value_is (length (net_clients plan)) (client_mac plan) c mac address in
       let below : c < length (net_clients plan) = a.0 in
       let client = there_is net.client c (omega (arith, below, many)) in
       let number : slice_get s.setting.net.clients c ≡ Some (number_named plan client.0.pd) =
       ap (λ (k : Crew). slice_get k.clients c) who ∙ map_get (λ (k : Client). number_named plan k.pd) net.client c client.0 client.1 in
-      let part = cast.parts (jobs.NetClient c) (number_named plan client.0.pd) (net_client_job plan net has c client.0 client.1) in
-      let some = whole.some c (client_pools plan c) (per_there (length (net_clients plan)) (client_pools plan) c below) in
-      let is = tells.records c (number_named plan client.0.pd) c (client_program plan trace c) (client_mac plan c) (own_pools (client_pools plan c)) got number part some (per_there (length (net_clients plan)) (client_mac plan) c below) at in
-      subst (λ m. IsPrefix got (frames_for m trace.frames)) a.1 (subst (λ fs. IsPrefix got (frames_for (client_mac plan c) fs)) frames is)
+      let part = cast.parts (jobs.NetClient c) (number_named plan client.0.pd) (named.client c client.0 client.1) in
+      let some = whole.some c (client_pools plan c) (value_at (length (net_clients plan)) (client_pools plan) c below) in
+      let is = tells.records c (number_named plan client.0.pd) c (client_program plan trace c) (client_mac plan c) (own_pools (client_pools plan c)) got number part some (value_at (length (net_clients plan)) (client_mac plan) c below) at in
+      subst (λ m. IsPrefix got (frames_for m trace.frames)) (sym a.1) (subst (λ fs. IsPrefix got (frames_for (client_mac plan c) fs)) frames is)
 
   wire_is : (sent : List (List ℕ)) × (s.state.wire ≡ Some sent) × PrefixMerge (sends_at place.programs place.macs trace.frames) sent
   wire_is =
-      let part = cast.parts jobs.EthDevice (eth_number plan).0 (eth_job plan net has) in
+      let part = cast.parts jobs.EthDevice (eth_number plan).0 named.device in
       let w = tells.wire (eth_number plan).0 (ap (λ (c : Crew). c.device) who) (part ∙ ap (λ fs. Some (NetworkPart (device_at 0 fs))) (sym frames)) in
       (w.0, w.1, subst (λ fs. PrefixMerge (sends_at place.programs place.macs fs) w.0) frames w.2)
 
   pub shows_frames : ShowsFrames place trace.frames s.state
   shows_frames = record {
-    count_is = told.net ∙ (ap (λ (c : Crew). length c.clients) who ∙ (length-map net.client (λ (k : Client). number_named plan k.pd) ∙ (sym many ∙ sym (per_length (length (net_clients plan)) (client_mac plan)))));
+    count_is = told.net ∙ (ap (λ (c : Crew). length c.clients) who ∙ (length-map net.client (λ (k : Client). number_named plan k.pd) ∙ (sym many ∙ sym (value_count (length (net_clients plan)) (client_mac plan)))));
     records = record_is;
     wire = wire_is;
   }

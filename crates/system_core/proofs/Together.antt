@@ -27,7 +27,7 @@ use Rattle.system_core.specs.Builds.{IsBuilt, IsCastOf, BeginsAnew, serial_class
 use Rattle.system_core.specs.PlanPlays.{IsPlayed, IsPlayedOn}
 use Rattle.actor_law.proofs.Calm.{calm_actor, sheet_is}
 use Rattle.system_core.proofs.Scripts.{scripts_length}
-use Rattle.cast_core.specs.Casts.{first_serial}
+use Rattle.cast_core.specs.Sources.{first_serial}
 use Rattle.system_core.proofs.Casting.{HasSerial, has_serial}
 use Rattle.system_core.proofs.Networking.{shows_frames}
 use Rattle.system_core.proofs.Begun.{There, serial_there, shows_in_part, shows_whole}

@@ -1,6 +1,5 @@
 -- The system of a plan and a trace: who acts at which queues, and that nothing happened yet.
 use Rattle.std.specs.Prelude.{◌≡◌, ◌+◌, ℕ, if◌then◌else◌, Option, Some, None, is_some, List, [], length, slice_get}
-use Rattle.std.specs.Option.{option_map_or}
 use Rattle.wire_core.specs.Journal.{start_history}
 use Rattle.sdf_plan.specs.declared.place.Place.{Place}
 use Rattle.sdf_plan.specs.declared.place.Place.TheVariants as At
@@ -8,12 +7,12 @@ use Rattle.sdf_plan.specs.declared.plan.Plan.{Plan}
 use Rattle.sdf_plan.specs.declared.plan.Net.{Net}
 use Rattle.trace_text.specs.declared.trace.Trace.{Trace}
 use Rattle.region_layout.specs.Rows.{queues_of, actors_of}
-use Rattle.play_core.specs.Sheets.{Scene}
 use Rattle.serial_law.specs.Serial.{SerialClass}
 use Rattle.job_law.specs.Jobs.{Job, HasJob}
 use Rattle.actor_law.specs.Kinds.{scene_of}
 use Rattle.wired_law.specs.Wiring.{HasWhole}
-use Rattle.cast_core.specs.Casts.{every_second, job_part, net_place}
+use Rattle.cast_core.specs.Casts.{job_part, net_place, scene_for}
+use Rattle.cast_core.specs.Sources.{every_second}
 use Rattle.system_core.specs.Shows.{Setting, Shown}
 use Rattle.system_core.specs.Crews.{net_crew, serial_crew}
 
@@ -35,14 +34,6 @@ serial_class first count trace = record {
   client_tx = every_second (first + 5) count;
   input = trace.input;
   scripts = trace.says;
-}
-
--- what a trace gives the classes that a plan has: the frames to the network class, and the image to
--- the block class
-abbrev pub scene_for : Plan → Trace → Scene
-scene_for plan trace = record {
-  frames = option_map_or (λ net. trace.frames) plan.net [];
-  image = option_map_or (λ blk. trace.image) plan.blk [];
 }
 
 -- the queues and the actors of a plan without the block class, with what a trace gives them

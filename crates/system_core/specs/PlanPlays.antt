@@ -8,7 +8,8 @@ use Rattle.frame_core.specs.declared.mac.Mac.{Mac}
 use Rattle.net_expect.specs.Expecting.{frames_for}
 use Rattle.net_tx_parts.specs.Numbers.{NetPlace}
 use Rattle.net_tx_cast.specs.Casting.{sends_at}
-use Rattle.cast_core.specs.Casts.{first_serial, net_place}
+use Rattle.cast_core.specs.Casts.{net_place}
+use Rattle.cast_core.specs.Sources.{first_serial}
 use Rattle.serial_law.specs.Serial.{ArrivesInPart}
 use Rattle.sdf_plan.specs.declared.plan.Plan.{Plan}
 use Rattle.sdf_plan.specs.declared.plan.Net.{Net}

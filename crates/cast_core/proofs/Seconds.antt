@@ -1,7 +1,7 @@
 use Rattle.std.proofs.Common.{◌≡◌, ◌+◌, ◌*◌, ◌<◌, ◌++◌, ℕ, zero, suc, Some, List, [], ◌∷◌, length, slice_get, refl, sym, ap, ◌∙◌, arith}
 use Rattle.wire_core.specs.declared.names.QueueId.{QueueId}
 use Rattle.actor_set.specs.Actors.{numbers}
-use Rattle.system_core.specs.Builds.{every_second}
+use Rattle.cast_core.specs.Sources.{every_second}
 use Rattle.play_core.proofs.Lists.{some_is}
 
 pub second_get : (first count k m : ℕ) → slice_get (every_second first count) k ≡ Some m → (k < count) × (m ≡ first + 2 * k)

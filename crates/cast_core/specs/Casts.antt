@@ -1,0 +1,78 @@
+-- What each actor of a plan is made of, by its job, and actors that are so made.
+use Rattle.std.specs.Prelude.{◌≡◌, ◌+◌, ◌*◌, ℕ, Option, Some, None, List, [], length, slice_get, unwrap_or}
+use Rattle.std.specs.Option.{option_map_or}
+use Rattle.sdf_plan.specs.declared.plan.Plan.{Plan}
+use Rattle.trace_text.specs.declared.trace.Trace.{Trace}
+use Rattle.trace_text.specs.Events.{net_clients, serial_clients}
+use Rattle.trace_text.specs.Traces.{per_client}
+use Rattle.region_layout.specs.Rows.{actors_of, pools_of}
+use Rattle.net_owners.specs.Names.{ClientPools}
+use Rattle.net_parts.specs.Numbers.{device_at, driver_at, receiver_at, copier_at, client_at}
+use Rattle.net_tx_parts.specs.Numbers.{NetPlace, own_pools, sender_at}
+use Rattle.actor_set.specs.Parts.{Part, UartPart, DriverPart, RxPart, TxPart, ClientPart, NetworkPart, SendingPart}
+use Rattle.actor_set.specs.Actors.{part_of}
+use Rattle.actor_set.specs.StartStates.{IsNew}
+use Rattle.actor_set.specs.declared.actor.Actor.{Actor}
+use Rattle.play_core.specs.Sheets.{Scene}
+use Rattle.cast_core.specs.Sources.{every_second, first_serial, pool_at, pools_at, client_mac, client_program}
+use Rattle.job_law.specs.Jobs.{Job, EthDevice, EthDriver, NetReceiver, NetSender, NetCopier, NetClient, UartDevice, UartDriver, SerialReceiver, SerialSender, SerialClient, DiskDevice, DiskDriver, BlkVirtualiser, BlkClient, HasJob}
+
+-- the pools of the network client of a number
+abbrev pub client_pools : Plan → ℕ → ClientPools
+client_pools plan = pools_at (pools_of plan)
+
+-- where the network class of a plan stands: its queues and its pools are the first
+abbrev pub net_place : Plan → Trace → NetPlace
+net_place plan trace = record {
+  first = 0;
+  pool = pool_at (pools_of plan) 0;
+  macs = per_client (length (net_clients plan)) (client_mac plan);
+  pools = per_client (length (net_clients plan)) (client_pools plan);
+  programs = per_client (length (net_clients plan)) (client_program plan trace);
+}
+
+-- the part of an actor of a job; the jobs of the block class have none yet
+abbrev pub job_part : Plan → Trace → Job → Option Part
+job_part plan trace EthDevice = Some (NetworkPart (device_at 0 trace.frames))
+job_part plan trace EthDriver = Some (NetworkPart (driver_at 0))
+job_part plan trace NetReceiver = Some (NetworkPart
+    (receiver_at 0 (net_place plan trace).pool (net_place plan trace).macs))
+job_part plan trace NetSender = Some (SendingPart (sender_at 0 (net_place plan trace).pools))
+job_part plan trace (NetCopier c) = Some (NetworkPart (copier_at 0 c))
+job_part plan trace (NetClient c) = Some (NetworkPart
+    (client_at 0 c (client_program plan trace c)
+    (client_mac plan c) (own_pools (client_pools plan c))))
+job_part plan trace UartDevice = Some (UartPart
+    (first_serial plan) (first_serial plan + 1) trace.input)
+job_part plan trace UartDriver = Some (DriverPart (first_serial plan) (first_serial plan + 1)
+    (first_serial plan + 2) (first_serial plan + 3))
+job_part plan trace SerialReceiver = Some (RxPart (first_serial plan + 2)
+    (every_second (first_serial plan + 4) (length (serial_clients plan))))
+job_part plan trace SerialSender = Some (TxPart (first_serial plan + 3)
+    (every_second (first_serial plan + 5) (length (serial_clients plan))))
+job_part plan trace (SerialClient c) = Some (ClientPart (first_serial plan + 4 + 2 * c)
+    (first_serial plan + 5 + 2 * c) (unwrap_or (slice_get trace.says c) []))
+job_part plan trace DiskDevice = None
+job_part plan trace DiskDriver = None
+job_part plan trace BlkVirtualiser = None
+job_part plan trace (BlkClient c) = None
+
+-- what a trace gives the classes that a plan has: the frames to the network class, and the image to
+-- the block class
+abbrev pub scene_for : Plan → Trace → Scene
+scene_for plan trace = record {
+  frames = option_map_or (λ net. trace.frames) plan.net [];
+  image = option_map_or (λ blk. trace.image) plan.blk [];
+}
+
+-- an actor in its start state, with the part of the job that the plan gives its number
+pub record IsCast (plan : Plan) (trace : Trace) (k : ℕ) (x : Actor) : Type 0 where
+  pub job : Job
+  pub has : HasJob plan job k
+  pub new : IsNew x
+  pub part : job_part plan trace job ≡ Some (part_of x)
+
+-- all actors of a plan
+pub record AreCast (plan : Plan) (trace : Trace) (actors : List Actor) : Type 0 where
+  pub count_is : length actors ≡ length (actors_of plan)
+  pub each : (k : ℕ) (x : Actor) → slice_get actors k ≡ Some x → IsCast plan trace k x

@@ -1,0 +1,73 @@
+-- What the network's actors are made from: pools, the queues of clients, and frames.
+use Rattle.std.specs.Prelude.{◌≡◌, ◌+◌, ◌*◌, ◌<◌, ◌≤◌, ◌^◌, ℕ, Some, List, All, length, replicate, slice_get}
+use Rattle.cargo_core.specs.declared.item.PoolId.{PoolId}
+use Rattle.cargo_core.specs.declared.ranges.Range.{Range}
+use Rattle.cargo_core.specs.Pages.{Paged}
+use Rattle.cargo_core.specs.Ranges.{IsApart}
+use Rattle.wire_core.specs.declared.names.PoolRow.{PoolRow}
+use Rattle.wire_core.specs.declared.names.QueueId.{QueueId}
+use Rattle.sdf_plan.specs.declared.plan.Plan.{Plan}
+use Rattle.trace_text.specs.declared.trace.Trace.{Trace}
+use Rattle.net_parts.specs.Numbers.{client_first}
+use Rattle.net_virt_rx.specs.declared.LeaseEnds.{LeaseEnds}
+use Rattle.net_virt_tx.specs.declared.TxEnds.{TxEnds}
+use Rattle.cast_core.specs.Sources.{client_mac, pool_at}
+
+-- a new buffer of a pool
+abbrev pub new_page : ℕ → ℕ → Paged
+new_page pool k = record { pool = record { 0 = pool }; no = k; bytes = replicate 2048 0 }
+
+-- a network client as the receiving virtualiser has it, and as the sending one has it
+abbrev pub lease_ends : Plan → ℕ → LeaseEnds
+lease_ends plan c = record {
+  mac = client_mac plan c;
+  active = record { 0 = client_first 0 c };
+  free = record { 0 = client_first 0 c + 1 };
+}
+
+abbrev pub tx_ends : List PoolRow → ℕ → TxEnds
+tx_ends rows c = record {
+  active = record { 0 = client_first 0 c + 4 };
+  free = record { 0 = client_first 0 c + 5 };
+  pool = record { 0 = 2 + 2 * c };
+  buffers = (pool_at rows (2 + 2 * c)).buffers;
+  base = (pool_at rows (2 + 2 * c)).base;
+}
+
+-- the device addresses of a client's buffers for sending
+abbrev pub tx_range : TxEnds → Range
+tx_range c = record { base = c.base; size = c.buffers * 2048 }
+
+-- of these clients no two have an address in common, and each ends at most at 2^62
+pub record HaveRanges (clients : List TxEnds) : Type 0 where
+  pub apart : (j k : ℕ) (one other : TxEnds) → j < k → slice_get clients j ≡ Some one
+      → slice_get clients k ≡ Some other → IsApart (tx_range other) (tx_range one)
+  pub ends : All (λ (c : TxEnds). c.base + c.buffers * 2048 ≤ 2 ^ 62) clients
+
+-- the pool of a number is there, with 1 to 512 buffers, and ends at most at 2^62
+pub record HasPool (rows : List PoolRow) (n : ℕ) : Type 0 where
+  pub row : PoolRow
+  pub there : slice_get rows n ≡ Some row
+  pub some : 1 ≤ row.buffers
+  pub few : row.buffers ≤ 512
+  pub ends : row.base + row.buffers * 2048 ≤ 2 ^ 62
+
+-- the pools of a network class with so many clients are there: the device's, and two of each
+-- client, and no two clients send in buffers at one address
+pub record HasPools (rows : List PoolRow) (clients : ℕ) : Type 0 where
+  pub first : HasPool rows 0
+  pub rx : (c : ℕ) → c < clients → HasPool rows (1 + 2 * c)
+  pub tx : (c : ℕ) → c < clients → HasPool rows (2 + 2 * c)
+  pub apart : (j k : ℕ) → j < k → k < clients
+      → IsApart (tx_range (tx_ends rows k)) (tx_range (tx_ends rows j))
+
+-- each frame has at most 65,535 bytes
+abbrev pub AreShort : List (List ℕ) → Type 0
+AreShort frames = All (λ frame. length frame < 2 ^ 16) frames
+
+-- a trace has short frames for the device, and for each of so many clients
+pub record HasFrames (trace : Trace) (clients : ℕ) : Type 0 where
+  pub device : AreShort trace.frames
+  pub count : length trace.sends ≡ clients
+  pub client : (c : ℕ) (frames : List (List ℕ)) → slice_get trace.sends c ≡ Some frames
+      → AreShort frames

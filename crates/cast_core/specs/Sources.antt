@@ -1,0 +1,64 @@
+-- What a plan, the rows of its pools and a trace give each client of a class, by its number, and
+-- where the serial class begins.
+use Rattle.std.specs.Prelude.{◌+◌, ◌*◌, ℕ, zero, suc, Bool, false, if◌then◌else◌, List, [], ◌∷◌, length, codes, slice_get, unwrap_or}
+use Rattle.std.specs.Option.{option_map_or}
+use Rattle.frame_core.specs.declared.mac.Mac.{Mac}
+use Rattle.frame_core.specs.Macs.{mac_of}
+use Rattle.wire_core.specs.declared.names.PoolRow.{PoolRow}
+use Rattle.sdf_plan.specs.declared.plan.Plan.{Plan}
+use Rattle.sdf_plan.specs.declared.plan.Net.{Net}
+use Rattle.sdf_plan.specs.declared.plan.NetClient.{NetClient}
+use Rattle.trace_text.specs.declared.trace.Trace.{Trace}
+use Rattle.trace_text.specs.Events.{net_clients, is_source, runs}
+use Rattle.net_expect.specs.Expecting.{Program}
+use Rattle.net_client.specs.Programs.{program_with}
+use Rattle.net_client.specs.declared.program.NetProgram.{NetProgram}
+use Rattle.net_client.specs.declared.program.NetProgram.TheVariants as Programs
+use Rattle.net_owners.specs.Names.{PoolAt, ClientPools}
+
+-- so many queues, every second one from a number on
+abbrev pub every_second : ℕ → ℕ → List ℕ
+every_second first zero = []
+every_second first (suc count) = first ∷ every_second (first + 2) count
+
+-- the number of the first queue of the serial class: the network's stand before it
+abbrev pub first_serial : Plan → ℕ
+first_serial plan = option_map_or (λ (net : Net). 8 + 6 * length net.client) plan.net 0
+
+-- the pool of a number, as its row tells it
+abbrev pub pool_at : List PoolRow → ℕ → PoolAt
+pool_at rows n = record {
+  number = n;
+  base = option_map_or (λ (row : PoolRow). row.base) (slice_get rows n) 0;
+  buffers = option_map_or (λ (row : PoolRow). row.buffers) (slice_get rows n) 0;
+}
+
+-- the pools of the network client of a number: they stand behind the device's, two by two
+abbrev pub pools_at : List PoolRow → ℕ → ClientPools
+pools_at rows c = record { rx = pool_at rows (1 + 2 * c); tx = pool_at rows (2 + 2 * c) }
+
+-- the address that no client of a valid plan has
+abbrev pub no_mac : Mac
+no_mac = record { 0 = 0 ∷ 0 ∷ 0 ∷ 0 ∷ 0 ∷ 0 ∷ [] }
+
+-- the address of the network client of a number
+abbrev pub client_mac : Plan → ℕ → Mac
+client_mac plan c =
+    option_map_or (λ (client : NetClient). unwrap_or (mac_of client.mac) no_mac)
+    (slice_get (net_clients plan) c) no_mac
+
+-- whether the network client of a number answers the frames that it gets
+abbrev pub is_echo : Plan → ℕ → Bool
+is_echo plan c =
+    option_map_or (λ (client : NetClient).
+    runs plan.protection_domain client.pd (codes "net_echo"))
+    (slice_get (net_clients plan) c) false
+
+-- the program of the network client of a number, and with it the frames that a trace has it send
+abbrev pub client_kind : Plan → ℕ → NetProgram
+client_kind plan c = if is_source plan c then Programs.Source
+    else if is_echo plan c then Programs.Echo else Programs.Sink
+
+abbrev pub client_program : Plan → Trace → ℕ → Program
+client_program plan trace c =
+    program_with (client_kind plan c) (unwrap_or (slice_get trace.sends c) [])

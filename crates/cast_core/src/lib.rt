@@ -1,0 +1,14 @@
+//! The actors of a plan: what each is made of, by its job, and how all of them are made from the
+//! plan, its layout and a trace. It stands below the laws of actors and the system that plays them.
+#![tactic(auto)]
+
+mod cast;
+mod jobs;
+mod network;
+mod pools;
+mod serial;
+mod shared;
+
+pub use cast::cast;
+pub use jobs::{Job, NetJob, SerialJob};
+pub use shared::{copies, first_serial};

@@ -1,0 +1,45 @@
+//! What the classes share: copies of rows, and where the serial class begins.
+ghost use Rattle.std.specs.Prelude.{◌≡◌, ◌≤◌, IfOk};
+ghost use Rattle.cast_core.specs.Sources.{first_serial};
+
+use cargo_core::{Memory, Text};
+use sdf_plan::Plan;
+use std::alloc::Global;
+use wire_core::QueueRow;
+
+// A copy of a row.
+fn copy(alloc: Global, row: &QueueRow) -> Result<QueueRow, Memory>
+    ensures { IfOk result (λ r. r ≡ row.now) }
+{
+    Ok(QueueRow {
+        name: Text::new(alloc, row.name.as_str())?,
+        kind: row.kind,
+        capacity: row.capacity,
+        producer: row.producer,
+        consumer: row.consumer,
+        region: row.region,
+        offset: row.offset,
+    })
+}
+
+/// Copies of rows.
+pub fn copies(alloc: Global, rows: &[QueueRow]) -> Result<Vec<QueueRow>, Memory>
+    ensures { IfOk result (λ rs. rs.items ≡ rows.now) }
+{
+    let mut copies = Vec::with_capacity(alloc, rows.len())?;
+    for row in rows {
+        copies.push(copy(alloc, row)?)?;
+    }
+    Ok(copies)
+}
+
+/// The number of the first queue of the serial class: the queues of the network stand before it.
+pub fn first_serial(plan: &Plan) -> u16
+    requires { first_serial plan.now ≤ 65535 }
+    ensures { result ≡ first_serial plan.now }
+{
+    match &plan.net {
+        Some(net) => 8 + 6 * net.client.len() as u16,
+        None => 0,
+    }
+}

@@ -1,0 +1,6 @@
+pub mod Numbers
+pub mod Parting
+pub mod Apart
+pub mod Seated
+pub mod Wired
+pub mod Joined
