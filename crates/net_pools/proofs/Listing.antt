@@ -51,7 +51,7 @@ module _ (scene : Scene) (pool : PoolAt) (macs : List Mac) (pools : List ClientP
   abbrev naming : Naming
   naming = layout_naming scene pool macs pools
 
-  past : (n : ℕ) → 8 + 6 * length pools ≤ n → naming n ≡ NoBuffers
+  pub past : (n : ℕ) → 8 + 6 * length pools ≤ n → naming n ≡ NoBuffers
   past zero le = absurd (omega (arith, le))
   past (suc zero) le = absurd (omega (arith, le))
   past (suc (suc zero)) le = absurd (omega (arith, le))

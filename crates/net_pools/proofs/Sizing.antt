@@ -29,7 +29,7 @@ all_from P xs each k d lt =
     subst P (sym (get_or_from_slice_get xs k x.0 d x.1)) (each k x.0 x.1)
 
 -- each pool's number tells how many buffers it has
-size_there : (ps : List PoolAt) (i : ℕ) (p : PoolAt) → AreNumbered ps → slice_get ps i ≡ Some p → sizes_of ps p.number ≡ p.buffers
+pub size_there : (ps : List PoolAt) (i : ℕ) (p : PoolAt) → AreNumbered ps → slice_get ps i ≡ Some p → sizes_of ps p.number ≡ p.buffers
 size_there [] i p apart at = cc
 size_there (q ∷ ps) i p apart at = by (eqb_tells q.number p.number) i at (λ j j_at. size_there ps j p (λ a b x y a_at b_at same. suc_is (apart (suc a) (suc b) x y a_at b_at same)) j_at)
   where

@@ -6,12 +6,12 @@ use Rattle.system_core.proofs.Scripts.{scripts_length}
 use Rattle.system_core.proofs.system.System.build.Goals as goal
 
 pub start-requires : goal.start-requires
-start-requires c = rw c.new.ensures.items (none_seated c.args.plan.now c.requires.valid c.requires.played c.in_default.is c.in_ok-rows.rows.items (c.in_ok-rows.ensures ∙ (c.queues.ensures ∙ layout_queues c.args.plan.now c.args.layout.now c.requires.layout)))
+start-requires c = rw c.new-actors.ensures.items (none_seated c.args.plan.now c.requires.valid c.requires.played c.in_default.is c.in_ok-rows.rows.items (c.in_ok-rows.ensures ∙ (c.queues.ensures ∙ layout_queues c.args.plan.now c.args.layout.now c.requires.layout)))
 
 pub returns-in_default-clause-built : goal.returns-in_default-clause-built
 returns-in_default-clause-built c =
     let built = none_built c.args.plan.now c.requires.valid c.requires.played c.in_default.is c.in_ok-rows.rows.items (c.in_ok-rows.ensures ∙ (c.queues.ensures ∙ layout_queues c.args.plan.now c.args.layout.now c.requires.layout)) c.args.trace.now in
-    IfOk-weaker c.start.result _ _ (λ s e. subst (IsBuilt c.args.plan.now c.args.trace.now) (sym (rw (c.new.ensures.items, c.new-in_default.ensures.items) at e)) built) c.start.ensures.state
+    IfOk-weaker c.start.result _ _ (λ s e. subst (IsBuilt c.args.plan.now c.args.trace.now) (sym (rw (c.new-actors.ensures.items, c.nobody-in_default.ensures, c.nobody.ensures) at e)) built) c.start.ensures.state
 
 pub first_serial-first-requires : goal.first_serial-first-requires
 first_serial-first-requires c = first_small c.args.plan.now c.requires.valid c.requires.played c.in-Some.serial c.in-Some.is
@@ -58,4 +58,4 @@ pub returns-clause-built : goal.returns-clause-built
 returns-clause-built c =
     let built = is_built c.args.plan.now c.requires.valid c.requires.played c.in-Some.serial c.in-Some.is c.args.trace.now c.in_ok-rows.rows.items c.first_serial-first.result c.len-clients.result (length c.actors.result.now) (c.in_ok-rows.ensures ∙ (c.queues.ensures ∙ layout_queues c.args.plan.now c.args.layout.now c.requires.layout)) c.first_serial-first.ensures c.len-clients.ensures (ap length c.actors.ensures ∙ ap length (layout_actors c.args.plan.now c.args.layout.now c.requires.layout))
     c.in_ok-actors.actors.items (rw c.deref-2.ensures.value at c.in_ok-actors.ensures) _ c.in_ok-numbers.numbers.items (first_owner c.in_ok-rows.rows.items c.first_serial-first.result c.len-clients.result c.index.result.now (rows_there c.args.plan.now c.requires.valid c.requires.played c.in-Some.serial c.in-Some.is c.args.trace.now c.in_ok-rows.rows.items c.first_serial-first.result c.len-clients.result _ (c.in_ok-rows.ensures ∙ (c.queues.ensures ∙ layout_queues c.args.plan.now c.args.layout.now c.requires.layout)) c.first_serial-first.ensures c.len-clients.ensures refl) c.index.ensures) (rw c.deref.ensures.value at c.in_ok-numbers.ensures) in
-    IfOk-weaker c.start-2.result _ _ (λ s e. subst (IsBuilt c.args.plan.now c.args.trace.now) (sym e) built) c.start-2.ensures.state
+    IfOk-weaker c.start-2.result _ _ (λ s e. subst (IsBuilt c.args.plan.now c.args.trace.now) (sym (rw (c.nobody-2.ensures, c.new-crew.ensures) at e)) built) c.start-2.ensures.state

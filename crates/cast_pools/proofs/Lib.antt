@@ -1,0 +1,6 @@
+pub mod Acting
+pub mod Apart
+pub mod Table
+pub mod Naming
+pub mod Dealing
+pub mod Playing

@@ -1,0 +1,4 @@
+-- The pools of a cast, of all classes: its actors as ones that have buffers (Holders), and the
+-- network's pools at its place, with a cast at play whose buffers are followed (Pooling).
+pub mod Holders
+pub mod Pooling
