@@ -148,8 +148,8 @@ sends_apart pools = (
 
 driver_apart : NetApart (driver_at 0)
 driver_apart = (
-  ((λ e. omega (arith, e), λ e. omega (arith, e), λ e. omega (arith, e), tt), (λ e. omega (arith, e), λ e. omega (arith, e), tt), (λ e. omega (arith, e), tt), tt, tt),
-  ((λ e. omega (arith, e), λ e. omega (arith, e), λ e. omega (arith, e), tt), (λ e. omega (arith, e), λ e. omega (arith, e), tt), (λ e. omega (arith, e), tt), tt, tt),
+  ((λ e. omega (arith, e), (λ e. omega (arith, e), (λ e. omega (arith, e), tt))), ((λ e. omega (arith, e), (λ e. omega (arith, e), tt)), ((λ e. omega (arith, e), tt), (tt, tt)))),
+  ((λ e. omega (arith, e), (λ e. omega (arith, e), (λ e. omega (arith, e), tt))), ((λ e. omega (arith, e), (λ e. omega (arith, e), tt)), ((λ e. omega (arith, e), tt), (tt, tt)))),
 )
 
 -- the part of a job is so

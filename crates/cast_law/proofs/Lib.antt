@@ -3,4 +3,5 @@ pub mod Parting
 pub mod Apart
 pub mod Seated
 pub mod Wired
+pub mod Pooled
 pub mod Joined

@@ -18,9 +18,8 @@ use Rattle.actor_set.specs.declared.actor.Actor.{Actor}
 use Rattle.wired_law.specs.Wiring.{HasWhole}
 use Rattle.cast_core.specs.Casts.{AreCast, net_place}
 use Rattle.cast_law.specs.Seats.{AreSeated}
-use Rattle.cast_law.proofs.Joined.{all_seated, whole_network}
+use Rattle.cast_law.proofs.Joined.{all_seated, whole_network, scene_of_plan}
 use Rattle.cast_law.proofs.Seated.{part_there}
-use Rattle.cast_law.proofs.Wired.{scene_is}
 use Rattle.system_core.specs.Shows.{Crew}
 use Rattle.system_core.specs.States.{started}
 use Rattle.system_core.specs.Crews.{net_crew, serial_crew}
@@ -49,9 +48,9 @@ module _ (plan : Plan) (valid : Valid plan) (blk : plan.blk ≡ None) (trace : T
     cast = record {
       rows = rows_are;
       count = length-map actors part_of ∙ cast.count_is;
-      scene = scene_is plan trace actors valid cast blk;
+      scene = scene_of_plan plan trace actors valid blk cast;
       parts = part_there plan trace actors valid cast;
-      whole = λ n has. subst (λ rs. HasWhole rs (net_place plan trace) (map part_of actors)) (sym rows_are) (whole_network plan trace actors valid read cast n has);
+      whole = λ n has. subst (λ rs. HasWhole rs (net_place plan trace) (map part_of actors)) (sym rows_are) (whole_network plan trace actors valid blk read cast n has);
       net = net_is;
       serial = serial_is;
     };
