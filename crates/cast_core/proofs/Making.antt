@@ -1,10 +1,9 @@
 -- Actors of the network that are so made are in their start state, and have these parts.
-use Rattle.std.proofs.Common.{◌≡◌, ◌+◌, ◌-◌, ◌*◌, ◌<◌, ◌≤◌, ◌^◌, ℕ, zero, suc, true, false, Option, Some, List, [], ◌∷◌, All, length, map, take, replicate, slice_get, slice_index_or, refl, sym, ap, ap₂, ◌∙◌, subst, arith}
+use Rattle.std.proofs.Common.{◌≡◌, ◌+◌, ◌*◌, ◌<◌, ◌≤◌, ◌^◌, ℕ, zero, suc, true, false, Option, Some, List, [], ◌∷◌, All, length, map, take, slice_get, slice_index_or, refl, sym, ap, ap₂, ◌∙◌, subst, arith}
 use Rattle.std.specs.List.{sum_by}
 use Rattle.std.specs.Option.{option_map_or}
 use Rattle.std.proofs.lemmas.Option.{slice_get-get_or, get_or_from_slice_get}
 use Rattle.cargo_core.specs.Ranges.{is_within}
-use Rattle.std.proofs.lemmas.List.{length-map}
 use Rattle.std.proofs.lemmas.List.Sums.{sum_by-cons}
 use Rattle.std.proofs.lemmas.List.Elements.{All-nil, All-cons}
 use Rattle.std.proofs.Math.ListN.{length-replicate}
@@ -15,7 +14,6 @@ use Rattle.frame_core.specs.declared.mac.Mac.{Mac}
 use Rattle.wire_core.specs.declared.names.QueueId.{QueueId}
 use Rattle.wire_core.specs.declared.names.PoolRow.{PoolRow}
 use Rattle.wire_core.specs.Lists.{nothing_passed}
-use Rattle.turn_kit.specs.ManyEnds.{intake_queues, outlet_queues}
 use Rattle.turn_kit.specs.Pipes.{IsNewPipe}
 use Rattle.turn_kit.specs.Table.{start_state}
 use Rattle.wire_core.specs.declared.names.Side.TheVariants.{Forward, Backward}
@@ -31,18 +29,16 @@ use Rattle.net_virt_rx.specs.Receiving.{IsNewRx, RxStandsFor}
 use Rattle.net_virt_rx.specs.declared.LeaseEnds.{LeaseEnds}
 use Rattle.net_virt_rx.specs.declared.NetVirtRx.{NetVirtRx}
 use Rattle.net_virt_tx.specs.Sending.{IsNewTx, TxStandsFor, FitsClients, sender_of}
-use Rattle.net_virt_tx.specs.Clients.{range_of}
 use Rattle.net_virt_tx.specs.Traffics.{senders}
 use Rattle.net_virt_tx.specs.declared.TxEnds.{TxEnds}
 use Rattle.net_virt_tx.specs.declared.NetVirtTx.{NetVirtTx}
-use Rattle.net_virt_tx.specs.declared.descriptors.Sender.{Sender}
 use Rattle.net_client.specs.Clients.{IsNewClient}
 use Rattle.net_client.specs.Programs.{program_with}
 use Rattle.net_client.specs.declared.program.NetProgram.{NetProgram}
 use Rattle.net_client.specs.declared.program.ClientProgram.{ClientProgram}
 use Rattle.net_client.specs.declared.NetClient.{NetClient}
-use Rattle.net_owners.specs.Names.{PoolAt, ClientPools}
-use Rattle.net_parts.specs.Parts.{NetPart, NetDriver, NetReceiver, NetClient as ClientPart, Lessee, Way}
+use Rattle.net_owners.specs.Names.{ClientPools}
+use Rattle.net_parts.specs.Parts.{NetDriver, NetReceiver, NetClient as ClientPart, Lessee, Way}
 use Rattle.net_parts.specs.Numbers.{client_first, lessees_from, receiver_at, client_at}
 use Rattle.net_parts.specs.Playing.{stock_pool, way_of, lessees, lessees_of, receiver_part, client_part}
 use Rattle.net_tx_parts.specs.Parts.{SendPart, Shipper}
@@ -51,7 +47,7 @@ use Rattle.net_tx_parts.specs.Playing.{sender_pool, shippers, send_part}
 use Rattle.trace_text.specs.Traces.{per_client}
 use Rattle.actor_set.specs.StartStates.{IsNewLender, IsNewSender, IsNewClientOf}
 use Rattle.sdf_plan.specs.declared.plan.Plan.{Plan}
-use Rattle.play_core.proofs.Lists.{some_is, there_is, there_below, map_get, map_from}
+use Rattle.play_core.proofs.Lists.{there_is, map_from}
 use Rattle.cast_core.specs.Sources.{client_mac, pool_at, pools_at}
 use Rattle.cast_core.specs.Making.{new_page, lease_ends, tx_ends, tx_range, HaveRanges, HasPools, HasPool, AreShort}
 use Rattle.cast_core.proofs.Listing.{value_count, value_at, value_is, take_from}

@@ -1,12 +1,10 @@
 -- The pools of a valid plan are there, apart from each other, and end low.
-use Rattle.std.proofs.Common.{◌≡◌, ◌⊎◌, ◌+◌, ◌-◌, ◌*◌, ◌/◌, ◌<◌, ◌≤◌, ◌^◌, ◌++◌, ℕ, zero, suc, max, fold, Bool, true, false, Option, Some, None, List, [], ◌∷◌, length, map, slice_get, refl, sym, ap, ◌∙◌, subst, arith, inl, inr}
+use Rattle.std.proofs.Common.{◌≡◌, ◌⊎◌, ◌+◌, ◌-◌, ◌*◌, ◌<◌, ◌≤◌, ◌^◌, ℕ, zero, suc, max, fold, true, Option, Some, None, List, [], ◌∷◌, codes, length, map, slice_get, refl, sym, ap, subst, arith, inl, inr}
 use Rattle.std.specs.List.{All}
 use Rattle.std.specs.Option.{option_map_or}
 use Rattle.std.proofs.Math.Nat.{div-mul-le_self}
-use Rattle.std.proofs.lemmas.List.{length-map}
 use Rattle.std.proofs.lemmas.List.Elements.{All-nil, All-cons, All-append}
 use Rattle.std.proofs.lemmas.Bool.{cases_Bool, and_parts, leb-true, ltb-true}
-use Rattle.cargo_core.specs.declared.ranges.Range.{Range}
 use Rattle.cargo_core.specs.Ranges.{IsApart, is_within}
 use Rattle.wire_core.specs.declared.names.PoolRow.{PoolRow}
 use Rattle.sdf_plan.specs.declared.plan.Plan.{Plan}
@@ -17,17 +15,17 @@ use Rattle.sdf_plan.specs.declared.plan.Blk.{Blk}
 use Rattle.sdf_check.specs.Valid.{Valid}
 use Rattle.sdf_check.proofs.ListLemmas.{get-right}
 use Rattle.region_layout.specs.Bases.{given_end, floor_of, round_up, base_at, free_after, bases_from, bases_of}
-use Rattle.region_layout.specs.Sizes.{IsSmallRegion, AreSmallRegions}
+use Rattle.region_layout.specs.Sizes.{IsSmallRegion}
 use Rattle.region_layout.specs.Rows.{queues_of, pool_in, net_client_pools, net_pools, blk_pools, pools_of, net_buffer, client_name, each_client}
 use Rattle.region_layout.proofs.ValidLemmas.{small_numbers}
-use Rattle.layout_laws.specs.Sound.{IsSoundPool, HasRooms, queue_range, pool_range, ranges_of}
+use Rattle.layout_laws.specs.Sound.{IsSoundPool, queue_range, pool_range}
 use Rattle.layout_laws.proofs.Lists.{option_cases, all-at, all-clients, all-class}
 use Rattle.layout_laws.proofs.Pools.{pools_sound}
 use Rattle.layout_laws.proofs.Rooms.{has_rooms}
 use Rattle.layout_laws.proofs.Spreads.{rows_apart}
 use Rattle.play_core.proofs.Lists.{some_is, map_get}
 use Rattle.cast_core.specs.Sources.{pool_at}
-use Rattle.cast_core.specs.Making.{tx_ends, tx_range, HasPool, HasPools}
+use Rattle.cast_core.specs.Making.{HasPool, HasPools}
 
 up_near : (number size : ℕ) → 1 ≤ size → round_up number size ≤ number + size
 up_near number size some = let h = div-mul-le_self (number + (size - 1)) size in omega (arith, h, some)
@@ -80,8 +78,12 @@ IsOfNet row = row.size ≡ 2048
 net_sized : (plan : Plan) (net : Net) → All IsOfNet (net_pools plan net)
 unfolding net_pools net_client_pools pool_in
 net_sized plan net =
-    All-cons IsOfNet _ (each_client (net_client_pools plan) 0 net.client) refl
-    (all-clients IsOfNet (net_client_pools plan) 0 net.client (λ k (client : NetClient) there. All-cons IsOfNet _ _ refl (All-cons IsOfNet _ [] refl (All-nil IsOfNet))))
+    let first = pool_in plan net.rx_region (codes "net.rx") net.rx_buffers net_buffer in
+    let rx : ℕ → NetClient → PoolRow = λ k client. pool_in plan client.rx_region (client_name (codes "net.") k (codes ".rx")) client.rx_buffers net_buffer in
+    let tx : ℕ → NetClient → PoolRow = λ k client. pool_in plan client.tx_region (client_name (codes "net.") k (codes ".tx")) client.tx_buffers net_buffer in
+    All-cons IsOfNet first (each_client (net_client_pools plan) 0 net.client) refl
+    (all-clients IsOfNet (net_client_pools plan) 0 net.client (λ k (client : NetClient) there.
+    All-cons IsOfNet (rx (0 + k) client) (tx (0 + k) client ∷ []) refl (All-cons IsOfNet (tx (0 + k) client) [] refl (All-nil IsOfNet))))
 
 module _ (plan : Plan) (valid : Valid plan) (none : plan.blk ≡ None) where
   -- each pool has buffers of 2,048 bytes
@@ -112,11 +114,15 @@ module _ (plan : Plan) (valid : Valid plan) (none : plan.blk ≡ None) where
       let other_size = pools_sized k other second in
       let high : address < one.base + one.size * one.buffers = rw size (omega (arith, b)) in
       let other_high : address < other.base + other.size * other.buffers = rw other_size (omega (arith, d)) in
-      rows_apart plan valid (long + k)
-      (long + j, (one.base, one.base + one.size * one.buffers), (other.base, other.base + other.size * other.buffers), omega (arith, less),
-      get-right queues pools j (pool_range one) (map_get pool_range (pools_of plan) j one first),
-      get-right queues pools k (pool_range other) (map_get pool_range (pools_of plan) k other second),
-      (address, a, high, c, other_high))
+      rows_apart plan valid (long + k) (
+        long + j,
+        (one.base, one.base + one.size * one.buffers),
+        (other.base, other.base + other.size * other.buffers),
+        omega (arith, less),
+        get-right queues pools j (pool_range one) (map_get pool_range (pools_of plan) j one first),
+        get-right queues pools k (pool_range other) (map_get pool_range (pools_of plan) k other second),
+        (address, a, high, c, other_high),
+      )
 
   base_there : (n : ℕ) (row : PoolRow) → slice_get (pools_of plan) n ≡ Some row → (pool_at (pools_of plan) n).base ≡ row.base
   base_there n row at = ap (λ (o : Option PoolRow). option_map_or (λ (r : PoolRow). r.base) o 0) at
@@ -137,11 +143,11 @@ module _ (plan : Plan) (valid : Valid plan) (none : plan.blk ≡ None) where
   ranges_apart : (j k : ℕ) (one other : PoolRow) → j < k → slice_get (pools_of plan) j ≡ Some one → slice_get (pools_of plan) k ≡ Some other
       → IsApart (record { base = (pool_at (pools_of plan) k).base; size = (pool_at (pools_of plan) k).buffers * 2048 }) (record { base = (pool_at (pools_of plan) j).base; size = (pool_at (pools_of plan) j).buffers * 2048 })
   ranges_apart j k one other less first second address within = elim (cases_Bool (is_within (record { base = (pool_at (pools_of plan) j).base; size = (pool_at (pools_of plan) j).buffers * 2048 }) address)) [
-    | inl yes ↦
-        let a = within_row j one address first yes in
+    | inl holds ↦
+        let a = within_row j one address first holds in
         let b = within_row k other address second within in
         absurd (pools_apart j k one other less first second address a.0 a.1 b.0 b.1)
-    | inr no ↦ no
+    | inr differs ↦ differs
   ]
 
   -- the pools of the network class

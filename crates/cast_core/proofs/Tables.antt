@@ -1,10 +1,9 @@
 -- Who stands at the queues by which jobs are known.
-use Rattle.std.proofs.Common.{◌≡◌, ◌+◌, ◌*◌, ◌<◌, ◌≤◌, ◌++◌, ℕ, zero, suc, Bool, true, false, Option, Some, None, is_some, List, [], ◌∷◌, length, length-append, slice_get, refl, sym, ap, ◌∙◌, subst, arith, inl, inr}
+use Rattle.std.proofs.Common.{◌≡◌, ◌+◌, ◌*◌, ◌<◌, ◌≤◌, ◌++◌, ℕ, suc, Option, Some, None, is_some, List, [], ◌∷◌, length, length-append, slice_get, refl, sym, ap, ◌∙◌, subst, arith, inl, inr}
 use Rattle.std.specs.List.{All}
 use Rattle.std.specs.Option.{option_map_or}
 use Rattle.std.proofs.lemmas.List.Elements.{All-nil, All-cons, All-append}
 use Rattle.wire_core.specs.Ends.{Role, Consumer, Producer}
-use Rattle.wire_core.specs.declared.names.QueueRow.{QueueRow}
 use Rattle.sdf_plan.specs.declared.plan.Plan.{Plan}
 use Rattle.sdf_plan.specs.declared.plan.Net.{Net}
 use Rattle.sdf_plan.specs.declared.plan.NetClient.{NetClient as NetClientKeys}
@@ -29,7 +28,7 @@ use Rattle.cast_core.specs.declared.jobs.SerialJob.TheVariants as OfSerial
 use Rattle.cast_core.specs.declared.jobs.Job.{Job}
 use Rattle.cast_core.specs.declared.jobs.Job.TheVariants as Class
 use Rattle.cast_core.specs.Sources.{first_serial}
-use Rattle.cast_core.specs.Known.{IsOwner, net_job, net_within, net_queue, net_role, HasNetJob, serial_job, serial_within, serial_queue, serial_role, HasSerialJob, HasRows, IsKnown, any_job}
+use Rattle.cast_core.specs.Known.{IsOwner, net_job, net_within, net_queue, net_role, serial_job, serial_within, serial_queue, serial_role, HasRows, IsKnown, any_job}
 
 -- how many rows there are for all clients
 each_count : {C T : Type 0} (rows : ℕ → C → List T) (many : ℕ) (times : ℕ → ℕ) → times 0 ≡ 0 → ((k : ℕ) → times (suc k) ≡ many + times k) → ((k : ℕ) (x : C) → length (rows k x) ≡ many)
@@ -149,12 +148,12 @@ module _ (plan : Plan) where
 
   -- an actor that is known by its queue has the job
   pub known_has : (job : Job) (k : ℕ) → IsKnown plan (queues_of plan) k job → HasJob plan (any_job job) k
-  known_has (Class.Net job) k known = let t = net_tells known.0 known.1 job known.2 in subst (λ j. HasJob plan j k) t.2 (has_of (net_queue job) t.0 (net_role job) k t.1 known.3)
-  known_has (Class.Serial job) k known = let t = serial_tells known.0 known.1 job known.2 in subst (λ j. HasJob plan j k) t.2 (has_of (serial_queue (first_serial plan) job) t.0 (serial_role job) k t.1 known.3)
+  known_has (Class.Net job) k known = let t = net_tells known.0 known.1 job known.2.0 in subst (λ j. HasJob plan j k) t.2 (has_of (net_queue job) t.0 (net_role job) k t.1 known.2.1)
+  known_has (Class.Serial job) k known = let t = serial_tells known.0 known.1 job known.2.0 in subst (λ j. HasJob plan j k) t.2 (has_of (serial_queue (first_serial plan) job) t.0 (serial_role job) k t.1 known.2.1)
 
   has_known : (job : Job) (k : ℕ) → IsOf job → HasJob plan (any_job job) k → IsKnown plan (queues_of plan) k job
-  has_known (Class.Net job) k there has = let t = net_tells there.0 there.1 job there.2 in (there.0, there.1, there.2, owner_of_job (net_queue job) t.0 (net_role job) k t.1 (subst (λ j. HasJob plan j k) (sym t.2) has))
-  has_known (Class.Serial job) k there has = let t = serial_tells there.0 there.1 job there.2 in (there.0, there.1, there.2, owner_of_job (serial_queue (first_serial plan) job) t.0 (serial_role job) k t.1 (subst (λ j. HasJob plan j k) (sym t.2) has))
+  has_known (Class.Net job) k there has = let t = net_tells there.0 there.1 job there.2 in (there.0, there.1, (there.2, owner_of_job (net_queue job) t.0 (net_role job) k t.1 (subst (λ j. HasJob plan j k) (sym t.2) has)))
+  has_known (Class.Serial job) k there has = let t = serial_tells there.0 there.1 job there.2 in (there.0, there.1, (there.2, owner_of_job (serial_queue (first_serial plan) job) t.0 (serial_role job) k t.1 (subst (λ j. HasJob plan j k) (sym t.2) has)))
 
   -- each job that the plan gives is one of a class
   abbrev IsGiven : jobs.Job → Type 0

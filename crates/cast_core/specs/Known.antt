@@ -28,7 +28,7 @@ net_job Net.Sender = jobs.NetSender
 net_job (Net.Copier c) = jobs.NetCopier c
 net_job (Net.Client c) = jobs.NetClient c
 
--- a job is one of a class with so many clients
+-- a job is one of a network class with so many clients
 abbrev pub net_within : ℕ → NetJob → Type 0
 net_within clients Net.Device = Unit {0}
 net_within clients Net.Driver = Unit {0}
@@ -37,7 +37,7 @@ net_within clients Net.Sender = Unit {0}
 net_within clients (Net.Copier c) = c < clients
 net_within clients (Net.Client c) = c < clients
 
--- the queue, and its end, by which a job of the network class is known
+-- the queue by which a job of the network class is known
 abbrev pub net_queue : NetJob → ℕ
 net_queue Net.Device = 0
 net_queue Net.Driver = 0
@@ -46,6 +46,7 @@ net_queue Net.Sender = 6
 net_queue (Net.Copier c) = 8 + 6 * c
 net_queue (Net.Client c) = 10 + 6 * c
 
+-- the end of that queue
 abbrev pub net_role : NetJob → Role
 net_role Net.Device = Consumer
 net_role Net.Driver = Producer
@@ -59,11 +60,11 @@ abbrev pub HasNetJob : List QueueRow → ℕ → ℕ → NetJob → Type 0
 HasNetJob rows clients k job =
     net_within clients job × IsOwner rows (net_queue job) (net_role job) k
 
--- by the rows, actor k has none
+-- by the rows, actor k has no job in a network class with so many clients
 abbrev pub HasNoNetJob : List QueueRow → ℕ → ℕ → Type 0
 HasNoNetJob rows clients k = (job : NetJob) → HasNetJob rows clients k job → ⊥
 
--- the same of the serial class, from its first queue on
+-- the jobs of the serial class among all
 abbrev pub serial_job : SerialJob → jobs.Job
 serial_job Serial.Device = jobs.UartDevice
 serial_job Serial.Driver = jobs.UartDriver
@@ -71,6 +72,7 @@ serial_job Serial.Receiver = jobs.SerialReceiver
 serial_job Serial.Sender = jobs.SerialSender
 serial_job (Serial.Client c) = jobs.SerialClient c
 
+-- a job is one of a serial class with so many clients
 abbrev pub serial_within : ℕ → SerialJob → Type 0
 serial_within clients Serial.Device = Unit {0}
 serial_within clients Serial.Driver = Unit {0}
@@ -78,6 +80,7 @@ serial_within clients Serial.Receiver = Unit {0}
 serial_within clients Serial.Sender = Unit {0}
 serial_within clients (Serial.Client c) = c < clients
 
+-- the queue by which a job of the serial class is known, which begins at this queue
 abbrev pub serial_queue : ℕ → SerialJob → ℕ
 serial_queue first Serial.Device = first
 serial_queue first Serial.Driver = first
@@ -85,6 +88,7 @@ serial_queue first Serial.Receiver = first + 2
 serial_queue first Serial.Sender = first + 3
 serial_queue first (Serial.Client c) = first + 4 + 2 * c
 
+-- the end of that queue
 abbrev pub serial_role : SerialJob → Role
 serial_role Serial.Device = Producer
 serial_role Serial.Driver = Consumer
@@ -92,6 +96,7 @@ serial_role Serial.Receiver = Consumer
 serial_role Serial.Sender = Producer
 serial_role (Serial.Client c) = Consumer
 
+-- by the rows, actor k has this job in a serial class with this first queue and so many clients
 abbrev pub HasSerialJob : List QueueRow → ℕ → ℕ → ℕ → SerialJob → Type 0
 HasSerialJob rows first clients k job =
     serial_within clients job × IsOwner rows (serial_queue first job) (serial_role job) k

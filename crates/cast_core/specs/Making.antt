@@ -1,11 +1,9 @@
 -- What the network's actors are made from: pools, the queues of clients, and frames.
 use Rattle.std.specs.Prelude.{◌≡◌, ◌+◌, ◌*◌, ◌<◌, ◌≤◌, ◌^◌, ℕ, Some, List, All, length, replicate, slice_get}
-use Rattle.cargo_core.specs.declared.item.PoolId.{PoolId}
 use Rattle.cargo_core.specs.declared.ranges.Range.{Range}
 use Rattle.cargo_core.specs.Pages.{Paged}
 use Rattle.cargo_core.specs.Ranges.{IsApart}
 use Rattle.wire_core.specs.declared.names.PoolRow.{PoolRow}
-use Rattle.wire_core.specs.declared.names.QueueId.{QueueId}
 use Rattle.sdf_plan.specs.declared.plan.Plan.{Plan}
 use Rattle.trace_text.specs.declared.trace.Trace.{Trace}
 use Rattle.net_parts.specs.Numbers.{client_first}
@@ -17,7 +15,7 @@ use Rattle.cast_core.specs.Sources.{client_mac, pool_at}
 abbrev pub new_page : ℕ → ℕ → Paged
 new_page pool k = record { pool = record { 0 = pool }; no = k; bytes = replicate 2048 0 }
 
--- a network client as the receiving virtualiser has it, and as the sending one has it
+-- a network client as the receiving virtualiser has it
 abbrev pub lease_ends : Plan → ℕ → LeaseEnds
 lease_ends plan c = record {
   mac = client_mac plan c;
@@ -25,6 +23,7 @@ lease_ends plan c = record {
   free = record { 0 = client_first 0 c + 1 };
 }
 
+-- a network client as the sending virtualiser has it
 abbrev pub tx_ends : List PoolRow → ℕ → TxEnds
 tx_ends rows c = record {
   active = record { 0 = client_first 0 c + 4 };

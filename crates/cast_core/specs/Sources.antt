@@ -54,11 +54,12 @@ is_echo plan c =
     runs plan.protection_domain client.pd (codes "net_echo"))
     (slice_get (net_clients plan) c) false
 
--- the program of the network client of a number, and with it the frames that a trace has it send
+-- the kind of program that the network client of a number runs
 abbrev pub client_kind : Plan → ℕ → NetProgram
 client_kind plan c = if is_source plan c then Programs.Source
     else if is_echo plan c then Programs.Echo else Programs.Sink
 
+-- its program, with the frames that a trace has it send
 abbrev pub client_program : Plan → Trace → ℕ → Program
 client_program plan trace c =
     program_with (client_kind plan c) (unwrap_or (slice_get trace.sends c) [])

@@ -2,13 +2,13 @@
 //! plan, its layout and a trace. It stands below the laws of actors and the system that plays them.
 #![tactic(auto)]
 
-mod cast;
+mod actors;
 mod jobs;
 mod network;
 mod pools;
 mod serial;
 mod shared;
 
-pub use cast::cast;
+pub use actors::cast;
 pub use jobs::{Job, NetJob, SerialJob};
 pub use shared::{copies, first_serial};

@@ -115,7 +115,14 @@ fn device(alloc: Global, trace: &Trace) -> Result<EthDevice, Memory>
     ensures part { IfOk result (λ d. device_part d ≡ device_at 0 trace.now.frames) }
 {
     let frames = copied(alloc, trace.frames())?;
-    Ok(EthDevice::new(alloc, QueueId(0), QueueId(1), QueueId(2), QueueId(3), frames))
+    Ok(EthDevice::new(
+        alloc,
+        QueueId(0),
+        QueueId(1),
+        QueueId(2),
+        QueueId(3),
+        frames,
+    ))
 }
 
 // The driver.

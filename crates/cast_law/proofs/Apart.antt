@@ -1,5 +1,5 @@
 -- No two ends of an actor on one side are of one queue.
-use Rattle.std.proofs.Common.{◌≡◌, ◌+◌, ◌*◌, ◌<◌, ◌≤◌, ℕ, zero, suc, Some, None, List, [], ◌∷◌, length, map, slice_get, refl, sym, ap, ◌∙◌, subst, arith}
+use Rattle.std.proofs.Common.{◌≡◌, ◌+◌, ℕ, zero, suc, Some, List, [], ◌∷◌, length, map, slice_get, refl, sym, ap, ◌∙◌, subst, arith}
 use Rattle.std.proofs.lemmas.List.{length-map}
 use Rattle.frame_core.specs.declared.mac.Mac.{Mac}
 use Rattle.wire_core.specs.declared.names.QueueId.{QueueId}
@@ -18,7 +18,7 @@ use Rattle.net_virt_tx.specs.Traffics.{senders}
 use Rattle.net_parts.specs.Parts.{NetPart, NetDevice, NetDriver, NetReceiver, NetCopier as CopierPart, NetClient as NetClientPart, Way, Lessee}
 use Rattle.net_owners.specs.Names.{PoolAt, ClientPools}
 use Rattle.net_parts.specs.Numbers.{driver_at, receiver_at}
-use Rattle.net_parts.specs.Playing.{lessees, lessees_of}
+use Rattle.net_parts.specs.Playing.{lessees}
 use Rattle.net_tx_parts.specs.Parts.{SendPart, Shipper}
 use Rattle.net_tx_parts.specs.Playing.{shippers}
 use Rattle.net_tx_parts.specs.Numbers.{sender_at}

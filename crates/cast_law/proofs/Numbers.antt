@@ -1,12 +1,11 @@
 -- The ends at the queues of clients, as parts and jobs have them.
-use Rattle.std.proofs.Common.{◌≡◌, ◌+◌, ◌*◌, ◌<◌, ◌++◌, ℕ, zero, suc, Option, Some, None, List, [], ◌∷◌, length, map, flat_map, slice_get, refl, sym, ap, ap₂, ◌∙◌, subst, arith}
+use Rattle.std.proofs.Common.{◌≡◌, ◌+◌, ◌*◌, ◌<◌, ◌++◌, ℕ, zero, suc, Option, Some, None, List, [], ◌∷◌, length, map, flat_map, slice_get, refl, ap, ap₂, arith}
 use Rattle.std.specs.Option.{option_map_or}
 use Rattle.frame_core.specs.declared.mac.Mac.{Mac}
 use Rattle.sdf_plan.specs.declared.plan.Plan.{Plan}
 use Rattle.sdf_plan.specs.declared.plan.Net.{Net}
 use Rattle.sdf_plan.specs.declared.plan.Serial.{Serial}
 use Rattle.trace_text.specs.Events.{net_clients, serial_clients}
-use Rattle.play_core.specs.Moved.{Seat}
 use Rattle.play_core.specs.Wants.{intake, outlet}
 use Rattle.play_core.proofs.Lists.{some_is}
 use Rattle.net_owners.specs.Names.{ClientPools}

@@ -1,8 +1,8 @@
 -- The part of a job has the job's ends.
-use Rattle.std.proofs.Common.{◌≡◌, ◌+◌, ◌*◌, ◌<◌, ◌++◌, ℕ, zero, suc, Option, Some, None, List, [], ◌∷◌, length, map, flat_map, slice_get, refl, sym, ap, ap₂, ◌∙◌, subst, arith}
+use Rattle.std.proofs.Common.{◌≡◌, ◌+◌, ℕ, Some, List, [], ◌∷◌, length, slice_get, refl, sym, ap, ◌∙◌, subst, arith}
 use Rattle.cargo_core.specs.declared.item.QueueKind.{QueueKind}
 use Rattle.cargo_core.specs.declared.item.QueueKind.TheVariants as Kind
-use Rattle.wire_core.specs.Ends.{Role, Consumer, Producer}
+use Rattle.wire_core.specs.Ends.{Role}
 use Rattle.sdf_plan.specs.declared.plan.Plan.{Plan}
 use Rattle.trace_text.specs.declared.trace.Trace.{Trace}
 use Rattle.trace_text.specs.Events.{net_clients, serial_clients}
@@ -21,7 +21,7 @@ use Rattle.job_law.specs.Jobs.{Job, EthDevice, EthDriver, NetReceiver, NetSender
 use Rattle.cast_core.specs.Casts.{client_pools, net_place, job_part}
 use Rattle.cast_core.specs.Sources.{first_serial, client_mac}
 use Rattle.cast_core.proofs.Listing.{value_count}
-use Rattle.seat_law.specs.Ends.{net_count, serial_count, ends_from, lease_ends, send_ends, given_end, said_end, job_ends, job_kind}
+use Rattle.seat_law.specs.Ends.{net_count, ends_from, lease_ends, send_ends, given_end, said_end, job_ends, job_kind}
 use Rattle.cast_law.proofs.Numbers.{clients_counted, speakers_counted, leases_end, sends_end, given_ends, said_ends}
 
 -- a sheet's ends hang on no scene

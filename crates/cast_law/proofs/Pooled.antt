@@ -1,5 +1,5 @@
 -- The pools of a plan's network: each stands among the layout's pools at its number.
-use Rattle.std.proofs.Common.{◌≡◌, ◌⊎◌, ◌==◌, ◌+◌, ◌*◌, ◌<◌, ◌≤◌, ◌++◌, ℕ, zero, suc, cond, Option, Some, None, inl, inr, List, [], ◌∷◌, length, flat_map, slice_get, refl, sym, ap, ap₂, ◌∙◌, subst, eq-eqb, ne_eqb, arith}
+use Rattle.std.proofs.Common.{◌≡◌, ◌⊎◌, ◌+◌, ◌*◌, ◌++◌, ℕ, zero, suc, cond, Option, Some, None, inl, inr, List, [], ◌∷◌, length, flat_map, slice_get, refl, sym, ap, ap₂, ◌∙◌, subst, eq-eqb, ne_eqb, arith}
 use Rattle.std.specs.Option.{option_map_or}
 use Rattle.std.proofs.lemmas.List.{append-nil}
 use Rattle.wire_core.specs.declared.names.PoolRow.{PoolRow}
@@ -17,8 +17,7 @@ use Rattle.net_pools.specs.Sizes.{net_pools, sizes_of, AreNumbered}
 use Rattle.net_tx_parts.specs.Numbers.{NetPlace}
 use Rattle.seat_law.proofs.Counts.{each_count}
 use Rattle.cast_core.specs.Casts.{client_pools, net_place}
-use Rattle.cast_core.specs.Sources.{pool_at, pools_at}
-use Rattle.cast_core.proofs.Listing.{value_count}
+use Rattle.cast_core.specs.Sources.{pool_at}
 
 -- which pool of which client stands at a place
 pair_at : (n : ℕ) (value : ℕ → ClientPools) (i : ℕ) (p : PoolAt) → slice_get (flat_map (λ (c : ClientPools). c.rx ∷ c.tx ∷ []) (per_client n value)) i ≡ Some p → (c : ℕ) × (((i ≡ 2 * c) × (p ≡ (value c).rx)) ⊎ ((i ≡ 2 * c + 1) × (p ≡ (value c).tx)))
@@ -99,3 +98,11 @@ module _ (plan : Plan) (trace : Trace) where
         let p = there_is pools k (omega (arith, below, many, counted, pairs)) in
         let size = size_at pools 0 k p.0 (λ i q q_at. let n = number_is i q q_at in omega (arith, n)) p.1 in
         size ∙ (ap (λ (q : PoolAt). q.buffers) (pool_is k p.0 p.1) ∙ ap (λ (o : Option PoolRow). option_map_or (λ (r : PoolRow). r.buffers) o 0) at)
+
+    -- and there are as many
+    pub many_are : (net : Net) → plan.net ≡ Some net → length (pools_of plan) ≡ length pools
+    many_are net is =
+        let many = rows_many net is in
+        let counted : count ≡ length net.client = ap (λ (o : Option Net). length (option_map_or (λ (n : Net). n.client) o [])) is in
+        let pairs = pairs_many count (client_pools plan) in
+        omega (arith, many, counted, pairs)

@@ -1,6 +1,5 @@
 -- Actors that are cast are seated at the rows.
-use Rattle.std.proofs.Common.{◌≡◌, ◌⊎◌, ◌+◌, ◌*◌, ◌<◌, ◌≤◌, ◌++◌, ℕ, zero, suc, Option, Some, None, inl, inr, List, [], ◌∷◌, length, map, slice_get, refl, sym, ap, ◌∙◌, subst, arith}
-use Rattle.cargo_core.specs.declared.item.QueueKind.{QueueKind}
+use Rattle.std.proofs.Common.{◌≡◌, ◌<◌, ◌≤◌, ℕ, Some, None, List, length, map, slice_get, sym, ap, ◌∙◌, subst, arith}
 use Rattle.wire_core.specs.declared.names.QueueRow.{QueueRow}
 use Rattle.wire_core.specs.Ends.{Role, Consumer, Producer}
 use Rattle.wire_core.specs.Journal.{owner_of}
@@ -12,17 +11,14 @@ use Rattle.layout_laws.specs.Sound.{IsSoundQueue, IsOwned}
 use Rattle.layout_laws.proofs.Lists.{all-at}
 use Rattle.layout_laws.proofs.Queues.{queues_sound}
 use Rattle.layout_laws.proofs.Owners.{queues_owned}
-use Rattle.play_core.specs.Moved.{Seat}
-use Rattle.play_core.proofs.Lists.{some_is, map_get, map_from, there_is, there_below}
-use Rattle.actor_set.specs.Parts.{Part}
+use Rattle.play_core.proofs.Lists.{map_get, there_is}
 use Rattle.actor_set.specs.Actors.{ActorEnd, IsWhole, part_of}
-use Rattle.actor_set.specs.StartStates.{IsNew, HasApartEnds, HasSeat, kind_at}
+use Rattle.actor_set.specs.StartStates.{HasApartEnds, HasSeat, kind_at}
 use Rattle.actor_set.specs.declared.actor.Actor.{Actor}
 use Rattle.actor_law.proofs.Starts.{new_whole}
 use Rattle.job_law.specs.Jobs.{Job, HasJob}
-use Rattle.job_law.proofs.Having.{one_actor, same_job, job_below}
+use Rattle.job_law.proofs.Having.{same_job, job_below}
 use Rattle.cast_core.specs.Casts.{job_part, IsCast, AreCast}
-use Rattle.seat_law.specs.Ends.{IsOf, job_ends, job_kind}
 use Rattle.seat_law.proofs.Having.{job_is_of}
 use Rattle.seat_law.proofs.Seats.{has_seat, has_end, not_both}
 use Rattle.wired_law.specs.Wiring.{IsWired}

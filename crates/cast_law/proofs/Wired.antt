@@ -1,16 +1,14 @@
 -- The actors of a plan are wired: none is of the network, or they are the whole network at its
 -- place.
-use Rattle.std.proofs.Common.{◌≡◌, ◌⊎◌, ◌+◌, ◌*◌, ◌%◌, ◌==◌, ◌&&◌, ◌<◌, ◌≤◌, ◌++◌, ℕ, zero, suc, Bool, true, false, if◌then◌else◌, Option, Some, None, unwrap_or, inl, inr, List, [], ◌∷◌, length, map, flat_map, slice_get, refl, sym, ap, ap₂, ◌∙◌, subst, arith}
+use Rattle.std.proofs.Common.{◌≡◌, ◌+◌, ◌*◌, ◌%◌, ◌==◌, ◌&&◌, ◌<◌, ◌≤◌, ◌++◌, ℕ, zero, suc, Bool, true, false, if◌then◌else◌, Option, Some, None, unwrap_or, inl, inr, List, [], ◌∷◌, length, map, flat_map, slice_get, refl, sym, ap, ap₂, ◌∙◌, subst, arith}
 use Rattle.std.specs.List.{All}
 use Rattle.std.specs.Option.{option_map_or}
 use Rattle.std.proofs.lemmas.List.{append-nil}
 use Rattle.frame_core.specs.declared.mac.Mac.{Mac}
 use Rattle.frame_core.specs.Macs.{mac_of, mac_bytes, is_mac_text, byte_at}
 use Rattle.wire_core.specs.declared.names.PoolRow.{PoolRow}
-use Rattle.wire_core.specs.declared.names.QueueRow.{QueueRow}
-use Rattle.cargo_core.specs.declared.item.QueueKind.TheVariants as Kind
 use Rattle.play_core.specs.Sheets.{Scene}
-use Rattle.play_core.proofs.Lists.{some_is, map_get, map_from, there_is, there_below}
+use Rattle.play_core.proofs.Lists.{some_is, map_get, map_from, there_is}
 use Rattle.sdf_plan.specs.declared.plan.Plan.{Plan}
 use Rattle.sdf_plan.specs.declared.plan.Net.{Net}
 use Rattle.sdf_plan.specs.declared.plan.NetClient.{NetClient as NetClientKeys}
@@ -18,7 +16,7 @@ use Rattle.sdf_plan.specs.declared.plan.Blk.{Blk}
 use Rattle.sdf_check.specs.Valid.{Valid}
 use Rattle.trace_text.specs.declared.trace.Trace.{Trace}
 use Rattle.trace_text.specs.Events.{net_clients}
-use Rattle.trace_text.specs.Traces.{IsReadFor, per_client}
+use Rattle.trace_text.specs.Traces.{IsReadFor}
 use Rattle.trace_text.specs.Shapes.{HasShapes, IsFrame as IsTraceFrame}
 use Rattle.trace_text.proofs.Shapes.{shapes-read}
 use Rattle.region_layout.specs.Rows.{queues_of, pools_of, actor_named, eth_number}
@@ -29,13 +27,13 @@ use Rattle.net_expect.specs.Expecting.{Program, Source}
 use Rattle.net_client.specs.Programs.{program_with}
 use Rattle.net_client.specs.declared.program.NetProgram.{NetProgram}
 use Rattle.net_client.specs.declared.program.NetProgram.TheVariants as Programs
-use Rattle.net_owners.specs.Names.{PoolAt, ClientPools}
+use Rattle.net_owners.specs.Names.{ClientPools}
 use Rattle.net_parts.specs.Parts.{NetPart}
-use Rattle.net_parts.specs.Numbers.{device_at, driver_at, client_at}
+use Rattle.net_parts.specs.Numbers.{device_at, client_at}
 use Rattle.net_parts.proofs.Items.{all_at}
 use Rattle.net_tx_parts.specs.Parts.{SendPart}
 use Rattle.net_tx_parts.specs.Numbers.{NetPlace, own_pools}
-use Rattle.net_tx_cast.specs.Casting.{IsFrame, AreFrames, IsClientOf}
+use Rattle.net_tx_cast.specs.Casting.{AreFrames, IsClientOf}
 use Rattle.actor_set.specs.Parts.{Part, UartPart, DriverPart, RxPart, TxPart, ClientPart, NetworkPart, SendingPart}
 use Rattle.actor_set.specs.Actors.{part_of}
 use Rattle.actor_set.specs.declared.actor.Actor.{Actor}
@@ -49,7 +47,7 @@ use Rattle.seat_law.proofs.Having.{job_is_of}
 use Rattle.seat_law.proofs.Carrying.{net_kinds}
 use Rattle.seat_law.proofs.Naming.{net_named}
 use Rattle.cast_core.specs.Casts.{client_pools, net_place, job_part, scene_for, AreCast}
-use Rattle.cast_core.specs.Sources.{pool_at, no_mac, client_mac, client_kind, client_program}
+use Rattle.cast_core.specs.Sources.{no_mac, client_mac, client_kind, client_program}
 use Rattle.cast_core.proofs.Listing.{value_count, value_at, value_is}
 
 -- what is made of a list, where at most one element gives anything

@@ -2,7 +2,7 @@
 //! system can start with them.
 #![tactic(auto)]
 
-ghost use Rattle.std.specs.Prelude.{◌≡◌, ℕ, Some, None, List, [], map, slice_get};
+ghost use Rattle.std.specs.Prelude.{◌≡◌, ℕ, Some, None, List, [], length, map, slice_get};
 ghost use Rattle.sdf_plan.specs.declared.plan.Plan.{Plan};
 ghost use Rattle.sdf_plan.specs.declared.plan.Net.{Net};
 ghost use Rattle.sdf_check.specs.Valid.{Valid};
@@ -16,7 +16,7 @@ ghost use Rattle.actor_set.specs.declared.actor.Actor.{Actor};
 ghost use Rattle.actor_law.specs.Kinds.{scene_of};
 ghost use Rattle.job_law.specs.Jobs.{Job, HasJob};
 ghost use Rattle.cast_core.specs.Casts.{net_place, job_part, scene_for, AreCast};
-ghost use Rattle.wired_law.specs.Wiring.{HasWhole};
+ghost use Rattle.wired_law.specs.Wiring.{HasNoNetwork, HasWhole};
 ghost use Rattle.cast_law.specs.Seats.{AreSeated};
 
 /// The actors of a valid plan without a block class are seated at its layout's queues, each number
@@ -39,9 +39,15 @@ pub fn cast_law()
         → scene_of (map part_of actors) ≡ scene_for plan trace }
     ensures numbered { (plan : Plan) (trace : Trace)
         → AreNumbered (net_pools (net_place plan trace).pool (net_place plan trace).pools) }
-    ensures sized { (plan : Plan) (trace : Trace) → plan.blk ≡ None
-        → (net : Net) → plan.net ≡ Some net
+    ensures sized { (plan : Plan) (trace : Trace) → plan.blk ≡ None → (net : Net)
+        → plan.net ≡ Some net
         → AreSized (sizes_of (net_pools (net_place plan trace).pool (net_place plan trace).pools))
         0 (pools_of plan) }
+    ensures many { (plan : Plan) (trace : Trace) → plan.blk ≡ None → (net : Net)
+        → plan.net ≡ Some net → length (pools_of plan)
+        ≡ length (net_pools (net_place plan trace).pool (net_place plan trace).pools) }
     ensures no_pools { (plan : Plan) → plan.blk ≡ None → plan.net ≡ None → pools_of plan ≡ [] }
+    ensures no_network { (plan : Plan) (trace : Trace) (actors : List Actor) → Valid plan
+        → plan.blk ≡ None → AreCast plan trace actors → plan.net ≡ None
+        → HasNoNetwork (map part_of actors) }
 {}

@@ -36,7 +36,7 @@ pub fn blk_client_count(plan: &Plan) -> usize
     }
 }
 
-// Whether the network client of a number sends frames of its own.
+/// Whether the network client of a number sends frames of its own.
 #[tactic(auto, unfolding(crate::specs::Events::is_source))]
 pub fn is_source(plan: &Plan, client: u64) -> bool
     ensures { result ≡ is_source plan.now client }
@@ -77,8 +77,8 @@ pub fn is_blk_client(plan: &Plan, client: u64) -> bool
     }
 }
 
-// Whether the first domain of a name runs a program.
-fn runs(domains: &[Domain], name: &Text, program: &str) -> bool
+/// Whether the first domain of a name runs a program.
+pub fn runs(domains: &[Domain], name: &Text, program: &str) -> bool
     ensures { result ≡ runs domains.now name.now program.now }
 {
     for domain in domains {

@@ -18,6 +18,7 @@ mod text;
 mod trace;
 
 pub use cargo_core::Ask;
+pub use clients::{is_source, runs};
 pub use laws::{limits_law, shapes_law};
 pub use read::{TraceFault, read_trace};
 pub use trace::Trace;

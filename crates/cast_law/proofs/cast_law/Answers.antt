@@ -1,6 +1,7 @@
 use Rattle.cast_law.proofs.Seated.{part_there}
-use Rattle.cast_law.proofs.Pooled.{numbered_is, sized_is, no_pools}
 use Rattle.cast_law.proofs.Joined.{all_seated, whole_network, scene_of_plan}
+use Rattle.cast_law.proofs.Wired.{no_network}
+use Rattle.cast_law.proofs.Pooled.{numbered_is, sized_is, many_are, no_pools}
 use Rattle.cast_law.proofs.cast_law.Goals as goal
 
 pub returns-clause-seated : goal.returns-clause-seated
@@ -21,5 +22,11 @@ returns-clause-numbered c = numbered_is
 pub returns-clause-sized : goal.returns-clause-sized
 returns-clause-sized c = sized_is
 
+pub returns-clause-many : goal.returns-clause-many
+returns-clause-many c = many_are
+
 pub returns-clause-no_pools : goal.returns-clause-no_pools
 returns-clause-no_pools c = no_pools
+
+pub returns-clause-no_network : goal.returns-clause-no_network
+returns-clause-no_network c = no_network

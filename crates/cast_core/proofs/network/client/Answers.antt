@@ -1,4 +1,4 @@
-use Rattle.std.proofs.Common.{◌≡◌, ◌+◌, ◌*◌, [], refl, sym, ap, ap₂, ◌∙◌, arith, unwrap_or}
+use Rattle.std.proofs.Common.{◌+◌, ◌*◌, [], refl, sym, ap, ap₂, ◌∙◌, arith, unwrap_or}
 use Rattle.net_client.specs.Programs.{program_with}
 use Rattle.net_parts.specs.Numbers.{client_at}
 use Rattle.net_tx_parts.specs.Numbers.{own_pools}

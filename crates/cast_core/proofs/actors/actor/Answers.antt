@@ -1,0 +1,66 @@
+use Rattle.std.proofs.Common.{◌≡◌, sym, ◌∙◌, subst, arith, length}
+use Rattle.region_layout.specs.Rows.{queues_of, pools_of}
+use Rattle.cast_core.specs.declared.jobs.Job.TheVariants as Class
+use Rattle.cast_core.specs.Known.{HasRows, IsKnown, net_job, serial_job}
+use Rattle.cast_core.specs.Making.{HasPools, HasFrames}
+use Rattle.cast_core.proofs.Tables.{has_rows, some_known, known_has}
+use Rattle.cast_core.proofs.Rooms.{has_pools}
+use Rattle.cast_core.proofs.Joining.{queues_are, pools_are, net_count, net_few, serial_few, serial_some, first_few, has_frames, says_count, is_cast}
+use Rattle.cast_core.proofs.actors.actor.Goals as goal
+
+pub job_of-requires-clause-rows : goal.job_of-requires-clause-rows
+job_of-requires-clause-rows c =
+    let rows : c.queues.result.now ≡ queues_of c.args.plan.now = c.queues.ensures ∙ queues_are c.args.plan.now c.args.layout.now c.requires.layout in
+    subst (HasRows c.args.plan.now) (sym rows) (has_rows c.args.plan.now c.requires.blk c.requires.valid)
+
+pub job_of-requires-clause-some : goal.job_of-requires-clause-some
+job_of-requires-clause-some c =
+    let rows : c.queues.result.now ≡ queues_of c.args.plan.now = c.queues.ensures ∙ queues_are c.args.plan.now c.args.layout.now c.requires.layout in
+    let some = some_known c.args.plan.now c.requires.blk c.requires.valid c.args.number c.requires.there in
+    (some.0, subst (λ l. IsKnown c.args.plan.now l c.args.number some.0) (sym rows) some.1)
+
+pub net_clients-requires : goal.net_clients-requires
+net_clients-requires c = let few = net_few c.args.plan.now c.requires.valid in omega (arith, few)
+
+pub net_actor-requires-clause-few : goal.net_actor-requires-clause-few
+net_actor-requires-clause-few c = let is = c.net_clients.ensures in let few = net_few c.args.plan.now c.requires.valid in omega (arith, few, is)
+
+pub net_actor-requires-clause-rows : goal.net_actor-requires-clause-rows
+net_actor-requires-clause-rows c = c.pools.ensures ∙ pools_are c.args.plan.now c.args.layout.now c.requires.layout
+
+pub net_actor-requires-clause-pools : goal.net_actor-requires-clause-pools
+net_actor-requires-clause-pools c =
+    let rows : c.pools.result.now ≡ pools_of c.args.plan.now = c.pools.ensures ∙ pools_are c.args.plan.now c.args.layout.now c.requires.layout in
+    let count : c.net_clients.result ≡ length c.in-Net.ensures.0.client = c.net_clients.ensures ∙ net_count c.args.plan.now c.in-Net.ensures.0 c.in-Net.ensures.1 in
+    subst (λ n. HasPools c.pools.result.now n) (sym count)
+    (subst (λ l. HasPools l (length c.in-Net.ensures.0.client)) (sym rows) (has_pools c.args.plan.now c.requires.valid c.requires.blk c.in-Net.ensures.0 c.in-Net.ensures.1))
+
+pub net_actor-requires-clause-frames : goal.net_actor-requires-clause-frames
+net_actor-requires-clause-frames c = subst (HasFrames c.args.trace.now) (sym c.net_clients.ensures) (has_frames c.args.plan.now c.args.trace.now c.requires.trace)
+
+pub serial_clients-requires : goal.serial_clients-requires
+serial_clients-requires c = let few = serial_few c.args.plan.now c.requires.valid in omega (arith, few)
+
+pub serial_actor-requires-clause-some : goal.serial_actor-requires-clause-some
+serial_actor-requires-clause-some c = let is = c.serial_clients.ensures in let some = serial_some c.args.plan.now c.requires.valid c.in-Serial.ensures.0 c.in-Serial.ensures.1 in omega (arith, some, is)
+
+pub serial_actor-requires-clause-few : goal.serial_actor-requires-clause-few
+serial_actor-requires-clause-few c = let is = c.serial_clients.ensures in let few = serial_few c.args.plan.now c.requires.valid in omega (arith, few, is)
+
+pub serial_actor-requires-clause-numbered : goal.serial_actor-requires-clause-numbered
+serial_actor-requires-clause-numbered c = let is = c.serial_clients.ensures in let few = serial_few c.args.plan.now c.requires.valid in let first = first_few c.args.plan.now c.requires.valid in omega (arith, few, first, is)
+
+pub serial_actor-requires-clause-says : goal.serial_actor-requires-clause-says
+serial_actor-requires-clause-says c = says_count c.args.plan.now c.args.trace.now c.requires.trace ∙ sym c.serial_clients.ensures
+
+pub returns-in-Net : goal.returns-in-Net
+returns-in-Net c =
+    let rows : c.queues.result.now ≡ queues_of c.args.plan.now = c.queues.ensures ∙ queues_are c.args.plan.now c.args.layout.now c.requires.layout in
+    let has = known_has c.args.plan.now (Class.Net c.in-Net.job) c.args.number (subst (λ l. IsKnown c.args.plan.now l c.args.number (Class.Net c.in-Net.job)) rows c.in-Net.ensures) in
+    is_cast c.args.plan.now c.args.trace.now c.args.number (net_job c.in-Net.job) c.net_actor.result has c.net_actor.ensures.new c.net_actor.ensures.part
+
+pub returns-in-Serial : goal.returns-in-Serial
+returns-in-Serial c =
+    let rows : c.queues.result.now ≡ queues_of c.args.plan.now = c.queues.ensures ∙ queues_are c.args.plan.now c.args.layout.now c.requires.layout in
+    let has = known_has c.args.plan.now (Class.Serial c.in-Serial.job) c.args.number (subst (λ l. IsKnown c.args.plan.now l c.args.number (Class.Serial c.in-Serial.job)) rows c.in-Serial.ensures) in
+    is_cast c.args.plan.now c.args.trace.now c.args.number (serial_job c.in-Serial.job) c.serial_actor.result has c.serial_actor.ensures.new c.serial_actor.ensures.part
