@@ -4,3 +4,4 @@ pub mod Table
 pub mod Naming
 pub mod Dealing
 pub mod Playing
+pub mod Goodness

@@ -1,5 +1,5 @@
 -- The pools of a network at its place in a cast, and a cast at play whose buffers are followed.
-use Rattle.std.specs.Prelude.{◌≡◌, ◌⊎◌, ◌++◌, ℕ, Some, List, [], length, map, slice_get}
+use Rattle.std.specs.Prelude.{◌≡◌, ◌⊎◌, ◌+◌, ◌++◌, ℕ, Some, List, [], length, map, slice_get}
 use Rattle.cargo_core.specs.Lists.{IsPrefix}
 use Rattle.wire_core.specs.declared.names.PoolRow.{PoolRow}
 use Rattle.wire_core.specs.declared.names.QueueRow.{QueueRow}
@@ -16,7 +16,8 @@ use Rattle.owner_law.specs.Things.{Naming}
 use Rattle.owner_law.specs.Keeping.{Keeper, keeper_of}
 use Rattle.owner_law.specs.Pages.{CarryPages}
 use Rattle.rest_law.specs.Showing.{HaveItems}
-use Rattle.pool_lines.specs.PoolLines.{AreSized}
+use Rattle.pool_law.specs.Lines.{Holder}
+use Rattle.pool_lines.specs.PoolLines.{counted, AreSized}
 use Rattle.net_parts.specs.Numbers.{layout_naming}
 use Rattle.net_tx_parts.specs.Numbers.{NetPlace}
 use Rattle.net_pools.specs.Sizes.{net_pools, sizes_of, AreNumbered}
@@ -39,10 +40,11 @@ net_sizes net = sizes_of (net_pools net.pool net.pools)
 abbrev pub keepers_at : List Part → List Keeper
 keepers_at cast = map (λ p. keeper_of (sheet (scene_of cast) p)) cast
 
--- the network's queues are the first ones; no two of its pools have one number, and by that number
--- each stands among these rows with its size
+-- the network's queues are the first ones; there are as many rows as it has pools, of which no two
+-- have one number, and by that number each stands among these rows with its size
 pub record HasPools (pools : List PoolRow) (net : NetPlace) : Type 0 where
   pub first : net.first ≡ 0
+  pub many : length pools ≡ length (net_pools net.pool net.pools)
   pub numbered : AreNumbered (net_pools net.pool net.pools)
   pub sized : AreSized (net_sizes net) 0 pools
 
@@ -50,6 +52,14 @@ pub record HasPools (pools : List PoolRow) (net : NetPlace) : Type 0 where
 abbrev pub ArePooled : List QueueRow → List PoolRow → List Part → Type 0
 ArePooled rows pools cast = (HasNoNetwork cast × (pools ≡ []))
     ⊎ ((net : NetPlace) × HasWhole rows net cast × HasPools pools net)
+
+-- of each of these pools, by their numbers, the buffers that are counted in queues and hands and as
+-- lent are all that it has
+abbrev pub AddUp : List Queue → List Holder → List PoolRow → Type 0
+AddUp world holders pools = (k : ℕ) (row : PoolRow) → slice_get pools k ≡ Some row
+    → (counted world holders (record { 0 = k })).queues
+    + (counted world holders (record { 0 = k })).hands
+    + (counted world holders (record { 0 = k })).lent ≡ row.buffers
 
 -- a cast at play from the start state on: each actor has just the ends that the rows give it, fits
 -- them and stands for what passed there, of which nothing came out of turn; the journal is legal, at

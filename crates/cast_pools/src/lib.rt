@@ -2,7 +2,7 @@
 //! what the table of owners says after the journal.
 #![tactic(auto)]
 
-ghost use Rattle.std.specs.Prelude.{◌≡◌, ◌+◌, ℕ, Some, List, map, slice_get};
+ghost use Rattle.std.specs.Prelude.{◌≡◌, ℕ, List, map};
 ghost use Rattle.wire_core.specs.declared.names.PoolRow.{PoolRow};
 ghost use Rattle.wire_core.specs.declared.names.QueueRow.{QueueRow};
 ghost use Rattle.wire_core.specs.declared.names.Entry.{Entry};
@@ -20,19 +20,19 @@ ghost use Rattle.net_tx_parts.specs.Numbers.{NetPlace};
 ghost use Rattle.rest_law.specs.Showing.{HaveItems};
 ghost use Rattle.pool_law.specs.Handing.{HandsOn, TakesPages};
 ghost use Rattle.pool_law.specs.Lines.{HoldsIts};
-ghost use Rattle.pool_lines.specs.PoolLines.{counted, table_lines, counted_lines};
+ghost use Rattle.pool_lines.specs.PoolLines.{table_lines, counted_lines};
 ghost use Rattle.actor_set.specs.Parts.{Part};
-ghost use Rattle.actor_set.specs.Actors.{ActorStandsFor, IsWhole, part_of};
+ghost use Rattle.actor_set.specs.Actors.{ActorStandsFor, IsWhole, part_of, bad_of};
 ghost use Rattle.actor_set.specs.declared.actor.Actor.{Actor};
 ghost use Rattle.actor_law.specs.Kinds.{sheet, scene_of};
 ghost use Rattle.actor_law.specs.Turning.{InTurn};
 ghost use Rattle.wired_law.specs.Wiring.{HasWhole};
 ghost use Rattle.cast_pools.specs.Holders.{NamesAt, IsSized, TakesNet, actor_holder, holders_of};
-ghost use Rattle.cast_pools.specs.Pooling.{net_naming, keepers_at, HasPools, AreAtPlay, IsCall};
+ghost use Rattle.cast_pools.specs.Pooling.{net_naming, keepers_at, HasPools, AddUp, AreAtPlay, IsCall};
 
 /// Where nothing came out of turn at an actor, and what it took carries the pages that are named,
 /// so does what it put; and of each pool it had at the start and took what it put, has in its hand
-/// and has lent.
+/// and has lent. It counted nothing as bad.
 pub fn holder_law()
     ensures hands_on { (naming : Naming) (scene : Scene) (x : Actor) (passed : Passed) (m : Moved)
         → NamesAt naming scene (part_of x) → TakesNet x passed → InTurn scene x passed
@@ -42,6 +42,8 @@ pub fn holder_law()
         → IsSized sizes (part_of x) → IsWhole x → InTurn scene x passed → ActorStandsFor x passed
         → HaveItems passed m → TakesPages naming m passed (sheet scene (part_of x)).ends
         → HoldsIts naming sizes m passed (actor_holder scene x) }
+    ensures bad { (scene : Scene) (x : Actor) (passed : Passed) → InTurn scene x passed
+        → ActorStandsFor x passed → bad_of x ≡ 0 }
 {}
 
 /// Entries that carry the pages which their items name do so after each call of an actor. So the
@@ -66,8 +68,5 @@ pub fn cast_pool_law()
         → AreAtPlay rows actors journal passed world
         → CarryPages (net_naming (scene_of (map part_of actors)) net)
         (moved (start_history rows) journal) passed
-        → (k : ℕ) (row : PoolRow) → slice_get pools k ≡ Some row
-        → (counted world (holders_of actors) (record { 0 = k })).queues
-        + (counted world (holders_of actors) (record { 0 = k })).hands
-        + (counted world (holders_of actors) (record { 0 = k })).lent ≡ row.buffers }
+        → AddUp world (holders_of actors) pools }
 {}

@@ -1,4 +1,5 @@
 use Rattle.cast_pools.proofs.Acting.{actor_on, actor_holds}
+use Rattle.cast_pools.proofs.Goodness.{none_bad}
 use Rattle.cast_pools.proofs.holder_law.Goals as goal
 
 pub returns-clause-hands_on : goal.returns-clause-hands_on
@@ -6,3 +7,6 @@ returns-clause-hands_on c = λ naming scene x passed m. actor_on naming scene pa
 
 pub returns-clause-holds : goal.returns-clause-holds
 returns-clause-holds c = λ naming sizes scene x passed m names sized whole turn st items. actor_holds naming scene passed m sizes items x names sized whole turn st
+
+pub returns-clause-bad : goal.returns-clause-bad
+returns-clause-bad c = none_bad

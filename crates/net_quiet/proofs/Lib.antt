@@ -1,0 +1,4 @@
+pub mod Listing
+pub mod Leases
+pub mod Sending
+pub mod Receiving

@@ -1,0 +1,2 @@
+-- The whole network where nobody is runnable.
+pub mod Still
