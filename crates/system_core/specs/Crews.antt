@@ -25,8 +25,12 @@ abbrev pub serial_crew : Plan → Crew
 serial_crew plan = option_map_or (λ (serial : Serial). crew_of (Some (uart_number plan).0)
     (map (λ (c : SerialClient). number_named plan c.pd) serial.client)) plan.serial nobody
 
+-- the actor that takes from a queue
+abbrev pub IsTaker : List QueueRow → (queue actor : ℕ) → Type 0
+IsTaker rows queue actor = (row : QueueRow) × (slice_get rows queue ≡ Some row)
+    × (row.consumer.0 ≡ actor)
+
 -- the actors that take from so many queues, which stand so far apart from a number on
 pub record AreTakers (rows : List QueueRow) (first apart count : ℕ) (numbers : List ℕ) : Type 0 where
   pub many : length numbers ≡ count
-  pub each : (c k : ℕ) → slice_get numbers c ≡ Some k → (row : QueueRow)
-      × (slice_get rows (first + apart * c) ≡ Some row) × (row.consumer.0 ≡ k)
+  pub each : (c k : ℕ) → slice_get numbers c ≡ Some k → IsTaker rows (first + apart * c) k

@@ -1,8 +1,8 @@
 //! Who is who in the classes of a plan, by the ends that the rows give its actors.
-ghost use Rattle.std.specs.Prelude.{◌≡◌, ◌≤◌, ◌+◌, ◌*◌, IfOk, length, None};
+ghost use Rattle.std.specs.Prelude.{◌≡◌, ◌<◌, ◌≤◌, ◌+◌, ◌*◌, IfOk, length, None};
 ghost use Rattle.sdf_check.specs.Valid.{Valid};
 ghost use Rattle.region_layout.specs.Rows.{queues_of};
-ghost use Rattle.system_core.specs.Crews.{AreTakers, net_crew, serial_crew};
+ghost use Rattle.system_core.specs.Crews.{IsTaker, AreTakers, net_crew, serial_crew};
 
 use crate::crew::Crew;
 use cargo_core::Memory;
@@ -25,6 +25,14 @@ fn bytes_place(first: u16, client: u16) -> usize
     first as usize + 4 + 2 * client as usize
 }
 
+// The actor that takes from the queue at a place.
+fn taker(rows: &[QueueRow], place: usize) -> u16
+    requires { place < length rows.now }
+    ensures { IsTaker rows.now place result }
+{
+    rows[place].consumer.0
+}
+
 // The clients of the network class.
 fn net_clients(alloc: Global, rows: &[QueueRow], clients: u16) -> Result<Vec<u16>, Memory>
     requires { 8 + 6 * clients ≤ length rows.now }
@@ -32,7 +40,7 @@ fn net_clients(alloc: Global, rows: &[QueueRow], clients: u16) -> Result<Vec<u16
 {
     let mut numbers = Vec::with_capacity(alloc, clients as usize)?;
     for c in 0..clients {
-        numbers.push(rows[frames_place(c)].consumer.0)?;
+        numbers.push(taker(rows, frames_place(c)))?;
     }
     Ok(numbers)
 }
@@ -49,7 +57,7 @@ fn serial_clients(
 {
     let mut numbers = Vec::with_capacity(alloc, clients as usize)?;
     for c in 0..clients {
-        numbers.push(rows[bytes_place(first, c)].consumer.0)?;
+        numbers.push(taker(rows, bytes_place(first, c)))?;
     }
     Ok(numbers)
 }
@@ -64,7 +72,7 @@ pub fn net_crew(alloc: Global, plan: &Plan, rows: &[QueueRow]) -> Result<Crew, M
     match &plan.net {
         Some(net) => {
             let clients = net_clients(alloc, rows, net.client.len() as u16)?;
-            Ok(Crew::new(Some(rows[0].consumer.0), clients))
+            Ok(Crew::new(Some(taker(rows, 0)), clients))
         }
         None => Ok(Crew::nobody(alloc)),
     }
@@ -81,7 +89,7 @@ pub fn serial_crew(alloc: Global, plan: &Plan, rows: &[QueueRow]) -> Result<Crew
         Some(serial) => {
             let first = first_serial(plan);
             let clients = serial_clients(alloc, rows, first, serial.client.len() as u16)?;
-            Ok(Crew::new(Some(rows[first as usize].producer.0), clients))
+            Ok(Crew::new(Some(taker(rows, first as usize + 1)), clients))
         }
         None => Ok(Crew::nobody(alloc)),
     }

@@ -1,14 +1,22 @@
-use Rattle.std.proofs.Common.{◌∙◌, ap, sym, subst}
+use Rattle.std.proofs.Common.{◌∙◌, sym, subst}
 use Rattle.std.proofs.lemmas.Result.{IfOk-weaker}
 use Rattle.system_core.specs.Builds.{IsBuilt}
 use Rattle.system_core.proofs.Built.{layout_queues, no_blk, are_seated, is_built}
 use Rattle.system_core.proofs.system.System.build.Goals as goal
 
-pub cast-actors-requires-clause-blk : goal.cast-actors-requires-clause-blk
-cast-actors-requires-clause-blk c = ?
+pub net_crew-requires-clause-rows : goal.net_crew-requires-clause-rows
+net_crew-requires-clause-rows c = c.deref.ensures.value ∙ (c.in_ok-rows.ensures ∙ (c.queues.ensures ∙ layout_queues c.args.plan.now c.args.layout.now c.requires.layout))
+
+pub serial_crew-requires-clause-rows : goal.serial_crew-requires-clause-rows
+serial_crew-requires-clause-rows c = c.deref-2.ensures.value ∙ (c.in_ok-rows.ensures ∙ (c.queues.ensures ∙ layout_queues c.args.plan.now c.args.layout.now c.requires.layout))
 
 pub start-requires : goal.start-requires
-start-requires c = ?
+start-requires c =
+    are_seated c.args.plan.now c.requires.valid (no_blk c.args.plan.now c.requires.played) c.args.trace.now c.requires.trace c.in_ok-actors.actors.items c.in_ok-actors.ensures c.in_ok-rows.rows.items
+    (c.in_ok-rows.ensures ∙ (c.queues.ensures ∙ layout_queues c.args.plan.now c.args.layout.now c.requires.layout))
 
 pub returns-clause-built : goal.returns-clause-built
-returns-clause-built c = ?
+returns-clause-built c =
+    let built = is_built c.args.plan.now c.requires.valid (no_blk c.args.plan.now c.requires.played) c.args.trace.now c.requires.trace c.in_ok-actors.actors.items c.in_ok-actors.ensures c.in_ok-rows.rows.items
+    (c.in_ok-rows.ensures ∙ (c.queues.ensures ∙ layout_queues c.args.plan.now c.args.layout.now c.requires.layout)) c.in_ok-net.net c.in_ok-serial.serial c.in_ok-net.ensures c.in_ok-serial.ensures in
+    IfOk-weaker c.start.result _ _ (λ s e. subst (IsBuilt c.args.plan.now c.args.trace.now) (sym e) built) c.start.ensures.state
