@@ -3,14 +3,22 @@
 #![tactic(auto)]
 
 ghost use Rattle.std.specs.Prelude.{◌≡◌, ℕ, List};
+ghost use Rattle.cargo_core.specs.Lists.{Merge};
+ghost use Rattle.frame_core.specs.declared.mac.Mac.{Mac};
 ghost use Rattle.wire_core.specs.declared.names.QueueRow.{QueueRow};
 ghost use Rattle.wire_core.specs.declared.names.Entry.{Entry};
 ghost use Rattle.wire_core.specs.Journal.{History, Hostiles};
+ghost use Rattle.wire_core.specs.Lists.{Passed};
 ghost use Rattle.play_core.specs.Moved.{moved};
 ghost use Rattle.play_core.specs.Sheets.{Scene};
 ghost use Rattle.play_core.specs.Still.{IsStill};
 ghost use Rattle.play_core.specs.Wants.{Needful};
+ghost use Rattle.rest_law.specs.Showing.{HaveItems};
+ghost use Rattle.net_expect.specs.Expecting.{Program, frames_for};
+ghost use Rattle.net_client.specs.declared.NetClient.{NetClient};
+ghost use Rattle.net_owners.specs.Names.{ClientPools};
 ghost use Rattle.net_tx_parts.specs.Numbers.{NetPlace};
+ghost use Rattle.net_tx_cast.specs.Casting.{AllSend, IsClientOf, IsSendingClient, IsWholeCast, sends_at};
 ghost use Rattle.net_quiet.specs.Still.{IsNetwork, ArrivesAll, SendsAll};
 
 /// Where nobody is runnable, all frames went through to the clients that they are for, each as
@@ -26,4 +34,27 @@ pub fn still_law()
         → IsStill hostile history rows actors journal
         → IsNetwork hostile scene rows actors net (moved history journal)
         → SendsAll scene net (moved history journal) }
+{}
+
+/// So the actors, of whose entries these are the items, recorded all: each client the device's
+/// frames that are for its address, and the device a merge of all that the clients send by their
+/// programs, where each client put good descriptors alone.
+pub fn whole_law()
+    ensures records { (hostile : Hostiles) (history : History) (rows : List QueueRow)
+        (actors : Needful) (journal : List Entry) (scene : Scene) (net : NetPlace)
+        (passed : Passed) → IsStill hostile history rows actors journal
+        → IsNetwork hostile scene rows actors net (moved history journal)
+        → HaveItems passed (moved history journal) → IsWholeCast net scene.frames passed
+        → (k : ℕ) (program : Program) (mac : Mac) (q : ClientPools)
+        → IsClientOf net k program mac q → (c : NetClient)
+        → IsSendingClient net k program mac q c passed
+        → c.frames.tape.shown ≡ frames_for mac scene.frames }
+    ensures wire { (hostile : Hostiles) (history : History) (rows : List QueueRow)
+        (actors : Needful) (journal : List Entry) (scene : Scene) (net : NetPlace)
+        (passed : Passed) → IsStill hostile history rows actors journal
+        → IsNetwork hostile scene rows actors net (moved history journal)
+        → HaveItems passed (moved history journal)
+        → (whole : IsWholeCast net scene.frames passed) → AllSend net passed
+        → Merge (sends_at net.programs net.macs scene.frames)
+        whole.half.device.wire.tape.shown }
 {}

@@ -1,4 +1,4 @@
-use Rattle.std.proofs.Common.{◌≡◌, ◌<◌, ◌≤◌, ◌+◌, ◌*◌, ◌^◌, ◌++◌, ℕ, Some, None, List, [], ◌∷◌, length, slice_get, refl, sym, ap, ◌∙◌, subst, arith}
+use Rattle.std.proofs.Common.{◌≡◌, ◌<◌, ◌≤◌, ◌+◌, ◌*◌, ◌^◌, ℕ, Some, List, [], length, slice_get, refl, sym, ap, ◌∙◌, subst, arith}
 use Rattle.std.specs.Option.{option_map, option_map_or}
 use Rattle.std.proofs.lemmas.List.{length-map}
 use Rattle.std.proofs.lemmas.Nat.{pow_pos}
@@ -6,53 +6,53 @@ use Rattle.cargo_core.specs.Lists.{IsPrefix}
 use Rattle.sdf_plan.specs.declared.plan.Plan.{Plan}
 use Rattle.sdf_plan.specs.declared.plan.Serial.{Serial}
 use Rattle.sdf_plan.specs.declared.plan.SerialClient.{SerialClient as Client}
-use Rattle.wire_core.specs.declared.names.QueueRow.{QueueRow}
-use Rattle.wire_core.specs.Ends.{Role}
 use Rattle.serial_switch.specs.Switching.{input_of}
-use Rattle.sdf_check.specs.Valid.{Valid}
-use Rattle.cargo_core.specs.Capacities.{IsCapacity}
-use Rattle.sdf_check.specs.ClassRules.{class_domains}
 use Rattle.trace_text.specs.declared.trace.Trace.{Trace}
-use Rattle.region_layout.specs.Rows.{queues_of, actors_of, uart_number}
-use Rattle.play_core.specs.Moved.{Moved}
+use Rattle.region_layout.specs.Rows.{uart_number}
+use Rattle.play_core.specs.Moved.{Moved, Seat}
+use Rattle.play_core.specs.Wants.{intake, outlet}
 use Rattle.play_core.specs.Still.{Holds}
 use Rattle.play_core.proofs.Lists.{map_from, there_is, there_below}
 use Rattle.serial_law.specs.Parts.{SerialPart}
 use Rattle.serial_law.specs.Bytes.{bytes_in}
 use Rattle.serial_law.specs.Serial.{SerialClass, IsSerial, ArrivesInPart, ArrivesWhole}
-use Rattle.actor_set.specs.Parts.{ClientPart}
+use Rattle.actor_set.specs.Parts.{Part, ClientPart}
 use Rattle.actor_law.specs.Kinds.{serial_part}
-use Rattle.system_core.specs.Shows.{Setting, Shown, hostile_in, moved_in}
+use Rattle.system_core.specs.Shows.{Setting, Shown, hostile_in, sheet_in, moved_in}
 use Rattle.actor_law.specs.Records.{record_by}
-use Rattle.system_core.specs.Lawful.{record_at, IsTold}
-use Rattle.cargo_core.specs.declared.item.QueueKind.TheVariants as Kind
-use Rattle.actor_set.specs.StartStates.{HasSeat}
-use Rattle.system_core.specs.Builds.{number_named, serial_class, first_serial, HasSerial}
+use Rattle.system_core.specs.Lawful.{record_at, IsFitted, IsTold}
+use Rattle.system_core.specs.Crews.{number_named}
+use Rattle.system_core.specs.Builds.{serial_class}
+use Rattle.system_core.proofs.Casting.{HasSerial}
 use Rattle.system_core.specs.PlanPlays.{ShowsInPart, ShowsWhole}
 use Rattle.actor_law.proofs.Calm.{calm_row}
-use Rattle.system_core.proofs.Apart.{acting_names, acting_from}
-use Rattle.system_core.proofs.Named.{has_role}
-use Rattle.system_core.proofs.SerialRows.{seats_0, seats_1, seats_2, seats_3, seats_rx, seats_tx}
-use Rattle.system_core.proofs.Seconds.{second_get, second_there, second_length}
+use Rattle.cast_core.proofs.Seconds.{second_get, second_there, second_length}
 
 -- an actor of the serial class is one of a cast
 abbrev pub There : Setting → SerialPart → Type 0
 There s p = (k : ℕ) × (slice_get s.cast k ≡ Some (serial_part p))
 
 -- the actors of the serial class are its actors
-module _ (plan : Plan) (serial : Serial) (has : plan.serial ≡ Some serial) (first : ℕ) (starts : first_serial plan ≡ first) (trace : Trace) (s : Setting)
-    (rows : s.rows ≡ queues_of plan) (places : (n : ℕ) (row : QueueRow) → slice_get s.rows n ≡ Some row → IsCapacity row.capacity) (h : HasSerial first plan serial trace s) (says : length trace.says ≡ length serial.client) where
+module _ (plan : Plan) (serial : Serial) (first : ℕ) (trace : Trace) (s : Setting) (fitted : IsFitted s) (h : HasSerial first plan serial trace s) (says : length trace.says ≡ length serial.client) where
   abbrev count : ℕ
   count = length serial.client
 
-  holds : (n k : ℕ) (r : Role) → HasSeat (queues_of plan) Kind.Byte k r n → Holds (hostile_in s) s.rows n 1
-  holds n k r seat =
-      let there : slice_get s.rows n ≡ Some seat.row = ap (λ rs. slice_get rs n) rows ∙ seat.there in
-      let c = places n seat.row there in
-      record { row = seat.row; there = there; calm = calm_row s.cast seat.row; enough = subst (λ m. 1 ≤ m) (sym c.2) (some_power c.0) }
+  -- a queue of which an actor has an end is there, and can hold an entry
+  holds : (k : ℕ) (p : Part) → slice_get s.cast k ≡ Some p → (i : ℕ) (x : Seat) → slice_get (sheet_in s p).ends i ≡ Some x → Holds (hostile_in s) s.rows x.queue 1
+  holds k p at i x end =
+      let seat = fitted.seated k p at i x end in
+      let c = fitted.places x.queue seat.0 seat.1 in
+      record { row = seat.0; there = seat.1; calm = calm_row s.cast seat.0; enough = subst (λ m. 1 ≤ m) (sym c.2) (some_power c.0) }
     where
       some_power : (k : ℕ) → 1 ≤ 2 ^ k
       some_power k = let p : 0 < 2 ^ k = pow_pos k in omega (arith, p)
+
+  -- the client of a number
+  client_at : (c : ℕ) → c < count → (k : ℕ) × (script : List ℕ) × (slice_get s.cast k ≡ Some (ClientPart (first + 4 + 2 * c) (first + 5 + 2 * c) script))
+  client_at c lt =
+      let client = there_is serial.client c lt in
+      let script = there_is trace.says c (omega (arith, lt, says)) in
+      (number_named plan client.0.pd, script.0, h.client c client.0 script.0 client.1 script.1)
 
   pub serial_there : IsSerial (There s) (hostile_in s) s.rows (serial_class first count trace)
   serial_there = record {
@@ -71,18 +71,18 @@ module _ (plan : Plan) (serial : Serial) (has : plan.serial ≡ Some serial) (fi
         );
     rx_count = second_length (first + 4) count ∙ sym says;
     tx_count = second_length (first + 5) count ∙ sym says;
-    holds_device_rx = holds first _ _ (seats_0 plan serial has first starts first refl).0;
-    holds_device_tx = holds (first + 1) _ _ (seats_1 plan serial has first starts (first + 1) refl).0;
-    holds_rx = holds (first + 2) _ _ (seats_2 plan serial has first starts (first + 2) refl).0;
-    holds_tx = holds (first + 3) _ _ (seats_3 plan serial has first starts (first + 3) refl).0;
+    holds_device_rx = holds _ _ h.device 1 (outlet first) refl;
+    holds_device_tx = holds _ _ h.device 0 (intake (first + 1)) refl;
+    holds_rx = holds _ _ h.driver 1 (outlet (first + 2)) refl;
+    holds_tx = holds _ _ h.driver 2 (intake (first + 3)) refl;
     holds_client_rx = λ c q at.
         let g = second_get (first + 4) count c q at in
-        let client = there_is serial.client c g.0 in
-        holds q _ _ (seats_rx plan serial has first starts c q client.0 g.1 client.1).0;
+        let client = client_at c g.0 in
+        subst (λ n. Holds (hostile_in s) s.rows n 1) (sym g.1) (holds client.0 _ client.2 0 (intake (first + 4 + 2 * c)) refl);
     holds_client_tx = λ c q at.
         let g = second_get (first + 5) count c q at in
-        let client = there_is serial.client c g.0 in
-        holds q _ _ (seats_tx plan serial has first starts c q client.0 g.1 client.1).0;
+        let client = client_at c g.0 in
+        subst (λ n. Holds (hostile_in s) s.rows n 1) (sym g.1) (holds client.0 _ client.2 1 (outlet (first + 5 + 2 * c)) refl);
   }
 
 -- what is seen of the class is what its actors took
@@ -123,24 +123,3 @@ module _ (plan : Plan) (serial : Serial) (first : ℕ) (trace : Trace) (s : Show
     records = λ c got at. let r = record_is c got at in sym r.1 ∙ (a.records c (first + 4 + 2 * c) r.0 ∙ ap (λ n. input_of n c trace.input) (second_length (first + 4) clients));
     line = (bytes_in (went.taken (first + 1)), line_is, a.line);
   }
-
--- without a class there is nobody, and no queue
-module _ (plan : Plan) (valid : Valid plan) (net : plan.net ≡ None) (serial : plan.serial ≡ None) (blk : plan.blk ≡ None) where
-  pub no_queues : queues_of plan ≡ []
-  unfolding queues_of
-  no_queues = rw (net, serial, blk) refl
-
-  no_roles : class_domains plan ≡ []
-  no_roles = rw (net, serial, blk) refl
-
-  nobody_acts : (names : List (List ℕ)) → names ≡ acting_names plan.protection_domain → names ≡ []
-  nobody_acts [] is = refl
-  nobody_acts (a ∷ rest) is =
-      let f = acting_from plan.protection_domain 0 a (ap (λ ns. slice_get ns 0) (sym is)) in
-      let r = has_role plan valid f.0 f.1 f.2 f.3 in
-      let no : slice_get [] r.0 ≡ Some f.1.name = ap (λ ns. slice_get ns r.0) (sym no_roles) ∙ r.1 in
-      cc
-
-  pub no_actors : actors_of plan ≡ []
-  unfolding actors_of
-  no_actors = rw (net, serial, blk) (ap (λ ns. ns ++ []) (nobody_acts (acting_names plan.protection_domain) refl))

@@ -19,7 +19,7 @@ use Rattle.actor_law.specs.Kinds.{sheet, scene_of, hostiles}
 use Rattle.cast_pools.specs.Pooling.{ArePooled}
 use Rattle.system_core.specs.Shows.{Crew}
 use Rattle.system_core.specs.States.{begun}
-use Rattle.system_core.specs.Seats.{AreSeated}
+use Rattle.cast_law.specs.Seats.{AreSeated}
 use Rattle.system_core.specs.Lawful.{IsFitted}
 use Rattle.system_core.specs.Systems.{GoesOn}
 use Rattle.system_core.proofs.Starting.{start_holds}

@@ -5,7 +5,7 @@ use Rattle.actor_set.specs.declared.actor.Actor.{Actor}
 use Rattle.play_core.proofs.Lists.{some_is}
 use Rattle.actor_law.proofs.Paces.{start_round}
 use Rattle.actor_law.proofs.Starts.{new_stands, new_fits}
-use Rattle.system_core.specs.Seats.{AreSeated}
+use Rattle.cast_law.specs.Seats.{AreSeated}
 use Rattle.system_core.specs.Starts.{AreStarting}
 
 -- seated actors are in their start state at queues in theirs

@@ -23,10 +23,13 @@ use Rattle.actor_law.specs.Kinds.{serial_part, scene_of}
 use Rattle.system_core.specs.Shows.{Setting, Shown, manner_in, hostile_in, sheet_in, moved_in, runs, RowsStand}
 use Rattle.system_core.specs.Plays.{Played, runnable_now}
 use Rattle.system_core.specs.Lawful.{StandsLawful}
-use Rattle.system_core.specs.Builds.{IsBuilt, IsCastOf, BeginsAnew, HasSerial, serial_class, first_serial}
+use Rattle.system_core.specs.Builds.{IsBuilt, IsCastOf, BeginsAnew, serial_class}
 use Rattle.system_core.specs.PlanPlays.{IsPlayed, IsPlayedOn}
 use Rattle.actor_law.proofs.Calm.{calm_actor, sheet_is}
 use Rattle.system_core.proofs.Scripts.{scripts_length}
+use Rattle.cast_core.specs.Sources.{first_serial}
+use Rattle.system_core.proofs.Casting.{HasSerial, has_serial}
+use Rattle.system_core.proofs.Networking.{shows_frames}
 use Rattle.system_core.proofs.Begun.{There, serial_there, shows_in_part, shows_whole}
 
 -- what is said of a part of the serial class, as one of all
@@ -97,13 +100,13 @@ module _ (old new : Shown) (seed limit : ℕ) (none : old.journal ≡ []) (playe
       class = serial_class (first_serial plan) (length serial.client) trace
 
       class_is : HasSerial (first_serial plan) plan serial trace new.setting
-      class_is = cast_is.serial serial has
+      class_is = has_serial plan trace new.setting cast_is serial has
 
       says : length trace.says ≡ length serial.client
       says = scripts_length plan serial trace has read
 
       there : IsSerial (There new.setting) (hostile_in new.setting) new.setting.rows class
-      there = serial_there plan serial has (first_serial plan) refl trace new.setting cast_is.rows stands.fitted.places class_is says
+      there = serial_there plan serial (first_serial plan) trace new.setting stands.fitted class_is says
 
     pub played_on : IsPlayedOn plan trace seed limit new
     played_on = record {
@@ -113,6 +116,7 @@ module _ (old new : Shown) (seed limit : ℕ) (none : old.journal ≡ []) (playe
       stands = stands;
       arrives = λ serial has. arrives new stands (class serial has) (there serial has) part;
       shows = λ serial has. shows_in_part plan serial (first_serial plan) trace new (class_is serial has) (says serial has) stands.told (arrives_now new stands (class serial has) (there serial has) part);
+      shows_net = λ net has. shows_frames plan net trace new cast_is has stands.told;
       whole = λ quiet serial has. shows_whole plan serial (first_serial plan) trace new (class_is serial has) (says serial has) stands.told (arrives_whole new stands (class serial has) (there serial has) whole quiet);
     }
 

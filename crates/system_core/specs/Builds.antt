@@ -1,37 +1,24 @@
 -- The system of a plan and a trace: who acts at which queues, and that nothing happened yet.
-use Rattle.std.specs.Prelude.{◌≡◌, ◌+◌, ◌*◌, ℕ, zero, suc, if◌then◌else◌, Option, Some, None, is_some, List, [], ◌∷◌, length, map, slice_get}
-use Rattle.std.specs.Option.{option_map_or}
+use Rattle.std.specs.Prelude.{◌≡◌, ◌+◌, ℕ, if◌then◌else◌, Option, Some, None, is_some, List, [], length, slice_get}
 use Rattle.wire_core.specs.Journal.{start_history}
 use Rattle.sdf_plan.specs.declared.place.Place.{Place}
 use Rattle.sdf_plan.specs.declared.place.Place.TheVariants as At
 use Rattle.sdf_plan.specs.declared.plan.Plan.{Plan}
-use Rattle.sdf_plan.specs.declared.plan.Serial.{Serial}
-use Rattle.sdf_plan.specs.declared.plan.SerialClient.{SerialClient as Client}
+use Rattle.sdf_plan.specs.declared.plan.Net.{Net}
 use Rattle.trace_text.specs.declared.trace.Trace.{Trace}
-use Rattle.region_layout.specs.Rows.{net_queues, queues_of, actors_of, actor_named, uart_number}
-use Rattle.play_core.specs.Sheets.{Scene}
-use Rattle.serial_law.specs.Parts.{SerialPart, SerialDevice, SerialDriver, SerialReceiver, SerialSender, SerialClient}
+use Rattle.region_layout.specs.Rows.{queues_of, actors_of, pools_of}
 use Rattle.serial_law.specs.Serial.{SerialClass}
-use Rattle.actor_law.specs.Kinds.{serial_part, scene_of}
+use Rattle.job_law.specs.Jobs.{Job, HasJob}
+use Rattle.actor_law.specs.Kinds.{scene_of}
+use Rattle.wired_law.specs.Wiring.{HasWhole}
+use Rattle.cast_core.specs.Casts.{job_part, net_place, scene_for}
+use Rattle.cast_core.specs.Sources.{every_second}
 use Rattle.system_core.specs.Shows.{Setting, Shown}
+use Rattle.system_core.specs.Crews.{net_crew, serial_crew}
 
 -- the first class of a plan that can't be played yet, if it has one
 abbrev pub unplayed : Plan → Option Place
-unplayed plan = if is_some plan.net then Some At.Net else
-    (if is_some plan.blk then Some At.Blk else None)
-
--- the number of the domain of a name
-abbrev pub number_named : Plan → List ℕ → ℕ
-number_named plan name = (actor_named plan name).0
-
--- so many queues, every second one from a number on
-abbrev pub every_second : ℕ → ℕ → List ℕ
-every_second first zero = []
-every_second first (suc count) = first ∷ every_second (first + 2) count
-
--- the number of the first queue of the serial class: the network's stand before it
-abbrev pub first_serial : Plan → ℕ
-first_serial plan = length (option_map_or (net_queues plan) plan.net [])
+unplayed plan = if is_some plan.blk then Some At.Blk else None
 
 -- the serial class with so many clients, from its first queue on: two queues between device and
 -- driver, two between driver and virtualisers, and then two for each client; with what a trace
@@ -48,51 +35,21 @@ serial_class first count trace = record {
   scripts = trace.says;
 }
 
--- the actor of this number is this one of the serial class
-abbrev pub IsPart : Setting → ℕ → SerialPart → Type 0
-IsPart s number part = slice_get s.cast number ≡ Some (serial_part part)
-
--- the actors of the serial class, each at its queues
-pub record HasSerial (first : ℕ) (plan : Plan) (serial : Serial) (trace : Trace)
-    (s : Setting) : Type 0 where
-  pub device_is : s.serial.device ≡ Some (uart_number plan).0
-  pub clients_are : s.serial.clients ≡ map (λ (c : Client). number_named plan c.pd) serial.client
-  pub device : IsPart s (uart_number plan).0 (SerialDevice first (first + 1) trace.input)
-  pub driver : IsPart s (number_named plan serial.driver)
-      (SerialDriver first (first + 1) (first + 2) (first + 3))
-  pub receiver : IsPart s (number_named plan serial.rx_virt)
-      (SerialReceiver (first + 2) (every_second (first + 4) (length serial.client)))
-  pub sender : IsPart s (number_named plan serial.tx_virt)
-      (SerialSender (first + 3) (every_second (first + 5) (length serial.client)))
-  pub client : (c : ℕ) (client : Client) (script : List ℕ)
-      → slice_get serial.client c ≡ Some client → slice_get trace.says c ≡ Some script
-      → IsPart s (number_named plan client.pd)
-      (SerialClient (first + 4 + 2 * c) (first + 5 + 2 * c) script)
-
--- nobody acts
-pub record HasNobody (s : Setting) : Type 0 where
-  pub cast : s.cast ≡ []
-  pub device : s.serial.device ≡ None
-  pub clients : s.serial.clients ≡ []
-
--- what a trace gives the classes that a plan has: the frames to the network class, and the image to
--- the block class
-abbrev pub scene_for : Plan → Trace → Scene
-scene_for plan trace = record {
-  frames = option_map_or (λ net. trace.frames) plan.net [];
-  image = option_map_or (λ blk. trace.image) plan.blk [];
-}
-
--- the queues and the actors of a plan without the network class and the block class, with what a
--- trace gives them
+-- the queues, the pools and the actors of a plan without the block class, with what a trace gives them
 pub record IsCastOf (plan : Plan) (trace : Trace) (s : Setting) : Type 0 where
   pub rows : s.rows ≡ queues_of plan
+  pub pools : s.pools ≡ pools_of plan
   pub count : length s.cast ≡ length (actors_of plan)
   -- the scene in which their needs and rows are said
   pub scene : scene_of s.cast ≡ scene_for plan trace
-  pub serial : (serial : Serial) → plan.serial ≡ Some serial
-      → HasSerial (first_serial plan) plan serial trace s
-  pub nobody : plan.serial ≡ None → HasNobody s
+  -- the actor of each job has the part of that job
+  pub parts : (job : Job) (k : ℕ) → HasJob plan job k
+      → slice_get s.cast k ≡ job_part plan trace job
+  -- the network class is there as a whole
+  pub whole : (net : Net) → plan.net ≡ Some net → HasWhole s.rows (net_place plan trace) s.cast
+  -- the devices and the clients are those of the plan
+  pub net : s.net ≡ net_crew plan
+  pub serial : s.serial ≡ serial_crew plan
 
 -- nothing happened before the journal begins
 abbrev pub BeginsAnew : Setting → Type 0

@@ -1,17 +1,16 @@
 -- The definitions of a system at play: what it shows (Shows), what holds of it (Lawful), how it is
 -- built and played (Builds, Plays, PlanPlays), and inside, what it keeps (Runnings, Asking, Starts,
--- Seats, Systems, Inside, Jobs).
+-- Systems, Inside).
 pub mod Shows
 pub mod Plays
 pub mod Reports
 pub mod Lawful
+pub mod Crews
 pub mod Builds
 pub mod PlanPlays
 pub mod Runnings
 pub mod Asking
 pub mod States
 pub mod Starts
-pub mod Seats
 pub mod Systems
 pub mod Inside
-pub mod Jobs

@@ -4,14 +4,21 @@ use Rattle.cargo_core.specs.Lists.{IsPrefix, Merge, PrefixMerge}
 use Rattle.wire_core.specs.Picks.{PickedFrom}
 use Rattle.wire_core.specs.Journal.{EachMoment}
 use Rattle.serial_switch.specs.Switching.{input_of}
+use Rattle.frame_core.specs.declared.mac.Mac.{Mac}
+use Rattle.net_expect.specs.Expecting.{frames_for}
+use Rattle.net_tx_parts.specs.Numbers.{NetPlace}
+use Rattle.net_tx_cast.specs.Casting.{sends_at}
+use Rattle.cast_core.specs.Casts.{net_place}
+use Rattle.cast_core.specs.Sources.{first_serial}
 use Rattle.serial_law.specs.Serial.{ArrivesInPart}
 use Rattle.sdf_plan.specs.declared.plan.Plan.{Plan}
+use Rattle.sdf_plan.specs.declared.plan.Net.{Net}
 use Rattle.sdf_plan.specs.declared.plan.Serial.{Serial}
 use Rattle.trace_text.specs.declared.trace.Trace.{Trace}
 use Rattle.system_core.specs.Shows.{State, Shown, runs, moved_in}
 use Rattle.system_core.specs.Plays.{runnable_now}
 use Rattle.system_core.specs.Lawful.{StandsLawful}
-use Rattle.system_core.specs.Builds.{IsCastOf, BeginsAnew, serial_class, first_serial}
+use Rattle.system_core.specs.Builds.{IsCastOf, BeginsAnew, serial_class}
 use Rattle.system_core.specs.declared.system.Ending.{Ending}
 use Rattle.system_core.specs.declared.system.Ending.TheVariants as Ends
 
@@ -30,6 +37,15 @@ pub record ShowsWhole (count : ℕ) (trace : Trace) (s : State) : Type 0 where
       → got ≡ input_of count c trace.input
   pub line : (said : List ℕ) × (s.line ≡ Some said) × Merge trace.says said
 
+-- each network client recorded a beginning of the frames for its address, and what was sent on the
+-- wire is a merge of beginnings of what the clients send
+pub record ShowsFrames (net : NetPlace) (frames : List (List ℕ)) (s : State) : Type 0 where
+  pub count_is : length s.net ≡ length net.macs
+  pub records : (c : ℕ) (mac : Mac) (got : List (List ℕ)) → slice_get net.macs c ≡ Some mac
+      → slice_get s.net c ≡ Some got → IsPrefix got (frames_for mac frames)
+  pub wire : (sent : List (List ℕ)) × (s.wire ≡ Some sent) × PrefixMerge
+      (sends_at net.programs net.macs frames) sent
+
 -- the system of a plan and a trace, whatever its queues had before its journal begins, after a seed
 -- picked its steps, at most so many
 pub record IsPlayedOn (plan : Plan) (trace : Trace) (seed limit : ℕ) (s : Shown) : Type 0 where
@@ -42,7 +58,9 @@ pub record IsPlayedOn (plan : Plan) (trace : Trace) (seed limit : ℕ) (s : Show
       (moved_in s.setting j)) s.journal
   pub shows : (serial : Serial) → plan.serial ≡ Some serial
       → ShowsInPart (length serial.client) trace s.state
-  -- where nobody is runnable, all arrived
+  pub shows_net : (net : Net) → plan.net ≡ Some net
+      → ShowsFrames (net_place plan trace) trace.frames s.state
+  -- where nobody is runnable, all bytes of the serial class arrived
   pub whole : runnable_now s ≡ [] → (serial : Serial) → plan.serial ≡ Some serial
       → ShowsWhole (length serial.client) trace s.state
 

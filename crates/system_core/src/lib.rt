@@ -1,8 +1,8 @@
 //! The actors with the queues between them, and the one journal.
 #![tactic(auto)]
 
-mod build;
 mod crew;
+mod crews;
 mod lines;
 mod records;
 mod running;

@@ -13,6 +13,30 @@ use plain_wires::World;
 use std::alloc::Global;
 use wire_core::PoolRow;
 
+// A copy of a row.
+fn copy(alloc: Global, row: &PoolRow) -> Result<PoolRow, Memory>
+    ensures { IfOk result (λ r. r ≡ row.now) }
+{
+    Ok(PoolRow {
+        name: Text::new(alloc, row.name.as_str())?,
+        region: row.region,
+        base: row.base,
+        buffers: row.buffers,
+        size: row.size,
+    })
+}
+
+/// Copies of the rows of pools.
+pub fn pool_copies(alloc: Global, rows: &[PoolRow]) -> Result<Vec<PoolRow>, Memory>
+    ensures { IfOk result (λ rs. rs.items ≡ rows.now) }
+{
+    let mut copies = Vec::with_capacity(alloc, rows.len())?;
+    for row in rows {
+        copies.push(copy(alloc, row)?)?;
+    }
+    Ok(copies)
+}
+
 // How many buffers of a pool are in the hands of these actors.
 fn held(actors: &[Actor], pool: PoolId) -> u32
     requires whole { AreWhole actors.now }

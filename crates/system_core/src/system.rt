@@ -14,7 +14,7 @@ ghost use Rattle.cast_pools.specs.Pooling.{ArePooled};
 ghost use Rattle.system_core.specs.Shows.{runs};
 ghost use Rattle.system_core.specs.States.{history_of, begun, nobody, started};
 ghost use Rattle.system_core.specs.Systems.{Holds, GoesOn};
-ghost use Rattle.system_core.specs.Seats.{AreSeated};
+ghost use Rattle.cast_law.specs.Seats.{AreSeated};
 ghost use Rattle.system_core.specs.Lawful.{StandsLawful};
 ghost use Rattle.system_core.specs.Reports.{report_of};
 ghost use Rattle.system_core.specs.Runnings.{removed_if, with_option};
@@ -23,13 +23,14 @@ ghost use Rattle.system_core.specs.Asking.{IsAsked, AreWhole};
 ghost use Rattle.system_core.specs.Builds.{unplayed, IsBuilt};
 ghost use Rattle.system_core.specs.PlanPlays.{IsPlayed, HasEnded};
 
-use crate::build::{cast, client_numbers, copies, first_serial};
 use crate::crew::Crew;
-use crate::lines::{bad, lines};
+use crate::crews::{net_crew, serial_crew};
+use crate::lines::{bad, lines, pool_copies};
 use crate::records::{frame_records, line, records, wire};
 use crate::running::Running;
 use actor_set::Actor;
 use cargo_core::{Memory, Series};
+use cast_core::{cast, copies};
 use expect_core::Report;
 use plain_wires::World;
 use region_layout::Layout;
@@ -84,9 +85,7 @@ impl Model for System {
 pub fn unplayed(plan: &Plan) -> Option<Place>
     ensures { result ≡ unplayed plan.now }
 {
-    if plan.net.is_some() {
-        Some(Place::Net)
-    } else if plan.blk.is_some() {
+    if plan.blk.is_some() {
         Some(Place::Blk)
     } else {
         None
@@ -298,27 +297,11 @@ impl System {
         ensures stands { IfOk result StandsLawful }
     {
         let rows = copies(alloc, layout.queues())?;
-        let Some(serial) = &plan.serial else {
-            let pools = Vec::new(alloc);
-            let actors = Vec::new(alloc);
-            return System::start(
-                alloc,
-                rows,
-                pools,
-                actors,
-                Crew::nobody(alloc),
-                Crew::nobody(alloc),
-            );
-        };
-        let first = first_serial(plan);
-        let clients = serial.client.len() as u16;
-        let count = layout.actors().len() as u16;
-        let device = rows[first as usize].producer.0;
-        let numbers = client_numbers(alloc, &rows, first, clients)?;
-        let actors = cast(alloc, &rows, first, clients, count, trace)?;
-        let crew = Crew::new(Some(device), numbers);
-        let pools = Vec::new(alloc);
-        System::start(alloc, rows, pools, actors, Crew::nobody(alloc), crew)
+        let actors = cast(alloc, plan, layout, trace)?;
+        let net = net_crew(alloc, plan, &rows)?;
+        let serial = serial_crew(alloc, plan, &rows)?;
+        let pools = pool_copies(alloc, layout.pools())?;
+        System::start(alloc, rows, pools, actors, net, serial)
     }
 
     /// What is seen of the system as it is.

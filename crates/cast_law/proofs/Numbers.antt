@@ -1,0 +1,76 @@
+-- The ends at the queues of clients, as parts and jobs have them.
+use Rattle.std.proofs.Common.{◌≡◌, ◌+◌, ◌*◌, ◌<◌, ◌++◌, ℕ, zero, suc, Option, Some, None, List, [], ◌∷◌, length, map, flat_map, slice_get, refl, ap, ap₂, arith}
+use Rattle.std.specs.Option.{option_map_or}
+use Rattle.frame_core.specs.declared.mac.Mac.{Mac}
+use Rattle.sdf_plan.specs.declared.plan.Plan.{Plan}
+use Rattle.sdf_plan.specs.declared.plan.Net.{Net}
+use Rattle.sdf_plan.specs.declared.plan.Serial.{Serial}
+use Rattle.trace_text.specs.Events.{net_clients, serial_clients}
+use Rattle.play_core.specs.Wants.{intake, outlet}
+use Rattle.play_core.proofs.Lists.{some_is}
+use Rattle.net_owners.specs.Names.{ClientPools}
+use Rattle.net_parts.specs.Parts.{Lessee}
+use Rattle.net_parts.specs.Numbers.{client_first, lessees_from}
+use Rattle.net_parts.specs.Table.{lessee_ends}
+use Rattle.net_tx_parts.specs.Parts.{Shipper}
+use Rattle.net_tx_parts.specs.Table.{shipper_ends}
+use Rattle.net_tx_parts.specs.Numbers.{shippers_from}
+use Rattle.cast_core.specs.Sources.{every_second}
+use Rattle.seat_law.specs.Ends.{net_count, serial_count, ends_from, lease_ends, send_ends, given_end, said_end}
+
+pub clients_counted : (plan : Plan) → length (net_clients plan) ≡ net_count plan
+clients_counted plan = go plan.net
+  where
+    go : (o : Option Net) → length (option_map_or (λ (net : Net). net.client) o []) ≡ option_map_or (λ (net : Net). length net.client) o 0
+    go None = refl
+    go (Some net) = refl
+
+pub speakers_counted : (plan : Plan) → length (serial_clients plan) ≡ serial_count plan
+speakers_counted plan = go plan.serial
+  where
+    go : (o : Option Serial) → length (option_map_or (λ (serial : Serial). serial.client) o []) ≡ option_map_or (λ (serial : Serial). length serial.client) o 0
+    go None = refl
+    go (Some serial) = refl
+
+pub leases_end : (k : ℕ) (macs : List Mac) → flat_map lessee_ends (lessees_from 0 k macs) ≡ ends_from lease_ends k (length macs)
+leases_end k [] = refl
+leases_end k (mac ∷ macs) = ap (λ ends. lease_ends k ++ ends) (leases_end (k + 1) macs)
+
+pub sends_end : (k : ℕ) (pools : List ClientPools) → flat_map shipper_ends (shippers_from 0 k pools) ≡ ends_from send_ends k (length pools)
+sends_end k [] = refl
+sends_end k (q ∷ pools) = ap (λ ends. send_ends k ++ ends) (sends_end (k + 1) pools)
+
+pub given_ends : (first k a count : ℕ) → a ≡ first + 4 + 2 * k → map outlet (every_second a count) ≡ ends_from (given_end first) k count
+given_ends first k a zero is = refl
+given_ends first k a (suc count) is = ap₂ (λ n ends. outlet n ∷ ends) is (given_ends first (k + 1) (a + 2) count (omega (arith, is)))
+
+pub said_ends : (first k a count : ℕ) → a ≡ first + 5 + 2 * k → map intake (every_second a count) ≡ ends_from (said_end first) k count
+said_ends first k a zero is = refl
+said_ends first k a (suc count) is = ap₂ (λ n ends. intake n ∷ ends) is (said_ends first (k + 1) (a + 2) count (omega (arith, is)))
+
+-- the queues of a client among those of all
+pub lessee_numbers : (k : ℕ) (macs : List Mac) (c : ℕ) (x : Lessee) → slice_get (lessees_from 0 k macs) c ≡ Some x → (c < length macs) × (x.active ≡ 8 + 6 * (k + c)) × (x.free ≡ 9 + 6 * (k + c))
+lessee_numbers k [] c x at = absurd cc
+lessee_numbers k (mac ∷ macs) zero x at =
+    let is : record { active = client_first 0 k; free = client_first 0 k + 1; mac = mac } ≡ x = some_is at in
+    let a : 8 + 6 * k ≡ x.active = ap (λ (y : Lessee). y.active) is in
+    let f : 8 + 6 * k + 1 ≡ x.free = ap (λ (y : Lessee). y.free) is in
+    (omega arith, omega (arith, a), omega (arith, f))
+lessee_numbers k (mac ∷ macs) (suc c) x at = let h = lessee_numbers (k + 1) macs c x at in let lt = h.0 in let a = h.1 in let f = h.2 in (omega (arith, lt), omega (arith, a), omega (arith, f))
+
+pub shipper_numbers : (k : ℕ) (pools : List ClientPools) (c : ℕ) (x : Shipper) → slice_get (shippers_from 0 k pools) c ≡ Some x → (c < length pools) × (x.active ≡ 12 + 6 * (k + c)) × (x.free ≡ 13 + 6 * (k + c))
+shipper_numbers k [] c x at = absurd cc
+shipper_numbers k (q ∷ pools) zero x at =
+    let is : record { active = client_first 0 k + 4; free = client_first 0 k + 5; pool = q.tx } ≡ x = some_is at in
+    let a : 8 + 6 * k + 4 ≡ x.active = ap (λ (y : Shipper). y.active) is in
+    let f : 8 + 6 * k + 5 ≡ x.free = ap (λ (y : Shipper). y.free) is in
+    (omega arith, omega (arith, a), omega (arith, f))
+shipper_numbers k (q ∷ pools) (suc c) x at = let h = shipper_numbers (k + 1) pools c x at in let lt = h.0 in let a = h.1 in let f = h.2 in (omega (arith, lt), omega (arith, a), omega (arith, f))
+
+pub second_get : (first count k m : ℕ) → slice_get (every_second first count) k ≡ Some m → (k < count) × (m ≡ first + 2 * k)
+second_get first zero k m h = absurd cc
+second_get first (suc count) zero m h = let e : first ≡ m = some_is h in (omega arith, omega (arith, e))
+second_get first (suc count) (suc k) m h = let r = second_get (first + 2) count k m h in let lt = r.0 in let e = r.1 in (omega (arith, lt), omega (arith, e))
+
+pub second_apart : (first count k j m : ℕ) → slice_get (every_second first count) k ≡ Some m → slice_get (every_second first count) j ≡ Some m → k ≡ j
+second_apart first count k j m p q = let a = (second_get first count k m p).1 in let b = (second_get first count j m q).1 in omega (arith, a, b)

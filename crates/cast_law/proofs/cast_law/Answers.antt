@@ -1,0 +1,32 @@
+use Rattle.cast_law.proofs.Seated.{part_there}
+use Rattle.cast_law.proofs.Joined.{all_seated, whole_network, scene_of_plan}
+use Rattle.cast_law.proofs.Wired.{no_network}
+use Rattle.cast_law.proofs.Pooled.{numbered_is, sized_is, many_are, no_pools}
+use Rattle.cast_law.proofs.cast_law.Goals as goal
+
+pub returns-clause-seated : goal.returns-clause-seated
+returns-clause-seated c = all_seated
+
+pub returns-clause-parts : goal.returns-clause-parts
+returns-clause-parts c = part_there
+
+pub returns-clause-whole : goal.returns-clause-whole
+returns-clause-whole c = whole_network
+
+pub returns-clause-scene : goal.returns-clause-scene
+returns-clause-scene c = scene_of_plan
+
+pub returns-clause-numbered : goal.returns-clause-numbered
+returns-clause-numbered c = numbered_is
+
+pub returns-clause-sized : goal.returns-clause-sized
+returns-clause-sized c = sized_is
+
+pub returns-clause-many : goal.returns-clause-many
+returns-clause-many c = many_are
+
+pub returns-clause-no_pools : goal.returns-clause-no_pools
+returns-clause-no_pools c = no_pools
+
+pub returns-clause-no_network : goal.returns-clause-no_network
+returns-clause-no_network c = no_network

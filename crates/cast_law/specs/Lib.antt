@@ -1,0 +1,2 @@
+-- Where the actors of a plan are seated.
+pub mod Seats

@@ -1,0 +1,45 @@
+-- Lists side by side.
+use Rattle.std.proofs.Common.{◌≡◌, ◌∙◌, List, [], ◌∷◌, ◌++◌, append_assoc, ap, sym, subst, inl, inr, ℕ, zero, suc, ◌<◌, length, get_or, arith, Result, Ok, Err, IfOk}
+use Rattle.pd_runner.specs.Each.{Each, Every, AnyOf}
+
+module _ {X Y : Type 0} (R : X → Y → Type 0) where
+  pub each_snoc : (xs : List X) (ys : List Y) (x : X) (y : Y) → Each R xs ys → R x y → Each R (xs ++ x ∷ []) (ys ++ y ∷ [])
+  each_snoc [] [] x y h r = (r, tt)
+  each_snoc [] (b ∷ ys) x y h r = absurd h
+  each_snoc (a ∷ xs) [] x y h r = absurd h
+  each_snoc (a ∷ xs) (b ∷ ys) x y h r = (h.0, each_snoc xs ys x y h.1 r)
+
+pub each_then : {X Y Z : Type 0} (R : X → Y → Type 0) (S : Y → Z → Type 0) (T : X → Z → Type 0) → ((x : X) (y : Y) (z : Z) → R x y → S y z → T x z) → (xs : List X) (ys : List Y) (zs : List Z) → Each R xs ys → Each S ys zs → Each T xs zs
+each_then R S T f [] [] [] h k = tt
+each_then R S T f [] [] (z ∷ zs) h k = absurd k
+each_then R S T f [] (y ∷ ys) zs h k = absurd h
+each_then R S T f (x ∷ xs) [] zs h k = absurd h
+each_then R S T f (x ∷ xs) (y ∷ ys) [] h k = absurd k
+each_then R S T f (x ∷ xs) (y ∷ ys) (z ∷ zs) h k = (f x y z h.0 k.0, each_then R S T f xs ys zs h.1 k.1)
+
+pub every_at : {X : Type 0} (P : X → Type 0) (xs ys : List X) (x : X) → Every P (xs ++ x ∷ ys) → P x
+every_at P [] ys x h = h.0
+every_at P (a ∷ xs) ys x h = every_at P xs ys x h.1
+
+-- what is known of the left list is known of the right
+pub every_right : {X Y : Type 0} (R : X → Y → Type 0) (P : Y → Type 0) → ((x : X) (y : Y) → R x y → P y) → (xs : List X) (ys : List Y) → Each R xs ys → Every P ys
+every_right R P f [] [] h = tt
+every_right R P f [] (y ∷ ys) h = absurd h
+every_right R P f (x ∷ xs) [] h = absurd h
+every_right R P f (x ∷ xs) (y ∷ ys) h = (f x y h.0, every_right R P f xs ys h.1)
+
+pub each_pushed : {X Y : Type 0} (R : X → Y → Type 0) (xs : List X) (ys zs : List Y) (x : X) (y : Y) → zs ≡ ys ++ y ∷ [] → Each R xs ys → R x y → Each R (xs ++ x ∷ []) zs
+each_pushed R xs ys zs x y is h r = subst (λ (z : List _). Each R (xs ++ x ∷ []) z) (sym is) (each_snoc R xs ys x y h r)
+
+-- one more of a list was yielded
+pub yields_on : {X : Type 0} (front : List X) (x : X) (rest more all : List X) → rest ≡ x ∷ more → front ++ rest ≡ all → front ++ x ∷ [] ++ more ≡ all
+yields_on front x rest more all is h = append_assoc front (x ∷ []) more ∙ (ap (λ (z : List _). front ++ z) (sym is) ∙ h)
+
+pub ok_then : {V E : Type 0} (P Q : V → Type 0) → ((v : V) → P v → Q v) → (r : Result V E) → IfOk r P → IfOk r Q
+ok_then P Q f (Ok v) h = f v h
+ok_then P Q f (Err e) h = h
+
+pub any_at : {X : Type 0} (P : X → Type 0) (xs : List X) (i : ℕ) (x : X) → i < length xs → x ≡ get_or xs i x → P x → AnyOf P xs
+any_at P [] i x below is h = absurd (omega (arith, below))
+any_at P (a ∷ xs) zero x below is h = inl (subst P is h)
+any_at P (a ∷ xs) (suc i) x below is h = inr (any_at P xs i x (omega (arith, below)) is h)

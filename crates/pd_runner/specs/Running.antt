@@ -1,0 +1,49 @@
+-- What a run leaves of each part.
+use Rattle.std.specs.Prelude.{◌≡◌, ◌≤◌, ℕ, List, [], length}
+use Rattle.wire_core.specs.Lists.{Passed}
+use Rattle.spsc_queue.specs.Known.Ends.{RingIs}
+use Rattle.seat_wires.specs.Places.Are.{SeatsAre}
+use Rattle.seat_wires.specs.Places.{EndsOn, seat_end, seats_taken, seats_sent}
+use Rattle.seat_wires.specs.Went.{Went}
+use Rattle.actor_set.specs.Actors.{FitsActor, ActorStandsFor, ActorRow, part_of}
+use Rattle.actor_set.specs.declared.actor.Actor.{Actor}
+use Rattle.pd_runner.specs.declared.part.Part.{Part}
+
+-- what passed at the ends of an actor, as the ends show it: over rings nothing is dropped
+abbrev pub passed_at : SeatsAre → Passed
+passed_at s = record { taken = seats_taken s; sent = seats_sent s; dropped = λ n. [] }
+
+-- the actor's ends are as it keeps them, and it stands for their lists
+pub record Sits (a : Actor) (s : SeatsAre) : Type 0 where
+  pub fits : FitsActor (seat_end s) a
+  pub lists : ActorStandsFor a (passed_at s)
+
+-- the same actor came this far by n steps: its ends stayed, and their lists begin with those that
+-- they had
+pub record Comes (a : Actor) (s : SeatsAre) (n : ℕ) (b : Actor) (t : SeatsAre) : Type 0 where
+  pub same : part_of b ≡ part_of a
+  pub sits : Sits b t
+  pub went : Went s n t
+
+-- the ends of a part over the rings
+abbrev pub part_seats : List RingIs → Part → SeatsAre
+part_seats rings p = record {
+  rings = rings;
+  producers = p.producers.items;
+  consumers = p.consumers.items;
+}
+
+-- each end belongs to the ring at its place, of which there are as many as queues at most; and the
+-- actor stands for their lists
+pub record Stands (rings : List RingIs) (p : Part) : Type 0 where
+  pub producers : EndsOn rings p.producers.items
+  pub consumers : EndsOn rings p.consumers.items
+  pub few_producers : length p.producers.items ≤ 65536
+  pub few_consumers : length p.consumers.items ≤ 65536
+  pub sits : Sits p.actor (part_seats rings p)
+
+-- the part came of the old one by n steps, and its row holds
+pub record Came (rings : List RingIs) (old : Part) (n : ℕ) (new : Part) : Type 0 where
+  pub stands : Stands rings new
+  pub comes : Comes old.actor (part_seats rings old) n new.actor (part_seats rings new)
+  pub row : ActorRow new.actor (passed_at (part_seats rings new))

@@ -1,0 +1,235 @@
+//! A thread for each actor.
+ghost use Rattle.std.specs.Prelude.{◌≡◌, ◌≤◌, ◌⊎◌, IfOk, true};
+ghost use Rattle.pd_runner.specs.Running.{Stands, Came};
+ghost use Rattle.pd_runner.specs.Begun.{BegunOf, JoinedOf, RanOf};
+ghost use Rattle.pd_runner.specs.Each.{Each, Every, AnyOf, AnyPair};
+ghost use Rattle.pd_runner.specs.Ends.{RanStands, SettledOf, LawfulOf, SpentOf, Rests};
+
+use crate::floor::Floor;
+use crate::gate::Gate;
+use crate::part::{Part, Parts, Ran, Task};
+use crate::work::{settle, work};
+use cargo_core::Memory;
+use crossbeam_utils::sync::Parker;
+use spsc_queue::Ring;
+use std::alloc::Global;
+use std::snapshot::Snapshot;
+use std::sync::Wait;
+use std::thread;
+use std::thread::{Promise, PromisedHandle, Scope, Threads};
+use wire_core::QueueRow;
+
+impl<'a> Promise<Ran> for Task<'a> {
+    ghost kept_by = { λ t r. Came t.rings.now t.was.value r.made r.part × (r.made ≤ t.limit) };
+}
+
+/// An actor's thread, or the actor's part where none could be started.
+#[derive(Drop)]
+pub enum Begun<'a> {
+    Started(PromisedHandle<Ran, Task<'a>>),
+    Back(Ran),
+}
+
+/// Starts the thread of one actor.
+pub fn begin<'s, E: 's, R: Threads + Wait + Sync, G: Gate + Sync>(
+    scope: &'s Scope<'s, E>,
+    rt: &'s R,
+    rings: &'s [Ring],
+    floor: &'s Floor,
+    gate: &'s G,
+    me: u16,
+    parker: Parker,
+    part: Part,
+    limit: u64,
+) -> Begun<'s>
+    requires { Stands rings.now part }
+    ensures { BegunOf rings.entry.now limit part result }
+{
+    let task = Task {
+        rings,
+        was: Snapshot::of(&part),
+        limit,
+    };
+    let job = move || -> Ran
+        requires { Stands rings.now part }
+        ensures { Came rings.entry.now part result.made result.part × (result.made ≤ limit) }
+    { work(rt, rings, floor, gate, me, parker, part, limit) };
+    match scope.spawn_with(task, job) {
+        Ok(handle) => Begun::Started(handle),
+        Err(refused) => {
+            floor.leave_unmanned(me);
+            let job = refused.value;
+            Begun::Back(job())
+        }
+    }
+}
+
+// Starts them all. The parker of the first stands last.
+fn begin_all<'s, E: 's, R: Threads + Wait + Sync, G: Gate + Sync>(
+    scope: &'s Scope<'s, E>,
+    rt: &'s R,
+    alloc: Global,
+    rings: &'s [Ring],
+    floor: &'s Floor,
+    gate: &'s G,
+    mut parkers: Vec<Parker>,
+    parts: Vec<Part>,
+    limit: u64,
+) -> Result<Vec<Begun<'s>>, Memory>
+    requires { Every (Stands rings.now) parts.items }
+    ensures { IfOk result (λ v. Each (BegunOf rings.entry.now limit) parts.items v.items) }
+{
+    let mut begun = Vec::new(alloc);
+    let mut me: u16 = 0;
+    for part in parts {
+        let parker = match parkers.pop() {
+            Some(parker) => parker,
+            None => Parker::new(alloc)?,
+        };
+        let one = begin(scope, rt, rings, floor, gate, me, parker, part, limit);
+        begun.push(one)?;
+        me = me.wrapping_add(1);
+    }
+    Ok(begun)
+}
+
+fn join_one<'s, R: Threads>(rt: &R, begun: Begun<'s>) -> Ran
+    ensures { JoinedOf begun.entry result }
+{
+    match begun {
+        Begun::Started(handle) => handle.join(rt),
+        Begun::Back(ran) => ran,
+    }
+}
+
+fn join_all<'s, R: Threads>(
+    rt: &R,
+    alloc: Global,
+    begun: Vec<Begun<'s>>,
+) -> Result<Vec<Ran>, Memory>
+    ensures { IfOk result (λ v. Each JoinedOf begun.entry.items v.items) }
+{
+    let mut all = Vec::new(alloc);
+    for one in begun {
+        all.push(join_one(rt, one))?;
+    }
+    Ok(all)
+}
+
+/// Runs each in a thread of its own until all are idle, one has made `limit` steps or memory runs out.
+pub fn in_threads<R: Threads + Wait + Sync, G: Gate + Sync>(
+    rt: &R,
+    alloc: Global,
+    rings: &[Ring],
+    floor: &Floor,
+    gate: &G,
+    parkers: Vec<Parker>,
+    parts: Vec<Part>,
+    limit: u64,
+) -> Result<Vec<Ran>, Memory>
+    requires { Every (Stands rings.now) parts.items }
+    ensures { IfOk result (λ v. Each (RanOf rings.entry.now limit) parts.items v.items) }
+{
+    thread::scope(
+        thread::scope_env(),
+        rt,
+        move |scope| -> Result<Vec<Ran>, Memory>
+            requires { Every (Stands rings.now) parts.items }
+            ensures { IfOk result (λ v. Each (RanOf rings.entry.now limit) parts.items v.items) }
+        {
+            match begin_all(scope, rt, alloc, rings, floor, gate, parkers, parts, limit) {
+                Ok(begun) => join_all(rt, alloc, begun),
+                Err(memory) => {
+                    floor.end();
+                    Err(memory)
+                }
+            }
+        },
+    )
+}
+
+// Whether one made all its steps.
+fn is_spent(rans: &[Ran], limit: u64) -> bool
+    ensures { result ≡ true → AnyOf (λ r. limit ≤ r.made) rans.now }
+{
+    for ran in rans {
+        if ran.made >= limit {
+            return true;
+        }
+    }
+    false
+}
+
+// The first want of memory that one of them met.
+fn first_want(rans: &[Ran]) -> Option<Memory> {
+    for ran in rans {
+        if ran.want.is_some() {
+            return ran.want;
+        }
+    }
+    None
+}
+
+// The last pass: it steps what isn't at rest, unless one made all its steps.
+fn settle_all<G: Gate>(
+    alloc: Global,
+    rings: &[Ring],
+    gate: &G,
+    rans: Vec<Ran>,
+    limit: u64,
+    stop: bool,
+) -> Result<Vec<Part>, Memory>
+    requires { Every (RanStands rings.now limit) rans.items }
+    ensures { IfOk result (λ v. Each (SettledOf rings.entry.now limit stop) rans.items v.items) }
+{
+    let mut all = Vec::new(alloc);
+    let mut me: u16 = 0;
+    for ran in rans {
+        let Ran {
+            part,
+            made,
+            want: _,
+        } = ran;
+        let (part, _) = settle(rings, gate, me, part, made, limit, stop)?;
+        all.push(part)?;
+        me = me.wrapping_add(1);
+    }
+    Ok(all)
+}
+
+/// Steps each actor in a thread of its own, until all are idle, one has made `limit` steps, or a
+/// step wants memory. A thread waits where its actor is at rest and no notification is pending at
+/// its ends, and a ring wakes it; `rows` tells whom. After the threads have ended, the caller steps
+/// each actor that isn't at rest until it is or has made `limit` steps, unless one made as many in
+/// its thread. An actor for which no thread could be started is stepped there alone. Each step
+/// passes the gate first. Err is the answer where a step or the run itself wanted memory.
+pub fn run_threads<R: Threads + Wait + Sync, G: Gate + Sync>(
+    rt: &R,
+    alloc: Global,
+    rows: &[QueueRow],
+    parts: Parts,
+    limit: u64,
+    gate: &G,
+) -> Result<Parts, Memory>
+    requires { Every (Stands parts.rings.items) parts.actors.items }
+    ensures rings { IfOk result (λ p. p.rings.items ≡ parts.rings.items) }
+    ensures actors { IfOk result (λ p. Each (LawfulOf parts.rings.items limit)
+        parts.actors.items p.actors.items) }
+    ensures ends { IfOk result (λ p. Every Rests p.actors.items
+        ⊎ AnyPair (SpentOf parts.rings.items limit) parts.actors.items p.actors.items) }
+{
+    let Parts { rings, actors } = parts;
+    let mut parkers = Vec::new(alloc);
+    for _ in 0..actors.len() {
+        parkers.push(Parker::new(alloc)?)?;
+    }
+    let floor = Floor::new(alloc, rows, &parkers)?;
+    let shared = rings.as_slice();
+    let rans = in_threads(rt, alloc, shared, &floor, gate, parkers, actors, limit)?;
+    if let Some(memory) = first_want(&rans) {
+        return Err(memory);
+    }
+    let stop = is_spent(&rans, limit);
+    let actors = settle_all(alloc, shared, gate, rans, limit, stop)?;
+    Ok(Parts { rings, actors })
+}

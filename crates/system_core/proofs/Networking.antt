@@ -1,0 +1,82 @@
+use Rattle.std.proofs.Common.{◌≡◌, ◌≤◌, ◌<◌, ℕ, Some, List, [], length, map, slice_get, refl, sym, ap, ◌∙◌, subst, arith}
+use Rattle.std.proofs.lemmas.List.{length-map}
+use Rattle.std.specs.Option.{option_map_or}
+use Rattle.cargo_core.specs.Lists.{IsPrefix, PrefixMerge}
+use Rattle.frame_core.specs.declared.mac.Mac.{Mac}
+use Rattle.sdf_plan.specs.declared.plan.Plan.{Plan}
+use Rattle.sdf_plan.specs.declared.plan.Net.{Net}
+use Rattle.sdf_plan.specs.declared.plan.NetClient.{NetClient as Client}
+use Rattle.trace_text.specs.declared.trace.Trace.{Trace}
+use Rattle.trace_text.specs.Events.{net_clients}
+use Rattle.region_layout.specs.Rows.{eth_number}
+use Rattle.net_expect.specs.Expecting.{frames_for}
+use Rattle.net_parts.specs.Numbers.{device_at}
+use Rattle.net_tx_parts.specs.Numbers.{NetPlace, own_pools}
+use Rattle.net_tx_cast.specs.Casting.{sends_at}
+use Rattle.job_law.specs.Jobs as jobs
+use Rattle.play_core.specs.Sheets.{Scene}
+use Rattle.play_core.proofs.Lists.{some_is, map_get, there_is}
+use Rattle.actor_set.specs.Parts.{NetworkPart}
+use Rattle.actor_law.specs.Kinds.{scene_of}
+use Rattle.wired_law.specs.Wiring.{HasWhole}
+use Rattle.cast_core.specs.Casts.{net_place, client_pools}
+use Rattle.cast_core.specs.Sources.{client_mac, client_program}
+use Rattle.cast_core.proofs.Listing.{value_count, value_at, value_is}
+use Rattle.seat_law.specs.Named.{AreNetNamed}
+use Rattle.seat_law.proofs.Naming.{net_named}
+use Rattle.system_core.specs.Shows.{Crew, Shown}
+use Rattle.system_core.specs.States.{crew_of, nobody}
+use Rattle.system_core.specs.Lawful.{IsTold, TellsFrames}
+use Rattle.system_core.specs.Crews.{number_named}
+use Rattle.system_core.specs.Builds.{IsCastOf}
+use Rattle.system_core.specs.PlanPlays.{ShowsFrames}
+use Rattle.system_core.proofs.Scripts.{nets}
+
+-- what is seen of the network class is what its frames bring
+module _ (plan : Plan) (net : Net) (trace : Trace) (s : Shown) (cast : IsCastOf plan trace s.setting) (has : plan.net ≡ Some net) (told : IsTold s) where
+  abbrev place : NetPlace
+  place = net_place plan trace
+
+  whole : HasWhole s.setting.rows place s.setting.cast
+  whole = cast.whole net has
+
+  tells : TellsFrames s place
+  tells = told.frames place whole
+
+  -- the scene has the frames that the trace gives its device
+  frames : (scene_of s.setting.cast).frames ≡ trace.frames
+  frames = ap (λ (x : Scene). x.frames) cast.scene ∙ ap (λ o. option_map_or (λ (n : Net). trace.frames) o []) has
+
+  who : s.setting.net ≡ crew_of (Some (eth_number plan).0) (map (λ (c : Client). number_named plan c.pd) net.client)
+  who = cast.net ∙ ap (λ o. option_map_or (λ (n : Net). crew_of (Some (eth_number plan).0) (map (λ (c : Client). number_named plan c.pd) n.client)) o nobody) has
+
+  named : AreNetNamed plan net
+  named = net_named plan net has
+
+  many : length (net_clients plan) ≡ length net.client
+  many = ap length (nets plan net has)
+
+  record_is : (c : ℕ) (mac : Mac) (got : List (List ℕ)) → slice_get place.macs c ≡ Some mac → slice_get s.state.net c ≡ Some got → IsPrefix got (frames_for mac trace.frames)
+  record_is c mac got address at =
+      let a = value_is (length (net_clients plan)) (client_mac plan) c mac address in
+      let below : c < length (net_clients plan) = a.0 in
+      let client = there_is net.client c (omega (arith, below, many)) in
+      let number : slice_get s.setting.net.clients c ≡ Some (number_named plan client.0.pd) =
+      ap (λ (k : Crew). slice_get k.clients c) who ∙ map_get (λ (k : Client). number_named plan k.pd) net.client c client.0 client.1 in
+      let part = cast.parts (jobs.NetClient c) (number_named plan client.0.pd) (named.client c client.0 client.1) in
+      let some = whole.some c (client_pools plan c) (value_at (length (net_clients plan)) (client_pools plan) c below) in
+      let is = tells.records c (number_named plan client.0.pd) c (client_program plan trace c) (client_mac plan c) (own_pools (client_pools plan c)) got number part some (value_at (length (net_clients plan)) (client_mac plan) c below) at in
+      subst (λ m. IsPrefix got (frames_for m trace.frames)) (sym a.1) (subst (λ fs. IsPrefix got (frames_for (client_mac plan c) fs)) frames is)
+
+  wire_is : (sent : List (List ℕ)) × (s.state.wire ≡ Some sent) × PrefixMerge (sends_at place.programs place.macs trace.frames) sent
+  wire_is =
+      let part = cast.parts jobs.EthDevice (eth_number plan).0 named.device in
+      let w = tells.wire (eth_number plan).0 (ap (λ (c : Crew). c.device) who) (part ∙ ap (λ fs. Some (NetworkPart (device_at 0 fs))) (sym frames)) in
+      (w.0, w.1, subst (λ fs. PrefixMerge (sends_at place.programs place.macs fs) w.0) frames w.2)
+
+  pub shows_frames : ShowsFrames place trace.frames s.state
+  shows_frames = record {
+    count_is = told.net ∙ (ap (λ (c : Crew). length c.clients) who ∙ (length-map net.client (λ (k : Client). number_named plan k.pd) ∙ (sym many ∙ sym (value_count (length (net_clients plan)) (client_mac plan)))));
+    records = record_is;
+    wire = wire_is;
+  }

@@ -1,0 +1,11 @@
+use Rattle.wired_quiet.proofs.Quieting.{network_there, recorded_whole, sent_whole}
+use Rattle.wired_quiet.proofs.quiet_law.Goals as goal
+
+pub returns-clause-there : goal.returns-clause-there
+returns-clause-there c = network_there
+
+pub returns-clause-records : goal.returns-clause-records
+returns-clause-records c = recorded_whole
+
+pub returns-clause-wire : goal.returns-clause-wire
+returns-clause-wire c = sent_whole

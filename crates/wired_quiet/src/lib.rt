@@ -1,0 +1,65 @@
+//! The whole network in a cast where nobody is runnable: what its device and its clients recorded.
+#![tactic(auto)]
+
+ghost use Rattle.std.specs.Prelude.{◌≡◌, ℕ, Some, List, map, slice_get};
+ghost use Rattle.cargo_core.specs.Lists.{Merge};
+ghost use Rattle.frame_core.specs.declared.mac.Mac.{Mac};
+ghost use Rattle.wire_core.specs.declared.names.QueueRow.{QueueRow};
+ghost use Rattle.wire_core.specs.declared.names.Entry.{Entry};
+ghost use Rattle.wire_core.specs.Ends.{Role, End};
+ghost use Rattle.wire_core.specs.Journal.{History};
+ghost use Rattle.wire_core.specs.Lists.{Passed};
+ghost use Rattle.play_core.specs.Moved.{Moved, moved};
+ghost use Rattle.play_core.specs.Sheets.{RowsHold, needful};
+ghost use Rattle.play_core.specs.Still.{IsStill};
+ghost use Rattle.rest_law.specs.Showing.{HaveItems};
+ghost use Rattle.net_expect.specs.Expecting.{Program, frames_for};
+ghost use Rattle.net_owners.specs.Names.{ClientPools};
+ghost use Rattle.net_parts.specs.Numbers.{device_at, client_at};
+ghost use Rattle.net_tx_parts.specs.Numbers.{NetPlace, own_pools};
+ghost use Rattle.net_tx_cast.specs.Casting.{IsClientOf, sends_at};
+ghost use Rattle.net_quiet.specs.Still.{HasPools, HasRooms, IsNetwork};
+ghost use Rattle.actor_set.specs.Parts.{Part, NetworkPart};
+ghost use Rattle.actor_set.specs.Actors.{part_of};
+ghost use Rattle.actor_set.specs.declared.actor.Actor.{Actor};
+ghost use Rattle.actor_law.specs.Kinds.{sheet, scene_of, hostiles};
+ghost use Rattle.actor_law.specs.Records.{frames_got};
+ghost use Rattle.wired_law.specs.Wiring.{HasWhole, ClientsSend, AreAtWork};
+
+/// Where the rows of a cast hold that has the whole network, this network is among its actors. Where
+/// actors stand for what passed, and nobody is runnable, each network client recorded all frames
+/// that are for its address, and the device a merge of all that the clients send by their programs.
+pub fn quiet_law()
+    ensures there { (rows : List QueueRow) (cast : List Part) (m : Moved) (net : NetPlace)
+        → HasWhole rows net cast → HasPools net → HasRooms (hostiles cast) rows net
+        → RowsHold (sheet (scene_of cast)) (hostiles cast) cast m
+        → IsNetwork (hostiles cast) (scene_of cast) rows (needful (sheet (scene_of cast)) cast m)
+        net m }
+    ensures records { (ends : Role → ℕ → End) (history : History) (rows : List QueueRow)
+        (actors : List Actor) (journal : List Entry) (passed : Passed) (net : NetPlace)
+        → HasWhole rows net (map part_of actors) → HasPools net
+        → HasRooms (hostiles (map part_of actors)) rows net
+        → AreAtWork ends rows actors passed → ClientsSend (map part_of actors) passed
+        → HaveItems passed (moved history journal)
+        → IsStill (hostiles (map part_of actors)) history rows
+        (needful (sheet (scene_of (map part_of actors))) (map part_of actors)
+        (moved history journal)) journal
+        → (k c : ℕ) (x : Actor) (program : Program) (mac : Mac) (q : ClientPools)
+        → slice_get actors k ≡ Some x → IsClientOf net c program mac q
+        → part_of x ≡ NetworkPart (client_at net.first c program mac (own_pools q))
+        → frames_got x ≡ frames_for mac (scene_of (map part_of actors)).frames }
+    ensures wire { (ends : Role → ℕ → End) (history : History) (rows : List QueueRow)
+        (actors : List Actor) (journal : List Entry) (passed : Passed) (net : NetPlace)
+        → HasWhole rows net (map part_of actors) → HasPools net
+        → HasRooms (hostiles (map part_of actors)) rows net
+        → AreAtWork ends rows actors passed → ClientsSend (map part_of actors) passed
+        → HaveItems passed (moved history journal)
+        → IsStill (hostiles (map part_of actors)) history rows
+        (needful (sheet (scene_of (map part_of actors))) (map part_of actors)
+        (moved history journal)) journal
+        → (k : ℕ) (x : Actor) → slice_get actors k ≡ Some x
+        → part_of x
+        ≡ NetworkPart (device_at net.first (scene_of (map part_of actors)).frames)
+        → Merge (sends_at net.programs net.macs (scene_of (map part_of actors)).frames)
+        (frames_got x) }
+{}
