@@ -126,3 +126,8 @@ together old new seed limit played plan trace read built stands part whole = rec
   begins = subst BeginsAnew (sym played.setting) built.begins;
   played = played_on old new seed limit built.journal played plan trace read built.cast stands part whole;
 }
+
+-- how a play ended that began with nothing
+pub ended : (limit : ℕ) (old new : Shown) (e : Ending) → old.journal ≡ [] → (e ≡ Ends.Quiet → runnable_now new ≡ []) → (e ≡ Ends.Spent → IsSpent old new limit) → HasEnded limit new e
+ended limit old new Ends.Quiet none quiet spent = quiet refl
+ended limit old new Ends.Spent none quiet spent = let s = spent refl in (omega (arith, s.0, ap length none), s.1)
