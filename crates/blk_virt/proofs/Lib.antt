@@ -10,3 +10,4 @@ pub mod Stepping
 pub mod Turning
 pub mod Rows
 pub mod Starting
+pub mod Holding

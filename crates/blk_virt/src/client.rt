@@ -10,13 +10,14 @@ ghost use Rattle.turn_kit.specs.Turns.{PostedAt};
 ghost use Rattle.net_kit.specs.Virtualising.{VirtOwns, SameVirt, from_queues, to_queues, virt_posts};
 ghost use Rattle.blk_virt.specs.Ends.{FitsEnds};
 ghost use Rattle.blk_virt.specs.Requests.{goes_on, number_of, for_disk, page_named, numbered, brings};
-ghost use Rattle.blk_virt.specs.Clients.{IsClient, IsFresh, Moved, is_idle, is_leaving, is_away, is_held, counted, brought, leaving_as, WentOff};
+ghost use Rattle.blk_virt.specs.Clients.{carried, client_cargo, IsClient, IsFresh, Moved, is_idle, is_leaving, is_away, is_held, counted, brought, leaving_as, WentOff};
 
 use crate::ends::{step_output, step_to_client};
 use crate::{Holder, PageName, brings, numbered, page_named, passed_on, request_of};
 use blk_mbr::Part;
-use cargo_core::{Body, Item};
+use cargo_core::{Body, Item, PoolId};
 use net_kit::VirtEnds;
+use turn_kit::count_held;
 use wire_core::{Event, Wires};
 
 /// What is kept of a request that was sent on: its number, which is the client's own, and the name
@@ -86,6 +87,14 @@ impl Client {
         ensures { result ≡ is_held self.now }
     {
         self.held.is_some()
+    }
+
+    /// How many buffers of a pool it has here.
+    pub fn held(&self, pool: PoolId) -> u32
+        ensures held { result ≡ carried pool (client_cargo self.now) }
+        ensures few { result ≤ 2 }
+    {
+        count_held(pool, &self.leaving) + count_held(pool, &self.held)
     }
 
     /// Whether a body is the buffer that its request at the driver has, where it has one.

@@ -1,5 +1,5 @@
 //! What the block virtualiser keeps of all its clients.
-ghost use Rattle.std.specs.Prelude.{◌≡◌, ◌+◌, ◌<◌, ◌≤◌, ◌^◌, ◌++◌, ◌∷◌, ◌==◌, [], ℕ, List, Option, Some, None, true, false, is_some, length, slice_get, IfOk};
+ghost use Rattle.std.specs.Prelude.{◌≡◌, ◌+◌, ◌-◌, ◌*◌, ◌<◌, ◌≤◌, ◌^◌, ◌++◌, ◌∷◌, ◌==◌, [], ℕ, List, Option, Some, None, true, false, is_some, length, slice_get, IfOk};
 ghost use Rattle.std.specs.Option.{ForSome, MatchOption, option_map, option_to_list};
 ghost use Rattle.cargo_core.specs.declared.item.PoolId.{PoolId};
 ghost use Rattle.cargo_core.specs.Bodies.{buffers_in};
@@ -18,7 +18,7 @@ ghost use Rattle.blk_virt.specs.Desks.{IsDesk, DeskStands, IsRequestOf, desk_car
 
 use crate::{Client, Line};
 use blk_mbr::Part;
-use cargo_core::{Body, Item};
+use cargo_core::{Body, Item, PoolId};
 use net_kit::VirtEnds;
 use turn_kit::Needs;
 use wire_core::{Event, Wires};
@@ -198,6 +198,19 @@ impl Desk {
     {
         let client = &mut self.clients[place];
         client.give(ends, wires, place)
+    }
+
+    /// How many buffers of a pool it has here.
+    pub fn held(&self, pool: PoolId) -> u32
+        requires { length self.now.clients.items < 2 ^ 31 - 2 }
+        ensures held { result ≡ carried pool (desk_cargo self.now) }
+        ensures few { result ≤ 2 * length self.now.clients.items }
+    {
+        let mut count = 0;
+        for client in &self.clients {
+            count += client.held(pool);
+        }
+        count
     }
 
     /// How many requests had a buffer that wasn't the client's own. The count stands still at its

@@ -1,13 +1,16 @@
 //! How the block virtualiser begins: it reads the disk's first block, which has the partitions.
-ghost use Rattle.std.specs.Prelude.{◌≡◌, ◌+◌, ◌<◌, ◌^◌, ℕ, true, None, Some, List, is_some};
-ghost use Rattle.std.specs.Option.{ForSome};
+ghost use Rattle.std.specs.Prelude.{◌≡◌, ◌+◌, ◌<◌, ◌≤◌, ◌^◌, ◌∷◌, [], ℕ, true, None, Some, List, is_some};
+ghost use Rattle.std.specs.Option.{ForSome, option_to_list};
+ghost use Rattle.cargo_core.specs.Bodies.{buffers_of};
 ghost use Rattle.wire_core.specs.Deeds.{Cargo};
 ghost use Rattle.blk_mbr.specs.Partitions.{part_of, partitions_of};
-ghost use Rattle.blk_virt.specs.Openings.{first_read, has_sector, sector_of, is_reading, is_open, is_first, block_of};
+ghost use Rattle.blk_virt.specs.Clients.{carried};
+ghost use Rattle.blk_virt.specs.Openings.{block_cargo, first_read, has_sector, sector_of, is_reading, is_open, is_first, block_of};
 
 use crate::{PageName, brings};
 use blk_mbr::{Part, Partitions, partition_law, read_mbr};
-use cargo_core::{BlkReq, Body, Code, Item, Page};
+use cargo_core::{BlkReq, Body, Code, Item, Page, PoolId};
+use turn_kit::count_held;
 
 /// How many bytes the sector with the partitions has.
 const SECTOR_BYTES: usize = 512;
@@ -51,6 +54,28 @@ fn table_in(body: &Body, disk_sectors: u32) -> Partitions
             None => unreachable!(),
         },
         _ => unreachable!(),
+    }
+}
+
+// How many buffers of a pool the entry that brought the first block carries.
+fn block_held(pool: PoolId, block: &Option<Block>) -> u32
+    ensures held { result ≡ carried pool (block_cargo block.now) }
+    ensures one { result ≤ 1 }
+{
+    match block {
+        Some(block) => body_held(pool, &block.entry.1),
+        None => 0,
+    }
+}
+
+// Whether a body is a buffer of a pool, as a number.
+fn body_held(pool: PoolId, body: &Body) -> u32
+    ensures held { result ≡ buffers_of pool (body.now ∷ []) }
+    ensures one { result ≤ 1 }
+{
+    match body {
+        Body::Page(page) if page.pool().0 == pool.0 => 1,
+        _ => 0,
     }
 }
 
@@ -115,6 +140,16 @@ impl Opening {
     {
         let table = table_in(&entry.1, self.disk_sectors);
         self.block = Some(Block { entry, table });
+    }
+
+    /// How many buffers of a pool it has here: that of the read which isn't put yet, and that of the
+    /// block which came.
+    pub fn held(&self, pool: PoolId) -> u32
+        ensures held { result ≡ carried pool (option_to_list self.now.first)
+            + carried pool (block_cargo self.now.block) }
+        ensures few { result ≤ 2 }
+    {
+        count_held(pool, &self.first) + block_held(pool, &self.block)
     }
 
     /// The partition of an entry of the table.

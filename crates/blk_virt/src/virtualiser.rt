@@ -1,12 +1,14 @@
 //! The block virtualiser itself: the ends that it steps, and whose turn it is.
-ghost use Rattle.std.specs.Prelude.{◌≡◌, ◌+◌, ◌<◌, ◌^◌, ℕ, IfOk, is_none, length, map, false};
+ghost use Rattle.std.specs.Prelude.{◌≡◌, ◌+◌, ◌-◌, ◌<◌, ◌^◌, ℕ, IfOk, is_none, length, map, false};
+ghost use Rattle.cargo_core.specs.Bodies.{buffers_of};
+ghost use Rattle.turn_kit.specs.Hands.{bodies_of};
 ghost use Rattle.wire_core.specs.Ends.{role_of, Role, End};
 ghost use Rattle.wire_core.specs.Lists.{Passed, Stepped, nothing_passed};
 ghost use Rattle.wire_core.specs.Marks.{is_mark};
 ghost use Rattle.turn_kit.specs.Turns.{Turned, PostedAt, choice_of, chosen_place, last_after, is_at_rest};
 ghost use Rattle.net_kit.specs.Virtualising.{from_queues, to_queues, virt_posts, place_of, IsThere, need_of};
 ghost use Rattle.blk_virt.specs.Desks.{bad_count};
-ghost use Rattle.blk_virt.specs.Works.{IsWork, WorkIsStill, wants_at, gives_at, is_owing};
+ghost use Rattle.blk_virt.specs.Works.{IsWork, WorkIsStill, wants_at, gives_at, is_owing, work_cargo};
 ghost use Rattle.blk_virt.specs.Virtualising.{FitsBlkVirt, BlkVirtStandsFor, BlkVirtEnd, SameBlkVirt, BlkVirtForgot, BlkVirtRow, BlkVirtBalances, AreClients, IsNewBlkVirt, new_client, blk_virt_round};
 
 use crate::ends::{step_from_client, step_input, step_output, step_to_client};
@@ -131,6 +133,14 @@ impl BlkVirt {
             → BlkVirtStandsFor self.new passed }
     {
         self.ends.forget();
+    }
+
+    /// How many buffers of a pool are in its hand.
+    pub fn held(&self, pool: PoolId) -> u32
+        requires { length self.now.work.desk.clients.items < 2 ^ 31 - 2 }
+        ensures { result ≡ buffers_of pool (bodies_of (work_cargo self.now.work)) }
+    {
+        self.work.held(pool)
     }
 
     /// How many requests had a buffer that wasn't the client's own. The count stands still at its

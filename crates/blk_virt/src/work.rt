@@ -1,5 +1,5 @@
 //! What the block virtualiser has in its hand.
-ghost use Rattle.std.specs.Prelude.{◌≡◌, ◌+◌, ◌<◌, ◌++◌, ◌∷◌, ◌==◌, ◌&&◌, [], ℕ, List, None, Some, true, false, is_some, length, slice_get};
+ghost use Rattle.std.specs.Prelude.{◌≡◌, ◌+◌, ◌-◌, ◌<◌, ◌^◌, ◌++◌, ◌∷◌, ◌==◌, ◌&&◌, [], ℕ, List, None, Some, true, false, is_some, length, slice_get};
 ghost use Rattle.std.specs.Option.{option_to_list};
 ghost use Rattle.cargo_core.specs.declared.item.PoolId.{PoolId};
 ghost use Rattle.cargo_core.specs.Bodies.{buffers_in};
@@ -19,9 +19,9 @@ ghost use Rattle.blk_virt.specs.Works.{IsWork, SameWork, WorkStands, WorkIsStill
 
 use crate::ends::step_output;
 use crate::{Desk, Opening};
-use cargo_core::{Body, Item};
+use cargo_core::{Body, Item, PoolId};
 use net_kit::VirtEnds;
-use turn_kit::Needs;
+use turn_kit::{Needs, count_held};
 use wire_core::{Event, Wires};
 
 /// What is kept of the first read and of the clients. `number` is that of the next request to the
@@ -63,6 +63,14 @@ impl<'a> Needs for Giving<'a> {
 }
 
 impl Work {
+    /// How many buffers of a pool are in its hand.
+    pub fn held(&self, pool: PoolId) -> u32
+        requires { length self.now.desk.clients.items < 2 ^ 31 - 2 }
+        ensures { result ≡ carried pool (work_cargo self.now) }
+    {
+        self.opening.held(pool) + self.desk.held(pool) + count_held(pool, &self.stray)
+    }
+
     /// Whether the next request of the client at a place is needed.
     pub fn wants(&self, place: usize) -> bool
         ensures { result ≡ wants_at self.now place }

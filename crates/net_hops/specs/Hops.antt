@@ -55,6 +55,6 @@ pub record IsNetwork (scene : Scene) (hostile : Hostiles) (rows : List QueueRow)
       → slice_get net.programs k ≡ Some program → slice_get net.macs k ≡ Some mac
       → slice_get net.pools k ≡ Some q
       → (net_sheet scene (client_at net.first k program mac (own_pools q))).row m
-  pub holds : (i : ℕ) → i < 8 + 6 * length net.macs → Holds hostile rows (net.first + i) 1
+  pub holds : (i : ℕ) → i < 8 + 6 * length net.macs → Holds hostile rows (net.first + i) 0
   pub apart : (j k : ℕ) (p q : ClientPools) → slice_get net.pools j ≡ Some p
       → slice_get net.pools k ≡ Some q → j ≢ k → AreApart p.tx q.tx

@@ -1,4 +1,4 @@
-use Rattle.std.proofs.Common.{◌≡◌, ◌<◌, ◌≤◌, ◌+◌, ◌*◌, ℕ, List, [], ◌∷◌, length, refl, sym, ap, ◌∙◌, subst, arith}
+use Rattle.std.proofs.Common.{◌≡◌, ◌<◌, ◌≤◌, ◌+◌, ◌*◌, List, [], ◌∷◌, length, refl, sym, subst, arith}
 use Rattle.wire_core.specs.declared.names.Entry.{Entry}
 use Rattle.wire_core.specs.Journal.{History, Hostiles, LegalJournal, BellsHold, QueuesFlow}
 use Rattle.wire_core.specs.Marks.{no_drops, Brisk, AreOwned, all_sent, dropped}
@@ -7,7 +7,6 @@ use Rattle.sdf_plan.specs.declared.plan.Plan.{Plan}
 use Rattle.sdf_check.specs.Valid.{Valid}
 use Rattle.trace_text.specs.declared.trace.Trace.{Trace}
 use Rattle.region_layout.specs.Rows.{queues_of, actors_of}
-use Rattle.expect_core.specs.Budgets as budget
 use Rattle.expect_core.specs.Budgets.{counts_of, hops_of, most_ends, budget_of}
 use Rattle.step_bound.proofs.Law.{bounded}
 use Rattle.budget_laws.proofs.Actors.{actors_are}

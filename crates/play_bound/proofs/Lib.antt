@@ -1,4 +1,4 @@
 pub mod Sums
 pub mod Owners
 pub mod Bounding
-pub mod Serials
+pub mod Classes

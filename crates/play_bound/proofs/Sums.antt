@@ -1,16 +1,7 @@
-use Rattle.std.proofs.Common.{◌≡◌, ◌≤◌, ◌+◌, ◌*◌, ℕ, zero, suc, Some, List, [], ◌∷◌, length, slice_get, refl, sym, ap, ◌∙◌, subst, arith}
+use Rattle.std.proofs.Common.{◌≡◌, ◌≤◌, ◌+◌, ◌*◌, ℕ, zero, suc, Some, List, [], ◌∷◌, length, slice_get, refl, ap, subst, arith}
 use Rattle.wire_core.specs.Marks.{sum_below}
 use Rattle.play_core.specs.Moved.{Moved}
 use Rattle.serial_hops.specs.Hops.{put_to}
-
--- a sum in two parts
-pub sum_parts : (f : ℕ → ℕ) (a b : ℕ) → sum_below f (a + b) ≡ sum_below f a + sum_below (λ n. f (a + n)) b
-sum_parts f a zero = let e : sum_below f (a + 0) ≡ sum_below f a = ap (sum_below f) (omega arith) in omega (arith, e)
-sum_parts f a (suc b) =
-    let n : a + suc b ≡ suc (a + b) = omega arith in
-    let e : sum_below f (a + suc b) ≡ sum_below f (suc (a + b)) = ap (sum_below f) n in
-    let h = sum_parts f a b in
-    omega (arith, e, h)
 
 -- a sum by pairs
 pub sum_pairs : (f : ℕ → ℕ) (k : ℕ) → sum_below f (2 * k) ≡ sum_below (λ n. f (2 * n)) k + sum_below (λ n. f (1 + 2 * n)) k

@@ -1,7 +1,16 @@
--- Where the queues of the serial class stand among all, and what a trace gives it.
-use Rattle.std.specs.Prelude.{◌≡◌, ◌+◌, ◌*◌, ℕ, Some, List, length, slice_get}
+-- Where the queues of the classes stand among all, and what a trace gives them.
+use Rattle.std.specs.Prelude.{◌≡◌, ◌+◌, ◌*◌, ◌≤◌, ℕ, Option, Some, None, length, slice_get, sum_by}
+use Rattle.sdf_plan.specs.declared.plan.Plan.{Plan}
+use Rattle.sdf_plan.specs.declared.plan.Net.{Net}
+use Rattle.sdf_plan.specs.declared.plan.NetClient.{NetClient}
+use Rattle.sdf_plan.specs.declared.plan.Serial.{Serial}
 use Rattle.trace_text.specs.declared.trace.Trace.{Trace}
+use Rattle.play_core.specs.Moved.{Moved}
 use Rattle.serial_law.specs.Serial.{SerialClass}
+use Rattle.serial_hops.specs.Hops.{serial_put, serial_bytes}
+use Rattle.net_owners.specs.Names.{ClientPools}
+use Rattle.net_tx_parts.specs.Numbers.{NetPlace}
+use Rattle.net_hops.specs.Hops.{net_put, net_moves, script_frames}
 
 -- the queues of the class stand one behind the other from a number on: two at its device, two at
 -- the driver's other side, and then two for each of so many clients
@@ -19,3 +28,33 @@ pub record StandsFrom (first count : ℕ) (c : SerialClass) : Type 0 where
 pub record Carries (trace : Trace) (c : SerialClass) : Type 0 where
   pub input : c.input ≡ trace.input
   pub scripts : c.scripts ≡ trace.says
+
+-- a network stands at the first queues, and is no larger than plan and trace say: it has the plan's
+-- clients and buffers, and no more frames to send than the trace gives
+pub record IsPlaceOf (trace : Trace) (net : Net) (place : NetPlace) : Type 0 where
+  pub first : place.first ≡ 0
+  pub clients : length place.macs ≡ length net.client
+  pub pool : place.pool.buffers ≤ net.rx_buffers
+  pub scripts : sum_by script_frames place.programs ≤ sum_by length trace.sends
+  pub buffers : sum_by (λ (q : ClientPools). q.rx.buffers) place.pools
+      ≤ sum_by (λ (c : NetClient). c.rx_buffers) net.client
+
+-- how many queues the network of a plan has, before those of the serial class
+abbrev pub serial_first : Option Net → ℕ
+serial_first None = 0
+serial_first (Some net) = 8 + 6 * length net.client
+
+-- no more was put to the queues of the network than its entries have to be moved, where the plan
+-- has one
+pub data NetMoves (plan : Plan) (trace : Trace) (m : Moved) : Type 0 where
+  without_net : plan.net ≡ None → NetMoves plan trace m
+  with_net : (net : Net) (place : NetPlace) → plan.net ≡ Some net → IsPlaceOf trace net place
+      → net_put place.first (length place.macs) m ≤ net_moves place trace.frames
+      → NetMoves plan trace m
+
+-- and so of the serial class
+pub data SerialMoves (plan : Plan) (trace : Trace) (m : Moved) : Type 0 where
+  without_serial : plan.serial ≡ None → SerialMoves plan trace m
+  with_serial : (serial : Serial) (class : SerialClass) → plan.serial ≡ Some serial
+      → StandsFrom (serial_first plan.net) (length serial.client) class → Carries trace class
+      → serial_put class m ≤ 3 * serial_bytes class → SerialMoves plan trace m

@@ -1,0 +1,12 @@
+use Rattle.blk_owners.proofs.Copying.{disk_keeps, driver_keeps}
+use Rattle.blk_owners.proofs.Asking.{client_keeps}
+use Rattle.blk_owners.proofs.blk_own_law.Goals as goal
+
+pub returns-clause-disk : goal.returns-clause-disk
+returns-clause-disk c = disk_keeps
+
+pub returns-clause-driver : goal.returns-clause-driver
+returns-clause-driver c = driver_keeps
+
+pub returns-clause-client : goal.returns-clause-client
+returns-clause-client c = client_keeps

@@ -1,0 +1,113 @@
+-- How many requests go to the disk and come back, how many answers are due then, and how many
+-- requests a client can put.
+use Rattle.std.proofs.Common.{◌≡◌, ◌+◌, ◌*◌, ◌%◌, ◌<◌, ◌≤◌, ℕ, zero, suc, Bool, true, false, nat_lt, cond, Option, List, [], ◌∷◌, length, map, take, drop, refl, sym, subst, arith}
+use Rattle.std.specs.List.{filter}
+use Rattle.std.proofs.lemmas.Bool.{le-leb, lt-ltb}
+use Rattle.cargo_core.specs.declared.item.Ask.{Ask}
+use Rattle.cargo_core.specs.declared.item.BlkReq.{BlkReq}
+use Rattle.cargo_core.specs.declared.item.Code.{Code}
+use Rattle.cargo_core.specs.declared.item.Code.TheVariants as Asked
+use Rattle.cargo_core.specs.declared.item.Item.{Item}
+use Rattle.cargo_core.specs.Ranges.{is_within}
+use Rattle.blk_mbr.specs.declared.part.Part.{Part}
+use Rattle.blk_client.specs.Asking.{needs_buffer, request_for}
+use Rattle.blk_virt.specs.Requests.{request_of, asked_of_disk, first_block, moves_blocks}
+use Rattle.net_owners.specs.Names.{PoolAt}
+use Rattle.blk_parts.specs.Rows.{answer_items, asked_items, buffers_for, goes_on_item, is_item_at, item_for_disk, items_back, numbered_item, passed_item, refusal_item, IsRequestIn}
+use Rattle.blk_quiet.specs.Still.{range_of}
+
+pub drop_same : (xs ys : List Item) → length xs ≡ length ys → length (drop 1 xs) ≡ length (drop 1 ys)
+drop_same [] [] e = refl
+drop_same [] (y ∷ ys) e = absurd (omega (arith, e))
+drop_same (x ∷ xs) [] e = absurd (omega (arith, e))
+drop_same (x ∷ xs) (y ∷ ys) e = omega (arith, e)
+
+pub drop_most : (xs : List Item) → length xs ≤ 1 + length (drop 1 xs)
+drop_most [] = omega arith
+drop_most (x ∷ xs) = omega arith
+
+pub drop_less : (xs : List Item) → 1 ≤ length xs → 1 + length (drop 1 xs) ≤ length xs
+drop_less [] some = absurd (omega (arith, some))
+drop_less (x ∷ xs) some = omega arith
+
+-- as many responses come back to a client as of the requests are at its pool's buffers
+pub back_long : (p : PoolAt) (sent back : List Item) → length sent ≡ length back → length (items_back p sent back) ≡ length (filter (is_item_at p) sent)
+back_long p [] back e = refl
+back_long p (x ∷ sent) [] e = absurd (omega (arith, e))
+back_long p (x ∷ sent) (y ∷ back) e = by (is_item_at p x) (back_long p sent back (omega (arith, e)))
+  where
+    by : (t : Bool) → length (items_back p sent back) ≡ length (filter (is_item_at p) sent) → length (cond t (y ∷ items_back p sent back) (items_back p sent back)) ≡ length (cond t (x ∷ filter (is_item_at p) sent) (filter (is_item_at p) sent))
+    by true rest = omega (arith, rest)
+    by false rest = rest
+
+-- where the disk answered all that goes there, an answer to each request is due
+pub answers_long : (part : Option Part) (xs back : List Item) → length back ≡ length (filter (goes_on_item part) xs) → length (answer_items part xs back) ≡ length xs
+answers_long part [] back e = refl
+answers_long part (x ∷ xs) [] e = by (goes_on_item part x) (answers_long part xs []) e
+  where
+    by : (t : Bool) → (0 ≡ length (filter (goes_on_item part) xs) → length (answer_items part xs []) ≡ length xs) → 0 ≡ length (cond t (x ∷ filter (goes_on_item part) xs) (filter (goes_on_item part) xs)) → length (cond t [] (refusal_item part x ∷ answer_items part xs [])) ≡ length (x ∷ xs)
+    by true rest few = absurd (omega (arith, few))
+    by false rest few = let same = rest few in omega (arith, same)
+answers_long part (x ∷ xs) (y ∷ back) e = by (goes_on_item part x) (answers_long part xs back) (answers_long part xs (y ∷ back)) e
+  where
+    by : (t : Bool) → (length back ≡ length (filter (goes_on_item part) xs) → length (answer_items part xs back) ≡ length xs) → (length (y ∷ back) ≡ length (filter (goes_on_item part) xs) → length (answer_items part xs (y ∷ back)) ≡ length xs)
+        → length (y ∷ back) ≡ length (cond t (x ∷ filter (goes_on_item part) xs) (filter (goes_on_item part) xs)) → length (cond t (passed_item (request_of x).id y ∷ answer_items part xs back) (refusal_item part x ∷ answer_items part xs (y ∷ back))) ≡ length (x ∷ xs)
+    by true rest more few = let same = rest (omega (arith, few)) in omega (arith, same)
+    by false rest more few = let same = more few in omega (arith, same)
+
+-- a request that goes to the disk is at its client's buffers
+disk_at : (p : PoolAt) (first : ℕ) (code : Code) (r : BlkReq) → 1 ≤ p.buffers → (moves_blocks code ≡ true → (number : ℕ) × (number < p.buffers) × (r.addr ≡ number * 32768)) → is_within (range_of p) (asked_of_disk code p.base first r).addr ≡ true
+disk_at p first Asked.Read r some at = moved p r (at refl)
+  where
+    moved : (p : PoolAt) (r : BlkReq) → ((number : ℕ) × (number < p.buffers) × (r.addr ≡ number * 32768)) → is_within (range_of p) (p.base + r.addr) ≡ true
+    moved p r here = let few = here.1 in let begins = here.2 in rw (le-leb p.base (p.base + r.addr) (omega arith), lt-ltb (p.base + r.addr) (p.base + p.buffers * 32768) (omega (arith, few, begins))) refl
+disk_at p first Asked.Write r some at = moved p r (at refl)
+  where
+    moved : (p : PoolAt) (r : BlkReq) → ((number : ℕ) × (number < p.buffers) × (r.addr ≡ number * 32768)) → is_within (range_of p) (p.base + r.addr) ≡ true
+    moved p r here = let few = here.1 in let begins = here.2 in rw (le-leb p.base (p.base + r.addr) (omega arith), lt-ltb (p.base + r.addr) (p.base + p.buffers * 32768) (omega (arith, few, begins))) refl
+disk_at p first Asked.Flush r some at = rw (le-leb p.base p.base (omega arith), lt-ltb p.base (p.base + p.buffers * 32768) (omega (arith, some))) refl
+disk_at p first Asked.Barrier r some at = rw (le-leb p.base p.base (omega arith), lt-ltb p.base (p.base + p.buffers * 32768) (omega (arith, some))) refl
+
+pub request_at : (p : PoolAt) (part : Option Part) (i : Item) → 1 ≤ p.buffers → IsRequestIn p i → is_item_at p (item_for_disk p.base part i) ≡ true
+request_at p part i some at = disk_at p (first_block part) (request_of i).code (request_of i) some at
+
+-- a request's number doesn't matter to where it is
+numbered_at : (p : PoolAt) (i : Item) → is_item_at p (numbered_item 0 i) ≡ is_item_at p i
+numbered_at p i = refl
+
+pub numbered_long : (p : PoolAt) (xs : List Item) → length (filter (is_item_at p) (map (numbered_item 0) xs)) ≡ length (filter (is_item_at p) xs)
+numbered_long p [] = refl
+numbered_long p (x ∷ xs) = by (is_item_at p x) (numbered_long p xs)
+  where
+    by : (t : Bool) → length (filter (is_item_at p) (map (numbered_item 0) xs)) ≡ length (filter (is_item_at p) xs) → length (cond t (numbered_item 0 x ∷ filter (is_item_at p) (map (numbered_item 0) xs)) (filter (is_item_at p) (map (numbered_item 0) xs))) ≡ length (cond t (x ∷ filter (is_item_at p) xs) (filter (is_item_at p) xs))
+    by true rest = omega (arith, rest)
+    by false rest = rest
+
+-- no more requests than are asked
+pub asked_few : (id used hand buffers : ℕ) (asks : List Ask) → length (asked_items id used hand buffers asks) ≤ length asks
+asked_few id used hand buffers [] = omega arith
+asked_few id used hand buffers (a ∷ asks) = by (needs_buffer a.code) (nat_lt used hand) (asked_few (id + 1) (used + 1) hand buffers asks) (asked_few (id + 1) used hand buffers asks)
+  where
+    by : (needs here : Bool) → length (asked_items (id + 1) (used + 1) hand buffers asks) ≤ length asks → length (asked_items (id + 1) used hand buffers asks) ≤ length asks
+        → length (cond needs (cond here (request_for a id ((used % buffers) * 32768) ∷ asked_items (id + 1) (used + 1) hand buffers asks) []) (request_for a id 0 ∷ asked_items (id + 1) used hand buffers asks)) ≤ length (a ∷ asks)
+    by true true one other = omega (arith, one)
+    by true false one other = omega arith
+    by false here one other = omega (arith, other)
+
+-- a client with a buffer in hand behind so many requests can put one more
+pub asked_more : (id used hand buffers n : ℕ) (asks : List Ask) → n < length asks → used + buffers_for (take n asks) < hand → n < length (asked_items id used hand buffers asks)
+asked_more id used hand buffers n [] lt enough = absurd (omega (arith, lt))
+asked_more id used hand buffers zero (a ∷ asks) lt enough = by (needs_buffer a.code) (lt-ltb used hand (omega (arith, enough)))
+  where
+    by : (needs : Bool) → nat_lt used hand ≡ true → 0 < length (cond needs (cond (nat_lt used hand) (request_for a id ((used % buffers) * 32768) ∷ asked_items (id + 1) (used + 1) hand buffers asks) []) (request_for a id 0 ∷ asked_items (id + 1) used hand buffers asks))
+    by true here = subst (λ t. 0 < length (cond t (request_for a id ((used % buffers) * 32768) ∷ asked_items (id + 1) (used + 1) hand buffers asks) [])) (sym here) (omega arith)
+    by false here = omega arith
+asked_more id used hand buffers (suc n) (a ∷ asks) lt enough = by (needs_buffer a.code) enough (asked_more (id + 1) (used + 1) hand buffers n asks (omega (arith, lt))) (asked_more (id + 1) used hand buffers n asks (omega (arith, lt)))
+  where
+    by : (needs : Bool) → used + cond needs (1 + buffers_for (take n asks)) (buffers_for (take n asks)) < hand → (used + 1 + buffers_for (take n asks) < hand → n < length (asked_items (id + 1) (used + 1) hand buffers asks)) → (used + buffers_for (take n asks) < hand → n < length (asked_items (id + 1) used hand buffers asks))
+        → suc n < length (cond needs (cond (nat_lt used hand) (request_for a id ((used % buffers) * 32768) ∷ asked_items (id + 1) (used + 1) hand buffers asks) []) (request_for a id 0 ∷ asked_items (id + 1) used hand buffers asks))
+    by true few one other =
+        let here : nat_lt used hand ≡ true = lt-ltb used hand (omega (arith, few)) in
+        let rest = one (omega (arith, few)) in
+        subst (λ t. suc n < length (cond t (request_for a id ((used % buffers) * 32768) ∷ asked_items (id + 1) (used + 1) hand buffers asks) [])) (sym here) (omega (arith, rest))
+    by false few one other = let rest = other few in omega (arith, rest)

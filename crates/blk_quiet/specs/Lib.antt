@@ -1,0 +1,2 @@
+-- The block class where nobody is runnable.
+pub mod Still

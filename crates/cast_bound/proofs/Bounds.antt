@@ -1,0 +1,39 @@
+-- The serial class puts no more than it has to move, and a play is shorter than the budget.
+use Rattle.std.proofs.Common.{◌≡◌, ◌<◌, None, Some, Option, List, [], length, refl, subst}
+use Rattle.wire_core.specs.declared.names.Entry.{Entry}
+use Rattle.wire_core.specs.Journal.{History, LegalJournal, BellsHold, QueuesFlow}
+use Rattle.wire_core.specs.Marks.{no_drops, Brisk}
+use Rattle.play_core.specs.Moved.{moved}
+use Rattle.play_core.specs.Still.{IsPeopled}
+use Rattle.sdf_plan.specs.declared.plan.Plan.{Plan}
+use Rattle.sdf_plan.specs.declared.plan.Serial.{Serial}
+use Rattle.sdf_check.specs.Valid.{Valid}
+use Rattle.trace_text.specs.declared.trace.Trace.{Trace}
+use Rattle.region_layout.specs.Rows.{queues_of, actors_of}
+use Rattle.expect_core.specs.Budgets.{budget_of}
+use Rattle.serial_law.specs.Serial.{SerialClass, IsSerial}
+use Rattle.serial_law.specs.Table.{serial_sheet}
+use Rattle.serial_hops.proofs.Moves.{serial_moves}
+use Rattle.actor_set.specs.Parts.{Part}
+use Rattle.actor_law.specs.Kinds.{hostiles}
+use Rattle.actor_law.proofs.Calm.{calm_row}
+use Rattle.play_bound.specs.Standing.{StandsFrom, Carries, serial_first, NetMoves, SerialMoves, without_serial, with_serial}
+use Rattle.play_bound.proofs.Bounding.{within_budget}
+use Rattle.play_bound.proofs.Classes.{classes_within}
+
+pub serial_within : (plan : Plan) (trace : Trace) (cast : List Part) (history : History) (journal : List Entry) → QueuesFlow (hostiles cast) history (queues_of plan) journal
+    → ((serial : Serial) → plan.serial ≡ Some serial → (class : SerialClass) × StandsFrom (serial_first plan.net) (length serial.client) class × Carries trace class × IsSerial (λ p. (serial_sheet p).row (moved history journal)) (hostiles cast) (queues_of plan) class)
+    → SerialMoves plan trace (moved history journal)
+serial_within plan trace cast history journal flows has = by plan.serial refl
+  where
+    by : (o : Option Serial) → plan.serial ≡ o → SerialMoves plan trace (moved history journal)
+    by None is = without_serial is
+    by (Some serial) is =
+        let h = has serial is in
+        with_serial serial h.0 is h.1 h.2 (serial_moves (hostiles cast) history (queues_of plan) journal h.0 flows h.3)
+
+pub short : (plan : Plan) (trace : Trace) (cast : List Part) (history : History) (journal : List Entry) → Valid plan → plan.blk ≡ None → length cast ≡ length (actors_of plan) → IsPeopled (queues_of plan) (length cast)
+    → BellsHold (hostiles cast) history (queues_of plan) [] → QueuesFlow (hostiles cast) history (queues_of plan) [] → LegalJournal (hostiles cast) history (queues_of plan) journal → Brisk (hostiles cast) no_drops journal
+    → NetMoves plan trace (moved history journal) → SerialMoves plan trace (moved history journal) → length journal < budget_of plan trace
+short plan trace cast history journal valid none count peopled bells flows legal brisk net serial =
+    within_budget plan trace (hostiles cast) history journal valid (λ n row at. calm_row cast row) bells flows legal brisk (subst (IsPeopled (queues_of plan)) count peopled) (classes_within plan trace history journal none net serial)

@@ -1,0 +1,115 @@
+-- The network of a plan's actors puts no more than its entries have to be moved.
+use Rattle.std.proofs.Common.{◌≡◌, ◌≢◌, ◌⊎◌, ◌≤◌, ◌<◌, ◌+◌, ◌*◌, ℕ, true, nat_le, nat_lt, Option, Some, None, List, [], length, slice_get, refl, sym, ap, ◌∙◌, subst, arith, inl, inr}
+use Rattle.std.specs.Option.{option_map_or}
+use Rattle.std.proofs.lemmas.Bool.{and_parts, leb-true, ltb-true, cases_lt}
+use Rattle.cargo_core.specs.declared.item.Item.{Item}
+use Rattle.wire_core.specs.declared.names.Entry.{Entry}
+use Rattle.wire_core.specs.declared.names.PoolRow.{PoolRow}
+use Rattle.wire_core.specs.Journal.{History, QueuesFlow}
+use Rattle.play_core.specs.Moved.{moved}
+use Rattle.play_core.specs.Sheets.{RowsHold, Scene}
+use Rattle.sdf_plan.specs.declared.plan.Plan.{Plan}
+use Rattle.sdf_plan.specs.declared.plan.Net.{Net}
+use Rattle.sdf_check.specs.Valid.{Valid}
+use Rattle.trace_text.specs.declared.trace.Trace.{Trace}
+use Rattle.trace_text.specs.Events.{net_clients}
+use Rattle.region_layout.specs.Rows.{queues_of, pools_of}
+use Rattle.net_kit.specs.Entries.{addr_of}
+use Rattle.net_owners.specs.Names.{PoolAt, ClientPools}
+use Rattle.net_tx_parts.specs.Numbers.{NetPlace}
+use Rattle.net_tx_parts.specs.Rows.{in_range}
+use Rattle.actor_set.specs.Parts.{Part}
+use Rattle.actor_law.specs.Kinds.{sheet, scene_of, hostiles}
+use Rattle.actor_law.proofs.Calm.{calm_actor, calm_row}
+use Rattle.wired_law.specs.Wiring.{HasPart, HasWhole}
+use Rattle.cast_core.specs.Sources.{pool_at}
+use Rattle.cast_core.specs.Casts.{client_pools, net_place, scene_for}
+use Rattle.cast_core.proofs.Listing.{value_is}
+use Rattle.cast_core.proofs.Rooms.{pools_apart}
+use Rattle.net_hops.specs.Hops.{net_put, net_moves, AreApart, IsNetwork}
+use Rattle.net_hops.proofs.Moves.{net_moved}
+use Rattle.play_bound.specs.Standing.{NetMoves, without_net, with_net}
+use Rattle.cast_bound.proofs.Sources.{place_is}
+
+-- what is in a pool's range
+in_bounds : (p : PoolAt) (item : Item) → in_range p item ≡ true → (p.base ≤ addr_of item) × (addr_of item < p.base + p.buffers * 2048)
+in_bounds p item h =
+    let parts = and_parts (nat_le p.base (addr_of item)) (nat_lt (addr_of item) (p.base + p.buffers * 2048)) h in
+    (leb-true p.base (addr_of item) parts.0, ltb-true (addr_of item) (p.base + p.buffers * 2048) parts.1)
+
+module _ (plan : Plan) (valid : Valid plan) (none : plan.blk ≡ None) where
+  -- two pools by their numbers, of which the first is lower
+  lower : (j k : ℕ) → j < k → AreApart (pool_at (pools_of plan) j) (pool_at (pools_of plan) k)
+  lower j k less item here there = by (slice_get (pools_of plan) j) refl (slice_get (pools_of plan) k) refl
+    where
+      by : (one : Option PoolRow) → slice_get (pools_of plan) j ≡ one → (other : Option PoolRow) → slice_get (pools_of plan) k ≡ other → ⊥
+      by None first other second =
+          let b = in_bounds (pool_at (pools_of plan) j) item here in
+          let base : (pool_at (pools_of plan) j).base ≡ 0 = ap (λ (o : Option PoolRow). option_map_or (λ (row : PoolRow). row.base) o 0) first in
+          let size : (pool_at (pools_of plan) j).buffers ≡ 0 = ap (λ (o : Option PoolRow). option_map_or (λ (row : PoolRow). row.buffers) o 0) first in
+          let lt = b.1 in
+          absurd (omega (arith, base, size, lt))
+      by (Some one) first None second =
+          let b = in_bounds (pool_at (pools_of plan) k) item there in
+          let base : (pool_at (pools_of plan) k).base ≡ 0 = ap (λ (o : Option PoolRow). option_map_or (λ (row : PoolRow). row.base) o 0) second in
+          let size : (pool_at (pools_of plan) k).buffers ≡ 0 = ap (λ (o : Option PoolRow). option_map_or (λ (row : PoolRow). row.buffers) o 0) second in
+          let lt = b.1 in
+          absurd (omega (arith, base, size, lt))
+      by (Some one) first (Some other) second =
+          let a = in_bounds (pool_at (pools_of plan) j) item here in
+          let b = in_bounds (pool_at (pools_of plan) k) item there in
+          let base : (pool_at (pools_of plan) j).base ≡ one.base = ap (λ (o : Option PoolRow). option_map_or (λ (row : PoolRow). row.base) o 0) first in
+          let size : (pool_at (pools_of plan) j).buffers ≡ one.buffers = ap (λ (o : Option PoolRow). option_map_or (λ (row : PoolRow). row.buffers) o 0) first in
+          let other_base : (pool_at (pools_of plan) k).base ≡ other.base = ap (λ (o : Option PoolRow). option_map_or (λ (row : PoolRow). row.base) o 0) second in
+          let other_size : (pool_at (pools_of plan) k).buffers ≡ other.buffers = ap (λ (o : Option PoolRow). option_map_or (λ (row : PoolRow). row.buffers) o 0) second in
+          let from = a.0 in
+          let to = a.1 in
+          let other_from = b.0 in
+          let other_to = b.1 in
+          pools_apart plan valid none j k one other less first second (addr_of item) (omega (arith, base, from)) (omega (arith, base, size, to)) (omega (arith, other_base, other_from)) (omega (arith, other_base, other_size, other_to))
+
+  apart_at : (j k : ℕ) → j ≢ k → AreApart (pool_at (pools_of plan) j) (pool_at (pools_of plan) k)
+  apart_at j k off = by (cases_lt j k)
+    where
+      by : (j < k) ⊎ (k ≤ j) → AreApart (pool_at (pools_of plan) j) (pool_at (pools_of plan) k)
+      by (inl less) = lower j k less
+      by (inr more) = by_other (cases_lt k j)
+        where
+          by_other : (k < j) ⊎ (j ≤ k) → AreApart (pool_at (pools_of plan) j) (pool_at (pools_of plan) k)
+          by_other (inl less) = λ item here there. lower k j less item there here
+          by_other (inr same) = absurd (off (omega (arith, more, same)))
+
+module _ (plan : Plan) (trace : Trace) (cast : List Part) (history : History) (journal : List Entry) (valid : Valid plan) (none : plan.blk ≡ None) (w : HasWhole (queues_of plan) (net_place plan trace) cast) (rows : RowsHold (sheet (scene_of cast)) (hostiles cast) cast (moved history journal)) where
+  abbrev place : NetPlace
+  place = net_place plan trace
+
+  row_of : (p : Part) → HasPart cast p → (sheet (scene_of cast) p).row (moved history journal)
+  row_of p there = rows there.0 p (calm_actor cast there.0) there.1
+
+  is_network : IsNetwork (scene_of cast) (hostiles cast) (queues_of plan) (moved history journal) place
+  is_network = record {
+    pools_many = w.pools_many;
+    programs_many = w.programs_many;
+    device = row_of _ w.device;
+    driver = row_of _ w.driver;
+    receiver = row_of _ w.receiver;
+    sender = row_of _ w.sender;
+    copier = λ k below. row_of _ (w.copier k below);
+    client = λ k program mac q runs address pooled. row_of _ (w.client k program mac q (record { address = address; pools = pooled; plays = runs }));
+    holds = λ i below. let r = w.kinds i below in record { row = r.0; there = r.1; calm = calm_row cast r.0; enough = omega arith };
+    apart = λ j k p q first second off.
+        let a = value_is (length (net_clients plan)) (client_pools plan) j p first in
+        let b = value_is (length (net_clients plan)) (client_pools plan) k q second in
+        subst (λ (z : ClientPools × ClientPools). AreApart z.0.tx z.1.tx) (λ i. (sym a.1 i, sym b.1 i)) (apart_at plan valid none (2 + 2 * j) (2 + 2 * k) (λ e. off (omega (arith, e))));
+  }
+
+pub net_within : (plan : Plan) (trace : Trace) (cast : List Part) (history : History) (journal : List Entry) → Valid plan → plan.blk ≡ None → ((net : Net) → plan.net ≡ Some net → HasWhole (queues_of plan) (net_place plan trace) cast) → scene_of cast ≡ scene_for plan trace
+    → QueuesFlow (hostiles cast) history (queues_of plan) journal → RowsHold (sheet (scene_of cast)) (hostiles cast) cast (moved history journal) → NetMoves plan trace (moved history journal)
+net_within plan trace cast history journal valid none whole scene flows rows = by plan.net refl
+  where
+    by : (o : Option Net) → plan.net ≡ o → NetMoves plan trace (moved history journal)
+    by None is = without_net is
+    by (Some net) is =
+        let frames : (scene_of cast).frames ≡ trace.frames = ap (λ (s : Scene). s.frames) scene ∙ ap (λ (n : Option Net). option_map_or (λ (x : Net). trace.frames) n []) is in
+        let few = net_moved (scene_of cast) (hostiles cast) history (queues_of plan) journal (net_place plan trace) flows (is_network plan trace cast history journal valid none (whole net is) rows) in
+        with_net net (net_place plan trace) is (place_is plan net is trace) (subst (λ fs. net_put 0 (length (net_place plan trace).macs) (moved history journal) ≤ net_moves (net_place plan trace) fs) frames few)

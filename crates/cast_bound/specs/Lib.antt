@@ -1,0 +1,1 @@
+-- This crate has no definitions of its own: its law speaks of those below it.

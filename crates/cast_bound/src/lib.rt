@@ -1,0 +1,54 @@
+//! How long a play of a plan's actors is at most: what the actors that are made of a plan and a
+//! trace put to its queues is what the budget counts for them.
+#![tactic(auto)]
+
+ghost use Rattle.std.specs.Prelude.{◌≡◌, ◌<◌, ◌≤◌, None, Some, List, [], length};
+ghost use Rattle.wire_core.specs.declared.names.Entry.{Entry};
+ghost use Rattle.wire_core.specs.Journal.{History, LegalJournal, BellsHold, QueuesFlow};
+ghost use Rattle.wire_core.specs.Marks.{no_drops, Brisk};
+ghost use Rattle.play_core.specs.Moved.{moved};
+ghost use Rattle.play_core.specs.Sheets.{RowsHold};
+ghost use Rattle.play_core.specs.Still.{IsPeopled};
+ghost use Rattle.sdf_plan.specs.declared.plan.Plan.{Plan};
+ghost use Rattle.sdf_plan.specs.declared.plan.Net.{Net};
+ghost use Rattle.sdf_plan.specs.declared.plan.Serial.{Serial};
+ghost use Rattle.sdf_check.specs.Valid.{Valid};
+ghost use Rattle.trace_text.specs.declared.trace.Trace.{Trace};
+ghost use Rattle.region_layout.specs.Rows.{queues_of, actors_of};
+ghost use Rattle.expect_core.specs.Budgets.{budget_of};
+ghost use Rattle.serial_law.specs.Serial.{SerialClass, IsSerial};
+ghost use Rattle.serial_law.specs.Table.{serial_sheet};
+ghost use Rattle.actor_set.specs.Parts.{Part};
+ghost use Rattle.actor_law.specs.Kinds.{sheet, scene_of, hostiles};
+ghost use Rattle.wired_law.specs.Wiring.{HasWhole};
+ghost use Rattle.cast_core.specs.Casts.{net_place, scene_for};
+ghost use Rattle.play_bound.specs.Standing.{StandsFrom, Carries, serial_first, NetMoves, SerialMoves};
+
+/// Where the rows of a plan's actors hold and its queues hand over in order, each class puts no
+/// more to its queues than its entries have to be moved; so a journal that is legal and brisk is
+/// shorter than the budget of plan and trace.
+pub fn cast_bound_law()
+    ensures network { (plan : Plan) (trace : Trace) (cast : List Part) (history : History)
+        (journal : List Entry) → Valid plan → plan.blk ≡ None
+        → ((net : Net) → plan.net ≡ Some net
+        → HasWhole (queues_of plan) (net_place plan trace) cast)
+        → scene_of cast ≡ scene_for plan trace
+        → QueuesFlow (hostiles cast) history (queues_of plan) journal
+        → RowsHold (sheet (scene_of cast)) (hostiles cast) cast (moved history journal)
+        → NetMoves plan trace (moved history journal) }
+    ensures serial { (plan : Plan) (trace : Trace) (cast : List Part) (history : History)
+        (journal : List Entry) → QueuesFlow (hostiles cast) history (queues_of plan) journal
+        → ((serial : Serial) → plan.serial ≡ Some serial → (class : SerialClass)
+        × StandsFrom (serial_first plan.net) (length serial.client) class × Carries trace class
+        × IsSerial (λ p. (serial_sheet p).row (moved history journal)) (hostiles cast)
+        (queues_of plan) class)
+        → SerialMoves plan trace (moved history journal) }
+    ensures short { (plan : Plan) (trace : Trace) (cast : List Part) (history : History)
+        (journal : List Entry) → Valid plan → plan.blk ≡ None
+        → length cast ≡ length (actors_of plan) → IsPeopled (queues_of plan) (length cast)
+        → BellsHold (hostiles cast) history (queues_of plan) []
+        → QueuesFlow (hostiles cast) history (queues_of plan) []
+        → LegalJournal (hostiles cast) history (queues_of plan) journal
+        → Brisk (hostiles cast) no_drops journal → NetMoves plan trace (moved history journal)
+        → SerialMoves plan trace (moved history journal) → length journal < budget_of plan trace }
+{}
