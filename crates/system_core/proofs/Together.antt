@@ -1,4 +1,4 @@
-use Rattle.std.proofs.Common.{◌≡◌, ◌≤◌, ◌++◌, ℕ, Some, None, List, [], length, refl, sym, ap, ◌∙◌, subst, arith}
+use Rattle.std.proofs.Common.{◌≡◌, ◌≤◌, ◌++◌, ℕ, Some, None, List, [], length, sym, ap, ◌∙◌, subst, arith, refl}
 use Rattle.wire_core.specs.declared.names.QueueRow.{QueueRow}
 use Rattle.wire_core.specs.declared.names.Entry.{Entry}
 use Rattle.wire_core.specs.Picks.{PickedFrom}
@@ -33,11 +33,8 @@ use Rattle.system_core.proofs.Casting.{HasSerial, has_serial}
 use Rattle.system_core.proofs.Networking.{shows_frames}
 use Rattle.system_core.proofs.Quieting.{still_now, shows_whole_net}
 use Rattle.system_core.proofs.Built.{no_blk}
+use Rattle.system_core.proofs.Bounded.{row_as, bounded}
 use Rattle.system_core.proofs.Begun.{There, serial_there, shows_in_part, shows_whole}
-
--- what is said of a part of the serial class, as one of all
-row_as : (s : Setting) (m : Moved) (p : SerialPart) → (sheet_in s (serial_part p)).row m → RowAt m p
-row_as s m p = subst (λ (t : Sheet). t.row m) (sheet_is (scene_of s.cast) p)
 
 plays_as : (s : Setting) (hostile : Hostiles) (actors : Needful) (m : Moved) (p : SerialPart) → Plays hostile actors m (sheet_in s (serial_part p)) → Plays hostile actors m (serial_sheet p)
 plays_as s hostile actors m p = subst (Plays hostile actors m) (sheet_is (scene_of s.cast) p)
@@ -108,6 +105,7 @@ module _ (old new : Shown) (seed limit : ℕ) (none : old.journal ≡ []) (playe
       cast = cast_is;
       picked = picked_is;
       within = subst (λ j. length j ≤ limit) more_is played.within;
+      bounded = bounded plan trace valid (no_blk plan played_all) new cast_is stands (λ serial has. there serial has);
       stands = stands;
       arrives = λ serial has. arrives new stands (class serial has) (there serial has) part;
       shows = λ serial has. shows_in_part plan serial (first_serial plan) trace new (class_is serial has) (says serial has) stands.told (arrives_now new stands (class serial has) (there serial has) part);
