@@ -63,7 +63,7 @@ pub record DiskInTurn (d : DiskDevice) (passed : Passed) : Type 0 where
 
 -- a virtualiser of a disk with this image took nothing out of turn, and no more responses than it
 -- put requests, of which the first brought the image's first sector; each read and write came at a
--- buffer of its client; and no two clients' ranges meet
+-- buffer of its client; no two clients' ranges meet, and each has a queue each way
 pub record VirtInTurn (image : List ℕ) (v : BlkVirt) (passed : Passed) : Type 0 where
   pub free : v.work.stray ≡ None
   pub in_turn : (row : BlkVirtRow v passed) → row.stray ≡ []
@@ -76,10 +76,13 @@ pub record VirtInTurn (image : List ℕ) (v : BlkVirt) (passed : Passed) : Type 
       → slice_get (from_queues v.ends) k ≡ Some q
       → All (λ (x : Cargo). is_bad h x ≡ false) (passed.taken q.0)
   pub apart : AreRanges (map range_of (holders v.work.desk))
+  pub from_each : length (from_queues v.ends) ≡ length (holders v.work.desk)
+  pub to_each : length (to_queues v.ends) ≡ length (holders v.work.desk)
 
--- a client took nothing out of turn, and each response brought the buffer of its request, where it
--- had one
+-- a client that has a buffer took nothing out of turn, and each response brought the buffer of its
+-- request, where that had one
 pub record ClientInTurn (c : BlkClient) (passed : Passed) : Type 0 where
+  pub some : 1 ≤ c.asking.buffers
   pub free : c.stray ≡ None
   pub in_turn : (row : BlkClientRow c passed) → row.stray ≡ []
   pub brings : (k : ℕ) (x y : Cargo) → slice_get (passed.sent (req_queue c)) k ≡ Some x
