@@ -175,7 +175,7 @@ module _ (f g : Item → ℕ) (base : ℕ) (part : Option Part) where
       (client_few xs (λ j y at. names (suc j) y at)) front rest back s (subst (IsPrefix (front ++ rest)) (map_if (item_for_disk base part) (goes_on_item part x) x (filter (goes_on_item part) xs)) begins) same
       (answer_items part (x ∷ xs) back) (λ y more is. ap (answer_items part (x ∷ xs)) is) (λ is. ap (answer_items part (x ∷ xs)) is) le
 
-module _ (naming : Naming) (scene : Scene) (req resp : ℕ) (pool : PoolAt) (clients : List Sharer) (names : NamesBlk naming (BlkVirt req resp pool clients)) (apart : ArePoolsApart pool clients) (m : Moved) (order : IsInOrder naming m) (row : ServesRequests scene.image req resp pool clients m) where
+module _ (naming : Naming) (scene : Scene) (req resp sectors : ℕ) (pool : PoolAt) (clients : List Sharer) (names : NamesBlk naming (BlkVirt req resp sectors pool clients)) (apart : ArePoolsApart pool clients) (m : Moved) (order : IsInOrder naming m) (row : ServesRequests scene.image req resp pool clients m) where
   abbrev ws : List Window
   ws = disk_windows pool clients
 
@@ -346,5 +346,5 @@ module _ (naming : Naming) (scene : Scene) (req resp : ℕ) (pool : PoolAt) (cli
   virt_all : Keeps (pool_hand pool) (all_taken naming m virt_ends) (all_put naming m virt_ends)
   virt_all = keeps_plain (pool_hand pool) (all_taken naming m virt_ends) (all_put naming m virt_ends) none_lent virt_buffers (λ b. (let none = none_leased b in omega (arith, none)))
 
-pub virt_keeps : (naming : Naming) (scene : Scene) (req resp : ℕ) (pool : PoolAt) (clients : List Sharer) → NamesBlk naming (BlkVirt req resp pool clients) → ArePoolsApart pool clients → PutsItsOwnInOrder naming (blk_sheet scene (BlkVirt req resp pool clients))
-virt_keeps naming scene req resp pool clients names apart m order ends_apart row = virt_all naming scene req resp pool clients names apart m order row
+pub virt_keeps : (naming : Naming) (scene : Scene) (req resp sectors : ℕ) (pool : PoolAt) (clients : List Sharer) → NamesBlk naming (BlkVirt req resp sectors pool clients) → ArePoolsApart pool clients → PutsItsOwnInOrder naming (blk_sheet scene (BlkVirt req resp sectors pool clients))
+virt_keeps naming scene req resp sectors pool clients names apart m order ends_apart row = virt_all naming scene req resp sectors pool clients names apart m order row
