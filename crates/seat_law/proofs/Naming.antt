@@ -30,7 +30,7 @@ serial_named plan serial is = record {
 
 pub blk_named : (plan : Plan) (blk : Blk) → plan.blk ≡ Some blk → AreBlkNamed plan blk
 blk_named plan blk is = record {
-  disk = disk plan blk is;
+  device = disk plan blk is;
   driver = disk_driver plan blk is;
   virtualiser = virtualiser plan blk is;
   client = λ c client at. let z : 0 + c ≡ c = omega arith in subst (λ k. HasJob plan (BlkClient k) (actor_named plan client.pd).0) z (blk_client plan blk is c client at);

@@ -32,7 +32,7 @@ pub record AreSerialNamed (plan : Plan) (serial : Serial) : Type 0 where
 
 -- those of the block class
 pub record AreBlkNamed (plan : Plan) (blk : Blk) : Type 0 where
-  pub disk : HasJob plan DiskDevice (disk_number plan).0
+  pub device : HasJob plan DiskDevice (disk_number plan).0
   pub driver : HasJob plan DiskDriver (actor_named plan blk.driver).0
   pub virtualiser : HasJob plan BlkVirtualiser (actor_named plan blk.virt).0
   pub client : (c : ℕ) (client : BlkClientKeys) → slice_get blk.client c ≡ Some client
