@@ -16,11 +16,11 @@ use Rattle.cast_law.specs.Seats.{AreSeated}
 use Rattle.cast_law.proofs.Seated.{seated}
 use Rattle.cast_law.proofs.Wired.{scene_is, whole_is, wired_is}
 
-pub all_seated : (plan : Plan) (trace : Trace) (actors : List Actor) → Valid plan → plan.blk ≡ None → IsReadFor plan trace → AreCast plan trace actors → AreSeated (queues_of plan) actors
-all_seated plan trace actors valid none read cast = seated plan trace actors valid none cast (wired_is plan trace actors valid none cast read) (few_queues plan valid none) (few_numbers plan valid)
+pub all_seated : (plan : Plan) (trace : Trace) (actors : List Actor) → Valid plan → IsReadFor plan trace → AreCast plan trace actors → AreSeated (queues_of plan) actors
+all_seated plan trace actors valid read cast = seated plan trace actors valid cast (wired_is plan trace actors valid cast read) (few_queues plan valid) (few_numbers plan valid)
 
-pub whole_network : (plan : Plan) (trace : Trace) (actors : List Actor) → Valid plan → plan.blk ≡ None → IsReadFor plan trace → AreCast plan trace actors → (net : Net) → plan.net ≡ Some net → HasWhole (queues_of plan) (net_place plan trace) (map part_of actors)
-whole_network plan trace actors valid none read cast net is = whole_is plan trace actors valid none cast net is read
+pub whole_network : (plan : Plan) (trace : Trace) (actors : List Actor) → Valid plan → IsReadFor plan trace → AreCast plan trace actors → (net : Net) → plan.net ≡ Some net → HasWhole (queues_of plan) (net_place plan trace) (map part_of actors)
+whole_network plan trace actors valid read cast net is = whole_is plan trace actors valid cast net is read
 
-pub scene_of_plan : (plan : Plan) (trace : Trace) (actors : List Actor) → Valid plan → plan.blk ≡ None → AreCast plan trace actors → scene_of (map part_of actors) ≡ scene_for plan trace
-scene_of_plan plan trace actors valid none cast = scene_is plan trace actors valid none cast
+pub scene_of_plan : (plan : Plan) (trace : Trace) (actors : List Actor) → Valid plan → AreCast plan trace actors → scene_of (map part_of actors) ≡ scene_for plan trace
+scene_of_plan plan trace actors valid cast = scene_is plan trace actors valid cast

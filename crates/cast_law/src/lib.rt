@@ -19,24 +19,21 @@ ghost use Rattle.cast_core.specs.Casts.{net_place, job_part, scene_for, AreCast}
 ghost use Rattle.wired_law.specs.Wiring.{HasNoNetwork, HasWhole};
 ghost use Rattle.cast_law.specs.Seats.{AreSeated};
 
-/// The actors of a valid plan without a block class are seated at its layout's queues, each number
+/// The actors of a valid plan are seated at its layout's queues, each number
 /// has the part of its job, and with a network class the cast has the whole network where the
 /// layout places it. The scene is what the trace gives the plan's classes. The pools of the network's
 /// place are those of the layout, by their numbers.
 pub fn cast_law()
     ensures seated { (plan : Plan) (trace : Trace) (actors : List Actor) → Valid plan
-        → plan.blk ≡ None → IsReadFor plan trace → AreCast plan trace actors
-        → AreSeated (queues_of plan) actors }
+        → IsReadFor plan trace → AreCast plan trace actors → AreSeated (queues_of plan) actors }
     ensures parts { (plan : Plan) (trace : Trace) (actors : List Actor) → Valid plan
         → AreCast plan trace actors → (job : Job) (k : ℕ) → HasJob plan job k
         → slice_get (map part_of actors) k ≡ job_part plan trace job }
     ensures whole { (plan : Plan) (trace : Trace) (actors : List Actor) → Valid plan
-        → plan.blk ≡ None → IsReadFor plan trace → AreCast plan trace actors
-        → (net : Net) → plan.net ≡ Some net
+        → IsReadFor plan trace → AreCast plan trace actors → (net : Net) → plan.net ≡ Some net
         → HasWhole (queues_of plan) (net_place plan trace) (map part_of actors) }
     ensures scene { (plan : Plan) (trace : Trace) (actors : List Actor) → Valid plan
-        → plan.blk ≡ None → AreCast plan trace actors
-        → scene_of (map part_of actors) ≡ scene_for plan trace }
+        → AreCast plan trace actors → scene_of (map part_of actors) ≡ scene_for plan trace }
     ensures numbered { (plan : Plan) (trace : Trace)
         → AreNumbered (net_pools (net_place plan trace).pool (net_place plan trace).pools) }
     ensures sized { (plan : Plan) (trace : Trace) → plan.blk ≡ None → (net : Net)
@@ -48,6 +45,5 @@ pub fn cast_law()
         ≡ length (net_pools (net_place plan trace).pool (net_place plan trace).pools) }
     ensures no_pools { (plan : Plan) → plan.blk ≡ None → plan.net ≡ None → pools_of plan ≡ [] }
     ensures no_network { (plan : Plan) (trace : Trace) (actors : List Actor) → Valid plan
-        → plan.blk ≡ None → AreCast plan trace actors → plan.net ≡ None
-        → HasNoNetwork (map part_of actors) }
+        → AreCast plan trace actors → plan.net ≡ None → HasNoNetwork (map part_of actors) }
 {}
