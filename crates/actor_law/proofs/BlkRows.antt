@@ -1,5 +1,5 @@
 -- A disk's row from what it stands for.
-use Rattle.std.proofs.Common.{◌≡◌, ◌≤◌, ◌<◌, ◌++◌, ℕ, suc, true, refl, Option, Some, None, List, [], ◌∷◌, All, length, subst, sym, ap, arith}
+use Rattle.std.proofs.Common.{◌≡◌, ◌≤◌, ◌<◌, ◌++◌, ℕ, zero, suc, true, refl, Option, Some, None, List, [], ◌∷◌, All, length, subst, sym, ap, arith}
 use Rattle.std.specs.Option.{option_to_list, ForSome}
 use Rattle.wire_core.specs.Deeds.{Cargo}
 use Rattle.wire_core.specs.Lists.{Passed}
@@ -12,7 +12,7 @@ few (Some x) = omega arith
 
 all_of : (P : Cargo → Type 0) (o : Option Cargo) → ForSome o P → All P (option_to_list o)
 all_of P None some k d lt = absurd (omega (arith, lt))
-all_of P (Some x) some 0 d lt = some x refl
+all_of P (Some x) some zero d lt = some x refl
 all_of P (Some x) some (suc k) d lt = absurd (omega (arith, lt))
 
 pub disk_row_of : (start : List ℕ) (d : DiskDevice) (passed : Passed) → DiskStandsFor start d passed → DiskRow start d passed

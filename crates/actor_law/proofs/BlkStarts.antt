@@ -1,6 +1,6 @@
 -- The block class's actors in their start state: they fit the ends that rows give them, stand for
 -- nothing, and have the start hand of their sheets.
-use Rattle.std.proofs.Common.{◌≡◌, ◌==◌, ◌+◌, ◌<◌, ◌-◌, ◌^◌, ℕ, true, false, if◌then◌else◌, Some, List, [], ◌∷◌, length, map, slice_get, refl, sym, ap, ◌∙◌, arith, eq-eqb, inl, inr}
+use Rattle.std.proofs.Common.{◌≡◌, ◌==◌, ◌+◌, ◌<◌, ◌-◌, ◌^◌, ℕ, zero, suc, true, false, if◌then◌else◌, Some, List, [], ◌∷◌, length, map, slice_get, refl, sym, ap, ◌∙◌, arith, eq-eqb, inl, inr}
 use Rattle.std.specs.Option.{option_to_list}
 use Rattle.std.proofs.lemmas.Bool.{ne_eqb}
 use Rattle.std.proofs.lemmas.List.{length-map}
@@ -169,7 +169,7 @@ new_server_hand scene v new pool =
     omega (arith, all, came, went, one)
   where
     only : (k : ℕ) (p : Paged) → slice_get (new.stands.start ∷ []) k ≡ Some p → new.stands.start ≡ p
-    only 0 p at = Rattle.play_core.proofs.Lists.some_is at
+    only zero p at = Rattle.play_core.proofs.Lists.some_is at
     only (suc k) p at = cc
 
 pub new_asker_hand : (scene : Scene) (c : BlkClient) → IsNewAsker c → (pool : PoolId) → buffers_of pool (blk_client_hand c) ≡ length ((blk_sheet scene (blk_client_part c)).hand pool.0)

@@ -39,7 +39,6 @@ use Rattle.net_tx_parts.specs.Table.{send_sheet}
 use Rattle.net_tx_parts.specs.Playing.{send_part}
 use Rattle.net_tx_parts.proofs.Items.{send_row}
 use Rattle.pipe_driver.specs.Lengths.{two_pipes}
-use Rattle.net_parts.proofs.Items.{driver_row as ways_row}
 use Rattle.blk_virt.proofs.Rows.{row_of as server_row_of}
 use Rattle.blk_client.proofs.Standing.{row_of as asker_row_of}
 use Rattle.blk_client.specs.Asking.{replies_to}
@@ -125,7 +124,7 @@ module _ (scene : Scene) (passed : Passed) (items : Moved) (h : HaveItems passed
   actor_row (Kinds.NetClient x) turn f = client_row scene x passed items turn.0 turn.1 (items_at (net_sheet scene (client_part x)).ends passed items h) (row_of x passed f)
   actor_row (Kinds.NetVirtTx x) turn f = let row = sender_row_of x passed f in send_row x passed items (items_at (send_sheet (send_part x)).ends passed items h) turn.good row (turn.in_turn row)
   actor_row (Kinds.DiskDevice x) turn f = block.disk_row scene x.start.value x.device passed items turn (items_at (blk_sheet scene (disk_part x.start.value x.device)).ends passed items h) (disk_row_of x.start.value x.device passed f)
-  actor_row (Kinds.BlkDriver x) turn f = ways_row scene (two_pipes x.driver.pipes) passed items (items_at (blk_sheet scene (blk_driver_part (two_pipes x.driver.pipes))).ends passed items h) (pipes_row_of (two_pipes x.driver.pipes) passed f)
+  actor_row (Kinds.BlkDriver x) turn f = driver_row scene (two_pipes x.driver.pipes) passed items (items_at (blk_sheet scene (blk_driver_part (two_pipes x.driver.pipes))).ends passed items h) (pipes_row_of (two_pipes x.driver.pipes) passed f)
   actor_row (Kinds.BlkVirt x) turn f = virt_row scene x passed items turn (items_at (blk_sheet scene (virt_part x)).ends passed items h) (server_row_of x passed f)
   actor_row (Kinds.BlkClient x) turn f = block.client_row x passed turn (asker_row_of x passed f) scene items (items_at (blk_sheet scene (blk_client_part x)).ends passed items h)
 

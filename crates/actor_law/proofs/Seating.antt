@@ -2,7 +2,7 @@
 -- each side are of queues of their own; and its part tells what its queues carry.
 use Rattle.std.proofs.Common.{◌≡◌, ℕ, suc, Some, List, [], ◌∷◌, map, flat_map, slice_get, refl, sym, ap, ◌∙◌, arith, inl, inr}
 use Rattle.wire_core.specs.declared.names.QueueId.{QueueId}
-use Rattle.wire_core.specs.Ends.{Consumer, Producer}
+use Rattle.wire_core.specs.Ends.{Role, Consumer, Producer}
 use Rattle.turn_kit.specs.ManyEnds.{AreApart as AreQueuesApart, intake_queues, outlet_queues}
 use Rattle.turn_kit.specs.declared.pipe.Pipe.{Pipe}
 use Rattle.pipe_driver.specs.Drivers.{IsOneOf, IsNoneOf, AreDistinct, inputs_of, outputs_of}
