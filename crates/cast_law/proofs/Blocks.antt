@@ -1,8 +1,8 @@
 -- The cast of a plan with a block class has the whole class where the layout places it.
-use Rattle.std.proofs.Common.{◌≡◌, ◌⊎◌, ⊎_elim, ◌==◌, ◌+◌, ◌*◌, ◌<◌, ◌≤◌, ◌++◌, ℕ, zero, suc, cond, Option, Some, None, unwrap_or, inl, inr, List, [], ◌∷◌, length, map, slice_get, refl, sym, ap, ◌∙◌, subst, arith, eq-eqb}
+use Rattle.std.proofs.Common.{◌≡◌, ◌⊎◌, ⊎_elim, ◌==◌, ◌+◌, ◌*◌, ◌<◌, ◌≤◌, ◌++◌, ℕ, zero, suc, cond, Option, Some, None, unwrap_or, inl, inr, codes, List, [], ◌∷◌, length, map, slice_get, refl, sym, ap, ◌∙◌, subst, arith, eq-eqb}
 use Rattle.std.specs.Prelude.{MatchOption}
 use Rattle.std.specs.List.{All}
-use Rattle.std.specs.Option.{option_map_or}
+use Rattle.std.specs.Option.{option_map_or, IsSomeAnd}
 use Rattle.std.proofs.lemmas.Bool.{cases_lt}
 use Rattle.std.proofs.lemmas.List.Elements.{All-nil, All-cons}
 use Rattle.cargo_core.specs.declared.item.Ask.{Ask}
@@ -25,7 +25,7 @@ use Rattle.trace_text.specs.Events.{blk_clients}
 use Rattle.trace_text.specs.Traces.{IsReadFor}
 use Rattle.trace_text.specs.Shapes.{HasShapes, IsAsk, HasForm, IsDisk}
 use Rattle.trace_text.proofs.Shapes.{shapes-read}
-use Rattle.region_layout.specs.Rows.{each_client, pool_in, net_pools, net_client_pools, blk_pools, blk_client_pools, pools_of, queues_of, actor_named, disk_number}
+use Rattle.region_layout.specs.Rows.{each_client, client_name, blk_buffer, pool_in, net_pools, net_client_pools, blk_pools, blk_client_pools, pools_of, queues_of, actor_named, disk_number}
 use Rattle.region_layout.proofs.WalkLemmas.{kept, blk_client_walked}
 use Rattle.layout_laws.specs.Sound.{IsSoundPool}
 use Rattle.layout_laws.proofs.Lists.{all-at, each-at}
@@ -170,23 +170,31 @@ module _ (plan : Plan) (trace : Trace) (actors : List Actor) (valid : Valid plan
   disk_sized = subst (λ (o : Option Blk). MatchOption o (trace.image ≡ []) (λ b. IsDisk trace.image)) is shapes.image
 
   -- the rows of the class's pools
-  own_row : (row : PoolRow) × (slice_get (pools_of plan) (first_blk_pool plan) ≡ Some row)
+  abbrev own_of : PoolRow
+  own_of = pool_in plan blk.region (codes "blk") 1 blk_buffer
+
+  own_row : slice_get (pools_of plan) (first_blk_pool plan) ≡ Some own_of
   unfolding pools_of blk_pools
   own_row =
       let before = option_map_or (net_pools plan) plan.net [] in
+      let behind = option_map_or (blk_pools plan) plan.blk [] in
       let long = pools_before plan in
       let n : length before + 0 ≡ first_blk_pool plan = omega (arith, long) in
-      (_, subst (λ k. slice_get (before ++ option_map_or (blk_pools plan) plan.blk []) k ≡ Some _) n (get-right before (option_map_or (blk_pools plan) plan.blk []) 0 _ (ap (λ (o : Option Blk). slice_get (option_map_or (blk_pools plan) o []) 0) is)))
+      let here : slice_get behind 0 ≡ Some own_of = ap (λ (o : Option Blk). slice_get (option_map_or (blk_pools plan) o []) 0) is in
+      subst (λ k. slice_get (before ++ behind) k ≡ Some own_of) n (get-right before behind 0 own_of here)
 
   client_row : (k : ℕ) → k < count → (row : PoolRow) × (slice_get (pools_of plan) (first_blk_pool plan + 1 + k) ≡ Some row)
   unfolding pools_of blk_pools blk_client_pools
   client_row k lt =
       let before = option_map_or (net_pools plan) plan.net [] in
+      let behind = option_map_or (blk_pools plan) plan.blk [] in
       let long = pools_before plan in
       let c = client_of k lt in
-      let flat = each-at (blk_client_pools plan) 1 (λ n. n) 0 blk.client k 0 c.0 _ (λ n x. refl) refl (λ n. omega arith) c.1 refl in
+      let row = pool_in plan c.0.region (client_name (codes "blk.") (0 + k) []) c.0.buffers blk_buffer in
+      let flat : slice_get (each_client (blk_client_pools plan) 0 blk.client) (k + 0) ≡ Some row = each-at (blk_client_pools plan) 1 (λ n. n) 0 blk.client k 0 c.0 row (λ n x. refl) refl (λ n. omega arith) c.1 refl in
       let n : length before + suc (k + 0) ≡ first_blk_pool plan + 1 + k = omega (arith, long) in
-      (_, subst (λ j. slice_get (before ++ option_map_or (blk_pools plan) plan.blk []) j ≡ Some _) n (get-right before (option_map_or (blk_pools plan) plan.blk []) (suc (k + 0)) _ (ap (λ (o : Option Blk). slice_get (option_map_or (blk_pools plan) o []) (suc (k + 0))) is ∙ flat)))
+      let here : slice_get behind (suc (k + 0)) ≡ Some row = ap (λ (o : Option Blk). slice_get (option_map_or (blk_pools plan) o []) (suc (k + 0))) is ∙ flat in
+      (row, subst (λ j. slice_get (before ++ behind) j ≡ Some row) n (get-right before behind (suc (k + 0)) row here))
 
   some_at : (n : ℕ) (row : PoolRow) → slice_get (pools_of plan) n ≡ Some row → 1 ≤ (pool_at (pools_of plan) n).buffers
   some_at n row there =
@@ -195,7 +203,7 @@ module _ (plan : Plan) (trace : Trace) (actors : List Actor) (valid : Valid plan
       omega (arith, some, many)
 
   pub own_some : 1 ≤ place.pool.buffers
-  own_some = let r = own_row in some_at (first_blk_pool plan) r.0 r.1
+  own_some = some_at (first_blk_pool plan) own_of own_row
 
   pub some_buffers : (k : ℕ) (pool : PoolAt) → slice_get place.pools k ≡ Some pool → 1 ≤ pool.buffers
   some_buffers k pool there =
@@ -227,7 +235,8 @@ module _ (plan : Plan) (trace : Trace) (actors : List Actor) (valid : Valid plan
       let before : StandsBefore b.0.partition (map (λ (x : BlkClientKeys). x.partition) blk.client) k =
           (j, lt, map_get (λ (x : BlkClientKeys). x.partition) blk.client j a.0 a.1 ∙ ap (λ n. Some n) (a.2 ∙ sym b.2)) in
       kept plan 29 (At.BlkClient k) valid (omega arith) (omega arith) (blk_client_walked plan blk k is (there_below blk.client k b.0 b.1))
-      (here-some plan.blk blk _ is (here-some (slice_get blk.client k) b.0 _ b.1 (inr before)))
+      (here-some plan.blk blk (λ (x : Blk). IsSomeAnd (slice_get x.client k) (λ (c : BlkClientKeys). (3 < c.partition) ⊎ StandsBefore c.partition (map (λ (o : BlkClientKeys). o.partition) x.client) k)) is
+      (here-some (slice_get blk.client k) b.0 (λ (c : BlkClientKeys). (3 < c.partition) ⊎ StandsBefore c.partition (map (λ (o : BlkClientKeys). o.partition) blk.client) k) b.1 (inr before)))
 
   pub entries_apart : (j k entry : ℕ) → slice_get place.entries j ≡ Some entry → slice_get place.entries k ≡ Some entry → j ≡ k
   entries_apart j k entry first second =
