@@ -1,5 +1,5 @@
 -- The ends of the block class's actors as their sheets have them.
-use Rattle.std.proofs.Common.{◌≡◌, ◌<◌, ℕ, zero, suc, Some, List, [], ◌∷◌, length, map, flat_map, slice_get, refl, sym, ap, ◌∙◌, arith, inl, inr}
+use Rattle.std.proofs.Common.{◌≡◌, ℕ, zero, suc, Some, List, [], ◌∷◌, length, flat_map, slice_get, refl, sym, ap, ◌∙◌, arith, inl, inr}
 use Rattle.wire_core.specs.declared.names.QueueId.{QueueId}
 use Rattle.wire_core.specs.Ends.{Role, Consumer, Producer}
 use Rattle.play_core.specs.Moved.{Seat}

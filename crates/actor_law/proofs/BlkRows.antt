@@ -1,5 +1,5 @@
 -- A disk's row from what it stands for.
-use Rattle.std.proofs.Common.{◌≡◌, ◌≤◌, ◌<◌, ◌++◌, ℕ, zero, suc, true, refl, Option, Some, None, List, [], ◌∷◌, All, length, subst, sym, ap, arith}
+use Rattle.std.proofs.Common.{◌≤◌, ℕ, zero, suc, refl, Option, Some, None, List, All, length, arith}
 use Rattle.std.specs.Option.{option_to_list, ForSome}
 use Rattle.wire_core.specs.Deeds.{Cargo}
 use Rattle.wire_core.specs.Lists.{Passed}

@@ -1,6 +1,6 @@
 -- The block class's actors in their start state: they fit the ends that rows give them, stand for
 -- nothing, and have the start hand of their sheets.
-use Rattle.std.proofs.Common.{◌≡◌, ◌==◌, ◌+◌, ◌<◌, ◌-◌, ◌^◌, ℕ, zero, suc, true, false, if◌then◌else◌, Some, List, [], ◌∷◌, length, map, slice_get, refl, sym, ap, ◌∙◌, arith, eq-eqb, inl, inr}
+use Rattle.std.proofs.Common.{◌≡◌, ℕ, zero, suc, if◌then◌else◌, Some, List, [], ◌∷◌, length, map, slice_get, refl, sym, ap, ◌∙◌, arith, eq-eqb, inl, inr}
 use Rattle.std.specs.Option.{option_to_list}
 use Rattle.std.proofs.lemmas.Bool.{ne_eqb}
 use Rattle.std.proofs.lemmas.List.{length-map}
@@ -11,7 +11,6 @@ use Rattle.cargo_core.specs.Bodies.{buffers_of}
 use Rattle.cargo_core.specs.Items.{kind_of}
 use Rattle.cargo_core.specs.Pages.{Paged}
 use Rattle.wire_core.specs.declared.names.Side.TheVariants.{Forward, Backward}
-use Rattle.wire_core.specs.declared.names.QueueId.{QueueId}
 use Rattle.wire_core.specs.Ends.{Role, Consumer, Producer, End}
 use Rattle.wire_core.specs.Lists.{nothing_passed}
 use Rattle.turn_kit.specs.Table.{Agrees, start_state}
@@ -25,8 +24,7 @@ use Rattle.pipe_driver.specs.Drivers.{FitsPipes, PipesEnd}
 use Rattle.pipe_driver.specs.Lengths.{two_pipes}
 use Rattle.play_core.specs.Sheets.{Scene}
 use Rattle.play_core.proofs.Lists.{map_get, map_from}
-use Rattle.net_kit.specs.Pools.{page_bodies}
-use Rattle.net_kit.specs.Virtualising.{VirtOwns, from_queues, to_queues, virt_came, virt_went, new_intake, new_outlet}
+use Rattle.net_kit.specs.Virtualising.{VirtOwns, virt_came, virt_went, new_intake, new_outlet}
 use Rattle.disk_device.specs.declared.DiskDevice.{DiskDevice}
 use Rattle.disk_device.specs.Disks.{FitsDisk, DiskStandsFor, DiskEnd, IsNewDisk, req, resp}
 use Rattle.blk_driver.specs.declared.BlkDriver.{BlkDriver}
@@ -35,7 +33,6 @@ use Rattle.blk_client.specs.Clients.{FitsBlkClient, BlkClientEnd, req_queue, res
 use Rattle.blk_virt.specs.declared.client.Client.{Client}
 use Rattle.blk_virt.specs.declared.virtualiser.BlkEnds.{BlkEnds}
 use Rattle.blk_virt.specs.declared.virtualiser.BlkVirt.{BlkVirt}
-use Rattle.blk_virt.specs.Desks.{holders}
 use Rattle.blk_virt.specs.Works.{work_cargo}
 use Rattle.blk_virt.specs.Virtualising.{FitsBlkVirt, new_client}
 use Rattle.blk_parts.specs.Table.{blk_sheet}
