@@ -2,3 +2,4 @@ pub mod Numbers
 pub mod Answers
 pub mod Judging
 pub mod Turning
+pub mod Clients

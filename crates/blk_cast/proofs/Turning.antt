@@ -40,7 +40,7 @@ get_next : (xs : List Cargo) (x : Cargo) (ys : List Cargo) → slice_get (xs ++ 
 get_next [] x ys = refl
 get_next (z ∷ xs) x ys = get_next xs x ys
 
-drop_get : (xs : List Cargo) (n : ℕ) → slice_get (drop 1 xs) n ≡ slice_get xs (suc n)
+pub drop_get : (xs : List Cargo) (n : ℕ) → slice_get (drop 1 xs) n ≡ slice_get xs (suc n)
 drop_get [] n = refl
 drop_get (x ∷ xs) n = refl
 
@@ -168,7 +168,7 @@ module _ (place : BlkPlace) (passed : Passed) (h : IsBlkCast place passed) where
           let here : IsOutOfTurn S row.back y = all_at (IsOutOfTurn S row.back) row.stray out 0 y (ap (λ l. slice_get l 0) is) in
           absurd (not_out S row.back r.0 y r.2 named sector here)
 
-  abbrev parts : ℕ → Option Part
+  abbrev pub parts : ℕ → Option Part
   parts entry = partition_in image entry
 
   known : KnowsParts v.work.opening.disk_sectors h.virt_row.back parts
@@ -179,16 +179,16 @@ module _ (place : BlkPlace) (passed : Passed) (h : IsBlkCast place passed) where
       by (y ∷ ys) is = λ n. ap₂ (λ (s : List ℕ) (k : ℕ). part_of s k n) (sym (sector_is y (ap (λ l. slice_get l 0) is))) (sym virtualised.2)
 
   -- the client of a number, as the virtualiser has it
-  shared : (length hs ≡ length place.entries) × ((k : ℕ) (g : Holder) (q r : QueueId) → slice_get hs k ≡ Some g → slice_get (from_queues v.ends) k ≡ Some q → slice_get (to_queues v.ends) k ≡ Some r → (entry : ℕ) × (pool : PoolAt) × (slice_get place.entries k ≡ Some entry) × (slice_get place.pools k ≡ Some pool) × Shares place.first (0 + k) g q r entry pool)
+  pub shared : (length hs ≡ length place.entries) × ((k : ℕ) (g : Holder) (q r : QueueId) → slice_get hs k ≡ Some g → slice_get (from_queues v.ends) k ≡ Some q → slice_get (to_queues v.ends) k ≡ Some r → (entry : ℕ) × (pool : PoolAt) × (slice_get place.entries k ≡ Some entry) × (slice_get place.pools k ≡ Some pool) × Shares place.first (0 + k) g q r entry pool)
   shared = sharers_are place.first 0 hs place.entries place.pools (from_queues v.ends) (to_queues v.ends) h.from_each h.to_each h.pools_many virtualised.3
 
-  shares_at : (k : ℕ) (g : Holder) (q r : QueueId) → slice_get hs k ≡ Some g → slice_get (from_queues v.ends) k ≡ Some q → slice_get (to_queues v.ends) k ≡ Some r → (entry : ℕ) × (pool : PoolAt) × (slice_get place.entries k ≡ Some entry) × (slice_get place.pools k ≡ Some pool) × Shares place.first k g q r entry pool
+  pub shares_at : (k : ℕ) (g : Holder) (q r : QueueId) → slice_get hs k ≡ Some g → slice_get (from_queues v.ends) k ≡ Some q → slice_get (to_queues v.ends) k ≡ Some r → (entry : ℕ) × (pool : PoolAt) × (slice_get place.entries k ≡ Some entry) × (slice_get place.pools k ≡ Some pool) × Shares place.first k g q r entry pool
   shares_at k g q r at fat tat =
       let x = shared.1 k g q r at fat tat in
       let plus : 0 + k ≡ k = omega arith in
       (x.0, x.1, x.2, x.3, subst (λ n. Shares place.first n g q r x.0 x.1) plus x.4)
 
-  served : (k : ℕ) (g : Holder) (q r : QueueId) → slice_get hs k ≡ Some g → slice_get (from_queues v.ends) k ≡ Some q → slice_get (to_queues v.ends) k ≡ Some r → IsServed g (parts g.partition) (passed.taken q.0) (drop 1 S) (drop 1 h.virt_row.back) (passed.sent r.0)
+  pub served : (k : ℕ) (g : Holder) (q r : QueueId) → slice_get hs k ≡ Some g → slice_get (from_queues v.ends) k ≡ Some q → slice_get (to_queues v.ends) k ≡ Some r → IsServed g (parts g.partition) (passed.taken q.0) (drop 1 S) (drop 1 h.virt_row.back) (passed.sent r.0)
   served k g q r at fat tat =
       let c = map_from (λ (x : Client). x.holder) v.work.desk.clients.items k g at in
       subst (λ (x : Holder). IsServed x (parts x.partition) (passed.taken q.0) (drop 1 S) (drop 1 h.virt_row.back) (passed.sent r.0)) c.2 (h.virt_row.serves k c.0 q r parts c.1 fat tat known)

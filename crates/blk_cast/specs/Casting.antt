@@ -1,6 +1,6 @@
 -- The block class in a system: which actors stand at the layout's queues, told by the number of the
 -- class's first queue, what is asked of them, and what clients may put.
-use Rattle.std.specs.Prelude.{◌≡◌, ◌+◌, ◌*◌, ◌≤◌, ℕ, false, Some, List, length, map, slice_get}
+use Rattle.std.specs.Prelude.{◌≡◌, ◌+◌, ◌*◌, ◌<◌, ◌≤◌, ℕ, false, Some, List, length, map, slice_get}
 use Rattle.cargo_core.specs.Items.{kind_of}
 use Rattle.cargo_core.specs.Ranges.{AreRanges}
 use Rattle.cargo_core.specs.declared.item.Ask.{Ask}
@@ -43,10 +43,17 @@ IsWhole (Carried.Page page) = length page.bytes ≡ 32768
 IsWhole (Carried.Lease lease) = Unit {0}
 IsWhole Carried.Empty = Unit {0}
 
+-- a page is one of a pool's buffers
+abbrev pub IsOfPool : PoolAt → Body → Type 0
+IsOfPool pool (Carried.Page page) = (page.pool.0 ≡ pool.number) × (page.no < pool.buffers)
+IsOfPool pool (Carried.Lease lease) = Unit {0}
+IsOfPool pool Carried.Empty = Unit {0}
+
 -- an entry asks for blocks by way of one of a pool's buffers, or asks for none
 pub record IsRequest (pool : PoolAt) (x : Cargo) : Type 0 where
   pub good : is_bad (holder_of pool) x ≡ false
   pub whole : IsWhole x.1
+  pub own : IsOfPool pool x.1
 
 -- each of these entries does
 abbrev pub AreRequests : PoolAt → List Cargo → Type 0

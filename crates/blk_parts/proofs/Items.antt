@@ -81,7 +81,7 @@ requests_are id used hand buffers (a ∷ asks) (p ∷ pages) long numbered =
     by false bare rest = ap (λ l. request_for a id 0 ∷ l) bare
 
 -- a buffer keeps its number in a request
-number_kept : (code : Code) (bytes : List ℕ) (p : Paged) → (page_for code bytes p).no ≡ p.no
+pub number_kept : (code : Code) (bytes : List ℕ) (p : Paged) → (page_for code bytes p).no ≡ p.no
 number_kept Asked.Write bytes p = by (nat_le (length bytes) (length p.bytes))
   where
     by : (t : Bool) → (let q : Paged = cond t (record { pool = p.pool; no = p.no; bytes = replaced p.bytes 0 bytes }) p in q.no) ≡ p.no
