@@ -66,10 +66,10 @@ asks_sized (a ∷ asks) each = All-cons (λ (x : Ask). IsSized x.code x) a asks 
 
 -- the pools of the network stand before those of the block class
 pools_before : (plan : Plan) → length (option_map_or (net_pools plan) plan.net []) ≡ first_blk_pool plan
+unfolding net_pools net_client_pools
 pools_before plan = go plan.net
   where
     go : (o : Option Net) → length (option_map_or (net_pools plan) o []) ≡ option_map_or (λ (net : Net). 1 + 2 * length net.client) o 0
-    unfolding net_pools net_client_pools
     go None = refl
     go (Some net) =
         let each : length (each_client (net_client_pools plan) 0 net.client) ≡ 2 * length net.client = each_count (net_client_pools plan) 2 (λ n. 2 * n) (omega arith) (λ n. omega arith) (λ c x. refl) 0 net.client in
