@@ -22,7 +22,7 @@ ghost use Rattle.actor_set.specs.Parts.{Part};
 ghost use Rattle.actor_law.specs.Kinds.{sheet, scene_of, hostiles};
 ghost use Rattle.wired_law.specs.Wiring.{HasWhole};
 ghost use Rattle.cast_core.specs.Casts.{net_place, scene_for};
-ghost use Rattle.play_bound.specs.Standing.{StandsFrom, Carries, serial_first, NetMoves, SerialMoves};
+ghost use Rattle.play_bound.specs.Standing.{StandsFrom, Carries, serial_first, NetMoves, SerialMoves, BlkMoves};
 
 /// Where the rows of a plan's actors hold and its queues hand over in order, each class puts no
 /// more to its queues than its entries have to be moved; so a journal that is legal and brisk is
@@ -44,11 +44,12 @@ pub fn cast_bound_law()
         (queues_of plan) class)
         → SerialMoves plan trace (moved history journal) }
     ensures short { (plan : Plan) (trace : Trace) (cast : List Part) (history : History)
-        (journal : List Entry) → Valid plan → plan.blk ≡ None
+        (journal : List Entry) → Valid plan
         → length cast ≡ length (actors_of plan) → IsPeopled (queues_of plan) (length cast)
         → BellsHold (hostiles cast) history (queues_of plan) []
         → QueuesFlow (hostiles cast) history (queues_of plan) []
         → LegalJournal (hostiles cast) history (queues_of plan) journal
         → Brisk (hostiles cast) no_drops journal → NetMoves plan trace (moved history journal)
-        → SerialMoves plan trace (moved history journal) → length journal < budget_of plan trace }
+        → SerialMoves plan trace (moved history journal)
+        → BlkMoves plan trace (moved history journal) → length journal < budget_of plan trace }
 {}

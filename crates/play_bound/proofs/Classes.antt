@@ -11,14 +11,16 @@ use Rattle.sdf_plan.specs.declared.plan.Net.{Net}
 use Rattle.sdf_plan.specs.declared.plan.NetClient.{NetClient}
 use Rattle.sdf_plan.specs.declared.plan.Serial.{Serial}
 use Rattle.sdf_plan.specs.declared.plan.SerialClient.{SerialClient}
+use Rattle.sdf_plan.specs.declared.plan.Blk.{Blk}
+use Rattle.sdf_plan.specs.declared.plan.BlkClient.{BlkClient}
 use Rattle.trace_text.specs.declared.trace.Trace.{Trace}
 use Rattle.trace_text.specs.Events.{net_clients}
-use Rattle.region_layout.specs.Rows.{queues_of, net_queues, eth_rx_queues, eth_tx_queues, net_rx_queues, net_tx_queues, net_client_queues, lease_queues, client_rx_queues, client_tx_queues, queue_pair, serial_queues, blk_queues, uart_queues, shared_serial_queues, serial_client_queues, each_client}
-use Rattle.expect_core.specs.Budgets.{counts_of, hops_of, clients_or_none}
+use Rattle.region_layout.specs.Rows.{queues_of, net_queues, eth_rx_queues, eth_tx_queues, net_rx_queues, net_tx_queues, net_client_queues, lease_queues, client_rx_queues, client_tx_queues, queue_pair, serial_queues, blk_queues, uart_queues, shared_serial_queues, serial_client_queues, disk_queues, shared_blk_queues, blk_client_queues, each_client}
+use Rattle.expect_core.specs.Budgets.{counts_of, hops_of, clients_or_none, first_read_hops}
 use Rattle.serial_law.specs.Serial.{SerialClass}
 use Rattle.serial_hops.specs.Hops.{put_to, serial_put}
 use Rattle.net_hops.specs.Hops.{net_put}
-use Rattle.play_bound.specs.Standing.{StandsFrom, serial_first, NetMoves, without_net, with_net, SerialMoves, without_serial, with_serial}
+use Rattle.play_bound.specs.Standing.{StandsFrom, serial_first, serial_many, blk_first, NetMoves, without_net, with_net, SerialMoves, without_serial, with_serial, BlkMoves, without_blk, with_blk}
 use Rattle.play_bound.proofs.Sums.{sum_pairs, put_sum}
 use Rattle.net_hops.proofs.Sums.{sum_parts}
 
@@ -45,17 +47,31 @@ rows_of_net : (plan : Plan) (net : Option Net) → length (option_map_or (net_qu
 rows_of_net plan None = refl
 rows_of_net plan (Some net) = net_rows plan net
 
--- the rows of a plan without a block class
-rows_count : (plan : Plan) → plan.blk ≡ None → length (queues_of plan) ≡ serial_first plan.net + length (option_map_or (serial_queues plan) plan.serial [])
+rows_of_serial : (plan : Plan) (serial : Option Serial) → length (option_map_or (serial_queues plan) serial []) ≡ serial_many serial
+rows_of_serial plan None = refl
+rows_of_serial plan (Some serial) = serial_rows plan serial
+
+-- each client of the block class has two queues
+two_each : (plan : Plan) (blk : Blk) (n : ℕ) (clients : List BlkClient) → length (each_client (blk_client_queues plan blk) n clients) ≡ 2 * length clients
+unfolding blk_client_queues queue_pair
+two_each plan blk n [] = refl
+two_each plan blk n (c ∷ cs) = let h = two_each plan blk (n + 1) cs in omega (arith, h)
+
+blk_rows : (plan : Plan) (blk : Blk) → length (blk_queues plan blk) ≡ 4 + 2 * length blk.client
+unfolding blk_queues disk_queues shared_blk_queues queue_pair
+blk_rows plan blk = let h = two_each plan blk 0 blk.client in omega (arith, h)
+
+-- the rows of a plan
+rows_count : (plan : Plan) → length (queues_of plan) ≡ blk_first plan + length (option_map_or (blk_queues plan) plan.blk [])
 unfolding queues_of
-rows_count plan without =
+rows_count plan =
     let front = option_map_or (net_queues plan) plan.net [] in
     let serial = option_map_or (serial_queues plan) plan.serial [] in
-    let none : length (option_map_or (blk_queues plan) plan.blk []) ≡ 0 = ap (λ b. length (option_map_or (blk_queues plan) b [])) without in
     let a = length-append (front ++ serial) (option_map_or (blk_queues plan) plan.blk []) in
     let b = length-append front serial in
     let c = rows_of_net plan plan.net in
-    omega (arith, a, b, c, none)
+    let d = rows_of_serial plan plan.serial in
+    omega (arith, a, b, c, d)
 
 total_sum : {T : Type 0} (lists : List (List T)) → total lists ≡ sum_by length lists
 total_sum [] = refl
@@ -131,24 +147,37 @@ net_within plan trace m (with_net net place is stands few) =
     omega (arith, size, many, few, product, pool, buffers, s, p, b)
 
 -- nor to the serial class's
-serial_within : (plan : Plan) (trace : Trace) (m : Moved) → SerialMoves plan trace m → sum_below (λ n. put_at m (serial_first plan.net + n)) (length (option_map_or (serial_queues plan) plan.serial [])) ≤ 3 * (length trace.input + sum_by length trace.says)
+serial_within : (plan : Plan) (trace : Trace) (m : Moved) → SerialMoves plan trace m → sum_below (λ n. put_at m (serial_first plan.net + n)) (serial_many plan.serial) ≤ 3 * (length trace.input + sum_by length trace.says)
 serial_within plan trace m (without_serial none) =
-    let e : sum_below (λ n. put_at m (serial_first plan.net + n)) (length (option_map_or (serial_queues plan) plan.serial [])) ≡ 0 = ap (λ s. sum_below (λ n. put_at m (serial_first plan.net + n)) (length (option_map_or (serial_queues plan) s []))) none in
+    let e : sum_below (λ n. put_at m (serial_first plan.net + n)) (serial_many plan.serial) ≡ 0 = ap (λ s. sum_below (λ n. put_at m (serial_first plan.net + n)) (serial_many s)) none in
     omega (arith, e)
 serial_within plan trace m (with_serial serial class is stands has few) =
-    let rows : length (option_map_or (serial_queues plan) plan.serial []) ≡ 4 + 2 * length serial.client = ap (λ s. length (option_map_or (serial_queues plan) s [])) is ∙ serial_rows plan serial in
-    let size : sum_below (λ n. put_at m (serial_first plan.net + n)) (length (option_map_or (serial_queues plan) plan.serial [])) ≡ sum_below (λ n. put_at m (serial_first plan.net + n)) (4 + 2 * length serial.client) = ap (sum_below (λ n. put_at m (serial_first plan.net + n))) rows in
+    let size : sum_below (λ n. put_at m (serial_first plan.net + n)) (serial_many plan.serial) ≡ sum_below (λ n. put_at m (serial_first plan.net + n)) (4 + 2 * length serial.client) = ap (λ s. sum_below (λ n. put_at m (serial_first plan.net + n)) (serial_many s)) is in
     let all = put_all m (serial_first plan.net) (length serial.client) class stands in
     let i : length class.input ≡ length trace.input = ap length has.input in
     let s : total class.scripts ≡ total trace.says = ap total has.scripts in
     let t = total_sum trace.says in
     omega (arith, size, all, few, i, s, t)
 
-pub classes_within : (plan : Plan) (trace : Trace) (history : History) (journal : List Entry) → plan.blk ≡ None → NetMoves plan trace (moved history journal) → SerialMoves plan trace (moved history journal) → all_sent history (queues_of plan) journal ≤ hops_of (counts_of plan trace)
-classes_within plan trace history journal without net serial =
-    let m = moved history journal in
-    let size : all_sent history (queues_of plan) journal ≡ sum_below (put_at (moved history journal)) (serial_first plan.net + length (option_map_or (serial_queues plan) plan.serial [])) = ap (sum_below (put_at (moved history journal))) (rows_count plan without) in
-    let parts = sum_parts (put_at (moved history journal)) (serial_first plan.net) (length (option_map_or (serial_queues plan) plan.serial [])) in
+-- nor to the block class's
+blk_within : (plan : Plan) (trace : Trace) (m : Moved) → BlkMoves plan trace m → sum_below (λ n. put_at m (blk_first plan + n)) (length (option_map_or (blk_queues plan) plan.blk [])) ≤ 6 * sum_by length trace.asks + first_read_hops (option_map (λ (blk : Blk). length blk.client) plan.blk)
+blk_within plan trace m (without_blk none) =
+    let e : sum_below (λ n. put_at m (blk_first plan + n)) (length (option_map_or (blk_queues plan) plan.blk [])) ≡ 0 = ap (λ b. sum_below (λ n. put_at m (blk_first plan + n)) (length (option_map_or (blk_queues plan) b []))) none in
+    omega (arith, e)
+blk_within plan trace m (with_blk blk is many few) =
+    let rows : length (option_map_or (blk_queues plan) plan.blk []) ≡ 4 + 2 * length trace.asks = ap (λ b. length (option_map_or (blk_queues plan) b [])) is ∙ (blk_rows plan blk ∙ ap (λ n. 4 + 2 * n) (sym many)) in
+    let size : sum_below (λ n. put_at m (blk_first plan + n)) (length (option_map_or (blk_queues plan) plan.blk [])) ≡ sum_below (λ n. put_at m (blk_first plan + n)) (4 + 2 * length trace.asks) = ap (sum_below (λ n. put_at m (blk_first plan + n))) rows in
+    let read : first_read_hops (option_map (λ (b : Blk). length b.client) plan.blk) ≡ 4 = ap (λ b. first_read_hops (option_map (λ (x : Blk). length x.client) b)) is in
+    omega (arith, size, few, read)
+
+pub classes_within : (plan : Plan) (trace : Trace) (history : History) (journal : List Entry) → NetMoves plan trace (moved history journal) → SerialMoves plan trace (moved history journal) → BlkMoves plan trace (moved history journal) → all_sent history (queues_of plan) journal ≤ hops_of (counts_of plan trace)
+classes_within plan trace history journal net serial blk =
+    let f = put_at (moved history journal) in
+    let many = length (option_map_or (blk_queues plan) plan.blk []) in
+    let size : all_sent history (queues_of plan) journal ≡ sum_below f (blk_first plan + many) = ap (sum_below f) (rows_count plan) in
+    let parts = sum_parts f (blk_first plan) many in
+    let fronts = sum_parts f (serial_first plan.net) (serial_many plan.serial) in
     let a = net_within plan trace (moved history journal) net in
     let b = serial_within plan trace (moved history journal) serial in
-    omega (arith, size, parts, a, b)
+    let c = blk_within plan trace (moved history journal) blk in
+    omega (arith, size, parts, fronts, a, b, c)

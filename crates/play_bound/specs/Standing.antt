@@ -4,6 +4,7 @@ use Rattle.sdf_plan.specs.declared.plan.Plan.{Plan}
 use Rattle.sdf_plan.specs.declared.plan.Net.{Net}
 use Rattle.sdf_plan.specs.declared.plan.NetClient.{NetClient}
 use Rattle.sdf_plan.specs.declared.plan.Serial.{Serial}
+use Rattle.sdf_plan.specs.declared.plan.Blk.{Blk}
 use Rattle.trace_text.specs.declared.trace.Trace.{Trace}
 use Rattle.play_core.specs.Moved.{Moved}
 use Rattle.serial_law.specs.Serial.{SerialClass}
@@ -11,6 +12,7 @@ use Rattle.serial_hops.specs.Hops.{serial_put, serial_bytes}
 use Rattle.net_owners.specs.Names.{ClientPools}
 use Rattle.net_tx_parts.specs.Numbers.{NetPlace}
 use Rattle.net_hops.specs.Hops.{net_put, net_moves, script_frames}
+use Rattle.blk_hops.specs.Hops.{blk_put, blk_moves}
 
 -- the queues of the class stand one behind the other from a number on: two at its device, two at
 -- the driver's other side, and then two for each of so many clients
@@ -58,3 +60,19 @@ pub data SerialMoves (plan : Plan) (trace : Trace) (m : Moved) : Type 0 where
   with_serial : (serial : Serial) (class : SerialClass) → plan.serial ≡ Some serial
       → StandsFrom (serial_first plan.net) (length serial.client) class → Carries trace class
       → serial_put class m ≤ 3 * serial_bytes class → SerialMoves plan trace m
+
+-- how many queues the serial class of a plan has
+abbrev pub serial_many : Option Serial → ℕ
+serial_many None = 0
+serial_many (Some serial) = 4 + 2 * length serial.client
+
+-- the number of the first queue of the block class: the others' stand before it
+abbrev pub blk_first : Plan → ℕ
+blk_first plan = serial_first plan.net + serial_many plan.serial
+
+-- and so of the block class
+pub data BlkMoves (plan : Plan) (trace : Trace) (m : Moved) : Type 0 where
+  without_blk : plan.blk ≡ None → BlkMoves plan trace m
+  with_blk : (blk : Blk) → plan.blk ≡ Some blk → length trace.asks ≡ length blk.client
+      → blk_put (blk_first plan) (length trace.asks) m ≤ blk_moves trace.asks
+      → BlkMoves plan trace m

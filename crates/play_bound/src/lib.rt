@@ -2,7 +2,7 @@
 //! its trace is more than the calls that are made.
 #![tactic(auto)]
 
-ghost use Rattle.std.specs.Prelude.{◌≡◌, ◌<◌, ◌≤◌, None, List, [], length};
+ghost use Rattle.std.specs.Prelude.{◌<◌, ◌≤◌, List, [], length};
 ghost use Rattle.wire_core.specs.declared.names.Entry.{Entry};
 ghost use Rattle.wire_core.specs.Journal.{History, Hostiles, LegalJournal, BellsHold, QueuesFlow};
 ghost use Rattle.wire_core.specs.Marks.{no_drops, Brisk, AreOwned, all_sent};
@@ -13,12 +13,11 @@ ghost use Rattle.sdf_check.specs.Valid.{Valid};
 ghost use Rattle.trace_text.specs.declared.trace.Trace.{Trace};
 ghost use Rattle.region_layout.specs.Rows.{queues_of, actors_of};
 ghost use Rattle.expect_core.specs.Budgets.{counts_of, hops_of, budget_of};
-ghost use Rattle.play_bound.specs.Standing.{NetMoves, SerialMoves};
+ghost use Rattle.play_bound.specs.Standing.{NetMoves, SerialMoves, BlkMoves};
 
 /// Where no more was put to the queues of a plan than the hops that its budget counts, a journal
-/// that is legal and brisk is shorter than the budget. In a plan of the network and the serial
-/// class, or of one of them, or of none, no more is put where each class that is there puts no more
-/// than its entries have to be moved.
+/// that is legal and brisk is shorter than the budget. No more is put where each class that the plan
+/// has puts no more than its entries have to be moved.
 pub fn bound_law()
     ensures bounded { (plan : Plan) (trace : Trace) (hostile : Hostiles) (history : History)
         (journal : List Entry) → Valid plan → AreCalm hostile (queues_of plan)
@@ -29,7 +28,8 @@ pub fn bound_law()
         → all_sent history (queues_of plan) journal ≤ hops_of (counts_of plan trace)
         → length journal < budget_of plan trace }
     ensures classes { (plan : Plan) (trace : Trace) (history : History) (journal : List Entry)
-        → plan.blk ≡ None → NetMoves plan trace (moved history journal)
+        → NetMoves plan trace (moved history journal)
         → SerialMoves plan trace (moved history journal)
+        → BlkMoves plan trace (moved history journal)
         → all_sent history (queues_of plan) journal ≤ hops_of (counts_of plan trace) }
 {}

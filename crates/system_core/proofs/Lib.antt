@@ -16,4 +16,5 @@ pub mod Begun
 pub mod Networking
 pub mod Crewing
 pub mod Built
+pub mod Quieting
 pub mod Together

@@ -1,4 +1,4 @@
-use Rattle.std.proofs.Common.{◌≡◌, ◌≤◌, ◌<◌, ℕ, Some, List, [], length, map, slice_get, refl, sym, ap, ◌∙◌, subst, arith}
+use Rattle.std.proofs.Common.{◌≡◌, ◌+◌, ◌<◌, ℕ, Some, List, [], length, map, slice_get, sym, ap, ◌∙◌, subst, arith}
 use Rattle.std.proofs.lemmas.List.{length-map}
 use Rattle.std.specs.Option.{option_map_or}
 use Rattle.cargo_core.specs.Lists.{IsPrefix, PrefixMerge}
@@ -10,12 +10,16 @@ use Rattle.trace_text.specs.declared.trace.Trace.{Trace}
 use Rattle.trace_text.specs.Events.{net_clients}
 use Rattle.region_layout.specs.Rows.{eth_number}
 use Rattle.net_expect.specs.Expecting.{frames_for}
-use Rattle.net_parts.specs.Numbers.{device_at}
+use Rattle.net_parts.specs.Numbers.{client_first, device_at}
 use Rattle.net_tx_parts.specs.Numbers.{NetPlace, own_pools}
 use Rattle.net_tx_cast.specs.Casting.{sends_at}
 use Rattle.job_law.specs.Jobs as jobs
 use Rattle.play_core.specs.Sheets.{Scene}
-use Rattle.play_core.proofs.Lists.{some_is, map_get, there_is}
+use Rattle.play_core.specs.Totals.{total}
+use Rattle.play_core.proofs.Lists.{map_get, there_is}
+use Rattle.play_core.proofs.Merges.{prefix_merge_whole}
+use Rattle.play_core.proofs.OneQueue.{whole_prefix}
+use Rattle.net_quiet.specs.Still.{ArrivesAll, SendsAll}
 use Rattle.actor_set.specs.Parts.{NetworkPart}
 use Rattle.actor_law.specs.Kinds.{scene_of}
 use Rattle.wired_law.specs.Wiring.{HasWhole}
@@ -24,12 +28,12 @@ use Rattle.cast_core.specs.Sources.{client_mac, client_program}
 use Rattle.cast_core.proofs.Listing.{value_count, value_at, value_is}
 use Rattle.seat_law.specs.Named.{AreNetNamed}
 use Rattle.seat_law.proofs.Naming.{net_named}
-use Rattle.system_core.specs.Shows.{Crew, Shown}
+use Rattle.system_core.specs.Shows.{Crew, Shown, moved_in}
 use Rattle.system_core.specs.States.{crew_of, nobody}
 use Rattle.system_core.specs.Lawful.{IsTold, TellsFrames}
 use Rattle.system_core.specs.Crews.{number_named}
 use Rattle.system_core.specs.Builds.{IsCastOf}
-use Rattle.system_core.specs.PlanPlays.{ShowsFrames}
+use Rattle.system_core.specs.PlanPlays.{ShowsFrames, ShowsAllFrames}
 use Rattle.system_core.proofs.Scripts.{nets}
 
 -- what is seen of the network class is what its frames bring
@@ -56,7 +60,7 @@ module _ (plan : Plan) (net : Net) (trace : Trace) (s : Shown) (cast : IsCastOf 
   many : length (net_clients plan) ≡ length net.client
   many = ap length (nets plan net has)
 
-  record_is : (c : ℕ) (mac : Mac) (got : List (List ℕ)) → slice_get place.macs c ≡ Some mac → slice_get s.state.net c ≡ Some got → IsPrefix got (frames_for mac trace.frames)
+  record_is : (c : ℕ) (mac : Mac) (got : List (List ℕ)) → slice_get place.macs c ≡ Some mac → slice_get s.state.net c ≡ Some got → IsPrefix got (frames_for mac trace.frames) × (length got ≡ length ((moved_in s.setting s.journal).taken (client_first 0 c + 2)))
   record_is c mac got address at =
       let a = value_is (length (net_clients plan)) (client_mac plan) c mac address in
       let below : c < length (net_clients plan) = a.0 in
@@ -66,17 +70,40 @@ module _ (plan : Plan) (net : Net) (trace : Trace) (s : Shown) (cast : IsCastOf 
       let part = cast.parts (jobs.NetClient c) (number_named plan client.0.pd) (named.client c client.0 client.1) in
       let some = whole.some c (client_pools plan c) (value_at (length (net_clients plan)) (client_pools plan) c below) in
       let is = tells.records c (number_named plan client.0.pd) c (client_program plan trace c) (client_mac plan c) (own_pools (client_pools plan c)) got number part some (value_at (length (net_clients plan)) (client_mac plan) c below) at in
-      subst (λ m. IsPrefix got (frames_for m trace.frames)) (sym a.1) (subst (λ fs. IsPrefix got (frames_for (client_mac plan c) fs)) frames is)
+      (subst (λ m. IsPrefix got (frames_for m trace.frames)) (sym a.1) (subst (λ fs. IsPrefix got (frames_for (client_mac plan c) fs)) frames is.0), is.1)
 
-  wire_is : (sent : List (List ℕ)) × (s.state.wire ≡ Some sent) × PrefixMerge (sends_at place.programs place.macs trace.frames) sent
+  wire_is : (sent : List (List ℕ)) × (s.state.wire ≡ Some sent) × PrefixMerge (sends_at place.programs place.macs trace.frames) sent × (length sent ≡ length ((moved_in s.setting s.journal).taken 2))
   wire_is =
       let part = cast.parts jobs.EthDevice (eth_number plan).0 named.device in
       let w = tells.wire (eth_number plan).0 (ap (λ (c : Crew). c.device) who) (part ∙ ap (λ fs. Some (NetworkPart (device_at 0 fs))) (sym frames)) in
-      (w.0, w.1, subst (λ fs. PrefixMerge (sends_at place.programs place.macs fs) w.0) frames w.2)
+      (w.0, w.1, subst (λ fs. PrefixMerge (sends_at place.programs place.macs fs) w.0) frames w.2, w.3)
 
   pub shows_frames : ShowsFrames place trace.frames s.state
   shows_frames = record {
     count_is = told.net ∙ (ap (λ (c : Crew). length c.clients) who ∙ (length-map net.client (λ (k : Client). number_named plan k.pd) ∙ (sym many ∙ sym (value_count (length (net_clients plan)) (client_mac plan)))));
-    records = record_is;
-    wire = wire_is;
+    records = λ c mac got address at. (record_is c mac got address at).0;
+    wire = (wire_is.0, wire_is.1, wire_is.2);
   }
+
+  -- where all frames went through, all are seen
+  module _ (arrives : ArrivesAll (scene_of s.setting.cast) place (moved_in s.setting s.journal)) (sends : SendsAll (scene_of s.setting.cast) place (moved_in s.setting s.journal)) where
+    record_whole : (c : ℕ) (mac : Mac) (got : List (List ℕ)) → slice_get place.macs c ≡ Some mac → slice_get s.state.net c ≡ Some got → got ≡ frames_for mac trace.frames
+    record_whole c mac got address at =
+        let is = record_is c mac got address at in
+        let all = arrives.got c mac address in
+        let same = ap (λ fs. length (frames_for mac fs)) frames in
+        let long = is.1 in
+        whole_prefix got (frames_for mac trace.frames) is.0 (omega (arith, long, all, same))
+
+    pub shows_all_frames : ShowsAllFrames place trace.frames s.state
+    shows_all_frames = record {
+      records = record_whole;
+      wire = (
+        wire_is.0,
+        wire_is.1,
+        (let all = sends.wire in
+            let same = ap (λ fs. total (sends_at place.programs place.macs fs)) frames in
+            let long = wire_is.3 in
+            prefix_merge_whole (sends_at place.programs place.macs trace.frames) wire_is.0 wire_is.2 (omega (arith, long, all, same))),
+      );
+    }

@@ -1,11 +1,11 @@
-use Rattle.std.proofs.Common.{◌≡◌, ◌≤◌, ◌++◌, ℕ, Some, List, [], length, refl, sym, ap, ◌∙◌, subst, arith}
-use Rattle.std.proofs.lemmas.List.{length-map}
+use Rattle.std.proofs.Common.{◌≡◌, ◌≤◌, ◌++◌, ℕ, Some, None, List, [], length, sym, ap, ◌∙◌, subst}
 use Rattle.wire_core.specs.declared.names.QueueRow.{QueueRow}
 use Rattle.wire_core.specs.declared.names.Entry.{Entry}
 use Rattle.wire_core.specs.Picks.{PickedFrom}
-use Rattle.wire_core.specs.Journal.{History, Hostiles, EachMoment, BellsHold, QueuesFlow}
+use Rattle.wire_core.specs.Journal.{History, Hostiles, EachMoment, QueuesFlow}
 use Rattle.sdf_plan.specs.declared.plan.Plan.{Plan}
 use Rattle.sdf_plan.specs.declared.plan.Serial.{Serial}
+use Rattle.sdf_check.specs.Valid.{Valid}
 use Rattle.trace_text.specs.declared.trace.Trace.{Trace}
 use Rattle.trace_text.specs.Traces.{IsReadFor}
 use Rattle.play_core.specs.Moved.{Moved, moved}
@@ -13,23 +13,24 @@ use Rattle.play_core.specs.Wants.{Needful}
 use Rattle.play_core.specs.Sheets.{Sheet, needful}
 use Rattle.play_core.specs.Still.{IsStill, Plays}
 use Rattle.play_core.proofs.Moments.{last_moment, each_moment}
-use Rattle.play_core.proofs.Quieting.{quiet_still}
 use Rattle.play_core.proofs.Tables.{plays_there}
 use Rattle.serial_law.specs.Parts.{SerialPart}
 use Rattle.serial_law.specs.Table.{serial_sheet}
 use Rattle.serial_law.specs.Serial.{SerialClass, IsSerial, ArrivesInPart, ArrivesWhole}
 use Rattle.serial_law.proofs.Arrivals.{as_there, RowAt}
 use Rattle.actor_law.specs.Kinds.{serial_part, scene_of}
-use Rattle.system_core.specs.Shows.{Setting, Shown, manner_in, hostile_in, sheet_in, moved_in, runs, RowsStand}
+use Rattle.system_core.specs.Shows.{Setting, Shown, hostile_in, sheet_in, moved_in, runs, RowsStand}
 use Rattle.system_core.specs.Plays.{Played, runnable_now}
 use Rattle.system_core.specs.Lawful.{StandsLawful}
-use Rattle.system_core.specs.Builds.{IsBuilt, IsCastOf, BeginsAnew, serial_class}
+use Rattle.system_core.specs.Builds.{unplayed, IsBuilt, IsCastOf, BeginsAnew, serial_class}
 use Rattle.system_core.specs.PlanPlays.{IsPlayed, IsPlayedOn}
 use Rattle.actor_law.proofs.Calm.{calm_actor, sheet_is}
 use Rattle.system_core.proofs.Scripts.{scripts_length}
 use Rattle.cast_core.specs.Sources.{first_serial}
 use Rattle.system_core.proofs.Casting.{HasSerial, has_serial}
 use Rattle.system_core.proofs.Networking.{shows_frames}
+use Rattle.system_core.proofs.Quieting.{still_now, shows_whole_net}
+use Rattle.system_core.proofs.Built.{no_blk}
 use Rattle.system_core.proofs.Begun.{There, serial_there, shows_in_part, shows_whole}
 
 -- what is said of a part of the serial class, as one of all
@@ -66,17 +67,9 @@ module _ (s : Shown) (stands : StandsLawful s) (class : SerialClass) (there : Is
   abbrev actors : Needful
   actors = needful (sheet_in s.setting) s.setting.cast (moved_in s.setting s.journal)
 
-  still : runnable_now s ≡ [] → IsStill (hostile_in s.setting) s.setting.history s.setting.rows actors s.journal
-  still quiet = quiet_still (manner_in s.setting) s.setting.history s.setting.rows actors s.journal (record {
-    bells_hold = last_moment (BellsHold (hostile_in s.setting) s.setting.history s.setting.rows) s.journal stands.lawful.bells_hold;
-    flows = last_moment (QueuesFlow (hostile_in s.setting) s.setting.history s.setting.rows) s.journal stands.lawful.flows;
-    peopled = λ n row at r. let lt = stands.fitted.peopled n row at r in let size = length-map s.setting.cast (λ p. (sheet_in s.setting p).wants (moved_in s.setting s.journal)) in omega (arith, lt, size);
-    quiet = quiet;
-  })
-
   arrives_whole : LawWhole → runnable_now s ≡ [] → ArrivesWhole class (moved_in s.setting s.journal)
   arrives_whole law quiet =
-      law (hostile_in s.setting) s.setting.history s.setting.rows actors s.journal class (still quiet)
+      law (hostile_in s.setting) s.setting.history s.setting.rows actors s.journal class (still_now s stands quiet)
       (as_there (There s.setting) (λ p. Plays (hostile_in s.setting) actors (moved_in s.setting s.journal) (serial_sheet p))
       (λ p at. plays_as s.setting (hostile_in s.setting) actors (moved_in s.setting s.journal) p (plays_there (sheet_in s.setting) (hostile_in s.setting) s.setting.cast (moved_in s.setting s.journal) (last_moment (RowsStand s.setting) s.journal stands.lawful.rows_hold) at.0 (serial_part p) (calm_actor s.setting.cast at.0) at.1))
       (hostile_in s.setting) s.setting.rows class there)
@@ -91,7 +84,7 @@ module _ (old new : Shown) (seed limit : ℕ) (none : old.journal ≡ []) (playe
       subst (λ z. PickedFrom (runs z) seed [] new.journal) (sym played.setting)
       (subst (λ j. PickedFrom (runs old.setting) seed [] j) more_is (subst (λ j. PickedFrom (runs old.setting) seed j played.more) none played.picked))
 
-  module _ (plan : Plan) (trace : Trace) (read : IsReadFor plan trace) (cast : IsCastOf plan trace old.setting) (stands : StandsLawful new) (part : LawInPart) (whole : LawWhole) where
+  module _ (plan : Plan) (valid : Valid plan) (played_all : unplayed plan ≡ None) (trace : Trace) (read : IsReadFor plan trace) (cast : IsCastOf plan trace old.setting) (stands : StandsLawful new) (part : LawInPart) (whole : LawWhole) where
     cast_is : IsCastOf plan trace new.setting
     cast_is = subst (IsCastOf plan trace) (sym played.setting) cast
 
@@ -118,11 +111,12 @@ module _ (old new : Shown) (seed limit : ℕ) (none : old.journal ≡ []) (playe
       shows = λ serial has. shows_in_part plan serial (first_serial plan) trace new (class_is serial has) (says serial has) stands.told (arrives_now new stands (class serial has) (there serial has) part);
       shows_net = λ net has. shows_frames plan net trace new cast_is has stands.told;
       whole = λ quiet serial has. shows_whole plan serial (first_serial plan) trace new (class_is serial has) (says serial has) stands.told (arrives_whole new stands (class serial has) (there serial has) whole quiet);
+      whole_net = λ quiet net has. shows_whole_net new stands quiet plan valid (no_blk plan played_all) net has trace cast_is;
     }
 
 -- one that was built begins with nothing
-pub together : (old new : Shown) (seed limit : ℕ) → Played old new seed limit → (plan : Plan) (trace : Trace) → IsReadFor plan trace → IsBuilt plan trace old → StandsLawful new → LawInPart → LawWhole → IsPlayed plan trace seed limit new
-together old new seed limit played plan trace read built stands part whole = record {
+pub together : (old new : Shown) (seed limit : ℕ) → Played old new seed limit → (plan : Plan) → Valid plan → unplayed plan ≡ None → (trace : Trace) → IsReadFor plan trace → IsBuilt plan trace old → StandsLawful new → LawInPart → LawWhole → IsPlayed plan trace seed limit new
+together old new seed limit played plan valid played_all trace read built stands part whole = record {
   begins = subst BeginsAnew (sym played.setting) built.begins;
-  played = played_on old new seed limit built.journal played plan trace read built.cast stands part whole;
+  played = played_on old new seed limit built.journal played plan valid played_all trace read built.cast stands part whole;
 }

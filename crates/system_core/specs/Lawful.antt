@@ -1,6 +1,6 @@
 -- What holds of every system, however it was built and played: its seats, its journal at each
 -- moment, and what is seen of it.
-use Rattle.std.specs.Prelude.{◌≡◌, ◌≤◌, ℕ, Some, is_some, List, [], length, map, slice_get}
+use Rattle.std.specs.Prelude.{◌≡◌, ◌+◌, ◌≤◌, ℕ, Some, is_some, List, [], length, map, slice_get}
 use Rattle.std.specs.Option.{option_map, option_map_or}
 use Rattle.wire_core.specs.declared.names.QueueRow.{QueueRow}
 use Rattle.wire_core.specs.declared.names.Entry.{Entry}
@@ -11,7 +11,7 @@ use Rattle.cargo_core.specs.Lists.{IsPrefix, PrefixMerge}
 use Rattle.frame_core.specs.declared.mac.Mac.{Mac}
 use Rattle.net_expect.specs.Expecting.{Program, frames_for}
 use Rattle.net_owners.specs.Names.{ClientPools}
-use Rattle.net_parts.specs.Numbers.{device_at, client_at}
+use Rattle.net_parts.specs.Numbers.{client_first, device_at, client_at}
 use Rattle.net_tx_parts.specs.Numbers.{NetPlace}
 use Rattle.net_tx_cast.specs.Casting.{sends_at}
 use Rattle.play_core.specs.Moved.{Seat}
@@ -56,8 +56,8 @@ record_at s k = option_map_or (record_by (moved_in s.setting s.journal))
     (slice_get s.setting.cast k) []
 
 -- at a place of the network the record of a client that has buffers is a beginning of the frames for
--- its address, and what was sent on the device's wire is a merge of beginnings of what the clients
--- send
+-- its address, a frame for each entry that it took; and what was sent on the device's wire is a
+-- merge of beginnings of what the clients send, likewise a frame for each entry that it took
 pub record TellsFrames (s : Shown) (net : NetPlace) : Type 0 where
   pub records : (c k j : ℕ) (program : Program) (mac : Mac) (pools : ClientPools)
       (got : List (List ℕ)) → slice_get s.setting.net.clients c ≡ Some k
@@ -65,11 +65,14 @@ pub record TellsFrames (s : Shown) (net : NetPlace) : Type 0 where
       ≡ Some (NetworkPart (client_at net.first j program mac pools))
       → 1 ≤ pools.rx.buffers → slice_get net.macs j ≡ Some mac → slice_get s.state.net c ≡ Some got
       → IsPrefix got (frames_for mac (scene_of s.setting.cast).frames)
+      × (length got
+      ≡ length ((moved_in s.setting s.journal).taken (client_first net.first j + 2)))
   pub wire : (k : ℕ) → s.setting.net.device ≡ Some k
       → slice_get s.setting.cast k
       ≡ Some (NetworkPart (device_at net.first (scene_of s.setting.cast).frames))
       → (sent : List (List ℕ)) × (s.state.wire ≡ Some sent)
       × PrefixMerge (sends_at net.programs net.macs (scene_of s.setting.cast).frames) sent
+      × (length sent ≡ length ((moved_in s.setting s.journal).taken (net.first + 2)))
 
 -- line and records are what the journal says that device and clients took; those of the network,
 -- whose frames no journal has, are what its place says of them

@@ -46,6 +46,14 @@ pub record ShowsFrames (net : NetPlace) (frames : List (List ℕ)) (s : State) :
   pub wire : (sent : List (List ℕ)) × (s.wire ≡ Some sent) × PrefixMerge
       (sends_at net.programs net.macs frames) sent
 
+-- each network client recorded all frames for its address, and what was sent on the wire is a merge
+-- of all that the clients send
+pub record ShowsAllFrames (net : NetPlace) (frames : List (List ℕ)) (s : State) : Type 0 where
+  pub records : (c : ℕ) (mac : Mac) (got : List (List ℕ)) → slice_get net.macs c ≡ Some mac
+      → slice_get s.net c ≡ Some got → got ≡ frames_for mac frames
+  pub wire : (sent : List (List ℕ)) × (s.wire ≡ Some sent) × Merge
+      (sends_at net.programs net.macs frames) sent
+
 -- the system of a plan and a trace, whatever its queues had before its journal begins, after a seed
 -- picked its steps, at most so many
 pub record IsPlayedOn (plan : Plan) (trace : Trace) (seed limit : ℕ) (s : Shown) : Type 0 where
@@ -63,6 +71,9 @@ pub record IsPlayedOn (plan : Plan) (trace : Trace) (seed limit : ℕ) (s : Show
   -- where nobody is runnable, all bytes of the serial class arrived
   pub whole : runnable_now s ≡ [] → (serial : Serial) → plan.serial ≡ Some serial
       → ShowsWhole (length serial.client) trace s.state
+  -- and all frames of the network
+  pub whole_net : runnable_now s ≡ [] → (net : Net) → plan.net ≡ Some net
+      → ShowsAllFrames (net_place plan trace) trace.frames s.state
 
 -- the same from the start state on, before which nothing happened
 pub record IsPlayed (plan : Plan) (trace : Trace) (seed limit : ℕ) (s : Shown) : Type 0 where
