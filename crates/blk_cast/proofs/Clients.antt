@@ -242,24 +242,20 @@ module _ (place : BlkPlace) (passed : Passed) (h : IsBlkCast place passed) where
         let e = ap (λ n. length (passed.sent n)) s.6 in
         omega (arith, a, b, c, d, e)
 
+    pub client_none : (c : BlkClient) → IsAskingClient place k asks pool c passed → (came stray : List Cargo) → passed.taken (resp_queue c) ≡ came ++ stray → ((stray ≡ [] → ⊥) → length (passed.sent (req_queue c)) ≤ length came) → stray ≡ []
+    client_none c is came [] whole out = refl
+    client_none c is came (x ∷ xs) whole out =
+        let own = client_queues place.first k asks pool c is.part in
+        let low = out (λ none. absurd cc) in
+        let all = ap length whole in
+        let parts_long = length-append came (x ∷ xs) in
+        let few = client_few in
+        let a = ap (λ n. length (passed.taken n)) own.1 in
+        let b = ap (λ n. length (passed.sent n)) own.0 in
+        absurd (omega (arith, low, all, parts_long, few, a, b))
+
     pub client_in_turn : (c : BlkClient) → IsAskingClient place k asks pool c passed → (row : BlkClientRow c passed) → row.stray ≡ []
-    client_in_turn c is row = by row.stray refl
-      where
-        by : (l : List Cargo) → row.stray ≡ l → row.stray ≡ []
-        by [] e = e
-        by (x ∷ xs) e =
-            let own = client_queues place.first k asks pool c is.part in
-            let out = row.out_of_turn (λ none. some_there x xs (sym e ∙ none)) in
-            let whole = ap length row.taken in
-            let parts_long = length-append row.came row.stray in
-            let one = ap length e in
-            let few = client_few in
-            let a = ap (λ n. length (passed.taken n)) own.1 in
-            let b = ap (λ n. length (passed.sent n)) own.0 in
-            absurd (omega (arith, out, whole, parts_long, one, few, a, b))
-          where
-            some_there : (x : Cargo) (xs : List Cargo) → x ∷ xs ≡ [] → ⊥
-            some_there x xs none = cc
+    client_in_turn c is row = client_none c is row.came row.stray row.taken row.out_of_turn
 
     -- and its own buffers, as long as they were
     pub back_own : AllAsk place passed → (j : ℕ) (y : Cargo) → slice_get (passed.taken resp_at) j ≡ Some y → IsOfPool pool y.1 × IsWhole y.1

@@ -152,21 +152,20 @@ module _ (place : BlkPlace) (passed : Passed) (h : IsBlkCast place passed) where
   pub sector_is : (y : Cargo) → slice_get T 0 ≡ Some y → sector_of y.1 ≡ take 512 image
   sector_is y at = ap (λ (x : Cargo). sector_of x.1) (first_answer h.virt_row y at) ∙ sector_read image v.work.opening.base h.virt_row.start block_there h.virt_row.long
 
+  pub virt_none : (back stray : List Cargo) → T ≡ back ++ stray → All (IsOutOfTurn S back) stray → stray ≡ []
+  virt_none back [] whole out = refl
+  virt_none back (y ∷ ys) whole out =
+      let at : slice_get T (length back) ≡ Some y = ap (λ l. slice_get l (length back)) whole ∙ get_next back y ys in
+      let r = response_at (length back) y at in
+      let named : page_named y.1 ≡ page_named r.0.1 = ap (λ (z : Cargo). page_named z.1) (sym r.3) ∙ answer_named r.1 r.0 in
+      let sector : length back ≡ 0 → has_sector y.1 ≡ true = λ none.
+      let first : slice_get T 0 ≡ Some y = ap (slice_get T) (sym none) ∙ at in
+      ap (λ (x : Cargo). has_sector x.1) (first_answer h.virt_row y first) ∙ has_read image v.work.opening.base h.virt_row.start block_there h.virt_row.long in
+      let here : IsOutOfTurn S back y = all_at (IsOutOfTurn S back) (y ∷ ys) out 0 y refl in
+      absurd (not_out S back r.0 y r.2 named sector here)
+
   pub virt_in_turn : (row : BlkVirtRow v passed) → row.stray ≡ []
-  virt_in_turn row = by row.stray refl row.out_of_turn
-    where
-      by : (l : List Cargo) → row.stray ≡ l → All (IsOutOfTurn S row.back) row.stray → row.stray ≡ []
-      by [] is out = is
-      by (y ∷ ys) is out =
-          let whole : T ≡ row.back ++ y ∷ ys = row.taken ∙ ap (λ l. row.back ++ l) is in
-          let at : slice_get T (length row.back) ≡ Some y = ap (λ l. slice_get l (length row.back)) whole ∙ get_next row.back y ys in
-          let r = response_at (length row.back) y at in
-          let named : page_named y.1 ≡ page_named r.0.1 = ap (λ (z : Cargo). page_named z.1) (sym r.3) ∙ answer_named r.1 r.0 in
-          let sector : length row.back ≡ 0 → has_sector y.1 ≡ true = λ none.
-          let first : slice_get T 0 ≡ Some y = ap (slice_get T) (sym none) ∙ at in
-          ap (λ (x : Cargo). has_sector x.1) (first_answer row y first) ∙ has_read image v.work.opening.base row.start block_there row.long in
-          let here : IsOutOfTurn S row.back y = all_at (IsOutOfTurn S row.back) row.stray out 0 y (ap (λ l. slice_get l 0) is) in
-          absurd (not_out S row.back r.0 y r.2 named sector here)
+  virt_in_turn row = virt_none row.back row.stray row.taken row.out_of_turn
 
   abbrev pub parts : ℕ → Option Part
   parts entry = partition_in image entry
@@ -233,14 +232,13 @@ module _ (place : BlkPlace) (passed : Passed) (h : IsBlkCast place passed) where
         let kind = h.requests (suc n) x (ap (λ m. slice_get (passed.sent m) (suc n)) (sym virtualised.0) ∙ at) in
         sym (stray_same image 0 x kind) ∙ (ap (is_stray image) (sym f.2) ∙ goes_fits image g g.partition f.0 kept.0 whole)
 
+    pub disk_none : (requests stray : List Cargo) → passed.taken (disk.req h.disk) ≡ requests ++ stray → All (λ (x : Cargo). is_stray image x ≡ true) stray → stray ≡ []
+    disk_none requests [] whole out = refl
+    disk_none requests (x ∷ xs) whole out =
+        let at : slice_get (passed.taken (disk.req h.disk)) (length requests) ≡ Some x = ap (λ l. slice_get l (length requests)) whole ∙ get_next requests x xs in
+        let good = request_good (length requests) x (prefix_get (passed.taken (disk.req h.disk)) S asked (length requests) x at) in
+        let bad : is_stray image x ≡ true = all_at (λ (y : Cargo). is_stray image y ≡ true) (x ∷ xs) out 0 x refl in
+        absurd cc
+
     pub disk_in_turn : (row : disk.DiskRow image h.disk passed) → row.stray ≡ []
-    disk_in_turn row = by row.stray refl row.out_of_turn
-      where
-        by : (l : List Cargo) → row.stray ≡ l → All (λ (x : Cargo). is_stray image x ≡ true) row.stray → row.stray ≡ []
-        by [] is out = is
-        by (x ∷ xs) is out =
-            let whole : passed.taken (disk.req h.disk) ≡ row.requests ++ x ∷ xs = row.taken ∙ ap (λ l. row.requests ++ l) is in
-            let at : slice_get (passed.taken (disk.req h.disk)) (length row.requests) ≡ Some x = ap (λ l. slice_get l (length row.requests)) whole ∙ get_next row.requests x xs in
-            let good = request_good (length row.requests) x (prefix_get (passed.taken (disk.req h.disk)) S asked (length row.requests) x at) in
-            let bad : is_stray image x ≡ true = all_at (λ (y : Cargo). is_stray image y ≡ true) row.stray out 0 x (ap (λ l. slice_get l 0) is) in
-            absurd cc
+    disk_in_turn row = disk_none row.requests row.stray row.taken row.out_of_turn

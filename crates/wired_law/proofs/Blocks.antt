@@ -1,6 +1,6 @@
 -- A cast that has the whole block class at the layout's queues: nothing comes out of turn at its
 -- actors, and what its clients put.
-use Rattle.std.proofs.Common.{◌≡◌, ◌⊎◌, ◌+◌, ◌*◌, ◌/◌, ◌<◌, ◌≤◌, ℕ, zero, suc, false, refl, Option, Some, None, List, [], ◌∷◌, All, length, map, take, slice_get, inl, inr, sym, ap, ◌∙◌, subst, arith}
+use Rattle.std.proofs.Common.{◌≡◌, ◌⊎◌, ◌+◌, ◌*◌, ◌/◌, ◌<◌, ◌≤◌, ℕ, zero, suc, true, false, refl, Option, Some, None, List, [], ◌∷◌, All, length, map, take, slice_get, inl, inr, sym, ap, ◌∙◌, subst, arith}
 use Rattle.std.specs.Option.{option_to_list}
 use Rattle.cargo_core.specs.declared.item.Ask.{Ask}
 use Rattle.cargo_core.specs.declared.item.Body.{Body}
@@ -18,14 +18,16 @@ use Rattle.net_kit.specs.Virtualising.{from_queues, to_queues}
 use Rattle.net_owners.specs.Names.{PoolAt}
 use Rattle.net_tx_parts.specs.Numbers.{own_pool}
 use Rattle.disk_device.specs.declared.DiskDevice.{DiskDevice}
-use Rattle.disk_device.specs.Disks.{DiskRow}
-use Rattle.blk_client.specs.Clients.{BlkClientRow, req_queue, resp_queue}
+use Rattle.disk_device.specs.Disks.{DiskRow, DiskStandsFor}
+use Rattle.disk_device.specs.Serving.{is_stray}
+use Rattle.blk_client.specs.Clients.{BlkClientRow, BlkClientStandsFor, req_queue, resp_queue}
 use Rattle.blk_client.specs.declared.BlkClient.{BlkClient}
 use Rattle.blk_client.proofs.Standing.{row_of as asker_row}
 use Rattle.blk_driver.specs.declared.BlkDriver.{BlkDriver}
 use Rattle.blk_virt.specs.Desks.{holders}
+use Rattle.blk_virt.specs.Openings.{IsOutOfTurn}
 use Rattle.blk_virt.specs.Requests.{is_bad, page_named}
-use Rattle.blk_virt.specs.Virtualising.{BlkVirtRow, FitsBlkVirt}
+use Rattle.blk_virt.specs.Virtualising.{BlkVirtRow, BlkVirtStandsFor, FitsBlkVirt}
 use Rattle.blk_virt.specs.declared.requests.Holder.{Holder}
 use Rattle.blk_virt.specs.declared.virtualiser.BlkVirt.{BlkVirt}
 use Rattle.blk_virt.proofs.Rows.{row_of as server_row}
@@ -35,8 +37,8 @@ use Rattle.blk_parts.specs.Playing.{disk_part, blk_driver_part, virt_part, blk_c
 use Rattle.blk_cast.specs.Casting.{holder_of, IsOfPool, IsWhole, IsRequest, AreRequests, IsAskingClient, IsBlkCast, AllAsk}
 use Rattle.blk_cast.proofs.Judging.{bad_same}
 use Rattle.blk_cast.proofs.Numbers.{virt_queues, client_queues, client_pool}
-use Rattle.blk_cast.proofs.Turning.{responses_few, sector_is, virt_in_turn, good_is, disk_in_turn}
-use Rattle.blk_cast.proofs.Clients.{client_like, client_in_turn, back_own, client_puts}
+use Rattle.blk_cast.proofs.Turning.{responses_few, sector_is, virt_none, virt_in_turn, good_is, disk_none, disk_in_turn}
+use Rattle.blk_cast.proofs.Clients.{client_like, client_none, client_in_turn, back_own, client_puts}
 use Rattle.actor_set.specs.Parts.{Part, BlockPart}
 use Rattle.actor_set.specs.Actors.{FitsActor, ActorStandsFor, part_of}
 use Rattle.actor_set.specs.declared.disk.Disk.{Disk}
@@ -66,6 +68,12 @@ own_requests pool xs are k x at = other_request pool (own_pool pool) x refl refl
 
 pub requests_own : (pool : PoolAt) (xs : List Cargo) → AreRequests (own_pool pool) xs → AreRequests pool xs
 requests_own pool xs are k x at = other_request (own_pool pool) pool x refl refl (are k x at)
+
+-- what one of a kind that is kept has
+all_of : (P : Cargo → Type 0) (o : Option Cargo) → ((x : Cargo) → o ≡ Some x → P x) → All P (option_to_list o)
+all_of P None some k d lt = absurd (omega (arith, lt))
+all_of P (Some x) some zero d lt = some x refl
+all_of P (Some x) some (suc k) d lt = absurd (omega (arith, lt))
 
 none_of : (o : Option Cargo) → option_to_list o ≡ [] → o ≡ None
 none_of None e = refl
@@ -173,18 +181,18 @@ module _ (ends : Role → ℕ → End) (rows : List QueueRow) (actors : List Act
         let there = has.client k entry.0 asks.0 pool of in
         requests_own pool (passed.sent (place.first + 4 + 2 * k)) (ask there.0 (place.first + 4 + 2 * k) (place.first + 5 + 2 * k) asks.0 (own_pool pool) there.1)
 
-    pub disk_turns : ClientsAsk cast passed → (k : ℕ) (d : Disk) → slice_get actors k ≡ Some (Kinds.DiskDevice d) → ActorStandsFor (Kinds.DiskDevice d) passed → DiskInTurn d.start.value d.device passed
-    unfolding cast_with disk_row_of
+    pub disk_turns : ClientsAsk cast passed → (k : ℕ) (d : Disk) → slice_get actors k ≡ Some (Kinds.DiskDevice d) → DiskStandsFor d.start.value d.device passed → DiskInTurn d.start.value d.device passed
+    unfolding cast_with
     disk_turns ask k d at stands =
         let part = disk_is place d.start.value d.device (has.only k (disk_part d.start.value d.device) (map_get part_of actors k (Kinds.DiskDevice d) at)) in
         let row = disk_row_of d.start.value d.device passed stands in
         let v = virt_there in
         let class = cast_with d part row v.0 v.1 v.2 v.3 in
         let turn : (row : DiskRow d.start.value d.device passed) → row.stray ≡ [] = subst (λ s. (row : DiskRow s d.device passed) → row.stray ≡ []) (sym (start_is d part)) (disk_in_turn place passed class (all_ask ask)) in
-        record { free = none_of d.device.stray (turn row); in_turn = turn }
+        record { free = none_of d.device.stray (disk_none place passed class (all_ask ask) stands.requests (option_to_list d.device.stray) stands.taken (all_of (λ (x : Cargo). is_stray place.image x ≡ true) d.device.stray (λ x e. ap (λ s. is_stray s x) (sym (start_is d part)) ∙ stands.out_of_turn x e))); in_turn = turn }
 
-    pub virt_turns : ClientsAsk cast passed → (k : ℕ) (v : BlkVirt) → slice_get actors k ≡ Some (Kinds.BlkVirt v) → FitsActor ends (Kinds.BlkVirt v) → ActorStandsFor (Kinds.BlkVirt v) passed → VirtInTurn (scene_of cast).image v passed
-    unfolding cast_with server_row
+    pub virt_turns : ClientsAsk cast passed → (k : ℕ) (v : BlkVirt) → slice_get actors k ≡ Some (Kinds.BlkVirt v) → FitsActor ends (Kinds.BlkVirt v) → BlkVirtStandsFor v passed → VirtInTurn (scene_of cast).image v passed
+    unfolding cast_with
     virt_turns ask k v at fits stands =
         let part = virt_is place v (has.only k (virt_part v) (map_get part_of actors k (Kinds.BlkVirt v) at)) in
         let row = server_row v passed stands in
@@ -193,7 +201,7 @@ module _ (ends : Role → ℕ → End) (rows : List QueueRow) (actors : List Act
         let own = virt_queues place v part in
         let turn : (row : BlkVirtRow v passed) → row.stray ≡ [] = virt_in_turn place passed class in
         record {
-          free = none_of v.work.stray (turn row);
+          free = none_of v.work.stray (virt_none place passed class stands.back (option_to_list v.work.stray) stands.taken (all_of (IsOutOfTurn (passed.sent v.ends.output.queue.0) stands.back) v.work.stray stands.stray));
           in_turn = turn;
           answered = responses_few place passed class;
           sector = λ y y_at. sector_is place passed class y y_at ∙ ap (take 512) (sym has.image_is);
@@ -208,18 +216,18 @@ module _ (ends : Role → ℕ → End) (rows : List QueueRow) (actors : List Act
     client_of : (k : ℕ) (c : BlkClient) → slice_get actors k ≡ Some (Kinds.BlkClient c) → (j entry : ℕ) × (asks : List Ask) × (pool : PoolAt) × IsBlkClientOf place j entry asks pool × (blk_client_part c ≡ blk_client_at place.first j asks pool)
     client_of k c at = client_is place (req_queue c) (resp_queue c) c.asking.script.items _ (has.only k (blk_client_part c) (map_get part_of actors k (Kinds.BlkClient c) at))
 
-    pub client_turns : (k : ℕ) (c : BlkClient) → slice_get actors k ≡ Some (Kinds.BlkClient c) → ActorStandsFor (Kinds.BlkClient c) passed → ClientInTurn c passed
-    unfolding asker_row
+    pub client_turns : (k : ℕ) (c : BlkClient) → slice_get actors k ≡ Some (Kinds.BlkClient c) → BlkClientStandsFor c passed → ClientInTurn c passed
     client_turns k c at stands =
         let is = client_of k c at in
         let row = asker_row c passed stands in
         let own = client_queues place.first is.0 is.2 is.3 c is.5 in
         let many = (client_pool place.first is.0 is.2 is.3 c is.5).1 in
         let some = has.some is.0 is.3 is.4.has_pool in
-        let turn : (row : BlkClientRow c passed) → row.stray ≡ [] = client_in_turn place passed class_there is.0 is.1 is.2 is.3 is.4 c (record { part = is.5; row = row }) in
+        let client : IsAskingClient place is.0 is.2 is.3 c passed = record { part = is.5; row = row } in
+        let turn : (row : BlkClientRow c passed) → row.stray ≡ [] = client_in_turn place passed class_there is.0 is.1 is.2 is.3 is.4 c client in
         record {
           some = omega (arith, many, some);
-          free = none_of c.stray (turn row);
+          free = none_of c.stray (client_none place passed class_there is.0 is.1 is.2 is.3 is.4 c client stands.came (option_to_list c.stray) stands.taken stands.no_request);
           in_turn = turn;
           brings = λ j x y x_at y_at. (client_like place passed class_there is.0 is.1 is.2 is.3 is.4 j x y (ap (λ n. slice_get (passed.sent n) j) (sym own.0) ∙ x_at) (ap (λ n. slice_get (passed.taken n) j) (sym own.1) ∙ y_at)).0;
         }
