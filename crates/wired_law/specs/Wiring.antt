@@ -20,6 +20,7 @@ use Rattle.net_tx_cast.specs.Casting.{AreFrames, AreSends, IsClientOf}
 use Rattle.blk_parts.specs.Parts.{BlkPart, BlkClient}
 use Rattle.blk_parts.specs.Numbers.{BlkPlace, IsBlkClientOf, disk_at, blk_driver_at, virt_at, blk_client_at}
 use Rattle.blk_cast.specs.Casting.{AreRequests}
+use Rattle.blk_law.specs.Replying.{AreSized}
 use Rattle.actor_set.specs.Parts.{Part, NetworkPart, SendingPart, BlockPart}
 use Rattle.actor_set.specs.Actors.{FitsActor, ActorStandsFor}
 use Rattle.actor_set.specs.declared.actor.Actor.{Actor}
@@ -80,7 +81,8 @@ IsOfBlock place p = (p ≡ disk_at place) ⊎ (p ≡ blk_driver_at place.first) 
     × (p ≡ blk_client_at place.first k asks pool))
 
 -- a cast has the whole block class and no other actor of it; each client has a buffer; requests go
--- to the driver; and the disk has some blocks of 4,096 bytes, which the cast's scene tells
+-- to the driver; the disk has some blocks of 4,096 bytes, which the cast's scene tells; what a client
+-- writes has the size that it says; and no two clients have the same entry of the table of partitions
 pub record HasBlk (rows : List QueueRow) (place : BlkPlace) (cast : List Part) : Type 0 where
   pub asks_many : length place.asks ≡ length place.entries
   pub pools_many : length place.pools ≡ length place.entries
@@ -98,6 +100,9 @@ pub record HasBlk (rows : List QueueRow) (place : BlkPlace) (cast : List Part) :
   pub some_blocks : 1 ≤ blocks
   pub image_long : length place.image ≡ blocks * 4096
   pub image_is : (scene_of cast).image ≡ place.image
+  pub sized : (k : ℕ) (asks : List Ask) → slice_get place.asks k ≡ Some asks → AreSized asks
+  pub apart : (j k entry : ℕ) → slice_get place.entries j ≡ Some entry
+      → slice_get place.entries k ≡ Some entry → j ≡ k
 
 -- a cast has no actor of the block class
 abbrev pub HasNoBlock : List Part → Type 0
