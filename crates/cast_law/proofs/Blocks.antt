@@ -49,7 +49,7 @@ use Rattle.seat_law.proofs.Having.{job_is_of}
 use Rattle.seat_law.proofs.Counts.{each_count}
 use Rattle.seat_law.proofs.Naming.{blk_named}
 use Rattle.seat_law.proofs.Seats.{has_seat}
-use Rattle.wired_law.specs.Wiring.{HasPart}
+use Rattle.wired_law.specs.Wiring.{HasPart, IsOfBlock, HasBlk as HasBlock, HasNoBlock}
 use Rattle.cast_law.proofs.Numbers.{askers_counted}
 use Rattle.cast_law.proofs.Wired.{part_at, job_of, image_there}
 
@@ -125,15 +125,10 @@ module _ (plan : Plan) (trace : Trace) (actors : List Actor) (valid : Valid plan
           ap (λ xs. Some (BlockPart (blk_client_at place.first k xs (client_pool plan k)))) (sym a.1) ∙ ap (λ q. Some (BlockPart (blk_client_at place.first k asks q))) (sym p.1) in
       ((actor_named plan c.0.pd).0, at (BlkClient k) (actor_named plan c.0.pd).0 (named.client k c.0 c.1) ∙ same)
 
-  -- the part of an actor of the class is one of these
-  abbrev pub IsOne : BlkPart → Type 0
-  IsOne q = (q ≡ disk_at place) ⊎ (q ≡ blk_driver_at place.first) ⊎ (q ≡ virt_at place)
-      ⊎ ((k : ℕ) × (entry : ℕ) × (asks : List Ask) × (pool : PoolAt) × IsBlkClientOf place k entry asks pool × (q ≡ blk_client_at place.first k asks pool))
-
   block_is : {p q : BlkPart} → Some (BlockPart p) ≡ Some (BlockPart q) → q ≡ p
   block_is e = cc
 
-  one_of : (job : Job) (q : BlkPart) → job_part plan trace job ≡ Some (BlockPart q) → IsOf plan job → IsOne q
+  one_of : (job : Job) (q : BlkPart) → job_part plan trace job ≡ Some (BlockPart q) → IsOf plan job → IsOfBlock place q
   one_of EthDevice q e of = absurd cc
   one_of EthDriver q e of = absurd cc
   one_of NetReceiver q e of = absurd cc
@@ -157,7 +152,7 @@ module _ (plan : Plan) (trace : Trace) (actors : List Actor) (valid : Valid plan
       } in
       inr (inr (inr (c, client_entry plan c, client_asks trace c, client_pool plan c, who, block_is e)))
 
-  pub only_these : (k : ℕ) (q : BlkPart) → slice_get cast k ≡ Some (BlockPart q) → IsOne q
+  pub only_these : (k : ℕ) (q : BlkPart) → slice_get cast k ≡ Some (BlockPart q) → IsOfBlock place q
   only_these k q there = let one = job_of plan trace actors valid made k (BlockPart q) there in one_of one.0 q one.2 (job_is_of plan one.0 k one.1)
 
   -- the virtualiser's queue to the driver carries requests
@@ -242,3 +237,47 @@ module _ (plan : Plan) (trace : Trace) (actors : List Actor) (valid : Valid plan
   entries_apart j k entry first second =
       ⊎_elim (λ (lt : j < k). absurd (later_entry j k entry lt first second))
       (λ (ge : k ≤ j). ⊎_elim (λ (lt : k < j). absurd (later_entry k j entry lt second first)) (λ (le : j ≤ k). omega (arith, ge, le)) (cases_lt k j)) (cases_lt j k)
+
+  pub whole_block : HasBlock (queues_of plan) place cast
+  whole_block = record {
+    asks_many = asks_many;
+    pools_many = pools_many;
+    disk = disk_there;
+    driver = driver_there;
+    virt = virt_there;
+    client = client_there;
+    only = only_these;
+    requests = requests_there;
+    some = some_buffers;
+    blocks = disk_sized.0;
+    some_blocks = disk_sized.1;
+    image_long = disk_sized.2;
+    image_is = image_there plan trace actors valid made blk is;
+  }
+
+-- a part of the block class has a job of the class
+blk_job : (plan : Plan) (trace : Trace) (job : Job) (q : BlkPart) → job_part plan trace job ≡ Some (BlockPart q) → IsOf plan job → HasBlk plan
+blk_job plan trace EthDevice q e of = absurd cc
+blk_job plan trace EthDriver q e of = absurd cc
+blk_job plan trace NetReceiver q e of = absurd cc
+blk_job plan trace NetSender q e of = absurd cc
+blk_job plan trace (NetCopier c) q e of = absurd cc
+blk_job plan trace (NetClient c) q e of = absurd cc
+blk_job plan trace UartDevice q e of = absurd cc
+blk_job plan trace UartDriver q e of = absurd cc
+blk_job plan trace SerialReceiver q e of = absurd cc
+blk_job plan trace SerialSender q e of = absurd cc
+blk_job plan trace (SerialClient c) q e of = absurd cc
+blk_job plan trace DiskDevice q e of = of
+blk_job plan trace DiskDriver q e of = of
+blk_job plan trace BlkVirtualiser q e of = of
+blk_job plan trace (BlkClient c) q e of = of.0
+
+pub no_block : (plan : Plan) (trace : Trace) (actors : List Actor) → Valid plan → AreCast plan trace actors → plan.blk ≡ None → HasNoBlock (map part_of actors)
+no_block plan trace actors valid made none k q at =
+    let one = job_of plan trace actors valid made k (BlockPart q) at in
+    let has = blk_job plan trace one.0 q one.2 (job_is_of plan one.0 k one.1) in
+    none_there has
+  where
+    none_there : HasBlk plan → ⊥
+    none_there (blk, is) = absurd cc

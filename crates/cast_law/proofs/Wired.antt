@@ -1,6 +1,6 @@
 -- The actors of a plan are wired: none is of the network, or they are the whole network at its
 -- place.
-use Rattle.std.proofs.Common.{◌≡◌, ◌+◌, ◌*◌, ◌%◌, ◌==◌, ◌&&◌, ◌<◌, ◌≤◌, ◌++◌, ℕ, zero, suc, Bool, true, false, if◌then◌else◌, Option, Some, None, unwrap_or, inl, inr, List, [], ◌∷◌, length, map, flat_map, slice_get, refl, sym, ap, ap₂, ◌∙◌, subst, arith}
+use Rattle.std.proofs.Common.{◌≡◌, ◌⊎◌, ◌+◌, ◌*◌, ◌%◌, ◌==◌, ◌&&◌, ◌<◌, ◌≤◌, ◌++◌, ℕ, zero, suc, Bool, true, false, if◌then◌else◌, Option, Some, None, unwrap_or, inl, inr, List, [], ◌∷◌, length, map, flat_map, slice_get, refl, sym, ap, ap₂, ◌∙◌, subst, arith}
 use Rattle.std.specs.List.{All}
 use Rattle.std.specs.Option.{option_map_or}
 use Rattle.std.proofs.lemmas.List.{append-nil}
@@ -39,7 +39,7 @@ use Rattle.actor_set.specs.Parts.{Part, NetworkPart, SendingPart, BlockPart}
 use Rattle.actor_set.specs.Actors.{part_of}
 use Rattle.actor_set.specs.declared.actor.Actor.{Actor}
 use Rattle.actor_law.specs.Kinds.{frames_of, image_of, scene_of}
-use Rattle.wired_law.specs.Wiring.{HasWhole, HasNoNetwork, IsOfNetwork, IsWired}
+use Rattle.wired_law.specs.Wiring.{HasWhole, HasNoNetwork, IsOfNetwork}
 use Rattle.job_law.specs.Jobs.{Job, EthDevice, EthDriver, NetReceiver, NetSender, NetCopier, NetClient, UartDevice, UartDriver, SerialReceiver, SerialSender, SerialClient, DiskDevice, DiskDriver, BlkVirtualiser, BlkClient, HasJob}
 use Rattle.job_law.proofs.Having.{one_actor, same_job, job_below}
 use Rattle.seat_law.specs.Ends.{HasNet, HasBlk as HasBlkClass, IsOf, net_count}
@@ -341,9 +341,9 @@ module _ (plan : Plan) (trace : Trace) (actors : List Actor) (valid : Valid plan
           subst AreFrames (sym same) (sent_frames k);
     }
 
-  pub wired_is : IsReadFor plan trace → IsWired (queues_of plan) cast
-  wired_is read = by plan.net refl
+  pub network_is : IsReadFor plan trace → HasNoNetwork cast ⊎ ((net : NetPlace) × HasWhole (queues_of plan) net cast)
+  network_is read = by plan.net refl
     where
-      by : (o : Option Net) → plan.net ≡ o → IsWired (queues_of plan) cast
+      by : (o : Option Net) → plan.net ≡ o → HasNoNetwork cast ⊎ ((net : NetPlace) × HasWhole (queues_of plan) net cast)
       by None none = inl (no_network none)
       by (Some net) is = inr (net_place plan trace, whole_is net is read)

@@ -5,6 +5,7 @@
 ghost use Rattle.std.specs.Prelude.{◌≡◌, ℕ, Some, None, List, [], length, map, slice_get};
 ghost use Rattle.sdf_plan.specs.declared.plan.Plan.{Plan};
 ghost use Rattle.sdf_plan.specs.declared.plan.Net.{Net};
+ghost use Rattle.sdf_plan.specs.declared.plan.Blk.{Blk};
 ghost use Rattle.sdf_check.specs.Valid.{Valid};
 ghost use Rattle.trace_text.specs.declared.trace.Trace.{Trace};
 ghost use Rattle.trace_text.specs.Traces.{IsReadFor};
@@ -15,13 +16,13 @@ ghost use Rattle.actor_set.specs.Actors.{part_of};
 ghost use Rattle.actor_set.specs.declared.actor.Actor.{Actor};
 ghost use Rattle.actor_law.specs.Kinds.{scene_of};
 ghost use Rattle.job_law.specs.Jobs.{Job, HasJob};
-ghost use Rattle.cast_core.specs.Casts.{net_place, job_part, scene_for, AreCast};
-ghost use Rattle.wired_law.specs.Wiring.{HasNoNetwork, HasWhole};
+ghost use Rattle.cast_core.specs.Casts.{blk_place, net_place, job_part, scene_for, AreCast};
+ghost use Rattle.wired_law.specs.Wiring.{HasBlk, HasNoBlock, HasNoNetwork, HasWhole};
 ghost use Rattle.cast_law.specs.Seats.{AreSeated};
 
 /// The actors of a valid plan are seated at its layout's queues, each number
-/// has the part of its job, and with a network class the cast has the whole network where the
-/// layout places it. The scene is what the trace gives the plan's classes. The pools of the network's
+/// has the part of its job, and with a network class or a block class the cast has the whole class
+/// where the layout places it. The scene is what the trace gives the plan's classes. The pools of the network's
 /// place are those of the layout, by their numbers.
 pub fn cast_law()
     ensures seated { (plan : Plan) (trace : Trace) (actors : List Actor) → Valid plan
@@ -46,4 +47,9 @@ pub fn cast_law()
     ensures no_pools { (plan : Plan) → plan.blk ≡ None → plan.net ≡ None → pools_of plan ≡ [] }
     ensures no_network { (plan : Plan) (trace : Trace) (actors : List Actor) → Valid plan
         → AreCast plan trace actors → plan.net ≡ None → HasNoNetwork (map part_of actors) }
+    ensures block { (plan : Plan) (trace : Trace) (actors : List Actor) → Valid plan
+        → IsReadFor plan trace → AreCast plan trace actors → (blk : Blk) → plan.blk ≡ Some blk
+        → HasBlk (queues_of plan) (blk_place plan trace) (map part_of actors) }
+    ensures no_block { (plan : Plan) (trace : Trace) (actors : List Actor) → Valid plan
+        → AreCast plan trace actors → plan.blk ≡ None → HasNoBlock (map part_of actors) }
 {}

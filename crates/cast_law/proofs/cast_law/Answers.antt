@@ -1,5 +1,6 @@
 use Rattle.cast_law.proofs.Seated.{part_there}
-use Rattle.cast_law.proofs.Joined.{all_seated, whole_network, scene_of_plan}
+use Rattle.cast_law.proofs.Joined.{all_seated, whole_network, whole_block, scene_of_plan}
+use Rattle.cast_law.proofs.Blocks.{no_block}
 use Rattle.cast_law.proofs.Wired.{no_network}
 use Rattle.cast_law.proofs.Pooled.{numbered_is, sized_is, many_are, no_pools}
 use Rattle.cast_law.proofs.cast_law.Goals as goal
@@ -30,3 +31,9 @@ returns-clause-no_pools c = no_pools
 
 pub returns-clause-no_network : goal.returns-clause-no_network
 returns-clause-no_network c = no_network
+
+pub returns-clause-block : goal.returns-clause-block
+returns-clause-block c = whole_block
+
+pub returns-clause-no_block : goal.returns-clause-no_block
+returns-clause-no_block c = no_block
