@@ -253,6 +253,8 @@ module _ (plan : Plan) (trace : Trace) (actors : List Actor) (valid : Valid plan
     some_blocks = disk_sized.1;
     image_long = disk_sized.2;
     image_is = image_there plan trace actors valid made blk is;
+    sized = scripts_sized;
+    apart = entries_apart;
   }
 
 -- a part of the block class has a job of the class
