@@ -1,12 +1,11 @@
 -- A cast that has the whole block class at the layout's queues: nothing comes out of turn at its
 -- actors, and what its clients put.
-use Rattle.std.proofs.Common.{◌≡◌, ◌⊎◌, ◌+◌, ◌*◌, ◌/◌, ◌<◌, ◌≤◌, ℕ, zero, suc, true, false, refl, Option, Some, None, List, [], ◌∷◌, All, length, map, take, slice_get, inl, inr, sym, ap, ◌∙◌, subst, arith}
+use Rattle.std.proofs.Common.{◌≡◌, ◌⊎◌, ◌+◌, ◌*◌, ◌/◌, ◌<◌, ℕ, zero, suc, true, false, refl, Option, Some, None, List, [], ◌∷◌, All, length, map, take, slice_get, inl, inr, sym, ap, ◌∙◌, subst, arith}
 use Rattle.std.specs.Option.{option_to_list}
 use Rattle.cargo_core.specs.declared.item.Ask.{Ask}
 use Rattle.cargo_core.specs.declared.item.Body.{Body}
 use Rattle.cargo_core.specs.declared.item.Body.TheVariants as Carried
 use Rattle.wire_core.specs.declared.names.QueueRow.{QueueRow}
-use Rattle.wire_core.specs.declared.names.QueueId.{QueueId}
 use Rattle.wire_core.specs.Deeds.{Cargo, Deed}
 use Rattle.wire_core.specs.Ends.{Role, End}
 use Rattle.wire_core.specs.Lists.{Passed, nothing_passed, with_deed}
@@ -14,7 +13,6 @@ use Rattle.play_core.proofs.Lists.{map_get, map_from, there_is, there_below}
 use Rattle.pipe_driver.proofs.Holding.{row_of as driver_row}
 use Rattle.pipe_driver.specs.Drivers.{PipesRow}
 use Rattle.pipe_driver.specs.Lengths.{two_pipes}
-use Rattle.net_kit.specs.Virtualising.{from_queues, to_queues}
 use Rattle.net_owners.specs.Names.{PoolAt}
 use Rattle.net_tx_parts.specs.Numbers.{own_pool}
 use Rattle.disk_device.specs.declared.DiskDevice.{DiskDevice}
@@ -24,14 +22,12 @@ use Rattle.blk_client.specs.Clients.{BlkClientRow, BlkClientStandsFor, req_queue
 use Rattle.blk_client.specs.declared.BlkClient.{BlkClient}
 use Rattle.blk_client.proofs.Standing.{row_of as asker_row}
 use Rattle.blk_driver.specs.declared.BlkDriver.{BlkDriver}
-use Rattle.blk_virt.specs.Desks.{holders}
 use Rattle.blk_virt.specs.Openings.{IsOutOfTurn}
-use Rattle.blk_virt.specs.Requests.{is_bad, page_named}
+use Rattle.blk_virt.specs.Requests.{is_bad}
 use Rattle.blk_virt.specs.Virtualising.{BlkVirtRow, BlkVirtStandsFor, FitsBlkVirt}
-use Rattle.blk_virt.specs.declared.requests.Holder.{Holder}
 use Rattle.blk_virt.specs.declared.virtualiser.BlkVirt.{BlkVirt}
 use Rattle.blk_virt.proofs.Rows.{row_of as server_row}
-use Rattle.blk_parts.specs.Parts.{BlkPart, BlkClient as ClientPart}
+use Rattle.blk_parts.specs.Parts.{BlkClient as ClientPart}
 use Rattle.blk_parts.specs.Numbers.{BlkPlace, IsBlkClientOf, disk_at, blk_driver_at, virt_at, blk_client_at}
 use Rattle.blk_parts.specs.Playing.{disk_part, blk_driver_part, virt_part, blk_client_part, DiskInTurn, VirtInTurn, ClientInTurn}
 use Rattle.blk_cast.specs.Casting.{holder_of, IsOfPool, IsWhole, IsRequest, AreRequests, IsAskingClient, IsBlkCast, AllAsk}

@@ -1,6 +1,6 @@
 -- A cast that has the whole network has it among its actors; and where nobody is runnable these
 -- recorded all.
-use Rattle.std.proofs.Common.{◌≡◌, ◌+◌, ℕ, Some, List, map, slice_get, refl, ap, ◌∙◌, subst, inr}
+use Rattle.std.proofs.Common.{◌≡◌, ◌+◌, ℕ, Some, List, map, slice_get, refl, ap, ◌∙◌, subst}
 use Rattle.cargo_core.specs.Lists.{Merge}
 use Rattle.frame_core.specs.declared.mac.Mac.{Mac}
 use Rattle.wire_core.specs.declared.names.QueueRow.{QueueRow}
@@ -29,7 +29,7 @@ use Rattle.actor_law.specs.Kinds.{sheet, scene_of, hostiles}
 use Rattle.actor_law.specs.Records.{frames_got, frames_by}
 use Rattle.actor_law.proofs.Calm.{calm_actor}
 use Rattle.actor_law.proofs.Rows.{actor_row, frames_here}
-use Rattle.wired_law.specs.Wiring.{HasPart, HasWhole, ClientsSend, AreAtWork}
+use Rattle.wired_law.specs.Wiring.{HasPart, HasWhole, IsWired, ClientsSend, AreAtWork}
 use Rattle.wired_law.proofs.Wiring.{in_turn, recorded, sent_on}
 
 -- the network among a cast's actors
@@ -53,7 +53,7 @@ module _ (rows : List QueueRow) (cast : List Part) (m : Moved) (net : NetPlace) 
   }
 
 -- actors that stand for what passed
-module _ (ends : Role → ℕ → End) (history : History) (rows : List QueueRow) (actors : List Actor) (journal : List Entry) (passed : Passed) (net : NetPlace) (whole : HasWhole rows net (map part_of actors)) (pools : HasPools net) (rooms : HasRooms (hostiles (map part_of actors)) rows net) (work : AreAtWork ends rows actors passed) (send : ClientsSend (map part_of actors) passed) (items : HaveItems passed (moved history journal)) where
+module _ (ends : Role → ℕ → End) (history : History) (rows : List QueueRow) (actors : List Actor) (journal : List Entry) (passed : Passed) (net : NetPlace) (whole : HasWhole rows net (map part_of actors)) (wired : IsWired rows (map part_of actors)) (pools : HasPools net) (rooms : HasRooms (hostiles (map part_of actors)) rows net) (work : AreAtWork ends rows actors passed) (send : ClientsSend (map part_of actors) passed) (items : HaveItems passed (moved history journal)) where
   abbrev cast : List Part
   cast = map part_of actors
 
@@ -63,7 +63,7 @@ module _ (ends : Role → ℕ → End) (history : History) (rows : List QueueRow
   rows_hold : RowsHold (sheet (scene_of cast)) (hostiles cast) cast (moved history journal)
   rows_hold k p calm at =
       let x = map_from part_of actors k p at in
-      let turn = in_turn ends rows actors passed (inr (net, whole)) work send k x.0 x.1 in
+      let turn = in_turn ends rows actors passed wired work send k x.0 x.1 in
       subst (λ part. (sheet (scene_of cast) part).row (moved history journal)) x.2 (actor_row (scene_of cast) passed (moved history journal) items x.0 turn (work.stands k x.0 x.1))
 
   there : IsNetwork (hostiles cast) (scene_of cast) rows (needful (sheet (scene_of cast)) cast (moved history journal)) net (moved history journal)

@@ -24,7 +24,7 @@ ghost use Rattle.actor_set.specs.Actors.{part_of};
 ghost use Rattle.actor_set.specs.declared.actor.Actor.{Actor};
 ghost use Rattle.actor_law.specs.Kinds.{sheet, scene_of, hostiles};
 ghost use Rattle.actor_law.specs.Records.{frames_got};
-ghost use Rattle.wired_law.specs.Wiring.{HasWhole, ClientsSend, AreAtWork};
+ghost use Rattle.wired_law.specs.Wiring.{HasWhole, IsWired, ClientsSend, AreAtWork};
 
 /// Where the rows of a cast hold that has the whole network, this network is among its actors. Where
 /// actors stand for what passed, and nobody is runnable, each network client recorded all frames
@@ -37,7 +37,8 @@ pub fn quiet_law()
         net m }
     ensures records { (ends : Role → ℕ → End) (history : History) (rows : List QueueRow)
         (actors : List Actor) (journal : List Entry) (passed : Passed) (net : NetPlace)
-        → HasWhole rows net (map part_of actors) → HasPools net
+        → HasWhole rows net (map part_of actors) → IsWired rows (map part_of actors)
+        → HasPools net
         → HasRooms (hostiles (map part_of actors)) rows net
         → AreAtWork ends rows actors passed → ClientsSend (map part_of actors) passed
         → HaveItems passed (moved history journal)
@@ -50,7 +51,8 @@ pub fn quiet_law()
         → frames_got x ≡ frames_for mac (scene_of (map part_of actors)).frames }
     ensures wire { (ends : Role → ℕ → End) (history : History) (rows : List QueueRow)
         (actors : List Actor) (journal : List Entry) (passed : Passed) (net : NetPlace)
-        → HasWhole rows net (map part_of actors) → HasPools net
+        → HasWhole rows net (map part_of actors) → IsWired rows (map part_of actors)
+        → HasPools net
         → HasRooms (hostiles (map part_of actors)) rows net
         → AreAtWork ends rows actors passed → ClientsSend (map part_of actors) passed
         → HaveItems passed (moved history journal)
