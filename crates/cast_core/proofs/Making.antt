@@ -96,16 +96,16 @@ intake_list (q ∷ qs) = ap (λ z. q ∷ z) (intake_list qs)
 
 -- the queues of a virtualiser are those that it was made with
 module _ (input output : QueueId) (from to : List QueueId) (v : VirtEnds) (new : IsNewVirt input output from to v) where
-  from_are : from_queues v ≡ from
+  pub from_are : from_queues v ≡ from
   from_are = ap (map (λ (o : Intake). o.queue)) new.from_is ∙ intake_list from
 
-  to_are : to_queues v ≡ to
+  pub to_are : to_queues v ≡ to
   to_are = ap (map (λ (o : Outlet). o.queue)) new.to_is ∙ outlet_list to
 
-  input_is : v.input.queue ≡ input
+  pub input_is : v.input.queue ≡ input
   input_is = ap (λ (i : Intake). i.queue) new.input_is
 
-  output_is : v.output.queue ≡ output
+  pub output_is : v.output.queue ≡ output
   output_is = ap (λ (o : Outlet). o.queue) new.output_is
 
 lessees_are : (n k : ℕ) (ends : ℕ → LeaseEnds) (mac : ℕ → Mac) → ((c : ℕ) → ends c ≡ record { mac = mac c; active = record { 0 = client_first 0 (k + c) }; free = record { 0 = client_first 0 (k + c) + 1 } })

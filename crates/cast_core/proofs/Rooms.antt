@@ -1,10 +1,10 @@
 -- The pools of a valid plan are there, apart from each other, and end low.
-use Rattle.std.proofs.Common.{◌≡◌, ◌⊎◌, ◌+◌, ◌-◌, ◌*◌, ◌<◌, ◌≤◌, ◌^◌, ℕ, zero, suc, max, fold, true, Option, Some, None, List, [], ◌∷◌, codes, length, map, slice_get, refl, sym, ap, subst, arith, inl, inr}
+use Rattle.std.proofs.Common.{◌≡◌, ◌⊎◌, ◌+◌, ◌-◌, ◌*◌, ◌<◌, ◌≤◌, ◌^◌, ℕ, zero, suc, max, fold, true, Option, Some, None, List, [], ◌∷◌, codes, length, map, slice_get, refl, sym, ap, arith, inl, inr, ◌∙◌, ap₂}
 use Rattle.std.specs.List.{All}
 use Rattle.std.specs.Option.{option_map_or}
-use Rattle.std.proofs.Math.Nat.{div-mul-le_self, mul-comm}
+use Rattle.std.proofs.Math.Nat.{div-mul-le_self, mul_comm}
 use Rattle.std.proofs.lemmas.Option.{slice_get_within}
-use Rattle.std.proofs.lemmas.List.Elements.{All-nil, All-cons, All-append}
+use Rattle.std.proofs.lemmas.List.Elements.{All-nil, All-cons}
 use Rattle.std.proofs.lemmas.Bool.{cases_Bool, and_parts, leb-true, ltb-true}
 use Rattle.cargo_core.specs.Ranges.{IsApart, is_within}
 use Rattle.wire_core.specs.declared.names.PoolRow.{PoolRow}
@@ -27,7 +27,7 @@ use Rattle.layout_laws.proofs.Rooms.{has_rooms}
 use Rattle.layout_laws.proofs.Spreads.{rows_apart}
 use Rattle.play_core.proofs.Lists.{some_is, map_get}
 use Rattle.cast_core.specs.Sources.{pool_at, first_blk_pool}
-use Rattle.cast_core.specs.Making.{tx_ends, tx_range, HasPool, HasPools, HasBlkPools}
+use Rattle.cast_core.specs.Making.{HasPool, HasPools, HasBlkPools}
 use Rattle.cast_core.proofs.Listing.{each_count}
 
 up_near : (number size : ℕ) → 1 ≤ size → round_up number size ≤ number + size
@@ -146,12 +146,12 @@ module _ (plan : Plan) where
         let here : slice_get blk_part i ≡ Some row = ap (λ (o : Option Blk). slice_get (option_map_or (blk_pools plan) o []) i) is ∙ at in
         ap (λ m. slice_get (pools_of plan) (m + i)) (sym front_long) ∙ get-right net_part blk_part i row here
 
-    own_there : (row : PoolRow) × (slice_get (pools_of plan) (first_blk_pool plan) ≡ Some row)
-    unfolding blk_pools
+    own_there : (row : PoolRow) × (slice_get (pools_of plan) (first_blk_pool plan) ≡ Some row) × (row.buffers ≡ 1)
+    unfolding blk_pools pool_in
     own_there =
         let row = pool_in plan blk.region (codes "blk") 1 blk_buffer in
         let zero_more : first_blk_pool plan ≡ first_blk_pool plan + 0 = omega arith in
-        (row, ap (slice_get (pools_of plan)) zero_more ∙ blk_at 0 row refl)
+        (row, ap (slice_get (pools_of plan)) zero_more ∙ blk_at 0 row refl, refl)
 
     client_there : (c : ℕ) → c < length blk.client → (row : PoolRow) × (slice_get (pools_of plan) (first_blk_pool plan + 1 + c) ≡ Some row)
     unfolding blk_pools blk_client_pools
@@ -187,11 +187,15 @@ module _ (plan : Plan) (valid : Valid plan) where
       let queues = map (queue_range plan) (queues_of plan) in
       let pools = map pool_range (pools_of plan) in
       let long = length queues in
-      rows_apart plan valid (long + k)
-      (long + j, (one.base, one.base + one.size * one.buffers), (other.base, other.base + other.size * other.buffers), omega (arith, less),
-      get-right queues pools j (pool_range one) (map_get pool_range (pools_of plan) j one first),
-      get-right queues pools k (pool_range other) (map_get pool_range (pools_of plan) k other second),
-      (address, a, b, c, d))
+      rows_apart plan valid (long + k) (
+        long + j,
+        (one.base, one.base + one.size * one.buffers),
+        (other.base, other.base + other.size * other.buffers),
+        omega (arith, less),
+        get-right queues pools j (pool_range one) (map_get pool_range (pools_of plan) j one first),
+        get-right queues pools k (pool_range other) (map_get pool_range (pools_of plan) k other second),
+        (address, a, b, c, d),
+      )
 
   -- an address in the range of a pool whose buffers have this size
   within_row : (size n : ℕ) (row : PoolRow) (address : ℕ) → slice_get (pools_of plan) n ≡ Some row → row.size ≡ size
@@ -203,7 +207,7 @@ module _ (plan : Plan) (valid : Valid plan) where
       let high = ltb-true address _ parts.1 in
       let base : (pool_at (pools_of plan) n).base ≡ row.base = ap (λ (o : Option PoolRow). option_map_or (λ (r : PoolRow). r.base) o 0) at in
       let many : (pool_at (pools_of plan) n).buffers ≡ row.buffers = ap (λ (o : Option PoolRow). option_map_or (λ (r : PoolRow). r.buffers) o 0) at in
-      let product : (pool_at (pools_of plan) n).buffers * size ≡ row.size * row.buffers = ap₂ (λ x y. x * y) many (sym sized) ∙ mul-comm row.buffers row.size in
+      let product : (pool_at (pools_of plan) n).buffers * size ≡ row.size * row.buffers = ap₂ (λ x y. x * y) many (sym sized) ∙ mul_comm row.buffers row.size in
       (omega (arith, low, base), omega (arith, high, base, product))
 
   ranges_apart : (size j k : ℕ) (one other : PoolRow) → j < k → slice_get (pools_of plan) j ≡ Some one → slice_get (pools_of plan) k ≡ Some other → one.size ≡ size → other.size ≡ size
@@ -238,6 +242,7 @@ module _ (plan : Plan) (valid : Valid plan) where
       let own = own_there plan blk is in
       record {
         own = has_blk_pool (first_blk_pool plan) own.0 own.1;
+        single = ap (λ (o : Option PoolRow). option_map_or (λ (r : PoolRow). r.buffers) o 0) own.1 ∙ own.2;
         client = λ c lt. let row = client_there plan blk is c lt in has_blk_pool (first_blk_pool plan + 1 + c) row.0 row.1;
         apart = λ j k less lt.
             let one = client_there plan blk is j (omega (arith, less, lt)) in

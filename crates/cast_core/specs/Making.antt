@@ -1,5 +1,6 @@
 -- What the network's actors are made from: pools, the queues of clients, and frames.
 use Rattle.std.specs.Prelude.{◌≡◌, ◌+◌, ◌*◌, ◌<◌, ◌≤◌, ◌^◌, ℕ, Some, List, All, length, replicate, slice_get}
+use Rattle.cargo_core.specs.declared.item.Ask.{Ask}
 use Rattle.cargo_core.specs.declared.ranges.Range.{Range}
 use Rattle.cargo_core.specs.Pages.{Paged}
 use Rattle.cargo_core.specs.Ranges.{IsApart}
@@ -89,9 +90,10 @@ abbrev pub blk_range : BlkEnds → Range
 blk_range e = record { base = e.base; size = e.buffers * 32768 }
 
 -- the pools of a block class with so many clients are there, from this number on: the
--- virtualiser's, and one of each client, and no two clients' buffers meet
+-- virtualiser's, of one buffer, and one of each client, and no two clients' buffers meet
 pub record HasBlkPools (plan : Plan) (rows : List PoolRow) (clients : ℕ) : Type 0 where
   pub own : HasPool 32768 rows (first_blk_pool plan)
+  pub single : (pool_at rows (first_blk_pool plan)).buffers ≡ 1
   pub client : (c : ℕ) → c < clients → HasPool 32768 rows (first_blk_pool plan + 1 + c)
   pub apart : (j k : ℕ) → j < k → k < clients
       → IsApart (blk_range (blk_ends plan rows k)) (blk_range (blk_ends plan rows j))

@@ -146,11 +146,7 @@ fn virtualiser(
     ensures part { IfOk result (λ v. virt_part v
         ≡ VirtPart (first_blk plan.now + 2) (first_blk plan.now + 3)
         (length trace.now.image / 512)
-        (record {
-          number = first_blk_pool plan.now;
-          base = (pool_at pools.now (first_blk_pool plan.now)).base;
-          buffers = 1;
-        })
+        (pool_at pools.now (first_blk_pool plan.now))
         (sharers_from (first_blk plan.now) 0 (per_client clients (client_entry plan.now))
         (per_client clients (λ c. pool_at pools.now (first_blk_pool plan.now + 1 + c))))) }
 {

@@ -1,7 +1,7 @@
 use Rattle.std.proofs.Common.{◌+◌, ◌*◌, length, refl, arith}
 use Rattle.std.proofs.lemmas.Option.{slice_get_read}
 use Rattle.cast_core.proofs.Growing.{none_yet}
-use Rattle.cast_core.proofs.jobs.serial_client_of.Goals as goal
+use Rattle.cast_core.proofs.jobs.serial_client_job.Goals as goal
 
 pub loop-c-preserved : goal.loop-c-preserved
 loop-c-preserved c =
@@ -12,5 +12,5 @@ loop-c-preserved c =
     let there = slice_get_read rows (length rows) n c.index-rows-first.result refl (omega (arith, lt, room)) c.index-rows-first.is in
     none_yet rows c.args.first c.loop-c.c c.args.actor n c.index-rows-first.result c.loop-c.invariant refl there (rw c.index-rows-first.is c.if-rows-first.false)
 
-pub unreachable-requires : goal.unreachable-requires
-unreachable-requires c = let lt = c.requires.some.1.0 in let end = c.loop-c-test.false in c.loop-c.invariant c.requires.some.0 (omega (arith, lt, end)) c.requires.some.1.1
+pub returns : goal.returns
+returns c = λ j lt. let end = c.loop-c-test.false in c.loop-c.invariant j (omega (arith, lt, end))
