@@ -1,10 +1,11 @@
 -- What `serve` answers, by what the words and the texts decide.
-use Rattle.std.specs.Prelude.{◌≡◌, ◌⊎◌, ℕ, false, Option, Some, List, length, take}
+use Rattle.std.specs.Prelude.{◌≡◌, ◌≤◌, ◌⊎◌, ℕ, false, Option, Some, List, length, take}
 use Rattle.cargo_core.specs.Lists.{IsPrefix}
 use Rattle.cargo_core.specs.declared.memory.Memory.{Memory}
 use Rattle.sdf_plan.specs.declared.plan.Plan.{Plan}
 use Rattle.trace_text.specs.declared.trace.Trace.{Trace}
 use Rattle.region_layout.specs.Layouts.{layout_of}
+use Rattle.expect_core.specs.Budgets.{budget_of}
 use Rattle.system_core.specs.declared.system.System.{System}
 use Rattle.system_core.specs.PlanPlays.{IsPlayed}
 use Rattle.system_core.specs.Reports.{report_of}
@@ -27,6 +28,7 @@ pub record Shows (plan : Plan) (trace : Trace) (options : Options) (status : Sta
   pub plays : IsPlayed plan trace options.seed (limit_of plan trace options) system
   pub spent : (report_of system).quiet ≡ false → length system.journal ≡ limit_of plan trace options
   pub status_is : status ≡ ending_of (report_of system).quiet (report_of system).steps
+  pub bounded : budget_of plan trace ≤ limit_of plan trace options → status ≡ Ended.Ok
   pub text_is : text ≡ shown_text (layout_of plan) options.journal (report_of system) system.journal
 
 -- the answer that a decision leads to: its status, the whole text that is written, and the system

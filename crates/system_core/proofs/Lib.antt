@@ -7,6 +7,8 @@ pub mod Stepping
 pub mod Taking
 pub mod Starting
 pub mod Recording
+pub mod Lining
+pub mod Counting
 pub mod Hearing
 pub mod Seating
 pub mod Fitting
@@ -14,6 +16,7 @@ pub mod Scripts
 pub mod Casting
 pub mod Begun
 pub mod Networking
+pub mod Bounded
 pub mod Crewing
 pub mod Built
 pub mod Quieting

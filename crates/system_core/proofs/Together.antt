@@ -1,4 +1,4 @@
-use Rattle.std.proofs.Common.{◌≡◌, ◌≤◌, ◌++◌, ℕ, Some, None, List, [], length, sym, ap, ◌∙◌, subst}
+use Rattle.std.proofs.Common.{◌≡◌, ◌≤◌, ◌++◌, ℕ, Some, None, List, [], length, sym, ap, ◌∙◌, subst, arith, refl}
 use Rattle.wire_core.specs.declared.names.QueueRow.{QueueRow}
 use Rattle.wire_core.specs.declared.names.Entry.{Entry}
 use Rattle.wire_core.specs.Picks.{PickedFrom}
@@ -20,10 +20,12 @@ use Rattle.serial_law.specs.Serial.{SerialClass, IsSerial, ArrivesInPart, Arrive
 use Rattle.serial_law.proofs.Arrivals.{as_there, RowAt}
 use Rattle.actor_law.specs.Kinds.{serial_part, scene_of}
 use Rattle.system_core.specs.Shows.{Setting, Shown, hostile_in, sheet_in, moved_in, runs, RowsStand}
-use Rattle.system_core.specs.Plays.{Played, runnable_now}
+use Rattle.system_core.specs.Plays.{Played, IsSpent, runnable_now}
+use Rattle.system_core.specs.declared.system.Ending.{Ending}
+use Rattle.system_core.specs.declared.system.Ending.TheVariants as Ends
 use Rattle.system_core.specs.Lawful.{StandsLawful}
 use Rattle.system_core.specs.Builds.{unplayed, IsBuilt, IsCastOf, BeginsAnew, serial_class}
-use Rattle.system_core.specs.PlanPlays.{IsPlayed, IsPlayedOn}
+use Rattle.system_core.specs.PlanPlays.{IsPlayed, IsPlayedOn, HasEnded}
 use Rattle.actor_law.proofs.Calm.{calm_actor, sheet_is}
 use Rattle.system_core.proofs.Scripts.{scripts_length}
 use Rattle.cast_core.specs.Sources.{first_serial}
@@ -31,11 +33,8 @@ use Rattle.system_core.proofs.Casting.{HasSerial, has_serial}
 use Rattle.system_core.proofs.Networking.{shows_frames}
 use Rattle.system_core.proofs.Quieting.{still_now, shows_whole_net}
 use Rattle.system_core.proofs.Built.{no_blk}
+use Rattle.system_core.proofs.Bounded.{row_as, bounded}
 use Rattle.system_core.proofs.Begun.{There, serial_there, shows_in_part, shows_whole}
-
--- what is said of a part of the serial class, as one of all
-row_as : (s : Setting) (m : Moved) (p : SerialPart) → (sheet_in s (serial_part p)).row m → RowAt m p
-row_as s m p = subst (λ (t : Sheet). t.row m) (sheet_is (scene_of s.cast) p)
 
 plays_as : (s : Setting) (hostile : Hostiles) (actors : Needful) (m : Moved) (p : SerialPart) → Plays hostile actors m (sheet_in s (serial_part p)) → Plays hostile actors m (serial_sheet p)
 plays_as s hostile actors m p = subst (Plays hostile actors m) (sheet_is (scene_of s.cast) p)
@@ -106,6 +105,7 @@ module _ (old new : Shown) (seed limit : ℕ) (none : old.journal ≡ []) (playe
       cast = cast_is;
       picked = picked_is;
       within = subst (λ j. length j ≤ limit) more_is played.within;
+      bounded = bounded plan trace valid (no_blk plan played_all) new cast_is stands (λ serial has. there serial has);
       stands = stands;
       arrives = λ serial has. arrives new stands (class serial has) (there serial has) part;
       shows = λ serial has. shows_in_part plan serial (first_serial plan) trace new (class_is serial has) (says serial has) stands.told (arrives_now new stands (class serial has) (there serial has) part);
@@ -120,3 +120,8 @@ together old new seed limit played plan valid played_all trace read built stands
   begins = subst BeginsAnew (sym played.setting) built.begins;
   played = played_on old new seed limit built.journal played plan valid played_all trace read built.cast stands part whole;
 }
+
+-- how a play ended that began with nothing
+pub ended : (limit : ℕ) (old new : Shown) (e : Ending) → old.journal ≡ [] → (e ≡ Ends.Quiet → runnable_now new ≡ []) → (e ≡ Ends.Spent → IsSpent old new limit) → HasEnded limit new e
+ended limit old new Ends.Quiet none quiet spent = quiet refl
+ended limit old new Ends.Spent none quiet spent = let s = spent refl in (omega (arith, s.0, ap length none), s.1)

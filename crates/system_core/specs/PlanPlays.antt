@@ -1,5 +1,5 @@
 -- What a play of a plan and a trace shows: all that a caller learns of the system that was played.
-use Rattle.std.specs.Prelude.{◌≡◌, ◌≤◌, ℕ, Some, List, [], length, slice_get}
+use Rattle.std.specs.Prelude.{◌≡◌, ◌<◌, ◌≤◌, ℕ, Some, List, [], length, slice_get}
 use Rattle.cargo_core.specs.Lists.{IsPrefix, Merge, PrefixMerge}
 use Rattle.wire_core.specs.Picks.{PickedFrom}
 use Rattle.wire_core.specs.Journal.{EachMoment}
@@ -15,6 +15,7 @@ use Rattle.sdf_plan.specs.declared.plan.Plan.{Plan}
 use Rattle.sdf_plan.specs.declared.plan.Net.{Net}
 use Rattle.sdf_plan.specs.declared.plan.Serial.{Serial}
 use Rattle.trace_text.specs.declared.trace.Trace.{Trace}
+use Rattle.expect_core.specs.Budgets.{budget_of}
 use Rattle.system_core.specs.Shows.{State, Shown, runs, moved_in}
 use Rattle.system_core.specs.Plays.{runnable_now}
 use Rattle.system_core.specs.Lawful.{StandsLawful}
@@ -60,6 +61,8 @@ pub record IsPlayedOn (plan : Plan) (trace : Trace) (seed limit : ℕ) (s : Show
   pub cast : IsCastOf plan trace s.setting
   pub picked : PickedFrom (runs s.setting) seed [] s.journal
   pub within : length s.journal ≤ limit
+  -- whatever the limit and the seed, it gets quiet within the budget
+  pub bounded : length s.journal < budget_of plan trace
   pub stands : StandsLawful s
   pub arrives : (serial : Serial) → plan.serial ≡ Some serial → EachMoment (λ j.
       ArrivesInPart (serial_class (first_serial plan) (length serial.client) trace)

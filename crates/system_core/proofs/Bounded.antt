@@ -1,0 +1,92 @@
+-- A play of a plan and a trace is shorter than their budget.
+use Rattle.std.proofs.Common.{◌≡◌, ◌<◌, ◌+◌, ◌*◌, ℕ, None, Some, Option, List, length, slice_get, [], refl, subst}
+use Rattle.std.specs.Option.{option_map_or}
+use Rattle.wire_core.specs.declared.names.QueueRow.{QueueRow}
+use Rattle.wire_core.specs.declared.names.Entry.{Entry}
+use Rattle.wire_core.specs.Journal.{LegalJournal, BellsHold, QueuesFlow}
+use Rattle.sdf_plan.specs.declared.plan.Plan.{Plan}
+use Rattle.sdf_plan.specs.declared.plan.Net.{Net}
+use Rattle.sdf_plan.specs.declared.plan.Serial.{Serial}
+use Rattle.sdf_check.specs.Valid.{Valid}
+use Rattle.trace_text.specs.declared.trace.Trace.{Trace}
+use Rattle.region_layout.specs.Rows.{queues_of}
+use Rattle.expect_core.specs.Budgets.{budget_of}
+use Rattle.play_core.specs.Moved.{Moved}
+use Rattle.play_core.specs.Sheets.{Sheet}
+use Rattle.play_core.specs.Still.{IsPeopled}
+use Rattle.play_core.proofs.Moments.{last_moment}
+use Rattle.serial_law.specs.Parts.{SerialPart}
+use Rattle.serial_law.specs.Serial.{SerialClass, IsSerial}
+use Rattle.serial_law.proofs.Arrivals.{as_there, RowAt}
+use Rattle.actor_law.specs.Kinds.{serial_part, scene_of}
+use Rattle.actor_law.proofs.Calm.{calm_actor, sheet_is}
+use Rattle.wired_law.specs.Wiring.{HasWhole}
+use Rattle.cast_core.specs.Sources.{every_second, first_serial}
+use Rattle.cast_core.specs.Casts.{net_place}
+use Rattle.cast_core.proofs.Seconds.{second_get, second_length}
+use Rattle.play_bound.specs.Standing.{StandsFrom, Carries, serial_first, without_blk}
+use Rattle.cast_bound.proofs.Networks.{net_within}
+use Rattle.cast_bound.proofs.Bounds.{serial_within, short}
+use Rattle.system_core.specs.Shows.{Setting, Shown, hostile_in, sheet_in, moved_in, RowsStand}
+use Rattle.system_core.specs.Lawful.{StandsLawful}
+use Rattle.system_core.specs.Builds.{IsCastOf, serial_class}
+use Rattle.system_core.proofs.Begun.{There}
+
+-- what is said of a part of the serial class, as one of all
+pub row_as : (s : Setting) (m : Moved) (p : SerialPart) → (sheet_in s (serial_part p)).row m → RowAt m p
+row_as s m p = subst (λ (t : Sheet). t.row m) (sheet_is (scene_of s.cast) p)
+
+first_is : (o : Option Net) → option_map_or (λ (net : Net). 8 + 6 * length net.client) o 0 ≡ serial_first o
+first_is None = refl
+first_is (Some net) = refl
+
+class_stands : (first count : ℕ) (trace : Trace) → StandsFrom first count (serial_class first count trace)
+class_stands first count trace = record {
+  device_rx = refl;
+  device_tx = refl;
+  rx = refl;
+  tx = refl;
+  rx_count = second_length (first + 4) count;
+  tx_count = second_length (first + 5) count;
+  client_rx = λ k q at. (second_get (first + 4) count k q at).1;
+  client_tx = λ k q at. (second_get (first + 5) count k q at).1;
+}
+
+module _ (plan : Plan) (trace : Trace) (valid : Valid plan) (none : plan.blk ≡ None) (s : Shown) (cast : IsCastOf plan trace s.setting) (stands : StandsLawful s)
+    (there : (serial : Serial) → plan.serial ≡ Some serial → IsSerial (There s.setting) (hostile_in s.setting) s.setting.rows (serial_class (first_serial plan) (length serial.client) trace)) where
+  abbrev went : Moved
+  went = moved_in s.setting s.journal
+
+  rows_now : RowsStand s.setting s.journal
+  rows_now = last_moment (RowsStand s.setting) s.journal stands.lawful.rows_hold
+
+  flows_at : (j : List Entry) → QueuesFlow (hostile_in s.setting) s.setting.history s.setting.rows j → QueuesFlow (hostile_in s.setting) s.setting.history (queues_of plan) j
+  flows_at j = subst (λ rs. QueuesFlow (hostile_in s.setting) s.setting.history rs j) cast.rows
+
+  flows_now : QueuesFlow (hostile_in s.setting) s.setting.history (queues_of plan) s.journal
+  flows_now = flows_at s.journal (last_moment (QueuesFlow (hostile_in s.setting) s.setting.history s.setting.rows) s.journal stands.lawful.flows)
+
+  module _ (serial : Serial) (has : plan.serial ≡ Some serial) where
+    abbrev class : SerialClass
+    class = serial_class (first_serial plan) (length serial.client) trace
+
+    rows_of_class : IsSerial (RowAt went) (hostile_in s.setting) (queues_of plan) class
+    rows_of_class = subst (λ rs. IsSerial (RowAt went) (hostile_in s.setting) rs class) cast.rows
+        (as_there (There s.setting) (RowAt went) (λ p at. row_as s.setting went p (rows_now at.0 (serial_part p) (calm_actor s.setting.cast at.0) at.1)) (hostile_in s.setting) s.setting.rows class (there serial has))
+
+    class_at : StandsFrom (serial_first plan.net) (length serial.client) class
+    class_at = subst (λ f. StandsFrom f (length serial.client) class) (first_is plan.net) (class_stands (first_serial plan) (length serial.client) trace)
+
+    carries : Carries trace class
+    carries = record { input = refl; scripts = refl }
+
+  pub bounded : length s.journal < budget_of plan trace
+  bounded = short plan trace s.setting.cast s.setting.history s.journal valid cast.count
+      (subst (λ rs. IsPeopled rs (length s.setting.cast)) cast.rows stands.fitted.peopled)
+      (subst (λ rs. BellsHold (hostile_in s.setting) s.setting.history rs []) cast.rows stands.lawful.bells_hold.0)
+      (flows_at [] stands.lawful.flows.0)
+      (subst (λ rs. LegalJournal (hostile_in s.setting) s.setting.history rs s.journal) cast.rows stands.lawful.legal)
+      stands.lawful.brisk
+      (net_within plan trace s.setting.cast s.setting.history s.journal valid none (λ net has. subst (λ rs. HasWhole rs (net_place plan trace) s.setting.cast) cast.rows (cast.whole net has)) cast.scene flows_now rows_now)
+      (serial_within plan trace s.setting.cast s.setting.history s.journal flows_now (λ serial has. (class serial has, class_at serial has, carries serial has, rows_of_class serial has)))
+      (without_blk none)
