@@ -107,6 +107,10 @@ module _ (naming : Naming) (scene : Scene) (passed : Passed) (m : Moved) where
   actor_on (Kinds.NetCopier x) names net turn st = copier_on naming scene passed m x names (copier_row x passed st)
   actor_on (Kinds.NetClient x) names net turn st = client_on naming scene passed m x names turn.0 (client_row x passed st)
   actor_on (Kinds.NetVirtTx x) names net turn st = sender_on naming passed m x names net (sender_row x passed st)
+  actor_on (Kinds.DiskDevice x) names net turn st = absurd names
+  actor_on (Kinds.BlkDriver x) names net turn st = absurd names
+  actor_on (Kinds.BlkVirt x) names net turn st = absurd names
+  actor_on (Kinds.BlkClient x) names net turn st = absurd names
 
   module _ (sizes : ℕ → ℕ) (items : HaveItems passed m) where
     lender_holds : (v : NetVirtRx) → NamesAt naming scene (part_of (Kinds.NetVirtRx v)) → IsSized sizes (part_of (Kinds.NetVirtRx v)) → IsWhole (Kinds.NetVirtRx v) → ReceivesInTurn scene.frames v passed → NetRxStandsFor v passed → HoldsIts naming sizes m passed (actor_holder scene (Kinds.NetVirtRx v))
@@ -129,3 +133,7 @@ module _ (naming : Naming) (scene : Scene) (passed : Passed) (m : Moved) where
     actor_holds (Kinds.NetVirtTx x) names sized whole turn st takes =
         let row = sender_row x passed st in
         sender_holds naming sizes x passed m names row.from_each row.to_each st.balances
+    actor_holds (Kinds.DiskDevice x) names sized whole turn st takes = absurd names
+    actor_holds (Kinds.BlkDriver x) names sized whole turn st takes = absurd names
+    actor_holds (Kinds.BlkVirt x) names sized whole turn st takes = absurd names
+    actor_holds (Kinds.BlkClient x) names sized whole turn st takes = absurd names

@@ -18,9 +18,9 @@ use Rattle.net_tx_parts.specs.Numbers.{NetPlace, own_pools}
 use Rattle.net_pools.specs.Sizes.{net_pools, sizes_of, AreNumbered, AreSpread, share_of}
 use Rattle.net_pools.proofs.Sizing.{size_there}
 use Rattle.net_pools.proofs.Spreading.{its_none, its_one, its_two}
-use Rattle.actor_set.specs.Parts.{Part, UartPart, DriverPart, RxPart, TxPart, ClientPart, NetworkPart, SendingPart}
+use Rattle.actor_set.specs.Parts.{Part, UartPart, DriverPart, RxPart, TxPart, ClientPart, NetworkPart, SendingPart, BlockPart}
 use Rattle.actor_law.specs.Kinds.{sheet, scene_of}
-use Rattle.wired_law.specs.Wiring.{HasWhole, IsOfNetwork}
+use Rattle.wired_law.specs.Wiring.{HasWhole, HasNoBlock, IsOfNetwork}
 use Rattle.cast_pools.specs.Pooling.{net_sizes, keepers_at}
 use Rattle.cast_pools.proofs.Table.{at_receiver, at_client}
 use Rattle.cast_pools.proofs.Naming.{same_end}
@@ -243,19 +243,20 @@ module _ (rows : List QueueRow) (net : NetPlace) (cast : List Part) (whole : Has
       let is : p ≡ NetworkPart (client_at 0 x.0 x.1 x.2 (own_pools x.3)) = x.5 ∙ ap (λ n. NetworkPart (client_at n x.0 x.1 x.2 (own_pools x.3))) first in
       subst (Shares k) (sym is) (client_shares k x.0 x.1 x.2 x.3 x.4.pools (at ∙ ap Some is))
 
-  all_share : (k : ℕ) (p : Part) → slice_get cast k ≡ Some p → Shares k p
-  all_share k (UartPart rx tx input) at = bare_shares k (UartPart rx tx input) at (λ pool. refl, λ g. cc, λ j program mac q g. cc)
-  all_share k (DriverPart device_rx device_tx rx tx) at = bare_shares k (DriverPart device_rx device_tx rx tx) at (λ pool. refl, λ g. cc, λ j program mac q g. cc)
-  all_share k (RxPart rx clients) at = bare_shares k (RxPart rx clients) at (λ pool. refl, λ g. cc, λ j program mac q g. cc)
-  all_share k (TxPart tx clients) at = bare_shares k (TxPart tx clients) at (λ pool. refl, λ g. cc, λ j program mac q g. cc)
-  all_share k (ClientPart rx tx script) at = bare_shares k (ClientPart rx tx script) at (λ pool. refl, λ g. cc, λ j program mac q g. cc)
-  all_share k (NetworkPart p) at = network_shares k (NetworkPart p) at (whole.only k p at)
-  all_share k (SendingPart p) at = network_shares k (SendingPart p) at (whole.only_sender k p at)
+  all_share : HasNoBlock cast → (k : ℕ) (p : Part) → slice_get cast k ≡ Some p → Shares k p
+  all_share plain k (UartPart rx tx input) at = bare_shares k (UartPart rx tx input) at (λ pool. refl, λ g. cc, λ j program mac q g. cc)
+  all_share plain k (DriverPart device_rx device_tx rx tx) at = bare_shares k (DriverPart device_rx device_tx rx tx) at (λ pool. refl, λ g. cc, λ j program mac q g. cc)
+  all_share plain k (RxPart rx clients) at = bare_shares k (RxPart rx clients) at (λ pool. refl, λ g. cc, λ j program mac q g. cc)
+  all_share plain k (TxPart tx clients) at = bare_shares k (TxPart tx clients) at (λ pool. refl, λ g. cc, λ j program mac q g. cc)
+  all_share plain k (ClientPart rx tx script) at = bare_shares k (ClientPart rx tx script) at (λ pool. refl, λ g. cc, λ j program mac q g. cc)
+  all_share plain k (NetworkPart p) at = network_shares k (NetworkPart p) at (whole.only k p at)
+  all_share plain k (SendingPart p) at = network_shares k (SendingPart p) at (whole.only_sender k p at)
+  all_share plain k (BlockPart p) at = absurd (plain k p at)
 
-  pub are_spread : AreSpread sizes owner (keepers_at cast)
-  are_spread k keeper at pool =
+  pub are_spread : HasNoBlock cast → AreSpread sizes owner (keepers_at cast)
+  are_spread plain k keeper at pool =
       let x = map_from (λ p. keeper_of (sheet scene p)) cast k keeper at in
-      subst (λ (y : Keeper). y.hand pool ≡ share_of sizes owner k pool) x.2 (all_share k x.0 x.1 pool)
+      subst (λ (y : Keeper). y.hand pool ≡ share_of sizes owner k pool) x.2 (all_share plain k x.0 x.1 pool)
 
   -- a pool of a client is one of the two of a client
   pool_from : (qs : List ClientPools) (i : ℕ) (p : PoolAt) → slice_get (flat_map (λ (q : ClientPools). q.rx ∷ q.tx ∷ []) qs) i ≡ Some p → (j : ℕ) × (q : ClientPools) × (slice_get qs j ≡ Some q) × IsOfPools q p.number

@@ -28,12 +28,12 @@ use Rattle.pool_law.proofs.Casting.{nothing_kept}
 use Rattle.net_pools.specs.Sizes.{net_pools, AreNumbered}
 use Rattle.net_pools.proofs.Listing.{past}
 use Rattle.net_pools.proofs.Sizing.{size_there}
-use Rattle.actor_set.specs.Parts.{Part, UartPart, DriverPart, RxPart, TxPart, ClientPart, NetworkPart, SendingPart}
+use Rattle.actor_set.specs.Parts.{Part, UartPart, DriverPart, RxPart, TxPart, ClientPart, NetworkPart, SendingPart, BlockPart}
 use Rattle.actor_set.specs.Actors.{ActorStandsFor, part_of}
 use Rattle.actor_set.specs.declared.actor.Actor.{Actor}
 use Rattle.actor_set.specs.declared.actor.Actor.TheVariants as Kinds
 use Rattle.actor_law.specs.Kinds.{sheet, scene_of}
-use Rattle.wired_law.specs.Wiring.{HasWhole, IsOfNetwork, AreOfKind}
+use Rattle.wired_law.specs.Wiring.{HasWhole, HasNoBlock, IsOfNetwork, AreOfKind}
 use Rattle.cast_pools.specs.Holders.{NothingAt, NamesAt, IsSized, TakesNet}
 use Rattle.cast_pools.specs.Pooling.{net_naming, net_sizes}
 use Rattle.cast_pools.proofs.Table.{IsNetwork, net_ends}
@@ -79,14 +79,15 @@ module _ (rows : List QueueRow) (net : NetPlace) (cast : List Part) (whole : Has
   network_named p is (inr (inr (inr (inr (inr x))))) = subst (NamesAt naming scene) (sym (x.5 ∙ ap (λ n. NetworkPart (client_at n x.0 x.1 x.2 (own_pools x.3))) first)) (client_named scene net.pool net.macs net.pools x.0 x.3 x.1 x.2 x.4.pools)
 
   -- what items name at a part's queues
-  pub names_at : (k : ℕ) (p : Part) → slice_get cast k ≡ Some p → NamesAt naming scene p
-  names_at k (UartPart rx tx input) at = nothing_at k (UartPart rx tx input) at (λ h. h)
-  names_at k (DriverPart device_rx device_tx rx tx) at = nothing_at k (DriverPart device_rx device_tx rx tx) at (λ h. h)
-  names_at k (RxPart rx clients) at = nothing_at k (RxPart rx clients) at (λ h. h)
-  names_at k (TxPart tx clients) at = nothing_at k (TxPart tx clients) at (λ h. h)
-  names_at k (ClientPart rx tx script) at = nothing_at k (ClientPart rx tx script) at (λ h. h)
-  names_at k (NetworkPart p) at = network_named (NetworkPart p) tt (whole.only k p at)
-  names_at k (SendingPart p) at = network_named (SendingPart p) tt (whole.only_sender k p at)
+  pub names_at : HasNoBlock cast → (k : ℕ) (p : Part) → slice_get cast k ≡ Some p → NamesAt naming scene p
+  names_at plain k (UartPart rx tx input) at = nothing_at k (UartPart rx tx input) at (λ h. h)
+  names_at plain k (DriverPart device_rx device_tx rx tx) at = nothing_at k (DriverPart device_rx device_tx rx tx) at (λ h. h)
+  names_at plain k (RxPart rx clients) at = nothing_at k (RxPart rx clients) at (λ h. h)
+  names_at plain k (TxPart tx clients) at = nothing_at k (TxPart tx clients) at (λ h. h)
+  names_at plain k (ClientPart rx tx script) at = nothing_at k (ClientPart rx tx script) at (λ h. h)
+  names_at plain k (NetworkPart p) at = network_named (NetworkPart p) tt (whole.only k p at)
+  names_at plain k (SendingPart p) at = network_named (SendingPart p) tt (whole.only_sender k p at)
+  names_at plain k (BlockPart p) at = absurd (plain k p at)
 
   -- an actor may put only what was in its hand
   pub own_at : (passed : Passed) (x : Actor) → NamesAt naming scene (part_of x) → ActorStandsFor x passed → PutsItsOwn naming (sheet scene (part_of x))
@@ -101,6 +102,10 @@ module _ (rows : List QueueRow) (net : NetPlace) (cast : List Part) (whole : Has
   own_at passed (Kinds.NetCopier x) names st = net_puts naming scene (copier_part x) names
   own_at passed (Kinds.NetClient x) names st = net_puts naming scene (client_part x) names
   own_at passed (Kinds.NetVirtTx x) names st = send_own naming (send_part x) names (pools_apart x passed (sender_row x passed st))
+  own_at passed (Kinds.DiskDevice x) names st = absurd names
+  own_at passed (Kinds.BlkDriver x) names st = absurd names
+  own_at passed (Kinds.BlkVirt x) names st = absurd names
+  own_at passed (Kinds.BlkClient x) names st = absurd names
 
   -- the pool that is lent has its size by its number
   network_sized : AreNumbered (net_pools net.pool net.pools) → (p : Part) → IsOfNetwork net scene.frames p → IsSized (net_sizes net) p
@@ -119,6 +124,7 @@ module _ (rows : List QueueRow) (net : NetPlace) (cast : List Part) (whole : Has
   sized_at apart k (ClientPart rx tx script) at = tt
   sized_at apart k (NetworkPart p) at = network_sized apart (NetworkPart p) (whole.only k p at)
   sized_at apart k (SendingPart p) at = tt
+  sized_at apart k (BlockPart p) at = tt
 
   -- entries of the class's queues are of the network
   module _ (passed : Passed) (kinds : AreOfKind rows passed) (begins : (n : ℕ) → IsPrefix (passed.taken n) (passed.sent n)) where
@@ -149,3 +155,7 @@ module _ (rows : List QueueRow) (net : NetPlace) (cast : List Part) (whole : Has
     takes_net k (Kinds.NetCopier x) at = tt
     takes_net k (Kinds.NetClient x) at = tt
     takes_net k (Kinds.NetVirtTx x) at = subst (λ n. AreNet (passed.taken n)) (sym (sender_input (send_part x) (whole.only_sender k (send_part x) at))) (entries_net 7 (omega arith))
+    takes_net k (Kinds.DiskDevice x) at = tt
+    takes_net k (Kinds.BlkDriver x) at = tt
+    takes_net k (Kinds.BlkVirt x) at = tt
+    takes_net k (Kinds.BlkClient x) at = tt

@@ -41,7 +41,7 @@ use Rattle.actor_law.specs.Turning.{InTurn}
 use Rattle.actor_law.proofs.Calm.{calm_row}
 use Rattle.actor_law.proofs.PartEnds.{to_part, end_seat}
 use Rattle.actor_law.proofs.Starts.{fits_whole}
-use Rattle.wired_law.specs.Wiring.{HasWhole, AreOfKind}
+use Rattle.wired_law.specs.Wiring.{HasWhole, HasNoBlock, AreOfKind}
 use Rattle.cast_pools.specs.Holders.{actor_holder, holders_of}
 use Rattle.cast_pools.specs.Pooling.{net_naming, net_sizes, keepers_at, HasPools, AreAtPlay}
 use Rattle.cast_pools.proofs.Acting.{actor_on, actor_holds}
@@ -56,7 +56,7 @@ keepers_same scene [] = refl
 keepers_same scene (x ∷ actors) = ap (λ ks. keeper_of (sheet scene (part_of x)) ∷ ks) (keepers_same scene actors)
 
 -- after a call of an actor
-module _ (rows : List QueueRow) (net : NetPlace) (cast : List Part) (whole : HasWhole rows net cast) (first : net.first ≡ 0) (seated : AreSeated (sheet (scene_of cast)) rows cast) (split : (n : ℕ) (row : QueueRow) → slice_get rows n ≡ Some row → row.producer.0 ≡ row.consumer.0 → ⊥) where
+module _ (rows : List QueueRow) (net : NetPlace) (cast : List Part) (whole : HasWhole rows net cast) (plain : HasNoBlock cast) (first : net.first ≡ 0) (seated : AreSeated (sheet (scene_of cast)) rows cast) (split : (n : ℕ) (row : QueueRow) → slice_get rows n ≡ Some row → row.producer.0 ≡ row.consumer.0 → ⊥) where
   abbrev scene_ : Scene
   scene_ = scene_of cast
 
@@ -79,7 +79,7 @@ module _ (rows : List QueueRow) (net : NetPlace) (cast : List Part) (whole : Has
             let b = seated k (part_of x) at j (outlet n) outs in
             let same : a.0 ≡ b.0 = some_is (sym a.1 ∙ b.1) in
             split n b.0 b.1 (b.2 ∙ (sym a.2 ∙ ap (λ r. owner_of r Consumer) same));
-        hands_on = actor_on naming_ scene_ (with_deed passed d) m' x (names_at rows net cast whole first seated k (part_of x) at) (takes_net rows net cast whole first seated (with_deed passed d) kinds begins k x at) turn stands;
+        hands_on = actor_on naming_ scene_ (with_deed passed d) m' x (names_at rows net cast whole first seated plain k (part_of x) at) (takes_net rows net cast whole first seated (with_deed passed d) kinds begins k x at) turn stands;
       })
 
 -- at a moment
@@ -142,7 +142,7 @@ module _ (rows : List QueueRow) (pools : List PoolRow) (net : NetPlace) (actors 
     apart = λ k p at. let x = actor_at k p at in subst (λ q. AreApart (sheet scene q).ends) x.2 (ends_apart (end_at world) scene x.0 (play.fits k x.0 x.1));
     own = λ k p calm at.
         let x = actor_at k p at in
-        subst (λ q. PutsItsOwn naming (sheet scene q)) x.2 (own_at rows net cast whole has.first play.seated passed x.0 (names_at rows net cast whole has.first play.seated k (part_of x.0) (map_get part_of actors k x.0 x.1)) (play.stands k x.0 x.1));
+        subst (λ q. PutsItsOwn naming (sheet scene q)) x.2 (own_at rows net cast whole has.first play.seated passed x.0 (names_at rows net cast whole has.first play.seated play.plain k (part_of x.0) (map_get part_of actors k x.0 x.1)) (play.stands k x.0 x.1));
     legal = play.legal;
     rows_hold = play.rows_hold;
     flows = play.flows;
@@ -150,7 +150,7 @@ module _ (rows : List QueueRow) (pools : List PoolRow) (net : NetPlace) (actors 
   }
 
   owned : IsOwned naming lender hostile (start_history rows) rows (keepers_at cast) start journal
-  owned = cast_built naming lender hostile rows (sheet scene) cast journal is_cast (spread_dealt sizes (owner rows net cast whole has.first play.seated has.numbered) (keepers_at cast) (are_spread rows net cast whole has.first play.seated has.numbered))
+  owned = cast_built naming lender hostile rows (sheet scene) cast journal is_cast (spread_dealt sizes (owner rows net cast whole has.first play.seated has.numbered) (keepers_at cast) (are_spread rows net cast whole has.first play.seated has.numbered play.plain))
 
   -- each actor has what the table says
   holds_at : (k : ℕ) (h : Holder) → slice_get (holders_of actors) k ≡ Some h → HoldsIts naming sizes m passed h
@@ -158,13 +158,13 @@ module _ (rows : List QueueRow) (pools : List PoolRow) (net : NetPlace) (actors 
       let x = map_from (actor_holder scene) actors k h at in
       let here = map_get part_of actors k x.0 x.1 in
       subst (HoldsIts naming sizes m passed) x.2
-      (actor_holds naming scene passed m sizes play.items x.0 (names_at rows net cast whole has.first play.seated k (part_of x.0) here) (sized_at rows net cast whole has.first play.seated has.numbered k (part_of x.0) here) (fits_whole (end_at world) x.0 (play.fits k x.0 x.1)) (play.in_turn k x.0 x.1) (play.stands k x.0 x.1)
+      (actor_holds naming scene passed m sizes play.items x.0 (names_at rows net cast whole has.first play.seated play.plain k (part_of x.0) here) (sized_at rows net cast whole has.first play.seated has.numbered k (part_of x.0) here) (fits_whole (end_at world) x.0 (play.fits k x.0 x.1)) (play.in_turn k x.0 x.1) (play.stands k x.0 x.1)
       (carry_takes naming m passed (sheet scene (part_of x.0)).ends carry begins))
 
   starts_at : (k : ℕ) (h : Holder) → slice_get (holders_of actors) k ≡ Some h → HandWithin sizes h.keeper
   starts_at k h at =
       let there : slice_get (keepers_at cast) k ≡ Some h.keeper = ap (λ ks. slice_get ks k) (sym (keepers_same scene actors)) ∙ map_get (λ (y : Holder). y.keeper) (holders_of actors) k h at in
-      spread_within sizes (owner rows net cast whole has.first play.seated has.numbered) (keepers_at cast) (are_spread rows net cast whole has.first play.seated has.numbered) k h.keeper there
+      spread_within sizes (owner rows net cast whole has.first play.seated has.numbered) (keepers_at cast) (are_spread rows net cast whole has.first play.seated has.numbered play.plain) k h.keeper there
 
   lines : AreLines naming lender hostile (start_history rows) rows sizes (holders_of actors) start journal passed world
   lines = record {
@@ -188,7 +188,7 @@ module _ (rows : List QueueRow) (pools : List PoolRow) (net : NetPlace) (actors 
       by : (owner rows net cast whole has.first play.seated has.numbered k < length cast) ⊎ (sizes k ≡ 0) → IsPool start k (sizes k)
       by (inl lt) =
           let same : length (keepers_at cast) ≡ length cast = length-map cast (λ p. keeper_of (sheet scene p)) in
-          spread_pools sizes (owner rows net cast whole has.first play.seated has.numbered) (keepers_at cast) (are_spread rows net cast whole has.first play.seated has.numbered) k (omega (arith, lt, same))
+          spread_pools sizes (owner rows net cast whole has.first play.seated has.numbered) (keepers_at cast) (are_spread rows net cast whole has.first play.seated has.numbered play.plain) k (omega (arith, lt, same))
       by (inr none) = λ no lt is. absurd (omega (arith, lt, none))
 
   -- and the three numbers of a line are all of them

@@ -26,7 +26,7 @@ use Rattle.actor_set.specs.Actors.{FitsActor, ActorStandsFor, ActorEnd, IsWhole,
 use Rattle.actor_set.specs.declared.actor.Actor.{Actor}
 use Rattle.actor_law.specs.Kinds.{sheet, scene_of, hostiles}
 use Rattle.actor_law.specs.Turning.{InTurn}
-use Rattle.wired_law.specs.Wiring.{HasWhole, HasNoNetwork, AreOfKind}
+use Rattle.wired_law.specs.Wiring.{HasWhole, HasNoNetwork, HasNoBlock, AreOfKind}
 
 -- what items name at the queues of a network whose queues are the first
 abbrev pub net_naming : Scene → NetPlace → Naming
@@ -48,10 +48,10 @@ pub record HasPools (pools : List PoolRow) (net : NetPlace) : Type 0 where
   pub numbered : AreNumbered (net_pools net.pool net.pools)
   pub sized : AreSized (net_sizes net) 0 pools
 
--- these are the pools of a cast: those of the network that it has, or none
+-- these are the pools of a cast with no block class: those of the network that it has, or none
 abbrev pub ArePooled : List QueueRow → List PoolRow → List Part → Type 0
 ArePooled rows pools cast = (HasNoNetwork cast × (pools ≡ []))
-    ⊎ ((net : NetPlace) × HasWhole rows net cast × HasPools pools net)
+    ⊎ ((net : NetPlace) × HasWhole rows net cast × HasPools pools net × HasNoBlock cast)
 
 -- of each of these pools, by their numbers, the buffers that are counted in queues and hands and as
 -- lent are all that it has
@@ -61,12 +61,13 @@ AddUp world holders pools = (k : ℕ) (row : PoolRow) → slice_get pools k ≡ 
     + (counted world holders (record { 0 = k })).hands
     + (counted world holders (record { 0 = k })).lent ≡ row.buffers
 
--- a cast at play from the start state on: each actor has just the ends that the rows give it, fits
+-- a cast with no block class at play from the start state on: each actor has just the ends that the rows give it, fits
 -- them and stands for what passed there, of which nothing came out of turn; the journal is legal, at
 -- each moment queues hand over and rows hold; and in each queue stands what was put there and not
 -- taken
 pub record AreAtPlay (rows : List QueueRow) (actors : List Actor) (journal : List Entry)
     (passed : Passed) (world : List Queue) : Type 0 where
+  pub plain : HasNoBlock (map part_of actors)
   pub peopled : IsPeopled rows (length (map part_of actors))
   pub seated : AreSeated (sheet (scene_of (map part_of actors))) rows (map part_of actors)
   pub filled : AreFilled (sheet (scene_of (map part_of actors))) rows (map part_of actors)
@@ -84,12 +85,13 @@ pub record AreAtPlay (rows : List QueueRow) (actors : List Actor) (journal : Lis
   pub in_turn : (k : ℕ) (x : Actor) → slice_get actors k ≡ Some x
       → InTurn (scene_of (map part_of actors)) x passed
 
--- entries carried what their items name, and actor k made a call on an end of its own, and is then
+-- entries carried what their items name, and actor k of a cast with no block class made a call on an end of its own, and is then
 -- x; it stands for what passed by then, of which nothing came out of turn, and queues hand over
 -- what is of their kind
 pub record IsCall (rows : List QueueRow) (net : NetPlace) (cast : List Part) (m m' : Moved)
     (passed : Passed) (d : Deed) (k : ℕ) (x : Actor) : Type 0 where
   pub whole : HasWhole rows net cast
+  pub plain : HasNoBlock cast
   pub first : net.first ≡ 0
   pub seated : AreSeated (sheet (scene_of cast)) rows cast
   pub split : (n : ℕ) (row : QueueRow) → slice_get rows n ≡ Some row

@@ -60,7 +60,7 @@ module _ (plan : Plan) (trace : Trace) where
     macs_many : length place.macs ≡ count
     macs_many = value_count count (client_mac plan)
 
-    pool_some : (n : ℕ) → HasPool (pools_of plan) n → 1 ≤ (pool_at (pools_of plan) n).buffers
+    pool_some : (n : ℕ) → HasPool 2048 (pools_of plan) n → 1 ≤ (pool_at (pools_of plan) n).buffers
     pool_some n has =
         let same : (pool_at (pools_of plan) n).buffers ≡ has.row.buffers = ap (λ (o : Option PoolRow). option_map_or (λ (r : PoolRow). r.buffers) o 0) has.there in
         let some = has.some in
@@ -69,7 +69,7 @@ module _ (plan : Plan) (trace : Trace) where
     module _ (valid : Valid plan) where
       module _ (none : plan.blk ≡ None) where
         rows : HasPoolRows (pools_of plan) (length net.client)
-        rows = has_pools plan valid none net is
+        rows = has_pools plan valid net is
 
         each_pool : (k : ℕ) (q : ClientPools) → slice_get place.pools k ≡ Some q → (1 ≤ q.rx.buffers) × (1 ≤ q.tx.buffers)
         each_pool k q at =
