@@ -1,5 +1,5 @@
 -- How much is put to the queues of the block class, and how often its entries have to be moved.
-use Rattle.std.specs.Prelude.{◌≡◌, ◌+◌, ◌*◌, ◌<◌, ℕ, Some, List, [], ◌∷◌, length, slice_get, sum_by}
+use Rattle.std.specs.Prelude.{◌≡◌, ◌+◌, ◌*◌, ◌/◌, ◌<◌, ℕ, Some, List, [], ◌∷◌, length, slice_get, sum_by}
 use Rattle.cargo_core.specs.declared.item.Ask.{Ask}
 use Rattle.wire_core.specs.declared.names.QueueRow.{QueueRow}
 use Rattle.wire_core.specs.Journal.{Hostiles}
@@ -41,7 +41,8 @@ pub record IsBlock (scene : Scene) (hostile : Hostiles) (rows : List QueueRow) (
   pub clients_at : (k : ℕ) (c : Sharer) → slice_get clients k ≡ Some c → IsSharerAt first k c
   pub disk : (blk_sheet scene (DiskDevice first (first + 1) scene.image)).row m
   pub driver : (blk_sheet scene (BlkDriver (ways_at first))).row m
-  pub virt : (blk_sheet scene (BlkVirt (first + 2) (first + 3) pool clients)).row m
+  pub virt : (blk_sheet scene
+      (BlkVirt (first + 2) (first + 3) (length scene.image / 512) pool clients)).row m
   pub client : (k : ℕ) (asked : List Ask) → slice_get asks k ≡ Some asked → (own : PoolAt)
       × (blk_sheet scene (BlkClient (first + 4 + 2 * k) (first + 5 + 2 * k) asked own)).row m
   pub holds : (i : ℕ) → i < 4 + 2 * length asks → Holds hostile rows (first + i) 0

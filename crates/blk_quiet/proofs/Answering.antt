@@ -1,7 +1,7 @@
 -- From the responses up to the requests: where nobody is runnable, all that went to the disk came
 -- back, so all answers are given; and a client all of whose requests are answered has all its
 -- buffers in hand, so it has nothing left to ask.
-use Rattle.std.proofs.Common.{◌≡◌, ◌+◌, ◌<◌, ◌≤◌, ◌⊎◌, ◌&&◌, ℕ, suc, Bool, true, false, not, nat_lt, Some, List, length, map, drop, take, slice_get, refl, ap, ◌∙◌, subst, arith, inl, inr}
+use Rattle.std.proofs.Common.{◌≡◌, ◌+◌, ◌/◌, ◌<◌, ◌≤◌, ◌⊎◌, ◌&&◌, ℕ, suc, Bool, true, false, not, nat_lt, Some, List, length, map, drop, take, slice_get, refl, ap, ◌∙◌, subst, arith, inl, inr}
 use Rattle.std.specs.List.{filter}
 use Rattle.std.proofs.lemmas.List.{length-map}
 use Rattle.std.proofs.lemmas.Bool.{cases_lt, lt-ltb, le-ltb}
@@ -71,8 +71,8 @@ module _ (hostile : Hostiles) (h : History) (rows : List QueueRow) (actors : Nee
   want_disk : (place : ℕ) (x : Want) → slice_get ((blk_sheet scene (DiskDevice b.device_req b.device_resp scene.image)).wants m) place ≡ Some x → HasWant hostile actors x
   want_disk = want_at (blk_sheet scene (DiskDevice b.device_req b.device_resp scene.image)) w.disk
 
-  want_virt : (place : ℕ) (x : Want) → slice_get ((blk_sheet scene (BlkVirt b.req b.resp b.pool b.clients)).wants m) place ≡ Some x → HasWant hostile actors x
-  want_virt = want_at (blk_sheet scene (BlkVirt b.req b.resp b.pool b.clients)) w.virt
+  want_virt : (place : ℕ) (x : Want) → slice_get ((blk_sheet scene (BlkVirt b.req b.resp (length scene.image / 512) b.pool b.clients)).wants m) place ≡ Some x → HasWant hostile actors x
+  want_virt = want_at (blk_sheet scene (BlkVirt b.req b.resp (length scene.image / 512) b.pool b.clients)) w.virt
 
   -- from the responses up to the requests
 

@@ -1,5 +1,5 @@
 -- The block class where nobody is runnable: its actors, its queues, and what went through these.
-use Rattle.std.specs.Prelude.{◌≡◌, ◌+◌, ◌*◌, ◌≤◌, ℕ, Some, List, [], ◌∷◌, length, slice_get}
+use Rattle.std.specs.Prelude.{◌≡◌, ◌+◌, ◌*◌, ◌/◌, ◌≤◌, ℕ, Some, List, [], ◌∷◌, length, slice_get}
 use Rattle.cargo_core.specs.Ranges.{IsApart}
 use Rattle.cargo_core.specs.declared.item.Ask.{Ask}
 use Rattle.cargo_core.specs.declared.ranges.Range.{Range}
@@ -66,7 +66,8 @@ pub record IsBlock (hostile : Hostiles) (scene : Scene) (rows : List QueueRow) (
   pub disk : Plays hostile actors m
       (blk_sheet scene (DiskDevice b.device_req b.device_resp scene.image))
   pub driver : Plays hostile actors m (blk_sheet scene (BlkDriver (ways_at b)))
-  pub virt : Plays hostile actors m (blk_sheet scene (BlkVirt b.req b.resp b.pool b.clients))
+  pub virt : Plays hostile actors m
+      (blk_sheet scene (BlkVirt b.req b.resp (length scene.image / 512) b.pool b.clients))
   pub client : (k : ℕ) (c : Sharer) (asks : List Ask) → slice_get b.clients k ≡ Some c
       → slice_get b.asks k ≡ Some asks
       → Plays hostile actors m (blk_sheet scene (BlkClient c.req c.resp asks (own_pool c.pool)))
