@@ -1,5 +1,5 @@
-//! The pools of a cast, of all classes: what a program counts in queues and hands and as lent is
-//! what the table of owners says after the journal.
+//! The pools of a cast of the serial class and the network: what a program counts in queues and
+//! hands and as lent is what the table of owners says after the journal.
 #![tactic(auto)]
 
 ghost use Rattle.std.specs.Prelude.{◌≡◌, ℕ, List, map};
