@@ -122,7 +122,7 @@ module _ (plan : Plan) (trace : Trace) (actors : List Actor) (valid : Valid plan
       let p = value_is count (client_pool plan) k pool of.has_pool in
       let c = client_of k a.0 in
       let same : job_part plan trace (BlkClient k) ≡ Some (BlockPart (blk_client_at place.first k asks pool)) =
-          ap (λ xs. Some (BlockPart (blk_client_at place.first k xs (client_pool plan k)))) (sym a.1) ∙ ap (λ q. Some (BlockPart (blk_client_at place.first k asks q))) (sym p.1) in
+      ap (λ xs. Some (BlockPart (blk_client_at place.first k xs (client_pool plan k)))) (sym a.1) ∙ ap (λ q. Some (BlockPart (blk_client_at place.first k asks q))) (sym p.1) in
       ((actor_named plan c.0.pd).0, at (BlkClient k) (actor_named plan c.0.pd).0 (named.client k c.0 c.1) ∙ same)
 
   block_is : {p q : BlkPart} → Some (BlockPart p) ≡ Some (BlockPart q) → q ≡ p
@@ -228,7 +228,7 @@ module _ (plan : Plan) (trace : Trace) (actors : List Actor) (valid : Valid plan
       let a = entry_there j entry first in
       let b = entry_there k entry second in
       let before : StandsBefore b.0.partition (map (λ (x : BlkClientKeys). x.partition) blk.client) k =
-          (j, lt, map_get (λ (x : BlkClientKeys). x.partition) blk.client j a.0 a.1 ∙ ap (λ n. Some n) (a.2 ∙ sym b.2)) in
+      (j, lt, map_get (λ (x : BlkClientKeys). x.partition) blk.client j a.0 a.1 ∙ ap (λ n. Some n) (a.2 ∙ sym b.2)) in
       kept plan 29 (At.BlkClient k) valid (omega arith) (omega arith) (blk_client_walked plan blk k is (there_below blk.client k b.0 b.1))
       (here-some plan.blk blk (λ (x : Blk). IsSomeAnd (slice_get x.client k) (λ (c : BlkClientKeys). (3 < c.partition) ⊎ StandsBefore c.partition (map (λ (o : BlkClientKeys). o.partition) x.client) k)) is
       (here-some (slice_get blk.client k) b.0 (λ (c : BlkClientKeys). (3 < c.partition) ⊎ StandsBefore c.partition (map (λ (o : BlkClientKeys). o.partition) blk.client) k) b.1 (inr before)))
