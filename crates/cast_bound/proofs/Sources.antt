@@ -71,7 +71,7 @@ module _ (plan : Plan) (net : Net) (is : plan.net ≡ Some net) where
 
   device_pool : (pool_at (pools_of plan) 0).buffers ≡ net.rx_buffers
   unfolding net_pools pool_in
-  device_pool = ap (λ rows. (pool_at rows 0).buffers) rows_are
+  device_pool = ap (λ rows. (pool_at rows (0)).buffers) rows_are
 
   client_pool : (c : ℕ) (client : NetClient) → slice_get net.client c ≡ Some client → (client_pools plan c).rx.buffers ≡ client.rx_buffers
   unfolding net_pools

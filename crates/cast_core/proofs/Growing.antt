@@ -97,12 +97,12 @@ where_no_serial rows first clients actor None f h = f h
 where_no_serial rows first clients actor (Some x) f h = h
 
 -- an actor that is none of the class's first and no client has no job there
-pub no_job : (rows : List QueueRow) (clients actor : ℕ) (a b c d : QueueRow) → slice_get rows 0 ≡ Some a → slice_get rows 0 ≡ Some b → slice_get rows 4 ≡ Some c → slice_get rows 6 ≡ Some d
+pub no_job : (rows : List QueueRow) (clients actor : ℕ) (a b c d : QueueRow) → slice_get rows (0) ≡ Some a → slice_get rows (0) ≡ Some b → slice_get rows (4) ≡ Some c → slice_get rows (6) ≡ Some d
     → (a.consumer.0 ≡ actor → ⊥) → (b.producer.0 ≡ actor → ⊥) → (c.consumer.0 ≡ actor → ⊥) → (d.producer.0 ≡ actor → ⊥) → IsNoNetClient rows clients actor → HasNoNetJob rows clients actor
-no_job rows clients actor a b c d at_a at_b at_c at_d no_a no_b no_c no_d none OfNet.Device h = differs_at rows 0 0 actor a refl at_a no_a h.1
-no_job rows clients actor a b c d at_a at_b at_c at_d no_a no_b no_c no_d none OfNet.Driver h = produces_not rows 0 actor b at_b no_b h.1
-no_job rows clients actor a b c d at_a at_b at_c at_d no_a no_b no_c no_d none OfNet.Receiver h = differs_at rows 4 4 actor c refl at_c no_c h.1
-no_job rows clients actor a b c d at_a at_b at_c at_d no_a no_b no_c no_d none OfNet.Sender h = produces_not rows 6 actor d at_d no_d h.1
+no_job rows clients actor a b c d at_a at_b at_c at_d no_a no_b no_c no_d none OfNet.Device h = differs_at rows (0) 0 actor a refl at_a no_a h.1
+no_job rows clients actor a b c d at_a at_b at_c at_d no_a no_b no_c no_d none OfNet.Driver h = produces_not rows (0) actor b at_b no_b h.1
+no_job rows clients actor a b c d at_a at_b at_c at_d no_a no_b no_c no_d none OfNet.Receiver h = differs_at rows (4) 4 actor c refl at_c no_c h.1
+no_job rows clients actor a b c d at_a at_b at_c at_d no_a no_b no_c no_d none OfNet.Sender h = produces_not rows (6) actor d at_d no_d h.1
 no_job rows clients actor a b c d at_a at_b at_c at_d no_a no_b no_c no_d none (OfNet.Copier k) h = (none k h.0).0 h.1
 no_job rows clients actor a b c d at_a at_b at_c at_d no_a no_b no_c no_d none (OfNet.Client k) h = (none k h.0).1 h.1
 

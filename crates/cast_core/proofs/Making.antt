@@ -123,7 +123,7 @@ lessees_are (suc n) k ends mac each =
 -- a receiving virtualiser
 module _ (plan : Plan) (rows : List PoolRow) (clients many base : ℕ) (ends : List LeaseEnds) (pages : List Paged) (v : NetVirtRx)
     (ends_are : ends ≡ per_client clients (lease_ends plan)) (pages_are : pages ≡ per_client many (new_page 2048 0)) (some : 1 ≤ many)
-    (base_is : base ≡ (pool_at rows 0).base) (many_are : many ≡ (pool_at rows 0).buffers)
+    (base_is : base ≡ (pool_at rows (0)).base) (many_are : many ≡ (pool_at rows (0)).buffers)
     (active free : QueueId) (first : active.0 ≡ 4) (second : free.0 ≡ 5) (new : IsNewRx active free base ends pages v) where
   pub rx_new : RxStandsFor v nothing_passed → IsNewLender v
   rx_new stands = record {
@@ -145,15 +145,15 @@ module _ (plan : Plan) (rows : List PoolRow) (clients many base : ℕ) (ends : L
       ∙ (ap (λ l. lessees (map (λ (c : LeaseEnds). c.mac) (per_client clients (lease_ends plan))) (map (λ (c : LeaseEnds). c.active) (per_client clients (lease_ends plan))) l) from
       ∙ lessees_are clients 0 (lease_ends plan) (client_mac plan) (λ c. let z : c ≡ 0 + c = omega arith in ap (λ m. record { mac = client_mac plan c; active = record { 0 = client_first 0 m }; free = record { 0 = client_first 0 m + 1 } }) z)))
 
-  pub rx_part : receiver_part v ≡ receiver_at 0 (pool_at rows 0) (per_client clients (client_mac plan))
+  pub rx_part : receiver_part v ≡ receiver_at 0 (pool_at rows (0)) (per_client clients (client_mac plan))
   rx_part =
       let input : v.ends.input.queue.0 ≡ 4 = ap (λ (q : QueueId). q.0) (input_is active free _ _ v.ends new.ends) ∙ first in
       let output : v.ends.output.queue.0 ≡ 5 = ap (λ (q : QueueId). q.0) (output_is active free _ _ v.ends new.ends) ∙ second in
-      let pool : stock_pool v.work.stock ≡ pool_at rows 0 = stock_is v.work.stock 0 many pages pages_are some new.work.is_start (pool_at rows 0).base (new.work.base_is ∙ base_is) ∙ ap (λ n. record { number = 0; base = (pool_at rows 0).base; buffers = n }) many_are in
+      let pool : stock_pool v.work.stock ≡ pool_at rows (0) = stock_is v.work.stock 0 many pages pages_are some new.work.is_start (pool_at rows (0)).base (new.work.base_is ∙ base_is) ∙ ap (λ n. record { number = 0; base = (pool_at rows (0)).base; buffers = n }) many_are in
       ap (λ n. NetReceiver n v.ends.output.queue.0 (stock_pool v.work.stock) (lessees_of v)) input
       ∙ (ap (λ n. NetReceiver 4 n (stock_pool v.work.stock) (lessees_of v)) output
       ∙ (ap (λ p. NetReceiver 4 5 p (lessees_of v)) pool
-      ∙ ap (λ l. NetReceiver 4 5 (pool_at rows 0) l) lessees_is))
+      ∙ ap (λ l. NetReceiver 4 5 (pool_at rows (0)) l) lessees_is))
 
 shippers_are : (n k : ℕ) (ends : ℕ → TxEnds) (pools : ℕ → ClientPools)
     → ((c : ℕ) → ends c ≡ record { active = record { 0 = client_first 0 (k + c) + 4 }; free = record { 0 = client_first 0 (k + c) + 5 }; pool = record { 0 = (pools c).tx.number }; buffers = (pools c).tx.buffers; base = (pools c).tx.base })

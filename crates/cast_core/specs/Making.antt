@@ -57,7 +57,7 @@ pub record HasPool (size : ℕ) (rows : List PoolRow) (n : ℕ) : Type 0 where
 -- the pools of a network class with so many clients are there: the device's, and two of each
 -- client, and no two clients send in buffers at one address
 pub record HasPools (rows : List PoolRow) (clients : ℕ) : Type 0 where
-  pub first : HasPool 2048 rows 0
+  pub first : HasPool 2048 rows (0)
   pub rx : (c : ℕ) → c < clients → HasPool 2048 rows (1 + 2 * c)
   pub tx : (c : ℕ) → c < clients → HasPool 2048 rows (2 + 2 * c)
   pub apart : (j k : ℕ) → j < k → k < clients

@@ -113,10 +113,10 @@ module _ (plan : Plan) where
       row i o at = at_client c i (client_queue c + i) o there refl at
 
       copier : Each (Holds (NetCopier c)) (job_ends plan (NetCopier c))
-      copier = ((one_way NetReceiver (NetCopier c), at_client c 0 (client_queue c) (one_way NetReceiver (NetCopier c)) there (omega arith) refl, refl, refl), ((one_way (NetClient c) (NetCopier c), row 3 (one_way (NetClient c) (NetCopier c)) refl, refl, refl), ((one_way (NetCopier c) (NetClient c), row 2 (one_way (NetCopier c) (NetClient c)) refl, refl, refl), ((one_way (NetCopier c) NetReceiver, row 1 (one_way (NetCopier c) NetReceiver) refl, refl, refl), tt))))
+      copier = ((one_way NetReceiver (NetCopier c), at_client c 0 (client_queue c) (one_way NetReceiver (NetCopier c)) there (omega arith) refl, refl, refl), ((one_way (NetClient c) (NetCopier c), row (3) (one_way (NetClient c) (NetCopier c)) refl, refl, refl), ((one_way (NetCopier c) (NetClient c), row (2) (one_way (NetCopier c) (NetClient c)) refl, refl, refl), ((one_way (NetCopier c) NetReceiver, row (1) (one_way (NetCopier c) NetReceiver) refl, refl, refl), tt))))
 
       client : Each (Holds (NetClient c)) (job_ends plan (NetClient c))
-      client = ((one_way (NetCopier c) (NetClient c), row 2 (one_way (NetCopier c) (NetClient c)) refl, refl, refl), ((one_way (NetClient c) (NetCopier c), row 3 (one_way (NetClient c) (NetCopier c)) refl, refl, refl), ((one_way NetSender (NetClient c), row 5 (one_way NetSender (NetClient c)) refl, refl, refl), ((one_way (NetClient c) NetSender, row 4 (one_way (NetClient c) NetSender) refl, refl, refl), tt))))
+      client = ((one_way (NetCopier c) (NetClient c), row (2) (one_way (NetCopier c) (NetClient c)) refl, refl, refl), ((one_way (NetClient c) (NetCopier c), row (3) (one_way (NetClient c) (NetCopier c)) refl, refl, refl), ((one_way NetSender (NetClient c), row (5) (one_way NetSender (NetClient c)) refl, refl, refl), ((one_way (NetClient c) NetSender, row (4) (one_way (NetClient c) NetSender) refl, refl, refl), tt))))
 
   module _ (serial : Serial) (is : plan.serial ≡ Some serial) where
     abbrev speakers : List Owners

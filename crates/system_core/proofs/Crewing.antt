@@ -72,11 +72,11 @@ module _ (plan : Plan) (valid : Valid plan) (blk : plan.blk ≡ None) (rows : Li
       let seat = has_seat plan blk job k has 0 (intake queue) at in
       (seat.0, ap (λ rs. slice_get rs queue) rows_are ∙ seat.1, seat.2)
 
-  pub net_is : (net : Net) → plan.net ≡ Some net → (numbers : List ℕ) → AreTakers rows 10 6 (length net.client) numbers → (device : ℕ) → IsTaker rows 0 device → crew_of (Some device) numbers ≡ net_crew plan
+  pub net_is : (net : Net) → plan.net ≡ Some net → (numbers : List ℕ) → AreTakers rows (10) 6 (length net.client) numbers → (device : ℕ) → IsTaker rows (0) device → crew_of (Some device) numbers ≡ net_crew plan
   net_is net has numbers takers device at =
       let named = net_named plan net has in
-      let who : device ≡ (eth_number plan).0 = one_taker rows 0 device (eth_number plan).0 at (takes jobs.EthDevice (eth_number plan).0 named.device 0 refl) in
-      let all = takers_are rows 10 6 numbers net.client (λ (c : NetClient). number_named plan c.pd) takers (λ c x client.
+      let who : device ≡ (eth_number plan).0 = one_taker rows (0) device (eth_number plan).0 at (takes jobs.EthDevice (eth_number plan).0 named.device 0 refl) in
+      let all = takers_are rows (10) 6 numbers net.client (λ (c : NetClient). number_named plan c.pd) takers (λ c x client.
       let e : 8 + 6 * c + 2 ≡ 10 + 6 * c = omega arith in
       subst (λ n. IsTaker rows n (number_named plan x.pd)) e (takes (jobs.NetClient c) (number_named plan x.pd) (named.client c x client) (8 + 6 * c + 2) refl)) in
       ap (λ k. crew_of (Some k) numbers) who
