@@ -23,6 +23,7 @@ use Rattle.cast_law.specs.Seats.{AreSeated}
 use Rattle.cast_law.proofs.Joined.{all_seated, whole_network, scene_of_plan}
 use Rattle.cast_law.proofs.Seated.{part_there}
 use Rattle.cast_law.proofs.Wired.{no_network}
+use Rattle.cast_law.proofs.Blocks.{no_block}
 use Rattle.cast_law.proofs.Pooled.{numbered_is, sized_is, many_are, no_pools}
 use Rattle.cast_pools.specs.Pooling.{ArePooled}
 use Rattle.system_core.specs.Shows.{Crew}
@@ -49,17 +50,18 @@ no_blk plan h = go plan.blk h
 -- actors that are cast, at the plan's rows
 module _ (plan : Plan) (valid : Valid plan) (blk : plan.blk ≡ None) (trace : Trace) (read : IsReadFor plan trace) (actors : List Actor) (cast : AreCast plan trace actors) (rows : List QueueRow) (rows_are : rows ≡ queues_of plan) where
   pub are_seated : AreSeated rows actors
-  are_seated = subst (λ rs. AreSeated rs actors) (sym rows_are) (all_seated plan trace actors valid blk read cast)
+  are_seated = subst (λ rs. AreSeated rs actors) (sym rows_are) (all_seated plan trace actors valid read cast)
 
   pub are_pooled : (pools : List PoolRow) → pools ≡ pools_of plan → ArePooled rows pools (map part_of actors)
   are_pooled pools is = subst (λ ps. ArePooled rows ps (map part_of actors)) (sym is) (by plan.net refl)
     where
       by : (o : Option Net) → plan.net ≡ o → ArePooled rows (pools_of plan) (map part_of actors)
-      by None none = inl (no_network plan trace actors valid blk cast none, no_pools plan blk none)
+      by None none = inl (no_network plan trace actors valid cast none, no_pools plan blk none)
       by (Some net) has = inr (
         net_place plan trace,
-        subst (λ rs. HasWhole rs (net_place plan trace) (map part_of actors)) (sym rows_are) (whole_network plan trace actors valid blk read cast net has),
+        subst (λ rs. HasWhole rs (net_place plan trace) (map part_of actors)) (sym rows_are) (whole_network plan trace actors valid read cast net has),
         record { first = refl; many = many_are plan trace blk net has; numbered = numbered_is plan trace; sized = sized_is plan trace blk net has },
+        no_block plan trace actors valid cast blk,
       )
 
   pub is_built : (pools : List PoolRow) → pools ≡ pools_of plan → (world : List Queue) (net serial : Crew) → net ≡ net_crew plan → serial ≡ serial_crew plan → IsBuilt plan trace (started (start_history rows) rows pools world actors net serial)
@@ -68,9 +70,9 @@ module _ (plan : Plan) (valid : Valid plan) (blk : plan.blk ≡ None) (trace : T
       rows = rows_are;
       pools = pools_are;
       count = length-map actors part_of ∙ cast.count_is;
-      scene = scene_of_plan plan trace actors valid blk cast;
+      scene = scene_of_plan plan trace actors valid cast;
       parts = part_there plan trace actors valid cast;
-      whole = λ n has. subst (λ rs. HasWhole rs (net_place plan trace) (map part_of actors)) (sym rows_are) (whole_network plan trace actors valid blk read cast n has);
+      whole = λ n has. subst (λ rs. HasWhole rs (net_place plan trace) (map part_of actors)) (sym rows_are) (whole_network plan trace actors valid read cast n has);
       net = net_is;
       serial = serial_is;
     };

@@ -62,14 +62,14 @@ takers_more rows first apart count numbers new actor old is one = record {
 one_taker : (rows : List QueueRow) (queue a b : ℕ) → IsTaker rows queue a → IsTaker rows queue b → a ≡ b
 one_taker rows queue a b x y = sym x.2 ∙ (ap (λ (r : QueueRow). r.consumer.0) (some_is (sym x.1 ∙ y.1)) ∙ y.2)
 
-module _ (plan : Plan) (valid : Valid plan) (blk : plan.blk ≡ None) (rows : List QueueRow) (rows_are : rows ≡ queues_of plan) where
+module _ (plan : Plan) (valid : Valid plan) (rows : List QueueRow) (rows_are : rows ≡ queues_of plan) where
   pub rows_enough : HasRows plan rows
-  rows_enough = subst (HasRows plan) (sym rows_are) (has_rows plan blk valid)
+  rows_enough = subst (HasRows plan) (sym rows_are) (has_rows plan valid)
 
   -- the actor of a job takes where the job does
   takes : (job : Job) (k : ℕ) → HasJob plan job k → (queue : ℕ) → slice_get (job_ends plan job) 0 ≡ Some (intake queue) → IsTaker rows queue k
   takes job k has queue at =
-      let seat = has_seat plan blk job k has 0 (intake queue) at in
+      let seat = has_seat plan job k has 0 (intake queue) at in
       (seat.0, ap (λ rs. slice_get rs queue) rows_are ∙ seat.1, seat.2)
 
   pub net_is : (net : Net) → plan.net ≡ Some net → (numbers : List ℕ) → AreTakers rows (10) 6 (length net.client) numbers → (device : ℕ) → IsTaker rows (0) device → crew_of (Some device) numbers ≡ net_crew plan

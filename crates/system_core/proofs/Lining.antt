@@ -21,7 +21,7 @@ use Rattle.actor_set.specs.Parts.{Part}
 use Rattle.actor_set.specs.Actors.{part_of, bad_of}
 use Rattle.actor_set.specs.declared.actor.Actor.{Actor}
 use Rattle.actor_law.specs.Kinds.{sheet, scene_of, hostiles}
-use Rattle.wired_law.specs.Wiring.{HasWhole, HasNoNetwork}
+use Rattle.wired_law.specs.Wiring.{HasWhole, HasNoNetwork, HasNoBlock}
 use Rattle.cast_pools.specs.Holders.{holders_of}
 use Rattle.cast_pools.specs.Pooling.{net_naming, keepers_at, HasPools, ArePooled, AddUp, AreAtPlay}
 use Rattle.cast_pools.proofs.Goodness.{none_bad}
@@ -40,9 +40,18 @@ module _ (a : Inside) (i : IsSystem a) where
   abbrev cast : List Part
   cast = map part_of a.actors.items
 
+  -- where it has a network whose pools it follows, there is no block class beside it
+  beside_none : (net : NetPlace) → HasWhole a.rows.items net cast → HasNoBlock cast
+  beside_none net whole = by i.fitted.pooled
+    where
+      by : ArePooled a.rows.items a.pools.items cast → HasNoBlock cast
+      by (inl h) = absurd (some_network net whole h.0)
+      by (inr x) = x.3
+
   -- from the start state on it is a cast at play
-  at_play : (setting_of a).history ≡ start_history a.rows.items → AreAtPlay a.rows.items a.actors.items a.journal.items i.holds.passed a.world
-  at_play anew = record {
+  at_play : HasNoBlock cast → (setting_of a).history ≡ start_history a.rows.items → AreAtPlay a.rows.items a.actors.items a.journal.items i.holds.passed a.world
+  at_play plain anew = record {
+    plain = plain;
     peopled = i.fitted.peopled;
     seated = i.fitted.seated;
     filled = i.fitted.ends;
@@ -59,7 +68,7 @@ module _ (a : Inside) (i : IsSystem a) where
   }
 
   carried : (anew : (setting_of a).history ≡ start_history a.rows.items) (net : NetPlace) → HasWhole a.rows.items net cast → HasPools a.pools.items net → CarryPages (net_naming (scene_of cast) net) (moved (start_history a.rows.items) a.journal.items) i.holds.passed
-  carried anew net whole has = subst (λ h. CarryPages (net_naming (scene_of cast) net) (moved h a.journal.items) i.holds.passed) anew (i.holds.carry net whole has.first)
+  carried anew net whole has = subst (λ h. CarryPages (net_naming (scene_of cast) net) (moved h a.journal.items) i.holds.passed) anew (i.holds.carry net whole (beside_none net whole) has.first)
 
   -- the lines are those of the table
   pub pool_lines : (net : NetPlace) → HasWhole a.rows.items net cast → HasPools a.pools.items net → counted_lines a.world (holders_of a.actors.items) 0 a.pools.items ≡ table_lines (replay (net_naming (scene_of cast) net) (start_history a.rows.items) (start_table (keepers_at cast)) a.journal.items) 0 a.pools.items
@@ -67,7 +76,7 @@ module _ (a : Inside) (i : IsSystem a) where
     where
       by : (a.pools.items ≡ []) ⊎ ((setting_of a).history ≡ start_history a.rows.items) → counted_lines a.world (holders_of a.actors.items) 0 a.pools.items ≡ table_lines (replay (net_naming (scene_of cast) net) (start_history a.rows.items) (start_table (keepers_at cast)) a.journal.items) 0 a.pools.items
       by (inl none) = rw none refl
-      by (inr anew) = play_lines a.rows.items a.pools.items net a.actors.items a.journal.items i.holds.passed a.world whole has (at_play anew) (carried anew net whole has)
+      by (inr anew) = play_lines a.rows.items a.pools.items net a.actors.items a.journal.items i.holds.passed a.world whole has (at_play (beside_none net whole) anew) (carried anew net whole has)
 
   pub without_pools : HasNoNetwork cast → counted_lines a.world (holders_of a.actors.items) 0 a.pools.items ≡ []
   without_pools none = by i.fitted.pooled
@@ -86,7 +95,7 @@ module _ (a : Inside) (i : IsSystem a) where
       by : ArePooled a.rows.items a.pools.items cast → (a.pools.items ≡ []) ⊎ ((setting_of a).history ≡ start_history a.rows.items) → AddUp a.world (holders_of a.actors.items) a.pools.items
       by (inl h) anew = empty h.1
       by (inr x) (inl none) = empty none
-      by (inr x) (inr anew) = play_whole a.rows.items a.pools.items x.0 a.actors.items a.journal.items i.holds.passed a.world x.1 x.2 (at_play anew) (carried anew x.0 x.1 x.2)
+      by (inr x) (inr anew) = play_whole a.rows.items a.pools.items x.0 a.actors.items a.journal.items i.holds.passed a.world x.1 x.2 (at_play x.3 anew) (carried anew x.0 x.1 x.2)
 
   pairs_many : (qs : List ClientPools) → length (flat_map (λ (q : ClientPools). q.rx ∷ q.tx ∷ []) qs) ≡ 2 * length qs
   pairs_many [] = refl

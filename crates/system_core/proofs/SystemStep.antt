@@ -42,7 +42,7 @@ use Rattle.actor_set.specs.declared.actor.Actor.{Actor}
 use Rattle.actor_law.proofs.Beside.{fits_beside, stands_beside}
 use Rattle.actor_law.proofs.PartEnds.{same_part}
 use Rattle.actor_law.proofs.Starts.{fits_whole}
-use Rattle.wired_law.specs.Wiring.{HasWhole, IsWired, AreAtWork, ClientsSend}
+use Rattle.wired_law.specs.Wiring.{HasWhole, HasNoBlock, IsWired, AreAtWork, ClientsSend}
 use Rattle.cast_pools.specs.Pooling.{net_naming}
 use Rattle.cast_pools.proofs.Playing.{carry_next}
 use Rattle.wired_law.proofs.Wiring.{in_turn, sends_on}
@@ -271,13 +271,14 @@ module _ (history : History) (rows : List QueueRow) (w v : List Queue) (actors :
   unfolding passed'
   sends' wired new part = sends_on (end_at w) (end_at v) rows actors (slice_set actors k x') old.passed deed wired (all_parts part) works old.sends (works' new)
 
-  carry' : AreSeated (sheet (scene_of (map part_of actors))) rows (map part_of actors) → ((n : ℕ) (row : QueueRow) → slice_get rows n ≡ Some row → row.producer.0 ≡ row.consumer.0 → ⊥) → IsWired rows (map part_of actors) → FitsActor (end_at v) x' → part_of x' ≡ part_of x → (net : NetPlace) → HasWhole rows net (map part_of (slice_set actors k x')) → net.first ≡ 0 → CarryPages (net_naming (scene_of (map part_of (slice_set actors k x'))) net) (moved history (journal ++ entry_of k e ∷ [])) passed'
+  carry' : AreSeated (sheet (scene_of (map part_of actors))) rows (map part_of actors) → ((n : ℕ) (row : QueueRow) → slice_get rows n ≡ Some row → row.producer.0 ≡ row.consumer.0 → ⊥) → IsWired rows (map part_of actors) → FitsActor (end_at v) x' → part_of x' ≡ part_of x → (net : NetPlace) → HasWhole rows net (map part_of (slice_set actors k x')) → HasNoBlock (map part_of (slice_set actors k x')) → net.first ≡ 0 → CarryPages (net_naming (scene_of (map part_of (slice_set actors k x'))) net) (moved history (journal ++ entry_of k e ∷ [])) passed'
   unfolding passed' deed
-  carry' seated split wired new part net whole first =
+  carry' seated split wired new part net whole plain first =
       let whole_old : HasWhole rows net (map part_of actors) = subst (HasWhole rows net) (all_parts part) whole in
+      let plain_old : HasNoBlock (map part_of actors) = subst HasNoBlock (all_parts part) plain in
       let turn_new : InTurn (scene_of (map part_of (slice_set actors k x'))) x' passed' = in_turn (end_at v) rows (slice_set actors k x') passed' (subst (IsWired rows) (sym (all_parts part)) wired) (works' new) (sends' wired new part) k x' (slice_get_written actors k x x' here) in
       subst (λ c. CarryPages (net_naming (scene_of c) net) (moved history (journal ++ entry_of k e ∷ [])) passed') (sym (all_parts part))
-      (carry_next rows net (map part_of actors) whole_old first seated split old.passed deed (moved history journal) (moved history (journal ++ entry_of k e ∷ [])) (old.carry net whole_old first)
+      (carry_next rows net (map part_of actors) whole_old plain_old first seated split old.passed deed (moved history journal) (moved history (journal ++ entry_of k e ∷ [])) (old.carry net whole_old plain_old first)
       (record { taken = shows_taken'; sent = shows_sent' }) (λ n. ((queue_at v n).entries, sym (there_after n (eqb_tells e.queue.0 n)))) (λ n row at j c there. kinds' n row at j c there (eqb_tells e.queue.0 n))
       k x' (map_get part_of actors k x here ∙ ap Some (sym part)) (subst (λ c. InTurn (scene_of c) x' passed') (all_parts part) turn_new) (st.kept old.passed (old.stands k x here)) (fits_whole (end_at v) x' new)
       (same_part x' x (role_of e.op) e.queue.0 (sym part) (fits_whole (end_at w) x (old.fits k x here)) own))
