@@ -1,0 +1,268 @@
+//! Plays descriptions with a network. A row of the input is `FILE | TRACE | FIRST | COUNT`: a
+//! description, a trace for it, and the seeds, so many from the first on. For each seed one line is
+//! written: how the play ended, how many frames the wire got of those that the clients are to send,
+//! and how many each client recorded of those that are for it. Where the wire lacks a frame or has
+//! a client's frames out of order, or a record isn't what it must be, the line says so.
+#![tactic(auto)]
+
+ghost use Rattle.std.specs.Prelude.{◌≡◌, ◌<◌, ◌≤◌, IfOk, length, None};
+ghost use Rattle.sdf_check.specs.Valid.{Valid};
+ghost use Rattle.sdf_model.specs.Counts.{text_most};
+ghost use Rattle.system_core.specs.Builds.{unplayed};
+ghost use Rattle.trace_text.specs.Traces.{IsReadFor};
+
+use cargo_core::{FrameLog, Memory};
+use expect_core::Report;
+use frame_core::read_mac;
+use net_expect::{answers_for, frames_for};
+use region_layout::lay_out;
+use sdf_check::check;
+use sdf_model::{TEXT_MOST, read_description};
+use sdf_plan::{Net, Plan, SdfFault};
+use std::alloc::Global;
+use std::{fs, io};
+use system_core::{Ending, System, unplayed};
+use trace_text::{Trace, TraceFault, is_source, read_trace, runs};
+
+/// The most steps of a play.
+const STEPS: u64 = 268_435_456;
+
+// The plan that a text spells, where no rule is broken.
+fn judged(alloc: Global, text: &str) -> Result<Plan, SdfFault>
+    requires { length text.now ≤ text_most }
+    ensures { IfOk result Valid }
+{
+    let plan = read_description(alloc, text.as_bytes())?;
+    check(alloc, &plan)?;
+    Ok(plan)
+}
+
+// Whether two lists have the same frames.
+fn are_same(one: &FrameLog, other: &FrameLog) -> bool {
+    if one.len() != other.len() {
+        return false;
+    }
+    for k in 0..one.len() {
+        if k < other.len() && one.get(k) != other.get(k) {
+            return false;
+        }
+    }
+    true
+}
+
+// Whether frames stand among others in their order.
+fn stand_in_order(frames: &FrameLog, among: &FrameLog) -> bool {
+    let mut found = 0;
+    for k in 0..among.len() {
+        if found < frames.len() && among.get(k) == frames.get(found) {
+            found += 1;
+        }
+    }
+    found == frames.len()
+}
+
+// The frames that a client must record.
+fn to_record(alloc: Global, net: &Net, trace: &Trace, client: usize) -> Result<FrameLog, Memory>
+    requires { client < length net.now.client }
+{
+    match read_mac(net.client.get(client).mac.as_str()) {
+        Some(mac) => frames_for(alloc, trace.frames(), mac),
+        None => Ok(FrameLog::new(alloc)),
+    }
+}
+
+// The frames that an echo must send.
+fn to_answer(alloc: Global, net: &Net, trace: &Trace, client: usize) -> Result<FrameLog, Memory>
+    requires { client < length net.now.client }
+{
+    match read_mac(net.client.get(client).mac.as_str()) {
+        Some(mac) => answers_for(alloc, trace.frames(), mac),
+        None => Ok(FrameLog::new(alloc)),
+    }
+}
+
+// A copy of some frames.
+fn copied(alloc: Global, frames: &FrameLog) -> Result<FrameLog, Memory> {
+    let mut copy = FrameLog::new(alloc);
+    for k in 0..frames.len() {
+        copy.push(frames.get(k))?;
+    }
+    Ok(copy)
+}
+
+// The frames that a client must send.
+fn to_send(
+    alloc: Global,
+    plan: &Plan,
+    net: &Net,
+    trace: &Trace,
+    client: usize,
+) -> Result<FrameLog, Memory>
+    requires { client < length net.now.client }
+{
+    let domains = plan.protection_domain.as_slice();
+    if is_source(plan, client as u64) && client < trace.sends.len() {
+        copied(alloc, trace.sends.get(client))
+    } else if runs(domains, &net.client.get(client).pd, "net_echo") {
+        to_answer(alloc, net, trace, client)
+    } else {
+        Ok(FrameLog::new(alloc))
+    }
+}
+
+// What the wire got.
+fn add_wire(
+    alloc: Global,
+    to: &mut String,
+    plan: &Plan,
+    net: &Net,
+    trace: &Trace,
+    wire: &FrameLog,
+) -> Result<(), Memory> {
+    let mut due = 0usize;
+    let mut in_order = true;
+    for client in 0..net.client.len() {
+        let sends = to_send(alloc, plan, net, trace, client)?;
+        due = due.saturating_add(sends.len());
+        in_order = stand_in_order(&sends, wire) && in_order;
+    }
+    write!(to, " wire {} of {}", wire.len(), due)?;
+    if !in_order {
+        to.push_str(" and not those")?;
+    }
+    Ok(())
+}
+
+// What a client recorded.
+fn add_client(
+    alloc: Global,
+    to: &mut String,
+    net: &Net,
+    trace: &Trace,
+    record: &FrameLog,
+    client: usize,
+) -> Result<(), Memory>
+    requires { client < length net.now.client }
+{
+    let wanted = to_record(alloc, net, trace, client)?;
+    write!(to, " client {client} {} of {}", record.len(), wanted.len())?;
+    if !are_same(record, &wanted) {
+        to.push_str(" and not those")?;
+    }
+    Ok(())
+}
+
+// What a play came to.
+fn told(
+    alloc: Global,
+    plan: &Plan,
+    report: &Report,
+    trace: &Trace,
+    ending: Ending,
+) -> Result<String, Memory> {
+    let mut line = match ending {
+        Ending::Quiet => String::from_str(alloc, "quiet")?,
+        Ending::Spent => format!(in alloc; "spent {}", report.steps)?,
+    };
+    if let (Some(net), Some(wire)) = (&plan.net, &report.wire) {
+        add_wire(alloc, &mut line, plan, net, trace, wire)?;
+        for client in 0..net.client.len() {
+            if client < report.net.len() {
+                add_client(alloc, &mut line, net, trace, report.net.get(client), client)?;
+            }
+        }
+    }
+    line.push_str("\n")?;
+    Ok(line)
+}
+
+// What plays of a plan come to, with a trace that was read for it: so many, of the seeds from the
+// first on.
+fn plays(
+    alloc: Global,
+    plan: &Plan,
+    trace: &Trace,
+    first: u64,
+    count: u64,
+) -> Result<String, Memory>
+    requires valid { Valid plan.now }
+    requires played { unplayed plan.now ≡ None }
+    requires trace { IsReadFor plan.now trace.now }
+{
+    let layout = lay_out(alloc, plan)?;
+    let mut text = String::new(alloc);
+    for k in 0..count {
+        let seed = first.saturating_add(k);
+        let (system, ending) = System::played(alloc, plan, &layout, trace, seed, STEPS)?;
+        let report = system.report()?;
+        let line = told(alloc, plan, &report, trace, ending)?;
+        text.push_str(line.as_str())?;
+    }
+    Ok(text)
+}
+
+// What plays of a plan come to, with the text of a trace.
+fn plays_of(
+    alloc: Global,
+    plan: &Plan,
+    text: &str,
+    first: u64,
+    count: u64,
+) -> Result<String, Memory>
+    requires { Valid plan.now }
+{
+    if unplayed(plan).is_some() {
+        return Ok(String::from_str(alloc, "not played\n")?);
+    }
+    match read_trace(alloc, text.as_bytes(), plan) {
+        Ok(trace) => plays(alloc, plan, &trace, first, count),
+        Err(TraceFault::BadLine(_)) => Ok(String::from_str(alloc, "bad trace\n")?),
+        Err(TraceFault::Memory(memory)) => Err(memory),
+    }
+}
+
+// What plays of a description's text come to.
+fn answer(
+    alloc: Global,
+    text: &str,
+    trace: &str,
+    first: u64,
+    count: u64,
+) -> Result<String, Memory> {
+    if text.len() > TEXT_MOST {
+        return Ok(String::from_str(alloc, "too long\n")?);
+    }
+    match judged(alloc, text) {
+        Ok(plan) => plays_of(alloc, &plan, trace, first, count),
+        Err(SdfFault::Refused(_)) => Ok(String::from_str(alloc, "refused\n")?),
+        Err(SdfFault::Memory(memory)) => Err(memory),
+    }
+}
+
+// The answer at a row.
+fn row(rt: &HostRuntime, row: &str) -> io::Result<()> {
+    let Some((name, rest)) = row.split_once(" | ") else {
+        return rt.println("no row");
+    };
+    let Some((trace_name, rest)) = rest.split_once(" | ") else {
+        return rt.println("no row");
+    };
+    let Some((first, count)) = rest.split_once(" | ") else {
+        return rt.println("no row");
+    };
+    let text = fs::read_to_string(rt, name)?;
+    let trace = fs::read_to_string(rt, trace_name)?;
+    let first = first.parse::<u64>().unwrap_or(0);
+    let count = count.parse::<u64>().unwrap_or(0);
+    match answer(rt.alloc(), text.as_str(), trace.as_str(), first, count) {
+        Ok(text) => rt.print(text.as_str()),
+        Err(_) => rt.println("no memory"),
+    }
+}
+
+fn main(rt: HostRuntime) -> io::Result<()> {
+    for line in rt.lines(rt.alloc()) {
+        row(&rt, line?.as_str())?;
+    }
+    Ok(())
+}
