@@ -31,7 +31,7 @@ use Rattle.system_core.specs.PlanPlays.{IsPlayedOn}
 use Rattle.play_pools.specs.Pools.{table_now, ShowsPools, AllAdd}
 
 -- the layout's pools are those of the network's place
-place_has : (plan : Plan) → plan.blk ≡ None → (trace : Trace) (net : Net) → plan.net ≡ Some net → HasPools (pools_of plan) (net_place plan trace)
+pub place_has : (plan : Plan) → plan.blk ≡ None → (trace : Trace) (net : Net) → plan.net ≡ Some net → HasPools (pools_of plan) (net_place plan trace)
 place_has plan blk trace net has = record { first = refl; many = many_are plan trace blk net has; numbered = numbered_is plan trace; sized = sized_is plan trace blk net has }
 
 -- each pool has all its buffers at the start
@@ -63,7 +63,7 @@ module _ (plan : Plan) (trace : Trace) (seed limit : ℕ) (s : Shown) (blk : pla
   pools = place_has plan blk trace net has
 
   -- no actor is of the block class
-  plain : HasNoBlock s.setting.cast
+  pub plain : HasNoBlock s.setting.cast
   plain = by played.stands.fitted.pooled
     where
       by : ArePooled s.setting.rows s.setting.pools s.setting.cast → HasNoBlock s.setting.cast

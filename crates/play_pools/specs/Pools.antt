@@ -1,8 +1,8 @@
 -- What a play shows of the pools of its plan's network.
 use Rattle.std.specs.Prelude.{◌≡◌, ◌+◌, ℕ, Some, List, slice_get}
-use Rattle.wire_core.specs.Journal.{start_history}
+use Rattle.wire_core.specs.Journal.{EachMoment, start_history}
 use Rattle.expect_core.specs.declared.report.Census.{Census}
-use Rattle.owner_law.specs.Owners.{Table, replay}
+use Rattle.owner_law.specs.Owners.{Table, OneOwner, replay}
 use Rattle.owner_law.specs.Keeping.{start_table}
 use Rattle.pool_lines.specs.PoolLines.{table_lines}
 use Rattle.net_tx_parts.specs.Numbers.{NetPlace}
@@ -26,3 +26,10 @@ ShowsPools plan net s = s.state.pools ≡ table_lines (table_now net s) 0 (pools
 abbrev pub AllAdd : List Census → Type 0
 AllAdd lines = (k : ℕ) (l : Census) → slice_get lines k ≡ Some l
     → l.queues + l.hands + l.lent ≡ l.buffers
+
+-- from the start state on, where each pool's buffers are in the hand of the actor that owns it, each
+-- move of the journal finds its buffer or lease in the place that it leaves, and a lent buffer has
+-- as many receivers as there are leases of it
+abbrev pub HasOneOwner : NetPlace → Shown → Type 0
+HasOneOwner net s = EachMoment (OneOwner (net_naming (scene_of s.setting.cast) net)
+    (start_history s.setting.rows) (start_table (keepers_at s.setting.cast))) s.journal
