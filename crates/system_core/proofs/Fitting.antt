@@ -1,6 +1,7 @@
-use Rattle.std.proofs.Common.{◌≡◌, ◌<◌, ◌≤◌, ℕ, Some, List, All, get_or, length, map, slice_get, refl, sym, subst}
+use Rattle.std.proofs.Common.{◌≡◌, ◌⊎◌, ◌<◌, ◌≤◌, ℕ, Some, List, [], All, get_or, length, map, slice_get, refl, sym, subst, inr}
 use Rattle.std.proofs.lemmas.List.{length-map}
 use Rattle.std.proofs.lemmas.Option.{slice_get-get_or}
+use Rattle.wire_core.specs.declared.names.PoolRow.{PoolRow}
 use Rattle.wire_core.specs.declared.names.QueueRow.{QueueRow}
 use Rattle.wire_core.specs.Ends.{Consumer, Producer}
 use Rattle.wire_core.specs.Queues.{starts}
@@ -15,6 +16,7 @@ use Rattle.actor_set.specs.Parts.{Part}
 use Rattle.actor_set.specs.Actors.{part_of}
 use Rattle.actor_set.specs.declared.actor.Actor.{Actor}
 use Rattle.actor_law.specs.Kinds.{sheet, scene_of, hostiles}
+use Rattle.cast_pools.specs.Pooling.{ArePooled}
 use Rattle.system_core.specs.Shows.{Crew}
 use Rattle.system_core.specs.States.{begun}
 use Rattle.cast_law.specs.Seats.{AreSeated}
@@ -33,7 +35,7 @@ pub are_sized : (rows : List QueueRow) → length rows ≤ 65536 → ((n : ℕ) 
 are_sized rows few places = record { few = few; capacities = capacities rows places }
 
 -- seated actors fit the rows
-module _ (history : History) (rows : List QueueRow) (actors : List Actor) (net serial : Crew) (s : AreSeated rows actors) where
+module _ (history : History) (rows : List QueueRow) (pools : List PoolRow) (actors : List Actor) (net serial : Crew) (s : AreSeated rows actors) (pooled : ArePooled rows pools (map part_of actors)) (anew : (pools ≡ []) ⊎ (history ≡ start_history rows)) where
   abbrev scene : Scene
   scene = scene_of (map part_of actors)
 
@@ -55,20 +57,23 @@ module _ (history : History) (rows : List QueueRow) (actors : List Actor) (net s
       let y = there_is actors row.producer.0 (s.peers n row at Producer) in
       s.split row.producer.0 y.0 y.1 n (s.ends row.producer.0 y.0 y.1 n row at Consumer (sym same)) (s.ends row.producer.0 y.0 y.1 n row at Producer refl)
 
-  pub seated_fit : IsFitted (begun history rows actors net serial)
+  pub seated_fit : IsFitted (begun history rows pools actors net serial)
   seated_fit = record {
     peopled = λ n row at r. subst (λ m. owner_of row r < m) (sym (length-map actors part_of)) (s.peers n row at r);
     seated = end_given;
     ends = seat_given;
     split = two_owners;
     wired = s.wired;
+    pooled = pooled;
+    anew = anew;
+    numbered = s.numbered;
     places = s.places;
   }
 
 -- the start state goes on from a history in which nothing happened
-pub start_goes : (rows : List QueueRow) (actors : List Actor) (net serial : Crew) → AreSeated rows actors → GoesOn (begun (start_history rows) rows actors net serial) (starts rows) actors
-start_goes rows actors net serial s = record {
-  fitted = seated_fit (start_history rows) rows actors net serial s;
+pub start_goes : (rows : List QueueRow) (pools : List PoolRow) (actors : List Actor) (net serial : Crew) → AreSeated rows actors → ArePooled rows pools (map part_of actors) → GoesOn (begun (start_history rows) rows pools actors net serial) (starts rows) actors
+start_goes rows pools actors net serial s pooled = record {
+  fitted = seated_fit (start_history rows) rows pools actors net serial s pooled (inr refl);
   before = record { bells_hold = starts_hold (hostiles (map part_of actors)) rows; flows = starts_flow (hostiles (map part_of actors)) rows };
   holds = start_holds rows actors (seated_start rows actors s);
 }

@@ -22,6 +22,7 @@ use Rattle.system_core.proofs.Stepping.{runs_below}
 use Rattle.actor_law.proofs.Rows.{heard_here}
 use Rattle.system_core.proofs.RunsNow.{items_here}
 use Rattle.system_core.proofs.Recording.{records_at, wire_at}
+use Rattle.system_core.proofs.Lining.{pool_lines, without_pools, nothing_bad}
 
 module _ (history : History) (rows : List QueueRow) (w : List Queue) (actors : List Actor) (journal : List Entry) (h : Holds history rows w actors journal) where
   pub same_heard : (k : ℕ) → record_from actors k ≡ option_map_or (record_by (moved history journal)) (slice_get (map part_of actors) k) []
@@ -45,6 +46,9 @@ module _ (a : Inside) (i : IsSystem a) where
       records = records_at (setting_of a).history a.rows.items a.world a.actors.items a.journal.items i.holds net whole a.net.clients;
       wire = wire_at (setting_of a).history a.rows.items a.world a.actors.items a.journal.items i.holds net whole a.net.device;
     };
+    pools = pool_lines a i;
+    no_pools = without_pools a i;
+    bad = nothing_bad a i;
   }
     where
       line : (device : Option ℕ) → option_map (record_from a.actors.items) device ≡ option_map (record_at (shown_of a)) device

@@ -7,6 +7,8 @@ pub mod Stepping
 pub mod Taking
 pub mod Starting
 pub mod Recording
+pub mod Lining
+pub mod Counting
 pub mod Hearing
 pub mod Seating
 pub mod Fitting

@@ -1,6 +1,7 @@
 use Rattle.std.proofs.Common.{◌≡◌, ◌≢◌, ◌⊎◌, ◌<◌, ◌≤◌, ◌+◌, ◌==◌, ℕ, Bool, true, false, not, ◌||◌, Option, Some, None, List, [], ◌∷◌, ◌++◌, length, length-set, slice_get, slice_set, slice_index_or, map, subst, refl, sym, ap, ◌∙◌, arith, inl, inr, zero, suc}
 use Rattle.std.proofs.lemmas.List.{length-map}
 use Rattle.std.proofs.lemmas.Option.{slice_get_past, slice_get_read}
+use Rattle.wire_core.specs.declared.names.PoolRow.{PoolRow}
 use Rattle.wire_core.specs.declared.names.QueueRow.{QueueRow}
 use Rattle.wire_core.specs.declared.names.Entry.{Entry}
 use Rattle.wire_core.specs.declared.names.Event.{Event}
@@ -96,7 +97,7 @@ module _ (history : History) (rows : List QueueRow) (cast : List Part) where
   running_few room le j = let f : length (places_from 0 (flags j)) ≤ length (flags j) = places_few 0 (flags j) in let g : length (flags j) ≡ length cast = flags_count j in omega arith
 
 -- actor k, which is x, makes the call of event e on a queue of this row, and is then x'
-module _ (history : History) (rows : List QueueRow) (w v : List Queue) (actors : List Actor) (journal : List Entry) (k : ℕ) (x x' : Actor) (e : Event) (row : QueueRow) (here : slice_get actors k ≡ Some x) (old : Holds history rows w actors journal) (seated : AreSeated (sheet (scene_of (map part_of actors))) rows (map part_of actors)) (wired : IsWired rows (map part_of actors)) (own : ActorEnd x (role_of e.op) e.queue.0) (st : Stepped ActorStandsFor Happens w v x x' e) (turned : ActorTurned x e x') (pressed : is_at_rest (actor_round x) ≡ true → IsCalled (pendings history journal) (actor_round x).posts) (fits : FitsActor (end_at v) x') (part : part_of x' ≡ part_of x) (there : slice_get rows e.queue.0 ≡ Some row) where
+module _ (history : History) (rows : List QueueRow) (w v : List Queue) (actors : List Actor) (journal : List Entry) (k : ℕ) (x x' : Actor) (e : Event) (row : QueueRow) (here : slice_get actors k ≡ Some x) (old : Holds history rows w actors journal) (seated : AreSeated (sheet (scene_of (map part_of actors))) rows (map part_of actors)) (wired : IsWired rows (map part_of actors)) (split : (n : ℕ) (row_ : QueueRow) → slice_get rows n ≡ Some row_ → row_.producer.0 ≡ row_.consumer.0 → ⊥) (own : ActorEnd x (role_of e.op) e.queue.0) (st : Stepped ActorStandsFor Happens w v x x' e) (turned : ActorTurned x e x') (pressed : is_at_rest (actor_round x) ≡ true → IsCalled (pendings history journal) (actor_round x).posts) (fits : FitsActor (end_at v) x') (part : part_of x' ≡ part_of x) (there : slice_get rows e.queue.0 ≡ Some row) where
   abbrev cast : List Part
   cast = map part_of actors
 
@@ -107,7 +108,7 @@ module _ (history : History) (rows : List QueueRow) (w v : List Queue) (actors :
   flag j = flags history rows cast j
 
   then_holds : Holds history rows v (slice_set actors k x') after_
-  then_holds = step_holds history rows w v actors journal k x x' e here old own st turned pressed wired fits part
+  then_holds = step_holds history rows w v actors journal k x x' e here old own st turned pressed seated split wired fits part
 
   owner : owner_of row (role_of e.op) ≡ k
   owner = old.owners k x here (role_of e.op) e.queue.0 own row there
@@ -191,9 +192,9 @@ called_so true b e g = g
 called_so false b e g = cc
 
 -- an actor that is runnable at rest has an end where a notification is pending
-module _ (history : History) (rows : List QueueRow) (net serial : Crew) (w : List Queue) (actors : List Actor) (journal : List Entry) (k : ℕ) (x : Actor) (place : ℕ) where
+module _ (history : History) (rows : List QueueRow) (pools : List PoolRow) (net serial : Crew) (w : List Queue) (actors : List Actor) (journal : List Entry) (k : ℕ) (x : Actor) (place : ℕ) where
   abbrev now_set : Setting
-  now_set = record { history = history; rows = rows; cast = map part_of actors; net = net; serial = serial }
+  now_set = record { history = history; rows = rows; pools = pools; cast = map part_of actors; net = net; serial = serial }
 
   runs_called : IsFitted now_set → Holds history rows w actors journal → slice_get actors k ≡ Some x → slice_get (runs now_set journal) place ≡ Some k → is_at_rest (actor_round x) ≡ true → IsCalled (pendings history journal) (actor_round x).posts
   runs_called fitted old here at rest =
@@ -230,9 +231,9 @@ pub record StepThen (setting : Setting) (v : List Queue) (actors : List Actor) (
   pub room_is : length actors ≤ room
   pub few : length list ≤ room
 
-module _ (history : History) (rows : List QueueRow) (net serial : Crew) (w v : List Queue) (actors : List Actor) (journal : List Entry) (k : ℕ) (x x' y : Actor) (e : Event) (row : QueueRow) (rung : Option ℕ) (woken idle : Bool) (place : ℕ) (list : List ℕ) (room : ℕ) where
+module _ (history : History) (rows : List QueueRow) (pools : List PoolRow) (net serial : Crew) (w v : List Queue) (actors : List Actor) (journal : List Entry) (k : ℕ) (x x' y : Actor) (e : Event) (row : QueueRow) (rung : Option ℕ) (woken idle : Bool) (place : ℕ) (list : List ℕ) (room : ℕ) where
   abbrev setting : Setting
-  setting = record { history = history; rows = rows; cast = map part_of actors; net = net; serial = serial }
+  setting = record { history = history; rows = rows; pools = pools; cast = map part_of actors; net = net; serial = serial }
 
   pub system_then : IsFitted setting → Holds history rows w actors journal → EachMoment (RowsStand setting) journal → list ≡ runs setting journal → length actors ≤ room → Brisk (hostile_in setting) no_drops journal
       → slice_get list place ≡ Some k → x ≡ slice_index_or actors k x → ActorEnd x (role_of e.op) e.queue.0 → Stepped ActorStandsFor Happens w v x x' e → ActorTurned x e x' → FitsActor (end_at v) x' → part_of x' ≡ part_of x
@@ -245,11 +246,11 @@ module _ (history : History) (rows : List QueueRow) (net serial : Crew) (w v : L
       let lt : k < length actors = omega (arith, below, size) in
       let here : slice_get actors k ≡ Some x = slice_get_read actors _ k x refl lt x_is in
       let there : slice_get rows e.queue.0 ≡ Some row = slice_get_read rows _ e.queue.0 row refl (subst (λ n. e.queue.0 < n) old.size st.happened.there) row_is in
-      let pressed = runs_called history rows net serial w actors journal k x place fitted old here at' in
-      let new = step_holds history rows w v actors journal k x x' e here old own st turned pressed fitted.wired fits part in
+      let pressed = runs_called history rows pools net serial w actors journal k x place fitted old here at' in
+      let new = step_holds history rows w v actors journal k x x' e here old own st turned pressed fitted.seated fitted.split fitted.wired fits part in
       let cast_is = map_same part_of actors k x x' here part in
       let y_same : y ≡ x' = some_is (sym (slice_get_read (slice_set actors k x') _ k y refl (subst (λ n. k < n) (sym (length-set actors k x')) lt) y_is) ∙ slice_get_written actors k x x' here) in
-      let then_is = running_then history rows w v actors journal k x x' e row here old fitted.seated fitted.wired own st turned pressed fits part there rung woken idle place (sym rung_is) asked (idle_is ∙ ap (λ a. idles (manner_of (part_of a)) (actor_rests a) (is_pending k v)) y_same) at' in
+      let then_is = running_then history rows w v actors journal k x x' e row here old fitted.seated fitted.wired fitted.split own st turned pressed fits part there rung woken idle place (sym rung_is) asked (idle_is ∙ ap (λ a. idles (manner_of (part_of a)) (actor_rests a) (is_pending k v)) y_same) at' in
       let list_is : with_option rung woken (removed_if idle list place) ≡ runs setting (journal ++ entry_of k e ∷ []) = ap (λ l. with_option rung woken (removed_if idle l place)) running ∙ sym then_is in
       record {
         holds = new;

@@ -6,7 +6,7 @@ use Rattle.sdf_plan.specs.declared.place.Place.TheVariants as At
 use Rattle.sdf_plan.specs.declared.plan.Plan.{Plan}
 use Rattle.sdf_plan.specs.declared.plan.Net.{Net}
 use Rattle.trace_text.specs.declared.trace.Trace.{Trace}
-use Rattle.region_layout.specs.Rows.{queues_of, actors_of}
+use Rattle.region_layout.specs.Rows.{queues_of, actors_of, pools_of}
 use Rattle.serial_law.specs.Serial.{SerialClass}
 use Rattle.job_law.specs.Jobs.{Job, HasJob}
 use Rattle.actor_law.specs.Kinds.{scene_of}
@@ -18,8 +18,7 @@ use Rattle.system_core.specs.Crews.{net_crew, serial_crew}
 
 -- the first class of a plan that can't be played yet, if it has one
 abbrev pub unplayed : Plan → Option Place
-unplayed plan = if is_some plan.net then Some At.Net else
-    (if is_some plan.blk then Some At.Blk else None)
+unplayed plan = if is_some plan.blk then Some At.Blk else None
 
 -- the serial class with so many clients, from its first queue on: two queues between device and
 -- driver, two between driver and virtualisers, and then two for each client; with what a trace
@@ -36,9 +35,10 @@ serial_class first count trace = record {
   scripts = trace.says;
 }
 
--- the queues and the actors of a plan without the block class, with what a trace gives them
+-- the queues, the pools and the actors of a plan without the block class, with what a trace gives them
 pub record IsCastOf (plan : Plan) (trace : Trace) (s : Setting) : Type 0 where
   pub rows : s.rows ≡ queues_of plan
+  pub pools : s.pools ≡ pools_of plan
   pub count : length s.cast ≡ length (actors_of plan)
   -- the scene in which their needs and rows are said
   pub scene : scene_of s.cast ≡ scene_for plan trace

@@ -1,10 +1,10 @@
 -- What holds of every system, however it was built and played: its seats, its journal at each
 -- moment, and what is seen of it.
-use Rattle.std.specs.Prelude.{◌≡◌, ◌≤◌, ℕ, Some, is_some, List, [], length, map, slice_get}
+use Rattle.std.specs.Prelude.{◌≡◌, ◌⊎◌, ◌≤◌, ℕ, Some, is_some, List, [], length, map, slice_get}
 use Rattle.std.specs.Option.{option_map, option_map_or}
 use Rattle.wire_core.specs.declared.names.QueueRow.{QueueRow}
 use Rattle.wire_core.specs.declared.names.Entry.{Entry}
-use Rattle.wire_core.specs.Journal.{LegalJournal, EachMoment, BellsHold, QueuesFlow}
+use Rattle.wire_core.specs.Journal.{LegalJournal, EachMoment, BellsHold, QueuesFlow, start_history}
 use Rattle.wire_core.specs.Marks.{no_drops, Brisk}
 use Rattle.cargo_core.specs.Capacities.{IsCapacity}
 use Rattle.cargo_core.specs.Lists.{IsPrefix, PrefixMerge}
@@ -17,10 +17,14 @@ use Rattle.net_tx_cast.specs.Casting.{sends_at}
 use Rattle.play_core.specs.Moved.{Seat}
 use Rattle.play_core.specs.Sheets.{AreSeated, IsSeat}
 use Rattle.play_core.specs.Still.{IsPeopled}
+use Rattle.owner_law.specs.Owners.{replay}
+use Rattle.owner_law.specs.Keeping.{start_table}
+use Rattle.pool_lines.specs.PoolLines.{table_lines}
 use Rattle.actor_set.specs.Parts.{Part, NetworkPart}
 use Rattle.actor_law.specs.Kinds.{scene_of}
 use Rattle.actor_law.specs.Records.{record_by}
-use Rattle.wired_law.specs.Wiring.{HasWhole, IsWired}
+use Rattle.wired_law.specs.Wiring.{HasWhole, HasNoNetwork, IsWired}
+use Rattle.cast_pools.specs.Pooling.{net_naming, keepers_at, HasPools, ArePooled}
 use Rattle.system_core.specs.Shows.{Setting, Shown, hostile_in, sheet_in, moved_in, RowsStand}
 
 -- the rows and the actors fit one another
@@ -37,7 +41,13 @@ pub record IsFitted (s : Setting) : Type 0 where
       → row.producer.0 ≡ row.consumer.0 → ⊥
   -- the network's actors, if there are any, are the whole class at the layout's queues
   pub wired : IsWired s.rows s.cast
-  -- each queue can hold an entry
+  -- its pools are those of the network, where it has one, and none else; and they are followed from
+  -- the start state on
+  pub pooled : ArePooled s.rows s.pools s.cast
+  pub anew : (s.pools ≡ []) ⊎ (s.history ≡ start_history s.rows)
+  -- each queue has a number of 16 bits
+  pub numbered : length s.rows ≤ 65536
+  -- and can hold an entry
   pub places : (n : ℕ) (row : QueueRow) → slice_get s.rows n ≡ Some row → IsCapacity row.capacity
 
 -- each queue hands over what was put, once and in order, each call is in discipline, at each moment
@@ -79,6 +89,16 @@ pub record IsTold (s : Shown) : Type 0 where
   pub wire : is_some s.state.wire ≡ is_some s.setting.net.device
   pub net : length s.state.net ≡ length s.setting.net.clients
   pub frames : (net : NetPlace) → HasWhole s.setting.rows net s.setting.cast → TellsFrames s net
+  -- the lines of the network's pools are those of the table of owners after the journal
+  pub pools : (net : NetPlace) → HasWhole s.setting.rows net s.setting.cast
+      → HasPools s.setting.pools net → s.state.pools
+      ≡ table_lines (replay (net_naming (scene_of s.setting.cast) net)
+      (start_history s.setting.rows) (start_table (keepers_at s.setting.cast)) s.journal) 0
+      s.setting.pools
+  -- without a network there are none
+  pub no_pools : HasNoNetwork s.setting.cast → s.state.pools ≡ []
+  -- nothing was counted as bad
+  pub bad : s.state.bad ≡ 0
 
 -- all that holds of every system
 pub record StandsLawful (s : Shown) : Type 0 where

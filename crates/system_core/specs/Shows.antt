@@ -2,6 +2,7 @@
 -- seen of it as it is.
 use Rattle.std.specs.Prelude.{◌≡◌, ℕ, Option, List, [], ◌∷◌, ◌++◌}
 use Rattle.cargo_core.specs.declared.item.Reply.{Reply}
+use Rattle.wire_core.specs.declared.names.PoolRow.{PoolRow}
 use Rattle.wire_core.specs.declared.names.QueueRow.{QueueRow}
 use Rattle.wire_core.specs.declared.names.Event.{Event}
 use Rattle.wire_core.specs.declared.names.Entry.{Entry}
@@ -20,10 +21,11 @@ pub record Crew : Type 0 where
   pub clients : List ℕ
 
 -- what stays the same while a system is played: what its queues had before its journal begins, its
--- queues, its actors' parts, and who is who in the classes
+-- queues, its pools by their numbers, its actors' parts, and who is who in the classes
 pub record Setting : Type 0 where
   pub history : History
   pub rows : List QueueRow
+  pub pools : List PoolRow
   pub cast : List Part
   pub net : Crew
   pub serial : Crew

@@ -1,13 +1,18 @@
 -- What is seen of actors as they are, and the state in which a system begins.
-use Rattle.std.specs.Prelude.{ℕ, false, Option, None, List, [], ◌∷◌, map, slice_get}
+use Rattle.std.specs.Prelude.{◌-◌, ◌^◌, ℕ, false, min, Option, None, List, [], ◌∷◌, map, slice_get, sum_by}
 use Rattle.std.specs.Option.{option_map, option_map_or}
+use Rattle.cargo_core.specs.declared.item.PoolId.{PoolId}
+use Rattle.cargo_core.specs.Bodies.{buffers_of}
+use Rattle.wire_core.specs.declared.names.PoolRow.{PoolRow}
 use Rattle.wire_core.specs.declared.names.QueueRow.{QueueRow}
 use Rattle.wire_core.specs.Journal.{Track, History, start_history}
-use Rattle.wire_core.specs.Queues.{items_of}
+use Rattle.wire_core.specs.Queues.{Queue, items_of}
 use Rattle.spsc_queue.specs.Known.Ends.{EndedIs}
-use Rattle.actor_set.specs.Actors.{part_of}
+use Rattle.pool_lines.specs.PoolLines.{counted_lines}
+use Rattle.actor_set.specs.Actors.{part_of, bad_of, actor_hand, actor_lent}
 use Rattle.actor_set.specs.declared.actor.Actor.{Actor}
 use Rattle.actor_law.specs.Records.{record_of, frames_got}
+use Rattle.cast_pools.specs.Holders.{holders_of}
 use Rattle.system_core.specs.Shows.{Crew, Setting, State, Shown}
 
 -- what the actor at a place recorded
@@ -18,16 +23,28 @@ record_from actors k = option_map_or record_of (slice_get actors k) []
 abbrev pub frames_from : List Actor → ℕ → List (List ℕ)
 frames_from actors k = option_map_or frames_got (slice_get actors k) []
 
--- what is seen of actors: pages aren't counted yet, nor what is bad
-abbrev pub state_of : List Actor → (net serial : Crew) → State
-state_of actors net serial = record {
+-- how many buffers of a pool are in the hands of actors
+abbrev pub held_by : PoolId → List Actor → ℕ
+held_by pool actors = sum_by (λ x. buffers_of pool (actor_hand x)) actors
+
+-- and how many they have lent
+abbrev pub lent_by : PoolId → List Actor → ℕ
+lent_by pool actors = sum_by (λ x. actor_lent x pool.0) actors
+
+-- what the actors counted as bad, all together; a count stands still at its type's end
+abbrev pub bad_in : List Actor → ℕ
+bad_in actors = min (sum_by bad_of actors) (2 ^ 64 - 1)
+
+-- what is seen of queues and actors
+abbrev pub state_of : List Queue → List PoolRow → List Actor → (net serial : Crew) → State
+state_of world pools actors net serial = record {
   wire = option_map (frames_from actors) net.device;
   net = map (frames_from actors) net.clients;
   line = option_map (record_from actors) serial.device;
   serial = map (record_from actors) serial.clients;
   blk = [];
-  pools = [];
-  bad = 0;
+  pools = counted_lines world (holders_of actors) 0 pools;
+  bad = bad_in actors;
 }
 
 -- what an ended ring shows of its queue: nobody looked since
@@ -46,11 +63,13 @@ abbrev pub history_of : List QueueRow → List EndedIs → History
 history_of rows [] = start_history rows
 history_of rows (ring ∷ rings) = map track_of (ring ∷ rings)
 
--- these queues and these actors, with what the queues had before the journal begins
-abbrev pub begun : History → List QueueRow → List Actor → (net serial : Crew) → Setting
-begun history rows actors net serial = record {
+-- these queues, pools and actors, with what the queues had before the journal begins
+abbrev pub begun : History → List QueueRow → List PoolRow → List Actor → (net serial : Crew)
+    → Setting
+begun history rows pools actors net serial = record {
   history = history;
   rows = rows;
+  pools = pools;
   cast = map part_of actors;
   net = net;
   serial = serial;
@@ -64,10 +83,11 @@ crew_of device clients = record { device = device; clients = clients }
 abbrev pub nobody : Crew
 nobody = crew_of None []
 
--- a system whose journal begins with this history
-abbrev pub started : History → List QueueRow → List Actor → (net serial : Crew) → Shown
-started history rows actors net serial = record {
-  setting = begun history rows actors net serial;
+-- a system whose journal begins with this history, and whose queues have this in them
+abbrev pub started : History → List QueueRow → List PoolRow → List Queue → List Actor
+    → (net serial : Crew) → Shown
+started history rows pools world actors net serial = record {
+  setting = begun history rows pools actors net serial;
   journal = [];
-  state = state_of actors net serial;
+  state = state_of world pools actors net serial;
 }

@@ -3,6 +3,7 @@
 
 mod crew;
 mod crews;
+mod lines;
 mod records;
 mod running;
 mod system;

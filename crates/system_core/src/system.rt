@@ -1,7 +1,7 @@
 //! The system at play: the queues of a layout with the actors at them, its steps, and what is seen
 //! of it. It stands here, above actors and descriptions, since a plan and a trace say who acts.
 ghost use Rattle.std.specs.Prelude.{◌≡◌, ◌<◌, ◌≤◌, ℕ, List, length, map, OnOk, OnErr, IfOk, slice_get, Some, None, []};
-ghost use Rattle.wire_core.specs.Queues.{is_pending};
+ghost use Rattle.wire_core.specs.Queues.{is_pending, starts};
 ghost use Rattle.wire_core.specs.Ends.{role_of};
 ghost use Rattle.wire_core.specs.Journal.{start_history, owner_of};
 ghost use Rattle.play_core.specs.Runs.{other_owner, reaches, reach_of};
@@ -10,6 +10,7 @@ ghost use Rattle.trace_text.specs.Traces.{IsReadFor};
 ghost use Rattle.region_layout.specs.Layouts.{layout_of};
 ghost use Rattle.sdf_check.specs.Valid.{Valid};
 ghost use Rattle.actor_law.specs.Kinds.{manner_of, idles};
+ghost use Rattle.cast_pools.specs.Pooling.{ArePooled};
 ghost use Rattle.system_core.specs.Shows.{runs};
 ghost use Rattle.system_core.specs.States.{history_of, begun, nobody, started};
 ghost use Rattle.system_core.specs.Systems.{Holds, GoesOn};
@@ -24,6 +25,7 @@ ghost use Rattle.system_core.specs.PlanPlays.{IsPlayed, HasEnded};
 
 use crate::crew::Crew;
 use crate::crews::{net_crew, serial_crew};
+use crate::lines::{bad, lines, pool_copies};
 use crate::records::{frame_records, line, records, wire};
 use crate::running::Running;
 use actor_set::Actor;
@@ -39,7 +41,7 @@ use std::alloc::Global;
 use std::marker::Model;
 use std::snapshot::Snapshot;
 use trace_text::Trace;
-use wire_core::{ActorId, Entry, Op, QueueRow, Side, next_seed, place_of};
+use wire_core::{ActorId, Entry, Op, PoolRow, QueueRow, Side, next_seed, place_of};
 
 /// How a play ended: no actor is runnable, or the steps are spent and some actor is runnable.
 #[derive(Clone, Copy, Debug, PartialEq, Eq)]
@@ -55,6 +57,7 @@ pub enum Ending {
 pub struct System {
     alloc: Global,
     rows: Vec<QueueRow>,
+    pools: Vec<PoolRow>,
     world: World,
     actors: Vec<Actor>,
     net: Crew,
@@ -82,9 +85,7 @@ impl Model for System {
 pub fn unplayed(plan: &Plan) -> Option<Place>
     ensures { result ≡ unplayed plan.now }
 {
-    if plan.net.is_some() {
-        Some(Place::Net)
-    } else if plan.blk.is_some() {
+    if plan.blk.is_some() {
         Some(Place::Blk)
     } else {
         None
@@ -190,7 +191,7 @@ fn first_running(
 ) -> Result<Running, Memory>
     requires { Holds (history_of rows.now past.now.value.items) rows.now world.now actors.now [] }
     ensures list { IfOk result (λ r. r.list
-        ≡ runs (begun (history_of rows.now past.now.value.items) rows.now actors.now
+        ≡ runs (begun (history_of rows.now past.now.value.items) rows.now [] actors.now
         nobody nobody) []) }
     ensures room { IfOk result (λ r. length actors.now ≤ r.room) }
 {
@@ -206,23 +207,35 @@ fn first_running(
 
 impl System {
     /// A system in its start state: actors in theirs, each with the ends that the rows give it.
-    /// `net` and `serial` say which of them are the devices and the clients of the classes.
+    /// `pools` are the pools of its network by their numbers, none where it has no network; `net`
+    /// and `serial` say which of the actors are the devices and the clients of the classes.
     pub fn start(
         alloc: Global,
         rows: Vec<QueueRow>,
+        pools: Vec<PoolRow>,
         actors: Vec<Actor>,
         net: Crew,
         serial: Crew,
     ) -> Result<System, Memory>
-        requires { AreSeated rows.items actors.items }
+        requires seated { AreSeated rows.items actors.items }
+        requires pooled { ArePooled rows.items pools.items (map part_of actors.items) }
         ensures state { IfOk result (λ s. s
-            ≡ started (start_history rows.items) rows.items actors.items
-            net serial) }
+            ≡ started (start_history rows.items) rows.items pools.items (starts rows.items)
+            actors.items net serial) }
         ensures stands { IfOk result StandsLawful }
     {
         let world = World::new(alloc, &rows)?;
         let none: Vec<Ended> = Vec::new(alloc);
-        System::begin(alloc, rows, world, actors, net, serial, Snapshot::of(&none))
+        System::begin(
+            alloc,
+            rows,
+            pools,
+            world,
+            actors,
+            net,
+            serial,
+            Snapshot::of(&none),
+        )
     }
 
     // A system whose queues and actors go on from what rings had that came to their end; where
@@ -230,23 +243,25 @@ impl System {
     fn begin(
         alloc: Global,
         rows: Vec<QueueRow>,
+        pools: Vec<PoolRow>,
         world: World,
         actors: Vec<Actor>,
         net: Crew,
         serial: Crew,
         past: Snapshot<Vec<Ended>>,
     ) -> Result<System, Memory>
-        requires { GoesOn (begun (history_of rows.items past.value.items) rows.items actors.items
-            net serial) world actors.items }
+        requires { GoesOn (begun (history_of rows.items past.value.items) rows.items pools.items
+            actors.items net serial) world actors.items }
         ensures state { IfOk result (λ s. s
-            ≡ started (history_of rows.items past.value.items) rows.items actors.items
-            net serial) }
+            ≡ started (history_of rows.items past.value.items) rows.items pools.items world
+            actors.items net serial) }
         ensures stands { IfOk result StandsLawful }
     {
         let running = first_running(alloc, &rows, &world, &actors, &past)?;
         let system = System {
             alloc,
             rows,
+            pools,
             world,
             actors,
             net,
@@ -285,7 +300,8 @@ impl System {
         let actors = cast(alloc, plan, layout, trace)?;
         let net = net_crew(alloc, plan, &rows)?;
         let serial = serial_crew(alloc, plan, &rows)?;
-        System::start(alloc, rows, actors, net, serial)
+        let pools = pool_copies(alloc, layout.pools())?;
+        System::start(alloc, rows, pools, actors, net, serial)
     }
 
     /// What is seen of the system as it is.
@@ -300,8 +316,8 @@ impl System {
             line: line(self.alloc, &self.actors, self.serial.device())?,
             serial: records(self.alloc, &self.actors, self.serial.clients())?,
             blk: Series::new(self.alloc),
-            pools: Series::new(self.alloc),
-            bad: 0,
+            pools: lines(self.alloc, &self.pools, &self.world, &self.actors)?,
+            bad: bad(&self.actors),
         })
     }
 
