@@ -35,7 +35,7 @@ pub are_sized : (rows : List QueueRow) → length rows ≤ 65536 → ((n : ℕ) 
 are_sized rows few places = record { few = few; capacities = capacities rows places }
 
 -- seated actors fit the rows
-module _ (history : History) (rows : List QueueRow) (pools : List PoolRow) (actors : List Actor) (net serial : Crew) (s : AreSeated rows actors) (pooled : ArePooled rows pools (map part_of actors)) (anew : (pools ≡ []) ⊎ (history ≡ start_history rows)) where
+module _ (history : History) (rows : List QueueRow) (pools : List PoolRow) (actors : List Actor) (net serial blk : Crew) (s : AreSeated rows actors) (pooled : ArePooled rows pools (map part_of actors)) (anew : (pools ≡ []) ⊎ (history ≡ start_history rows)) where
   abbrev scene : Scene
   scene = scene_of (map part_of actors)
 
@@ -57,7 +57,7 @@ module _ (history : History) (rows : List QueueRow) (pools : List PoolRow) (acto
       let y = there_is actors row.producer.0 (s.peers n row at Producer) in
       s.split row.producer.0 y.0 y.1 n (s.ends row.producer.0 y.0 y.1 n row at Consumer (sym same)) (s.ends row.producer.0 y.0 y.1 n row at Producer refl)
 
-  pub seated_fit : IsFitted (begun history rows pools actors net serial)
+  pub seated_fit : IsFitted (begun history rows pools actors net serial blk)
   seated_fit = record {
     peopled = λ n row at r. subst (λ m. owner_of row r < m) (sym (length-map actors part_of)) (s.peers n row at r);
     seated = end_given;
@@ -71,9 +71,9 @@ module _ (history : History) (rows : List QueueRow) (pools : List PoolRow) (acto
   }
 
 -- the start state goes on from a history in which nothing happened
-pub start_goes : (rows : List QueueRow) (pools : List PoolRow) (actors : List Actor) (net serial : Crew) → AreSeated rows actors → ArePooled rows pools (map part_of actors) → GoesOn (begun (start_history rows) rows pools actors net serial) (starts rows) actors
-start_goes rows pools actors net serial s pooled = record {
-  fitted = seated_fit (start_history rows) rows pools actors net serial s pooled (inr refl);
+pub start_goes : (rows : List QueueRow) (pools : List PoolRow) (actors : List Actor) (net serial blk : Crew) → AreSeated rows actors → ArePooled rows pools (map part_of actors) → GoesOn (begun (start_history rows) rows pools actors net serial blk) (starts rows) actors
+start_goes rows pools actors net serial blk s pooled = record {
+  fitted = seated_fit (start_history rows) rows pools actors net serial blk s pooled (inr refl);
   before = record { bells_hold = starts_hold (hostiles (map part_of actors)) rows; flows = starts_flow (hostiles (map part_of actors)) rows };
   holds = start_holds rows actors (seated_start rows actors s);
 }

@@ -16,6 +16,7 @@ pub mod Scripts
 pub mod Casting
 pub mod Begun
 pub mod Networking
+pub mod Replying
 pub mod Crewing
 pub mod Built
 pub mod Together

@@ -30,6 +30,7 @@ use Rattle.system_core.proofs.Scripts.{scripts_length}
 use Rattle.cast_core.specs.Sources.{first_serial}
 use Rattle.system_core.proofs.Casting.{HasSerial, has_serial}
 use Rattle.system_core.proofs.Networking.{shows_frames}
+use Rattle.system_core.proofs.Replying.{shows_replies}
 use Rattle.system_core.proofs.Begun.{There, serial_there, shows_in_part, shows_whole}
 
 -- what is said of a part of the serial class, as one of all
@@ -117,6 +118,7 @@ module _ (old new : Shown) (seed limit : ℕ) (none : old.journal ≡ []) (playe
       arrives = λ serial has. arrives new stands (class serial has) (there serial has) part;
       shows = λ serial has. shows_in_part plan serial (first_serial plan) trace new (class_is serial has) (says serial has) stands.told (arrives_now new stands (class serial has) (there serial has) part);
       shows_net = λ net has. shows_frames plan net trace new cast_is has stands.told;
+      shows_blk = λ blk has. shows_replies plan blk trace new cast_is has stands.told;
       whole = λ quiet serial has. shows_whole plan serial (first_serial plan) trace new (class_is serial has) (says serial has) stands.told (arrives_whole new stands (class serial has) (there serial has) whole quiet);
     }
 

@@ -8,9 +8,13 @@ use Rattle.wire_core.specs.Journal.{LegalJournal, EachMoment, BellsHold, QueuesF
 use Rattle.wire_core.specs.Marks.{no_drops, Brisk}
 use Rattle.cargo_core.specs.Capacities.{IsCapacity}
 use Rattle.cargo_core.specs.Lists.{IsPrefix, PrefixMerge}
+use Rattle.cargo_core.specs.declared.item.Ask.{Ask}
+use Rattle.cargo_core.specs.declared.item.Reply.{Reply}
+use Rattle.blk_expect.specs.Replies.{replies_of}
+use Rattle.blk_cast.specs.Numbers.{BlkPlace, blk_client_at}
 use Rattle.frame_core.specs.declared.mac.Mac.{Mac}
 use Rattle.net_expect.specs.Expecting.{Program, frames_for}
-use Rattle.net_owners.specs.Names.{ClientPools}
+use Rattle.net_owners.specs.Names.{PoolAt, ClientPools}
 use Rattle.net_parts.specs.Numbers.{device_at, client_at}
 use Rattle.net_tx_parts.specs.Numbers.{NetPlace}
 use Rattle.net_tx_cast.specs.Casting.{sends_at}
@@ -20,10 +24,10 @@ use Rattle.play_core.specs.Still.{IsPeopled}
 use Rattle.owner_law.specs.Owners.{replay}
 use Rattle.owner_law.specs.Keeping.{start_table}
 use Rattle.pool_lines.specs.PoolLines.{table_lines}
-use Rattle.actor_set.specs.Parts.{Part, NetworkPart}
+use Rattle.actor_set.specs.Parts.{Part, NetworkPart, BlockPart}
 use Rattle.actor_law.specs.Kinds.{scene_of}
 use Rattle.actor_law.specs.Records.{record_by}
-use Rattle.wired_law.specs.Wiring.{HasWhole, HasNoNetwork, IsWired}
+use Rattle.wired_law.specs.Wiring.{HasWhole, HasNoNetwork, HasBlk, IsWired}
 use Rattle.cast_pools.specs.Pooling.{net_naming, keepers_at, HasPools, ArePooled}
 use Rattle.system_core.specs.Shows.{Setting, Shown, hostile_in, sheet_in, moved_in, RowsStand}
 
@@ -81,6 +85,14 @@ pub record TellsFrames (s : Shown) (net : NetPlace) : Type 0 where
       → (sent : List (List ℕ)) × (s.state.wire ≡ Some sent)
       × PrefixMerge (sends_at net.programs net.macs (scene_of s.setting.cast).frames) sent
 
+-- at a place of the block class a client's record is a beginning of what it must get
+abbrev pub TellsReplies : Shown → BlkPlace → Type 0
+TellsReplies s blk = (c k j : ℕ) (asks : List Ask) (pool : PoolAt) (entry : ℕ) (got : List Reply)
+    → slice_get s.setting.blk.clients c ≡ Some k
+    → slice_get s.setting.cast k ≡ Some (BlockPart (blk_client_at blk.first j asks pool))
+    → slice_get blk.entries j ≡ Some entry → slice_get blk.asks j ≡ Some asks
+    → slice_get s.state.blk c ≡ Some got → IsPrefix got (replies_of blk.image entry asks)
+
 -- line and records are what the journal says that device and clients took; those of the network,
 -- whose frames no journal has, are what its place says of them
 pub record IsTold (s : Shown) : Type 0 where
@@ -89,6 +101,8 @@ pub record IsTold (s : Shown) : Type 0 where
   pub wire : is_some s.state.wire ≡ is_some s.setting.net.device
   pub net : length s.state.net ≡ length s.setting.net.clients
   pub frames : (net : NetPlace) → HasWhole s.setting.rows net s.setting.cast → TellsFrames s net
+  pub blk : length s.state.blk ≡ length s.setting.blk.clients
+  pub replies : (blk : BlkPlace) → HasBlk s.setting.rows blk s.setting.cast → TellsReplies s blk
   -- the lines of the network's pools are those of the table of owners after the journal
   pub pools : (net : NetPlace) → HasWhole s.setting.rows net s.setting.cast
       → HasPools s.setting.pools net → s.state.pools

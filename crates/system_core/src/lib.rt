@@ -10,4 +10,4 @@ mod system;
 
 pub use actor_set::Actor;
 pub use crew::Crew;
-pub use system::{Ending, System, unplayed};
+pub use system::{Ending, System};

@@ -1,11 +1,11 @@
 //! What the actors of a class recorded: its device for its line or its wire, and each client.
 ghost use Rattle.std.specs.Prelude.{◌≡◌, List, map, IfOk, slice_get, Some, []};
 ghost use Rattle.std.specs.Option.{option_map};
-ghost use Rattle.actor_law.specs.Records.{record_of, frames_got};
-ghost use Rattle.system_core.specs.States.{record_from, frames_from};
+ghost use Rattle.actor_law.specs.Records.{record_of, frames_got, replies_got};
+ghost use Rattle.system_core.specs.States.{record_from, frames_from, replies_from};
 
 use actor_set::Actor;
-use cargo_core::{Bytes, FrameLog, Memory, Series};
+use cargo_core::{Bytes, FrameLog, Memory, Reply, Series};
 use std::alloc::Global;
 
 // What an actor sent on its line, or recorded.
@@ -107,6 +107,56 @@ pub fn frame_records(
     let mut records = Series::new(alloc);
     for client in clients {
         records.push(frames_from(alloc, actors, *client)?)?;
+    }
+    Ok(records)
+}
+
+// Copies of replies.
+fn reply_copies(alloc: Global, replies: &[Reply]) -> Result<Series<Reply>, Memory>
+    ensures { IfOk result (λ rs. rs ≡ replies.now) }
+{
+    let mut copies = Series::new(alloc);
+    for reply in replies {
+        let bytes = Bytes::from_slice(alloc, reply.bytes.as_slice())?;
+        copies.push(Reply {
+            resp: reply.resp,
+            bytes,
+        })?;
+    }
+    Ok(copies)
+}
+
+// The replies that an actor recorded.
+fn replies_got(alloc: Global, actor: &Actor) -> Result<Series<Reply>, Memory>
+    ensures { IfOk result (λ rs. rs ≡ replies_got actor.now) }
+{
+    match actor {
+        Actor::BlkClient(client) => reply_copies(alloc, client.replies()),
+        _ => Ok(Series::new(alloc)),
+    }
+}
+
+// The replies that the actor at a place recorded.
+fn replies_from(alloc: Global, actors: &[Actor], place: u16) -> Result<Series<Reply>, Memory>
+    ensures { IfOk result (λ rs. rs ≡ replies_from actors.now place) }
+{
+    match actors.get(place as usize) {
+        Some(actor) => replies_got(alloc, actor),
+        None => Ok(Series::new(alloc)),
+    }
+}
+
+/// The replies that each of these actors recorded.
+pub fn replies(
+    alloc: Global,
+    actors: &[Actor],
+    clients: &[u16],
+) -> Result<Series<Series<Reply>>, Memory>
+    ensures { IfOk result (λ rs. rs ≡ map (replies_from actors.now) clients.now) }
+{
+    let mut records = Series::new(alloc);
+    for client in clients {
+        records.push(replies_from(alloc, actors, *client)?)?;
     }
     Ok(records)
 }
