@@ -6,7 +6,7 @@ use Rattle.command_words.specs.declared.command.Options.{Options}
 use Rattle.sddf_top.specs.declared.status.Status.{Status}
 use Rattle.sddf_top.specs.declared.status.Status.TheVariants as Ended
 use Rattle.sddf_top.specs.declared.played.Played.{Played}
-use Rattle.sddf_top.specs.Decisions.{Decision, Say, Play, Decides, TextDecides, PlanDecides, TraceDecides, long_trace, bad_trace, good_trace, checked, laid_out, not_played, traced, long_description, refused, accepted, no_command, described}
+use Rattle.sddf_top.specs.Decisions.{Decision, Say, Play, Decides, TextDecides, PlanDecides, TraceDecides, long_trace, bad_trace, good_trace, checked, laid_out, traced, long_description, refused, accepted, no_command, described}
 use Rattle.sddf_top.specs.Shown.{ending_of}
 use Rattle.sddf_top.specs.Answers.{Answers, Comes, Shows, IsStatusOf, Serves, WasRead, IsTold, IsFault, no_reading, no_writing, no_memory}
 use Rattle.sddf_top.specs.Outside.{appended}
@@ -88,8 +88,7 @@ module _ (R : List ℕ → List ℕ → Type 0) (words : List (List ℕ)) where
   plan-calm : (plan : Plan) (d : Decision) → PlanDecides R words plan d → IsCalm d
   plan-calm plan _ (checked desc c) = may-be Ended.Ok
   plan-calm plan _ (laid_out desc l) = may-be Ended.Ok
-  plan-calm plan _ (not_played desc trace o place p u) = may-be (Ended.Refused 0)
-  plan-calm plan _ (traced desc trace bytes o d p u r t) = trace-calm plan o bytes d t
+  plan-calm plan _ (traced desc trace bytes o d p r t) = trace-calm plan o bytes d t
 
   text-calm : (bytes : List ℕ) (d : Decision) → TextDecides R words bytes d → IsCalm d
   text-calm bytes _ (long_description l) = may-be Ended.TooLong

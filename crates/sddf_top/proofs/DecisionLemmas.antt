@@ -10,7 +10,7 @@ use Rattle.command_words.specs.declared.command.Command.TheVariants as Do
 use Rattle.command_words.specs.declared.command.Options.{Options}
 use Rattle.command_words.specs.Words.{IsCheck, IsLayout, IsPlay, Spells, Begins, IsBadWord}
 use Rattle.sddf_top.specs.declared.status.Status.TheVariants as Ended
-use Rattle.sddf_top.specs.Decisions.{Decision, Say, Play, TraceDecides, PlanDecides, TextDecides, Decides, NamesDescription, refuses, long_trace, bad_trace, good_trace, checked, laid_out, not_played, traced, long_description, refused, accepted, no_command, described}
+use Rattle.sddf_top.specs.Decisions.{Decision, Say, Play, TraceDecides, PlanDecides, TextDecides, Decides, NamesDescription, refuses, long_trace, bad_trace, good_trace, checked, laid_out, traced, long_description, refused, accepted, no_command, described}
 use Rattle.sddf_top.proofs.JudgedLemmas.{same-accepted, accepted-or-refused, same-refused}
 
 -- fewer words begin a command too
@@ -116,22 +116,13 @@ module _ (R S : List ℕ → List ℕ → Type 0) (same : (name a b : List ℕ) 
   one-plan : (plan : Plan) (d d' : Decision) → PlanDecides R words plan d → PlanDecides S words plan d' → Agrees d d'
   one-plan plan _ _ (checked desc c) (checked desc' c') = (refl, refl)
   one-plan plan _ _ (checked desc c) (laid_out desc' l') = absurd (check-or-layout words desc desc' c l')
-  one-plan plan _ _ (checked desc c) (not_played desc' trace' o' place' p' u') = absurd (check-or-play words desc desc' trace' o' c p')
-  one-plan plan _ _ (checked desc c) (traced desc' trace' bytes' o' d' p' u' r' t') = absurd (check-or-play words desc desc' trace' o' c p')
+  one-plan plan _ _ (checked desc c) (traced desc' trace' bytes' o' d' p' r' t') = absurd (check-or-play words desc desc' trace' o' c p')
   one-plan plan _ _ (laid_out desc l) (checked desc' c') = absurd (check-or-layout words desc' desc c' l)
   one-plan plan _ _ (laid_out desc l) (laid_out desc' l') = (refl, refl)
-  one-plan plan _ _ (laid_out desc l) (not_played desc' trace' o' place' p' u') = absurd (layout-or-play words desc desc' trace' o' l p')
-  one-plan plan _ _ (laid_out desc l) (traced desc' trace' bytes' o' d' p' u' r' t') = absurd (layout-or-play words desc desc' trace' o' l p')
-  one-plan plan _ _ (not_played desc trace o place p u) (checked desc' c') = absurd (check-or-play words desc' desc trace o c' p)
-  one-plan plan _ _ (not_played desc trace o place p u) (laid_out desc' l') = absurd (layout-or-play words desc' desc trace o l' p)
-  one-plan plan _ _ (not_played desc trace o place p u) (not_played desc' trace' o' place' p' u') =
-      let e : Some place ≡ Some place' = sym u ∙ u' in let f : place ≡ place' = cc in
-      agrees-refused (record { rule = 0; place = place }) (record { rule = 0; place = place' }) (ap (λ q. record { rule = 0; place = q }) f)
-  one-plan plan _ _ (not_played desc trace o place p u) (traced desc' trace' bytes' o' d' p' u' r' t') = let e = sym u ∙ u' in cc
-  one-plan plan _ _ (traced desc trace bytes o d p u r t) (checked desc' c') = absurd (check-or-play words desc' desc trace o c' p)
-  one-plan plan _ _ (traced desc trace bytes o d p u r t) (laid_out desc' l') = absurd (layout-or-play words desc' desc trace o l' p)
-  one-plan plan _ _ (traced desc trace bytes o d p u r t) (not_played desc' trace' o' place' p' u') = let e = sym u ∙ u' in cc
-  one-plan plan _ _ (traced desc trace bytes o d p u r t) (traced desc' trace' bytes' o' d' p' u' r' t') =
+  one-plan plan _ _ (laid_out desc l) (traced desc' trace' bytes' o' d' p' r' t') = absurd (layout-or-play words desc desc' trace' o' l p')
+  one-plan plan _ _ (traced desc trace bytes o d p r t) (checked desc' c') = absurd (check-or-play words desc' desc trace o c' p)
+  one-plan plan _ _ (traced desc trace bytes o d p r t) (laid_out desc' l') = absurd (layout-or-play words desc' desc trace o l' p)
+  one-plan plan _ _ (traced desc trace bytes o d p r t) (traced desc' trace' bytes' o' d' p' r' t') =
       let b : bytes ≡ bytes' = same trace' bytes bytes' (subst (λ n. R n bytes) (same-trace words desc trace desc' trace' o o' p p') r) r' in
       one-trace plan o o' bytes' d d' (subst (λ x. TraceDecides plan o x d) b t) t'
 
@@ -162,8 +153,7 @@ pub plan-read : (R S : List ℕ → List ℕ → Type 0) → ((name bytes : List
     → PlanDecides R words plan d → PlanDecides S words plan d
 plan-read R S m words plan _ (checked desc c) = checked desc c
 plan-read R S m words plan _ (laid_out desc l) = laid_out desc l
-plan-read R S m words plan _ (not_played desc trace o place p u) = not_played desc trace o place p u
-plan-read R S m words plan _ (traced desc trace bytes o d p u r t) = traced desc trace bytes o d p u (m trace bytes r) t
+plan-read R S m words plan _ (traced desc trace bytes o d p r t) = traced desc trace bytes o d p (m trace bytes r) t
 
 pub text-read : (R S : List ℕ → List ℕ → Type 0) → ((name bytes : List ℕ) → R name bytes → S name bytes) → (words : List (List ℕ)) (bytes : List ℕ) (d : Decision)
     → TextDecides R words bytes d → TextDecides S words bytes d

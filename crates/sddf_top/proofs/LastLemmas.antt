@@ -45,8 +45,7 @@ trace-status told plan o bytes s x p r h = trace-comes told plan o bytes h.0 s x
 -- a play that was asked for leaves what a plan leaves
 pub play-leaves : (told : List ℕ → Option (List ℕ)) (words : List (List ℕ)) (desc trace : List ℕ) (options : Options) (old new : Option (List ℕ)) (s : Status)
     → IsPlay words desc trace options → LeavesPlay told trace old new s → LeavesPlan told words old new s
-play-leaves told words desc trace options old new s p (inl h) = inl (rw h.1 tt, h.2)
-play-leaves told words desc trace options old new s p (inr h) = inr (desc, trace, options, p, h.0, h.1)
+play-leaves told words desc trace options old new s p h = inr (desc, trace, options, p, h.0, h.1)
 
 -- what was read last, once a description within the limit was read
 plan-read-last : (told told' : List ℕ → Option (List ℕ)) → ((n : List ℕ) → told' n ≡ told n) → (words : List (List ℕ)) (desc : List ℕ) (first old new : Option (List ℕ)) (s : Status)

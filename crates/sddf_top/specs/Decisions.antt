@@ -1,6 +1,5 @@
 -- What the words and the texts under their names decide, one constructor a cause.
 use Rattle.std.specs.Prelude.{◌≡◌, ◌⊎◌, ◌<◌, ◌≤◌, ℕ, Some, None, List, length}
-use Rattle.sdf_plan.specs.declared.place.Place.{Place}
 use Rattle.sdf_plan.specs.declared.place.Refusal.{Refusal}
 use Rattle.sdf_plan.specs.declared.plan.Plan.{Plan}
 use Rattle.trace_text.specs.declared.trace.Trace.{Trace}
@@ -12,7 +11,6 @@ use Rattle.command_words.specs.declared.command.Options.{Options}
 use Rattle.command_words.specs.Words.{IsCheck, IsLayout, IsPlay, IsBadWord}
 use Rattle.sddf_top.specs.declared.status.Status.{Status}
 use Rattle.sddf_top.specs.declared.status.Status.TheVariants as Ended
-use Rattle.system_core.specs.Builds.{unplayed}
 use Rattle.sdf_model.specs.Counts.{text_most}
 use Rattle.sddf_top.specs.Judged.{IsAccepted, IsRefusedText}
 
@@ -30,7 +28,7 @@ refuses refusal = Say (Ended.Refused refusal.rule) (refused_text refusal)
 abbrev pub too_long : Decision
 too_long = Say Ended.TooLong long_text
 
--- what the bytes of a trace decide for a plan that can be played: it is too long, a line of it is
+-- what the bytes of a trace decide for a plan: it is too long, a line of it is
 -- bad, or it is played
 pub data TraceDecides (plan : Plan) (options : Options) (bytes : List ℕ) : Decision → Type 0 where
   long_trace : text_most < length bytes → TraceDecides plan options bytes too_long
@@ -39,21 +37,17 @@ pub data TraceDecides (plan : Plan) (options : Options) (bytes : List ℕ) : Dec
   good_trace : length bytes ≤ text_most → HasNoBadLine plan bytes
       → TraceDecides plan options bytes (Play plan (trace_of plan bytes) options)
 
--- what the words decide for the plan of a description that is accepted. To play it, no class may be
--- there that can't be played yet, where reads tells the bytes that were read of a text.
+-- what the words decide for the plan of a description that is accepted, where reads tells the bytes
+-- that were read of a text
 pub data PlanDecides (reads : List ℕ → List ℕ → Type 0) (words : List (List ℕ)) (plan : Plan)
     : Decision → Type 0 where
   checked : (desc : List ℕ) → IsCheck words desc
       → PlanDecides reads words plan (Say Ended.Ok (accepted_text plan))
   laid_out : (desc : List ℕ) → IsLayout words desc
       → PlanDecides reads words plan (Say Ended.Ok (layout_text plan (layout_of plan)))
-  not_played : (desc trace : List ℕ) (options : Options) (place : Place)
-      → IsPlay words desc trace options
-      → unplayed plan ≡ Some place
-      → PlanDecides reads words plan (refuses (record { rule = 0; place = place }))
   traced : (desc trace bytes : List ℕ) (options : Options) (decision : Decision)
       → IsPlay words desc trace options
-      → unplayed plan ≡ None → reads trace bytes → TraceDecides plan options bytes decision
+      → reads trace bytes → TraceDecides plan options bytes decision
       → PlanDecides reads words plan decision
 
 -- what the words and the bytes of a description decide: it is too long, it is refused, or it is

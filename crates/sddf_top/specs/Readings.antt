@@ -66,8 +66,7 @@ IsOfText told answers status =
 abbrev pub LeavesPlay : (List ℕ → Option (List ℕ)) → List ℕ → Option (List ℕ) → Option (List ℕ)
     → Status → Type 0
 LeavesPlay told trace old new status =
-    ((n : ℕ) × (status ≡ Ended.Refused n) × (new ≡ old))
-    ⊎ (Behind told trace new × IsOfText (told trace) IsOfPlay status)
+    Behind told trace new × IsOfText (told trace) IsOfPlay status
 
 -- the same of the words of a command whose description was read
 abbrev pub LeavesPlan : (List ℕ → Option (List ℕ)) → List (List ℕ) → Option (List ℕ)

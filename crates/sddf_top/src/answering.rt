@@ -8,7 +8,6 @@ ghost use Rattle.report_text.specs.Layouts.{layout_text};
 ghost use Rattle.command_words.specs.Words.{texts_of, IsPlay, Spells, last_name};
 ghost use Rattle.command_words.specs.declared.command.Command.{Command};
 ghost use Rattle.sddf_top.specs.Outside.{Rose};
-ghost use Rattle.system_core.specs.Builds.{unplayed};
 ghost use Rattle.sddf_top.specs.Judged.{IsAcceptedPlan};
 ghost use Rattle.sddf_top.specs.Outcomes.{Follows, FollowsBy};
 ghost use Rattle.sddf_top.specs.Decisions.{Say, Decides, TextDecides, PlanDecides, TraceDecides, refuses, too_long};
@@ -27,7 +26,6 @@ use report_text::{
 use sdf_model::TEXT_MOST;
 use sdf_plan::{Plan, Refusal, SdfFault};
 use std::alloc::Global;
-use system_core::unplayed;
 use trace_text::{TraceFault, read_trace};
 
 /// An answer as a whole, before any of it is written.
@@ -125,7 +123,7 @@ fn answer_layout(alloc: Global, plan: &Plan) -> Result<Outcome, ReadStop>
     Ok(Outcome::of(Status::Ok, text))
 }
 
-/// The answer to `play` on a plan that can be played, by the bytes of the trace.
+/// The answer to `play` on a plan, by the bytes of the trace.
 fn answer_trace(
     alloc: Global,
     plan: &Plan,
@@ -133,7 +131,6 @@ fn answer_trace(
     bytes: &[u8],
 ) -> Result<Outcome, ReadStop>
     requires accepted { IsAcceptedPlan plan.now }
-    requires played { unplayed plan.now ≡ None }
     ensures answer { IfOk result (FollowsBy (TraceDecides plan.now options bytes.now)) }
     ensures unfailing { result ≡ Err ReadStop.Failed → ⊥ }
 {
@@ -166,9 +163,6 @@ fn answer_play<F: Shelf>(
     ensures starved { (memory : Memory) → result ≡ Err (ReadStop.Memory memory)
         → F.faults shelf.new ≡ F.faults shelf.old }
 {
-    if let Some(place) = unplayed(plan) {
-        return answer_refusal(alloc, Refusal { rule: 0, place });
-    }
     let bytes = read_text(alloc, shelf, trace)?;
     answer_trace(alloc, plan, options, bytes.as_slice())
 }

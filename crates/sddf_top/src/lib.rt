@@ -30,5 +30,5 @@ pub use serving::{serve, serve_alone};
 pub use shelf::{Failed, Shelf};
 pub use sink::Sink;
 pub use status::Status;
-pub use system_core::{System, unplayed};
+pub use system_core::System;
 pub use writing::write_text;

@@ -1,7 +1,6 @@
 //! A trace is played on a plan, and what the system shows is made the answer.
 ghost use Rattle.std.specs.Prelude.{◌≡◌, None, Err, IfOk, OnErr, string_bytes};
 ghost use Rattle.trace_text.specs.Traces.{IsReadFor};
-ghost use Rattle.system_core.specs.Builds.{unplayed};
 ghost use Rattle.sddf_top.specs.Judged.{IsAcceptedPlan};
 ghost use Rattle.sddf_top.specs.Decisions.{Play};
 ghost use Rattle.sddf_top.specs.Shown.{limit_of, ending_of, shown_text};
@@ -70,7 +69,6 @@ pub fn play(
     options: Options,
 ) -> Result<Outcome, ReadStop>
     requires accepted { IsAcceptedPlan plan.now }
-    requires played { unplayed plan.now ≡ None }
     requires read { IsReadFor plan.now trace.now }
     ensures answer { IfOk result (Follows (Play plan.now trace.now options)) }
     ensures unfailing { result ≡ Err ReadStop.Failed → ⊥ }

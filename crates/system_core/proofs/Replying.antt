@@ -12,7 +12,7 @@ use Rattle.trace_text.specs.Events.{blk_clients}
 use Rattle.region_layout.specs.Rows.{disk_number}
 use Rattle.net_tx_parts.specs.Numbers.{own_pool}
 use Rattle.blk_expect.specs.Replies.{replies_of}
-use Rattle.blk_cast.specs.Numbers.{BlkPlace, blk_client_at}
+use Rattle.blk_parts.specs.Numbers.{BlkPlace, blk_client_at}
 use Rattle.job_law.specs.Jobs as jobs
 use Rattle.play_core.proofs.Lists.{some_is, map_get, there_is}
 use Rattle.actor_set.specs.Parts.{BlockPart}

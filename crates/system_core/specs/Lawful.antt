@@ -11,7 +11,7 @@ use Rattle.cargo_core.specs.Lists.{IsPrefix, PrefixMerge}
 use Rattle.cargo_core.specs.declared.item.Ask.{Ask}
 use Rattle.cargo_core.specs.declared.item.Reply.{Reply}
 use Rattle.blk_expect.specs.Replies.{replies_of}
-use Rattle.blk_cast.specs.Numbers.{BlkPlace, blk_client_at}
+use Rattle.blk_parts.specs.Numbers.{BlkPlace, blk_client_at}
 use Rattle.frame_core.specs.declared.mac.Mac.{Mac}
 use Rattle.net_expect.specs.Expecting.{Program, frames_for}
 use Rattle.net_owners.specs.Names.{PoolAt, ClientPools}

@@ -17,7 +17,7 @@ use Rattle.sdf_plan.specs.declared.plan.Blk.{Blk}
 use Rattle.cargo_core.specs.declared.item.Ask.{Ask}
 use Rattle.cargo_core.specs.declared.item.Reply.{Reply}
 use Rattle.blk_expect.specs.Replies.{replies_of}
-use Rattle.blk_cast.specs.Numbers.{BlkPlace}
+use Rattle.blk_parts.specs.Numbers.{BlkPlace}
 use Rattle.sdf_plan.specs.declared.plan.Serial.{Serial}
 use Rattle.trace_text.specs.declared.trace.Trace.{Trace}
 use Rattle.system_core.specs.Shows.{State, Shown, runs, moved_in}

@@ -11,7 +11,6 @@ ghost use Rattle.std.specs.Prelude.{◌≡◌, ◌<◌, ◌≤◌, IfOk, IfSome,
 ghost use Rattle.sdf_check.specs.Valid.{Valid};
 ghost use Rattle.sdf_plan.specs.Elements.{IsNumbered};
 ghost use Rattle.sdf_model.specs.Counts.{text_most};
-ghost use Rattle.system_core.specs.Builds.{unplayed};
 ghost use Rattle.trace_text.specs.Traces.{IsReadFor};
 
 mod naming;
@@ -27,7 +26,7 @@ use sdf_model::{TEXT_MOST, read_description};
 use sdf_plan::{Plan, SdfFault};
 use std::alloc::Global;
 use std::{fs, io};
-use system_core::{Ending, System, unplayed};
+use system_core::{Ending, System};
 use trace_text::{Trace, TraceFault, read_trace};
 
 // The plan that a text spells, with another name of a domain where a row gives one as
@@ -140,7 +139,6 @@ fn told(alloc: Global, report: &Report, trace: &Trace, ending: Ending) -> Result
 // What a play of a plan comes to, with a trace that was read for it.
 fn play(alloc: Global, plan: &Plan, trace: &Trace, seed: u64, steps: u64) -> Result<String, Memory>
     requires valid { Valid plan.now }
-    requires played { unplayed plan.now ≡ None }
     requires trace { IsReadFor plan.now trace.now }
 {
     let layout = lay_out(alloc, plan)?;
@@ -159,9 +157,6 @@ fn play_lines(
 ) -> Result<String, Memory>
     requires { Valid plan.now }
 {
-    if unplayed(plan).is_some() {
-        return Ok(String::from_str(alloc, "not played\n")?);
-    }
     let text = trace_of(alloc, lines)?;
     match read_trace(alloc, text.as_str().as_bytes(), plan) {
         Ok(trace) => play(alloc, plan, &trace, seed, steps),
