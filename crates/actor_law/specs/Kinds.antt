@@ -49,7 +49,7 @@ frames_of (BlockPart p) = []
 abbrev pub blk_image_of : BlkPart → List ℕ
 blk_image_of (DiskDevice req resp image) = image
 blk_image_of (BlkDriver ways) = []
-blk_image_of (BlkVirt req resp pool clients) = []
+blk_image_of (BlkVirt req resp sectors pool clients) = []
 blk_image_of (BlkClient req resp asks pool) = []
 
 -- the image that a trace gives a part
@@ -105,8 +105,8 @@ ways_kind (w ∷ ways) Producer n = kind_of_two w.output Kind.Req Kind.Resp n
 abbrev pub blk_kind : BlkPart → Role → ℕ → QueueKind
 blk_kind (DiskDevice req resp image) r n = kind_by Kind.Req Kind.Resp r
 blk_kind (BlkDriver ways) r n = ways_kind ways r n
-blk_kind (BlkVirt req resp pool clients) Consumer n = kind_of_two resp Kind.Resp Kind.Req n
-blk_kind (BlkVirt req resp pool clients) Producer n = kind_of_two req Kind.Req Kind.Resp n
+blk_kind (BlkVirt req resp sectors pool clients) Consumer n = kind_of_two resp Kind.Resp Kind.Req n
+blk_kind (BlkVirt req resp sectors pool clients) Producer n = kind_of_two req Kind.Req Kind.Resp n
 blk_kind (BlkClient req resp asks pool) r n = kind_by Kind.Resp Kind.Req r
 
 -- what the queue at an end of a part carries

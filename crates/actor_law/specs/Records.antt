@@ -104,7 +104,7 @@ replies_got (Kinds.BlkClient x) = x.asking.kept.shown
 abbrev pub blk_replies_by : Passed → BlkPart → List Reply
 blk_replies_by passed (DiskDevice req resp image) = []
 blk_replies_by passed (BlkDriver ways) = []
-blk_replies_by passed (BlkVirt req resp pool clients) = []
+blk_replies_by passed (BlkVirt req resp sectors pool clients) = []
 blk_replies_by passed (BlkClient req resp asks pool) = replies_to asks (passed.taken resp)
 
 -- and those that a part recorded

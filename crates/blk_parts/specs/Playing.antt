@@ -43,7 +43,7 @@ sharers (h ∷ hs) (q ∷ from) (r ∷ to) =
 
 -- a virtualiser's part
 abbrev pub virt_part : BlkVirt → BlkPart
-virt_part v = VirtPart v.ends.output.queue.0 v.ends.input.queue.0
+virt_part v = VirtPart v.ends.output.queue.0 v.ends.input.queue.0 v.work.opening.disk_sectors
     (record {
       number = v.work.opening.own.pool.0;
       base = v.work.opening.base;

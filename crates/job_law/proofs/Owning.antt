@@ -207,19 +207,19 @@ module _ (plan : Plan) where
     unfolding posts_of
     in_blk p s = stands_right p (net_part ++ serial_part) blk_part (subst (λ o. Stands p (option_map_or blk_posts o [])) (sym is) s)
 
-    blk_client : (k : ℕ) (x : BlkClientKeys) → slice_get blk.client k ≡ Some x → HasJob plan (BlkClient (0 + k)) (actor_named plan x.pd).0
+    pub blk_client : (k : ℕ) (x : BlkClientKeys) → slice_get blk.client k ≡ Some x → HasJob plan (BlkClient (0 + k)) (actor_named plan x.pd).0
     blk_client k x there =
         let p = post (BlkClient (0 + k)) x.pd in
         let e = stands_each blk_client_posts p 0 blk.client k x there (0, refl) in
         hired p (in_blk p (suc (suc e.0), e.1))
 
-    disk : HasJob plan DiskDevice (disk_number plan).0
+    pub disk : HasJob plan DiskDevice (disk_number plan).0
     disk = disk_at (ap is_some is)
 
-    disk_driver : HasJob plan DiskDriver (actor_named plan blk.driver).0
+    pub disk_driver : HasJob plan DiskDriver (actor_named plan blk.driver).0
     disk_driver = hired (post DiskDriver blk.driver) (in_blk (post DiskDriver blk.driver) (0, refl))
 
-    virtualiser : HasJob plan BlkVirtualiser (actor_named plan blk.virt).0
+    pub virtualiser : HasJob plan BlkVirtualiser (actor_named plan blk.virt).0
     virtualiser = hired (post BlkVirtualiser blk.virt) (in_blk (post BlkVirtualiser blk.virt) (1, refl))
 
     fit_blk_client : (k : ℕ) (x : BlkClientKeys) → slice_get blk.client k ≡ Some x → Fit (blk_client_queues plan blk (0 + k) x) (both_ways (BlkClient (0 + k)) BlkVirtualiser)
