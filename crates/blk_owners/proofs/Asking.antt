@@ -30,10 +30,10 @@ use Rattle.blk_owners.proofs.Answers.{take_of, answers_are, answers_none}
 use Rattle.blk_owners.proofs.Copying.{no_longer}
 
 -- how often a buffer is used, from a number of uses on: they go round through the pool
-abbrev use_of : (pool buffers : ℕ) → Buffer → ℕ → ℕ
+abbrev pub use_of : (pool buffers : ℕ) → Buffer → ℕ → ℕ
 use_of pool buffers b s = bit ((pool == b.pool) && (s % buffers == b.no))
 
-abbrev uses_at : (pool buffers : ℕ) → Buffer → (s n : ℕ) → ℕ
+abbrev pub uses_at : (pool buffers : ℕ) → Buffer → (s n : ℕ) → ℕ
 uses_at pool buffers b s zero = 0
 uses_at pool buffers b s (suc n) = use_of pool buffers b s + uses_at pool buffers b (s + 1) n
 

@@ -1,7 +1,12 @@
 -- What the items of the block class's queues name: a request the buffer at its address, and a
 -- response that of the request of its place.
-use Rattle.std.specs.Prelude.{◌≡◌, ◌≤◌, ℕ, Some, List, [], ◌∷◌, length, map, slice_get}
+use Rattle.std.specs.Prelude.{◌≡◌, ◌*◌, ◌≤◌, ℕ, Some, List, [], ◌∷◌, length, map, slice_get}
+use Rattle.cargo_core.specs.Items.{kind_of}
 use Rattle.cargo_core.specs.Lists.{IsPrefix}
+use Rattle.cargo_core.specs.Ranges.{IsApart}
+use Rattle.cargo_core.specs.declared.item.Item.{Item}
+use Rattle.cargo_core.specs.declared.item.QueueKind.TheVariants as Kind
+use Rattle.cargo_core.specs.declared.ranges.Range.{Range}
 use Rattle.play_core.specs.Moved.{Moved}
 use Rattle.play_core.specs.Sheets.{Sheet, AreApart}
 use Rattle.owner_law.specs.Things.{Window, Buffers, Answers, Naming}
@@ -49,9 +54,26 @@ NamesBlk naming (BlkVirt req resp sectors pool clients) =
 NamesBlk naming (BlkClient req resp asks pool) =
     (1 ≤ pool.buffers) × NamesAsked naming (offset_window pool ∷ []) req resp
 
--- queues hand over in order, and to no queue were more responses put than requests to the one that
--- it answers
+-- the device addresses of a pool's buffers
+abbrev pub block_range : PoolAt → Range
+block_range p = record { base = p.base; size = p.buffers * 32768 }
+
+-- the virtualiser and each of its clients have buffers, and no two of these pools have an address in
+-- common
+pub record ArePoolsApart (pool : PoolAt) (clients : List Sharer) : Type 0 where
+  pub own : 1 ≤ pool.buffers
+  pub some : (k : ℕ) (c : Sharer) → slice_get clients k ≡ Some c → 1 ≤ c.pool.buffers
+  pub own_apart : (k : ℕ) (c : Sharer) → slice_get clients k ≡ Some c
+      → IsApart (block_range c.pool) (block_range pool)
+  pub apart : (j k : ℕ) (c d : Sharer) → slice_get clients j ≡ Some c
+      → slice_get clients k ≡ Some d → (j ≡ k → ⊥)
+      → IsApart (block_range c.pool) (block_range d.pool)
+
+-- queues hand over in order; what is put to one that another answers are requests, and no more was
+-- answered than was put there
 pub record IsInOrder (naming : Naming) (m : Moved) : Type 0 where
+  pub requests : (n q : ℕ) (ws : List Window) → naming n ≡ Answers q ws → (j : ℕ) (i : Item)
+      → slice_get (m.sent q) j ≡ Some i → kind_of i ≡ Kind.Req
   pub hands_over : (n : ℕ) → IsPrefix (m.taken n) (m.sent n)
   pub answered : (n q : ℕ) (ws : List Window) → naming n ≡ Answers q ws
       → length (m.sent n) ≤ length (m.sent q)

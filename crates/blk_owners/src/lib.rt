@@ -8,13 +8,14 @@ ghost use Rattle.play_core.specs.Sheets.{Scene};
 ghost use Rattle.owner_law.specs.Things.{Naming};
 ghost use Rattle.net_owners.specs.Names.{PoolAt};
 ghost use Rattle.net_parts.specs.Parts.{Way};
-ghost use Rattle.blk_parts.specs.Parts.{DiskDevice, BlkDriver, BlkClient};
+ghost use Rattle.blk_parts.specs.Parts.{DiskDevice, BlkDriver, BlkVirt, BlkClient, Sharer};
 ghost use Rattle.blk_parts.specs.Table.{blk_sheet};
-ghost use Rattle.blk_owners.specs.Answering.{NamesBlk, PutsItsOwnInOrder};
+ghost use Rattle.blk_owners.specs.Answering.{NamesBlk, ArePoolsApart, PutsItsOwnInOrder};
 
-/// A disk, a driver and a client put only what was in their hand, where queues hand over in order
-/// and no more was answered than was asked: the first two what they took, the client the buffers
-/// that it had too.
+/// A disk, a driver, a client and the virtualiser put only what was in their hand, where queues hand
+/// over in order and no more was answered than was asked: the first two what they took, the client
+/// and the virtualiser the buffers that they had too. Of a client's requests the virtualiser sends on
+/// or gives back each once, where no two pools have an address in common.
 pub fn blk_own_law()
     ensures disk { (naming : Naming) (scene : Scene) (req resp : ℕ) (image : List ℕ)
         → NamesBlk naming (DiskDevice req resp image)
@@ -25,4 +26,8 @@ pub fn blk_own_law()
     ensures client { (naming : Naming) (scene : Scene) (req resp : ℕ) (asks : List Ask)
         (pool : PoolAt) → NamesBlk naming (BlkClient req resp asks pool)
         → PutsItsOwnInOrder naming (blk_sheet scene (BlkClient req resp asks pool)) }
+    ensures virtualiser { (naming : Naming) (scene : Scene) (req resp : ℕ) (pool : PoolAt)
+        (clients : List Sharer) → NamesBlk naming (BlkVirt req resp pool clients)
+        → ArePoolsApart pool clients
+        → PutsItsOwnInOrder naming (blk_sheet scene (BlkVirt req resp pool clients)) }
 {}

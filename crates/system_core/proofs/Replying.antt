@@ -17,8 +17,8 @@ use Rattle.job_law.specs.Jobs as jobs
 use Rattle.play_core.proofs.Lists.{some_is, map_get, there_is}
 use Rattle.actor_set.specs.Parts.{BlockPart}
 use Rattle.wired_law.specs.Wiring.{HasBlk}
-use Rattle.cast_core.specs.Casts.{blk_place}
-use Rattle.cast_core.specs.Sources.{client_asks, client_entry, client_pool}
+use Rattle.cast_core.specs.Casts.{blk_place, client_pool}
+use Rattle.cast_core.specs.Sources.{client_asks, client_entry}
 use Rattle.cast_core.proofs.Listing.{value_count, value_at, value_is}
 use Rattle.seat_law.specs.Named.{AreBlkNamed}
 use Rattle.seat_law.proofs.Naming.{blk_named}
@@ -49,7 +49,7 @@ module _ (plan : Plan) (blk : Blk) (trace : Trace) (s : Shown) (cast : IsCastOf 
 
   record_is : (c entry : ℕ) (asks : List Ask) (got : List Reply) → slice_get place.entries c ≡ Some entry → slice_get place.asks c ≡ Some asks → slice_get s.state.blk c ≡ Some got → IsPrefix got (replies_of place.image entry asks)
   record_is c entry asks got of its at =
-      let a = value_is (length (blk_clients plan)) (client_asks plan trace) c asks its in
+      let a = value_is (length (blk_clients plan)) (client_asks trace) c asks its in
       let below : c < length (blk_clients plan) = a.0 in
       let client = there_is blk.client c (omega (arith, below, many)) in
       let number : slice_get s.setting.blk.clients c ≡ Some (number_named plan client.0.pd) =

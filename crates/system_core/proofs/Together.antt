@@ -21,10 +21,12 @@ use Rattle.serial_law.specs.Serial.{SerialClass, IsSerial, ArrivesInPart, Arrive
 use Rattle.serial_law.proofs.Arrivals.{as_there, RowAt}
 use Rattle.actor_law.specs.Kinds.{serial_part, scene_of}
 use Rattle.system_core.specs.Shows.{Setting, Shown, manner_in, hostile_in, sheet_in, moved_in, runs, RowsStand}
-use Rattle.system_core.specs.Plays.{Played, runnable_now}
+use Rattle.system_core.specs.Plays.{Played, IsSpent, runnable_now}
+use Rattle.system_core.specs.declared.system.Ending.{Ending}
+use Rattle.system_core.specs.declared.system.Ending.TheVariants as Ends
 use Rattle.system_core.specs.Lawful.{StandsLawful}
 use Rattle.system_core.specs.Builds.{IsBuilt, IsCastOf, BeginsAnew, serial_class}
-use Rattle.system_core.specs.PlanPlays.{IsPlayed, IsPlayedOn}
+use Rattle.system_core.specs.PlanPlays.{IsPlayed, IsPlayedOn, HasEnded}
 use Rattle.actor_law.proofs.Calm.{calm_actor, sheet_is}
 use Rattle.system_core.proofs.Scripts.{scripts_length}
 use Rattle.cast_core.specs.Sources.{first_serial}
@@ -128,3 +130,8 @@ together old new seed limit played plan trace read built stands part whole = rec
   begins = subst BeginsAnew (sym played.setting) built.begins;
   played = played_on old new seed limit built.journal played plan trace read built.cast stands part whole;
 }
+
+-- how a play ended that began with nothing
+pub ended : (limit : ℕ) (old new : Shown) (e : Ending) → old.journal ≡ [] → (e ≡ Ends.Quiet → runnable_now new ≡ []) → (e ≡ Ends.Spent → IsSpent old new limit) → HasEnded limit new e
+ended limit old new Ends.Quiet none quiet spent = quiet refl
+ended limit old new Ends.Spent none quiet spent = let s = spent refl in (omega (arith, s.0, ap length none), s.1)

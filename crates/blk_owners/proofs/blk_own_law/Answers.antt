@@ -1,5 +1,6 @@
 use Rattle.blk_owners.proofs.Copying.{disk_keeps, driver_keeps}
 use Rattle.blk_owners.proofs.Asking.{client_keeps}
+use Rattle.blk_owners.proofs.Serving.{virt_keeps}
 use Rattle.blk_owners.proofs.blk_own_law.Goals as goal
 
 pub returns-clause-disk : goal.returns-clause-disk
@@ -10,3 +11,6 @@ returns-clause-driver c = driver_keeps
 
 pub returns-clause-client : goal.returns-clause-client
 returns-clause-client c = client_keeps
+
+pub returns-clause-virtualiser : goal.returns-clause-virtualiser
+returns-clause-virtualiser c = virt_keeps
