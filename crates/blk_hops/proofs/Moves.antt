@@ -19,7 +19,9 @@ use Rattle.blk_virt.specs.Requests.{request_of}
 use Rattle.net_owners.specs.Names.{PoolAt}
 use Rattle.net_hops.proofs.Sums.{sum_parts, below_list}
 use Rattle.net_hops.proofs.Queues.{merge_few}
+use Rattle.net_tx_parts.specs.Numbers.{own_pool}
 use Rattle.blk_parts.specs.Parts.{Sharer}
+use Rattle.blk_parts.specs.Numbers.{BlkPlace, sharers_from}
 use Rattle.blk_parts.specs.Rows.{asked_items, buffers_for, AsksInOrder, item_for_disk, goes_on_item, refusal_item, passed_item, numbered_item, answer_item, answer_items, items_back, requests_on, all_requests, ServesRequests}
 use Rattle.blk_hops.specs.Hops.{blk_put, blk_moves, IsBlock}
 
@@ -91,7 +93,41 @@ sum_pairs f (suc k) =
     let b : f (2 * k + 1) ≡ f (1 + 2 * k) = ap f (let z : 2 * k + 1 ≡ 1 + 2 * k = omega arith in z) in
     omega (arith, e, parts, h, a, b)
 
-module _ (scene : Scene) (hostile : Hostiles) (history : History) (rows : List QueueRow) (j : List Entry) (first : ℕ) (pool : PoolAt) (clients : List Sharer) (asks : List (List Ask)) (flows : QueuesFlow hostile history rows j) (w : IsBlock scene hostile rows (moved history j) first pool clients asks) where
+-- as many clients as entries, each with the queues of its number
+sharers_many : (first k : ℕ) (entries : List ℕ) (pools : List PoolAt) → length entries ≡ length pools → length (sharers_from first k entries pools) ≡ length entries
+sharers_many first k [] pools n = refl
+sharers_many first k (entry ∷ entries) [] n = absurd (omega (arith, n))
+sharers_many first k (entry ∷ entries) (pool ∷ pools) n = let h = sharers_many first (k + 1) entries pools (omega (arith, n)) in omega (arith, h)
+
+sharer_is : (first j : ℕ) (entries : List ℕ) (pools : List PoolAt) (k : ℕ) (c : Sharer) → slice_get (sharers_from first j entries pools) k ≡ Some c → (c.req ≡ first + 4 + 2 * (j + k)) × (c.resp ≡ first + 5 + 2 * (j + k))
+sharer_is first j [] pools k c at = cc
+sharer_is first j (entry ∷ entries) [] k c at = cc
+sharer_is first j (entry ∷ entries) (pool ∷ pools) zero c at =
+    let e = some_is at in
+    let q : first + 4 + 2 * j ≡ c.req = ap (λ (d : Sharer). d.req) e in
+    let r : first + 5 + 2 * j ≡ c.resp = ap (λ (d : Sharer). d.resp) e in
+    (omega (arith, q), omega (arith, r))
+sharer_is first j (entry ∷ entries) (pool ∷ pools) (suc k) c at =
+    let h = sharer_is first (j + 1) entries pools k c at in
+    let q = h.0 in
+    let r = h.1 in
+    (omega (arith, q), omega (arith, r))
+
+module _ (scene : Scene) (hostile : Hostiles) (history : History) (rows : List QueueRow) (j : List Entry) (place : BlkPlace) (flows : QueuesFlow hostile history rows j) (w : IsBlock scene hostile rows (moved history j) place) where
+  abbrev first : ℕ
+  first = place.first
+
+  abbrev asks : List (List Ask)
+  asks = place.asks
+
+  abbrev clients : List Sharer
+  clients = sharers_from place.first 0 place.entries place.pools
+
+  many : length clients ≡ length asks
+  many = sharers_many place.first 0 place.entries place.pools (w.entries_many ∙ sym w.pools_many) ∙ w.entries_many
+
+  clients_at : (k : ℕ) (c : Sharer) → slice_get clients k ≡ Some c → (c.req ≡ first + 4 + 2 * k) × (c.resp ≡ first + 5 + 2 * k)
+  clients_at k c at = let h = sharer_is place.first 0 place.entries place.pools k c at in let q = h.0 in let r = h.1 in (omega (arith, q), omega (arith, r))
   abbrev m : Moved
   m = moved history j
 
@@ -124,7 +160,7 @@ module _ (scene : Scene) (hostile : Hostiles) (history : History) (rows : List Q
   answered : put 3 ≤ got 1
   answered = begins_few _ _ (w.driver 1 _ refl)
 
-  serves : ServesRequests scene.image (first + 2) (first + 3) pool clients m
+  serves : ServesRequests scene.image (first + 2) (first + 3) place.pool clients m
   serves = w.virt
 
   -- the queues of a client
@@ -139,30 +175,33 @@ module _ (scene : Scene) (hostile : Hostiles) (history : History) (rows : List Q
 
   client_asks : (k : ℕ) (said : List Ask) → slice_get asks k ≡ Some said → put (at 0 k) ≤ length said
   client_asks k said there =
-      let c = w.client k said there in
-      let row : AsksInOrder said c.0 (m.taken (first + 5 + 2 * k)) (m.sent (first + 4 + 2 * k)) = c.1 in
+      let lt = there_below asks k said there in
+      let e_many = w.entries_many in
+      let p_many = w.pools_many in
+      let entry = there_is place.entries k (omega (arith, lt, e_many)) in
+      let pool = there_is place.pools k (omega (arith, lt, p_many)) in
+      let own = own_pool pool.0 in
+      let row : AsksInOrder said own (m.taken (first + 5 + 2 * k)) (m.sent (first + 4 + 2 * k)) = w.client k entry.0 said pool.0 (record { has_entry = entry.1; has_asks = there; has_pool = pool.1 }) in
       let a = begins_few _ _ row.begins in
-      let b = asked_few 0 0 (c.0.buffers + buffers_for (take (length (m.taken (first + 5 + 2 * k))) said)) c.0.buffers said in
+      let b = asked_few 0 0 (own.buffers + buffers_for (take (length (m.taken (first + 5 + 2 * k))) said)) own.buffers said in
       let e : length (m.sent (first + 4 + 2 * k)) ≡ put (at 0 k) = ap (λ n. length (m.sent n)) (req_is k) in
       omega (arith, a, b, e)
 
   taken_at : (k : ℕ) (c : Sharer) → slice_get clients k ≡ Some c → length (m.taken c.req) ≤ put (at 0 k)
   taken_at k c there =
-      let is : length (m.taken c.req) ≡ got (at 0 k) = ap (λ n. length (m.taken n)) ((w.clients_at k c there).req ∙ req_is k) in
+      let is : length (m.taken c.req) ≡ got (at 0 k) = ap (λ n. length (m.taken n)) ((clients_at k c there).0 ∙ req_is k) in
       let lt = there_below clients k c there in
-      let many = w.clients_many in
       let a = flow (at 0 k) (omega (arith, lt, many)) in
       omega (arith, is, a)
 
   client_answered : (k : ℕ) (said : List Ask) → slice_get asks k ≡ Some said → put (at 1 k) ≤ length said
   client_answered k said there =
       let lt = there_below asks k said there in
-      let many = w.clients_many in
       let c = there_is clients k (omega (arith, lt, many)) in
       let a = begins_few _ _ (serves.gives k c.0 c.1) in
       let b = answers_few (partition_in scene.image c.0.entry) (m.taken c.0.req) (items_back c.0.pool (drop 1 (m.sent (first + 2))) (drop 1 (m.taken (first + 3)))) in
       let d = taken_at k c.0 c.1 in
-      let e : length (m.sent c.0.resp) ≡ put (at 1 k) = ap (λ n. length (m.sent n)) ((w.clients_at k c.0 c.1).resp ∙ resp_is k) in
+      let e : length (m.sent c.0.resp) ≡ put (at 1 k) = ap (λ n. length (m.sent n)) ((clients_at k c.0 c.1).1 ∙ resp_is k) in
       let f = client_asks k said there in
       omega (arith, a, b, d, e, f)
 
@@ -192,7 +231,7 @@ module _ (scene : Scene) (hostile : Hostiles) (history : History) (rows : List Q
       let b = length-map (drop 1 (m.sent (first + 2))) (numbered_item 0) in
       let d = drop_one (m.sent (first + 2)) in
       let e = all_few scene.image m (λ k. put (at 0 k)) 0 clients (λ k c there. let one = taken_at k c there in let same : put (at 0 (0 + k)) ≡ put (at 0 k) = ap (λ n. put (at 0 n)) (let z : 0 + k ≡ k = omega arith in z) in omega (arith, one, same)) in
-      let size : sum_below (λ k. put (at 0 k)) (0 + length clients) ≡ all 0 = ap (sum_below (λ k. put (at 0 k))) (let many = w.clients_many in omega (arith, many)) in
+      let size : sum_below (λ k. put (at 0 k)) (0 + length clients) ≡ all 0 = ap (sum_below (λ k. put (at 0 k))) (omega (arith, many)) in
       omega (arith, a, b, d, e, size)
 
   parts : blk_put first count m ≡ put 0 + put 1 + put 2 + put 3 + (all 0 + all 1)
