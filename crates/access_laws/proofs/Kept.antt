@@ -1,4 +1,4 @@
-use Rattle.std.proofs.Common.{◌≡◌, ℕ, List, Bool, Some, slice_get, arith}
+use Rattle.std.proofs.Common.{◌≡◌, ℕ, List, Bool, Some, slice_get, inl, arith}
 use Rattle.sdf_plan.specs.declared.plan.Plan.{Plan}
 use Rattle.sdf_plan.specs.declared.plan.Net.{Net}
 use Rattle.sdf_plan.specs.declared.plan.NetClient.{NetClient}
@@ -31,7 +31,7 @@ module _ (plan : Plan) (valid : Valid plan) where
     net-rights = net_keeps plan 23 valid (omega arith) (omega arith) net is
 
     pub net-strangers : IsSharedWithStranger plan (net_element net) → ⊥
-    net-strangers = net_keeps plan 24 valid (omega arith) (omega arith) net is
+    net-strangers s = net_keeps plan 24 valid (omega arith) (omega arith) net is (inl s)
 
     module _ (c : ℕ) (client : NetClient) (there : slice_get net.client c ≡ Some client) where
       pub net-client-channels : LacksChannel plan (net_client_element net c client) → ⊥
@@ -41,7 +41,7 @@ module _ (plan : Plan) (valid : Valid plan) where
       net-client-rights = net_client_keeps plan 23 valid (omega arith) (omega arith) net c client is there
 
       pub net-client-strangers : IsSharedWithStranger plan (net_client_element net c client) → ⊥
-      net-client-strangers = net_client_keeps plan 24 valid (omega arith) (omega arith) net c client is there
+      net-client-strangers s = net_client_keeps plan 24 valid (omega arith) (omega arith) net c client is there (inl s)
 
   module _ (serial : Serial) (is : plan.serial ≡ Some serial) where
     pub serial-channels : LacksChannel plan (serial_element serial) → ⊥
@@ -51,7 +51,7 @@ module _ (plan : Plan) (valid : Valid plan) where
     serial-rights = serial_keeps plan 23 valid (omega arith) (omega arith) serial is
 
     pub serial-strangers : IsSharedWithStranger plan (serial_element serial) → ⊥
-    serial-strangers = serial_keeps plan 24 valid (omega arith) (omega arith) serial is
+    serial-strangers s = serial_keeps plan 24 valid (omega arith) (omega arith) serial is (inl s)
 
     module _ (c : ℕ) (client : SerialClient) (there : slice_get serial.client c ≡ Some client) where
       pub serial-client-channels : LacksChannel plan (serial_client_element serial c client) → ⊥
@@ -61,7 +61,7 @@ module _ (plan : Plan) (valid : Valid plan) where
       serial-client-rights = serial_client_keeps plan 23 valid (omega arith) (omega arith) serial c client is there
 
       pub serial-client-strangers : IsSharedWithStranger plan (serial_client_element serial c client) → ⊥
-      serial-client-strangers = serial_client_keeps plan 24 valid (omega arith) (omega arith) serial c client is there
+      serial-client-strangers s = serial_client_keeps plan 24 valid (omega arith) (omega arith) serial c client is there (inl s)
 
   module _ (blk : Blk) (is : plan.blk ≡ Some blk) where
     pub blk-channels : LacksChannel plan (blk_element blk) → ⊥
@@ -71,7 +71,7 @@ module _ (plan : Plan) (valid : Valid plan) where
     blk-rights = blk_keeps plan 23 valid (omega arith) (omega arith) blk is
 
     pub blk-strangers : IsSharedWithStranger plan (blk_element blk) → ⊥
-    blk-strangers = blk_keeps plan 24 valid (omega arith) (omega arith) blk is
+    blk-strangers s = blk_keeps plan 24 valid (omega arith) (omega arith) blk is (inl s)
 
     module _ (c : ℕ) (client : BlkClient) (there : slice_get blk.client c ≡ Some client) where
       pub blk-client-channels : LacksChannel plan (blk_client_element blk c client) → ⊥
@@ -81,4 +81,4 @@ module _ (plan : Plan) (valid : Valid plan) where
       blk-client-rights = blk_client_keeps plan 23 valid (omega arith) (omega arith) blk c client is there
 
       pub blk-client-strangers : IsSharedWithStranger plan (blk_client_element blk c client) → ⊥
-      blk-client-strangers = blk_client_keeps plan 24 valid (omega arith) (omega arith) blk c client is there
+      blk-client-strangers s = blk_client_keeps plan 24 valid (omega arith) (omega arith) blk c client is there (inl s)

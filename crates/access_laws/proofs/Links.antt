@@ -19,8 +19,10 @@ use Rattle.sdf_plan.specs.declared.plan.BlkClient.{BlkClient}
 use Rattle.sdf_check.specs.Names.{region_names, region_named, net_domains, net_client_domains, serial_domains, serial_client_domains, blk_domains, blk_client_domains}
 use Rattle.sdf_check.specs.ClassRules.{AreJoined, IsGranted, HasStranger, class_domains, net_names, serial_names, blk_names}
 use Rattle.sdf_check.specs.Valid.{Valid}
+use Rattle.sdf_check.proofs.ClassLemmas.{domains_same}
 use Rattle.sdf_check.proofs.SweepLemmas.{some-inj}
 use Rattle.region_layout.specs.Rows.{actors_of, actor_named, queue_in, queue_pair, queue_span, each_client, eth_rx_queues, eth_tx_queues, net_rx_queues, net_tx_queues, lease_queues, client_rx_queues, client_tx_queues, net_client_queues, net_queues, uart_queues, shared_serial_queues, serial_client_queues, serial_queues, disk_queues, shared_blk_queues, blk_client_queues, blk_queues, queues_of}
+use Rattle.region_layout.proofs.SameLemmas.{queues_same}
 use Rattle.layout_laws.specs.Sound.{IsActor}
 use Rattle.layout_laws.proofs.Lists.{there_is, all-clients, all-class}
 use Rattle.layout_laws.proofs.Found.{found-at}
@@ -124,8 +126,8 @@ module _ (plan : Plan) (valid : Valid plan) where
   abbrev blk_part : List (List ℕ)
   blk_part = blk_names blk_domains blk_client_domains plan
 
-  acts : (name : List ℕ) → Contains (class_domains plan) name → Acts plan name
-  acts name there = (All-contains (IsActor plan) (class_domains plan) name (class_acts plan valid) there).0
+  acts : (name : List ℕ) → Contains (net_part ++ serial_part ++ blk_part) name → Acts plan name
+  acts name there = (All-contains (IsActor plan) (class_domains plan) name (class_acts plan valid) (subst (λ (names : List (List ℕ)). Contains names name) (sym (domains_same plan)) there)).0
 
   module _ (net : Net) (is : plan.net ≡ Some net) where
     net_acts : (name : List ℕ) → Contains (net_domains net ++ flat_map net_client_domains net.client) name → Acts plan name
@@ -297,10 +299,9 @@ module _ (plan : Plan) (valid : Valid plan) where
 
   -- the two actors of each queue of a valid plan
   pub queues_linked : All (IsLinked plan) (queues_of plan)
-  unfolding queues_of
   queues_linked =
       let net = all-class (IsLinked plan) (net_queues plan) plan.net net_linked in
       let serial = all-class (IsLinked plan) (serial_queues plan) plan.serial serial_linked in
       let blk = all-class (IsLinked plan) (blk_queues plan) plan.blk blk_linked in
-      both plan (option_map_or (net_queues plan) plan.net [] ++ option_map_or (serial_queues plan) plan.serial []) (option_map_or (blk_queues plan) plan.blk [])
-      (both plan (option_map_or (net_queues plan) plan.net []) (option_map_or (serial_queues plan) plan.serial []) net serial) blk
+      subst (All (IsLinked plan)) (sym (queues_same plan)) (both plan (option_map_or (net_queues plan) plan.net [] ++ option_map_or (serial_queues plan) plan.serial []) (option_map_or (blk_queues plan) plan.blk [])
+      (both plan (option_map_or (net_queues plan) plan.net []) (option_map_or (serial_queues plan) plan.serial []) net serial) blk)

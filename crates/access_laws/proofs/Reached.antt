@@ -4,6 +4,7 @@ use Rattle.std.specs.Option.{option_map_or}
 use Rattle.std.proofs.lemmas.List.{length-map}
 use Rattle.std.proofs.lemmas.List.Elements.{All-nil, All-cons, All-append, All-map, All-contains, All-weaker, Contains-append_left, Contains-append_right}
 use Rattle.std.proofs.lemmas.Option.{slice_get-map}
+use Rattle.wire_core.specs.declared.names.PoolRow.{PoolRow}
 use Rattle.sdf_plan.specs.declared.plan.Plan.{Plan}
 use Rattle.sdf_plan.specs.declared.plan.Region.{Region}
 use Rattle.sdf_plan.specs.declared.plan.Domain.{Domain}
@@ -19,6 +20,7 @@ use Rattle.sdf_check.specs.Valid.{Valid}
 use Rattle.sdf_check.proofs.SoughtLemmas.{here-some}
 use Rattle.sdf_check.proofs.SweepLemmas.{some-inj}
 use Rattle.region_layout.specs.Rows.{pool_in, net_buffer, blk_buffer, net_client_pools, net_pools, blk_client_pools, blk_pools, pools_of, each_client, client_name}
+use Rattle.region_layout.proofs.SameLemmas.{pools_same}
 use Rattle.layout_laws.proofs.Lists.{there_is}
 use Rattle.layout_laws.proofs.Found.{found-at}
 use Rattle.layout_laws.proofs.Pools.{not-missed, net_named, net_client_named, blk_named, blk_client_named}
@@ -180,7 +182,7 @@ module _ (plan : Plan) (valid : Valid plan) where
 
   -- the pools of a valid plan
   pub pools_reached : AllZip (IsReached plan) (pools_of plan) (users_of plan)
-  unfolding pools_of
   pools_reached =
-      zip-both (IsReached plan) (option_map_or (net_pools plan) plan.net []) (option_map_or (blk_pools plan) plan.blk []) (option_map_or net_users plan.net []) (option_map_or blk_users plan.blk [])
-      (zip-class (IsReached plan) (net_pools plan) net_users plan.net net_reached) (zip-class (IsReached plan) (blk_pools plan) blk_users plan.blk blk_reached)
+      subst (λ (rows : List PoolRow). AllZip (IsReached plan) rows (users_of plan)) (sym (pools_same plan))
+      (zip-both (IsReached plan) (option_map_or (net_pools plan) plan.net []) (option_map_or (blk_pools plan) plan.blk []) (option_map_or net_users plan.net []) (option_map_or blk_users plan.blk [])
+      (zip-class (IsReached plan) (net_pools plan) net_users plan.net net_reached) (zip-class (IsReached plan) (blk_pools plan) blk_users plan.blk blk_reached))

@@ -19,6 +19,7 @@ use Rattle.sdf_check.proofs.SweepLemmas.{some-inj}
 use Rattle.region_layout.specs.Bases.{round_up, bases_of}
 use Rattle.class_table.specs.Sizes.{entry_size}
 use Rattle.region_layout.specs.Rows.{queue_in, queue_pair, queue_span, each_client, eth_rx_queues, eth_tx_queues, net_rx_queues, net_tx_queues, lease_queues, client_rx_queues, client_tx_queues, net_client_queues, net_queues, uart_queues, shared_serial_queues, serial_client_queues, serial_queues, disk_queues, shared_blk_queues, blk_client_queues, blk_queues, queues_of, pools_of}
+use Rattle.region_layout.proofs.SameLemmas.{queues_same}
 use Rattle.layout_laws.specs.Sound.{queue_range, pool_range, ranges_of}
 use Rattle.layout_laws.proofs.Spreads.{rows_apart}
 use Rattle.access_laws.specs.Placing.{IsBehind, AreStacked}
@@ -138,11 +139,10 @@ blk_stacked plan blk =
     (clients (blk_client_queues plan blk) 0 blk.client (blk_client plan blk))
 
 stacked : (plan : Plan) → Placing (queues_of plan)
-unfolding queues_of
 stacked plan =
-    both (option_map_or (net_queues plan) plan.net [] ++ option_map_or (serial_queues plan) plan.serial []) (option_map_or (blk_queues plan) plan.blk [])
+    subst Placing (sym (queues_same plan)) (both (option_map_or (net_queues plan) plan.net [] ++ option_map_or (serial_queues plan) plan.serial []) (option_map_or (blk_queues plan) plan.blk [])
     (both (option_map_or (net_queues plan) plan.net []) (option_map_or (serial_queues plan) plan.serial []) (class (net_queues plan) plan.net (net_stacked plan))
-    (class (serial_queues plan) plan.serial (serial_stacked plan))) (class (blk_queues plan) plan.blk (blk_stacked plan))
+    (class (serial_queues plan) plan.serial (serial_stacked plan))) (class (blk_queues plan) plan.blk (blk_stacked plan)))
 
 abbrev start : Plan → ℕ → ℕ
 start plan r = slice_index (bases_of plan.memory_region) r

@@ -20,6 +20,7 @@ use Rattle.actor_set.specs.declared.actor.Actor.{Actor}
 use Rattle.actor_set.specs.declared.actor.Actor.TheVariants as Kinds
 use Rattle.actor_law.proofs.NetBeside.{fits_pipes, fits_device, fits_receiver, fits_copier, fits_client, stands_pipes, stands_device, stands_receiver, stands_copier, stands_client}
 use Rattle.actor_law.proofs.TxBeside.{fits_sender, stands_sender}
+use Rattle.actor_law.proofs.BlkBeside.{fits_disk, fits_server, fits_asker, stands_disk, stands_server, stands_asker}
 
 -- where an actor's ends stay, it fits as before
 module _ (ends ends' : Role → ℕ → End) (kinds : (r : Role) (n : ℕ) → (ends' r n).kind ≡ (ends r n).kind) where
@@ -68,6 +69,10 @@ module _ (ends ends' : Role → ℕ → End) (kinds : (r : Role) (n : ℕ) → (
   fits_beside (Kinds.NetCopier x) same f = fits_copier ends ends' kinds x same f
   fits_beside (Kinds.NetClient x) same f = (fits_client ends ends' kinds x same f.0, f.1)
   fits_beside (Kinds.NetVirtTx x) same f = fits_sender ends ends' kinds x same f
+  fits_beside (Kinds.DiskDevice x) same f = fits_disk ends ends' kinds x.device same f
+  fits_beside (Kinds.BlkDriver x) same f = fits_pipes ends ends' kinds (two_pipes x.driver.pipes) same f
+  fits_beside (Kinds.BlkVirt x) same f = (fits_server ends ends' kinds x same f.0, f.1, f.2)
+  fits_beside (Kinds.BlkClient x) same f = fits_asker ends ends' kinds x same f
 
 -- where nothing moved at an actor's ends, it stands for the same lists
 module _ (passed passed' : Passed) where
@@ -96,3 +101,7 @@ module _ (passed passed' : Passed) where
   stands_beside (Kinds.NetCopier x) whole ins outs f = stands_copier passed passed' x ins outs f
   stands_beside (Kinds.NetClient x) whole ins outs f = stands_client passed passed' x ins outs f
   stands_beside (Kinds.NetVirtTx x) whole ins outs f = stands_sender passed passed' x whole.from_each whole.to_each ins outs f
+  stands_beside (Kinds.DiskDevice x) whole ins outs f = stands_disk passed passed' x.start.value x.device ins outs f
+  stands_beside (Kinds.BlkDriver x) whole ins outs f = stands_pipes passed passed' (two_pipes x.driver.pipes) ins outs f
+  stands_beside (Kinds.BlkVirt x) whole ins outs f = stands_server passed passed' x whole.from_each whole.to_each ins outs f
+  stands_beside (Kinds.BlkClient x) whole ins outs f = stands_asker passed passed' x ins outs f

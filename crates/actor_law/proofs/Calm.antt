@@ -9,7 +9,8 @@ use Rattle.serial_law.specs.Table.{serial_sheet}
 use Rattle.serial_law.proofs.Own.{serial_own}
 use Rattle.net_parts.proofs.Following.{net_own}
 use Rattle.net_tx_parts.proofs.Following.{send_own}
-use Rattle.actor_set.specs.Parts.{Part, UartPart, DriverPart, RxPart, TxPart, ClientPart, NetworkPart, SendingPart}
+use Rattle.blk_parts.proofs.Following.{blk_own}
+use Rattle.actor_set.specs.Parts.{Part, UartPart, DriverPart, RxPart, TxPart, ClientPart, NetworkPart, SendingPart, BlockPart}
 use Rattle.actor_law.specs.Kinds.{serial_part, sheet, manner_of, manners, hostiles}
 
 -- all kinds are calm
@@ -21,6 +22,7 @@ calm_part (TxPart tx clients) = refl
 calm_part (ClientPart rx tx script) = refl
 calm_part (NetworkPart p) = refl
 calm_part (SendingPart p) = refl
+calm_part (BlockPart p) = refl
 
 pub calm_manner : (cast : List Part) (k : ℕ) → manners cast k ≡ Calm
 calm_manner cast k = go (slice_get cast k)
@@ -49,6 +51,7 @@ sheet_own scene (TxPart tx clients) = serial_own (SerialSender tx clients)
 sheet_own scene (ClientPart rx tx script) = serial_own (SerialClient rx tx script)
 sheet_own scene (NetworkPart p) = net_own scene p
 sheet_own scene (SendingPart p) = send_own p
+sheet_own scene (BlockPart p) = blk_own scene p
 
 pub sheet_is : (scene : Scene) (p : SerialPart) → sheet scene (serial_part p) ≡ serial_sheet p
 sheet_is scene (SerialDevice rx tx input) = refl

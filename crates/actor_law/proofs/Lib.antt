@@ -14,4 +14,8 @@ pub mod Rests
 pub mod Beside
 pub mod Paces
 pub mod Starts
+pub mod BlkRows
+pub mod BlkEnds
+pub mod BlkBeside
+pub mod BlkStarts
 pub mod Seating

@@ -60,7 +60,7 @@ no_load : (o : Option Cargo) → o ≡ None → (c : Cargo) → o ≡ Some c →
 no_load o none c some = let e : None ≡ Some c = sym none ∙ some in cc
 
 -- nothing is in hand, so whatever is said of it holds
-for_none : (o : Option Cargo) (P : Cargo → Type 0) → o ≡ None → ForSome o P
+pub for_none : (o : Option Cargo) (P : Cargo → Type 0) → o ≡ None → ForSome o P
 for_none o P none c some = absurd (no_load o none c some)
 
 -- rows that give an actor queues of the network, where each end is in its start state
@@ -253,7 +253,7 @@ pages_none pool of_pool (p ∷ pages) off all =
     let parts = buffers-cons of_pool (Carried.Page p) (page_bodies pages) in
     omega (arith, none, rest, parts)
 
-pages_are : (number base buffers : ℕ) (pool of_pool : PoolId) (pages : List Paged) → number ≡ pool.0 → length pages ≡ buffers → ((k : ℕ) (p : Paged) → slice_get pages k ≡ Some p → p.pool ≡ pool) → buffers_of of_pool (page_bodies pages) ≡ length (pool_hand (record { number = number; base = base; buffers = buffers }) of_pool.0)
+pub pages_are : (number base buffers : ℕ) (pool of_pool : PoolId) (pages : List Paged) → number ≡ pool.0 → length pages ≡ buffers → ((k : ℕ) (p : Paged) → slice_get pages k ≡ Some p → p.pool ≡ pool) → buffers_of of_pool (page_bodies pages) ≡ length (pool_hand (record { number = number; base = base; buffers = buffers }) of_pool.0)
 pages_are number base buffers pool of_pool pages is many all = by (eqb_tells number of_pool.0)
   where
     by : ((eqb number of_pool.0 ≡ true) × (number ≡ of_pool.0)) ⊎ ((eqb number of_pool.0 ≡ false) × (number ≢ of_pool.0)) → buffers_of of_pool (page_bodies pages) ≡ length (pool_hand (record { number = number; base = base; buffers = buffers }) of_pool.0)

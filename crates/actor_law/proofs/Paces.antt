@@ -1,4 +1,4 @@
-use Rattle.std.proofs.Common.{◌≡◌, ◌⊎◌, ◌==◌, ◌<◌, ◌+◌, ◌&&◌, ◌||◌, ℕ, zero, suc, Bool, true, false, Some, is_some, List, [], ◌∷◌, length, slice_get, slice_index_or, refl, sym, ap, ◌∙◌, subst, arith, inl, inr}
+use Rattle.std.proofs.Common.{◌≡◌, ◌⊎◌, ◌==◌, ◌<◌, ◌+◌, ◌&&◌, ◌||◌, ℕ, zero, suc, Bool, true, false, Some, is_some, is_none, List, [], ◌∷◌, length, slice_get, slice_index_or, refl, sym, ap, ◌∙◌, subst, arith, inl, inr}
 use Rattle.std.proofs.lemmas.Bool.{eqb-true}
 use Rattle.wire_core.specs.declared.names.QueueRow.{QueueRow}
 use Rattle.wire_core.specs.declared.names.Entry.{Entry}
@@ -25,6 +25,8 @@ use Rattle.eth_device.specs.Devices as device
 use Rattle.net_client.specs.Clients as client
 use Rattle.net_virt_rx.specs.Sharing.{is_idle}
 use Rattle.net_virt_tx.specs.Traffics.{is_free, owes, needs_at, loaded_at}
+use Rattle.pipe_driver.specs.Lengths.{two_pipes}
+use Rattle.blk_virt.specs.Works.{is_owing, wants_at, gives_at}
 use Rattle.actor_set.specs.StartStates.{HasApartEnds, HasNoLoop}
 use Rattle.actor_law.proofs.NetPaces.{IsPostAt, four_posts, pipes_post, pipes_has, pipes_size, pipes_apart, virt_post, virt_has, virt_size, virt_apart}
 use Rattle.play_core.specs.Runs.{called_from}
@@ -59,6 +61,14 @@ post_stands (Kinds.NetVirtRx x) k p at = virt_post x.ends k p at
 post_stands (Kinds.NetCopier x) k p at = four_posts (ActorEnd (Kinds.NetCopier x)) (intake_post x.lease_input) (intake_post x.buffer_input) (outlet_post x.buffer_output) (outlet_post x.lease_output) (inl refl, refl) (inr refl, refl) (inl refl, refl) (inr refl, refl) k p at
 post_stands (Kinds.NetClient x) k p at = four_posts (ActorEnd (Kinds.NetClient x)) (intake_post x.frames.pipe.input) (outlet_post x.frames.pipe.output) (intake_post x.sent) (outlet_post x.send) (inl refl, refl) (inl refl, refl) (inr refl, refl) (inr refl, refl) k p at
 post_stands (Kinds.NetVirtTx x) k p at = virt_post x.ends k p at
+post_stands (Kinds.DiskDevice x) zero p at = subst (IsPostOf (Kinds.DiskDevice x)) (some_is at) (refl, refl)
+post_stands (Kinds.DiskDevice x) (suc zero) p at = subst (IsPostOf (Kinds.DiskDevice x)) (some_is at) (refl, refl)
+post_stands (Kinds.DiskDevice x) (suc (suc k)) p at = cc
+post_stands (Kinds.BlkDriver x) k p at = pipes_post (two_pipes x.driver.pipes) k p at
+post_stands (Kinds.BlkVirt x) k p at = virt_post x.ends k p at
+post_stands (Kinds.BlkClient x) zero p at = subst (IsPostOf (Kinds.BlkClient x)) (some_is at) (refl, refl)
+post_stands (Kinds.BlkClient x) (suc zero) p at = subst (IsPostOf (Kinds.BlkClient x)) (some_is at) (refl, refl)
+post_stands (Kinds.BlkClient x) (suc (suc k)) p at = cc
 
 pub post_end : (x : Actor) (k : ℕ) (p : Post) → slice_get (actor_round x).posts k ≡ Some p → ActorEnd x (waiting_role p.side) p.queue
 post_end x k p at = (post_stands x k p at).0
@@ -100,6 +110,12 @@ end_post (Kinds.NetClient x) Forward n (inr h) = (2, intake_post x.sent, refl, s
 end_post (Kinds.NetClient x) Backward n (inl h) = (1, outlet_post x.frames.pipe.output, refl, sym h, refl)
 end_post (Kinds.NetClient x) Backward n (inr h) = (3, outlet_post x.send, refl, sym h, refl)
 end_post (Kinds.NetVirtTx x) s n h = virt_has x.ends s n h
+end_post (Kinds.DiskDevice x) Forward n h = (0, intake_post x.device.input, refl, sym h, refl)
+end_post (Kinds.DiskDevice x) Backward n h = (1, outlet_post x.device.output, refl, sym h, refl)
+end_post (Kinds.BlkDriver x) s n h = pipes_has (two_pipes x.driver.pipes) s n h
+end_post (Kinds.BlkVirt x) s n h = virt_has x.ends s n h
+end_post (Kinds.BlkClient x) Forward n h = (0, intake_post x.responses, refl, sym h, refl)
+end_post (Kinds.BlkClient x) Backward n h = (1, outlet_post x.requests, refl, sym h, refl)
 
 -- each end has its need
 sizes : (x : Actor) → length (actor_round x).needs ≡ length (actor_round x).posts
@@ -114,6 +130,10 @@ sizes (Kinds.NetVirtRx x) = virt_size x.ends (is_idle x.work) (is_some x.work.st
 sizes (Kinds.NetCopier x) = refl
 sizes (Kinds.NetClient x) = refl
 sizes (Kinds.NetVirtTx x) = virt_size x.ends (is_free x.work) (owes x.work) (needs_at x.work) (loaded_at x.work)
+sizes (Kinds.DiskDevice x) = refl
+sizes (Kinds.BlkDriver x) = refl
+sizes (Kinds.BlkVirt x) = virt_size x.ends (is_none x.work.stray) (is_owing x.work) (wants_at x.work) (gives_at x.work)
+sizes (Kinds.BlkClient x) = refl
 
 some_ends : (x : Actor) → 0 < length (actor_round x).posts
 some_ends (Kinds.UartDevice x) = omega arith
@@ -127,6 +147,10 @@ some_ends (Kinds.NetVirtRx x) = omega arith
 some_ends (Kinds.NetCopier x) = omega arith
 some_ends (Kinds.NetClient x) = omega arith
 some_ends (Kinds.NetVirtTx x) = omega arith
+some_ends (Kinds.DiskDevice x) = omega arith
+some_ends (Kinds.BlkDriver x) = omega arith
+some_ends (Kinds.BlkVirt x) = omega arith
+some_ends (Kinds.BlkClient x) = omega arith
 
 abbrev Apart : Actor → Type 0
 Apart x = (k j : ℕ) (p q : Post) → slice_get (actor_round x).posts k ≡ Some p → slice_get (actor_round x).posts j ≡ Some q → p.queue ≡ q.queue → k ≡ j
@@ -139,6 +163,16 @@ terminal_apart t d (suc zero) zero p q a b e = absurd (d (ap (λ (x : Post). x.q
 terminal_apart t d (suc (suc k)) j p q a b e = cc
 terminal_apart t d zero (suc (suc j)) p q a b e = cc
 terminal_apart t d (suc zero) (suc (suc j)) p q a b e = cc
+
+-- two queues that aren't one
+two_apart : (x y : Post) → (x.queue ≡ y.queue → ⊥) → (k j : ℕ) (p q : Post) → slice_get (x ∷ y ∷ []) k ≡ Some p → slice_get (x ∷ y ∷ []) j ≡ Some q → p.queue ≡ q.queue → k ≡ j
+two_apart x y d zero zero p q a b e = refl
+two_apart x y d (suc zero) (suc zero) p q a b e = refl
+two_apart x y d zero (suc zero) p q a b e = absurd (d (ap (λ (z : Post). z.queue) (some_is a) ∙ (e ∙ sym (ap (λ (z : Post). z.queue) (some_is b)))))
+two_apart x y d (suc zero) zero p q a b e = absurd (d (ap (λ (z : Post). z.queue) (some_is b) ∙ (sym e ∙ sym (ap (λ (z : Post). z.queue) (some_is a)))))
+two_apart x y d (suc (suc k)) j p q a b e = cc
+two_apart x y d zero (suc (suc j)) p q a b e = cc
+two_apart x y d (suc zero) (suc (suc j)) p q a b e = cc
 
 -- four queues of which no two are one
 four_apart : (a b c d : Post) → (a.queue ≡ b.queue → ⊥) → (a.queue ≡ c.queue → ⊥) → (a.queue ≡ d.queue → ⊥) → (b.queue ≡ c.queue → ⊥) → (b.queue ≡ d.queue → ⊥) → (c.queue ≡ d.queue → ⊥) → (k j : ℕ) (p q : Post) → slice_get (a ∷ b ∷ c ∷ d ∷ []) k ≡ Some p → slice_get (a ∷ b ∷ c ∷ d ∷ []) j ≡ Some q → p.queue ≡ q.queue → k ≡ j
@@ -206,6 +240,10 @@ apart_posts (Kinds.NetVirtRx x) h d k j p q a b e = virt_apart x.ends h d k j p 
 apart_posts (Kinds.NetCopier x) h d k j p q a b e = four_apart (intake_post x.lease_input) (intake_post x.buffer_input) (outlet_post x.buffer_output) (outlet_post x.lease_output) h.0 (λ e. d x.lease_input.queue.0 (inl refl) (inl e)) (λ e. d x.lease_input.queue.0 (inl refl) (inr e)) (λ e. d x.buffer_input.queue.0 (inr refl) (inl e)) (λ e. d x.buffer_input.queue.0 (inr refl) (inr e)) h.1 k j p q a b e
 apart_posts (Kinds.NetClient x) h d k j p q a b e = four_apart (intake_post x.frames.pipe.input) (outlet_post x.frames.pipe.output) (intake_post x.sent) (outlet_post x.send) (λ e. d (client.rx_active x) (inl refl) (inl e)) h.0 (λ e. d (client.rx_active x) (inl refl) (inr e)) (λ e. d (client.tx_free x) (inr refl) (inl (sym e))) h.1 (λ e. d (client.tx_free x) (inr refl) (inr e)) k j p q a b e
 apart_posts (Kinds.NetVirtTx x) h d k j p q a b e = virt_apart x.ends h d k j p q a b e
+apart_posts (Kinds.DiskDevice x) h d k j p q a b e = two_apart (intake_post x.device.input) (outlet_post x.device.output) (λ e. d x.device.input.queue.0 refl e) k j p q a b e
+apart_posts (Kinds.BlkDriver x) h d k j p q a b e = four_apart (intake_post x.driver.pipes.first.input) (outlet_post x.driver.pipes.first.output) (intake_post x.driver.pipes.rest.input) (outlet_post x.driver.pipes.rest.output) (λ e. d x.driver.pipes.first.input.queue.0 (inl refl) (inl e)) h.0 (λ e. d x.driver.pipes.first.input.queue.0 (inl refl) (inr (inl e))) (λ e. d x.driver.pipes.rest.input.queue.0 (inr (inl refl)) (inl (sym e))) h.1 (λ e. d x.driver.pipes.rest.input.queue.0 (inr (inl refl)) (inr (inl e))) k j p q a b e
+apart_posts (Kinds.BlkVirt x) h d k j p q a b e = virt_apart x.ends h d k j p q a b e
+apart_posts (Kinds.BlkClient x) h d k j p q a b e = two_apart (intake_post x.responses) (outlet_post x.requests) (λ e. d x.responses.queue.0 refl e) k j p q a b e
 
 pub start_round : (x : Actor) → HasApartEnds x → HasNoLoop x → IsRound (actor_round x)
 start_round x h d = record { some = some_ends x; needs = sizes x; apart = apart_posts x h d }

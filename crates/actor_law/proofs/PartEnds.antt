@@ -2,7 +2,7 @@ use Rattle.std.proofs.Common.{◌≡◌, ◌⊎◌, ℕ, Some, List, [], ◌∷�
 use Rattle.wire_core.specs.declared.names.QueueId.{QueueId}
 use Rattle.turn_kit.specs.ManyEnds.{intake_queues, outlet_queues}
 use Rattle.wire_core.specs.Ends.{Role, Consumer, Producer}
-use Rattle.actor_set.specs.Parts.{Part, UartPart, DriverPart, RxPart, TxPart, ClientPart, NetworkPart, SendingPart}
+use Rattle.actor_set.specs.Parts.{Part, UartPart, DriverPart, RxPart, TxPart, ClientPart, NetworkPart, SendingPart, BlockPart}
 use Rattle.eth_driver.specs.Four.{four_pipes}
 use Rattle.eth_device.specs.Devices as device
 use Rattle.net_client.specs.Clients as client
@@ -17,6 +17,10 @@ use Rattle.net_tx_parts.specs.Table.{send_sheet}
 use Rattle.actor_law.specs.Kinds.{sheet}
 use Rattle.actor_law.proofs.NetEnds.{IsThere, ends_of, ends_same, turns_to, turns_from, twos_to, twos_from, pipes_to, pipes_from, receiver_to, receiver_from}
 use Rattle.actor_law.proofs.TxEnds.{sender_to, sender_from}
+use Rattle.actor_law.proofs.BlkEnds.{blk_ends, blk_ends_same, ones_to, ones_from, server_to, server_from}
+use Rattle.disk_device.specs.Disks as disk
+use Rattle.blk_client.specs.Clients as asker
+use Rattle.pipe_driver.specs.Lengths.{two_pipes}
 
 -- one of a part's ends
 abbrev pub PartEnd : Part → Role → ℕ → Type 0
@@ -32,6 +36,7 @@ PartEnd (ClientPart rx tx script) Consumer n = n ≡ rx
 PartEnd (ClientPart rx tx script) Producer n = n ≡ tx
 PartEnd (NetworkPart p) r n = IsThere (ends_of p) r n
 PartEnd (SendingPart p) r n = IsThere (send_sheet p).ends r n
+PartEnd (BlockPart p) r n = IsThere (blk_ends p) r n
 
 pub number_there : (qs : List QueueId) (k : ℕ) (q : QueueId) (n : ℕ) → slice_get qs k ≡ Some q → n ≡ q.0 → slice_get (numbers qs) k ≡ Some n
 number_there [] k q n h e = cc
@@ -68,6 +73,12 @@ to_part (Kinds.NetCopier x) Producer n whole h = twos_to x.lease_input.queue.0 x
 to_part (Kinds.NetClient x) Consumer n whole h = turns_to (client.rx_active x) (client.rx_free x) (client.tx_free x) (client.tx_active x) Consumer n h
 to_part (Kinds.NetClient x) Producer n whole h = turns_to (client.rx_active x) (client.rx_free x) (client.tx_free x) (client.tx_active x) Producer n h
 to_part (Kinds.NetVirtTx x) r n whole h = sender_to x whole.from_each whole.to_each r n h
+to_part (Kinds.DiskDevice x) Consumer n whole h = ones_to (disk.req x.device) (disk.resp x.device) Consumer n h
+to_part (Kinds.DiskDevice x) Producer n whole h = ones_to (disk.req x.device) (disk.resp x.device) Producer n h
+to_part (Kinds.BlkDriver x) r n whole h = pipes_to (two_pipes x.driver.pipes) r n h
+to_part (Kinds.BlkVirt x) r n whole h = server_to x whole.from_each whole.to_each r n h
+to_part (Kinds.BlkClient x) Consumer n whole h = ones_to (asker.resp_queue x) (asker.req_queue x) Consumer n h
+to_part (Kinds.BlkClient x) Producer n whole h = ones_to (asker.resp_queue x) (asker.req_queue x) Producer n h
 
 pub from_part : (x : Actor) (r : Role) (n : ℕ) → PartEnd (part_of x) r n → ActorEnd x r n
 from_part (Kinds.UartDevice x) Consumer n h = h
@@ -91,6 +102,12 @@ from_part (Kinds.NetCopier x) Producer n h = twos_from x.lease_input.queue.0 x.b
 from_part (Kinds.NetClient x) Consumer n h = turns_from (client.rx_active x) (client.rx_free x) (client.tx_free x) (client.tx_active x) Consumer n h.0 h.1
 from_part (Kinds.NetClient x) Producer n h = turns_from (client.rx_active x) (client.rx_free x) (client.tx_free x) (client.tx_active x) Producer n h.0 h.1
 from_part (Kinds.NetVirtTx x) r n h = sender_from x r n h.0 h.1
+from_part (Kinds.DiskDevice x) Consumer n h = ones_from (disk.req x.device) (disk.resp x.device) Consumer n h.0 h.1
+from_part (Kinds.DiskDevice x) Producer n h = ones_from (disk.req x.device) (disk.resp x.device) Producer n h.0 h.1
+from_part (Kinds.BlkDriver x) r n h = pipes_from (two_pipes x.driver.pipes) r n h.0 h.1
+from_part (Kinds.BlkVirt x) r n h = server_from x r n h.0 h.1
+from_part (Kinds.BlkClient x) Consumer n h = ones_from (asker.resp_queue x) (asker.req_queue x) Consumer n h.0 h.1
+from_part (Kinds.BlkClient x) Producer n h = ones_from (asker.resp_queue x) (asker.req_queue x) Producer n h.0 h.1
 
 pub same_part : (x y : Actor) (r : Role) (n : ℕ) → part_of y ≡ part_of x → IsWhole y → ActorEnd y r n → ActorEnd x r n
 same_part x y r n e whole h = from_part x r n (subst (λ p. PartEnd p r n) e (to_part y r n whole h))
@@ -111,6 +128,7 @@ end_seat scene (ClientPart rx tx script) Consumer n e = (0, ap (λ m. Some (inta
 end_seat scene (ClientPart rx tx script) Producer n e = (1, ap (λ m. Some (outlet m)) (sym e))
 end_seat scene (NetworkPart p) r n e = (e.0, ap (λ l. slice_get l e.0) (ends_same scene p) ∙ e.1)
 end_seat scene (SendingPart p) r n e = e
+end_seat scene (BlockPart p) r n e = (e.0, ap (λ l. slice_get l e.0) (blk_ends_same scene p) ∙ e.1)
 
 as_end : (p : Part) (a b : Seat) → a ≡ b → PartEnd p a.role a.queue → PartEnd p b.role b.queue
 as_end p a b e h = subst (λ (x : Seat). PartEnd p x.role x.queue) e h
@@ -133,3 +151,4 @@ seat_end scene (ClientPart rx tx script) (suc zero) x at = as_end (ClientPart rx
 seat_end scene (ClientPart rx tx script) (suc (suc i)) x at = cc
 seat_end scene (NetworkPart p) i x at = (i, ap (λ l. slice_get l i) (sym (ends_same scene p)) ∙ at)
 seat_end scene (SendingPart p) i x at = (i, at)
+seat_end scene (BlockPart p) i x at = (i, ap (λ l. slice_get l i) (sym (blk_ends_same scene p)) ∙ at)

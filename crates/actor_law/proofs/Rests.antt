@@ -44,8 +44,10 @@ use Rattle.rest_law.specs.Meeting.{Meet}
 use Rattle.rest_law.proofs.Settling.{none_is, held_is, all_here}
 use Rattle.uart_driver.specs.declared.UartDriver.{UartDriver}
 use Rattle.eth_driver.specs.Four.{four_pipes}
+use Rattle.pipe_driver.specs.Lengths.{two_pipes}
 use Rattle.net_rests.proofs.Resting.{device_rest, driver_rest, receiver_rest, copier_rest, client_rest}
 use Rattle.net_tx_rests.proofs.Resting.{sender_rest}
+use Rattle.blk_rests.proofs.Resting as block
 use Rattle.actor_law.specs.Turning.{InTurn}
 use Rattle.actor_set.specs.declared.actor.Actor.{Actor}
 use Rattle.actor_set.specs.declared.actor.Actor.TheVariants as Kinds
@@ -178,6 +180,10 @@ module _ (history : History) (journal : List Entry) (w : List Queue) (bells : Ha
   rest_of (Kinds.NetCopier x) turn f st = copier_rest scene history journal w passed has bells x turn f st
   rest_of (Kinds.NetClient x) turn f st = client_rest scene history journal w passed has bells x turn.1 f.0 st
   rest_of (Kinds.NetVirtTx x) turn f st = sender_rest history journal w passed has bells x turn.good turn.in_turn f st
+  rest_of (Kinds.DiskDevice x) turn f st = block.disk_rest scene history journal w passed has bells x.start.value x.device turn f st
+  rest_of (Kinds.BlkDriver x) turn f st = block.driver_rest scene history journal w passed has bells (two_pipes x.driver.pipes) x.driver.turn.last f st
+  rest_of (Kinds.BlkVirt x) turn f st = block.virt_rest scene history journal w passed has bells x turn f.0 st
+  rest_of (Kinds.BlkClient x) turn f st = block.client_rest scene history journal w passed has bells x turn f st
 
 pub rests : (history : History) (journal : List Entry) (w : List Queue) → HaveBells w history journal → (scene : Scene) (x : Actor) (passed : Passed) → InTurn scene x passed → FitsActor (end_at w) x → ActorStandsFor x passed → HaveItems passed (moved history journal) → actor_rests x ≡ all_settled history journal ((sheet scene (part_of x)).wants (moved history journal))
 rests history journal w bells scene x passed turn fits stands has = rest_of history journal w bells scene passed has x turn fits stands

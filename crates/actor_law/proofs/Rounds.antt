@@ -18,6 +18,10 @@ rests_is (Kinds.NetVirtRx x) = refl
 rests_is (Kinds.NetCopier x) = refl
 rests_is (Kinds.NetClient x) = refl
 rests_is (Kinds.NetVirtTx x) = refl
+rests_is (Kinds.DiskDevice x) = refl
+rests_is (Kinds.BlkDriver x) = refl
+rests_is (Kinds.BlkVirt x) = refl
+rests_is (Kinds.BlkClient x) = refl
 
 -- and take their ends in turn
 pub turned_is : (x y : Actor) (e : Event) → ActorTurned x e y → Turned (actor_round x) e (actor_round y)
@@ -32,3 +36,7 @@ turned_is (Kinds.NetVirtRx x) y e t = t
 turned_is (Kinds.NetCopier x) y e t = t
 turned_is (Kinds.NetClient x) y e t = t
 turned_is (Kinds.NetVirtTx x) y e t = t
+turned_is (Kinds.DiskDevice x) y e t = t
+turned_is (Kinds.BlkDriver x) y e t = t
+turned_is (Kinds.BlkVirt x) y e t = t
+turned_is (Kinds.BlkClient x) y e t = t

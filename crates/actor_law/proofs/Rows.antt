@@ -1,6 +1,6 @@
 use Rattle.std.proofs.Common.{◌≡◌, ℕ, Some, List, [], ◌∷◌, ◌++◌, map, take, drop, refl, sym, ap, ◌∙◌}
 use Rattle.std.specs.Option.{option_to_list}
-use Rattle.std.proofs.lemmas.List.{map-append, take-append-drop}
+use Rattle.std.proofs.lemmas.List.{append-nil, map-append, take-append-drop}
 use Rattle.cargo_core.specs.Lists.{IsPrefix}
 use Rattle.cargo_core.specs.declared.item.Item.TheVariants as ItemOf
 use Rattle.wire_core.specs.Deeds.{Cargo}
@@ -38,12 +38,21 @@ use Rattle.net_parts.proofs.Leasing.{receiver_row}
 use Rattle.net_tx_parts.specs.Table.{send_sheet}
 use Rattle.net_tx_parts.specs.Playing.{send_part}
 use Rattle.net_tx_parts.proofs.Items.{send_row}
+use Rattle.pipe_driver.specs.Lengths.{two_pipes}
+use Rattle.blk_virt.proofs.Rows.{row_of as server_row_of}
+use Rattle.blk_client.proofs.Standing.{row_of as asker_row_of}
+use Rattle.blk_client.specs.Asking.{replies_to}
+use Rattle.blk_parts.specs.Table.{blk_sheet}
+use Rattle.blk_parts.specs.Playing.{disk_part, blk_driver_part, virt_part, blk_client_part}
+use Rattle.blk_parts.proofs.Items as block
+use Rattle.blk_parts.proofs.Virtual.{virt_row}
+use Rattle.actor_law.proofs.BlkRows.{disk_row_of}
 use Rattle.actor_law.specs.Kinds.{sheet}
 use Rattle.actor_law.specs.Turning.{InTurn}
 use Rattle.actor_law.proofs.NetRows.{device_row_of, pipes_row_of, items_at}
 use Rattle.actor_set.specs.Actors.{ActorStandsFor, part_of, numbers}
 use Rattle.rest_law.specs.Showing.{HaveItems}
-use Rattle.actor_law.specs.Records.{record_of, record_by, frames_got, frames_by}
+use Rattle.actor_law.specs.Records.{record_of, record_by, frames_got, frames_by, replies_got, replies_by}
 use Rattle.actor_set.specs.declared.actor.Actor.{Actor}
 use Rattle.actor_set.specs.declared.actor.Actor.TheVariants as Kinds
 
@@ -114,6 +123,10 @@ module _ (scene : Scene) (passed : Passed) (items : Moved) (h : HaveItems passed
   actor_row (Kinds.NetCopier x) turn f = copier_row scene x passed items (items_at (net_sheet scene (copier_part x)).ends passed items h) turn (copier_row_of x passed f)
   actor_row (Kinds.NetClient x) turn f = client_row scene x passed items turn.0 turn.1 (items_at (net_sheet scene (client_part x)).ends passed items h) (row_of x passed f)
   actor_row (Kinds.NetVirtTx x) turn f = let row = sender_row_of x passed f in send_row x passed items (items_at (send_sheet (send_part x)).ends passed items h) turn.good row (turn.in_turn row)
+  actor_row (Kinds.DiskDevice x) turn f = block.disk_row scene x.start.value x.device passed items turn (items_at (blk_sheet scene (disk_part x.start.value x.device)).ends passed items h) (disk_row_of x.start.value x.device passed f)
+  actor_row (Kinds.BlkDriver x) turn f = driver_row scene (two_pipes x.driver.pipes) passed items (items_at (blk_sheet scene (blk_driver_part (two_pipes x.driver.pipes))).ends passed items h) (pipes_row_of (two_pipes x.driver.pipes) passed f)
+  actor_row (Kinds.BlkVirt x) turn f = virt_row scene x passed items turn (items_at (blk_sheet scene (virt_part x)).ends passed items h) (server_row_of x passed f)
+  actor_row (Kinds.BlkClient x) turn f = block.client_row x passed turn (asker_row_of x passed f) scene items (items_at (blk_sheet scene (blk_client_part x)).ends passed items h)
 
 module _ (passed : Passed) (items : Moved) (h : HaveItems passed items) where
   -- what it recorded is what the items say of its part
@@ -129,6 +142,10 @@ module _ (passed : Passed) (items : Moved) (h : HaveItems passed items) where
   heard_here (Kinds.NetCopier x) st = refl
   heard_here (Kinds.NetClient x) st = refl
   heard_here (Kinds.NetVirtTx x) st = refl
+  heard_here (Kinds.DiskDevice x) st = refl
+  heard_here (Kinds.BlkDriver x) st = refl
+  heard_here (Kinds.BlkVirt x) st = refl
+  heard_here (Kinds.BlkClient x) st = refl
 
 -- the frames that it recorded are those of the entries that it took
 pub frames_here : (passed : Passed) (x : Actor) → ActorStandsFor x passed → frames_got x ≡ frames_by passed (part_of x)
@@ -143,3 +160,26 @@ frames_here passed (Kinds.NetVirtRx x) st = refl
 frames_here passed (Kinds.NetCopier x) st = refl
 frames_here passed (Kinds.NetClient x) st = st.got
 frames_here passed (Kinds.NetVirtTx x) st = refl
+frames_here passed (Kinds.DiskDevice x) st = refl
+frames_here passed (Kinds.BlkDriver x) st = refl
+frames_here passed (Kinds.BlkVirt x) st = refl
+frames_here passed (Kinds.BlkClient x) st = refl
+
+-- the replies that it recorded are those to the responses that it took
+pub replies_here : (scene : Scene) (passed : Passed) (x : Actor) → InTurn scene x passed → ActorStandsFor x passed → replies_got x ≡ replies_by passed (part_of x)
+replies_here scene passed (Kinds.UartDevice x) turn st = refl
+replies_here scene passed (Kinds.SerialClient x) turn st = refl
+replies_here scene passed (Kinds.UartDriver x) turn st = refl
+replies_here scene passed (Kinds.SerialVirtRx x) turn st = refl
+replies_here scene passed (Kinds.SerialVirtTx x) turn st = refl
+replies_here scene passed (Kinds.EthDevice x) turn st = refl
+replies_here scene passed (Kinds.EthDriver x) turn st = refl
+replies_here scene passed (Kinds.NetVirtRx x) turn st = refl
+replies_here scene passed (Kinds.NetCopier x) turn st = refl
+replies_here scene passed (Kinds.NetClient x) turn st = refl
+replies_here scene passed (Kinds.NetVirtTx x) turn st = refl
+replies_here scene passed (Kinds.DiskDevice x) turn st = refl
+replies_here scene passed (Kinds.BlkDriver x) turn st = refl
+replies_here scene passed (Kinds.BlkVirt x) turn st = refl
+replies_here scene passed (Kinds.BlkClient x) turn st =
+    st.stands.replied ∙ ap (replies_to x.asking.script.items) (sym (st.taken ∙ (ap (λ o. st.came ++ option_to_list o) turn.free ∙ append-nil st.came)))

@@ -2,7 +2,7 @@
 -- each side are of queues of their own; and its part tells what its queues carry.
 use Rattle.std.proofs.Common.{◌≡◌, ℕ, suc, Some, List, [], ◌∷◌, map, flat_map, slice_get, refl, sym, ap, ◌∙◌, arith, inl, inr}
 use Rattle.wire_core.specs.declared.names.QueueId.{QueueId}
-use Rattle.wire_core.specs.Ends.{Consumer, Producer}
+use Rattle.wire_core.specs.Ends.{Role, Consumer, Producer}
 use Rattle.turn_kit.specs.ManyEnds.{AreApart as AreQueuesApart, intake_queues, outlet_queues}
 use Rattle.turn_kit.specs.declared.pipe.Pipe.{Pipe}
 use Rattle.pipe_driver.specs.Drivers.{IsOneOf, IsNoneOf, AreDistinct, inputs_of, outputs_of}
@@ -23,21 +23,28 @@ use Rattle.actor_set.specs.declared.actor.Actor.TheVariants as Kinds
 use Rattle.actor_law.specs.Kinds.{part_kind, sheet}
 use Rattle.actor_law.proofs.NetEnds.{pipes_to, receiver_in, receiver_out}
 use Rattle.actor_law.proofs.TxEnds.{sender_in, sender_out}
+use Rattle.actor_law.proofs.BlkEnds.{server_in, server_out}
 use Rattle.actor_law.proofs.PartEnds.{number_there}
 
 -- what the queues of an actor carry
-pub kind_is : (x : Actor) → kind_at x ≡ part_kind (part_of x)
-kind_is (Kinds.UartDevice x) = refl
-kind_is (Kinds.UartDriver x) = refl
-kind_is (Kinds.SerialVirtRx x) = refl
-kind_is (Kinds.SerialVirtTx x) = refl
-kind_is (Kinds.SerialClient x) = refl
-kind_is (Kinds.EthDevice x) = refl
-kind_is (Kinds.EthDriver x) = refl
-kind_is (Kinds.NetVirtRx x) = refl
-kind_is (Kinds.NetCopier x) = refl
-kind_is (Kinds.NetClient x) = refl
-kind_is (Kinds.NetVirtTx x) = refl
+pub kind_is : (x : Actor) (r : Role) (n : ℕ) → kind_at x r n ≡ part_kind (part_of x) r n
+kind_is (Kinds.UartDevice x) r n = refl
+kind_is (Kinds.UartDriver x) r n = refl
+kind_is (Kinds.SerialVirtRx x) r n = refl
+kind_is (Kinds.SerialVirtTx x) r n = refl
+kind_is (Kinds.SerialClient x) r n = refl
+kind_is (Kinds.EthDevice x) r n = refl
+kind_is (Kinds.EthDriver x) r n = refl
+kind_is (Kinds.NetVirtRx x) r n = refl
+kind_is (Kinds.NetCopier x) r n = refl
+kind_is (Kinds.NetClient x) r n = refl
+kind_is (Kinds.NetVirtTx x) r n = refl
+kind_is (Kinds.DiskDevice x) r n = refl
+kind_is (Kinds.BlkClient x) r n = refl
+kind_is (Kinds.BlkDriver x) Consumer n = refl
+kind_is (Kinds.BlkDriver x) Producer n = refl
+kind_is (Kinds.BlkVirt x) Consumer n = refl
+kind_is (Kinds.BlkVirt x) Producer n = refl
 
 -- four ends, two on each side
 turns_apart : (a b c d : ℕ) → AreApart (intake a ∷ outlet b ∷ intake c ∷ outlet d ∷ []) → (a ≡ c → ⊥) × (b ≡ d → ⊥)
@@ -113,3 +120,7 @@ apart_ends scene (Kinds.NetVirtRx x) whole apart = queues_apart x.ends _ (λ k. 
 apart_ends scene (Kinds.NetCopier x) whole apart = twos_apart _ _ _ _ apart
 apart_ends scene (Kinds.NetClient x) whole apart = turns_apart _ _ _ _ apart
 apart_ends scene (Kinds.NetVirtTx x) whole apart = queues_apart x.ends _ twice (λ k. suc (twice k)) twice_same once (sender_in x whole.from_each whole.to_each) (sender_out x whole.from_each whole.to_each) apart
+apart_ends scene (Kinds.DiskDevice x) whole apart = tt
+apart_ends scene (Kinds.BlkDriver x) whole apart = turns_apart _ _ _ _ apart
+apart_ends scene (Kinds.BlkVirt x) whole apart = queues_apart x.ends _ twice (λ k. suc (twice k)) twice_same once (server_in x whole.from_each whole.to_each) (server_out x whole.from_each whole.to_each) apart
+apart_ends scene (Kinds.BlkClient x) whole apart = tt

@@ -38,6 +38,7 @@ use Rattle.actor_set.specs.StartStates.{IsNew, HasApartEnds, HasSeat, kind_at}
 use Rattle.eth_driver.specs.Four.{four_pipes}
 use Rattle.actor_law.proofs.NetStarts.{Seated, new_pipes_fit, new_device_fits, new_copier_fits, new_client_fits, new_receiver_fits, new_receiver_whole, new_client_few, new_copier_work, new_pipes_stand, new_device_stands, new_copier_stands, new_client_stands, new_receiver_hand, new_client_hand}
 use Rattle.actor_law.proofs.TxStarts.{new_sender_fits, new_sender_whole, new_sender_hand}
+use Rattle.actor_law.proofs.BlkStarts.{Carried, new_disk_fits, new_blk_driver_fits, new_server_fits, new_asker_fits, new_server_whole, new_disk_stands, new_server_hand, new_asker_hand}
 use Rattle.play_core.proofs.Lists.{there_below, some_is, map_get, map_from}
 
 abbrev start_end : QueueKind → Role → End
@@ -97,6 +98,14 @@ module _ (rows : List QueueRow) (k : ℕ) where
     carries = λ r n own. carried Kind.Net r n (seats r n own);
   }
 
+  -- the seats of an actor, each of its own kind
+  carried_seats : (kind : Role → ℕ → QueueKind) (E : Role → ℕ → Type 0) → ((r : Role) (n : ℕ) → E r n → HasSeat rows (kind r n) k r n) → Carried ends kind E
+  carried_seats kind E seats = record {
+    inputs = λ n state own e. agrees_in (kind Consumer n) n state (seats Consumer n own) e;
+    outputs = λ n state own e. agrees_out (kind Producer n) n state (seats Producer n own) e;
+    carries = λ r n own. carried (kind r n) r n (seats r n own);
+  }
+
   terminal_fits : (t : Terminal) → IsNewTerminal t.input.queue t.output.queue t.script t → HasSeat rows Kind.Byte k Consumer t.input.queue.0 → HasSeat rows Kind.Byte k Producer t.output.queue.0 → FitsTerminal ends t
   terminal_fits t new i o = record {
     input = consumer_agrees t.input.queue.0 t.input.state i new.input_state;
@@ -139,7 +148,7 @@ module _ (rows : List QueueRow) (k : ℕ) where
   }
 
   -- an actor in its start state fits its ends
-  pub new_fits : (x : Actor) → IsNew x → HasApartEnds x → ((r : Role) (n : ℕ) → ActorEnd x r n → HasSeat rows (kind_at x) k r n) → FitsActor ends x
+  pub new_fits : (x : Actor) → IsNew x → HasApartEnds x → ((r : Role) (n : ℕ) → ActorEnd x r n → HasSeat rows (kind_at x r n) k r n) → FitsActor ends x
   new_fits (Kinds.UartDevice x) new apart seats = terminal_fits x.terminal new (seats Consumer x.terminal.input.queue.0 refl) (seats Producer x.terminal.output.queue.0 refl)
   new_fits (Kinds.SerialClient x) new apart seats = terminal_fits x.terminal new (seats Consumer x.terminal.input.queue.0 refl) (seats Producer x.terminal.output.queue.0 refl)
   new_fits (Kinds.UartDriver x) new apart seats = record {
@@ -158,6 +167,10 @@ module _ (rows : List QueueRow) (k : ℕ) where
   new_fits (Kinds.NetCopier x) new apart seats = new_copier_fits ends x new apart.0 apart.1 (new_copier_work x new) (net_seats (ActorEnd (Kinds.NetCopier x)) seats)
   new_fits (Kinds.NetClient x) new apart seats = (new_client_fits ends x new (new_client_few x new) apart.0 apart.1 (net_seats (ActorEnd (Kinds.NetClient x)) seats), record { base = new.new.base; size = new.size; spare_base = new.new.outbox.base; spare_size = new.spare_size })
   new_fits (Kinds.NetVirtTx x) new apart seats = new_sender_fits ends x new (new_sender_whole x new) apart (net_seats (ActorEnd (Kinds.NetVirtTx x)) seats)
+  new_fits (Kinds.DiskDevice x) new apart seats = new_disk_fits ends x.start.value x.device new (carried_seats (kind_at (Kinds.DiskDevice x)) (ActorEnd (Kinds.DiskDevice x)) seats)
+  new_fits (Kinds.BlkDriver x) new apart seats = new_blk_driver_fits ends x new.0 new.1 apart.0 apart.1 (carried_seats (kind_at (Kinds.BlkDriver x)) (ActorEnd (Kinds.BlkDriver x)) seats)
+  new_fits (Kinds.BlkVirt x) new apart seats = (new_server_fits ends x new (new_server_whole x new) apart (carried_seats (kind_at (Kinds.BlkVirt x)) (ActorEnd (Kinds.BlkVirt x)) seats), new.few, new.first)
+  new_fits (Kinds.BlkClient x) new apart seats = new_asker_fits ends x new (carried_seats (kind_at (Kinds.BlkClient x)) (ActorEnd (Kinds.BlkClient x)) seats)
 
 terminal_stands : (t : Terminal) → IsNewTerminal t.input.queue t.output.queue t.script t → TerminalStandsFor t nothing_passed
 terminal_stands t new = record { sent_is = rw new.next refl; record_is = new.recorded }
@@ -191,6 +204,10 @@ new_stands (Kinds.NetVirtRx x) new = new.stands
 new_stands (Kinds.NetCopier x) new = new_copier_stands x new
 new_stands (Kinds.NetClient x) new = new_client_stands x new
 new_stands (Kinds.NetVirtTx x) new = new.stands
+new_stands (Kinds.DiskDevice x) new = new_disk_stands x.start.value x.device new
+new_stands (Kinds.BlkDriver x) new = (pipe_stands x.driver.pipes.first new.0, (pipe_stands x.driver.pipes.rest new.1, tt))
+new_stands (Kinds.BlkVirt x) new = new.stands
+new_stands (Kinds.BlkClient x) new = new.stands
 
 -- what it keeps fits together
 pub new_whole : (x : Actor) → IsNew x → IsWhole x
@@ -205,6 +222,10 @@ new_whole (Kinds.NetVirtRx x) new = new_receiver_whole x new
 new_whole (Kinds.NetCopier x) new = tt
 new_whole (Kinds.NetClient x) new = new_client_few x new
 new_whole (Kinds.NetVirtTx x) new = new_sender_whole x new
+new_whole (Kinds.DiskDevice x) new = tt
+new_whole (Kinds.BlkDriver x) new = tt
+new_whole (Kinds.BlkVirt x) new = new_server_whole x new
+new_whole (Kinds.BlkClient x) new = new.asking
 
 -- and what fits its ends does
 pub fits_whole : (ends : Role → ℕ → End) (x : Actor) → FitsActor ends x → IsWhole x
@@ -219,6 +240,10 @@ fits_whole ends (Kinds.NetVirtRx x) f = record { work = f.0.work; from_each = f.
 fits_whole ends (Kinds.NetCopier x) f = tt
 fits_whole ends (Kinds.NetClient x) f = f.0.few
 fits_whole ends (Kinds.NetVirtTx x) f = record { work = f.work; from_each = f.from_each; to_each = f.to_each }
+fits_whole ends (Kinds.DiskDevice x) f = tt
+fits_whole ends (Kinds.BlkDriver x) f = tt
+fits_whole ends (Kinds.BlkVirt x) f = record { few = f.1; first = f.2; from_each = f.0.from_each; to_each = f.0.to_each }
+fits_whole ends (Kinds.BlkClient x) f = f.asking
 
 -- its hand is the start hand of its sheet
 pub new_hand : (scene : Scene) (x : Actor) → IsNew x → (pool : PoolId) → buffers_of pool (actor_hand x) ≡ length ((sheet scene (part_of x)).hand pool.0)
@@ -233,3 +258,7 @@ new_hand scene (Kinds.NetVirtRx x) new pool = new_receiver_hand scene x new pool
 new_hand scene (Kinds.NetCopier x) new pool = rw (new.lease, new.buffer) refl
 new_hand scene (Kinds.NetClient x) new pool = new_client_hand scene x new pool
 new_hand scene (Kinds.NetVirtTx x) new pool = new_sender_hand x new pool
+new_hand scene (Kinds.DiskDevice x) new pool = rw (new.load, new.stray) refl
+new_hand scene (Kinds.BlkDriver x) new pool = rw (new.0.load, new.1.load) refl
+new_hand scene (Kinds.BlkVirt x) new pool = new_server_hand scene x new pool
+new_hand scene (Kinds.BlkClient x) new pool = new_asker_hand scene x new pool

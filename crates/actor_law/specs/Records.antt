@@ -1,11 +1,14 @@
 -- What actors recorded, bytes or frames, as they keep it and as their lists say that they took.
 use Rattle.std.specs.Prelude.{ℕ, List, [], map}
+use Rattle.cargo_core.specs.declared.item.Reply.{Reply}
 use Rattle.wire_core.specs.Lists.{Passed}
 use Rattle.play_core.specs.Moved.{Moved}
 use Rattle.serial_law.specs.Bytes.{bytes_in}
 use Rattle.net_kit.specs.Entries.{frame_of}
 use Rattle.net_parts.specs.Parts.{NetPart, NetDevice, NetDriver, NetReceiver, NetCopier, NetClient}
-use Rattle.actor_set.specs.Parts.{Part, UartPart, DriverPart, RxPart, TxPart, ClientPart, NetworkPart, SendingPart}
+use Rattle.blk_client.specs.Asking.{replies_to}
+use Rattle.blk_parts.specs.Parts.{BlkPart, DiskDevice, BlkDriver, BlkVirt, BlkClient}
+use Rattle.actor_set.specs.Parts.{Part, UartPart, DriverPart, RxPart, TxPart, ClientPart, NetworkPart, SendingPart, BlockPart}
 use Rattle.actor_set.specs.declared.actor.Actor.{Actor}
 use Rattle.actor_set.specs.declared.actor.Actor.TheVariants as Kinds
 
@@ -22,6 +25,10 @@ record_of (Kinds.NetVirtRx x) = []
 record_of (Kinds.NetCopier x) = []
 record_of (Kinds.NetClient x) = []
 record_of (Kinds.NetVirtTx x) = []
+record_of (Kinds.DiskDevice x) = []
+record_of (Kinds.BlkDriver x) = []
+record_of (Kinds.BlkVirt x) = []
+record_of (Kinds.BlkClient x) = []
 
 -- the bytes that a part recorded: a device for its line and a client for its record what they took
 abbrev pub record_by : Moved → Part → List ℕ
@@ -32,6 +39,7 @@ record_by m (RxPart rx clients) = []
 record_by m (TxPart tx clients) = []
 record_by m (NetworkPart p) = []
 record_by m (SendingPart p) = []
+record_by m (BlockPart p) = []
 
 -- the frames that an actor recorded: a device what was sent on its wire, a client what it got
 abbrev pub frames_got : Actor → List (List ℕ)
@@ -46,6 +54,10 @@ frames_got (Kinds.NetVirtRx x) = []
 frames_got (Kinds.NetCopier x) = []
 frames_got (Kinds.NetClient x) = x.frames.tape.shown
 frames_got (Kinds.NetVirtTx x) = []
+frames_got (Kinds.DiskDevice x) = []
+frames_got (Kinds.BlkDriver x) = []
+frames_got (Kinds.BlkVirt x) = []
+frames_got (Kinds.BlkClient x) = []
 
 -- the frames that a part of the network class recorded, by the entries that it took with their
 -- bodies: a device for its wire and a client for its record the frames in them
@@ -67,3 +79,41 @@ frames_by passed (TxPart tx clients) = []
 frames_by passed (ClientPart rx tx script) = []
 frames_by passed (NetworkPart p) = net_frames_by passed p
 frames_by passed (SendingPart p) = []
+frames_by passed (BlockPart p) = []
+
+-- the replies that an actor recorded: a block client what it got
+abbrev pub replies_got : Actor → List Reply
+replies_got (Kinds.UartDevice x) = []
+replies_got (Kinds.UartDriver x) = []
+replies_got (Kinds.SerialVirtRx x) = []
+replies_got (Kinds.SerialVirtTx x) = []
+replies_got (Kinds.SerialClient x) = []
+replies_got (Kinds.EthDevice x) = []
+replies_got (Kinds.EthDriver x) = []
+replies_got (Kinds.NetVirtRx x) = []
+replies_got (Kinds.NetCopier x) = []
+replies_got (Kinds.NetClient x) = []
+replies_got (Kinds.NetVirtTx x) = []
+replies_got (Kinds.DiskDevice x) = []
+replies_got (Kinds.BlkDriver x) = []
+replies_got (Kinds.BlkVirt x) = []
+replies_got (Kinds.BlkClient x) = x.asking.kept.shown
+
+-- the replies that a part of the block class recorded, by the entries that it took with their
+-- bodies: a client the responses to what it asks
+abbrev pub blk_replies_by : Passed → BlkPart → List Reply
+blk_replies_by passed (DiskDevice req resp image) = []
+blk_replies_by passed (BlkDriver ways) = []
+blk_replies_by passed (BlkVirt req resp sectors pool clients) = []
+blk_replies_by passed (BlkClient req resp asks pool) = replies_to asks (passed.taken resp)
+
+-- and those that a part recorded
+abbrev pub replies_by : Passed → Part → List Reply
+replies_by passed (UartPart rx tx input) = []
+replies_by passed (DriverPart device_rx device_tx rx tx) = []
+replies_by passed (RxPart rx clients) = []
+replies_by passed (TxPart tx clients) = []
+replies_by passed (ClientPart rx tx script) = []
+replies_by passed (NetworkPart p) = []
+replies_by passed (SendingPart p) = []
+replies_by passed (BlockPart p) = blk_replies_by passed p

@@ -7,6 +7,7 @@ use Rattle.net_parts.specs.Playing.{AreLeases, ReceivesInTurn, HasBuffers, Answe
 use Rattle.net_virt_tx.specs.declared.NetVirtTx.{NetVirtTx}
 use Rattle.net_virt_tx.specs.Sending.{TxRow}
 use Rattle.net_tx_parts.specs.Playing.{TakesGood}
+use Rattle.blk_parts.specs.Playing.{DiskInTurn, VirtInTurn, ClientInTurn}
 use Rattle.actor_set.specs.declared.actor.Actor.{Actor}
 use Rattle.actor_set.specs.declared.actor.Actor.TheVariants as Kinds
 
@@ -30,3 +31,7 @@ InTurn scene (Kinds.NetVirtRx x) passed = ReceivesInTurn scene.frames x passed
 InTurn scene (Kinds.NetCopier x) passed = AreLeases (passed.taken x.lease_input.queue.0)
 InTurn scene (Kinds.NetClient x) passed = HasBuffers x × AnswersInTurn scene.frames x
 InTurn scene (Kinds.NetVirtTx x) passed = SendsInTurn x passed
+InTurn scene (Kinds.DiskDevice x) passed = DiskInTurn x.start.value x.device passed
+InTurn scene (Kinds.BlkDriver x) passed = Unit {0}
+InTurn scene (Kinds.BlkVirt x) passed = VirtInTurn scene.image x passed
+InTurn scene (Kinds.BlkClient x) passed = ClientInTurn x passed

@@ -22,7 +22,7 @@ ghost use Rattle.actor_set.specs.Parts.{Part};
 ghost use Rattle.actor_set.specs.Actors.{FitsActor, ActorStandsFor, ActorEnd, ActorTurned, IsWhole, actor_round, actor_rests, actor_hand, part_of};
 ghost use Rattle.actor_set.specs.declared.actor.Actor.{Actor};
 ghost use Rattle.actor_law.specs.Kinds.{part_kind, sheet};
-ghost use Rattle.actor_law.specs.Records.{record_of, record_by, frames_got, frames_by};
+ghost use Rattle.actor_law.specs.Records.{record_of, record_by, frames_got, frames_by, replies_got, replies_by};
 ghost use Rattle.actor_law.specs.Turning.{InTurn};
 ghost use Rattle.actor_set.specs.StartStates.{IsNew, HasApartEnds, HasNoLoop, HasSeat, kind_at};
 ghost use Rattle.rest_law.specs.Showing.{HaveItems, HaveBells};
@@ -40,6 +40,8 @@ pub fn actor_law()
         → ActorStandsFor a passed → HaveItems passed m → record_of a ≡ record_by m (part_of a) }
     ensures frames { (a : Actor) (passed : Passed) → ActorStandsFor a passed
         → frames_got a ≡ frames_by passed (part_of a) }
+    ensures replies { (scene : Scene) (a : Actor) (passed : Passed) → InTurn scene a passed
+        → ActorStandsFor a passed → replies_got a ≡ replies_by passed (part_of a) }
     ensures rests { (scene : Scene) (history : History) (journal : List Entry) (world : List Queue)
         (a : Actor) (passed : Passed) → InTurn scene a passed
         → FitsActor (end_at world) a → ActorStandsFor a passed
@@ -89,10 +91,10 @@ pub fn start_law()
     ensures hand { (scene : Scene) (a : Actor) → IsNew a → (pool : PoolId)
         → buffers_of pool (actor_hand a) ≡ length ((sheet scene (part_of a)).hand pool.0) }
     ensures fits { (rows : List QueueRow) (k : ℕ) (a : Actor) → IsNew a → HasApartEnds a
-        → ((r : Role) (n : ℕ) → ActorEnd a r n → HasSeat rows (kind_at a) k r n)
+        → ((r : Role) (n : ℕ) → ActorEnd a r n → HasSeat rows (kind_at a r n) k r n)
         → FitsActor (end_at (starts rows)) a }
     ensures round { (a : Actor) → HasApartEnds a → HasNoLoop a → IsRound (actor_round a) }
     ensures apart { (scene : Scene) (a : Actor) → IsWhole a
         → AreApart (sheet scene (part_of a)).ends → HasApartEnds a }
-    ensures kind { (a : Actor) → kind_at a ≡ part_kind (part_of a) }
+    ensures kind { (a : Actor) (r : Role) (n : ℕ) → kind_at a r n ≡ part_kind (part_of a) r n }
 {}

@@ -1,7 +1,8 @@
-use Rattle.std.proofs.Common.{Result, Ok, Err, IfOk, List}
+use Rattle.std.proofs.Common.{◌-◌, ◌<◌, ◌≤◌, ◌^◌, ℕ, Option, Some, None, Result, Ok, Err, IfOk, List, length, ap, ◌∙◌, arith}
+use Rattle.std.proofs.lemmas.List.{length-map}
 use Rattle.cargo_core.specs.declared.memory.Memory.{Memory}
 use Rattle.wire_core.specs.declared.names.Event.{Event}
-use Rattle.wire_core.specs.Deeds.{Deed}
+use Rattle.wire_core.specs.Deeds.{Cargo, Deed}
 use Rattle.wire_core.specs.Lists.{Passed, Stepped}
 use Rattle.serial_terminal.specs.declared.Terminal.{Terminal}
 use Rattle.serial_terminal.specs.Terminals.{TerminalStandsFor, TerminalRow, TerminalBalances}
@@ -23,7 +24,16 @@ use Rattle.net_client.specs.Clients.{ClientStandsFor, ClientRow, ClientBalances}
 use Rattle.net_client.specs.declared.NetClient.{NetClient}
 use Rattle.net_virt_tx.specs.Sending.{TxStandsFor as NetTxStandsFor, TxRow as NetTxRow, TxBalances as NetTxBalances}
 use Rattle.net_virt_tx.specs.declared.NetVirtTx.{NetVirtTx}
-use Rattle.actor_set.specs.Actors.{ActorStandsFor, ActorRow, ActorBalances}
+use Rattle.disk_device.specs.Disks.{DiskStandsFor, DiskRow, DiskBalances}
+use Rattle.disk_device.specs.declared.DiskDevice.{DiskDevice}
+use Rattle.blk_virt.specs.Virtualising.{BlkVirtStandsFor, BlkVirtRow, BlkVirtBalances, SameBlkVirt}
+use Rattle.blk_virt.specs.declared.client.Client.{Client}
+use Rattle.blk_virt.specs.declared.virtualiser.BlkVirt.{BlkVirt}
+use Rattle.blk_client.specs.Asking.{IsAsking, and_one}
+use Rattle.blk_client.specs.declared.asking.Asking.{Asking}
+use Rattle.blk_client.specs.Clients.{BlkClientStandsFor, BlkClientRow, BlkClientBalances}
+use Rattle.blk_client.specs.declared.BlkClient.{BlkClient}
+use Rattle.actor_set.specs.Actors.{ActorStandsFor, ActorRow, ActorBalances, HasFewClients, HasFirst}
 use Rattle.actor_set.specs.declared.actor.Actor.{Actor}
 use Rattle.actor_set.specs.declared.actor.Actor.TheVariants as Kinds
 
@@ -38,31 +48,61 @@ ok_actor S did w v old new a a' (Err m) was is st = st
 -- the row of each kind is that of an actor
 pub rows : ((x : Terminal) (p : Passed) → TerminalStandsFor x p → TerminalRow x p) → ((ps : List Pipe) (p : Passed) → PipesStandFor ps p → PipesRow ps p) → ((x : SerialVirtRx) (p : Passed) → RxStandsFor x p → RxRow x p) → ((x : SerialVirtTx) (p : Passed) → TxStandsFor x p → TxRow x p)
     → ((x : EthDevice) (p : Passed) → DeviceStandsFor x p → DeviceRow x p) → ((x : NetVirtRx) (p : Passed) → NetRxStandsFor x p → NetRxRow x p) → ((x : NetCopier) (p : Passed) → CopierStandsFor x p → CopierRow x p) → ((x : NetClient) (p : Passed) → ClientStandsFor x p → ClientRow x p) → ((x : NetVirtTx) (p : Passed) → NetTxStandsFor x p → NetTxRow x p)
+    → ((start : List ℕ) (x : DiskDevice) (p : Passed) → DiskStandsFor start x p → DiskRow start x p) → ((x : BlkVirt) (p : Passed) → BlkVirtStandsFor x p → BlkVirtRow x p) → ((x : BlkClient) (p : Passed) → BlkClientStandsFor x p → BlkClientRow x p)
     → (a : Actor) (p : Passed) → ActorStandsFor a p → ActorRow a p
-rows terminal driver rx tx device lender copier client sender (Kinds.UartDevice x) p h = terminal x.terminal p h
-rows terminal driver rx tx device lender copier client sender (Kinds.UartDriver x) p h = driver (two_pipes x.driver.pipes) p h
-rows terminal driver rx tx device lender copier client sender (Kinds.SerialVirtRx x) p h = rx x p h
-rows terminal driver rx tx device lender copier client sender (Kinds.SerialVirtTx x) p h = tx x p h
-rows terminal driver rx tx device lender copier client sender (Kinds.SerialClient x) p h = terminal x.terminal p h
-rows terminal driver rx tx device lender copier client sender (Kinds.EthDevice x) p h = device x p h
-rows terminal driver rx tx device lender copier client sender (Kinds.EthDriver x) p h = driver (four_pipes x.driver.pipes) p h
-rows terminal driver rx tx device lender copier client sender (Kinds.NetVirtRx x) p h = lender x p h
-rows terminal driver rx tx device lender copier client sender (Kinds.NetCopier x) p h = copier x p h
-rows terminal driver rx tx device lender copier client sender (Kinds.NetClient x) p h = client x p h
-rows terminal driver rx tx device lender copier client sender (Kinds.NetVirtTx x) p h = sender x p h
+rows terminal driver rx tx device lender copier client sender disk server asker (Kinds.UartDevice x) p h = terminal x.terminal p h
+rows terminal driver rx tx device lender copier client sender disk server asker (Kinds.UartDriver x) p h = driver (two_pipes x.driver.pipes) p h
+rows terminal driver rx tx device lender copier client sender disk server asker (Kinds.SerialVirtRx x) p h = rx x p h
+rows terminal driver rx tx device lender copier client sender disk server asker (Kinds.SerialVirtTx x) p h = tx x p h
+rows terminal driver rx tx device lender copier client sender disk server asker (Kinds.SerialClient x) p h = terminal x.terminal p h
+rows terminal driver rx tx device lender copier client sender disk server asker (Kinds.EthDevice x) p h = device x p h
+rows terminal driver rx tx device lender copier client sender disk server asker (Kinds.EthDriver x) p h = driver (four_pipes x.driver.pipes) p h
+rows terminal driver rx tx device lender copier client sender disk server asker (Kinds.NetVirtRx x) p h = lender x p h
+rows terminal driver rx tx device lender copier client sender disk server asker (Kinds.NetCopier x) p h = copier x p h
+rows terminal driver rx tx device lender copier client sender disk server asker (Kinds.NetClient x) p h = client x p h
+rows terminal driver rx tx device lender copier client sender disk server asker (Kinds.NetVirtTx x) p h = sender x p h
+rows terminal driver rx tx device lender copier client sender disk server asker (Kinds.DiskDevice x) p h = disk x.start.value x.device p h
+rows terminal driver rx tx device lender copier client sender disk server asker (Kinds.BlkDriver x) p h = driver (two_pipes x.driver.pipes) p h
+rows terminal driver rx tx device lender copier client sender disk server asker (Kinds.BlkVirt x) p h = server x p h
+rows terminal driver rx tx device lender copier client sender disk server asker (Kinds.BlkClient x) p h = asker x p h
 
 -- and so is its balance
 pub balances : ((x : Terminal) (p : Passed) → TerminalStandsFor x p → TerminalBalances x p) → ((ps : List Pipe) (p : Passed) → PipesStandFor ps p → PipesBalance ps p) → ((x : SerialVirtRx) (p : Passed) → RxStandsFor x p → RxBalances x p) → ((x : SerialVirtTx) (p : Passed) → TxStandsFor x p → TxBalances x p)
     → ((x : EthDevice) (p : Passed) → DeviceStandsFor x p → DeviceBalances x p) → ((x : NetVirtRx) (p : Passed) → NetRxStandsFor x p → NetRxBalances x p) → ((x : NetCopier) (p : Passed) → CopierStandsFor x p → CopierBalances x p) → ((x : NetClient) (p : Passed) → ClientStandsFor x p → ClientBalances x p) → ((x : NetVirtTx) (p : Passed) → NetTxStandsFor x p → NetTxBalances x p)
+    → ((start : List ℕ) (x : DiskDevice) (p : Passed) → DiskStandsFor start x p → DiskBalances x p) → ((x : BlkVirt) (p : Passed) → BlkVirtStandsFor x p → BlkVirtBalances x p) → ((x : BlkClient) (p : Passed) → BlkClientStandsFor x p → BlkClientBalances x p)
     → (a : Actor) (p : Passed) → ActorStandsFor a p → ActorBalances a p
-balances terminal driver rx tx device lender copier client sender (Kinds.UartDevice x) p h = terminal x.terminal p h
-balances terminal driver rx tx device lender copier client sender (Kinds.UartDriver x) p h = driver (two_pipes x.driver.pipes) p h
-balances terminal driver rx tx device lender copier client sender (Kinds.SerialVirtRx x) p h = rx x p h
-balances terminal driver rx tx device lender copier client sender (Kinds.SerialVirtTx x) p h = tx x p h
-balances terminal driver rx tx device lender copier client sender (Kinds.SerialClient x) p h = terminal x.terminal p h
-balances terminal driver rx tx device lender copier client sender (Kinds.EthDevice x) p h = device x p h
-balances terminal driver rx tx device lender copier client sender (Kinds.EthDriver x) p h = driver (four_pipes x.driver.pipes) p h
-balances terminal driver rx tx device lender copier client sender (Kinds.NetVirtRx x) p h = lender x p h
-balances terminal driver rx tx device lender copier client sender (Kinds.NetCopier x) p h = copier x p h
-balances terminal driver rx tx device lender copier client sender (Kinds.NetClient x) p h = client x p h
-balances terminal driver rx tx device lender copier client sender (Kinds.NetVirtTx x) p h = sender x p h
+balances terminal driver rx tx device lender copier client sender disk server asker (Kinds.UartDevice x) p h = terminal x.terminal p h
+balances terminal driver rx tx device lender copier client sender disk server asker (Kinds.UartDriver x) p h = driver (two_pipes x.driver.pipes) p h
+balances terminal driver rx tx device lender copier client sender disk server asker (Kinds.SerialVirtRx x) p h = rx x p h
+balances terminal driver rx tx device lender copier client sender disk server asker (Kinds.SerialVirtTx x) p h = tx x p h
+balances terminal driver rx tx device lender copier client sender disk server asker (Kinds.SerialClient x) p h = terminal x.terminal p h
+balances terminal driver rx tx device lender copier client sender disk server asker (Kinds.EthDevice x) p h = device x p h
+balances terminal driver rx tx device lender copier client sender disk server asker (Kinds.EthDriver x) p h = driver (four_pipes x.driver.pipes) p h
+balances terminal driver rx tx device lender copier client sender disk server asker (Kinds.NetVirtRx x) p h = lender x p h
+balances terminal driver rx tx device lender copier client sender disk server asker (Kinds.NetCopier x) p h = copier x p h
+balances terminal driver rx tx device lender copier client sender disk server asker (Kinds.NetClient x) p h = client x p h
+balances terminal driver rx tx device lender copier client sender disk server asker (Kinds.NetVirtTx x) p h = sender x p h
+balances terminal driver rx tx device lender copier client sender disk server asker (Kinds.DiskDevice x) p h = disk x.start.value x.device p h
+balances terminal driver rx tx device lender copier client sender disk server asker (Kinds.BlkDriver x) p h = driver (two_pipes x.driver.pipes) p h
+balances terminal driver rx tx device lender copier client sender disk server asker (Kinds.BlkVirt x) p h = server x p h
+balances terminal driver rx tx device lender copier client sender disk server asker (Kinds.BlkClient x) p h = asker x p h
+
+-- a block client's buffers can be counted
+pub few_pages : (w : Asking) → IsAsking w → length w.kept.pages < 2 ^ 32 - 2
+few_pages w h = by w.next h.within
+  where
+    by : (o : Option Cargo) → and_one w.sent o ≤ length w.script.items → length w.kept.pages < 2 ^ 32 - 2
+    by None within = omega (arith, within, h.answered, h.hold, h.room)
+    by (Some x) within = omega (arith, within, h.answered, h.hold, h.room)
+
+-- a block virtualiser has as many clients as before
+pub few_still : (old new : BlkVirt) → SameBlkVirt old new → HasFewClients old → HasFewClients new
+few_still old new same few =
+    let was = length-map old.work.desk.clients.items (λ (c : Client). c.holder) in
+    let now = length-map new.work.desk.clients.items (λ (c : Client). c.holder) in
+    let as_many = ap (λ hs. length hs) same.work.clients in
+    omega (arith, was, now, as_many, few)
+
+-- and the same own buffer
+pub first_still : (old new : BlkVirt) → SameBlkVirt old new → HasFirst old → HasFirst new
+first_still old new same first = ap (λ o. o.no) same.work.own ∙ first

@@ -5,6 +5,7 @@ use Rattle.wire_core.specs.Lists.{Passed}
 use Rattle.wire_core.specs.Ends.{Role, End}
 use Rattle.wire_core.specs.declared.names.Event.{Event}
 use Rattle.turn_kit.specs.Turns.{Round, Turned, is_at_rest}
+use Rattle.turn_kit.specs.Hands.{bodies_of}
 use Rattle.serial_terminal.specs.Terminals.{FitsTerminal, TerminalStandsFor, TerminalRow, TerminalBalances, TerminalEnd, terminal_round, terminal_hand, terminal_forgotten}
 use Rattle.serial_virt.specs.Receiving.{FitsRx, RxStandsFor, RxRow, RxBalances, RxEnd, RxForgot, rx_round, rx_hand}
 use Rattle.serial_virt.specs.Sending.{FitsTx, TxStandsFor, TxRow, TxBalances, TxEnd, TxForgot, tx_round, tx_hand}
@@ -25,11 +26,28 @@ use Rattle.net_copier.specs.Copying.{FitsCopier, CopierStandsFor, CopierRow, Cop
 use Rattle.net_client.specs.Clients.{FitsClient, ClientStandsFor, ClientRow, ClientBalances, ClientEnd, client_round, client_hand, client_forgotten}
 use Rattle.net_parts.specs.Playing.{HasBuffers, device_part, driver_part, receiver_part, copier_part, client_part}
 use Rattle.net_tx_parts.specs.Playing.{send_part}
-use Rattle.actor_set.specs.Parts.{Part, UartPart, DriverPart, RxPart, TxPart, ClientPart, NetworkPart, SendingPart}
+use Rattle.disk_device.specs.Disks.{FitsDisk, DiskStandsFor, DiskRow, DiskBalances, DiskEnd, disk_round, disk_hand, disk_forgotten}
+use Rattle.blk_client.specs.Asking.{IsAsking}
+use Rattle.blk_client.specs.Clients.{FitsBlkClient, BlkClientStandsFor, BlkClientRow, BlkClientBalances, BlkClientEnd, blk_client_round, blk_client_hand, blk_client_forgotten}
+use Rattle.blk_virt.specs.Desks.{holders, bad_count as blk_bad_count}
+use Rattle.blk_virt.specs.Works.{work_cargo}
+use Rattle.blk_virt.specs.Virtualising.{FitsBlkVirt, BlkVirtStandsFor, BlkVirtRow, BlkVirtBalances, BlkVirtEnd, BlkVirtForgot, blk_virt_round}
+use Rattle.blk_virt.specs.declared.virtualiser.BlkVirt.{BlkVirt}
+use Rattle.blk_parts.specs.Playing.{disk_part, blk_driver_part, virt_part, blk_client_part}
+use Rattle.actor_set.specs.Parts.{Part, UartPart, DriverPart, RxPart, TxPart, ClientPart, NetworkPart, SendingPart, BlockPart}
 use Rattle.actor_set.specs.declared.actor.Actor.{Actor}
 use Rattle.actor_set.specs.declared.actor.Actor.TheVariants as Kinds
 
--- the actor's ends are its own, and as it keeps them; and a buffer of the network has 2,048 bytes
+-- a block virtualiser has so few clients that its buffers can be counted
+abbrev pub HasFewClients : BlkVirt → Type 0
+HasFewClients v = length v.work.desk.clients.items < 2 ^ 31 - 2
+
+-- and its own buffer is the first of its pool
+abbrev pub HasFirst : BlkVirt → Type 0
+HasFirst v = v.work.opening.own.no ≡ 0
+
+-- the actor's ends are its own, and as it keeps them; a buffer of the network has 2,048 bytes, and
+-- a block virtualiser few clients and the first buffer of its pool
 abbrev pub FitsActor : (Role → ℕ → End) → Actor → Type 0
 FitsActor ends (Kinds.UartDevice x) = FitsTerminal ends x.terminal
 FitsActor ends (Kinds.UartDriver x) = FitsPipes ends (two_pipes x.driver.pipes)
@@ -42,6 +60,10 @@ FitsActor ends (Kinds.NetVirtRx x) = FitsNetRx ends x × (x.work.stock.size ≡ 
 FitsActor ends (Kinds.NetCopier x) = FitsCopier ends x
 FitsActor ends (Kinds.NetClient x) = FitsClient ends x × HasBuffers x
 FitsActor ends (Kinds.NetVirtTx x) = FitsNetTx ends x
+FitsActor ends (Kinds.DiskDevice x) = FitsDisk ends x.device
+FitsActor ends (Kinds.BlkDriver x) = FitsPipes ends (two_pipes x.driver.pipes)
+FitsActor ends (Kinds.BlkVirt x) = FitsBlkVirt ends x × HasFewClients x × HasFirst x
+FitsActor ends (Kinds.BlkClient x) = FitsBlkClient ends x
 
 -- what it keeps, by what it took and what it put
 abbrev pub ActorStandsFor : Actor → Passed → Type 0
@@ -56,6 +78,10 @@ ActorStandsFor (Kinds.NetVirtRx x) passed = NetRxStandsFor x passed
 ActorStandsFor (Kinds.NetCopier x) passed = CopierStandsFor x passed
 ActorStandsFor (Kinds.NetClient x) passed = ClientStandsFor x passed
 ActorStandsFor (Kinds.NetVirtTx x) passed = NetTxStandsFor x passed
+ActorStandsFor (Kinds.DiskDevice x) passed = DiskStandsFor x.start.value x.device passed
+ActorStandsFor (Kinds.BlkDriver x) passed = PipesStandFor (two_pipes x.driver.pipes) passed
+ActorStandsFor (Kinds.BlkVirt x) passed = BlkVirtStandsFor x passed
+ActorStandsFor (Kinds.BlkClient x) passed = BlkClientStandsFor x passed
 
 -- what it may have put and recorded, for what it took
 abbrev pub ActorRow : Actor → Passed → Type 0
@@ -70,6 +96,10 @@ ActorRow (Kinds.NetVirtRx x) passed = NetRxRow x passed
 ActorRow (Kinds.NetCopier x) passed = CopierRow x passed
 ActorRow (Kinds.NetClient x) passed = ClientRow x passed
 ActorRow (Kinds.NetVirtTx x) passed = NetTxRow x passed
+ActorRow (Kinds.DiskDevice x) passed = DiskRow x.start.value x.device passed
+ActorRow (Kinds.BlkDriver x) passed = PipesRow (two_pipes x.driver.pipes) passed
+ActorRow (Kinds.BlkVirt x) passed = BlkVirtRow x passed
+ActorRow (Kinds.BlkClient x) passed = BlkClientRow x passed
 
 -- what it had at the start and what came is what went, what is in its hand, and what it keeps for
 -- good or lends
@@ -85,6 +115,10 @@ ActorBalances (Kinds.NetVirtRx x) passed = NetRxBalances x passed
 ActorBalances (Kinds.NetCopier x) passed = CopierBalances x passed
 ActorBalances (Kinds.NetClient x) passed = ClientBalances x passed
 ActorBalances (Kinds.NetVirtTx x) passed = NetTxBalances x passed
+ActorBalances (Kinds.DiskDevice x) passed = DiskBalances x.device passed
+ActorBalances (Kinds.BlkDriver x) passed = PipesBalance (two_pipes x.driver.pipes) passed
+ActorBalances (Kinds.BlkVirt x) passed = BlkVirtBalances x passed
+ActorBalances (Kinds.BlkClient x) passed = BlkClientBalances x passed
 
 -- one of its ends
 abbrev pub ActorEnd : Actor → Role → ℕ → Type 0
@@ -99,6 +133,10 @@ ActorEnd (Kinds.NetVirtRx x) r n = NetRxEnd x r n
 ActorEnd (Kinds.NetCopier x) r n = CopierEnd x r n
 ActorEnd (Kinds.NetClient x) r n = ClientEnd x r n
 ActorEnd (Kinds.NetVirtTx x) r n = NetTxEnd x r n
+ActorEnd (Kinds.DiskDevice x) r n = DiskEnd x.device r n
+ActorEnd (Kinds.BlkDriver x) r n = PipesEnd (two_pipes x.driver.pipes) r n
+ActorEnd (Kinds.BlkVirt x) r n = BlkVirtEnd x r n
+ActorEnd (Kinds.BlkClient x) r n = BlkClientEnd x r n
 
 -- what a receiving virtualiser keeps fits together: it has one queue each way for each client
 pub record IsWholeReceiver (v : NetVirtRx) : Type 0 where
@@ -111,6 +149,14 @@ pub record IsWholeSender (v : NetVirtTx) : Type 0 where
   pub work : IsTraffic v.work
   pub from_each : length (from_queues v.ends) ≡ length v.work.clients.items
   pub to_each : length (to_queues v.ends) ≡ length v.work.clients.items
+
+-- what a block virtualiser keeps fits together: it has one queue each way for each client, and the
+-- first buffer of its pool
+pub record IsWholeServer (v : BlkVirt) : Type 0 where
+  pub few : HasFewClients v
+  pub first : HasFirst v
+  pub from_each : length (from_queues v.ends) ≡ length (holders v.work.desk)
+  pub to_each : length (to_queues v.ends) ≡ length (holders v.work.desk)
 
 -- what it keeps fits together, so that its ends can be told and its buffers counted
 abbrev pub IsWhole : Actor → Type 0
@@ -126,6 +172,10 @@ IsWhole (Kinds.NetCopier x) = Unit {0}
 IsWhole (Kinds.NetClient x) =
     length x.stock.rest.items + length x.outbox.stock.rest.items < 2 ^ 32 - 4
 IsWhole (Kinds.NetVirtTx x) = IsWholeSender x
+IsWhole (Kinds.DiskDevice x) = Unit {0}
+IsWhole (Kinds.BlkDriver x) = Unit {0}
+IsWhole (Kinds.BlkVirt x) = IsWholeServer x
+IsWhole (Kinds.BlkClient x) = IsAsking x.asking
 
 -- its ends, and which of them it needs
 abbrev pub actor_round : Actor → Round
@@ -140,6 +190,10 @@ actor_round (Kinds.NetVirtRx x) = net_rx_round x
 actor_round (Kinds.NetCopier x) = copier_round x
 actor_round (Kinds.NetClient x) = client_round x
 actor_round (Kinds.NetVirtTx x) = net_tx_round x
+actor_round (Kinds.DiskDevice x) = disk_round x.device
+actor_round (Kinds.BlkDriver x) = pipes_round (two_pipes x.driver.pipes) x.driver.turn.last
+actor_round (Kinds.BlkVirt x) = blk_virt_round x
+actor_round (Kinds.BlkClient x) = blk_client_round x
 
 -- nothing is to be done before a notification comes: each of these kinds says it of its ends, and a
 -- kind without such ends would say it otherwise
@@ -157,6 +211,11 @@ actor_rests (Kinds.NetVirtRx x) = is_at_rest (net_rx_round x)
 actor_rests (Kinds.NetCopier x) = is_at_rest (copier_round x)
 actor_rests (Kinds.NetClient x) = is_at_rest (client_round x)
 actor_rests (Kinds.NetVirtTx x) = is_at_rest (net_tx_round x)
+actor_rests (Kinds.DiskDevice x) = is_at_rest (disk_round x.device)
+actor_rests (Kinds.BlkDriver x) = is_at_rest (pipes_round
+    (two_pipes x.driver.pipes) x.driver.turn.last)
+actor_rests (Kinds.BlkVirt x) = is_at_rest (blk_virt_round x)
+actor_rests (Kinds.BlkClient x) = is_at_rest (blk_client_round x)
 
 -- a call is its turn: each of these kinds takes its ends in turn
 abbrev pub ActorTurned : Actor → Event → Actor → Type 0
@@ -173,6 +232,11 @@ ActorTurned (Kinds.NetVirtRx x) e y = Turned (net_rx_round x) e (actor_round y)
 ActorTurned (Kinds.NetCopier x) e y = Turned (copier_round x) e (actor_round y)
 ActorTurned (Kinds.NetClient x) e y = Turned (client_round x) e (actor_round y)
 ActorTurned (Kinds.NetVirtTx x) e y = Turned (net_tx_round x) e (actor_round y)
+ActorTurned (Kinds.DiskDevice x) e y = Turned (disk_round x.device) e (actor_round y)
+ActorTurned (Kinds.BlkDriver x) e y =
+    Turned (pipes_round (two_pipes x.driver.pipes) x.driver.turn.last) e (actor_round y)
+ActorTurned (Kinds.BlkVirt x) e y = Turned (blk_virt_round x) e (actor_round y)
+ActorTurned (Kinds.BlkClient x) e y = Turned (blk_client_round x) e (actor_round y)
 
 -- the bodies in its hand
 abbrev pub actor_hand : Actor → List Body
@@ -187,6 +251,10 @@ actor_hand (Kinds.NetVirtRx x) = sharer_hand x.work
 actor_hand (Kinds.NetCopier x) = copier_hand x
 actor_hand (Kinds.NetClient x) = client_hand x
 actor_hand (Kinds.NetVirtTx x) = traffic_hand x.work
+actor_hand (Kinds.DiskDevice x) = disk_hand x.device
+actor_hand (Kinds.BlkDriver x) = pipes_hand (two_pipes x.driver.pipes)
+actor_hand (Kinds.BlkVirt x) = bodies_of (work_cargo x.work)
+actor_hand (Kinds.BlkClient x) = blk_client_hand x
 
 -- the numbers of queues
 abbrev pub numbers : List QueueId → List ℕ
@@ -209,8 +277,12 @@ part_of (Kinds.NetVirtRx x) = NetworkPart (receiver_part x)
 part_of (Kinds.NetCopier x) = NetworkPart (copier_part x)
 part_of (Kinds.NetClient x) = NetworkPart (client_part x)
 part_of (Kinds.NetVirtTx x) = SendingPart (send_part x)
+part_of (Kinds.DiskDevice x) = BlockPart (disk_part x.start.value x.device)
+part_of (Kinds.BlkDriver x) = BlockPart (blk_driver_part (two_pipes x.driver.pipes))
+part_of (Kinds.BlkVirt x) = BlockPart (virt_part x)
+part_of (Kinds.BlkClient x) = BlockPart (blk_client_part x)
 
--- the length of a client's record: how many bytes, or frames
+-- the length of a client's record: how many bytes, frames, or replies
 abbrev pub record_length : Actor → ℕ
 record_length (Kinds.UartDevice x) = 0
 record_length (Kinds.UartDriver x) = 0
@@ -223,9 +295,13 @@ record_length (Kinds.NetVirtRx x) = 0
 record_length (Kinds.NetCopier x) = 0
 record_length (Kinds.NetClient x) = length x.frames.tape.shown
 record_length (Kinds.NetVirtTx x) = 0
+record_length (Kinds.DiskDevice x) = 0
+record_length (Kinds.BlkDriver x) = 0
+record_length (Kinds.BlkVirt x) = 0
+record_length (Kinds.BlkClient x) = length x.asking.kept.shown
 
 -- what an actor counted as bad: a sending virtualiser of the network the descriptors that came bad
--- from its clients, and an actor of another kind nothing
+-- from its clients, a block virtualiser the requests, and an actor of another kind nothing
 abbrev pub bad_of : Actor → ℕ
 bad_of (Kinds.UartDevice x) = 0
 bad_of (Kinds.UartDriver x) = 0
@@ -238,6 +314,10 @@ bad_of (Kinds.NetVirtRx x) = 0
 bad_of (Kinds.NetCopier x) = 0
 bad_of (Kinds.NetClient x) = 0
 bad_of (Kinds.NetVirtTx x) = bad_count x.work
+bad_of (Kinds.DiskDevice x) = 0
+bad_of (Kinds.BlkDriver x) = 0
+bad_of (Kinds.BlkVirt x) = blk_bad_count x.work.desk
+bad_of (Kinds.BlkClient x) = 0
 
 -- how many buffers of a pool an actor lent, by the pool's number: a receiving virtualiser of the
 -- network those of its own pool that are with a receiver, and an actor of another kind none
@@ -254,6 +334,10 @@ actor_lent (Kinds.NetVirtRx x) pool =
 actor_lent (Kinds.NetCopier x) pool = 0
 actor_lent (Kinds.NetClient x) pool = 0
 actor_lent (Kinds.NetVirtTx x) pool = 0
+actor_lent (Kinds.DiskDevice x) pool = 0
+actor_lent (Kinds.BlkDriver x) pool = 0
+actor_lent (Kinds.BlkVirt x) pool = 0
+actor_lent (Kinds.BlkClient x) pool = 0
 
 -- the same actor without the last looks
 abbrev pub Forgot : Actor → Actor → Type 0
@@ -272,4 +356,11 @@ Forgot (Kinds.NetVirtRx x) (Kinds.NetVirtRx y) = NetRxForgot x y
 Forgot (Kinds.NetCopier x) (Kinds.NetCopier y) = y ≡ copier_forgotten x
 Forgot (Kinds.NetClient x) (Kinds.NetClient y) = y ≡ client_forgotten x
 Forgot (Kinds.NetVirtTx x) (Kinds.NetVirtTx y) = NetTxForgot x y
+Forgot (Kinds.DiskDevice x) (Kinds.DiskDevice y) =
+    (y.device ≡ disk_forgotten x.device) × (y.start ≡ x.start)
+Forgot (Kinds.BlkDriver x) (Kinds.BlkDriver y) =
+    (two_pipes y.driver.pipes ≡ map pipe_forgotten (two_pipes x.driver.pipes))
+    × (y.driver.turn ≡ x.driver.turn)
+Forgot (Kinds.BlkVirt x) (Kinds.BlkVirt y) = BlkVirtForgot x y
+Forgot (Kinds.BlkClient x) (Kinds.BlkClient y) = y ≡ blk_client_forgotten x
 Forgot x y = ⊥

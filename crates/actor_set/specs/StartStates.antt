@@ -1,5 +1,5 @@
 -- Actors in their start state, and the ends that rows give them.
-use Rattle.std.specs.Prelude.{◌≡◌, ◌+◌, ◌-◌, ◌<◌, ◌^◌, ℕ, Some, List, All, length, slice_get}
+use Rattle.std.specs.Prelude.{◌≡◌, ◌+◌, ◌-◌, ◌<◌, ◌^◌, ◌==◌, if◌then◌else◌, ℕ, Some, List, All, length, slice_get}
 use Rattle.cargo_core.specs.declared.item.QueueKind.{QueueKind}
 use Rattle.cargo_core.specs.declared.item.QueueKind.TheVariants as Kind
 use Rattle.cargo_core.specs.Pages.{Paged}
@@ -29,7 +29,16 @@ use Rattle.net_copier.specs.Copying.{IsNewCopier}
 use Rattle.net_client.specs.Clients.{IsNewClient}
 use Rattle.net_client.specs.Clients as client
 use Rattle.net_client.specs.declared.NetClient.{NetClient}
-use Rattle.actor_set.specs.Actors.{ActorEnd}
+use Rattle.disk_device.specs.Disks.{IsNewDisk}
+use Rattle.blk_client.specs.Asking.{IsAsking}
+use Rattle.blk_client.specs.Clients.{IsNewBlkClient, BlkClientStandsFor}
+use Rattle.blk_client.specs.declared.BlkClient.{BlkClient}
+use Rattle.blk_driver.specs.declared.BlkDriver.{BlkDriver}
+use Rattle.blk_virt.specs.Works.{IsWork}
+use Rattle.blk_virt.specs.Virtualising.{IsNewBlkVirt, BlkVirtStandsFor}
+use Rattle.blk_virt.specs.declared.virtualiser.BlkEnds.{BlkEnds}
+use Rattle.blk_virt.specs.declared.virtualiser.BlkVirt.{BlkVirt}
+use Rattle.actor_set.specs.Actors.{ActorEnd, HasFewClients, HasFirst}
 use Rattle.actor_set.specs.declared.actor.Actor.{Actor}
 use Rattle.actor_set.specs.declared.actor.Actor.TheVariants as Kinds
 
@@ -67,6 +76,25 @@ pub record IsNewSender (v : NetVirtTx) : Type 0 where
   pub new : IsNewNetTx v.ends.output.queue v.ends.input.queue clients v
   pub stands : NetTxStandsFor v nothing_passed
 
+-- a block virtualiser in its start state
+pub record IsNewServer (v : BlkVirt) : Type 0 where
+  pub clients : List BlkEnds
+  pub page : Paged
+  pub new : IsNewBlkVirt v.ends.output.queue v.ends.input.queue clients page v.work.opening.base
+      v.work.opening.disk_sectors v
+  pub work : IsWork v.work
+  pub stands : BlkVirtStandsFor v nothing_passed
+  pub few : HasFewClients v
+  pub first : HasFirst v
+
+-- a block client in its start state, with all buffers of its pool
+pub record IsNewAsker (c : BlkClient) : Type 0 where
+  pub pages : List Paged
+  pub new : IsNewBlkClient c.requests.queue c.responses.queue pages
+      c.asking.script.items c
+  pub asking : IsAsking c.asking
+  pub stands : BlkClientStandsFor c nothing_passed
+
 -- an actor in its start state
 abbrev pub IsNew : Actor → Type 0
 IsNew (Kinds.UartDevice x) =
@@ -88,6 +116,15 @@ IsNew (Kinds.NetCopier x) = IsNewCopier x.lease_input.queue x.lease_output.queue
     x.buffer_output.queue x.buffer_input.queue x
 IsNew (Kinds.NetClient x) = IsNewClientOf x
 IsNew (Kinds.NetVirtTx x) = IsNewSender x
+IsNew (Kinds.DiskDevice x) =
+    IsNewDisk x.device.input.queue x.device.output.queue x.start.value x.device
+IsNew (Kinds.BlkDriver x) =
+    IsNewPipe x.driver.pipes.first.input.queue x.driver.pipes.first.output.queue
+    x.driver.pipes.first
+    × IsNewPipe x.driver.pipes.rest.input.queue x.driver.pipes.rest.output.queue
+    x.driver.pipes.rest
+IsNew (Kinds.BlkVirt x) = IsNewServer x
+IsNew (Kinds.BlkClient x) = IsNewAsker x
 
 -- of a virtualiser of the network: its ends on each side are of queues of their own
 pub record HasApartQueues (v : VirtEnds) : Type 0 where
@@ -119,24 +156,55 @@ HasApartEnds (Kinds.NetCopier x) =
 HasApartEnds (Kinds.NetClient x) =
     (client.rx_active x ≡ client.tx_free x → ⊥) × (client.rx_free x ≡ client.tx_active x → ⊥)
 HasApartEnds (Kinds.NetVirtTx x) = HasApartQueues x.ends
+HasApartEnds (Kinds.DiskDevice x) = Unit {0}
+HasApartEnds (Kinds.BlkDriver x) =
+    (x.driver.pipes.first.input.queue.0 ≡ x.driver.pipes.rest.input.queue.0 → ⊥)
+    × (x.driver.pipes.first.output.queue.0 ≡ x.driver.pipes.rest.output.queue.0 → ⊥)
+HasApartEnds (Kinds.BlkVirt x) = HasApartQueues x.ends
+HasApartEnds (Kinds.BlkClient x) = Unit {0}
 
 -- no queue has both its ends with the actor
 abbrev pub HasNoLoop : Actor → Type 0
 HasNoLoop x = (n : ℕ) → ActorEnd x Consumer n → ActorEnd x Producer n → ⊥
 
--- what the queues of an actor carry
-abbrev pub kind_at : Actor → QueueKind
-kind_at (Kinds.UartDevice x) = Kind.Byte
-kind_at (Kinds.UartDriver x) = Kind.Byte
-kind_at (Kinds.SerialVirtRx x) = Kind.Byte
-kind_at (Kinds.SerialVirtTx x) = Kind.Byte
-kind_at (Kinds.SerialClient x) = Kind.Byte
-kind_at (Kinds.EthDevice x) = Kind.Net
-kind_at (Kinds.EthDriver x) = Kind.Net
-kind_at (Kinds.NetVirtRx x) = Kind.Net
-kind_at (Kinds.NetCopier x) = Kind.Net
-kind_at (Kinds.NetClient x) = Kind.Net
-kind_at (Kinds.NetVirtTx x) = Kind.Net
+-- one kind of entry at the queue of a number, another at all others
+abbrev pub kind_of_two : (number : ℕ) (here other : QueueKind) → ℕ → QueueKind
+kind_of_two number here other n = if n == number then here else other
+
+-- what the queue at an end of a block driver carries: its first pipe moves requests, the other
+-- responses
+abbrev pub driver_kind : BlkDriver → Role → ℕ → QueueKind
+driver_kind d Consumer n = kind_of_two d.driver.pipes.first.input.queue.0 Kind.Req Kind.Resp n
+driver_kind d Producer n = kind_of_two d.driver.pipes.first.output.queue.0 Kind.Req Kind.Resp n
+
+-- what the queue at an end of a block virtualiser carries: responses come from the driver and
+-- requests from the clients, and requests go to the driver and responses to the clients
+abbrev pub server_kind : BlkVirt → Role → ℕ → QueueKind
+server_kind v Consumer n = kind_of_two v.ends.input.queue.0 Kind.Resp Kind.Req n
+server_kind v Producer n = kind_of_two v.ends.output.queue.0 Kind.Req Kind.Resp n
+
+-- what an actor takes, and what it puts
+abbrev pub kind_by : (takes puts : QueueKind) → Role → QueueKind
+kind_by takes puts Consumer = takes
+kind_by takes puts Producer = puts
+
+-- what the queue at an end of an actor carries
+abbrev pub kind_at : Actor → Role → ℕ → QueueKind
+kind_at (Kinds.UartDevice x) r n = Kind.Byte
+kind_at (Kinds.UartDriver x) r n = Kind.Byte
+kind_at (Kinds.SerialVirtRx x) r n = Kind.Byte
+kind_at (Kinds.SerialVirtTx x) r n = Kind.Byte
+kind_at (Kinds.SerialClient x) r n = Kind.Byte
+kind_at (Kinds.EthDevice x) r n = Kind.Net
+kind_at (Kinds.EthDriver x) r n = Kind.Net
+kind_at (Kinds.NetVirtRx x) r n = Kind.Net
+kind_at (Kinds.NetCopier x) r n = Kind.Net
+kind_at (Kinds.NetClient x) r n = Kind.Net
+kind_at (Kinds.NetVirtTx x) r n = Kind.Net
+kind_at (Kinds.DiskDevice x) r n = kind_by Kind.Req Kind.Resp r
+kind_at (Kinds.BlkDriver x) r n = driver_kind x r n
+kind_at (Kinds.BlkVirt x) r n = server_kind x r n
+kind_at (Kinds.BlkClient x) r n = kind_by Kind.Resp Kind.Req r
 
 -- by the rows, actor k has this end of queue n, which carries this kind
 pub record HasSeat (rows : List QueueRow) (kind : QueueKind) (k : ℕ) (r : Role) (n : ℕ) :

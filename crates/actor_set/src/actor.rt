@@ -6,6 +6,10 @@ ghost use Rattle.wire_core.specs.Lists.{Passed, Stepped};
 ghost use Rattle.cargo_core.specs.Bodies.{buffers_of};
 ghost use Rattle.actor_set.specs.Actors.{FitsActor, ActorStandsFor, ActorRow, ActorBalances, ActorEnd, ActorTurned, IsWhole, Forgot, actor_rests, actor_hand, part_of, record_length, bad_of, actor_lent};
 
+use crate::Disk;
+use blk_client::BlkClient;
+use blk_driver::BlkDriver;
+use blk_virt::BlkVirt;
 use cargo_core::{Memory, PoolId};
 use client_programs::{NetClient, SerialClient};
 use device_model::{EthDevice, UartDevice};
@@ -31,6 +35,10 @@ pub enum Actor {
     NetCopier(NetCopier),
     NetClient(NetClient),
     NetVirtTx(NetVirtTx),
+    DiskDevice(Disk),
+    BlkDriver(BlkDriver),
+    BlkVirt(BlkVirt),
+    BlkClient(BlkClient),
 }
 
 impl Actor {
@@ -51,27 +59,34 @@ impl Actor {
             Actor::NetCopier(copier) => copier.at_rest(),
             Actor::NetClient(client) => client.at_rest(),
             Actor::NetVirtTx(virt) => virt.at_rest(),
+            Actor::DiskDevice(disk) => disk.device.at_rest(),
+            Actor::BlkDriver(driver) => driver.at_rest(),
+            Actor::BlkVirt(virt) => virt.at_rest(),
+            Actor::BlkClient(client) => client.at_rest(),
         }
     }
 
-    /// The length of a client's record, in bytes or in frames, and 0 for an actor of another kind.
+    /// The length of a client's record, in bytes, in frames or in replies, and 0 for an actor of
+    /// another kind.
     pub fn recorded(&self) -> u64
         ensures { result ≡ record_length self.now }
     {
         match self {
             Actor::SerialClient(client) => client.got().len() as u64,
             Actor::NetClient(client) => client.got().len() as u64,
+            Actor::BlkClient(client) => client.replies().len() as u64,
             _ => 0,
         }
     }
 
-    /// How many bad descriptors it counted: a sending virtualiser of the network those that came
-    /// from its clients, and an actor of another kind none.
+    /// How many bad descriptors or requests it counted: a sending virtualiser of the network and a
+    /// block virtualiser those that came from their clients, and an actor of another kind none.
     pub fn bad(&self) -> u64
         ensures { result ≡ bad_of self.now }
     {
         match self {
             Actor::NetVirtTx(virt) => virt.bad(),
+            Actor::BlkVirt(virt) => virt.bad(),
             _ => 0,
         }
     }
@@ -93,6 +108,10 @@ impl Actor {
             Actor::NetCopier(copier) => copier.held(pool),
             Actor::NetClient(client) => client.held(pool),
             Actor::NetVirtTx(virt) => virt.held(pool),
+            Actor::DiskDevice(disk) => disk.device.held(pool),
+            Actor::BlkDriver(driver) => driver.held(pool),
+            Actor::BlkVirt(virt) => virt.held(pool),
+            Actor::BlkClient(client) => client.held(pool),
         }
     }
 
@@ -132,6 +151,10 @@ impl Actor {
             Actor::NetCopier(copier) => Ok(copier.step(wires)),
             Actor::NetClient(client) => client.step(wires),
             Actor::NetVirtTx(virt) => Ok(virt.step(wires)),
+            Actor::DiskDevice(disk) => Ok(disk.device.step(wires)),
+            Actor::BlkDriver(driver) => Ok(driver.step(wires)),
+            Actor::BlkVirt(virt) => Ok(virt.step(wires)),
+            Actor::BlkClient(client) => client.step(wires),
         }
     }
 
@@ -157,6 +180,10 @@ impl Actor {
             Actor::NetCopier(copier) => copier.forget(),
             Actor::NetClient(client) => client.forget(),
             Actor::NetVirtTx(virt) => virt.forget(),
+            Actor::DiskDevice(disk) => disk.device.forget(),
+            Actor::BlkDriver(driver) => driver.forget(),
+            Actor::BlkVirt(virt) => virt.forget(),
+            Actor::BlkClient(client) => client.forget(),
         }
     }
 }
@@ -174,6 +201,9 @@ pub fn row_law()
     net_copier::row_law();
     net_client::row_law();
     net_virt_tx::row_law();
+    disk_device::row_law();
+    blk_virt::row_law();
+    blk_client::row_law();
 }
 
 /// For each pool, what an actor had at the start and what came is what went, what is in its hand,
@@ -190,4 +220,7 @@ pub fn hand_law()
     net_copier::hand_law();
     net_client::hand_law();
     net_virt_tx::hand_law();
+    disk_device::hand_law();
+    blk_virt::hand_law();
+    blk_client::hand_law();
 }

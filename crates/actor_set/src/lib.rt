@@ -2,5 +2,7 @@
 #![tactic(auto)]
 
 mod actor;
+mod disk;
 
 pub use actor::{Actor, hand_law, row_law};
+pub use disk::Disk;

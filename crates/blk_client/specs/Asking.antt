@@ -1,5 +1,5 @@
 -- What a block client asks, and what it records of the responses.
-use Rattle.std.specs.Prelude.{◌≡◌, ◌+◌, ◌*◌, ◌<◌, ◌≤◌, ◌^◌, ℕ, Bool, true, false, nat_le, min, if◌then◌else◌, Option, None, Some, List, [], ◌∷◌, ◌++◌, length, map, drop, option_to_list}
+use Rattle.std.specs.Prelude.{◌≡◌, ◌+◌, ◌-◌, ◌*◌, ◌<◌, ◌≤◌, ◌^◌, ℕ, Bool, true, false, nat_le, min, if◌then◌else◌, Option, None, Some, List, [], ◌∷◌, ◌++◌, length, map, drop, option_to_list}
 use Rattle.std.specs.Option.{ForSome}
 use Rattle.cargo_core.specs.declared.item.Ask.{Ask}
 use Rattle.cargo_core.specs.declared.item.BlkResp.{BlkResp}
@@ -146,12 +146,16 @@ abbrev pub asking_hand : Asking → List Body
 asking_hand w = bodies_of (option_to_list w.next)
     ++ map (λ (p : Paged). Carried.Page p) w.kept.pages
 
--- a request is ready where one can be put
+-- a request is ready where one can be put; no more was answered than was put; and the buffers in
+-- hand are those of the start and those that came, which together with the script are few
 pub record IsAsking (w : Asking) : Type 0 where
   pub few : length w.script.items < 2 ^ 32
   pub within : made w ≤ length w.script.items
   pub kind : ForSome w.next (λ c. kind_of c.0 ≡ Kind.Req)
   pub ready : w.next ≡ None → asked_from w.sent (left w) w.kept.pages ≡ []
+  pub answered : length w.kept.shown ≤ w.sent
+  pub hold : length w.kept.pages ≤ w.buffers + length w.kept.shown
+  pub room : w.buffers + length w.script.items < 2 ^ 32 - 2
 
 -- these are its buffers at the start, in rising number
 pub record IsHoard (w : Asking) (start : List Paged) : Type 0 where

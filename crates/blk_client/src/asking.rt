@@ -133,6 +133,7 @@ fn next_request(ask: &Ask, id: u32, kept: &mut Keeping) -> Option<(Item, Body)>
         → asked_from id (ask.now ∷ asks) kept.old.pages ≡ [] }
     ensures kind { ForSome result (λ c. kind_of c.0 ≡ Kind.Req) }
     ensures shown { kept.new.shown ≡ kept.old.shown }
+    ensures fewer { length kept.new.pages ≤ length kept.old.pages }
     ensures held { (pool : PoolId) → buffers_of pool (page_bodies kept.old.pages)
         ≡ buffers_of pool (bodies_of (option_to_list result))
         + buffers_of pool (page_bodies kept.new.pages) }
@@ -151,7 +152,7 @@ impl Asking {
     /// the client's buffers, in rising number. It takes no memory.
     pub fn new(alloc: Global, pages: Vec<Page>, script: Vec<Ask>) -> Asking
         requires pool { (pool : PoolId) × ArePool 0 pool 32768 pages.items }
-        requires few { length script.items < 2 ^ 32 }
+        requires few { length pages.items + length script.items < 2 ^ 32 - 2 }
         ensures script { result.script ≡ script }
         ensures asking { IsAsking result }
         ensures hoard { IsHoard result pages.items }
@@ -201,6 +202,10 @@ impl Asking {
         requires few { length self.old.script.items < 2 ^ 32 }
         requires within { made self.old ≤ length self.old.script.items }
         requires kind { ForSome self.old.next (λ c. kind_of c.0 ≡ Kind.Req) }
+        requires answered { length self.old.kept.shown ≤ self.old.sent }
+        requires hold { length self.old.kept.pages
+            ≤ self.old.buffers + length self.old.kept.shown }
+        requires room { self.old.buffers + length self.old.script.items < 2 ^ 32 - 2 }
         ensures asking { IsAsking self.new }
         ensures same { SameAsking self.old self.new }
         ensures stands { (start : List Paged) (came put : List Cargo)
@@ -275,6 +280,10 @@ impl Asking {
         requires few { length self.old.script.items < 2 ^ 32 }
         requires within { self.old.sent < length self.old.script.items }
         requires none { self.old.next ≡ None }
+        requires answered { length self.old.kept.shown ≤ self.old.sent }
+        requires hold { length self.old.kept.pages
+            ≤ self.old.buffers + length self.old.kept.shown }
+        requires room { self.old.buffers + length self.old.script.items < 2 ^ 32 - 2 }
         ensures asking { IsAsking self.new }
         ensures same { SameAsking self.old self.new }
         ensures stands { (start : List Paged) (came put : List Cargo) (c : Cargo)

@@ -3,7 +3,7 @@
 //! this project's own; that a client has one queue each way is sDDF's.
 #![tactic(auto)]
 
-ghost use Rattle.std.specs.Prelude.{◌≡◌, ◌-◌, ◌<◌, ◌≤◌, ◌^◌, ◌==◌, ◌∷◌, [], ℕ, None, IfOk, OnErr, is_none, false, length, slice_get};
+ghost use Rattle.std.specs.Prelude.{◌≡◌, ◌+◌, ◌-◌, ◌<◌, ◌≤◌, ◌^◌, ◌==◌, ◌∷◌, [], ℕ, None, IfOk, OnErr, is_none, false, length, slice_get};
 ghost use Rattle.std.specs.Option.{option_to_list};
 ghost use Rattle.cargo_core.specs.Bodies.{buffers_of};
 ghost use Rattle.wire_core.specs.Ends.{role_of, Role, End};
@@ -48,8 +48,9 @@ impl BlkClient {
         script: Vec<Ask>,
     ) -> BlkClient
         requires pool { (pool : PoolId) × ArePool 0 pool 32768 pages.items }
-        requires few { length script.items < 2 ^ 32 }
+        requires few { length pages.items + length script.items < 2 ^ 32 - 2 }
         ensures new { IsNewBlkClient req resp pages.items script.items result }
+        ensures asking { IsAsking result.asking }
         ensures stands { BlkClientStandsFor result nothing_passed }
     {
         BlkClient {

@@ -1,4 +1,4 @@
-use Rattle.std.proofs.Common.{◌≡◌, ◌<◌, ◌≤◌, ◌+◌, ◌*◌, ◌%◌, ℕ, zero, suc, Bool, true, false, nat_lt, if◌then◌else◌, cond, Option, Some, List, [], ◌∷◌, length, map, drop, take, slice_get, sum_by, filter, refl, ap, ◌∙◌, subst, arith}
+use Rattle.std.proofs.Common.{◌≡◌, ◌<◌, ◌≤◌, ◌+◌, ◌*◌, ◌%◌, ℕ, zero, suc, Bool, true, false, nat_lt, if◌then◌else◌, cond, Option, Some, List, [], ◌∷◌, length, map, drop, take, slice_get, sum_by, filter, refl, sym, ap, ◌∙◌, subst, arith}
 use Rattle.std.proofs.lemmas.List.{length-map}
 use Rattle.std.proofs.lemmas.List.Sums.{sum_by-cons}
 use Rattle.cargo_core.specs.declared.item.Ask.{Ask}
@@ -16,12 +16,14 @@ use Rattle.blk_mbr.specs.declared.part.Part.{Part}
 use Rattle.blk_expect.specs.Replies.{partition_in}
 use Rattle.blk_client.specs.Asking.{needs_buffer, request_for}
 use Rattle.blk_virt.specs.Requests.{request_of}
-use Rattle.net_owners.specs.Names.{PoolAt}
+use Rattle.net_tx_parts.specs.Numbers.{own_pool}
 use Rattle.net_hops.proofs.Sums.{sum_parts, below_list}
 use Rattle.net_hops.proofs.Queues.{merge_few}
 use Rattle.blk_parts.specs.Parts.{Sharer}
+use Rattle.blk_parts.specs.Numbers.{BlkPlace}
 use Rattle.blk_parts.specs.Rows.{asked_items, buffers_for, AsksInOrder, item_for_disk, goes_on_item, refusal_item, passed_item, numbered_item, answer_item, answer_items, items_back, requests_on, all_requests, ServesRequests}
 use Rattle.blk_hops.specs.Hops.{blk_put, blk_moves, IsBlock}
+use Rattle.blk_hops.proofs.Sharers.{clients_of, sharer, sharer_is, sharer_there, sharers_long}
 
 -- no more is requested than is asked
 asked_few : (id used hand buffers : ℕ) (asks : List Ask) → length (asked_items id used hand buffers asks) ≤ length asks
@@ -91,7 +93,16 @@ sum_pairs f (suc k) =
     let b : f (2 * k + 1) ≡ f (1 + 2 * k) = ap f (let z : 2 * k + 1 ≡ 1 + 2 * k = omega arith in z) in
     omega (arith, e, parts, h, a, b)
 
-module _ (scene : Scene) (hostile : Hostiles) (history : History) (rows : List QueueRow) (j : List Entry) (first : ℕ) (pool : PoolAt) (clients : List Sharer) (asks : List (List Ask)) (flows : QueuesFlow hostile history rows j) (w : IsBlock scene hostile rows (moved history j) first pool clients asks) where
+module _ (scene : Scene) (hostile : Hostiles) (history : History) (rows : List QueueRow) (j : List Entry) (place : BlkPlace) (flows : QueuesFlow hostile history rows j) (w : IsBlock scene hostile rows (moved history j) place) where
+  abbrev first : ℕ
+  first = place.first
+
+  abbrev clients : List Sharer
+  clients = clients_of place
+
+  abbrev asks : List (List Ask)
+  asks = place.asks
+
   abbrev m : Moved
   m = moved history j
 
@@ -102,7 +113,7 @@ module _ (scene : Scene) (hostile : Hostiles) (history : History) (rows : List Q
   got i = length (m.taken (first + i))
 
   abbrev count : ℕ
-  count = length asks
+  count = length place.entries
 
   flow : (i : ℕ) → i < 4 + 2 * count → got i ≤ put i
   flow i there = let h = w.holds i there in begins_few (m.taken (first + i)) (m.sent (first + i)) (flows (first + i) h.row h.there h.calm).begins
@@ -124,7 +135,7 @@ module _ (scene : Scene) (hostile : Hostiles) (history : History) (rows : List Q
   answered : put 3 ≤ got 1
   answered = begins_few _ _ (w.driver 1 _ refl)
 
-  serves : ServesRequests scene.image (first + 2) (first + 3) pool clients m
+  serves : ServesRequests scene.image (first + 2) (first + 3) place.pool clients m
   serves = w.virt
 
   -- the queues of a client
@@ -139,30 +150,39 @@ module _ (scene : Scene) (hostile : Hostiles) (history : History) (rows : List Q
 
   client_asks : (k : ℕ) (said : List Ask) → slice_get asks k ≡ Some said → put (at 0 k) ≤ length said
   client_asks k said there =
-      let c = w.client k said there in
-      let row : AsksInOrder said c.0 (m.taken (first + 5 + 2 * k)) (m.sent (first + 4 + 2 * k)) = c.1 in
+      let lt = there_below asks k said there in
+      let asks_many = w.asks_many in
+      let pools_many = w.pools_many in
+      let entry = there_is place.entries k (omega (arith, lt, asks_many)) in
+      let pool = there_is place.pools k (omega (arith, lt, asks_many, pools_many)) in
+      let row : AsksInOrder said (own_pool pool.0) (m.taken (first + 5 + 2 * k)) (m.sent (first + 4 + 2 * k)) =
+      w.client k entry.0 said pool.0 (record { has_entry = entry.1; has_asks = there; has_pool = pool.1 }) in
       let a = begins_few _ _ row.begins in
-      let b = asked_few 0 0 (c.0.buffers + buffers_for (take (length (m.taken (first + 5 + 2 * k))) said)) c.0.buffers said in
+      let b = asked_few 0 0 (pool.0.buffers + buffers_for (take (length (m.taken (first + 5 + 2 * k))) said)) pool.0.buffers said in
       let e : length (m.sent (first + 4 + 2 * k)) ≡ put (at 0 k) = ap (λ n. length (m.sent n)) (req_is k) in
       omega (arith, a, b, e)
 
   taken_at : (k : ℕ) (c : Sharer) → slice_get clients k ≡ Some c → length (m.taken c.req) ≤ put (at 0 k)
   taken_at k c there =
-      let is : length (m.taken c.req) ≡ got (at 0 k) = ap (λ n. length (m.taken n)) ((w.clients_at k c there).req ∙ req_is k) in
-      let lt = there_below clients k c there in
-      let many = w.clients_many in
-      let a = flow (at 0 k) (omega (arith, lt, many)) in
+      let s = sharer_is place k c there in
+      let is : length (m.taken c.req) ≡ got (at 0 k) = ap (λ n. length (m.taken n)) (sym (ap (λ (x : Sharer). x.req) s.4) ∙ req_is k) in
+      let lt = there_below place.entries k s.0 s.2 in
+      let a = flow (at 0 k) (omega (arith, lt)) in
       omega (arith, is, a)
 
   client_answered : (k : ℕ) (said : List Ask) → slice_get asks k ≡ Some said → put (at 1 k) ≤ length said
   client_answered k said there =
       let lt = there_below asks k said there in
-      let many = w.clients_many in
-      let c = there_is clients k (omega (arith, lt, many)) in
-      let a = begins_few _ _ (serves.gives k c.0 c.1) in
-      let b = answers_few (partition_in scene.image c.0.entry) (m.taken c.0.req) (items_back c.0.pool (drop 1 (m.sent (first + 2))) (drop 1 (m.taken (first + 3)))) in
-      let d = taken_at k c.0 c.1 in
-      let e : length (m.sent c.0.resp) ≡ put (at 1 k) = ap (λ n. length (m.sent n)) ((w.clients_at k c.0 c.1).resp ∙ resp_is k) in
+      let asks_many = w.asks_many in
+      let pools_many = w.pools_many in
+      let entry = there_is place.entries k (omega (arith, lt, asks_many)) in
+      let pool = there_is place.pools k (omega (arith, lt, asks_many, pools_many)) in
+      let c = sharer first k entry.0 pool.0 in
+      let c_at : slice_get clients k ≡ Some c = sharer_there place k entry.0 pool.0 entry.1 pool.1 in
+      let a = begins_few _ _ (serves.gives k c c_at) in
+      let b = answers_few (partition_in scene.image c.entry) (m.taken c.req) (items_back c.pool (drop 1 (m.sent (first + 2))) (drop 1 (m.taken (first + 3)))) in
+      let d = taken_at k c c_at in
+      let e : length (m.sent c.resp) ≡ put (at 1 k) = ap (λ n. length (m.sent n)) (resp_is k) in
       let f = client_asks k said there in
       omega (arith, a, b, d, e, f)
 
@@ -177,7 +197,7 @@ module _ (scene : Scene) (hostile : Hostiles) (history : History) (rows : List Q
   by_asks i h =
       let each : (k : ℕ) (said : List Ask) → slice_get asks k ≡ Some said → put (at i (0 + k)) ≤ length said + 0 = λ k said there. let one = h k said there in let same : put (at i (0 + k)) ≡ put (at i k) = ap (λ n. put (at i n)) (let z : 0 + k ≡ k = omega arith in z) in omega (arith, one, same) in
       let a = below_list (λ k. put (at i k)) (λ (said : List Ask). length said) 0 0 asks each in
-      let size : all i ≡ sum_below (λ k. put (at i k)) (0 + count) = ap (sum_below (λ k. put (at i k))) (let z : count ≡ 0 + count = omega arith in z) in
+      let size : all i ≡ sum_below (λ k. put (at i k)) (0 + length asks) = ap (sum_below (λ k. put (at i k))) (let many = w.asks_many in let z : count ≡ 0 + length asks = omega (arith, many) in z) in
       let none = no_more asks in
       omega (arith, a, size, none)
     where
@@ -192,7 +212,7 @@ module _ (scene : Scene) (hostile : Hostiles) (history : History) (rows : List Q
       let b = length-map (drop 1 (m.sent (first + 2))) (numbered_item 0) in
       let d = drop_one (m.sent (first + 2)) in
       let e = all_few scene.image m (λ k. put (at 0 k)) 0 clients (λ k c there. let one = taken_at k c there in let same : put (at 0 (0 + k)) ≡ put (at 0 k) = ap (λ n. put (at 0 n)) (let z : 0 + k ≡ k = omega arith in z) in omega (arith, one, same)) in
-      let size : sum_below (λ k. put (at 0 k)) (0 + length clients) ≡ all 0 = ap (sum_below (λ k. put (at 0 k))) (let many = w.clients_many in omega (arith, many)) in
+      let size : sum_below (λ k. put (at 0 k)) (0 + length clients) ≡ all 0 = ap (sum_below (λ k. put (at 0 k))) (let many = sharers_long first 0 place.entries place.pools w.pools_many in omega (arith, many)) in
       omega (arith, a, b, d, e, size)
 
   parts : blk_put first count m ≡ put 0 + put 1 + put 2 + put 3 + (all 0 + all 1)

@@ -63,7 +63,7 @@ pairs_sum h u v (x ∷ xs) [] same each = absurd (omega (arith, same))
 pairs_sum h u v (x ∷ xs) (y ∷ ys) same each = omega (arith, sum_by-cons h x xs, sum_by-cons u y ys, sum_by-cons v y ys, each 0 x y refl refl, pairs_sum h u v xs ys (omega (arith, same)) (λ k a b p q. each (suc k) a b p q))
 
 -- a client has as many answers at most as requests
-fewer_answers : (part : Option Part) (xs back : List Item) → length (answer_items part xs back) ≤ length xs
+pub fewer_answers : (part : Option Part) (xs back : List Item) → length (answer_items part xs back) ≤ length xs
 fewer_answers part [] back = omega arith
 fewer_answers part (x ∷ xs) [] = go (goes_on_item part x) (fewer_answers part xs [])
   where
@@ -99,7 +99,7 @@ take_map g (suc n) [] = refl
 take_map g (suc n) (x ∷ xs) = ap (λ l. g x ∷ l) (take_map g n xs)
 
 -- a number aside, a request names what it named
-numbered_name : (ws : List Window) (i : Item) → kind_of i ≡ Kind.Req → buffer_of ws (numbered_item 0 i) ≡ buffer_of ws i
+pub numbered_name : (ws : List Window) (i : Item) → kind_of i ≡ Kind.Req → buffer_of ws (numbered_item 0 i) ≡ buffer_of ws i
 numbered_name ws (ItemOf.Req r) kind = refl
 numbered_name ws (ItemOf.Net d) kind = absurd cc
 numbered_name ws (ItemOf.Byte b) kind = absurd cc
@@ -175,7 +175,7 @@ module _ (f g : Item → ℕ) (base : ℕ) (part : Option Part) where
       (client_few xs (λ j y at. names (suc j) y at)) front rest back s (subst (IsPrefix (front ++ rest)) (map_if (item_for_disk base part) (goes_on_item part x) x (filter (goes_on_item part) xs)) begins) same
       (answer_items part (x ∷ xs) back) (λ y more is. ap (answer_items part (x ∷ xs)) is) (λ is. ap (answer_items part (x ∷ xs)) is) le
 
-module _ (naming : Naming) (scene : Scene) (req resp : ℕ) (pool : PoolAt) (clients : List Sharer) (names : NamesBlk naming (BlkVirt req resp pool clients)) (apart : ArePoolsApart pool clients) (m : Moved) (order : IsInOrder naming m) (row : ServesRequests scene.image req resp pool clients m) where
+module _ (naming : Naming) (scene : Scene) (req resp sectors : ℕ) (pool : PoolAt) (clients : List Sharer) (names : NamesBlk naming (BlkVirt req resp sectors pool clients)) (apart : ArePoolsApart pool clients) (m : Moved) (order : IsInOrder naming m) (row : ServesRequests scene.image req resp pool clients m) where
   abbrev ws : List Window
   ws = disk_windows pool clients
 
@@ -346,5 +346,5 @@ module _ (naming : Naming) (scene : Scene) (req resp : ℕ) (pool : PoolAt) (cli
   virt_all : Keeps (pool_hand pool) (all_taken naming m virt_ends) (all_put naming m virt_ends)
   virt_all = keeps_plain (pool_hand pool) (all_taken naming m virt_ends) (all_put naming m virt_ends) none_lent virt_buffers (λ b. (let none = none_leased b in omega (arith, none)))
 
-pub virt_keeps : (naming : Naming) (scene : Scene) (req resp : ℕ) (pool : PoolAt) (clients : List Sharer) → NamesBlk naming (BlkVirt req resp pool clients) → ArePoolsApart pool clients → PutsItsOwnInOrder naming (blk_sheet scene (BlkVirt req resp pool clients))
-virt_keeps naming scene req resp pool clients names apart m order ends_apart row = virt_all naming scene req resp pool clients names apart m order row
+pub virt_keeps : (naming : Naming) (scene : Scene) (req resp sectors : ℕ) (pool : PoolAt) (clients : List Sharer) → NamesBlk naming (BlkVirt req resp sectors pool clients) → ArePoolsApart pool clients → PutsItsOwnInOrder naming (blk_sheet scene (BlkVirt req resp sectors pool clients))
+virt_keeps naming scene req resp sectors pool clients names apart m order ends_apart row = virt_all naming scene req resp sectors pool clients names apart m order row

@@ -127,7 +127,7 @@ module _ (pool : PoolAt) (clients : List Sharer) (apart : ArePoolsApart pool cli
       go false h = absurd cc
 
   -- the virtualiser's own request names its own buffer
-  own_name : buffer_of ws (first_item pool) ≡ Some (record { pool = pool.number; no = 0 })
+  pub own_name : buffer_of ws (first_item pool) ≡ Some (record { pool = pool.number; no = 0 })
   own_name =
       let at : pool.base ≡ pool.base + 0 * 32768 = omega arith in
       let own = apart.own in

@@ -47,7 +47,7 @@ pub record NamesWays (naming : Naming) (ws : List Window) (ways : List Way) : Ty
 abbrev pub NamesBlk : Naming → BlkPart → Type 0
 NamesBlk naming (DiskDevice req resp image) = (ws : List Window) × NamesAsked naming ws req resp
 NamesBlk naming (BlkDriver ways) = (ws : List Window) × NamesWays naming ws ways
-NamesBlk naming (BlkVirt req resp pool clients) =
+NamesBlk naming (BlkVirt req resp sectors pool clients) =
     NamesAsked naming (disk_windows pool clients) req resp
     × ((k : ℕ) (c : Sharer) → slice_get clients k ≡ Some c
     → NamesAsked naming (offset_window c.pool ∷ []) c.req c.resp)

@@ -26,8 +26,8 @@ pub fn blk_own_law()
     ensures client { (naming : Naming) (scene : Scene) (req resp : ℕ) (asks : List Ask)
         (pool : PoolAt) → NamesBlk naming (BlkClient req resp asks pool)
         → PutsItsOwnInOrder naming (blk_sheet scene (BlkClient req resp asks pool)) }
-    ensures virtualiser { (naming : Naming) (scene : Scene) (req resp : ℕ) (pool : PoolAt)
-        (clients : List Sharer) → NamesBlk naming (BlkVirt req resp pool clients)
+    ensures virtualiser { (naming : Naming) (scene : Scene) (req resp sectors : ℕ) (pool : PoolAt)
+        (clients : List Sharer) → NamesBlk naming (BlkVirt req resp sectors pool clients)
         → ArePoolsApart pool clients
-        → PutsItsOwnInOrder naming (blk_sheet scene (BlkVirt req resp pool clients)) }
+        → PutsItsOwnInOrder naming (blk_sheet scene (BlkVirt req resp sectors pool clients)) }
 {}

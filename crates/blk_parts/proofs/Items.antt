@@ -44,9 +44,9 @@ answers_are : (image : List ℕ) (xs : List Cargo) → items_of (answers_to imag
 answers_are image [] = refl
 answers_are image (x ∷ xs) = ap₂ (λ i l. i ∷ l) (answer_is image x) (answers_are (done image x) xs)
 
-pub disk_row : (scene : Scene) (start : List ℕ) (d : DiskDevice) (passed : Passed) (m : Moved) → DiskInTurn d passed → AreItemsOf (blk_sheet scene (disk_part start d)).ends passed m → DiskRow start d passed → (blk_sheet scene (disk_part start d)).row m
+pub disk_row : (scene : Scene) (start : List ℕ) (d : DiskDevice) (passed : Passed) (m : Moved) → DiskInTurn start d passed → AreItemsOf (blk_sheet scene (disk_part start d)).ends passed m → DiskRow start d passed → (blk_sheet scene (disk_part start d)).row m
 disk_row scene start d passed m turn items row =
-    let all : passed.taken (req d) ≡ row.requests = row.taken ∙ (ap (λ l. row.requests ++ l) (turn.in_turn start row) ∙ append-nil row.requests) in
+    let all : passed.taken (req d) ≡ row.requests = row.taken ∙ (ap (λ l. row.requests ++ l) (turn.in_turn row) ∙ append-nil row.requests) in
     let said : IsPrefix (items_of (passed.sent (resp d))) (map answer_item (items_of row.requests)) = subst (IsPrefix (items_of (passed.sent (resp d)))) (answers_are start row.requests) (items_begin (passed.sent (resp d)) (answers_to start row.requests) row.answers) in
     subst (λ xs. IsPrefix xs (map answer_item (m.taken (req d)))) (sym (items 1 _ refl))
     (subst (λ ys. IsPrefix (items_of (passed.sent (resp d))) (map answer_item ys)) (ap items_of (sym all) ∙ sym (items 0 _ refl)) said)
@@ -81,7 +81,7 @@ requests_are id used hand buffers (a ∷ asks) (p ∷ pages) long numbered =
     by false bare rest = ap (λ l. request_for a id 0 ∷ l) bare
 
 -- a buffer keeps its number in a request
-number_kept : (code : Code) (bytes : List ℕ) (p : Paged) → (page_for code bytes p).no ≡ p.no
+pub number_kept : (code : Code) (bytes : List ℕ) (p : Paged) → (page_for code bytes p).no ≡ p.no
 number_kept Asked.Write bytes p = by (nat_le (length bytes) (length p.bytes))
   where
     by : (t : Bool) → (let q : Paged = cond t (record { pool = p.pool; no = p.no; bytes = replaced p.bytes 0 bytes }) p in q.no) ≡ p.no

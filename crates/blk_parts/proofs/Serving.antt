@@ -97,9 +97,9 @@ first_on pool (y ∷ ys) x lt h =
     let same : y ≡ first_item pool = cc in
     ([], append-nil (y ∷ (ys ++ x ∷ [])) ∙ ap (λ z. z ∷ (ys ++ x ∷ [])) same)
 
-module _ (scene : Scene) (req resp : ℕ) (pool : PoolAt) (clients : List Sharer) where
+module _ (scene : Scene) (req resp sectors : ℕ) (pool : PoolAt) (clients : List Sharer) where
   abbrev S : Sheet
-  S = blk_sheet scene (BlkVirt req resp pool clients)
+  S = blk_sheet scene (BlkVirt req resp sectors pool clients)
 
   abbrev image : List ℕ
   image = scene.image

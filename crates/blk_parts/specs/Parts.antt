@@ -14,10 +14,10 @@ pub record Sharer : Type 0 where
   pub pool : PoolAt
 
 -- an actor of the block class and its queues: a disk with its image at the start, a driver, a
--- virtualiser with the pool of its own buffer and its clients, and a client with what it asks and
--- its pool
+-- virtualiser of a disk of so many sectors with the pool of its own buffer and its clients, and a
+-- client with what it asks and its pool
 pub data BlkPart : Type 0 where
   DiskDevice : (req resp : ℕ) (image : List ℕ) → BlkPart
   BlkDriver : (ways : List Way) → BlkPart
-  BlkVirt : (req resp : ℕ) (pool : PoolAt) (clients : List Sharer) → BlkPart
+  BlkVirt : (req resp sectors : ℕ) (pool : PoolAt) (clients : List Sharer) → BlkPart
   BlkClient : (req resp : ℕ) (asks : List Ask) (pool : PoolAt) → BlkPart

@@ -43,7 +43,7 @@ sharers (h ∷ hs) (q ∷ from) (r ∷ to) =
 
 -- a virtualiser's part
 abbrev pub virt_part : BlkVirt → BlkPart
-virt_part v = VirtPart v.ends.output.queue.0 v.ends.input.queue.0
+virt_part v = VirtPart v.ends.output.queue.0 v.ends.input.queue.0 v.work.opening.disk_sectors
     (record {
       number = v.work.opening.own.pool.0;
       base = v.work.opening.base;
@@ -56,10 +56,10 @@ abbrev pub blk_client_part : BlkClient → BlkPart
 blk_client_part c = ClientPart (req_queue c) (resp_queue c) c.asking.script.items
     (record { number = c.asking.pool.0; base = 0; buffers = c.asking.buffers })
 
--- a disk took nothing out of turn
-pub record DiskInTurn (d : DiskDevice) (passed : Passed) : Type 0 where
+-- a disk with this image at the start took nothing out of turn
+pub record DiskInTurn (start : List ℕ) (d : DiskDevice) (passed : Passed) : Type 0 where
   pub free : d.stray ≡ None
-  pub in_turn : (start : List ℕ) (row : disk.DiskRow start d passed) → row.stray ≡ []
+  pub in_turn : (row : disk.DiskRow start d passed) → row.stray ≡ []
 
 -- a virtualiser of a disk with this image took nothing out of turn, and no more responses than it
 -- put requests, of which the first brought the image's first sector; each read and write came at a

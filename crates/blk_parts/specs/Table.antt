@@ -35,7 +35,7 @@ blk_sheet scene (DiskDevice req resp image) = record {
   hand = λ pool. [];
 }
 blk_sheet scene (BlkDriver ways) = net_sheet scene (NetDriver ways)
-blk_sheet scene (BlkVirt req resp pool clients) = record {
+blk_sheet scene (BlkVirt req resp sectors pool clients) = record {
   ends = intake resp ∷ outlet req ∷ flat_map sharer_ends clients;
   row = ServesRequests scene.image req resp pool clients;
   wants = λ m. intake_want resp true

@@ -33,7 +33,7 @@ pub fn table_law()
 /// brought the first sector of the scene's image.
 pub fn row_law()
     ensures disk { (scene : Scene) (start : List ℕ) (d : DiskDevice) (passed : Passed) (m : Moved)
-        → DiskInTurn d passed → AreItemsOf (blk_sheet scene (disk_part start d)).ends passed m
+        → DiskInTurn start d passed → AreItemsOf (blk_sheet scene (disk_part start d)).ends passed m
         → DiskRow start d passed → (blk_sheet scene (disk_part start d)).row m }
     ensures driver { (scene : Scene) (ps : List Pipe) (passed : Passed) (m : Moved)
         → AreItemsOf (blk_sheet scene (blk_driver_part ps)).ends passed m → PipesRow ps passed

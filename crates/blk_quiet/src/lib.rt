@@ -9,13 +9,14 @@ ghost use Rattle.play_core.specs.Moved.{moved};
 ghost use Rattle.play_core.specs.Sheets.{Scene};
 ghost use Rattle.play_core.specs.Still.{IsStill};
 ghost use Rattle.play_core.specs.Wants.{Needful};
-ghost use Rattle.blk_quiet.specs.Still.{BlkPlace, IsBlock, AnswersAll};
+ghost use Rattle.blk_parts.specs.Numbers.{BlkPlace};
+ghost use Rattle.blk_quiet.specs.Still.{IsBlock, AnswersAll};
 
 /// Where nobody is runnable, each client put all its requests and took a response to each.
 pub fn still_law()
     ensures { (hostile : Hostiles) (history : History) (rows : List QueueRow) (actors : Needful)
-        (journal : List Entry) (scene : Scene) (b : BlkPlace)
+        (journal : List Entry) (scene : Scene) (place : BlkPlace)
         → IsStill hostile history rows actors journal
-        → IsBlock hostile scene rows actors b (moved history journal)
-        → AnswersAll scene b (moved history journal) }
+        → IsBlock hostile scene rows actors place (moved history journal)
+        → AnswersAll scene place (moved history journal) }
 {}

@@ -44,7 +44,7 @@ own_from true true e m = refl
 own_from true false e m = cc
 own_from false own e m = cc
 
-queue_is : (qs : List QueueId) (k : ℕ) (q : QueueId) → slice_get qs k ≡ Some q → queue_at qs k ≡ q.0
+pub queue_is : (qs : List QueueId) (k : ℕ) (q : QueueId) → slice_get qs k ≡ Some q → queue_at qs k ≡ q.0
 queue_is [] k q at = cc
 queue_is (r ∷ qs) zero q at = ap (λ (x : QueueId). x.0) (some_is at)
 queue_is (r ∷ qs) (suc k) q at = queue_is qs k q at

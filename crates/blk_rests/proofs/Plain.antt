@@ -108,7 +108,7 @@ pages_long (a ∷ script) (x ∷ came) few each = by (needs_buffer a.code) (each
     by false first rest = let parts = length-append (page_in x.1) (pages_in came) in omega (arith, first, rest, parts)
 
 module _ (scene : Scene) (w : List Queue) (passed : Passed) (m : Moved) (h : HaveItems passed m) where
-  module _ (image : List ℕ) (d : DiskDevice) (turn : DiskInTurn d passed) (st : DiskStandsFor image d passed) where
+  module _ (image : List ℕ) (d : DiskDevice) (turn : DiskInTurn image d passed) (st : DiskStandsFor image d passed) where
     no_stray : d.stray ≡ None
     no_stray = turn.free
 

@@ -40,7 +40,7 @@ use Rattle.blk_rests.proofs.Opening.{free_is, owing_is, rent_needs, rent_loads}
 use Rattle.rest_law.specs.Showing.{HaveItems, HaveBells}
 use Rattle.rest_law.proofs.Settling.{all_here, both, settled_here}
 
-pub disk_rest : (scene : Scene) (history : History) (journal : List Entry) (world : List Queue) (passed : Passed) → HaveItems passed (moved history journal) → HaveBells world history journal → (image : List ℕ) (d : DiskDevice) → DiskInTurn d passed → FitsDisk (end_at world) d → DiskStandsFor image d passed
+pub disk_rest : (scene : Scene) (history : History) (journal : List Entry) (world : List Queue) (passed : Passed) → HaveItems passed (moved history journal) → HaveBells world history journal → (image : List ℕ) (d : DiskDevice) → DiskInTurn image d passed → FitsDisk (end_at world) d → DiskStandsFor image d passed
     → is_at_rest (disk_round d) ≡ all_settled history journal ((blk_sheet scene (disk_part image d)).wants (moved history journal))
 disk_rest scene history journal world passed items bells image d turn f st = all_here history journal world bells (disk_round d).posts (disk_round d).needs ((blk_sheet scene (disk_part image d)).wants (moved history journal)) (disk_meets scene world passed (moved history journal) items image d turn st f)
 

@@ -30,7 +30,7 @@ pub fn blk_rests_law()
     ensures disk { (scene : Scene) (history : History) (journal : List Entry) (world : List Queue)
         (passed : Passed) → HaveItems passed (moved history journal)
         → HaveBells world history journal
-        → (image : List ℕ) (d : DiskDevice) → DiskInTurn d passed
+        → (image : List ℕ) (d : DiskDevice) → DiskInTurn image d passed
         → FitsDisk (end_at world) d → DiskStandsFor image d passed
         → is_at_rest (disk_round d) ≡ all_settled history journal
         ((blk_sheet scene (disk_part image d)).wants (moved history journal)) }

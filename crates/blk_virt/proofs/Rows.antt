@@ -76,6 +76,7 @@ row_of v passed h =
     let d = h.stands.serves p.0 p.1 in
     record {
       start = h.start;
+      long = h.long;
       own = h.stands.is_start;
       back = h.back;
       stray = option_to_list v.work.stray;

@@ -115,10 +115,11 @@ module _ (es : List BlkEnds) (are : AreClients es) (w : Work) (page : Paged) (cl
   nothing_at pool [] = refl
   nothing_at pool (n ∷ ns) = nothing_at pool ns
 
-  pub new_virt : (i o : ℕ) (f t : List QueueId) → VirtStands i o f t w nothing_passed
-  new_virt i o f t = record {
+  pub new_virt : 4096 ≤ length page.bytes → (i o : ℕ) (f t : List QueueId) → VirtStands i o f t w nothing_passed
+  new_virt long i o f t = record {
     work = new_work;
     start = page;
+    long = long;
     back = [];
     taken = ap option_to_list (sym stray);
     stands = new_stands;

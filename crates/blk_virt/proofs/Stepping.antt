@@ -136,6 +136,7 @@ module _ (i o : ℕ) (f t : List QueueId) (w w' : Work) (same : SameWork w w') (
         by (inl r) = record {
           work = fits;
           start = h.start;
+          long = h.long;
           back = h.back ++ x ∷ [];
           taken = ap (λ (l : List Cargo). l ++ took i) all_back ∙ (ap (λ l. h.back ++ l) here ∙ (sym (append-nil (h.back ++ x ∷ [])) ∙ ap (λ (s : Option Cargo). (h.back ++ x ∷ []) ++ option_to_list s) (sym (r.0 ∙ free))));
           stands = as_work w' h.start (h.back ++ x ∷ []) (λ k. passed.taken (queue_at f k)) (λ k. passed.sent (queue_at t k)) (λ k. passed.taken (queue_at f k) ++ took (queue_at f k)) (λ k. passed.sent (queue_at t k) ++ put (queue_at t k)) (passed.sent o) (passed.sent o ++ put o) others (none_on passed.sent put o (puts o)) sents r.1;
@@ -145,6 +146,7 @@ module _ (i o : ℕ) (f t : List QueueId) (w w' : Work) (same : SameWork w w') (
         by (inr r) = record {
           work = fits;
           start = h.start;
+          long = h.long;
           back = h.back;
           taken = ap (λ (l : List Cargo). l ++ took i) all_back ∙ (ap (λ l. h.back ++ l) here ∙ ap (λ (v : Work). h.back ++ option_to_list v.stray) (sym r.1));
           stands = as_work w' h.start h.back (λ k. passed.taken (queue_at f k)) (λ k. passed.sent (queue_at t k)) (λ k. passed.taken (queue_at f k) ++ took (queue_at f k)) (λ k. passed.sent (queue_at t k) ++ put (queue_at t k)) (passed.sent o) (passed.sent o ++ put o) others (none_on passed.sent put o (puts o)) sents
@@ -161,6 +163,7 @@ module _ (i o : ℕ) (f t : List QueueId) (w w' : Work) (same : SameWork w w') (
     request_in k q at apart ne from_each stray takes stands = record {
       work = fits;
       start = h.start;
+      long = h.long;
       back = h.back;
       taken = none_on passed.taken took i (takes i ∙ beside q.0 i (x ∷ []) (λ e. ne (sym e))) ∙ (h.taken ∙ ap (λ (s : Option Cargo). h.back ++ option_to_list s) (sym stray));
       stands = as_work w' h.start h.back (with_more (λ j. passed.taken (queue_at f j)) k (x ∷ [])) (λ j. passed.sent (queue_at t j)) (λ j. passed.taken (queue_at f j) ++ took (queue_at f j)) (λ j. passed.sent (queue_at t j) ++ put (queue_at t j)) (passed.sent o) (passed.sent o ++ put o)
@@ -191,6 +194,7 @@ module _ (i o : ℕ) (f t : List QueueId) (w w' : Work) (same : SameWork w w') (
     driver_out apart to_each puts stands = record {
       work = fits;
       start = h.start;
+      long = h.long;
       back = h.back;
       taken = taken_still;
       stands = as_work w' h.start h.back (λ j. passed.taken (queue_at f j)) (λ j. passed.sent (queue_at t j)) (λ j. passed.taken (queue_at f j) ++ took (queue_at f j)) (λ j. passed.sent (queue_at t j) ++ put (queue_at t j)) (passed.sent o ++ p) (passed.sent o ++ put o)
@@ -206,6 +210,7 @@ module _ (i o : ℕ) (f t : List QueueId) (w w' : Work) (same : SameWork w w') (
     client_out k q at apart ne to_each puts stands = record {
       work = fits;
       start = h.start;
+      long = h.long;
       back = h.back;
       taken = taken_still;
       stands = as_work w' h.start h.back (λ j. passed.taken (queue_at f j)) (with_more (λ j. passed.sent (queue_at t j)) k p) (λ j. passed.taken (queue_at f j) ++ took (queue_at f j)) (λ j. passed.sent (queue_at t j) ++ put (queue_at t j)) (passed.sent o) (passed.sent o ++ put o)

@@ -38,12 +38,13 @@ pub record FitsBlkVirt (ends : Role → ℕ → End) (v : BlkVirt) : Type 0 wher
   pub to_each : length (to_queues v.ends) ≡ length (holders v.work.desk)
 
 -- what it took of responses is what came in turn and at most one, which came last and out of turn;
--- it stands for what came in turn and what it put; and what it had at the start and what came is
--- what went and what is in its hand
+-- it stands for what came in turn and what it put; its own buffer has room for a block; and what it
+-- had at the start and what came is what went and what is in its hand
 pub record VirtStands (input output : ℕ) (from_clients to_clients : List QueueId) (w : Work)
     (passed : Passed) : Type 0 where
   pub work : IsWork w
   pub start : Paged
+  pub long : 4096 ≤ length start.bytes
   pub back : List Cargo
   pub taken : passed.taken input ≡ back ++ option_to_list w.stray
   pub stands : WorkStands w start back (λ k. passed.taken (queue_at from_clients k))
@@ -59,12 +60,13 @@ BlkVirtStandsFor v passed = VirtStands v.ends.input.queue.0 v.ends.output.queue.
     (from_queues v.ends) (to_queues v.ends) v.work passed
 
 -- of the responses that it took in turn, which are all but one that came last: the first entry that
--- it put reads block 0 with its own buffer, and entry j has the number j, modulo 2^32; each other is
+-- it put reads block 0 with its own buffer, which has room for it, and entry j has the number j, modulo 2^32; each other is
 -- at some client's buffer; it serves each client by its partition, which the sector of the first
 -- response tells; nothing is taken from a client before that came; and of each client it counts the
 -- requests whose buffer isn't the client's own
 pub record BlkVirtRow (v : BlkVirt) (passed : Passed) : Type 0 where
   pub start : Paged
+  pub long : 4096 ≤ length start.bytes
   pub own : v.work.opening.own ≡ record { pool = start.pool; no = start.no }
   pub back : List Cargo
   pub stray : List Cargo

@@ -1,5 +1,5 @@
 //! The block virtualiser itself: the ends that it steps, and whose turn it is.
-ghost use Rattle.std.specs.Prelude.{◌≡◌, ◌+◌, ◌-◌, ◌<◌, ◌^◌, ℕ, IfOk, is_none, length, map, false};
+ghost use Rattle.std.specs.Prelude.{◌≡◌, ◌+◌, ◌-◌, ◌<◌, ◌≤◌, ◌^◌, ℕ, IfOk, is_none, length, map, false};
 ghost use Rattle.cargo_core.specs.Bodies.{buffers_of};
 ghost use Rattle.turn_kit.specs.Hands.{bodies_of};
 ghost use Rattle.wire_core.specs.Ends.{role_of, Role, End};
@@ -92,8 +92,8 @@ fn clients_of(alloc: Global, clients: &[BlkEnds]) -> Result<Vec<Client>, Memory>
 
 impl BlkVirt {
     /// A virtualiser in its start state. Requests go to `req`, and responses come at `resp`; the
-    /// page is its own buffer, which begins at the device address `base`. It takes the memory for
-    /// one request of each client at the driver.
+    /// page is its own buffer, which has room for a block and begins at the device address `base`. It
+    /// takes the memory for one request of each client at the driver.
     pub fn new(
         alloc: Global,
         req: QueueId,
@@ -103,7 +103,8 @@ impl BlkVirt {
         base: u64,
         disk_sectors: u32,
     ) -> Result<BlkVirt, Memory>
-        requires { AreClients clients.items }
+        requires clients { AreClients clients.items }
+        requires own { 4096 ≤ length page.bytes }
         ensures new { IfOk result (λ v. IsNewBlkVirt req resp clients.items page base
             disk_sectors v) }
         ensures work { IfOk result (λ v. IsWork v.work) }

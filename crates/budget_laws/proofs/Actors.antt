@@ -17,6 +17,7 @@ use Rattle.sdf_check.specs.Valid.{Valid}
 use Rattle.sdf_check.proofs.ListLemmas.{get-either}
 use Rattle.sdf_check.proofs.NamedLemmas.{named-none}
 use Rattle.sdf_check.proofs.SoughtLemmas.{here-some}
+use Rattle.sdf_check.proofs.ClassLemmas.{domains_same}
 use Rattle.region_layout.specs.Rows.{acts, one_if, acting_count, actor_named, actors_of, devices_of}
 use Rattle.region_layout.proofs.NameLemmas.{acting_and_devices}
 use Rattle.region_layout.proofs.WalkLemmas.{kept, domain_walked}
@@ -133,4 +134,5 @@ module _ (plan : Plan) (valid : Valid plan) where
       let all = acting_and_devices plan in
       let one = length-append (net_names net_domains net_client_domains plan ++ serial_names serial_domains serial_client_domains plan) (blk_names blk_domains blk_client_domains plan) in
       let two = length-append (net_names net_domains net_client_domains plan) (serial_names serial_domains serial_client_domains plan) in
-      omega (arith, net, serial, blk, all, one, two, acting_is)
+      let named = ap length (domains_same plan) in
+      omega (arith, net, serial, blk, all, one, two, named, acting_is)

@@ -13,7 +13,9 @@ use Rattle.trace_text.specs.declared.trace.Trace.{Trace}
 use Rattle.sdf_check.specs.Names.{net_domains, net_client_domains, serial_domains, serial_client_domains, blk_domains, blk_client_domains}
 use Rattle.sdf_check.specs.ClassRules.{class_domains, net_names, serial_names, blk_names}
 use Rattle.sdf_check.specs.Valid.{Valid}
+use Rattle.sdf_check.proofs.ClassLemmas.{domains_same}
 use Rattle.region_layout.specs.Rows.{one_if, acting_count, actors_of, eth_number, uart_number, disk_number, net_queues, serial_queues, blk_queues, queues_of}
+use Rattle.region_layout.proofs.SameLemmas.{queues_same}
 use Rattle.region_layout.proofs.NameLemmas.{acting_and_devices}
 use Rattle.expect_core.specs.Budgets.{counts_of, most_ends}
 use Rattle.expect_core.specs.Budgets as Counted
@@ -79,8 +81,8 @@ module _ (plan : Plan) (valid : Valid plan) where
   blk_all k (Some x) = let e = blk_ends plan k x in omega (arith, e)
 
   all_ends : (k : ℕ) → ends_of k (queues_of plan) ≡ weight k whole
-  unfolding queues_of
   all_ends k =
+      let same = ap (ends_of k) (queues_same plan) in
       let rows = ends_both k (option_map_or (net_queues plan) plan.net [] ++ option_map_or (serial_queues plan) plan.serial []) (option_map_or (blk_queues plan) plan.blk []) in
       let first = ends_both k (option_map_or (net_queues plan) plan.net []) (option_map_or (serial_queues plan) plan.serial []) in
       let all = weight_both k domains devices in
@@ -91,7 +93,7 @@ module _ (plan : Plan) (valid : Valid plan) where
       let n = net_all k plan.net in
       let s = serial_all k plan.serial in
       let b = blk_all k plan.blk in
-      omega (arith, rows, first, all, d2, d1, v2, v1, n, s, b)
+      omega (arith, same, rows, first, all, d2, d1, v2, v1, n, s, b)
 
   -- the numbers of the domains are those of the names that the classes have
   net_flat : (cs : List NetClient) → numbers (flat_map (net_client_weights plan) cs) ≡ map (num plan) (flat_map net_client_domains cs)
@@ -135,7 +137,7 @@ module _ (plan : Plan) (valid : Valid plan) where
       ∙ (ap (λ ns. map (num plan) net_part ++ ns ++ numbers (of_blk plan.blk)) (serial_numbers plan.serial)
       ∙ (ap (λ ns. map (num plan) net_part ++ map (num plan) serial_part ++ ns) (blk_numbers plan.blk)
       ∙ (ap (λ ns. ns ++ map (num plan) blk_part) (sym (map-append (num plan) net_part serial_part))
-      ∙ sym (map-append (num plan) (net_part ++ serial_part) blk_part))))))
+      ∙ (sym (map-append (num plan) (net_part ++ serial_part) blk_part) ∙ ap (map (num plan)) (sym (domains_same plan))))))))
 
   actor : (i : ℕ) (a : List ℕ) → slice_get (class_domains plan) i ≡ Some a → IsActor plan a
   actor i a at = all-at (IsActor plan) (class_domains plan) (class_acts plan valid) i a at

@@ -1,3 +1,4 @@
 pub mod Sources
 pub mod Networks
+pub mod Blocks
 pub mod Bounds

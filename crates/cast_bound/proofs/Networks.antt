@@ -22,10 +22,10 @@ use Rattle.actor_set.specs.Parts.{Part}
 use Rattle.actor_law.specs.Kinds.{sheet, scene_of, hostiles}
 use Rattle.actor_law.proofs.Calm.{calm_actor, calm_row}
 use Rattle.wired_law.specs.Wiring.{HasPart, HasWhole}
-use Rattle.cast_core.specs.Sources.{pool_at}
+use Rattle.cast_core.specs.Sources.{pool_at, first_blk_pool}
 use Rattle.cast_core.specs.Casts.{client_pools, net_place, scene_for}
 use Rattle.cast_core.proofs.Listing.{value_is}
-use Rattle.cast_core.proofs.Rooms.{pools_apart}
+use Rattle.cast_core.proofs.Rooms.{pools_apart, net_size}
 use Rattle.net_hops.specs.Hops.{net_put, net_moves, AreApart, IsNetwork}
 use Rattle.net_hops.proofs.Moves.{net_moved}
 use Rattle.play_bound.specs.Standing.{NetMoves, without_net, with_net}
@@ -37,10 +37,10 @@ in_bounds p item h =
     let parts = and_parts (nat_le p.base (addr_of item)) (nat_lt (addr_of item) (p.base + p.buffers * 2048)) h in
     (leb-true p.base (addr_of item) parts.0, ltb-true (addr_of item) (p.base + p.buffers * 2048) parts.1)
 
-module _ (plan : Plan) (valid : Valid plan) (none : plan.blk ≡ None) where
-  -- two pools by their numbers, of which the first is lower
-  lower : (j k : ℕ) → j < k → AreApart (pool_at (pools_of plan) j) (pool_at (pools_of plan) k)
-  lower j k less item here there = by (slice_get (pools_of plan) j) refl (slice_get (pools_of plan) k) refl
+module _ (plan : Plan) (valid : Valid plan) where
+  -- two pools of the network by their numbers, of which the first is lower
+  lower : (j k : ℕ) → j < k → k < first_blk_pool plan → AreApart (pool_at (pools_of plan) j) (pool_at (pools_of plan) k)
+  lower j k less below item here there = by (slice_get (pools_of plan) j) refl (slice_get (pools_of plan) k) refl
     where
       by : (one : Option PoolRow) → slice_get (pools_of plan) j ≡ one → (other : Option PoolRow) → slice_get (pools_of plan) k ≡ other → ⊥
       by None first other second =
@@ -66,25 +66,36 @@ module _ (plan : Plan) (valid : Valid plan) (none : plan.blk ≡ None) where
           let to = a.1 in
           let other_from = b.0 in
           let other_to = b.1 in
-          pools_apart plan valid none j k one other less first second (addr_of item) (omega (arith, base, from)) (omega (arith, base, size, to)) (omega (arith, other_base, other_from)) (omega (arith, other_base, other_size, other_to))
+          let sized : one.size ≡ 2048 = net_size plan j one (omega (arith, less, below)) first in
+          let other_sized : other.size ≡ 2048 = net_size plan k other below second in
+          let end : addr_of item < one.base + one.size * one.buffers = rw sized (omega (arith, base, size, to)) in
+          let other_end : addr_of item < other.base + other.size * other.buffers = rw other_sized (omega (arith, other_base, other_size, other_to)) in
+          pools_apart plan valid j k one other less first second (addr_of item) (omega (arith, base, from)) end (omega (arith, other_base, other_from)) other_end
 
-  apart_at : (j k : ℕ) → j ≢ k → AreApart (pool_at (pools_of plan) j) (pool_at (pools_of plan) k)
-  apart_at j k off = by (cases_lt j k)
+  apart_at : (j k : ℕ) → j < first_blk_pool plan → k < first_blk_pool plan → j ≢ k → AreApart (pool_at (pools_of plan) j) (pool_at (pools_of plan) k)
+  apart_at j k low high off = by (cases_lt j k)
     where
       by : (j < k) ⊎ (k ≤ j) → AreApart (pool_at (pools_of plan) j) (pool_at (pools_of plan) k)
-      by (inl less) = lower j k less
+      by (inl less) = lower j k less high
       by (inr more) = by_other (cases_lt k j)
         where
           by_other : (k < j) ⊎ (j ≤ k) → AreApart (pool_at (pools_of plan) j) (pool_at (pools_of plan) k)
-          by_other (inl less) = λ item here there. lower k j less item there here
+          by_other (inl less) = λ item here there. lower k j less low item there here
           by_other (inr same) = absurd (off (omega (arith, more, same)))
 
-module _ (plan : Plan) (trace : Trace) (cast : List Part) (history : History) (journal : List Entry) (valid : Valid plan) (none : plan.blk ≡ None) (w : HasWhole (queues_of plan) (net_place plan trace) cast) (rows : RowsHold (sheet (scene_of cast)) (hostiles cast) cast (moved history journal)) where
+module _ (plan : Plan) (trace : Trace) (cast : List Part) (history : History) (journal : List Entry) (valid : Valid plan) (net : Net) (is : plan.net ≡ Some net) (w : HasWhole (queues_of plan) (net_place plan trace) cast) (rows : RowsHold (sheet (scene_of cast)) (hostiles cast) cast (moved history journal)) where
   abbrev place : NetPlace
   place = net_place plan trace
 
   row_of : (p : Part) → HasPart cast p → (sheet (scene_of cast) p).row (moved history journal)
   row_of p there = rows there.0 p (calm_actor cast there.0) there.1
+
+  -- the pool that a client sends in is one of the network
+  sends_below : (k : ℕ) → k < length (net_clients plan) → 2 + 2 * k < first_blk_pool plan
+  sends_below k lt =
+      let many : length (net_clients plan) ≡ length net.client = ap (λ (o : Option Net). length (option_map_or (λ (n : Net). n.client) o [])) is in
+      let pools : first_blk_pool plan ≡ 1 + 2 * length net.client = ap (λ (o : Option Net). option_map_or (λ (n : Net). 1 + 2 * length n.client) o 0) is in
+      omega (arith, lt, many, pools)
 
   is_network : IsNetwork (scene_of cast) (hostiles cast) (queues_of plan) (moved history journal) place
   is_network = record {
@@ -100,16 +111,16 @@ module _ (plan : Plan) (trace : Trace) (cast : List Part) (history : History) (j
     apart = λ j k p q first second off.
         let a = value_is (length (net_clients plan)) (client_pools plan) j p first in
         let b = value_is (length (net_clients plan)) (client_pools plan) k q second in
-        subst (λ (z : ClientPools × ClientPools). AreApart z.0.tx z.1.tx) (λ i. (sym a.1 i, sym b.1 i)) (apart_at plan valid none (2 + 2 * j) (2 + 2 * k) (λ e. off (omega (arith, e))));
+        subst (λ (z : ClientPools × ClientPools). AreApart z.0.tx z.1.tx) (λ i. (sym a.1 i, sym b.1 i)) (apart_at plan valid (2 + 2 * j) (2 + 2 * k) (sends_below j a.0) (sends_below k b.0) (λ e. off (omega (arith, e))));
   }
 
-pub net_within : (plan : Plan) (trace : Trace) (cast : List Part) (history : History) (journal : List Entry) → Valid plan → plan.blk ≡ None → ((net : Net) → plan.net ≡ Some net → HasWhole (queues_of plan) (net_place plan trace) cast) → scene_of cast ≡ scene_for plan trace
+pub net_within : (plan : Plan) (trace : Trace) (cast : List Part) (history : History) (journal : List Entry) → Valid plan → ((net : Net) → plan.net ≡ Some net → HasWhole (queues_of plan) (net_place plan trace) cast) → scene_of cast ≡ scene_for plan trace
     → QueuesFlow (hostiles cast) history (queues_of plan) journal → RowsHold (sheet (scene_of cast)) (hostiles cast) cast (moved history journal) → NetMoves plan trace (moved history journal)
-net_within plan trace cast history journal valid none whole scene flows rows = by plan.net refl
+net_within plan trace cast history journal valid whole scene flows rows = by plan.net refl
   where
     by : (o : Option Net) → plan.net ≡ o → NetMoves plan trace (moved history journal)
     by None is = without_net is
     by (Some net) is =
         let frames : (scene_of cast).frames ≡ trace.frames = ap (λ (s : Scene). s.frames) scene ∙ ap (λ (n : Option Net). option_map_or (λ (x : Net). trace.frames) n []) is in
-        let few = net_moved (scene_of cast) (hostiles cast) history (queues_of plan) journal (net_place plan trace) flows (is_network plan trace cast history journal valid none (whole net is) rows) in
+        let few = net_moved (scene_of cast) (hostiles cast) history (queues_of plan) journal (net_place plan trace) flows (is_network plan trace cast history journal valid net is (whole net is) rows) in
         with_net net (net_place plan trace) is (place_is plan net is trace) (subst (λ fs. net_put 0 (length (net_place plan trace).macs) (moved history journal) ≤ net_moves (net_place plan trace) fs) frames few)

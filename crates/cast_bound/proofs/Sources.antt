@@ -10,6 +10,7 @@ use Rattle.trace_text.specs.declared.trace.Trace.{Trace}
 use Rattle.trace_text.specs.Events.{net_clients}
 use Rattle.trace_text.specs.Traces.{per_client}
 use Rattle.region_layout.specs.Rows.{pools_of, net_pools, blk_pools, net_client_pools, pool_in, each_client}
+use Rattle.region_layout.proofs.SameLemmas.{pools_same}
 use Rattle.net_client.specs.Programs.{program_with}
 use Rattle.net_client.specs.declared.program.NetProgram.{NetProgram}
 use Rattle.net_client.specs.declared.program.NetProgram.TheVariants as Programs
@@ -66,8 +67,7 @@ module _ (plan : Plan) (net : Net) (is : plan.net ≡ Some net) where
 
   -- the pools of a plan with a network
   rows_are : pools_of plan ≡ net_pools plan net ++ behind
-  unfolding pools_of
-  rows_are = ap (λ (n : Option Net). option_map_or (net_pools plan) n [] ++ behind) is
+  rows_are = pools_same plan ∙ ap (λ (n : Option Net). option_map_or (net_pools plan) n [] ++ behind) is
 
   device_pool : (pool_at (pools_of plan) 0).buffers ≡ net.rx_buffers
   unfolding net_pools pool_in

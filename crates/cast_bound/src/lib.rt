@@ -2,7 +2,7 @@
 //! trace put to its queues is what the budget counts for them.
 #![tactic(auto)]
 
-ghost use Rattle.std.specs.Prelude.{◌≡◌, ◌<◌, ◌≤◌, None, Some, List, [], length};
+ghost use Rattle.std.specs.Prelude.{◌≡◌, ◌<◌, Some, List, [], length};
 ghost use Rattle.wire_core.specs.declared.names.Entry.{Entry};
 ghost use Rattle.wire_core.specs.Journal.{History, LegalJournal, BellsHold, QueuesFlow};
 ghost use Rattle.wire_core.specs.Marks.{no_drops, Brisk};
@@ -11,6 +11,7 @@ ghost use Rattle.play_core.specs.Sheets.{RowsHold};
 ghost use Rattle.play_core.specs.Still.{IsPeopled};
 ghost use Rattle.sdf_plan.specs.declared.plan.Plan.{Plan};
 ghost use Rattle.sdf_plan.specs.declared.plan.Net.{Net};
+ghost use Rattle.sdf_plan.specs.declared.plan.Blk.{Blk};
 ghost use Rattle.sdf_plan.specs.declared.plan.Serial.{Serial};
 ghost use Rattle.sdf_check.specs.Valid.{Valid};
 ghost use Rattle.trace_text.specs.declared.trace.Trace.{Trace};
@@ -20,8 +21,8 @@ ghost use Rattle.serial_law.specs.Serial.{SerialClass, IsSerial};
 ghost use Rattle.serial_law.specs.Table.{serial_sheet};
 ghost use Rattle.actor_set.specs.Parts.{Part};
 ghost use Rattle.actor_law.specs.Kinds.{sheet, scene_of, hostiles};
-ghost use Rattle.wired_law.specs.Wiring.{HasWhole};
-ghost use Rattle.cast_core.specs.Casts.{net_place, scene_for};
+ghost use Rattle.wired_law.specs.Wiring.{HasWhole, HasBlk};
+ghost use Rattle.cast_core.specs.Casts.{net_place, blk_place, scene_for};
 ghost use Rattle.play_bound.specs.Standing.{StandsFrom, Carries, serial_first, NetMoves, SerialMoves, BlkMoves};
 
 /// Where the rows of a plan's actors hold and its queues hand over in order, each class puts no
@@ -29,13 +30,18 @@ ghost use Rattle.play_bound.specs.Standing.{StandsFrom, Carries, serial_first, N
 /// shorter than the budget of plan and trace.
 pub fn cast_bound_law()
     ensures network { (plan : Plan) (trace : Trace) (cast : List Part) (history : History)
-        (journal : List Entry) → Valid plan → plan.blk ≡ None
-        → ((net : Net) → plan.net ≡ Some net
+        (journal : List Entry) → Valid plan → ((net : Net) → plan.net ≡ Some net
         → HasWhole (queues_of plan) (net_place plan trace) cast)
         → scene_of cast ≡ scene_for plan trace
         → QueuesFlow (hostiles cast) history (queues_of plan) journal
         → RowsHold (sheet (scene_of cast)) (hostiles cast) cast (moved history journal)
         → NetMoves plan trace (moved history journal) }
+    ensures block { (plan : Plan) (trace : Trace) (cast : List Part) (history : History)
+        (journal : List Entry) → Valid plan → ((blk : Blk) → plan.blk ≡ Some blk
+        → HasBlk (queues_of plan) (blk_place plan trace) cast)
+        → QueuesFlow (hostiles cast) history (queues_of plan) journal
+        → RowsHold (sheet (scene_of cast)) (hostiles cast) cast (moved history journal)
+        → BlkMoves plan trace (moved history journal) }
     ensures serial { (plan : Plan) (trace : Trace) (cast : List Part) (history : History)
         (journal : List Entry) → QueuesFlow (hostiles cast) history (queues_of plan) journal
         → ((serial : Serial) → plan.serial ≡ Some serial → (class : SerialClass)

@@ -10,7 +10,9 @@ use Rattle.play_core.proofs.Lists.{some_is}
 use Rattle.cast_core.specs.Casts.{IsCast}
 use Rattle.cast_core.specs.declared.jobs.NetJob.{NetJob}
 use Rattle.cast_core.specs.declared.jobs.NetJob.TheVariants as OfNet
-use Rattle.cast_core.specs.Known.{IsOwner, IsNoNetClient, HasNetJob, HasNoNetJob}
+use Rattle.cast_core.specs.declared.jobs.SerialJob.{SerialJob}
+use Rattle.cast_core.specs.declared.jobs.SerialJob.TheVariants as OfSerial
+use Rattle.cast_core.specs.Known.{IsOwner, IsNoNetClient, HasNetJob, HasNoNetJob, IsNoSerialClient, HasSerialJob, HasNoSerialJob}
 
 -- so many of a plan's actors
 pub record AreFirst (plan : Plan) (trace : Trace) (count : ℕ) (actors : List Actor) : Type 0 where
@@ -50,9 +52,12 @@ differs_at rows n m actor row e there differs o =
     let same : o.0 ≡ row = some_is (sym o.1 ∙ (ap (slice_get rows) e ∙ there)) in
     differs (ap (λ (r : QueueRow). r.consumer.0) (sym same) ∙ o.2)
 
+produces_not : (rows : List QueueRow) (n actor : ℕ) (row : QueueRow) → slice_get rows n ≡ Some row → (row.producer.0 ≡ actor → ⊥) → IsOwner rows n Producer actor → ⊥
+produces_not rows n actor row there differs o = let same : o.0 ≡ row = some_is (sym o.1 ∙ there) in differs (ap (λ (r : QueueRow). r.producer.0) (sym same) ∙ o.2)
+
 -- one serial client more at whose queue the actor doesn't take
-pub none_yet : (rows : List QueueRow) (first k actor n : ℕ) (row : QueueRow) → ((j : ℕ) → j < k → IsOwner rows (first + 4 + 2 * j) Consumer actor → ⊥) → n ≡ first + 4 + 2 * k → slice_get rows n ≡ Some row → (row.consumer.0 ≡ actor → ⊥)
-    → (j : ℕ) → j < k + 1 → IsOwner rows (first + 4 + 2 * j) Consumer actor → ⊥
+pub none_yet : (rows : List QueueRow) (first k actor n : ℕ) (row : QueueRow) → IsNoSerialClient rows first k actor → n ≡ first + 4 + 2 * k → slice_get rows n ≡ Some row → (row.consumer.0 ≡ actor → ⊥)
+    → IsNoSerialClient rows first (k + 1) actor
 none_yet rows first k actor n row before is there differs j lt o = elim (cases_lt j k) [
   | inl less ↦ before j less o
   | inr more ↦ differs_at rows n (first + 4 + 2 * j) actor row (omega (arith, lt, more, is)) there differs o
@@ -69,8 +74,27 @@ no_client_yet rows k actor n m row other before is there differs is_other there_
   )
 ]
 
-produces_not : (rows : List QueueRow) (n actor : ℕ) (row : QueueRow) → slice_get rows n ≡ Some row → (row.producer.0 ≡ actor → ⊥) → IsOwner rows n Producer actor → ⊥
-produces_not rows n actor row there differs o = let same : o.0 ≡ row = some_is (sym o.1 ∙ there) in differs (ap (λ (r : QueueRow). r.producer.0) (sym same) ∙ o.2)
+-- one block client more whose requests the actor doesn't put
+pub no_asker_yet : (rows : List QueueRow) (first k actor n : ℕ) (row : QueueRow) → ((j : ℕ) → j < k → IsOwner rows (first + 4 + 2 * j) Producer actor → ⊥) → n ≡ first + 4 + 2 * k → slice_get rows n ≡ Some row → (row.producer.0 ≡ actor → ⊥)
+    → (j : ℕ) → j < k + 1 → IsOwner rows (first + 4 + 2 * j) Producer actor → ⊥
+no_asker_yet rows first k actor n row before is there differs j lt o = elim (cases_lt j k) [
+  | inl less ↦ before j less o
+  | inr more ↦ let e : first + 4 + 2 * j ≡ n = omega (arith, lt, more, is) in produces_not rows n actor row there differs (subst (λ m. IsOwner rows m Producer actor) e o)
+]
+
+-- an actor that is none of the serial class's first and no client has no job there
+pub no_serial_job : (rows : List QueueRow) (first clients actor : ℕ) (a b c d : QueueRow) → slice_get rows first ≡ Some a → slice_get rows first ≡ Some b → slice_get rows (first + 2) ≡ Some c → slice_get rows (first + 3) ≡ Some d
+    → (a.producer.0 ≡ actor → ⊥) → (b.consumer.0 ≡ actor → ⊥) → (c.consumer.0 ≡ actor → ⊥) → (d.producer.0 ≡ actor → ⊥) → IsNoSerialClient rows first clients actor → HasNoSerialJob rows first clients actor
+no_serial_job rows first clients actor a b c d at_a at_b at_c at_d no_a no_b no_c no_d none OfSerial.Device h = produces_not rows first actor a at_a no_a h.1
+no_serial_job rows first clients actor a b c d at_a at_b at_c at_d no_a no_b no_c no_d none OfSerial.Driver h = differs_at rows first first actor b refl at_b no_b h.1
+no_serial_job rows first clients actor a b c d at_a at_b at_c at_d no_a no_b no_c no_d none OfSerial.Receiver h = differs_at rows (first + 2) (first + 2) actor c refl at_c no_c h.1
+no_serial_job rows first clients actor a b c d at_a at_b at_c at_d no_a no_b no_c no_d none OfSerial.Sender h = produces_not rows (first + 3) actor d at_d no_d h.1
+no_serial_job rows first clients actor a b c d at_a at_b at_c at_d no_a no_b no_c no_d none (OfSerial.Client k) h = none k h.0 h.1
+
+pub where_no_serial : (rows : List QueueRow) (first clients actor : ℕ) (o : Option SerialJob) → (IsNoSerialClient rows first clients actor → HasNoSerialJob rows first clients actor) → MatchOption o (IsNoSerialClient rows first clients actor) (HasSerialJob rows first clients actor)
+    → MatchOption o (HasNoSerialJob rows first clients actor) (HasSerialJob rows first clients actor)
+where_no_serial rows first clients actor None f h = f h
+where_no_serial rows first clients actor (Some x) f h = h
 
 -- an actor that is none of the class's first and no client has no job there
 pub no_job : (rows : List QueueRow) (clients actor : ℕ) (a b c d : QueueRow) → slice_get rows (0) ≡ Some a → slice_get rows (0) ≡ Some b → slice_get rows (4) ≡ Some c → slice_get rows (6) ≡ Some d

@@ -1,32 +1,43 @@
 -- What the actors' making asks, of a valid plan and a trace that was read for it.
-use Rattle.std.proofs.Common.{◌≡◌, ◌+◌, ◌*◌, ◌<◌, ◌≤◌, ◌^◌, ℕ, Option, Some, None, List, [], ◌∷◌, length, Result, Ok, Err, IfOk, refl, ap, arith}
-use Rattle.std.specs.List.{All}
+use Rattle.std.proofs.Common.{◌≡◌, ◌+◌, ◌*◌, ◌<◌, ◌≤◌, ◌^◌, ◌⊎◌, inl, inr, ℕ, zero, suc, Option, Some, None, MatchOption, IsSomeAnd, map, List, [], ◌∷◌, length, slice_get, Result, Ok, Err, IfOk, refl, subst, ap, arith, ◌∙◌}
+use Rattle.std.specs.List.{All, sum_by}
+use Rattle.std.proofs.lemmas.Bool.{cases_lt}
+use Rattle.std.proofs.lemmas.List.Sums.{sum_by-cons}
+use Rattle.cargo_core.specs.declared.item.Ask.{Ask}
 use Rattle.std.specs.Option.{option_map_or}
 use Rattle.std.proofs.lemmas.List.Elements.{All-nil, All-cons, All-head, All-tail}
 use Rattle.cargo_core.specs.declared.memory.Memory.{Memory}
 use Rattle.sdf_plan.specs.declared.plan.Plan.{Plan}
 use Rattle.sdf_plan.specs.declared.plan.Net.{Net}
+use Rattle.sdf_plan.specs.declared.place.Place.TheVariants as At
 use Rattle.sdf_plan.specs.declared.plan.Serial.{Serial}
+use Rattle.sdf_plan.specs.declared.plan.Blk.{Blk}
+use Rattle.sdf_plan.specs.declared.plan.BlkClient.{BlkClient}
+use Rattle.sdf_check.specs.Names.{StandsBefore}
+use Rattle.sdf_check.proofs.SoughtLemmas.{here-some}
 use Rattle.sdf_check.specs.Valid.{Valid}
 use Rattle.region_layout.specs.Layouts.{layout_of}
 use Rattle.region_layout.specs.Rows.{actors_of, queues_of, pools_of}
 use Rattle.region_layout.specs.declared.layout.Layout.{Layout}
 use Rattle.region_layout.proofs.NameLemmas.{few_actors}
-use Rattle.region_layout.proofs.ValidLemmas.{net_counts, serial_counts, small_numbers}
-use Rattle.layout_laws.proofs.Lists.{all-at}
+use Rattle.region_layout.proofs.ValidLemmas.{net_counts, serial_counts, blk_counts, small_numbers}
+use Rattle.region_layout.proofs.WalkLemmas.{kept, blk_client_walked}
+use Rattle.layout_laws.proofs.Lists.{all-at, there_is}
+use Rattle.play_core.proofs.Lists.{some_is}
 use Rattle.trace_text.specs.declared.trace.Trace.{Trace}
-use Rattle.trace_text.specs.Events.{net_clients, serial_clients}
+use Rattle.trace_text.specs.Events.{net_clients, serial_clients, blk_clients}
 use Rattle.trace_text.specs.Traces.{IsReadFor}
-use Rattle.trace_text.specs.Shapes.{IsFrame}
+use Rattle.trace_text.specs.Shapes.{IsFrame, IsDisk}
 use Rattle.trace_text.proofs.Limits.{limits_kept}
 use Rattle.trace_text.proofs.Shapes.{shapes-read}
 use Rattle.job_law.specs.Jobs.{Job, HasJob}
 use Rattle.actor_set.specs.Actors.{part_of}
 use Rattle.actor_set.specs.StartStates.{IsNew}
 use Rattle.actor_set.specs.declared.actor.Actor.{Actor}
-use Rattle.cast_core.specs.Sources.{first_serial}
+use Rattle.expect_core.proofs.Replying.{few_asks}
+use Rattle.cast_core.specs.Sources.{first_serial, first_blk, first_blk_pool}
 use Rattle.cast_core.specs.Casts.{job_part, IsCast}
-use Rattle.cast_core.specs.Making.{AreShort, HasFrames}
+use Rattle.cast_core.specs.Making.{AreShort, HasFrames, HasAsks}
 
 -- the tables of a layout
 pub queues_are : (plan : Plan) (layout : Layout) → layout ≡ layout_of plan → layout.queues ≡ queues_of plan
@@ -74,6 +85,40 @@ first_few plan valid = by plan.net refl
     by : (o : Option Net) → plan.net ≡ o → option_map_or (λ (net : Net). 8 + 6 * length net.client) o 0 ≤ 56
     by None is = omega arith
     by (Some net) is = let few = (net_counts plan net valid is).0.1 in omega (arith, few)
+
+pub blk_count : (plan : Plan) (blk : Blk) → plan.blk ≡ Some blk → length (blk_clients plan) ≡ length blk.client
+blk_count plan blk is = ap (λ (o : Option Blk). length (option_map_or (λ (b : Blk). b.client) o [])) is
+
+pub blk_few : (plan : Plan) → Valid plan → length (blk_clients plan) ≤ 8
+blk_few plan valid = by plan.blk refl
+  where
+    by : (o : Option Blk) → plan.blk ≡ o → length (option_map_or (λ (b : Blk). b.client) o []) ≤ 8
+    by None is = omega arith
+    by (Some blk) is = (blk_counts plan blk valid is).1
+
+pub first_blk_few : (plan : Plan) → Valid plan → first_blk plan ≤ 76
+first_blk_few plan valid = let first = first_few plan valid in let second = by plan.serial refl in omega (arith, first, second)
+  where
+    by : (o : Option Serial) → plan.serial ≡ o → option_map_or (λ (serial : Serial). 4 + 2 * length serial.client) o 0 ≤ 20
+    by None is = omega arith
+    by (Some serial) is = let few = (serial_counts plan serial valid is).1 in omega (arith, few)
+
+pub first_blk_pool_few : (plan : Plan) → Valid plan → first_blk_pool plan ≤ 17
+first_blk_pool_few plan valid = by plan.net refl
+  where
+    by : (o : Option Net) → plan.net ≡ o → option_map_or (λ (net : Net). 1 + 2 * length net.client) o 0 ≤ 17
+    by None is = omega arith
+    by (Some net) is = let few = (net_counts plan net valid is).0.1 in omega (arith, few)
+
+pub has_asks : (plan : Plan) (trace : Trace) (blk : Blk) → IsReadFor plan trace → plan.blk ≡ Some blk → HasAsks trace (length (blk_clients plan))
+has_asks plan trace blk read is =
+    let limits = limits_kept plan trace read in
+    let disk : IsDisk trace.image = subst (λ (o : Option Blk). MatchOption o (trace.image ≡ []) (λ _. IsDisk trace.image)) is (shapes-read plan trace read).image in
+    record {
+      count = limits.asks;
+      few = λ c asks at. let one = few_asks trace.asks c asks at in let all = limits.requests in omega (arith, one, all);
+      image = let long = disk.2 in let most = disk.3 in omega (arith, long, most);
+    }
 
 -- the frames of a trace
 short_frames : (frames : List (List ℕ)) → All IsFrame frames → AreShort frames

@@ -3,6 +3,7 @@ pub mod Seconds
 pub mod Tables
 pub mod Rooms
 pub mod Making
+pub mod Blocks
 pub mod SerialStarts
 pub mod Growing
 pub mod Joining

@@ -1,7 +1,8 @@
 -- Lists that have a value for each number.
-use Rattle.std.proofs.Common.{◌≡◌, ◌+◌, ◌<◌, ◌++◌, ℕ, zero, suc, Some, List, [], ◌∷◌, length, take, slice_get, refl, sym, ap, ◌∙◌, arith}
+use Rattle.std.proofs.Common.{◌≡◌, ◌+◌, ◌<◌, ◌++◌, ℕ, zero, suc, Some, List, [], ◌∷◌, length, length-append, take, slice_get, refl, sym, ap, ◌∙◌, arith}
 use Rattle.play_core.proofs.Lists.{some_is}
 use Rattle.trace_text.specs.Traces.{per_client}
+use Rattle.region_layout.specs.Rows.{each_client}
 
 values_more : {T : Type 0} (n : ℕ) (value : ℕ → T) → per_client (suc n) value ≡ per_client n value ++ value n ∷ []
 values_more zero value = refl
@@ -41,3 +42,14 @@ take_from zero xs k x at = absurd cc
 take_from (suc n) [] k x at = absurd cc
 take_from (suc n) (y ∷ xs) zero x at = (omega arith, at)
 take_from (suc n) (y ∷ xs) (suc k) x at = let h = take_from n xs k x at in let lt = h.0 in (omega (arith, lt), h.1)
+
+-- how many rows there are for all clients
+pub each_count : {C T : Type 0} (rows : ℕ → C → List T) (many : ℕ) (times : ℕ → ℕ) → times 0 ≡ 0 → ((k : ℕ) → times (suc k) ≡ many + times k) → ((k : ℕ) (x : C) → length (rows k x) ≡ many)
+    → (from : ℕ) (clients : List C) → length (each_client rows from clients) ≡ times (length clients)
+each_count rows many times none steps counts from [] = sym none
+each_count rows many times none steps counts from (x ∷ clients) =
+    let whole = length-append (rows from x) (each_client rows (from + 1) clients) in
+    let one = counts from x in
+    let rest = each_count rows many times none steps counts (from + 1) clients in
+    let step = steps (length clients) in
+    omega (arith, whole, one, rest, step)

@@ -53,32 +53,32 @@ use Rattle.cast_core.specs.Making.{new_page, lease_ends, tx_ends, tx_range, Have
 use Rattle.cast_core.proofs.Listing.{value_count, value_at, value_is, take_from}
 
 -- the buffers of a pool
-pub pages_are : (pool many base : ℕ) (pages : List Paged) → pages ≡ per_client many (new_page pool) → many ≤ 512 → base + many * 2048 ≤ 2 ^ 62 → ArePool base (record { 0 = pool }) 2048 pages
-pages_are pool many base pages are few ends =
-    let long : length pages ≡ many = ap length are ∙ value_count many (new_page pool) in
-    let is : (k : ℕ) (p : Paged) → slice_get pages k ≡ Some p → p ≡ new_page pool k = λ k p at. (value_is many (new_page pool) k p (ap (λ l. slice_get l k) (sym are) ∙ at)).1 in
+pub pages_are : (size pool many base : ℕ) (pages : List Paged) → 1 ≤ size → pages ≡ per_client many (new_page size pool) → many ≤ 512 → base + many * size ≤ 2 ^ 62 → ArePool base (record { 0 = pool }) size pages
+pages_are size pool many base pages large are few ends =
+    let long : length pages ≡ many = ap length are ∙ value_count many (new_page size pool) in
+    let is : (k : ℕ) (p : Paged) → slice_get pages k ≡ Some p → p ≡ new_page size pool k = λ k p at. (value_is many (new_page size pool) k p (ap (λ l. slice_get l k) (sym are) ∙ at)).1 in
     record {
       same_pool = λ k p at. ap (λ (q : Paged). q.pool) (is k p at);
       numbered = λ k p at. ap (λ (q : Paged). q.no) (is k p at);
-      sized = λ k p at. ap (λ (q : Paged). length q.bytes) (is k p at) ∙ length-replicate {A = ℕ} 2048 0;
-      some = omega arith;
+      sized = λ k p at. ap (λ (q : Paged). length q.bytes) (is k p at) ∙ length-replicate {A = ℕ} size 0;
+      some = large;
       few = omega (arith, long, few);
-      ends = omega (arith, long, ends);
+      ends = rw long ends;
     }
 
 -- a stock of these buffers is of this pool, of so many buffers of 2,048 bytes each
-module _ (s : Stock) (pool many : ℕ) (pages : List Paged) (are : pages ≡ per_client many (new_page pool)) (some : 1 ≤ many) (start : IsStart s pages) where
-  first_page : slice_get pages 0 ≡ Some (new_page pool 0)
-  first_page = ap (λ l. slice_get l 0) are ∙ value_at many (new_page pool) 0 some
+module _ (s : Stock) (pool many : ℕ) (pages : List Paged) (are : pages ≡ per_client many (new_page 2048 pool)) (some : 1 ≤ many) (start : IsStart s pages) where
+  first_page : slice_get pages 0 ≡ Some (new_page 2048 pool 0)
+  first_page = ap (λ l. slice_get l 0) are ∙ value_at many (new_page 2048 pool) 0 some
 
   pub stock_size : s.size ≡ 2048
-  stock_size = sym (start.are_pool.sized 0 (new_page pool 0) first_page) ∙ length-replicate {A = ℕ} 2048 0
+  stock_size = sym (start.are_pool.sized 0 (new_page 2048 pool 0) first_page) ∙ length-replicate {A = ℕ} 2048 0
 
   stock_number : s.pool.0 ≡ pool
-  stock_number = ap (λ (p : PoolId). p.0) (sym (start.are_pool.same_pool 0 (new_page pool 0) first_page))
+  stock_number = ap (λ (p : PoolId). p.0) (sym (start.are_pool.same_pool 0 (new_page 2048 pool 0) first_page))
 
   stock_many : s.buffers ≡ many
-  stock_many = sym start.many ∙ (ap length are ∙ value_count many (new_page pool))
+  stock_many = sym start.many ∙ (ap length are ∙ value_count many (new_page 2048 pool))
 
   pub stock_is : (base : ℕ) → s.base ≡ base → stock_pool s ≡ record { number = pool; base = base; buffers = many }
   stock_is base is =
@@ -96,16 +96,16 @@ intake_list (q ∷ qs) = ap (λ z. q ∷ z) (intake_list qs)
 
 -- the queues of a virtualiser are those that it was made with
 module _ (input output : QueueId) (from to : List QueueId) (v : VirtEnds) (new : IsNewVirt input output from to v) where
-  from_are : from_queues v ≡ from
+  pub from_are : from_queues v ≡ from
   from_are = ap (map (λ (o : Intake). o.queue)) new.from_is ∙ intake_list from
 
-  to_are : to_queues v ≡ to
+  pub to_are : to_queues v ≡ to
   to_are = ap (map (λ (o : Outlet). o.queue)) new.to_is ∙ outlet_list to
 
-  input_is : v.input.queue ≡ input
+  pub input_is : v.input.queue ≡ input
   input_is = ap (λ (i : Intake). i.queue) new.input_is
 
-  output_is : v.output.queue ≡ output
+  pub output_is : v.output.queue ≡ output
   output_is = ap (λ (o : Outlet). o.queue) new.output_is
 
 lessees_are : (n k : ℕ) (ends : ℕ → LeaseEnds) (mac : ℕ → Mac) → ((c : ℕ) → ends c ≡ record { mac = mac c; active = record { 0 = client_first 0 (k + c) }; free = record { 0 = client_first 0 (k + c) + 1 } })
@@ -122,7 +122,7 @@ lessees_are (suc n) k ends mac each =
 
 -- a receiving virtualiser
 module _ (plan : Plan) (rows : List PoolRow) (clients many base : ℕ) (ends : List LeaseEnds) (pages : List Paged) (v : NetVirtRx)
-    (ends_are : ends ≡ per_client clients (lease_ends plan)) (pages_are : pages ≡ per_client many (new_page 0)) (some : 1 ≤ many)
+    (ends_are : ends ≡ per_client clients (lease_ends plan)) (pages_are : pages ≡ per_client many (new_page 2048 0)) (some : 1 ≤ many)
     (base_is : base ≡ (pool_at rows (0)).base) (many_are : many ≡ (pool_at rows (0)).buffers)
     (active free : QueueId) (first : active.0 ≡ 4) (second : free.0 ≡ 5) (new : IsNewRx active free base ends pages v) where
   pub rx_new : RxStandsFor v nothing_passed → IsNewLender v
@@ -206,7 +206,7 @@ tx_ranges rows clients ends are pools = record {
   ends = rw are (all_end clients (tx_ends rows) (λ c lt. pool_ends (pools.tx c lt)));
 }
   where
-    pool_ends : {n : ℕ} → HasPool rows n → (pool_at rows n).base + (pool_at rows n).buffers * 2048 ≤ 2 ^ 62
+    pool_ends : {n : ℕ} → HasPool 2048 rows n → (pool_at rows n).base + (pool_at rows n).buffers * 2048 ≤ 2 ^ 62
     pool_ends {n} p = rw p.there p.ends
 
     all_end : (n : ℕ) (value : ℕ → TxEnds) → ((c : ℕ) → c < n → (value c).base + (value c).buffers * 2048 ≤ 2 ^ 62) → All (λ (c : TxEnds). c.base + c.buffers * 2048 ≤ 2 ^ 62) (per_client n value)
@@ -226,7 +226,7 @@ tx_fits rows clients ends ranges are pools most ranges_are = record {
       rw are (omega (arith, all, most));
 }
   where
-    pool_few : {n : ℕ} → HasPool rows n → (pool_at rows n).buffers ≤ 512
+    pool_few : {n : ℕ} → HasPool 2048 rows n → (pool_at rows n).buffers ≤ 512
     pool_few {n} p = rw p.there p.few
 
 -- the driver's pipes
@@ -240,7 +240,7 @@ pub ways_are : (p q r s : Way) (a b c d : Way) → p ≡ a → q ≡ b → r ≡
 ways_are p q r s a b c d e f g h = ap₂ (λ x y. NetDriver (x ∷ y ∷ r ∷ s ∷ [])) e f ∙ ap₂ (λ x y. NetDriver (a ∷ b ∷ x ∷ y ∷ [])) g h
 
 -- a pool that is there
-pub pool_fits : (rows : List PoolRow) (n base many : ℕ) → HasPool rows n → base ≡ (pool_at rows n).base → many ≡ (pool_at rows n).buffers → (1 ≤ many) × (many ≤ 512) × (base + many * 2048 ≤ 2 ^ 62)
+pub pool_fits : (rows : List PoolRow) (n base many : ℕ) → HasPool 2048 rows n → base ≡ (pool_at rows n).base → many ≡ (pool_at rows n).buffers → (1 ≤ many) × (many ≤ 512) × (base + many * 2048 ≤ 2 ^ 62)
 pool_fits rows n base many pool base_is many_is =
     let b : base ≡ pool.row.base = base_is ∙ ap (λ (o : Option PoolRow). option_map_or (λ (r : PoolRow). r.base) o 0) pool.there in
     let m : many ≡ pool.row.buffers = many_is ∙ ap (λ (o : Option PoolRow). option_map_or (λ (r : PoolRow). r.buffers) o 0) pool.there in
@@ -263,15 +263,15 @@ ranges_next clients ranges i other have are lt k d below address within =
 
 -- a client
 module _ (rows : List PoolRow) (k many spare_many : ℕ) (kind : NetProgram) (mac : Mac) (a b c d : QueueId) (pages spare : List Paged) (script : List (List ℕ)) (x : NetClient)
-    (pages_are : pages ≡ per_client many (new_page (1 + 2 * k))) (spare_are : spare ≡ per_client spare_many (new_page (2 + 2 * k))) (some : 1 ≤ many) (spare_some : 1 ≤ spare_many)
+    (pages_are : pages ≡ per_client many (new_page 2048 (1 + 2 * k))) (spare_are : spare ≡ per_client spare_many (new_page 2048 (2 + 2 * k))) (some : 1 ≤ many) (spare_some : 1 ≤ spare_many)
     (new : IsNewClient kind mac a b c d pages spare script x) where
   pub client_new : AreShort script → many ≤ 512 → spare_many ≤ 512 → IsNewClientOf x
   client_new short few spare_few =
       let g : x.program.script ≡ script = ap (λ (p : ClientProgram). p.script) new.program_is in
       let j : x.send.queue ≡ c = ap (λ (o : Outlet). o.queue) new.send in
       let l : x.sent.queue ≡ d = ap (λ (o : Intake). o.queue) new.sent in
-      let long : length pages ≡ many = ap length pages_are ∙ value_count many (new_page (1 + 2 * k)) in
-      let spare_long : length spare ≡ spare_many = ap length spare_are ∙ value_count spare_many (new_page (2 + 2 * k)) in
+      let long : length pages ≡ many = ap length pages_are ∙ value_count many (new_page 2048 (1 + 2 * k)) in
+      let spare_long : length spare ≡ spare_many = ap length spare_are ∙ value_count spare_many (new_page 2048 (2 + 2 * k)) in
       record {
         pages = pages;
         spare = spare;

@@ -1,20 +1,22 @@
 -- What each actor of a plan is made of, by its job, and actors that are so made.
-use Rattle.std.specs.Prelude.{◌≡◌, ◌+◌, ◌*◌, ℕ, Option, Some, None, List, [], length, slice_get, unwrap_or}
+use Rattle.std.specs.Prelude.{◌≡◌, ◌+◌, ◌*◌, ℕ, Option, Some, List, [], length, slice_get, unwrap_or}
 use Rattle.std.specs.Option.{option_map_or}
 use Rattle.sdf_plan.specs.declared.plan.Plan.{Plan}
 use Rattle.trace_text.specs.declared.trace.Trace.{Trace}
-use Rattle.trace_text.specs.Events.{net_clients, serial_clients}
+use Rattle.trace_text.specs.Events.{net_clients, serial_clients, blk_clients}
 use Rattle.trace_text.specs.Traces.{per_client}
 use Rattle.region_layout.specs.Rows.{actors_of, pools_of}
-use Rattle.net_owners.specs.Names.{ClientPools}
+use Rattle.net_owners.specs.Names.{PoolAt, ClientPools}
 use Rattle.net_parts.specs.Numbers.{device_at, driver_at, receiver_at, copier_at, client_at}
 use Rattle.net_tx_parts.specs.Numbers.{NetPlace, own_pools, sender_at}
-use Rattle.actor_set.specs.Parts.{Part, UartPart, DriverPart, RxPart, TxPart, ClientPart, NetworkPart, SendingPart}
+use Rattle.blk_parts.specs.Numbers.{BlkPlace, disk_at, blk_driver_at, virt_at, blk_client_at}
+use Rattle.actor_set.specs.Parts.{Part, UartPart, DriverPart, RxPart, TxPart, ClientPart, NetworkPart, SendingPart, BlockPart}
 use Rattle.actor_set.specs.Actors.{part_of}
 use Rattle.actor_set.specs.StartStates.{IsNew}
 use Rattle.actor_set.specs.declared.actor.Actor.{Actor}
 use Rattle.play_core.specs.Sheets.{Scene}
-use Rattle.cast_core.specs.Sources.{every_second, first_serial, pool_at, pools_at, client_mac, client_program}
+use Rattle.expect_core.specs.Expected.{client_asks, client_entry}
+use Rattle.cast_core.specs.Sources.{every_second, first_serial, pool_at, pools_at, client_mac, client_program, first_blk, first_blk_pool}
 use Rattle.job_law.specs.Jobs.{Job, EthDevice, EthDriver, NetReceiver, NetSender, NetCopier, NetClient, UartDevice, UartDriver, SerialReceiver, SerialSender, SerialClient, DiskDevice, DiskDriver, BlkVirtualiser, BlkClient, HasJob}
 
 -- the pools of the network client of a number
@@ -31,7 +33,22 @@ net_place plan trace = record {
   programs = per_client (length (net_clients plan)) (client_program plan trace);
 }
 
--- the part of an actor of a job; the jobs of the block class have none yet
+-- the pool of the block client of a number: it stands behind the virtualiser's
+abbrev pub client_pool : Plan → ℕ → PoolAt
+client_pool plan c = pool_at (pools_of plan) (first_blk_pool plan + 1 + c)
+
+-- where the block class of a plan stands: its queues and its pools are the last
+abbrev pub blk_place : Plan → Trace → BlkPlace
+blk_place plan trace = record {
+  first = first_blk plan;
+  image = trace.image;
+  pool = pool_at (pools_of plan) (first_blk_pool plan);
+  entries = per_client (length (blk_clients plan)) (client_entry plan);
+  asks = per_client (length (blk_clients plan)) (client_asks trace);
+  pools = per_client (length (blk_clients plan)) (client_pool plan);
+}
+
+-- the part of an actor of a job
 abbrev pub job_part : Plan → Trace → Job → Option Part
 job_part plan trace EthDevice = Some (NetworkPart (device_at 0 trace.frames))
 job_part plan trace EthDriver = Some (NetworkPart (driver_at 0))
@@ -52,10 +69,11 @@ job_part plan trace SerialSender = Some (TxPart (first_serial plan + 3)
     (every_second (first_serial plan + 5) (length (serial_clients plan))))
 job_part plan trace (SerialClient c) = Some (ClientPart (first_serial plan + 4 + 2 * c)
     (first_serial plan + 5 + 2 * c) (unwrap_or (slice_get trace.says c) []))
-job_part plan trace DiskDevice = None
-job_part plan trace DiskDriver = None
-job_part plan trace BlkVirtualiser = None
-job_part plan trace (BlkClient c) = None
+job_part plan trace DiskDevice = Some (BlockPart (disk_at (blk_place plan trace)))
+job_part plan trace DiskDriver = Some (BlockPart (blk_driver_at (first_blk plan)))
+job_part plan trace BlkVirtualiser = Some (BlockPart (virt_at (blk_place plan trace)))
+job_part plan trace (BlkClient c) = Some (BlockPart
+    (blk_client_at (first_blk plan) c (client_asks trace c) (client_pool plan c)))
 
 -- what a trace gives the classes that a plan has: the frames to the network class, and the image to
 -- the block class

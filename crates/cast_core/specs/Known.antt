@@ -6,14 +6,17 @@ use Rattle.wire_core.specs.Journal.{owner_of}
 use Rattle.sdf_plan.specs.declared.plan.Plan.{Plan}
 use Rattle.sdf_plan.specs.declared.plan.Net.{Net as NetClass}
 use Rattle.sdf_plan.specs.declared.plan.Serial.{Serial as SerialClass}
+use Rattle.sdf_plan.specs.declared.plan.Blk.{Blk as BlkClass}
 use Rattle.job_law.specs.Jobs as jobs
 use Rattle.cast_core.specs.declared.jobs.NetJob.{NetJob}
 use Rattle.cast_core.specs.declared.jobs.NetJob.TheVariants as Net
 use Rattle.cast_core.specs.declared.jobs.SerialJob.{SerialJob}
 use Rattle.cast_core.specs.declared.jobs.SerialJob.TheVariants as Serial
+use Rattle.cast_core.specs.declared.jobs.BlkJob.{BlkJob}
+use Rattle.cast_core.specs.declared.jobs.BlkJob.TheVariants as Blk
 use Rattle.cast_core.specs.declared.jobs.Job.{Job}
 use Rattle.cast_core.specs.declared.jobs.Job.TheVariants as Class
-use Rattle.cast_core.specs.Sources.{first_serial}
+use Rattle.cast_core.specs.Sources.{first_serial, first_blk}
 
 -- by the rows, actor k has this end of queue n
 abbrev pub IsOwner : List QueueRow → ℕ → Role → ℕ → Type 0
@@ -106,6 +109,49 @@ abbrev pub IsNoNetClient : List QueueRow → ℕ → ℕ → Type 0
 IsNoNetClient rows clients k = (c : ℕ) → c < clients
     → (IsOwner rows (8 + 6 * c) Consumer k → ⊥) × (IsOwner rows (10 + 6 * c) Consumer k → ⊥)
 
+-- by the rows, actor k is no client of a serial class with this first queue and so many clients
+abbrev pub IsNoSerialClient : List QueueRow → ℕ → ℕ → ℕ → Type 0
+IsNoSerialClient rows first clients k = (c : ℕ) → c < clients
+    → IsOwner rows (first + 4 + 2 * c) Consumer k → ⊥
+
+-- by the rows, actor k has no job in a serial class with this first queue and so many clients
+abbrev pub HasNoSerialJob : List QueueRow → ℕ → ℕ → ℕ → Type 0
+HasNoSerialJob rows first clients k =
+    (job : SerialJob) → HasSerialJob rows first clients k job → ⊥
+
+-- the jobs of the block class among all
+abbrev pub blk_job : BlkJob → jobs.Job
+blk_job Blk.Device = jobs.DiskDevice
+blk_job Blk.Driver = jobs.DiskDriver
+blk_job Blk.Virtualiser = jobs.BlkVirtualiser
+blk_job (Blk.Client c) = jobs.BlkClient c
+
+-- a job is one of a block class with so many clients
+abbrev pub blk_within : ℕ → BlkJob → Type 0
+blk_within clients Blk.Device = Unit {0}
+blk_within clients Blk.Driver = Unit {0}
+blk_within clients Blk.Virtualiser = Unit {0}
+blk_within clients (Blk.Client c) = c < clients
+
+-- the queue by which a job of the block class is known, which begins at this queue
+abbrev pub blk_queue : ℕ → BlkJob → ℕ
+blk_queue first Blk.Device = first
+blk_queue first Blk.Driver = first
+blk_queue first Blk.Virtualiser = first + 2
+blk_queue first (Blk.Client c) = first + 4 + 2 * c
+
+-- the end of that queue
+abbrev pub blk_role : BlkJob → Role
+blk_role Blk.Device = Consumer
+blk_role Blk.Driver = Producer
+blk_role Blk.Virtualiser = Producer
+blk_role (Blk.Client c) = Producer
+
+-- by the rows, actor k has this job in a block class with this first queue and so many clients
+abbrev pub HasBlkJob : List QueueRow → ℕ → ℕ → ℕ → BlkJob → Type 0
+HasBlkJob rows first clients k job =
+    blk_within clients job × IsOwner rows (blk_queue first job) (blk_role job) k
+
 -- by the rows, actor k has this job in a class that the plan has
 abbrev pub IsKnown : Plan → List QueueRow → ℕ → Job → Type 0
 IsKnown plan rows k (Class.Net job) =
@@ -113,11 +159,15 @@ IsKnown plan rows k (Class.Net job) =
 IsKnown plan rows k (Class.Serial job) =
     (serial : SerialClass) × (plan.serial ≡ Some serial)
     × HasSerialJob rows (first_serial plan) (length serial.client) k job
+IsKnown plan rows k (Class.Blk job) =
+    (blk : BlkClass) × (plan.blk ≡ Some blk)
+    × HasBlkJob rows (first_blk plan) (length blk.client) k job
 
 -- the job among those of all classes
 abbrev pub any_job : Job → jobs.Job
 any_job (Class.Net job) = net_job job
 any_job (Class.Serial job) = serial_job job
+any_job (Class.Blk job) = blk_job job
 
 -- the rows are those of the plan's classes, and have numbers of 16 bits
 pub record HasRows (plan : Plan) (rows : List QueueRow) : Type 0 where
@@ -125,3 +175,5 @@ pub record HasRows (plan : Plan) (rows : List QueueRow) : Type 0 where
   pub net : (net : NetClass) → plan.net ≡ Some net → 8 + 6 * length net.client ≤ length rows
   pub serial : (serial : SerialClass) → plan.serial ≡ Some serial
       → first_serial plan + 4 + 2 * length serial.client ≤ length rows
+  pub blk : (blk : BlkClass) → plan.blk ≡ Some blk
+      → first_blk plan + 4 + 2 * length blk.client ≤ length rows

@@ -1,5 +1,6 @@
 -- What the network's actors are made from: pools, the queues of clients, and frames.
 use Rattle.std.specs.Prelude.{◌≡◌, ◌+◌, ◌*◌, ◌<◌, ◌≤◌, ◌^◌, ℕ, Some, List, All, length, replicate, slice_get}
+use Rattle.cargo_core.specs.declared.item.Ask.{Ask}
 use Rattle.cargo_core.specs.declared.ranges.Range.{Range}
 use Rattle.cargo_core.specs.Pages.{Paged}
 use Rattle.cargo_core.specs.Ranges.{IsApart}
@@ -9,11 +10,14 @@ use Rattle.trace_text.specs.declared.trace.Trace.{Trace}
 use Rattle.net_parts.specs.Numbers.{client_first}
 use Rattle.net_virt_rx.specs.declared.LeaseEnds.{LeaseEnds}
 use Rattle.net_virt_tx.specs.declared.TxEnds.{TxEnds}
-use Rattle.cast_core.specs.Sources.{client_mac, pool_at}
+use Rattle.blk_virt.specs.declared.virtualiser.BlkEnds.{BlkEnds}
+use Rattle.expect_core.specs.Expected.{client_entry}
+use Rattle.cast_core.specs.Sources.{client_mac, first_blk, first_blk_pool, pool_at}
 
--- a new buffer of a pool
-abbrev pub new_page : ℕ → ℕ → Paged
-new_page pool k = record { pool = record { 0 = pool }; no = k; bytes = replicate 2048 0 }
+-- a new buffer of a pool, of so many bytes
+abbrev pub new_page : (size pool k : ℕ) → Paged
+new_page size pool k =
+    record { pool = record { 0 = pool }; no = k; bytes = replicate size 0 }
 
 -- a network client as the receiving virtualiser has it
 abbrev pub lease_ends : Plan → ℕ → LeaseEnds
@@ -43,20 +47,20 @@ pub record HaveRanges (clients : List TxEnds) : Type 0 where
       → slice_get clients k ≡ Some other → IsApart (tx_range other) (tx_range one)
   pub ends : All (λ (c : TxEnds). c.base + c.buffers * 2048 ≤ 2 ^ 62) clients
 
--- the pool of a number is there, with 1 to 512 buffers, and ends at most at 2^62
-pub record HasPool (rows : List PoolRow) (n : ℕ) : Type 0 where
+-- the pool of a number is there, with 1 to 512 buffers of this size, and ends at most at 2^62
+pub record HasPool (size : ℕ) (rows : List PoolRow) (n : ℕ) : Type 0 where
   pub row : PoolRow
   pub there : slice_get rows n ≡ Some row
   pub some : 1 ≤ row.buffers
   pub few : row.buffers ≤ 512
-  pub ends : row.base + row.buffers * 2048 ≤ 2 ^ 62
+  pub ends : row.base + row.buffers * size ≤ 2 ^ 62
 
 -- the pools of a network class with so many clients are there: the device's, and two of each
 -- client, and no two clients send in buffers at one address
 pub record HasPools (rows : List PoolRow) (clients : ℕ) : Type 0 where
-  pub first : HasPool rows (0)
-  pub rx : (c : ℕ) → c < clients → HasPool rows (1 + 2 * c)
-  pub tx : (c : ℕ) → c < clients → HasPool rows (2 + 2 * c)
+  pub first : HasPool 2048 rows (0)
+  pub rx : (c : ℕ) → c < clients → HasPool 2048 rows (1 + 2 * c)
+  pub tx : (c : ℕ) → c < clients → HasPool 2048 rows (2 + 2 * c)
   pub apart : (j k : ℕ) → j < k → k < clients
       → IsApart (tx_range (tx_ends rows k)) (tx_range (tx_ends rows j))
 
@@ -70,3 +74,34 @@ pub record HasFrames (trace : Trace) (clients : ℕ) : Type 0 where
   pub count : length trace.sends ≡ clients
   pub client : (c : ℕ) (frames : List (List ℕ)) → slice_get trace.sends c ≡ Some frames
       → AreShort frames
+
+-- a block client as the virtualiser has it
+abbrev pub blk_ends : Plan → List PoolRow → ℕ → BlkEnds
+blk_ends plan rows c = record {
+  base = (pool_at rows (first_blk_pool plan + 1 + c)).base;
+  buffers = (pool_at rows (first_blk_pool plan + 1 + c)).buffers;
+  req = record { 0 = first_blk plan + 4 + 2 * c };
+  resp = record { 0 = first_blk plan + 5 + 2 * c };
+  pool = record { 0 = first_blk_pool plan + 1 + c };
+  partition = client_entry plan c;
+}
+
+-- the device addresses of a block client's buffers
+abbrev pub blk_range : BlkEnds → Range
+blk_range e = record { base = e.base; size = e.buffers * 32768 }
+
+-- the pools of a block class with so many clients are there, from this number on: the
+-- virtualiser's, of one buffer, and one of each client, and no two clients' buffers meet
+pub record HasBlkPools (plan : Plan) (rows : List PoolRow) (clients : ℕ) : Type 0 where
+  pub own : HasPool 32768 rows (first_blk_pool plan)
+  pub single : (pool_at rows (first_blk_pool plan)).buffers ≡ 1
+  pub client : (c : ℕ) → c < clients → HasPool 32768 rows (first_blk_pool plan + 1 + c)
+  pub apart : (j k : ℕ) → j < k → k < clients
+      → IsApart (blk_range (blk_ends plan rows k)) (blk_range (blk_ends plan rows j))
+
+-- a trace has requests for each of so many clients, few of each, and an image of less than 2^32
+-- sectors
+pub record HasAsks (trace : Trace) (clients : ℕ) : Type 0 where
+  pub count : length trace.asks ≡ clients
+  pub few : (c : ℕ) (asks : List Ask) → slice_get trace.asks c ≡ Some asks → length asks ≤ 1024
+  pub image : length trace.image ≤ 2 ^ 25

@@ -1,15 +1,18 @@
 -- What a plan, the rows of its pools and a trace give each client of a class, by its number, and
--- where the serial class begins.
+-- where the classes begin.
 use Rattle.std.specs.Prelude.{◌+◌, ◌*◌, ℕ, zero, suc, Bool, false, if◌then◌else◌, List, [], ◌∷◌, length, codes, slice_get, unwrap_or}
 use Rattle.std.specs.Option.{option_map_or}
+use Rattle.cargo_core.specs.declared.item.Ask.{Ask}
 use Rattle.frame_core.specs.declared.mac.Mac.{Mac}
 use Rattle.frame_core.specs.Macs.{mac_of}
 use Rattle.wire_core.specs.declared.names.PoolRow.{PoolRow}
 use Rattle.sdf_plan.specs.declared.plan.Plan.{Plan}
 use Rattle.sdf_plan.specs.declared.plan.Net.{Net}
 use Rattle.sdf_plan.specs.declared.plan.NetClient.{NetClient}
+use Rattle.sdf_plan.specs.declared.plan.Serial.{Serial}
+use Rattle.sdf_plan.specs.declared.plan.BlkClient.{BlkClient}
 use Rattle.trace_text.specs.declared.trace.Trace.{Trace}
-use Rattle.trace_text.specs.Events.{net_clients, is_source, runs}
+use Rattle.trace_text.specs.Events.{net_clients, blk_clients, is_source, runs}
 use Rattle.net_expect.specs.Expecting.{Program}
 use Rattle.net_client.specs.Programs.{program_with}
 use Rattle.net_client.specs.declared.program.NetProgram.{NetProgram}
@@ -24,6 +27,15 @@ every_second first (suc count) = first ∷ every_second (first + 2) count
 -- the number of the first queue of the serial class: the network's stand before it
 abbrev pub first_serial : Plan → ℕ
 first_serial plan = option_map_or (λ (net : Net). 8 + 6 * length net.client) plan.net 0
+
+-- the number of the first queue of the block class: those of the other classes stand before it
+abbrev pub first_blk : Plan → ℕ
+first_blk plan = first_serial plan
+    + option_map_or (λ (serial : Serial). 4 + 2 * length serial.client) plan.serial 0
+
+-- the number of the block virtualiser's pool: those of the network stand before it
+abbrev pub first_blk_pool : Plan → ℕ
+first_blk_pool plan = option_map_or (λ (net : Net). 1 + 2 * length net.client) plan.net 0
 
 -- the pool of a number, as its row tells it
 abbrev pub pool_at : List PoolRow → ℕ → PoolAt

@@ -1,12 +1,13 @@
 //! All actors of a plan.
-ghost use Rattle.std.specs.Prelude.{◌≡◌, ◌<◌, None, length, IfOk};
+ghost use Rattle.std.specs.Prelude.{◌≡◌, ◌<◌, length, IfOk};
 ghost use Rattle.region_layout.specs.Layouts.{layout_of};
 ghost use Rattle.region_layout.specs.Rows.{actors_of};
 ghost use Rattle.sdf_check.specs.Valid.{Valid};
-ghost use Rattle.trace_text.specs.Events.{net_clients, serial_clients};
+ghost use Rattle.trace_text.specs.Events.{net_clients, serial_clients, blk_clients};
 ghost use Rattle.trace_text.specs.Traces.{IsReadFor};
 ghost use Rattle.cast_core.specs.Casts.{AreCast, IsCast};
 
+use crate::block::blk_actor;
 use crate::jobs::{Job, job_of};
 use crate::network::net_actor;
 use crate::serial::serial_actor;
@@ -39,6 +40,17 @@ fn serial_clients(plan: &Plan) -> u16
     }
 }
 
+// How many clients the block class has.
+fn blk_clients(plan: &Plan) -> u16
+    requires { length (blk_clients plan.now) < 65536 }
+    ensures { result ≡ length (blk_clients plan.now) }
+{
+    match &plan.blk {
+        Some(blk) => blk.client.len() as u16,
+        None => 0,
+    }
+}
+
 // The actor of a number.
 fn actor(
     alloc: Global,
@@ -48,7 +60,6 @@ fn actor(
     number: u16,
 ) -> Result<Actor, Memory>
     requires valid { Valid plan.now }
-    requires blk { plan.now.blk ≡ None }
     requires layout { layout.now ≡ layout_of plan.now }
     requires trace { IsReadFor plan.now trace.now }
     requires there { number < length (actors_of plan.now) }
@@ -57,11 +68,12 @@ fn actor(
     match job_of(plan, layout.queues(), number) {
         Job::Net(job) => net_actor(alloc, plan, layout.pools(), trace, net_clients(plan), job),
         Job::Serial(job) => serial_actor(alloc, plan, trace, serial_clients(plan), job),
+        Job::Blk(job) => blk_actor(alloc, plan, layout.pools(), trace, blk_clients(plan), job),
     }
 }
 
-/// The actors of a valid plan without the block class, each in its start state and made of what
-/// the plan, its layout and a trace give its job.
+/// The actors of a valid plan, each in its start state and made of what the plan, its layout and a
+/// trace give its job.
 pub fn cast(
     alloc: Global,
     plan: &Plan,
@@ -69,7 +81,6 @@ pub fn cast(
     trace: &Trace,
 ) -> Result<Vec<Actor>, Memory>
     requires valid { Valid plan.now }
-    requires blk { plan.now.blk ≡ None }
     requires layout { layout.now ≡ layout_of plan.now }
     requires trace { IsReadFor plan.now trace.now }
     ensures { IfOk result (λ actors. AreCast plan.now trace.now actors.items) }

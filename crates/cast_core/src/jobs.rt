@@ -1,9 +1,9 @@
 //! Which job an actor has, by the queues at which it stands.
 ghost use Rattle.std.specs.Prelude.{◌≡◌, ◌<◌, ◌≤◌, ◌+◌, ◌*◌, ℕ, length, MatchOption};
-ghost use Rattle.cast_core.specs.Sources.{first_serial};
-ghost use Rattle.cast_core.specs.Known.{HasNetJob, HasNoNetJob, IsNoNetClient, HasSerialJob, HasRows, IsKnown};
+ghost use Rattle.cast_core.specs.Sources.{first_serial, first_blk};
+ghost use Rattle.cast_core.specs.Known.{HasNetJob, HasNoNetJob, IsNoNetClient, HasSerialJob, HasNoSerialJob, IsNoSerialClient, HasBlkJob, HasRows, IsKnown};
 
-use crate::shared::first_serial;
+use crate::shared::{first_blk, first_serial};
 use sdf_plan::Plan;
 use wire_core::QueueRow;
 
@@ -28,11 +28,21 @@ pub enum SerialJob {
     Client(u16),
 }
 
+/// What an actor is in the block class, a client by its number.
+#[derive(Clone, Copy, Debug, PartialEq, Eq)]
+pub enum BlkJob {
+    Device,
+    Driver,
+    Virtualiser,
+    Client(u16),
+}
+
 /// What an actor is, in the class to which it belongs.
 #[derive(Clone, Copy, Debug, PartialEq, Eq)]
 pub enum Job {
     Net(NetJob),
     Serial(SerialJob),
+    Blk(BlkJob),
 }
 
 // The copier or the client that the actor is, in the network class.
@@ -74,39 +84,74 @@ fn net_job_of(rows: &[QueueRow], clients: u16, actor: u16) -> Option<NetJob>
     }
 }
 
-// The serial client at whose queue an actor takes.
-fn serial_client_of(rows: &[QueueRow], first: u16, clients: u16, actor: u16) -> u16
+// The client that the actor is, in the serial class.
+fn serial_client_job(rows: &[QueueRow], first: u16, clients: u16, actor: u16) -> Option<SerialJob>
     requires numbered { length rows.now ≤ 65536 }
     requires rows { first + 4 + 2 * clients ≤ length rows.now }
-    requires some { (c : ℕ) × HasSerialJob rows.now first clients actor (SerialJob.Client c) }
-    ensures { HasSerialJob rows.now first clients actor (SerialJob.Client result) }
+    ensures { MatchOption result (IsNoSerialClient rows.now first clients actor)
+        (λ job. HasSerialJob rows.now first clients actor job) }
 {
     for c in 0..clients {
         if rows[(first + 4 + 2 * c) as usize].consumer.0 == actor {
+            return Some(SerialJob::Client(c));
+        }
+    }
+    None
+}
+
+// What the actor is in a serial class with this first queue and so many clients, if it is of that
+// class.
+fn serial_job_of(rows: &[QueueRow], first: u16, clients: u16, actor: u16) -> Option<SerialJob>
+    requires numbered { length rows.now ≤ 65536 }
+    requires rows { first + 4 + 2 * clients ≤ length rows.now }
+    ensures { MatchOption result (HasNoSerialJob rows.now first clients actor)
+        (λ job. HasSerialJob rows.now first clients actor job) }
+{
+    let at = first as usize;
+    if rows[at].producer.0 == actor {
+        Some(SerialJob::Device)
+    } else if rows[at].consumer.0 == actor {
+        Some(SerialJob::Driver)
+    } else if rows[at + 2].consumer.0 == actor {
+        Some(SerialJob::Receiver)
+    } else if rows[at + 3].producer.0 == actor {
+        Some(SerialJob::Sender)
+    } else {
+        serial_client_job(rows, first, clients, actor)
+    }
+}
+
+// The block client whose requests an actor puts.
+fn blk_client_of(rows: &[QueueRow], first: u16, clients: u16, actor: u16) -> u16
+    requires numbered { length rows.now ≤ 65536 }
+    requires rows { first + 4 + 2 * clients ≤ length rows.now }
+    requires some { (c : ℕ) × HasBlkJob rows.now first clients actor (BlkJob.Client c) }
+    ensures { HasBlkJob rows.now first clients actor (BlkJob.Client result) }
+{
+    for c in 0..clients {
+        if rows[(first + 4 + 2 * c) as usize].producer.0 == actor {
             return c;
         }
     }
     unreachable!()
 }
 
-// What the actor is in a serial class with this first queue and so many clients.
-fn serial_job_of(rows: &[QueueRow], first: u16, clients: u16, actor: u16) -> SerialJob
+// What the actor is in a block class with this first queue and so many clients.
+fn blk_job_of(rows: &[QueueRow], first: u16, clients: u16, actor: u16) -> BlkJob
     requires numbered { length rows.now ≤ 65536 }
     requires rows { first + 4 + 2 * clients ≤ length rows.now }
-    requires some { (job : SerialJob) × HasSerialJob rows.now first clients actor job }
-    ensures { HasSerialJob rows.now first clients actor result }
+    requires some { (job : BlkJob) × HasBlkJob rows.now first clients actor job }
+    ensures { HasBlkJob rows.now first clients actor result }
 {
     let at = first as usize;
-    if rows[at].producer.0 == actor {
-        SerialJob::Device
-    } else if rows[at].consumer.0 == actor {
-        SerialJob::Driver
-    } else if rows[at + 2].consumer.0 == actor {
-        SerialJob::Receiver
-    } else if rows[at + 3].producer.0 == actor {
-        SerialJob::Sender
+    if rows[at].consumer.0 == actor {
+        BlkJob::Device
+    } else if rows[at].producer.0 == actor {
+        BlkJob::Driver
+    } else if rows[at + 2].producer.0 == actor {
+        BlkJob::Virtualiser
     } else {
-        SerialJob::Client(serial_client_of(rows, first, clients, actor))
+        BlkJob::Client(blk_client_of(rows, first, clients, actor))
     }
 }
 
@@ -121,10 +166,16 @@ pub fn job_of(plan: &Plan, rows: &[QueueRow], actor: u16) -> Job
             return Job::Net(job);
         }
     }
-    match &plan.serial {
-        Some(serial) => {
-            let clients = serial.client.len() as u16;
-            Job::Serial(serial_job_of(rows, first_serial(plan), clients, actor))
+    if let Some(serial) = &plan.serial {
+        let clients = serial.client.len() as u16;
+        if let Some(job) = serial_job_of(rows, first_serial(plan), clients, actor) {
+            return Job::Serial(job);
+        }
+    }
+    match &plan.blk {
+        Some(blk) => {
+            let clients = blk.client.len() as u16;
+            Job::Blk(blk_job_of(rows, first_blk(plan), clients, actor))
         }
         None => unreachable!(),
     }

@@ -3,6 +3,7 @@
 #![tactic(auto)]
 
 mod actors;
+mod block;
 mod jobs;
 mod network;
 mod pools;
@@ -10,5 +11,6 @@ mod serial;
 mod shared;
 
 pub use actors::cast;
-pub use jobs::{Job, NetJob, SerialJob};
-pub use shared::{copies, first_serial};
+pub use jobs::{BlkJob, Job, NetJob, SerialJob};
+pub use network::copied_frames;
+pub use shared::{copies, first_blk, first_serial};

@@ -19,7 +19,7 @@ ghost use Rattle.cast_core.specs.Known.{net_job, net_within};
 ghost use Rattle.cast_core.specs.Making.{lease_ends, tx_ends, AreShort, HasPool, HasPools, HasFrames};
 
 use crate::jobs::NetJob;
-use crate::pools::{pages, pool_row, ranges, tx_ends};
+use crate::pools::{NET_BUFFER, pages, pool_row, ranges, tx_ends};
 use actor_set::Actor;
 use cargo_core::{FrameLog, Memory};
 use client_programs::NetClient;
@@ -80,8 +80,8 @@ fn client_kind(plan: &Plan, client: u16) -> NetProgram
     }
 }
 
-// A copy of some frames.
-fn copied(alloc: Global, frames: &FrameLog) -> Result<FrameLog, Memory>
+/// A copy of some frames.
+pub fn copied_frames(alloc: Global, frames: &FrameLog) -> Result<FrameLog, Memory>
     ensures { IfOk result (λ copy. copy ≡ frames.now) }
 {
     let mut copy = FrameLog::new(alloc);
@@ -114,7 +114,7 @@ fn device(alloc: Global, trace: &Trace) -> Result<EthDevice, Memory>
     ensures new { IfOk result IsNewReceiving }
     ensures part { IfOk result (λ d. device_part d ≡ device_at 0 trace.now.frames) }
 {
-    let frames = copied(alloc, trace.frames())?;
+    let frames = copied_frames(alloc, trace.frames())?;
     Ok(EthDevice::new(
         alloc,
         QueueId(0),
@@ -145,13 +145,13 @@ fn receiver(
     clients: u16,
 ) -> Result<NetVirtRx, Memory>
     requires few { clients ≤ 8 }
-    requires pool { HasPool pools.now 0 }
+    requires pool { HasPool 2048 pools.now 0 }
     ensures new { IfOk result IsNewLender }
     ensures part { IfOk result (λ v. receiver_part v
         ≡ receiver_at 0 (pool_at pools.now 0) (per_client clients (client_mac plan.now))) }
 {
     let row = pool_row(pools, 0);
-    let pages = pages(alloc, 0, row.buffers)?;
+    let pages = pages(alloc, 0, row.buffers, NET_BUFFER)?;
     let ends = lease_ends(alloc, plan, clients)?;
     Ok(NetVirtRx::new(alloc, QueueId(4), QueueId(5), ends, pages, row.base)?)
 }
@@ -194,8 +194,8 @@ fn client(
     client: u16,
 ) -> Result<NetClient, Memory>
     requires few { client < 8 }
-    requires rx { HasPool pools.now (1 + 2 * client) }
-    requires tx { HasPool pools.now (2 + 2 * client) }
+    requires rx { HasPool 2048 pools.now (1 + 2 * client) }
+    requires tx { HasPool 2048 pools.now (2 + 2 * client) }
     requires there { client < length trace.now.sends }
     requires short { (frames : List (List ℕ)) → slice_get trace.now.sends client ≡ Some frames
         → AreShort frames }
@@ -207,9 +207,9 @@ fn client(
     let first = 8 + 6 * client;
     let rx = 1 + 2 * client;
     let tx = 2 + 2 * client;
-    let rx_pages = pages(alloc, rx, pool_row(pools, rx).buffers)?;
-    let tx_pages = pages(alloc, tx, pool_row(pools, tx).buffers)?;
-    let script = copied(alloc, trace.sends(client as u32))?;
+    let rx_pages = pages(alloc, rx, pool_row(pools, rx).buffers, NET_BUFFER)?;
+    let tx_pages = pages(alloc, tx, pool_row(pools, tx).buffers, NET_BUFFER)?;
+    let script = copied_frames(alloc, trace.sends(client as u32))?;
     Ok(NetClient::new(
         alloc,
         client_kind(plan, client),

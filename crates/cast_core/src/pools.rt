@@ -11,7 +11,10 @@ use std::alloc::Global;
 use wire_core::{PoolRow, QueueId};
 
 /// How many bytes a network buffer has.
-const BUFFER_SIZE: u32 = 2048;
+pub const NET_BUFFER: u32 = 2048;
+
+/// How many bytes a block buffer has.
+pub const BLK_BUFFER: u32 = 32768;
 
 /// The row of a pool.
 pub fn pool_row(rows: &[PoolRow], number: u16) -> &PoolRow
@@ -22,13 +25,13 @@ pub fn pool_row(rows: &[PoolRow], number: u16) -> &PoolRow
     &rows[number as usize]
 }
 
-/// So many buffers of a pool, in their order.
-pub fn pages(alloc: Global, pool: u16, buffers: u32) -> Result<Vec<Page>, Memory>
-    ensures { IfOk result (λ pages. pages.items ≡ per_client buffers (new_page pool)) }
+/// So many buffers of a pool, in their order, of this size.
+pub fn pages(alloc: Global, pool: u16, buffers: u32, size: u32) -> Result<Vec<Page>, Memory>
+    ensures { IfOk result (λ pages. pages.items ≡ per_client buffers (new_page size pool)) }
 {
     let mut pages = Vec::with_capacity(alloc, buffers as usize)?;
     for no in 0..buffers {
-        pages.push(Page::new(alloc, PoolId(pool), no, BUFFER_SIZE)?)?;
+        pages.push(Page::new(alloc, PoolId(pool), no, size)?)?;
     }
     Ok(pages)
 }
@@ -63,7 +66,7 @@ pub fn ranges(alloc: Global, clients: &[TxEnds]) -> Result<Ranges, Memory>
 {
     let mut ranges = Ranges::new(alloc);
     for client in clients {
-        ranges.add(client.base, client.buffers as u64 * BUFFER_SIZE as u64)?;
+        ranges.add(client.base, client.buffers as u64 * NET_BUFFER as u64)?;
     }
     Ok(ranges)
 }

@@ -1,6 +1,6 @@
-//! What the classes share: copies of rows, and where the serial class begins.
+//! What the classes share: copies of rows, and where the classes begin.
 ghost use Rattle.std.specs.Prelude.{◌≡◌, ◌≤◌, IfOk};
-ghost use Rattle.cast_core.specs.Sources.{first_serial};
+ghost use Rattle.cast_core.specs.Sources.{first_serial, first_blk};
 
 use cargo_core::{Memory, Text};
 use sdf_plan::Plan;
@@ -41,5 +41,17 @@ pub fn first_serial(plan: &Plan) -> u16
     match &plan.net {
         Some(net) => 8 + 6 * net.client.len() as u16,
         None => 0,
+    }
+}
+
+/// The number of the first queue of the block class: those of the other classes stand before it.
+pub fn first_blk(plan: &Plan) -> u16
+    requires { first_blk plan.now ≤ 65535 }
+    ensures { result ≡ first_blk plan.now }
+{
+    let first = first_serial(plan);
+    match &plan.serial {
+        Some(serial) => first + 4 + 2 * serial.client.len() as u16,
+        None => first,
     }
 }

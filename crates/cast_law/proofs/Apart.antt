@@ -22,16 +22,22 @@ use Rattle.net_parts.specs.Playing.{lessees}
 use Rattle.net_tx_parts.specs.Parts.{SendPart, Shipper}
 use Rattle.net_tx_parts.specs.Playing.{shippers}
 use Rattle.net_tx_parts.specs.Numbers.{sender_at}
-use Rattle.actor_set.specs.Parts.{Part, UartPart, DriverPart, RxPart, TxPart, ClientPart, NetworkPart, SendingPart}
+use Rattle.blk_virt.specs.declared.requests.Holder.{Holder}
+use Rattle.blk_virt.specs.declared.virtualiser.BlkVirt.{BlkVirt}
+use Rattle.blk_virt.specs.Desks.{holders}
+use Rattle.blk_parts.specs.Parts.{BlkPart, DiskDevice as DiskPart, BlkDriver as BlkDriverPart, BlkVirt as VirtPart, BlkClient as BlkClientPart, Sharer}
+use Rattle.blk_parts.specs.Numbers.{blk_driver_at, sharers_from}
+use Rattle.blk_parts.specs.Playing.{sharers}
+use Rattle.actor_set.specs.Parts.{Part, UartPart, DriverPart, RxPart, TxPart, ClientPart, NetworkPart, SendingPart, BlockPart}
 use Rattle.actor_set.specs.Actors.{IsWhole, part_of}
 use Rattle.actor_set.specs.StartStates.{HasApartEnds, HasApartQueues}
 use Rattle.actor_set.specs.declared.actor.Actor.{Actor}
 use Rattle.actor_set.specs.declared.actor.Actor.TheVariants as Kinds
 use Rattle.actor_law.proofs.PartEnds.{number_there}
 use Rattle.job_law.specs.Jobs.{Job, EthDevice, EthDriver, NetReceiver, NetSender, NetCopier, NetClient, UartDevice, UartDriver, SerialReceiver, SerialSender, SerialClient, DiskDevice, DiskDriver, BlkVirtualiser, BlkClient}
-use Rattle.cast_core.specs.Casts.{net_place, job_part}
-use Rattle.cast_core.specs.Sources.{first_serial}
-use Rattle.cast_law.proofs.Numbers.{lessee_numbers, shipper_numbers, second_apart}
+use Rattle.cast_core.specs.Casts.{net_place, blk_place, job_part}
+use Rattle.cast_core.specs.Sources.{first_serial, first_blk}
+use Rattle.cast_law.proofs.Numbers.{lessee_numbers, shipper_numbers, sharer_numbers, second_apart}
 
 -- of the clients of a virtualiser: its queues on each side, and that to the driver's side
 abbrev AreOne : {C : Type 0} → (C → ℕ) → List C → Type 0
@@ -52,6 +58,13 @@ NetApart (NetClientPart program mac rx_active rx_free tx_active tx_free rx tx) =
 abbrev SendApart : SendPart → Type 0
 SendApart p = AreOne (λ (c : Shipper). c.active) p.clients × AreOne (λ (c : Shipper). c.free) p.clients × IsNotOf (λ (c : Shipper). c.active) p.clients p.free × IsNotOf (λ (c : Shipper). c.free) p.clients p.active
 
+abbrev BlkApart : BlkPart → Type 0
+BlkApart (DiskPart req resp image) = Unit {0}
+BlkApart (BlkDriverPart ways) = AreDistinct (map (λ (w : Way). w.input) ways) × AreDistinct (map (λ (w : Way). w.output) ways)
+BlkApart (VirtPart req resp sectors pool clients) =
+    AreOne (λ (c : Sharer). c.req) clients × AreOne (λ (c : Sharer). c.resp) clients × IsNotOf (λ (c : Sharer). c.req) clients resp × IsNotOf (λ (c : Sharer). c.resp) clients req
+BlkApart (BlkClientPart req resp asks pool) = Unit {0}
+
 abbrev ApartIn : Part → Type 0
 ApartIn (UartPart rx tx input) = Unit {0}
 ApartIn (DriverPart device_rx device_tx rx tx) = (device_rx ≡ tx → ⊥) × (rx ≡ device_tx → ⊥)
@@ -60,6 +73,7 @@ ApartIn (TxPart tx clients) = (k j m : ℕ) → slice_get clients k ≡ Some m �
 ApartIn (ClientPart rx tx script) = Unit {0}
 ApartIn (NetworkPart p) = NetApart p
 ApartIn (SendingPart p) = SendApart p
+ApartIn (BlockPart p) = BlkApart p
 
 -- the client of a virtualiser's queue
 lessee_free : (macs : List Mac) (to from : List QueueId) → length to ≡ length macs → length from ≡ length macs → (k : ℕ) (q : QueueId) → slice_get from k ≡ Some q → (c : Lessee) × (slice_get (lessees macs to from) k ≡ Some c) × (c.free ≡ q.0)
@@ -93,6 +107,33 @@ shipper_free (s ∷ ss) [] to lf lt k q at = absurd (omega (arith, lf))
 shipper_free (s ∷ ss) (p ∷ from) [] lf lt k q at = absurd cc
 shipper_free (s ∷ ss) (p ∷ from) (r ∷ to) lf lt zero q at = (_, refl, ap (λ (x : QueueId). x.0) (some_is at))
 shipper_free (s ∷ ss) (p ∷ from) (r ∷ to) lf lt (suc k) q at = shipper_free ss from to (omega (arith, lf)) (omega (arith, lt)) k q at
+
+sharer_req : (hs : List Holder) (from to : List QueueId) → length from ≡ length hs → length to ≡ length hs → (k : ℕ) (q : QueueId) → slice_get from k ≡ Some q → (c : Sharer) × (slice_get (sharers hs from to) k ≡ Some c) × (c.req ≡ q.0)
+sharer_req [] [] to lf lt k q at = absurd cc
+sharer_req [] (p ∷ from) to lf lt k q at = absurd (omega (arith, lf))
+sharer_req (h ∷ hs) [] to lf lt k q at = absurd (omega (arith, lf))
+sharer_req (h ∷ hs) (p ∷ from) [] lf lt k q at = absurd (omega (arith, lt))
+sharer_req (h ∷ hs) (p ∷ from) (r ∷ to) lf lt zero q at = (_, refl, ap (λ (x : QueueId). x.0) (some_is at))
+sharer_req (h ∷ hs) (p ∷ from) (r ∷ to) lf lt (suc k) q at = sharer_req hs from to (omega (arith, lf)) (omega (arith, lt)) k q at
+
+sharer_resp : (hs : List Holder) (from to : List QueueId) → length from ≡ length hs → length to ≡ length hs → (k : ℕ) (q : QueueId) → slice_get to k ≡ Some q → (c : Sharer) × (slice_get (sharers hs from to) k ≡ Some c) × (c.resp ≡ q.0)
+sharer_resp [] from [] lf lt k q at = absurd cc
+sharer_resp [] from (r ∷ to) lf lt k q at = absurd (omega (arith, lt))
+sharer_resp (h ∷ hs) [] to lf lt k q at = absurd (omega (arith, lf))
+sharer_resp (h ∷ hs) (p ∷ from) [] lf lt k q at = absurd cc
+sharer_resp (h ∷ hs) (p ∷ from) (r ∷ to) lf lt zero q at = (_, refl, ap (λ (x : QueueId). x.0) (some_is at))
+sharer_resp (h ∷ hs) (p ∷ from) (r ∷ to) lf lt (suc k) q at = sharer_resp hs from to (omega (arith, lf)) (omega (arith, lt)) k q at
+
+server_apart : (v : BlkVirt) → IsWhole (Kinds.BlkVirt v) → ApartIn (part_of (Kinds.BlkVirt v)) → HasApartQueues v.ends
+server_apart v whole h =
+    let asks = sharer_req (holders v.work.desk) (from_queues v.ends) (to_queues v.ends) whole.from_each whole.to_each in
+    let answers = sharer_resp (holders v.work.desk) (from_queues v.ends) (to_queues v.ends) whole.from_each whole.to_each in
+    record {
+      from = λ k j q q' a b e. let c = asks k q a in let d = asks j q' b in h.0 k j c.0 d.0 c.1 d.1 (c.2 ∙ (e ∙ sym d.2));
+      to = λ k j q q' a b e. let c = answers k q a in let d = answers j q' b in h.1 k j c.0 d.0 c.1 d.1 (c.2 ∙ (e ∙ sym d.2));
+      input = λ k q a e. let c = asks k q a in h.2 k c.0 c.1 (e ∙ sym c.2);
+      output = λ k q a e. let c = answers k q a in h.3 k c.0 c.1 (e ∙ sym c.2);
+    }
 
 receiver_apart : (v : NetVirtRx) → IsWhole (Kinds.NetVirtRx v) → ApartIn (part_of (Kinds.NetVirtRx v)) → HasApartQueues v.ends
 receiver_apart v whole h =
@@ -129,6 +170,10 @@ apart_of (Kinds.NetVirtRx x) whole h = receiver_apart x whole h
 apart_of (Kinds.NetCopier x) whole h = h
 apart_of (Kinds.NetClient x) whole h = h
 apart_of (Kinds.NetVirtTx x) whole h = sender_apart x whole h
+apart_of (Kinds.DiskDevice x) whole h = tt
+apart_of (Kinds.BlkDriver x) whole h = (h.0.0.0, h.1.0.0)
+apart_of (Kinds.BlkVirt x) whole h = server_apart x whole h
+apart_of (Kinds.BlkClient x) whole h = tt
 
 leases_apart : (pool : PoolAt) (macs : List Mac) → NetApart (receiver_at 0 pool macs)
 leases_apart pool macs = (
@@ -145,6 +190,18 @@ sends_apart pools = (
   λ k c a e. (let p = (shipper_numbers 0 pools k c a).1 in omega (arith, p, e)),
   λ k c a e. (let p = (shipper_numbers 0 pools k c a).2 in omega (arith, p, e)),
 )
+
+asks_apart : (first : ℕ) (entries : List ℕ) (pools : List PoolAt) → AreOne (λ (c : Sharer). c.req) (sharers_from first 0 entries pools) × AreOne (λ (c : Sharer). c.resp) (sharers_from first 0 entries pools)
+    × IsNotOf (λ (c : Sharer). c.req) (sharers_from first 0 entries pools) (first + 3) × IsNotOf (λ (c : Sharer). c.resp) (sharers_from first 0 entries pools) (first + 2)
+asks_apart first entries pools = (
+  λ k j c d a b e. (let p = (sharer_numbers first 0 entries pools k c a).0 in let q = (sharer_numbers first 0 entries pools j d b).0 in omega (arith, p, q, e)),
+  λ k j c d a b e. (let p = (sharer_numbers first 0 entries pools k c a).1 in let q = (sharer_numbers first 0 entries pools j d b).1 in omega (arith, p, q, e)),
+  λ k c a e. (let p = (sharer_numbers first 0 entries pools k c a).0 in omega (arith, p, e)),
+  λ k c a e. (let p = (sharer_numbers first 0 entries pools k c a).1 in omega (arith, p, e)),
+)
+
+disk_driver_apart : (first : ℕ) → BlkApart (blk_driver_at first)
+disk_driver_apart first = (((λ e. omega (arith, e), tt), (tt, tt)), ((λ e. omega (arith, e), tt), (tt, tt)))
 
 driver_apart : NetApart (driver_at 0)
 driver_apart = (
@@ -166,10 +223,10 @@ module _ (plan : Plan) (trace : Trace) where
   apart_in SerialReceiver p is = subst ApartIn (some_is is) (second_apart (first_serial plan + 4) (length (serial_clients plan)))
   apart_in SerialSender p is = subst ApartIn (some_is is) (second_apart (first_serial plan + 5) (length (serial_clients plan)))
   apart_in (SerialClient c) p is = subst ApartIn (some_is is) tt
-  apart_in DiskDevice p is = absurd cc
-  apart_in DiskDriver p is = absurd cc
-  apart_in BlkVirtualiser p is = absurd cc
-  apart_in (BlkClient c) p is = absurd cc
+  apart_in DiskDevice p is = subst ApartIn (some_is is) tt
+  apart_in DiskDriver p is = subst ApartIn (some_is is) (disk_driver_apart (first_blk plan))
+  apart_in BlkVirtualiser p is = subst ApartIn (some_is is) (asks_apart (first_blk plan) (blk_place plan trace).entries (blk_place plan trace).pools)
+  apart_in (BlkClient c) p is = subst ApartIn (some_is is) tt
 
   pub cast_apart : (job : Job) (x : Actor) → job_part plan trace job ≡ Some (part_of x) → IsWhole x → HasApartEnds x
   cast_apart job x is whole = apart_of x whole (apart_in job (part_of x) is)

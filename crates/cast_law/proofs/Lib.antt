@@ -4,4 +4,5 @@ pub mod Apart
 pub mod Seated
 pub mod Wired
 pub mod Pooled
+pub mod Blocks
 pub mod Joined

@@ -5,10 +5,11 @@ use Rattle.frame_core.specs.declared.mac.Mac.{Mac}
 use Rattle.sdf_plan.specs.declared.plan.Plan.{Plan}
 use Rattle.sdf_plan.specs.declared.plan.Net.{Net}
 use Rattle.sdf_plan.specs.declared.plan.Serial.{Serial}
-use Rattle.trace_text.specs.Events.{net_clients, serial_clients}
+use Rattle.sdf_plan.specs.declared.plan.Blk.{Blk}
+use Rattle.trace_text.specs.Events.{net_clients, serial_clients, blk_clients}
 use Rattle.play_core.specs.Wants.{intake, outlet}
 use Rattle.play_core.proofs.Lists.{some_is}
-use Rattle.net_owners.specs.Names.{ClientPools}
+use Rattle.net_owners.specs.Names.{PoolAt, ClientPools}
 use Rattle.net_parts.specs.Parts.{Lessee}
 use Rattle.net_parts.specs.Numbers.{client_first, lessees_from}
 use Rattle.net_parts.specs.Table.{lessee_ends}
@@ -16,7 +17,10 @@ use Rattle.net_tx_parts.specs.Parts.{Shipper}
 use Rattle.net_tx_parts.specs.Table.{shipper_ends}
 use Rattle.net_tx_parts.specs.Numbers.{shippers_from}
 use Rattle.cast_core.specs.Sources.{every_second}
-use Rattle.seat_law.specs.Ends.{net_count, serial_count, ends_from, lease_ends, send_ends, given_end, said_end}
+use Rattle.blk_parts.specs.Parts.{Sharer}
+use Rattle.blk_parts.specs.Numbers.{sharers_from}
+use Rattle.blk_parts.specs.Table.{sharer_ends}
+use Rattle.seat_law.specs.Ends.{net_count, serial_count, ends_from, lease_ends, send_ends, given_end, said_end, blk_count, ask_ends}
 
 pub clients_counted : (plan : Plan) → length (net_clients plan) ≡ net_count plan
 clients_counted plan = go plan.net
@@ -31,6 +35,18 @@ speakers_counted plan = go plan.serial
     go : (o : Option Serial) → length (option_map_or (λ (serial : Serial). serial.client) o []) ≡ option_map_or (λ (serial : Serial). length serial.client) o 0
     go None = refl
     go (Some serial) = refl
+
+pub askers_counted : (plan : Plan) → length (blk_clients plan) ≡ blk_count plan
+askers_counted plan = go plan.blk
+  where
+    go : (o : Option Blk) → length (option_map_or (λ (blk : Blk). blk.client) o []) ≡ option_map_or (λ (blk : Blk). length blk.client) o 0
+    go None = refl
+    go (Some blk) = refl
+
+pub asks_end : (first k : ℕ) (entries : List ℕ) (pools : List PoolAt) → length pools ≡ length entries → flat_map sharer_ends (sharers_from first k entries pools) ≡ ends_from (ask_ends first) k (length entries)
+asks_end first k [] pools same = refl
+asks_end first k (entry ∷ entries) [] same = absurd (omega (arith, same))
+asks_end first k (entry ∷ entries) (pool ∷ pools) same = ap (λ ends. ask_ends first k ++ ends) (asks_end first (k + 1) entries pools (omega (arith, same)))
 
 pub leases_end : (k : ℕ) (macs : List Mac) → flat_map lessee_ends (lessees_from 0 k macs) ≡ ends_from lease_ends k (length macs)
 leases_end k [] = refl
@@ -74,3 +90,13 @@ second_get first (suc count) (suc k) m h = let r = second_get (first + 2) count 
 
 pub second_apart : (first count k j m : ℕ) → slice_get (every_second first count) k ≡ Some m → slice_get (every_second first count) j ≡ Some m → k ≡ j
 second_apart first count k j m p q = let a = (second_get first count k m p).1 in let b = (second_get first count j m q).1 in omega (arith, a, b)
+
+pub sharer_numbers : (first k : ℕ) (entries : List ℕ) (pools : List PoolAt) (c : ℕ) (x : Sharer) → slice_get (sharers_from first k entries pools) c ≡ Some x → (x.req ≡ first + 4 + 2 * (k + c)) × (x.resp ≡ first + 5 + 2 * (k + c))
+sharer_numbers first k [] pools c x at = absurd cc
+sharer_numbers first k (entry ∷ entries) [] c x at = absurd cc
+sharer_numbers first k (entry ∷ entries) (pool ∷ pools) zero x at =
+    let is : record { req = first + 4 + 2 * k; resp = first + 5 + 2 * k; entry = entry; pool = pool } ≡ x = some_is at in
+    let a : first + 4 + 2 * k ≡ x.req = ap (λ (y : Sharer). y.req) is in
+    let f : first + 5 + 2 * k ≡ x.resp = ap (λ (y : Sharer). y.resp) is in
+    (omega (arith, a), omega (arith, f))
+sharer_numbers first k (entry ∷ entries) (pool ∷ pools) (suc c) x at = let h = sharer_numbers first (k + 1) entries pools c x at in let a = h.0 in let f = h.1 in (omega (arith, a), omega (arith, f))

@@ -1,5 +1,5 @@
 -- Actors that are cast are seated at the rows.
-use Rattle.std.proofs.Common.{◌≡◌, ◌<◌, ◌≤◌, ℕ, Some, None, List, length, map, slice_get, sym, ap, ◌∙◌, subst, arith}
+use Rattle.std.proofs.Common.{◌≡◌, ◌<◌, ◌≤◌, ℕ, Some, List, length, map, slice_get, sym, ap, ◌∙◌, subst, arith}
 use Rattle.wire_core.specs.declared.names.QueueRow.{QueueRow}
 use Rattle.wire_core.specs.Ends.{Role, Consumer, Producer}
 use Rattle.wire_core.specs.Journal.{owner_of}
@@ -35,7 +35,7 @@ part_there plan trace actors valid cast job k has =
     let c = cast.each k x.0 x.1 in
     map_get part_of actors k x.0 x.1 ∙ (sym c.part ∙ ap (job_part plan trace) (same_job plan valid c.job job k c.has has))
 
-module _ (plan : Plan) (trace : Trace) (actors : List Actor) (valid : Valid plan) (none : plan.blk ≡ None) (cast : AreCast plan trace actors) where
+module _ (plan : Plan) (trace : Trace) (actors : List Actor) (valid : Valid plan) (cast : AreCast plan trace actors) where
   -- the ends of an actor are those of its job
   module _ (k : ℕ) (x : Actor) (at : slice_get actors k ≡ Some x) where
     abbrev own : IsCast plan trace k x
@@ -44,22 +44,22 @@ module _ (plan : Plan) (trace : Trace) (actors : List Actor) (valid : Valid plan
     whole : IsWhole x
     whole = new_whole x own.new
 
-    seat : (r : Role) (n : ℕ) → ActorEnd x r n → HasSeat (queues_of plan) (kind_at x) k r n
+    seat : (r : Role) (n : ℕ) → ActorEnd x r n → HasSeat (queues_of plan) (kind_at x r n) k r n
     seat r n end =
         let e = end_is plan trace own.job x own.part whole r n end in
-        let s = has_seat plan none own.job k own.has e.0 (record { queue = n; role = r }) e.1 in
-        record { row = s.0; there = s.1; owner = s.2; carries = s.3 ∙ sym (kind_is plan trace own.job x own.part) }
+        let s = has_seat plan own.job k own.has e.0 (record { queue = n; role = r }) e.1 in
+        record { row = s.0; there = s.1; owner = s.2; carries = s.3 ∙ sym (kind_is plan trace own.job x own.part r n) }
 
     end_there : (n : ℕ) (row : QueueRow) → slice_get (queues_of plan) n ≡ Some row → (r : Role) → owner_of row r ≡ k → ActorEnd x r n
     end_there n row there r owns =
-        let e = has_end plan valid none n row there r own.job (subst (HasJob plan own.job) (sym owns) own.has) in
+        let e = has_end plan valid n row there r own.job (subst (HasJob plan own.job) (sym owns) own.has) in
         is_end plan trace own.job x own.part r n e.0 e.1
 
     no_loop : (n : ℕ) → ActorEnd x Consumer n → ActorEnd x Producer n → ⊥
     no_loop n a b =
         let i = end_is plan trace own.job x own.part whole Consumer n a in
         let j = end_is plan trace own.job x own.part whole Producer n b in
-        not_both plan valid none own.job (job_is_of plan own.job k own.has) i.0 j.0 n i.1 j.1
+        not_both plan valid own.job (job_is_of plan own.job k own.has) i.0 j.0 n i.1 j.1
 
     apart : HasApartEnds x
     apart = cast_apart plan trace own.job x own.part whole

@@ -1,6 +1,6 @@
 -- The actors of a plan are wired: none is of the network, or they are the whole network at its
 -- place.
-use Rattle.std.proofs.Common.{◌≡◌, ◌+◌, ◌*◌, ◌%◌, ◌==◌, ◌&&◌, ◌<◌, ◌≤◌, ◌++◌, ℕ, zero, suc, Bool, true, false, if◌then◌else◌, Option, Some, None, unwrap_or, inl, inr, List, [], ◌∷◌, length, map, flat_map, slice_get, refl, sym, ap, ap₂, ◌∙◌, subst, arith}
+use Rattle.std.proofs.Common.{◌≡◌, ◌⊎◌, ◌+◌, ◌*◌, ◌%◌, ◌==◌, ◌&&◌, ◌<◌, ◌≤◌, ◌++◌, ℕ, zero, suc, Bool, true, false, if◌then◌else◌, Option, Some, None, unwrap_or, inl, inr, List, [], ◌∷◌, length, map, flat_map, slice_get, refl, sym, ap, ap₂, ◌∙◌, subst, arith}
 use Rattle.std.specs.List.{All}
 use Rattle.std.specs.Option.{option_map_or}
 use Rattle.std.proofs.lemmas.List.{append-nil}
@@ -19,7 +19,7 @@ use Rattle.trace_text.specs.Events.{net_clients}
 use Rattle.trace_text.specs.Traces.{IsReadFor}
 use Rattle.trace_text.specs.Shapes.{HasShapes, IsFrame as IsTraceFrame}
 use Rattle.trace_text.proofs.Shapes.{shapes-read}
-use Rattle.region_layout.specs.Rows.{queues_of, pools_of, actor_named, eth_number}
+use Rattle.region_layout.specs.Rows.{queues_of, pools_of, actor_named, eth_number, disk_number}
 use Rattle.layout_laws.specs.Sound.{IsSoundPool}
 use Rattle.layout_laws.proofs.Pools.{pools_sound}
 use Rattle.layout_laws.proofs.Rooms.{has_rooms}
@@ -34,19 +34,20 @@ use Rattle.net_parts.proofs.Items.{all_at}
 use Rattle.net_tx_parts.specs.Parts.{SendPart}
 use Rattle.net_tx_parts.specs.Numbers.{NetPlace, own_pools}
 use Rattle.net_tx_cast.specs.Casting.{AreFrames, IsClientOf}
-use Rattle.actor_set.specs.Parts.{Part, UartPart, DriverPart, RxPart, TxPart, ClientPart, NetworkPart, SendingPart}
+use Rattle.blk_parts.specs.Numbers.{disk_at}
+use Rattle.actor_set.specs.Parts.{Part, NetworkPart, SendingPart, BlockPart}
 use Rattle.actor_set.specs.Actors.{part_of}
 use Rattle.actor_set.specs.declared.actor.Actor.{Actor}
 use Rattle.actor_law.specs.Kinds.{frames_of, image_of, scene_of}
-use Rattle.wired_law.specs.Wiring.{HasWhole, HasNoNetwork, IsOfNetwork, IsWired}
+use Rattle.wired_law.specs.Wiring.{HasWhole, HasNoNetwork, IsOfNetwork}
 use Rattle.job_law.specs.Jobs.{Job, EthDevice, EthDriver, NetReceiver, NetSender, NetCopier, NetClient, UartDevice, UartDriver, SerialReceiver, SerialSender, SerialClient, DiskDevice, DiskDriver, BlkVirtualiser, BlkClient, HasJob}
 use Rattle.job_law.proofs.Having.{one_actor, same_job, job_below}
-use Rattle.seat_law.specs.Ends.{HasNet, IsOf, net_count}
+use Rattle.seat_law.specs.Ends.{HasNet, HasBlk as HasBlkClass, IsOf, net_count}
 use Rattle.seat_law.specs.Named.{AreNetNamed}
 use Rattle.seat_law.proofs.Having.{job_is_of}
 use Rattle.seat_law.proofs.Carrying.{net_kinds}
-use Rattle.seat_law.proofs.Naming.{net_named}
-use Rattle.cast_core.specs.Casts.{client_pools, net_place, job_part, scene_for, AreCast}
+use Rattle.seat_law.proofs.Naming.{net_named, blk_named}
+use Rattle.cast_core.specs.Casts.{client_pools, net_place, blk_place, job_part, scene_for, AreCast}
 use Rattle.cast_core.specs.Sources.{no_mac, client_mac, client_kind, client_program}
 use Rattle.cast_core.proofs.Listing.{value_count, value_at, value_is}
 
@@ -82,16 +83,7 @@ script_is Programs.Sink sent script e = absurd cc
 script_is Programs.Source sent script e = cc
 script_is Programs.Echo sent script e = absurd cc
 
-no_image : (p : Part) → image_of p ≡ []
-no_image (UartPart rx tx input) = refl
-no_image (DriverPart device_rx device_tx rx tx) = refl
-no_image (RxPart rx clients) = refl
-no_image (TxPart tx clients) = refl
-no_image (ClientPart rx tx script) = refl
-no_image (NetworkPart p) = refl
-no_image (SendingPart p) = refl
-
-module _ (plan : Plan) (trace : Trace) (actors : List Actor) (valid : Valid plan) (no_blk : plan.blk ≡ None) (made : AreCast plan trace actors) where
+module _ (plan : Plan) (trace : Trace) (actors : List Actor) (valid : Valid plan) (made : AreCast plan trace actors) where
   abbrev cast : List Part
   cast = map part_of actors
 
@@ -123,10 +115,28 @@ module _ (plan : Plan) (trace : Trace) (actors : List Actor) (valid : Valid plan
   frames_by SerialReceiver p is not_device = ap frames_of (sym (some_is is))
   frames_by SerialSender p is not_device = ap frames_of (sym (some_is is))
   frames_by (SerialClient c) p is not_device = ap frames_of (sym (some_is is))
-  frames_by DiskDevice p is not_device = absurd cc
-  frames_by DiskDriver p is not_device = absurd cc
-  frames_by BlkVirtualiser p is not_device = absurd cc
-  frames_by (BlkClient c) p is not_device = absurd cc
+  frames_by DiskDevice p is not_device = ap frames_of (sym (some_is is))
+  frames_by DiskDriver p is not_device = ap frames_of (sym (some_is is))
+  frames_by BlkVirtualiser p is not_device = ap frames_of (sym (some_is is))
+  frames_by (BlkClient c) p is not_device = ap frames_of (sym (some_is is))
+
+  -- and the image is that of the disk
+  image_by : (job : Job) (p : Part) → job_part plan trace job ≡ Some p → (job ≡ DiskDevice → ⊥) → image_of p ≡ []
+  image_by EthDevice p is not_disk = ap image_of (sym (some_is is))
+  image_by EthDriver p is not_disk = ap image_of (sym (some_is is))
+  image_by NetReceiver p is not_disk = ap image_of (sym (some_is is))
+  image_by NetSender p is not_disk = ap image_of (sym (some_is is))
+  image_by (NetCopier c) p is not_disk = ap image_of (sym (some_is is))
+  image_by (NetClient c) p is not_disk = ap image_of (sym (some_is is))
+  image_by UartDevice p is not_disk = ap image_of (sym (some_is is))
+  image_by UartDriver p is not_disk = ap image_of (sym (some_is is))
+  image_by SerialReceiver p is not_disk = ap image_of (sym (some_is is))
+  image_by SerialSender p is not_disk = ap image_of (sym (some_is is))
+  image_by (SerialClient c) p is not_disk = ap image_of (sym (some_is is))
+  image_by DiskDevice p is not_disk = absurd (not_disk refl)
+  image_by DiskDriver p is not_disk = ap image_of (sym (some_is is))
+  image_by BlkVirtualiser p is not_disk = ap image_of (sym (some_is is))
+  image_by (BlkClient c) p is not_disk = ap image_of (sym (some_is is))
 
   pub frames_there : (net : Net) → plan.net ≡ Some net → (scene_of cast).frames ≡ trace.frames
   frames_there net is =
@@ -145,15 +155,33 @@ module _ (plan : Plan) (trace : Trace) (actors : List Actor) (valid : Valid plan
       none_there : HasNet plan → ⊥
       none_there (net, is) = absurd cc
 
-  no_images : (scene_of cast).image ≡ []
-  no_images = none_of image_of cast (λ j p at. no_image p)
+  pub image_there : (blk : Blk) → plan.blk ≡ Some blk → (scene_of cast).image ≡ trace.image
+  image_there blk is =
+      let disk = (blk_named plan blk is).device in
+      let k = (disk_number plan).0 in
+      single image_of cast k (BlockPart (disk_at (blk_place plan trace))) (part_at DiskDevice k disk)
+      (λ j p at ne.
+      let one = job_of j p at in
+      image_by one.0 p one.2 (λ e. ne (one_actor plan DiskDevice j k (subst (λ job. HasJob plan job j) e one.1) disk)))
+
+  no_image : plan.blk ≡ None → (scene_of cast).image ≡ []
+  no_image none = none_of image_of cast (λ j p at.
+      let one = job_of j p at in
+      image_by one.0 p one.2 (λ e. none_there (job_is_of plan DiskDevice j (subst (λ job. HasJob plan job j) e one.1))))
+    where
+      none_there : HasBlkClass plan → ⊥
+      none_there (blk, is) = absurd cc
 
   pub scene_is : scene_of cast ≡ scene_for plan trace
-  scene_is = ap₂ (λ (fs : List (List ℕ)) (bs : List ℕ). let s : Scene = record { frames = fs; image = bs } in s) (by plan.net refl) (no_images ∙ sym (ap (λ (o : Option Blk). option_map_or (λ (blk : Blk). trace.image) o []) no_blk))
+  scene_is = ap₂ (λ (fs : List (List ℕ)) (bs : List ℕ). let s : Scene = record { frames = fs; image = bs } in s) (by plan.net refl) (with_disk plan.blk refl)
     where
       by : (o : Option Net) → plan.net ≡ o → (scene_of cast).frames ≡ option_map_or (λ (net : Net). trace.frames) plan.net []
       by None is = no_frames is ∙ sym (ap (λ (o : Option Net). option_map_or (λ (net : Net). trace.frames) o []) is)
       by (Some net) is = frames_there net is ∙ sym (ap (λ (o : Option Net). option_map_or (λ (net : Net). trace.frames) o []) is)
+
+      with_disk : (o : Option Blk) → plan.blk ≡ o → (scene_of cast).image ≡ option_map_or (λ (blk : Blk). trace.image) plan.blk []
+      with_disk None is = no_image is ∙ sym (ap (λ (o : Option Blk). option_map_or (λ (blk : Blk). trace.image) o []) is)
+      with_disk (Some blk) is = image_there blk is ∙ sym (ap (λ (o : Option Blk). option_map_or (λ (blk : Blk). trace.image) o []) is)
 
   -- a part of the network has a job of the network class
   net_job : (job : Job) (q : NetPart) → job_part plan trace job ≡ Some (NetworkPart q) → IsOf plan job → HasNet plan
@@ -313,9 +341,9 @@ module _ (plan : Plan) (trace : Trace) (actors : List Actor) (valid : Valid plan
           subst AreFrames (sym same) (sent_frames k);
     }
 
-  pub wired_is : IsReadFor plan trace → IsWired (queues_of plan) cast
-  wired_is read = by plan.net refl
+  pub network_is : IsReadFor plan trace → HasNoNetwork cast ⊎ ((net : NetPlace) × HasWhole (queues_of plan) net cast)
+  network_is read = by plan.net refl
     where
-      by : (o : Option Net) → plan.net ≡ o → IsWired (queues_of plan) cast
+      by : (o : Option Net) → plan.net ≡ o → HasNoNetwork cast ⊎ ((net : NetPlace) × HasWhole (queues_of plan) net cast)
       by None none = inl (no_network none)
       by (Some net) is = inr (net_place plan trace, whole_is net is read)

@@ -1,2 +1,3 @@
--- Where the actors of a plan are seated.
+-- Where the actors of a plan are seated (Seats), and where its classes with pools stand (Places).
 pub mod Seats
+pub mod Places

@@ -15,7 +15,7 @@ pub record AreSeated (rows : List QueueRow) (actors : List Actor) : Type 0 where
   pub new : (k : ℕ) (x : Actor) → slice_get actors k ≡ Some x → IsNew x
   pub apart : (k : ℕ) (x : Actor) → slice_get actors k ≡ Some x → HasApartEnds x
   pub seats : (k : ℕ) (x : Actor) → slice_get actors k ≡ Some x → (r : Role) (n : ℕ)
-      → ActorEnd x r n → HasSeat rows (kind_at x) k r n
+      → ActorEnd x r n → HasSeat rows (kind_at x r n) k r n
   -- and each seat that the rows give an actor is one of its ends
   pub ends : (k : ℕ) (x : Actor) → slice_get actors k ≡ Some x → (n : ℕ) (row : QueueRow)
       → slice_get rows n ≡ Some row → (r : Role) → owner_of row r ≡ k → ActorEnd x r n

@@ -2,52 +2,50 @@
 //! system can start with them.
 #![tactic(auto)]
 
-ghost use Rattle.std.specs.Prelude.{◌≡◌, ℕ, Some, None, List, [], length, map, slice_get};
+ghost use Rattle.std.specs.Prelude.{◌≡◌, ℕ, Some, None, List, map, slice_get};
 ghost use Rattle.sdf_plan.specs.declared.plan.Plan.{Plan};
 ghost use Rattle.sdf_plan.specs.declared.plan.Net.{Net};
+ghost use Rattle.sdf_plan.specs.declared.plan.Blk.{Blk};
 ghost use Rattle.sdf_check.specs.Valid.{Valid};
 ghost use Rattle.trace_text.specs.declared.trace.Trace.{Trace};
 ghost use Rattle.trace_text.specs.Traces.{IsReadFor};
 ghost use Rattle.region_layout.specs.Rows.{pools_of, queues_of};
-ghost use Rattle.pool_lines.specs.PoolLines.{AreSized};
-ghost use Rattle.net_pools.specs.Sizes.{net_pools, sizes_of, AreNumbered};
 ghost use Rattle.actor_set.specs.Actors.{part_of};
 ghost use Rattle.actor_set.specs.declared.actor.Actor.{Actor};
 ghost use Rattle.actor_law.specs.Kinds.{scene_of};
 ghost use Rattle.job_law.specs.Jobs.{Job, HasJob};
-ghost use Rattle.cast_core.specs.Casts.{net_place, job_part, scene_for, AreCast};
-ghost use Rattle.wired_law.specs.Wiring.{HasNoNetwork, HasWhole};
+ghost use Rattle.cast_core.specs.Casts.{blk_place, net_place, job_part, scene_for, AreCast};
+ghost use Rattle.wired_law.specs.Wiring.{HasBlk, HasNoBlock, HasNoNetwork, HasWhole};
+ghost use Rattle.cast_pools.specs.Places.{IsPlaced, HasPools};
+ghost use Rattle.cast_law.specs.Places.{pool_place};
 ghost use Rattle.cast_law.specs.Seats.{AreSeated};
 
-/// The actors of a valid plan without a block class are seated at its layout's queues, each number
-/// has the part of its job, and with a network class the cast has the whole network where the
-/// layout places it. The scene is what the trace gives the plan's classes. The pools of the network's
-/// place are those of the layout, by their numbers.
+/// The actors of a valid plan are seated at its layout's queues, each number
+/// has the part of its job, and with a network class or a block class the cast has the whole class
+/// where the layout places it. The scene is what the trace gives the plan's classes. The classes with
+/// pools stand where the plan has them, no two pools of the block class have an address in common, and
+/// their pools are those of the layout, by their numbers and with their sizes.
 pub fn cast_law()
     ensures seated { (plan : Plan) (trace : Trace) (actors : List Actor) → Valid plan
-        → plan.blk ≡ None → IsReadFor plan trace → AreCast plan trace actors
-        → AreSeated (queues_of plan) actors }
+        → IsReadFor plan trace → AreCast plan trace actors → AreSeated (queues_of plan) actors }
     ensures parts { (plan : Plan) (trace : Trace) (actors : List Actor) → Valid plan
         → AreCast plan trace actors → (job : Job) (k : ℕ) → HasJob plan job k
         → slice_get (map part_of actors) k ≡ job_part plan trace job }
     ensures whole { (plan : Plan) (trace : Trace) (actors : List Actor) → Valid plan
-        → plan.blk ≡ None → IsReadFor plan trace → AreCast plan trace actors
-        → (net : Net) → plan.net ≡ Some net
+        → IsReadFor plan trace → AreCast plan trace actors → (net : Net) → plan.net ≡ Some net
         → HasWhole (queues_of plan) (net_place plan trace) (map part_of actors) }
     ensures scene { (plan : Plan) (trace : Trace) (actors : List Actor) → Valid plan
-        → plan.blk ≡ None → AreCast plan trace actors
-        → scene_of (map part_of actors) ≡ scene_for plan trace }
-    ensures numbered { (plan : Plan) (trace : Trace)
-        → AreNumbered (net_pools (net_place plan trace).pool (net_place plan trace).pools) }
-    ensures sized { (plan : Plan) (trace : Trace) → plan.blk ≡ None → (net : Net)
-        → plan.net ≡ Some net
-        → AreSized (sizes_of (net_pools (net_place plan trace).pool (net_place plan trace).pools))
-        0 (pools_of plan) }
-    ensures many { (plan : Plan) (trace : Trace) → plan.blk ≡ None → (net : Net)
-        → plan.net ≡ Some net → length (pools_of plan)
-        ≡ length (net_pools (net_place plan trace).pool (net_place plan trace).pools) }
-    ensures no_pools { (plan : Plan) → plan.blk ≡ None → plan.net ≡ None → pools_of plan ≡ [] }
+        → AreCast plan trace actors → scene_of (map part_of actors) ≡ scene_for plan trace }
+    ensures pooled { (plan : Plan) (trace : Trace)
+        → HasPools (pools_of plan) (pool_place plan trace) }
+    ensures placed { (plan : Plan) (trace : Trace) (actors : List Actor) → Valid plan
+        → IsReadFor plan trace → AreCast plan trace actors
+        → IsPlaced (queues_of plan) (pool_place plan trace) (map part_of actors) }
     ensures no_network { (plan : Plan) (trace : Trace) (actors : List Actor) → Valid plan
-        → plan.blk ≡ None → AreCast plan trace actors → plan.net ≡ None
-        → HasNoNetwork (map part_of actors) }
+        → AreCast plan trace actors → plan.net ≡ None → HasNoNetwork (map part_of actors) }
+    ensures block { (plan : Plan) (trace : Trace) (actors : List Actor) → Valid plan
+        → IsReadFor plan trace → AreCast plan trace actors → (blk : Blk) → plan.blk ≡ Some blk
+        → HasBlk (queues_of plan) (blk_place plan trace) (map part_of actors) }
+    ensures no_block { (plan : Plan) (trace : Trace) (actors : List Actor) → Valid plan
+        → AreCast plan trace actors → plan.blk ≡ None → HasNoBlock (map part_of actors) }
 {}

@@ -45,11 +45,20 @@ use Rattle.net_pools.proofs.Holding.{device_holds, driver_holds, copier_holds}
 use Rattle.net_pools.proofs.Lending.{receiver_holds}
 use Rattle.net_tx_owners.proofs.Carrying.{sender_on}
 use Rattle.net_tx_owners.proofs.Holding.{sender_holds}
+use Rattle.disk_device.proofs.Holding.{balance_of as disk_balance}
+use Rattle.blk_virt.proofs.Rows.{row_of as server_row}
+use Rattle.blk_client.proofs.Standing.{row_of as asker_row}
+use Rattle.blk_owners.specs.Answering.{IsInOrder}
+use Rattle.blk_pools.proofs.Carrying.{disk_on, driver_on as blk_driver_on}
+use Rattle.blk_pools.proofs.Asking.{client_on as asker_on}
+use Rattle.blk_pools.proofs.Serving.{virt_on}
+use Rattle.blk_pools.proofs.Holding.{disk_holds, driver_holds as blk_driver_holds, virt_holds, client_holds as asker_holds}
 use Rattle.actor_set.specs.Actors.{ActorStandsFor, IsWhole, part_of, numbers}
 use Rattle.actor_set.specs.declared.actor.Actor.{Actor}
 use Rattle.actor_set.specs.declared.actor.Actor.TheVariants as Kinds
 use Rattle.actor_law.specs.Kinds.{sheet}
 use Rattle.actor_law.specs.Turning.{InTurn}
+use Rattle.actor_law.proofs.BlkRows.{disk_row_of}
 use Rattle.actor_law.proofs.NetRows.{device_row_of, items_at}
 use Rattle.cast_pools.specs.Holders.{NamesAt, IsSized, TakesNet, actor_holder}
 
@@ -93,22 +102,26 @@ tx_row v passed st = record { owed = option_to_list v.load; few = one v.load; me
     one None = omega arith
     one (Some c) = omega arith
 
-module _ (naming : Naming) (scene : Scene) (passed : Passed) (m : Moved) where
+module _ (naming : Naming) (scene : Scene) (passed : Passed) (m : Moved) (items : HaveItems passed m) where
   -- where what it took carries the pages that are named, so does what it put
-  pub actor_on : (x : Actor) → NamesAt naming scene (part_of x) → TakesNet x passed → InTurn scene x passed → ActorStandsFor x passed → HandsOn naming m passed (sheet scene (part_of x)).ends
-  actor_on (Kinds.UartDevice x) names net turn st = terminal_on naming passed m x.terminal names (terminal_row x.terminal passed st)
-  actor_on (Kinds.UartDriver x) names net turn st = piped_on naming passed m (two_pipes x.driver.pipes) names (pipes_row (two_pipes x.driver.pipes) passed st)
-  actor_on (Kinds.SerialVirtRx x) names net turn st = serial_receiver_on naming passed m x names (rx_row x passed st)
-  actor_on (Kinds.SerialVirtTx x) names net turn st = serial_sender_on naming passed m x names (tx_row x passed st)
-  actor_on (Kinds.SerialClient x) names net turn st = terminal_on naming passed m x.terminal names (terminal_row x.terminal passed st)
-  actor_on (Kinds.EthDevice x) names net turn st = device_on naming scene passed m x names (device_row_of x passed st)
-  actor_on (Kinds.EthDriver x) names net turn st = driver_on naming scene passed m (four_pipes x.driver.pipes) names (pipes_row (four_pipes x.driver.pipes) passed st)
-  actor_on (Kinds.NetVirtRx x) names net turn st = receiver_on naming scene passed m x names turn.size turn.takes.given_net (receiver_row x passed st)
-  actor_on (Kinds.NetCopier x) names net turn st = copier_on naming scene passed m x names (copier_row x passed st)
-  actor_on (Kinds.NetClient x) names net turn st = client_on naming scene passed m x names turn.0 (client_row x passed st)
-  actor_on (Kinds.NetVirtTx x) names net turn st = sender_on naming passed m x names net (sender_row x passed st)
+  pub actor_on : IsInOrder naming m → (x : Actor) → NamesAt naming scene (part_of x) → TakesNet x passed → IsWhole x → InTurn scene x passed → ActorStandsFor x passed → HandsOn naming m passed (sheet scene (part_of x)).ends
+  actor_on order (Kinds.UartDevice x) names net whole turn st = terminal_on naming passed m x.terminal names (terminal_row x.terminal passed st)
+  actor_on order (Kinds.UartDriver x) names net whole turn st = piped_on naming passed m (two_pipes x.driver.pipes) names (pipes_row (two_pipes x.driver.pipes) passed st)
+  actor_on order (Kinds.SerialVirtRx x) names net whole turn st = serial_receiver_on naming passed m x names (rx_row x passed st)
+  actor_on order (Kinds.SerialVirtTx x) names net whole turn st = serial_sender_on naming passed m x names (tx_row x passed st)
+  actor_on order (Kinds.SerialClient x) names net whole turn st = terminal_on naming passed m x.terminal names (terminal_row x.terminal passed st)
+  actor_on order (Kinds.EthDevice x) names net whole turn st = device_on naming scene passed m x names (device_row_of x passed st)
+  actor_on order (Kinds.EthDriver x) names net whole turn st = driver_on naming scene passed m (four_pipes x.driver.pipes) names (pipes_row (four_pipes x.driver.pipes) passed st)
+  actor_on order (Kinds.NetVirtRx x) names net whole turn st = receiver_on naming scene passed m x names turn.size turn.takes.given_net (receiver_row x passed st)
+  actor_on order (Kinds.NetCopier x) names net whole turn st = copier_on naming scene passed m x names (copier_row x passed st)
+  actor_on order (Kinds.NetClient x) names net whole turn st = client_on naming scene passed m x names turn.0 (client_row x passed st)
+  actor_on order (Kinds.NetVirtTx x) names net whole turn st = sender_on naming passed m x names net (sender_row x passed st)
+  actor_on order (Kinds.DiskDevice x) names net whole turn st = disk_on naming passed m items order scene x.start.value x.device names.0 (disk_row_of x.start.value x.device passed st)
+  actor_on order (Kinds.BlkDriver x) names net whole turn st = blk_driver_on naming passed m items order scene x.driver.pipes.first x.driver.pipes.rest names.0 (pipes_row (two_pipes x.driver.pipes) passed st)
+  actor_on order (Kinds.BlkVirt x) names net whole turn st = virt_on naming scene passed m items order x names whole.first turn (server_row x passed st)
+  actor_on order (Kinds.BlkClient x) names net whole turn st = asker_on naming scene passed m x names.0 (asker_row x passed st)
 
-  module _ (sizes : ℕ → ℕ) (items : HaveItems passed m) where
+  module _ (sizes : ℕ → ℕ) where
     lender_holds : (v : NetVirtRx) → NamesAt naming scene (part_of (Kinds.NetVirtRx v)) → IsSized sizes (part_of (Kinds.NetVirtRx v)) → IsWhole (Kinds.NetVirtRx v) → ReceivesInTurn scene.frames v passed → NetRxStandsFor v passed → HoldsIts naming sizes m passed (actor_holder scene (Kinds.NetVirtRx v))
     lender_holds v names sized whole turn st =
         let row = receiver_row v passed st in
@@ -129,3 +142,7 @@ module _ (naming : Naming) (scene : Scene) (passed : Passed) (m : Moved) where
     actor_holds (Kinds.NetVirtTx x) names sized whole turn st takes =
         let row = sender_row x passed st in
         sender_holds naming sizes x passed m names row.from_each row.to_each st.balances
+    actor_holds (Kinds.DiskDevice x) names sized whole turn st takes = disk_holds naming sizes scene passed m x.start.value x.device names.0 (disk_balance x.start.value x.device passed st)
+    actor_holds (Kinds.BlkDriver x) names sized whole turn st takes = blk_driver_holds naming sizes scene passed m x.driver.pipes.first x.driver.pipes.rest names.0 (pipes_balance (two_pipes x.driver.pipes) passed st)
+    actor_holds (Kinds.BlkVirt x) names sized whole turn st takes = virt_holds naming sizes scene passed m x names.0 whole.from_each whole.to_each (record { start = st.start; own = st.stands.is_start; balances = st.balances })
+    actor_holds (Kinds.BlkClient x) names sized whole turn st takes = asker_holds naming sizes scene passed m x names.0 (record { start = st.start; is_start = st.is_start; balances = st.balances })

@@ -25,6 +25,15 @@ use Rattle.net_tx_parts.specs.Parts.{Shipper}
 use Rattle.net_tx_parts.specs.Playing.{shippers, send_part}
 use Rattle.net_tx_parts.specs.Table.{shipper_ends}
 use Rattle.net_parts.proofs.Leasing.{Served, served_at}
+use Rattle.disk_device.specs.Disks as disk
+use Rattle.blk_client.specs.Clients as asker
+use Rattle.blk_virt.specs.Desks.{holders}
+use Rattle.blk_virt.specs.Ends.{FitsEnds}
+use Rattle.blk_virt.specs.declared.requests.Holder.{Holder}
+use Rattle.blk_virt.specs.declared.virtualiser.BlkVirt.{BlkVirt}
+use Rattle.blk_parts.specs.Parts.{Sharer}
+use Rattle.blk_parts.specs.Playing.{sharers}
+use Rattle.blk_parts.specs.Table.{sharer_ends}
 use Rattle.actor_set.specs.Actors.{FitsActor, part_of, numbers}
 use Rattle.actor_set.specs.declared.actor.Actor.{Actor}
 use Rattle.actor_set.specs.declared.actor.Actor.TheVariants as Kinds
@@ -244,6 +253,31 @@ sender_apart ends v fits =
     by i j c d s t (inl e) = fits.from_clients.apart i j s.0 t.0 s.2 t.2 (s.4 ∙ (e ∙ sym t.4))
     by i j c d s t (inr e) = fits.to_clients.apart i j s.1 t.1 s.3 t.3 (s.5 ∙ (e ∙ sym t.5))
 
+-- clients of the block virtualiser
+abbrev IsSharing : List Holder → (from to : List QueueId) → ℕ → Sharer → Type 0
+IsSharing hs from to k c = (q : QueueId) × (r : QueueId) × (slice_get from k ≡ Some q) × (slice_get to k ≡ Some r) × (q.0 ≡ c.req) × (r.0 ≡ c.resp)
+
+sharing : (hs : List Holder) (from to : List QueueId) (k : ℕ) (c : Sharer) → slice_get (sharers hs from to) k ≡ Some c → IsSharing hs from to k c
+sharing [] from to k c at = cc
+sharing (h ∷ hs) [] to k c at = cc
+sharing (h ∷ hs) (q ∷ from) [] k c at = cc
+sharing (h ∷ hs) (q ∷ from) (r ∷ to) zero c at = (q, r, refl, refl, ap (λ (z : Sharer). z.req) (some_is at), ap (λ (z : Sharer). z.resp) (some_is at))
+sharing (h ∷ hs) (q ∷ from) (r ∷ to) (suc k) c at = sharing hs from to k c at
+
+server_apart : (ends : Role → ℕ → End) (v : BlkVirt) → FitsEnds ends v.ends → AreApart (intake v.ends.input.queue.0 ∷ outlet v.ends.output.queue.0 ∷ flat_map sharer_ends (sharers (holders v.work.desk) (from_queues v.ends) (to_queues v.ends)))
+server_apart ends v fits =
+    after_in_out (λ (c : Sharer). c.req) (λ c. c.resp) v.ends.input.queue.0 v.ends.output.queue.0 (sharers (holders v.work.desk) (from_queues v.ends) (to_queues v.ends))
+    (λ k c at e. let s = served k c at in fits.inputs_apart k s.0 s.2 (e ∙ sym s.4))
+    (λ k c at e. let s = served k c at in fits.outputs_apart k s.1 s.3 (e ∙ sym s.5))
+    (λ i j c d at there same. by i j c d (served i c at) (served j d there) same)
+  where
+    served : (k : ℕ) (c : Sharer) → slice_get (sharers (holders v.work.desk) (from_queues v.ends) (to_queues v.ends)) k ≡ Some c → IsSharing (holders v.work.desk) (from_queues v.ends) (to_queues v.ends) k c
+    served k c at = sharing (holders v.work.desk) (from_queues v.ends) (to_queues v.ends) k c at
+
+    by : (i j : ℕ) (c d : Sharer) → IsSharing (holders v.work.desk) (from_queues v.ends) (to_queues v.ends) i c → IsSharing (holders v.work.desk) (from_queues v.ends) (to_queues v.ends) j d → (c.req ≡ d.req) ⊎ (c.resp ≡ d.resp) → i ≡ j
+    by i j c d s t (inl e) = fits.from_clients.apart i j s.0 t.0 s.2 t.2 (s.4 ∙ (e ∙ sym t.4))
+    by i j c d s t (inr e) = fits.to_clients.apart i j s.1 t.1 s.3 t.3 (s.5 ∙ (e ∙ sym t.5))
+
 -- no actor that fits its ends has one twice
 pub ends_apart : (ends : Role → ℕ → End) (scene : Scene) (x : Actor) → FitsActor ends x → AreApart (sheet scene (part_of x)).ends
 ends_apart ends scene (Kinds.UartDevice x) fits = one_each x.terminal.input.queue.0 x.terminal.output.queue.0
@@ -261,3 +295,7 @@ ends_apart ends scene (Kinds.NetVirtRx x) fits = lender_apart ends x fits.0.ends
 ends_apart ends scene (Kinds.NetCopier x) fits = by_twos x.lease_input.queue.0 x.buffer_input.queue.0 x.buffer_output.queue.0 x.lease_output.queue.0 fits.inputs_apart fits.outputs_apart
 ends_apart ends scene (Kinds.NetClient x) fits = by_turns (client.rx_active x) (client.rx_free x) (client.tx_free x) (client.tx_active x) fits.0.inputs_apart fits.0.outputs_apart
 ends_apart ends scene (Kinds.NetVirtTx x) fits = sender_apart ends x fits.ends_fit
+ends_apart ends scene (Kinds.DiskDevice x) fits = one_each (disk.req x.device) (disk.resp x.device)
+ends_apart ends scene (Kinds.BlkDriver x) fits = ways_apart (two_pipes x.driver.pipes) fits.inputs fits.outputs
+ends_apart ends scene (Kinds.BlkVirt x) fits = server_apart ends x fits.0.ends_fit
+ends_apart ends scene (Kinds.BlkClient x) fits = one_each (asker.resp_queue x) (asker.req_queue x)

@@ -15,7 +15,7 @@ use Rattle.net_parts.specs.Table.{net_sheet}
 use Rattle.net_parts.proofs.Pairs.{twice, pair_first, pair_second}
 use Rattle.net_tx_parts.specs.Parts.{Shipper}
 use Rattle.net_tx_parts.specs.Numbers.{NetPlace, own_pools, shippers_from, sender_at}
-use Rattle.actor_set.specs.Parts.{Part, UartPart, DriverPart, RxPart, TxPart, ClientPart, NetworkPart, SendingPart}
+use Rattle.actor_set.specs.Parts.{Part, UartPart, DriverPart, RxPart, TxPart, ClientPart, NetworkPart, SendingPart, BlockPart}
 use Rattle.actor_law.specs.Kinds.{sheet, scene_of}
 use Rattle.wired_law.specs.Wiring.{HasPart, HasWhole}
 
@@ -55,6 +55,7 @@ IsNetwork (TxPart tx clients) = ⊥
 IsNetwork (ClientPart rx tx script) = ⊥
 IsNetwork (NetworkPart p) = Unit {0}
 IsNetwork (SendingPart p) = Unit {0}
+IsNetwork (BlockPart p) = ⊥
 
 module _ (rows : List QueueRow) (net : NetPlace) (cast : List Part) (whole : HasWhole rows net cast) (first : net.first ≡ 0) where
   abbrev pub scene : Scene

@@ -7,10 +7,11 @@ use Rattle.net_parts.specs.Parts.{NetPart, NetDevice, NetDriver, NetReceiver, Ne
 use Rattle.net_parts.specs.Naming.{NamesPart}
 use Rattle.net_rx_owners.specs.Virtualiser.{AreNet}
 use Rattle.net_tx_owners.specs.Shipping.{NamesSend}
+use Rattle.blk_pools.specs.Naming.{NamesServed}
 use Rattle.pool_law.specs.Handing.{NameNothing}
 use Rattle.pool_law.specs.Lines.{Holder}
 use Rattle.net_pools.specs.Holders.{holder_of}
-use Rattle.actor_set.specs.Parts.{Part, UartPart, DriverPart, RxPart, TxPart, ClientPart, NetworkPart, SendingPart}
+use Rattle.actor_set.specs.Parts.{Part, UartPart, DriverPart, RxPart, TxPart, ClientPart, NetworkPart, SendingPart, BlockPart}
 use Rattle.actor_set.specs.Actors.{part_of, actor_hand, actor_lent}
 use Rattle.actor_set.specs.declared.actor.Actor.{Actor}
 use Rattle.actor_set.specs.declared.actor.Actor.TheVariants as Kinds
@@ -29,7 +30,7 @@ abbrev pub NothingAt : Naming → Scene → Part → Type 0
 NothingAt naming scene p = NameNothing naming (sheet scene p).ends
 
 -- what items name at a part's queues: at those of the serial class nothing, at those of the network
--- buffers and leases
+-- buffers and leases, and at those of the block class buffers
 abbrev pub NamesAt : Naming → Scene → Part → Type 0
 NamesAt naming scene (UartPart rx tx input) = NothingAt naming scene (UartPart rx tx input)
 NamesAt naming scene (DriverPart device_rx device_tx rx tx) =
@@ -39,6 +40,7 @@ NamesAt naming scene (TxPart tx clients) = NothingAt naming scene (TxPart tx cli
 NamesAt naming scene (ClientPart rx tx script) = NothingAt naming scene (ClientPart rx tx script)
 NamesAt naming scene (NetworkPart p) = NamesPart naming scene p
 NamesAt naming scene (SendingPart p) = NamesSend naming p
+NamesAt naming scene (BlockPart p) = NamesServed naming p
 
 -- the pool that a part of the network lends has its size by its number
 abbrev pub LendsSized : (ℕ → ℕ) → NetPart → Type 0
@@ -57,6 +59,7 @@ IsSized sizes (TxPart tx clients) = Unit {0}
 IsSized sizes (ClientPart rx tx script) = Unit {0}
 IsSized sizes (NetworkPart p) = LendsSized sizes p
 IsSized sizes (SendingPart p) = Unit {0}
+IsSized sizes (BlockPart p) = Unit {0}
 
 -- a sending virtualiser took entries of the network alone from the driver; of other kinds nothing
 -- is asked
@@ -72,3 +75,7 @@ TakesNet (Kinds.NetVirtRx x) passed = Unit {0}
 TakesNet (Kinds.NetCopier x) passed = Unit {0}
 TakesNet (Kinds.NetClient x) passed = Unit {0}
 TakesNet (Kinds.NetVirtTx x) passed = AreNet (passed.taken x.ends.input.queue.0)
+TakesNet (Kinds.DiskDevice x) passed = Unit {0}
+TakesNet (Kinds.BlkDriver x) passed = Unit {0}
+TakesNet (Kinds.BlkVirt x) passed = Unit {0}
+TakesNet (Kinds.BlkClient x) passed = Unit {0}

@@ -1,4 +1,5 @@
--- The pools of a cast, of all classes: its actors as ones that have buffers (Holders), and the
--- network's pools at its place, with a cast at play whose buffers are followed (Pooling).
+-- The pools of a cast: its actors as ones that have buffers (Holders), where the classes with pools
+-- stand in it (Places), and a cast at play whose buffers are followed (Pooling).
 pub mod Holders
+pub mod Places
 pub mod Pooling

@@ -1,6 +1,8 @@
--- The pools of a network at its place in a cast, and a cast at play whose buffers are followed.
-use Rattle.std.specs.Prelude.{◌≡◌, ◌⊎◌, ◌+◌, ◌++◌, ℕ, Some, List, [], length, map, slice_get}
+-- A cast at play whose buffers are followed, and one call of an actor of it.
+use Rattle.std.specs.Prelude.{◌≡◌, ◌+◌, ◌++◌, ℕ, Option, None, Some, List, [], length, map, slice_get}
+use Rattle.cargo_core.specs.Items.{kind_of}
 use Rattle.cargo_core.specs.Lists.{IsPrefix}
+use Rattle.cargo_core.specs.declared.item.Item.{Item}
 use Rattle.wire_core.specs.declared.names.PoolRow.{PoolRow}
 use Rattle.wire_core.specs.declared.names.QueueRow.{QueueRow}
 use Rattle.wire_core.specs.declared.names.Entry.{Entry}
@@ -8,50 +10,28 @@ use Rattle.wire_core.specs.Deeds.{Deed}
 use Rattle.wire_core.specs.Ends.{role_of}
 use Rattle.wire_core.specs.Lists.{Passed, with_deed}
 use Rattle.wire_core.specs.Queues.{Queue, queue_at, end_at}
-use Rattle.wire_core.specs.Journal.{LegalJournal, QueuesFlow, EachMoment, start_history}
-use Rattle.play_core.specs.Moved.{Moved, moved}
-use Rattle.play_core.specs.Sheets.{Scene, AreSeated, AreFilled, RowsHold}
+use Rattle.wire_core.specs.Journal.{History, LegalJournal, QueuesFlow, EachMoment}
+use Rattle.play_core.specs.Moved.{Moved, moved, sent, taken}
+use Rattle.play_core.specs.Sheets.{AreSeated, AreFilled, RowsHold}
 use Rattle.play_core.specs.Still.{IsPeopled}
-use Rattle.owner_law.specs.Things.{Naming}
-use Rattle.owner_law.specs.Keeping.{Keeper, keeper_of}
+use Rattle.owner_law.specs.Census.{IsPool}
+use Rattle.owner_law.specs.Keeping.{Keeper, keeper_of, IsNaming, IsShownBy}
+use Rattle.owner_law.specs.Owners.{Table, AreCounted}
 use Rattle.owner_law.specs.Pages.{CarryPages}
 use Rattle.rest_law.specs.Showing.{HaveItems}
 use Rattle.pool_law.specs.Lines.{Holder}
-use Rattle.pool_lines.specs.PoolLines.{counted, AreSized}
-use Rattle.net_parts.specs.Numbers.{layout_naming}
-use Rattle.net_tx_parts.specs.Numbers.{NetPlace}
-use Rattle.net_pools.specs.Sizes.{net_pools, sizes_of, AreNumbered}
+use Rattle.pool_lines.specs.PoolLines.{counted}
 use Rattle.actor_set.specs.Parts.{Part}
 use Rattle.actor_set.specs.Actors.{FitsActor, ActorStandsFor, ActorEnd, IsWhole, part_of}
 use Rattle.actor_set.specs.declared.actor.Actor.{Actor}
 use Rattle.actor_law.specs.Kinds.{sheet, scene_of, hostiles}
 use Rattle.actor_law.specs.Turning.{InTurn}
-use Rattle.wired_law.specs.Wiring.{HasWhole, HasNoNetwork, AreOfKind}
-
--- what items name at the queues of a network whose queues are the first
-abbrev pub net_naming : Scene → NetPlace → Naming
-net_naming scene net = layout_naming scene net.pool net.macs net.pools
-
--- how many buffers its pools have, by their numbers
-abbrev pub net_sizes : NetPlace → ℕ → ℕ
-net_sizes net = sizes_of (net_pools net.pool net.pools)
+use Rattle.wired_law.specs.Wiring.{AreOfKind}
+use Rattle.cast_pools.specs.Places.{PoolPlace, IsPlaced, cast_naming, place_sizes}
 
 -- what the parts of a cast have at the start, and their ends
 abbrev pub keepers_at : List Part → List Keeper
 keepers_at cast = map (λ p. keeper_of (sheet (scene_of cast) p)) cast
-
--- the network's queues are the first ones; there are as many rows as it has pools, of which no two
--- have one number, and by that number each stands among these rows with its size
-pub record HasPools (pools : List PoolRow) (net : NetPlace) : Type 0 where
-  pub first : net.first ≡ 0
-  pub many : length pools ≡ length (net_pools net.pool net.pools)
-  pub numbered : AreNumbered (net_pools net.pool net.pools)
-  pub sized : AreSized (net_sizes net) 0 pools
-
--- these are the pools of a cast: those of the network that it has, or none
-abbrev pub ArePooled : List QueueRow → List PoolRow → List Part → Type 0
-ArePooled rows pools cast = (HasNoNetwork cast × (pools ≡ []))
-    ⊎ ((net : NetPlace) × HasWhole rows net cast × HasPools pools net)
 
 -- of each of these pools, by their numbers, the buffers that are counted in queues and hands and as
 -- lent are all that it has
@@ -61,21 +41,20 @@ AddUp world holders pools = (k : ℕ) (row : PoolRow) → slice_get pools k ≡ 
     + (counted world holders (record { 0 = k })).hands
     + (counted world holders (record { 0 = k })).lent ≡ row.buffers
 
--- a cast at play from the start state on: each actor has just the ends that the rows give it, fits
--- them and stands for what passed there, of which nothing came out of turn; the journal is legal, at
--- each moment queues hand over and rows hold; and in each queue stands what was put there and not
--- taken
-pub record AreAtPlay (rows : List QueueRow) (actors : List Actor) (journal : List Entry)
-    (passed : Passed) (world : List Queue) : Type 0 where
+-- a cast at play whose queues had this before its journal begins: each actor has just the ends that
+-- the rows give it, fits them and stands for what passed there, of which nothing came out of turn;
+-- the journal is legal, at each moment queues hand over and rows hold; and in each queue stands what
+-- was put there and not taken
+pub record AreAtPlay (history : History) (rows : List QueueRow) (actors : List Actor)
+    (journal : List Entry) (passed : Passed) (world : List Queue) : Type 0 where
   pub peopled : IsPeopled rows (length (map part_of actors))
   pub seated : AreSeated (sheet (scene_of (map part_of actors))) rows (map part_of actors)
   pub filled : AreFilled (sheet (scene_of (map part_of actors))) rows (map part_of actors)
-  pub legal : LegalJournal (hostiles (map part_of actors)) (start_history rows) rows journal
-  pub flows : EachMoment (QueuesFlow (hostiles (map part_of actors)) (start_history rows) rows)
-      journal
+  pub legal : LegalJournal (hostiles (map part_of actors)) history rows journal
+  pub flows : EachMoment (QueuesFlow (hostiles (map part_of actors)) history rows) journal
   pub rows_hold : EachMoment (λ j. RowsHold (sheet (scene_of (map part_of actors)))
-      (hostiles (map part_of actors)) (map part_of actors) (moved (start_history rows) j)) journal
-  pub items : HaveItems passed (moved (start_history rows) journal)
+      (hostiles (map part_of actors)) (map part_of actors) (moved history j)) journal
+  pub items : HaveItems passed (moved history journal)
   pub stands_there : (n : ℕ) → passed.sent n ≡ passed.taken n ++ (queue_at world n).entries
   pub size : length world ≡ length rows
   pub kinds : AreOfKind rows passed
@@ -84,17 +63,48 @@ pub record AreAtPlay (rows : List QueueRow) (actors : List Actor) (journal : Lis
   pub in_turn : (k : ℕ) (x : Actor) → slice_get actors k ≡ Some x
       → InTurn (scene_of (map part_of actors)) x passed
 
--- entries carried what their items name, and actor k made a call on an end of its own, and is then
--- x; it stands for what passed by then, of which nothing came out of turn, and queues hand over
--- what is of their kind
-pub record IsCall (rows : List QueueRow) (net : NetPlace) (cast : List Part) (m m' : Moved)
+-- a table of owners with which a cast begins whose queues had this before: where one actor lends
+-- what items name there, all that was put and taken by then shows the table, and lent buffers are
+-- counted in it
+pub record BeginsWith (history : History) (rows : List QueueRow) (place : PoolPlace)
+    (cast : List Part) (start : Table) : Type 0 where
+  pub lender : ℕ
+  pub naming_is : IsNaming (cast_naming (scene_of cast) place) lender (hostiles cast) rows
+  pub counted : AreCounted start
+  pub shown : IsShownBy (cast_naming (scene_of cast) place) lender (keepers_at cast)
+      (moved history []) start
+
+-- there is such a table, in which each buffer of a pool has its place
+pub record HasOwners (history : History) (rows : List QueueRow) (place : PoolPlace)
+    (cast : List Part) : Type 0 where
+  pub table : Table
+  pub begins : BeginsWith history rows place cast table
+  pub pools : (k : ℕ) → IsPool table k (place_sizes place k)
+
+-- what was put to a queue is of its kind; at a number that is no queue's what was taken is a beginning
+-- of what was put
+abbrev pub IsKindly : Option QueueRow → (put took : List Item) → Type 0
+IsKindly None put took = IsPrefix took put
+IsKindly (Some row) put took = (j : ℕ) (i : Item) → slice_get put j ≡ Some i → kind_of i ≡ row.kind
+
+-- so it is at each queue after a journal
+abbrev pub AreKindly : History → List QueueRow → (journal : List Entry) → Type 0
+AreKindly history rows journal =
+    (n : ℕ) → IsKindly (slice_get rows n) (sent history n journal) (taken history n journal)
+
+-- entries carried what their items name, and actor k of a cast made a call on an end of its own, and
+-- is then x; it stands for what passed by then, of which nothing came out of turn; queues hand over
+-- what is of their kind, and rows hold, before the call and after it
+pub record IsCall (rows : List QueueRow) (place : PoolPlace) (cast : List Part) (m m' : Moved)
     (passed : Passed) (d : Deed) (k : ℕ) (x : Actor) : Type 0 where
-  pub whole : HasWhole rows net cast
-  pub first : net.first ≡ 0
+  pub placed : IsPlaced rows place cast
   pub seated : AreSeated (sheet (scene_of cast)) rows cast
   pub split : (n : ℕ) (row : QueueRow) → slice_get rows n ≡ Some row
       → row.producer.0 ≡ row.consumer.0 → ⊥
-  pub carried : CarryPages (net_naming (scene_of cast) net) m passed
+  pub carried : CarryPages (cast_naming (scene_of cast) place) m passed
+  pub rows_before : RowsHold (sheet (scene_of cast)) (hostiles cast) cast m
+  pub rows_after : RowsHold (sheet (scene_of cast)) (hostiles cast) cast m'
+  pub began : (n : ℕ) → IsPrefix (passed.taken n) (passed.sent n)
   pub items : HaveItems (with_deed passed d) m'
   pub begins : (n : ℕ) → IsPrefix ((with_deed passed d).taken n) ((with_deed passed d).sent n)
   pub kinds : AreOfKind rows (with_deed passed d)

@@ -1,5 +1,5 @@
 -- The pools and the queues of a valid plan's network.
-use Rattle.std.proofs.Common.{◌≡◌, ◌⊎◌, ◌+◌, ◌*◌, ◌^◌, ◌<◌, ◌≤◌, ℕ, zero, suc, Option, Some, None, List, [], length, slice_get, refl, sym, ap, ◌∙◌, subst, arith, inl, inr}
+use Rattle.std.proofs.Common.{◌≡◌, ◌⊎◌, ◌+◌, ◌*◌, ◌^◌, ◌<◌, ◌≤◌, ℕ, zero, suc, Option, Some, List, [], length, slice_get, refl, sym, ap, ◌∙◌, subst, arith, inl, inr}
 use Rattle.std.specs.Option.{option_map_or}
 use Rattle.std.proofs.lemmas.Bool.{cases_Bool, cases_lt}
 use Rattle.cargo_core.specs.Capacities.{IsCapacity}
@@ -36,11 +36,11 @@ power_some : (k : ℕ) → 1 ≤ 2 ^ k
 power_some zero = omega arith
 power_some (suc k) = let rest = power_some k in omega (arith, rest)
 
-capacity_some : (n : ℕ) → IsCapacity n → 1 ≤ n
+pub capacity_some : (n : ℕ) → IsCapacity n → 1 ≤ n
 capacity_some n h = let some = power_some h.0 in let e = h.2 in omega (arith, some, e)
 
 -- ranges apart one way are so the other
-turn_apart : (one other : Range) → IsApart one other → IsApart other one
+pub turn_apart : (one other : Range) → IsApart one other → IsApart other one
 turn_apart one other apart address within = elim (cases_Bool (is_within one address)) [
   | inl holds ↦ (let away = apart address holds in absurd cc)
   | inr differs ↦ differs
@@ -60,56 +60,55 @@ module _ (plan : Plan) (trace : Trace) where
     macs_many : length place.macs ≡ count
     macs_many = value_count count (client_mac plan)
 
-    pool_some : (n : ℕ) → HasPool (pools_of plan) n → 1 ≤ (pool_at (pools_of plan) n).buffers
+    pool_some : (n : ℕ) → HasPool 2048 (pools_of plan) n → 1 ≤ (pool_at (pools_of plan) n).buffers
     pool_some n has =
         let same : (pool_at (pools_of plan) n).buffers ≡ has.row.buffers = ap (λ (o : Option PoolRow). option_map_or (λ (r : PoolRow). r.buffers) o 0) has.there in
         let some = has.some in
         omega (arith, same, some)
 
     module _ (valid : Valid plan) where
-      module _ (none : plan.blk ≡ None) where
-        rows : HasPoolRows (pools_of plan) (length net.client)
-        rows = has_pools plan valid none net is
+      rows : HasPoolRows (pools_of plan) (length net.client)
+      rows = has_pools plan valid net is
 
-        each_pool : (k : ℕ) (q : ClientPools) → slice_get place.pools k ≡ Some q → (1 ≤ q.rx.buffers) × (1 ≤ q.tx.buffers)
-        each_pool k q at =
-            let v = value_is count (client_pools plan) k q at in
-            let below : k < length net.client = (let lt = v.0 in let many = counted in omega (arith, lt, many)) in
-            let rx = pool_some (1 + 2 * k) (rows.rx k below) in
-            let tx = pool_some (2 + 2 * k) (rows.tx k below) in
-            let rx_is = ap (λ (p : ClientPools). p.rx.buffers) v.1 in
-            let tx_is = ap (λ (p : ClientPools). p.tx.buffers) v.1 in
-            (omega (arith, rx, rx_is), omega (arith, tx, tx_is))
+      each_pool : (k : ℕ) (q : ClientPools) → slice_get place.pools k ≡ Some q → (1 ≤ q.rx.buffers) × (1 ≤ q.tx.buffers)
+      each_pool k q at =
+          let v = value_is count (client_pools plan) k q at in
+          let below : k < length net.client = (let lt = v.0 in let many = counted in omega (arith, lt, many)) in
+          let rx = pool_some (1 + 2 * k) (rows.rx k below) in
+          let tx = pool_some (2 + 2 * k) (rows.tx k below) in
+          let rx_is = ap (λ (p : ClientPools). p.rx.buffers) v.1 in
+          let tx_is = ap (λ (p : ClientPools). p.tx.buffers) v.1 in
+          (omega (arith, rx, rx_is), omega (arith, tx, tx_is))
 
-        -- no two clients send at one address
-        values_apart : (j k : ℕ) → j < length net.client → k < length net.client → (j ≡ k → ⊥) → IsApart (range_of (client_pools plan j).tx) (range_of (client_pools plan k).tx)
-        values_apart j k one other away = by (cases_lt j k)
-          where
-            by : (j < k) ⊎ (k ≤ j) → IsApart (range_of (client_pools plan j).tx) (range_of (client_pools plan k).tx)
-            by (inl less) = turn_apart (range_of (client_pools plan k).tx) (range_of (client_pools plan j).tx) (rows.apart j k less other)
-            by (inr more) = rows.apart k j (below_of more) one
-              where
-                below_of : k ≤ j → k < j
-                below_of le = elim (cases_lt k j) [ inl less ↦ less | inr same ↦ absurd (away (omega (arith, le, same))) ]
+      -- no two clients send at one address
+      values_apart : (j k : ℕ) → j < length net.client → k < length net.client → (j ≡ k → ⊥) → IsApart (range_of (client_pools plan j).tx) (range_of (client_pools plan k).tx)
+      values_apart j k one other away = by (cases_lt j k)
+        where
+          by : (j < k) ⊎ (k ≤ j) → IsApart (range_of (client_pools plan j).tx) (range_of (client_pools plan k).tx)
+          by (inl less) = turn_apart (range_of (client_pools plan k).tx) (range_of (client_pools plan j).tx) (rows.apart j k less other)
+          by (inr more) = rows.apart k j (below_of more) one
+            where
+              below_of : k ≤ j → k < j
+              below_of le = elim (cases_lt k j) [ inl less ↦ less | inr same ↦ absurd (away (omega (arith, le, same))) ]
 
-        send_apart : SendApart place.pools
-        send_apart j k one other j_at k_at away =
-            let v = value_is count (client_pools plan) j one j_at in
-            let u = value_is count (client_pools plan) k other k_at in
-            let many = counted in
-            let v_below : j < length net.client = (let lt = v.0 in omega (arith, lt, many)) in
-            let u_below : k < length net.client = (let lt = u.0 in omega (arith, lt, many)) in
-            subst (λ (p : ClientPools). IsApart (range_of p.tx) (range_of other.tx)) (sym v.1)
-            (subst (λ (p : ClientPools). IsApart (range_of (client_pools plan j).tx) (range_of p.tx)) (sym u.1) (values_apart j k v_below u_below away))
+      send_apart : SendApart place.pools
+      send_apart j k one other j_at k_at away =
+          let v = value_is count (client_pools plan) j one j_at in
+          let u = value_is count (client_pools plan) k other k_at in
+          let many = counted in
+          let v_below : j < length net.client = (let lt = v.0 in omega (arith, lt, many)) in
+          let u_below : k < length net.client = (let lt = u.0 in omega (arith, lt, many)) in
+          subst (λ (p : ClientPools). IsApart (range_of p.tx) (range_of other.tx)) (sym v.1)
+          (subst (λ (p : ClientPools). IsApart (range_of (client_pools plan j).tx) (range_of p.tx)) (sym u.1) (values_apart j k v_below u_below away))
 
-        pub pools_are : HasPools place
-        pools_are = record {
-          pools_many = value_count count (client_pools plan) ∙ sym macs_many;
-          programs_many = value_count count (client_program plan trace) ∙ sym macs_many;
-          some = pool_some 0 rows.first;
-          each = each_pool;
-          apart = send_apart;
-        }
+      pub pools_are : HasPools place
+      pools_are = record {
+        pools_many = value_count count (client_pools plan) ∙ sym macs_many;
+        programs_many = value_count count (client_program plan trace) ∙ sym macs_many;
+        some = pool_some 0 rows.first;
+        each = each_pool;
+        apart = send_apart;
+      }
 
       module _ (cast : List Part) (whole : HasWhole (queues_of plan) place cast) where
         held : (n least : ℕ) (row : QueueRow) → slice_get (queues_of plan) n ≡ Some row → least ≤ row.capacity → Holds (hostiles cast) (queues_of plan) n least

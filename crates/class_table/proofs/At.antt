@@ -23,7 +23,7 @@ shown-some es k e is = slice_get-map element_shown es k ∙ rw is refl
 shown-none : (es : List (ClassElement Shelved)) (k : ℕ) → slice_get es k ≡ None → slice_get (map element_shown es) k ≡ None
 shown-none es k is = slice_get-map element_shown es k ∙ rw is refl
 
-some-same : {X : Type 0} {a b : X} → Some a ≡ Some b → a ≡ b
+pub some-same : {X : Type 0} {a b : X} → Some a ≡ Some b → a ≡ b
 some-same {X} {a} {b} e = ap (λ (o : Option X). elim o [ Some x ↦ x | None ↦ a ]) e
 
 module _ {C K : Type 0} (first : C → Element) (give : C → ℕ → K → Element) (clients : C → List K) where

@@ -3,6 +3,7 @@ ghost use Rattle.std.specs.Prelude.{◌≡◌, ◌++◌, ⊤, Some, None, map, s
 ghost use Rattle.class_table.specs.Numbers.{seen};
 ghost use Rattle.sdf_plan.specs.declared.plan.Plan.{Plan};
 ghost use Rattle.class_table.specs.Shown.{element_shown, AreClasses};
+ghost use Rattle.class_table.specs.Order.{number_of};
 ghost use Rattle.class_table.specs.Table.{OfElement, table_of};
 
 use crate::uses::ClassElement;
@@ -18,16 +19,13 @@ pub struct Classes<'a> {
     pub blk: Series<ClassElement<&'a str>>,
 }
 
-// The element at a place of a class.
-fn nth<'b, 'a>(
-    elements: &'b Series<ClassElement<&'a str>>,
-    at: usize,
-) -> Option<&'b ClassElement<&'a str>>
-    ensures { MatchOption result (slice_get elements.now at ≡ None)
-        (λ element. slice_get elements.now at ≡ Some element.now) }
+/// The item at a place of a list.
+pub fn nth<T>(items: &Series<T>, at: usize) -> Option<&T>
+    ensures { MatchOption result (slice_get items.now at ≡ None)
+        (λ item. slice_get items.now at ≡ Some item.now) }
 {
-    if at < elements.len() {
-        Some(elements.get(at))
+    if at < items.len() {
+        Some(items.get(at))
     } else {
         None
     }
@@ -75,6 +73,22 @@ impl<'a> Classes<'a> {
             Place::Blk => nth(&self.blk, 0),
             Place::BlkClient(c) => nth(&self.blk, c as usize + 1),
             _ => None,
+        }
+    }
+
+    /// The number of the element at a place, in the order of the walk.
+    pub fn number(&self, place: Place) -> u128
+        ensures { (plan : Plan) → AreClasses self.now plan → result ≡ number_of plan place }
+    {
+        let net = self.net.len() as u128;
+        let serial = self.serial.len() as u128;
+        match place {
+            Place::NetClient(c) => 1 + c as u128,
+            Place::Serial => net,
+            Place::SerialClient(c) => net + 1 + c as u128,
+            Place::Blk => net + serial,
+            Place::BlkClient(c) => net + serial + 1 + c as u128,
+            _ => 0,
         }
     }
 }

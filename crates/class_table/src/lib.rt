@@ -13,7 +13,7 @@ mod sizes;
 mod table;
 mod uses;
 
-pub use classes::Classes;
+pub use classes::{Classes, nth};
 pub use law::table_law;
 pub use role::{Role, is_program_of};
 pub use sizes::{pool_bytes, queue_end, queue_offset};

@@ -1,10 +1,10 @@
-use Rattle.std.proofs.Common.{◌≡◌, ◌≢◌, ◌↔◌, ℕ, List, [], ◌∷◌, length, drop, codes, refl, sym, ap, ◌∙◌, subst, arith, Some}
+use Rattle.std.proofs.Common.{◌≡◌, ◌≢◌, ◌↔◌, ℕ, List, [], ◌∷◌, length, drop, codes, decimal, refl, sym, ap, ◌∙◌, subst, arith, Some}
 use Rattle.std.specs.Prelude.{slice_get}
 use Rattle.command_words.specs.declared.command.Command.{Command}
 use Rattle.command_words.specs.declared.command.Command.TheVariants as Do
 use Rattle.command_words.specs.declared.command.Options.{Options}
 use Rattle.command_words.specs.Words.{Spells, IsBadWord}
-use Rattle.command_words.specs.Reading.{IsFirstBad, IsBadFrom, IsOneName, AsksToPlay, MayAskToPlay}
+use Rattle.command_words.specs.Reading.{IsFirstBad, IsBadFrom, IsOneName, IsTheNumber, IsOneNumber, AsksToPlay, MayAskToPlay}
 use Rattle.command_words.proofs.Names.{a-name}
 use Rattle.command_words.proofs.FirstBad.{drop-at, bad-first, bad-none, bad-behind, bad-also}
 
@@ -26,6 +26,7 @@ check-behind more = ((λ o. (Do.Check, (o.0, record { words_are = ap (λ (w : Li
   from Do.Check s = (s.0, (let e = s.1.words_are in cc), s.1.desc_named)
   from Do.Layout s = let e = s.1.words_are in cc
   from (Do.Play options) s = let e = s.2.words_are in cc
+  from (Do.Gen n) s = let e = s.words_are in cc
 
 layout-behind : (more : List (List ℕ)) → IsOneName more ↔ IsCommand (codes "layout" ∷ more)
 layout-behind more = ((λ o. (Do.Layout, (o.0, record { words_are = ap (λ (w : List (List ℕ)). codes "layout" ∷ w) o.1; desc_named = o.2 }))), (λ s. from s.0 s.1)) where
@@ -33,6 +34,7 @@ layout-behind more = ((λ o. (Do.Layout, (o.0, record { words_are = ap (λ (w : 
   from Do.Check s = let e = s.1.words_are in cc
   from Do.Layout s = (s.0, (let e = s.1.words_are in cc), s.1.desc_named)
   from (Do.Play options) s = let e = s.2.words_are in cc
+  from (Do.Gen n) s = let e = s.words_are in cc
 
 play-spelled : (more : List (List ℕ)) (options : Options) → AsksToPlay more options → Spells (codes "play" ∷ more) (Do.Play options)
 play-spelled more options o = (
@@ -66,6 +68,15 @@ play-behind more = ((λ o. (Do.Play o.0, play-spelled more o.0 o.1)), (λ s. fro
       options_are = (s.2.seed, s.2.options_are, s.2.seed_is);
     },
   )
+  from (Do.Gen n) s = let e = s.words_are in cc
+
+gen-behind : (more : List (List ℕ)) → IsOneNumber more ↔ IsCommand (codes "gen" ∷ more)
+gen-behind more = ((λ o. (Do.Gen o.0, record { words_are = ap (λ (w : List (List ℕ)). codes "gen" ∷ w) o.1.0; small = o.1.1 })), (λ s. from s.0 s.1)) where
+  from : (command : Command) → Spells (codes "gen" ∷ more) command → IsOneNumber more
+  from Do.Check s = let e = s.1.words_are in cc
+  from Do.Layout s = let e = s.1.words_are in cc
+  from (Do.Play options) s = let e = s.2.words_are in cc
+  from (Do.Gen n) s = (n, ((let e = s.words_are in cc), s.small))
 
 module _ (words : List (List ℕ)) (name : List ℕ) (first : slice_get words 0 ≡ Some name) where
   stands : (kind : List ℕ) → name ≡ kind → words ≡ kind ∷ drop 1 words
@@ -86,6 +97,12 @@ module _ (words : List (List ℕ)) (name : List ℕ) (first : slice_get words 0 
   pub bad-play : name ≡ codes "play" → (k : ℕ) → IsBadFrom 1 MayAskToPlay words k → IsBadWord words k
   bad-play e k b = bad-behind-first (codes "play") MayAskToPlay play-behind e k b
 
+  pub bad-gen : name ≡ codes "gen" → (k : ℕ) → IsBadFrom 1 IsOneNumber words k → IsBadWord words k
+  bad-gen e k b = bad-behind-first (codes "gen") IsOneNumber gen-behind e k b
+
+  pub spells-gen : name ≡ codes "gen" → (n : ℕ) → IsTheNumber (drop 1 words) n → Spells words (Do.Gen n)
+  spells-gen e n o = record { words_are = stands (codes "gen") e ∙ ap (λ (w : List (List ℕ)). codes "gen" ∷ w) o.0; small = o.1 }
+
   pub spells-check : name ≡ codes "check" → IsOneName (drop 1 words) → Spells words Do.Check
   spells-check e o = (o.0, record { words_are = stands (codes "check") e ∙ ap (λ (w : List (List ℕ)). codes "check" ∷ w) o.1; desc_named = o.2 })
 
@@ -98,21 +115,23 @@ module _ (words : List (List ℕ)) (name : List ℕ) (first : slice_get words 0 
 begun : (more : List (List ℕ)) × IsCommand more
 begun = (codes "check" ∷ codes "a" ∷ [], (Do.Check, (codes "a", record { words_are = refl; desc_named = a-name })))
 
-no-such : (name : List ℕ) → name ≢ codes "check" → name ≢ codes "layout" → name ≢ codes "play" → (more : List (List ℕ)) (command : Command) → Spells (name ∷ more) command → ⊥
-no-such name c l p more Do.Check s = c (let e = s.1.words_are in cc)
-no-such name c l p more Do.Layout s = l (let e = s.1.words_are in cc)
-no-such name c l p more (Do.Play options) s = p (let e = s.2.words_are in cc)
+no-such : (name : List ℕ) → name ≢ codes "check" → name ≢ codes "layout" → name ≢ codes "play" → name ≢ codes "gen" → (more : List (List ℕ)) (command : Command) → Spells (name ∷ more) command → ⊥
+no-such name c l p g more Do.Check s = c (let e = s.1.words_are in cc)
+no-such name c l p g more Do.Layout s = l (let e = s.1.words_are in cc)
+no-such name c l p g more (Do.Play options) s = p (let e = s.2.words_are in cc)
+no-such name c l p g more (Do.Gen n) s = g (let e = s.words_are in cc)
 
 -- the first word names no kind of command
-pub bad-kind : (words : List (List ℕ)) (name : List ℕ) → slice_get words 0 ≡ Some name → name ≢ codes "check" → name ≢ codes "layout" → name ≢ codes "play" → IsBadWord words 0
-bad-kind words name first c l p =
+pub bad-kind : (words : List (List ℕ)) (name : List ℕ) → slice_get words 0 ≡ Some name → name ≢ codes "check" → name ≢ codes "layout" → name ≢ codes "play" → name ≢ codes "gen" → IsBadWord words 0
+bad-kind words name first c l p g =
     from-first words 0
-    (subst (λ ws. IsFirstBad IsCommand ws 0) (sym (drop-at words 0 name first)) (bad-first IsCommand name (drop 1 words) begun (λ more g. no-such name c l p more g.0 g.1)))
+    (subst (λ ws. IsFirstBad IsCommand ws 0) (sym (drop-at words 0 name first)) (bad-first IsCommand name (drop 1 words) begun (λ more s. no-such name c l p g more s.0 s.1)))
 
 no-words : (command : Command) → Spells [] command → ⊥
 no-words Do.Check s = let e = s.1.words_are in cc
 no-words Do.Layout s = let e = s.1.words_are in cc
 no-words (Do.Play options) s = let e = s.2.words_are in cc
+no-words (Do.Gen n) s = let e = s.words_are in cc
 
 pub bad-empty : (words : List (List ℕ)) → length words ≡ 0 → IsBadWord words 0
 bad-empty [] e = from-first [] 0 (bad-none IsCommand begun (λ g. no-words g.0 g.1))

@@ -4,5 +4,6 @@ mod Inverted
 mod Names
 mod Numbers
 mod Once
+mod OneNumber
 mod SoFar
 mod Steps

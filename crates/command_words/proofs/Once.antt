@@ -1,7 +1,8 @@
-use Rattle.std.proofs.Common.{◌≡◌, ℕ, ◌+◌, ◌<◌, ◌≤◌, inl, inr, Option, Bool, List, ◌++◌, length, take, drop, append_assoc, length-append, length-take, refl, sym, ap, ◌∙◌, subst, arith}
+use Rattle.std.proofs.Common.{◌≡◌, ℕ, ◌+◌, ◌<◌, ◌≤◌, inl, inr, Option, Bool, List, ◌++◌, length, take, drop, append_assoc, length-append, length-take, decimal, refl, sym, ap, ◌∙◌, subst, arith}
 use Rattle.std.specs.Prelude.{unwrap_or, Result, Ok, Err}
 use Rattle.std.proofs.lemmas.List.{take-append-drop, take-take}
 use Rattle.std.proofs.lemmas.Bool.{cases_lt}
+use Rattle.std.proofs.lemmas.Fmt.{decimal_injective}
 use Rattle.command_words.specs.declared.command.Command.{Command}
 use Rattle.command_words.specs.declared.command.Command.TheVariants as Do
 use Rattle.command_words.specs.declared.command.Options.{Options}
@@ -54,12 +55,22 @@ spells-once : (words : List (List ℕ)) (a b : Command) → Spells words a → S
 spells-once words Do.Check Do.Check s t = refl
 spells-once words Do.Check Do.Layout s t = let e = sym s.1.words_are ∙ t.1.words_are in cc
 spells-once words Do.Check (Do.Play o) s t = let e = sym s.1.words_are ∙ t.2.words_are in cc
+spells-once words Do.Check (Do.Gen n) s t = let e = sym s.1.words_are ∙ t.words_are in cc
 spells-once words Do.Layout Do.Check s t = let e = sym s.1.words_are ∙ t.1.words_are in cc
 spells-once words Do.Layout Do.Layout s t = refl
 spells-once words Do.Layout (Do.Play o) s t = let e = sym s.1.words_are ∙ t.2.words_are in cc
+spells-once words Do.Layout (Do.Gen n) s t = let e = sym s.1.words_are ∙ t.words_are in cc
 spells-once words (Do.Play o) Do.Check s t = let e = sym s.2.words_are ∙ t.1.words_are in cc
 spells-once words (Do.Play o) Do.Layout s t = let e = sym s.2.words_are ∙ t.1.words_are in cc
 spells-once words (Do.Play o) (Do.Play o') s t = ap (λ x. Do.Play x) (play-once words s.0 s.1 t.0 t.1 o o' s.2 t.2)
+spells-once words (Do.Play o) (Do.Gen n) s t = let e = sym s.2.words_are ∙ t.words_are in cc
+spells-once words (Do.Gen n) Do.Check s t = let e = sym s.words_are ∙ t.1.words_are in cc
+spells-once words (Do.Gen n) Do.Layout s t = let e = sym s.words_are ∙ t.1.words_are in cc
+spells-once words (Do.Gen n) (Do.Play o) s t = let e = sym s.words_are ∙ t.2.words_are in cc
+spells-once words (Do.Gen n) (Do.Gen m) s t =
+    let e = sym s.words_are ∙ t.words_are in
+    let same : decimal n ≡ decimal m = cc in
+    ap (λ (k : ℕ). Do.Gen k) (decimal_injective n m s.small t.small same)
 
 pub same-command : (words : List (List ℕ)) (a b : Command) → Spells words a → Spells words b → ◌≡◌ {A = Result Command ℕ} (Ok a) (Ok b)
 same-command words a b s t = ap (λ (x : Command). Ok x) (spells-once words a b s t)
@@ -75,6 +86,7 @@ short words (Do.Play o) s =
     let l = ap length s.2.words_are in
     let five = options-short s.2.more s.2.seed o.steps o.journal s.2.options_are in
     omega arith
+short words (Do.Gen n) s = let l = ap length s.words_are in omega arith
 
 pub bad-early : (words : List (List ℕ)) (k : ℕ) → IsBadWord words k → k ≤ 8
 bad-early words k h =
@@ -89,3 +101,4 @@ pub names-there : (words : List (List ℕ)) (command : Command) → Spells words
 names-there words Do.Check s = let l = ap length s.1.words_are in omega arith
 names-there words Do.Layout s = let l = ap length s.1.words_are in omega arith
 names-there words (Do.Play o) s = let l = ap length s.2.words_are in omega arith
+names-there words (Do.Gen n) s = let l = ap length s.words_are in omega arith

@@ -1,5 +1,5 @@
 -- What the private functions say of the words that they read; no public clause cites it.
-use Rattle.std.specs.Prelude.{◌≡◌, ◌↔◌, ◌+◌, ◌<◌, ◌≤◌, ℕ, true, false, Bool, Option, Some, None, unwrap_or, List, [], ◌∷◌, ◌++◌, length, take, drop, slice_get, codes, decimal}
+use Rattle.std.specs.Prelude.{◌≡◌, ◌↔◌, ◌+◌, ◌^◌, ◌<◌, ◌≤◌, ℕ, true, false, Bool, Option, Some, None, unwrap_or, List, [], ◌∷◌, ◌++◌, length, take, drop, slice_get, codes, decimal}
 use Rattle.command_words.specs.declared.command.Options.{Options}
 use Rattle.command_words.specs.declared.chosen.Name.{Name}
 use Rattle.command_words.specs.declared.chosen.Name.TheVariants as An
@@ -81,6 +81,14 @@ MayBeOptions words = (options : Options) × OptionsAre words options
 -- the words are the name of a text
 abbrev pub IsOneName : List (List ℕ) → Type 0
 IsOneName words = (name : List ℕ) × (words ≡ name ∷ []) × IsName name
+
+-- the words are this number, below 2 ^ 64
+abbrev pub IsTheNumber : List (List ℕ) → ℕ → Type 0
+IsTheNumber words n = (words ≡ decimal n ∷ []) × (n < 2 ^ 64)
+
+-- the words are a number below 2 ^ 64
+abbrev pub IsOneNumber : List (List ℕ) → Type 0
+IsOneNumber words = (n : ℕ) × IsTheNumber words n
 
 -- the words are the names of a description and a trace, and options that set this
 pub record AsksToPlay (words : List (List ℕ)) (options : Options) : Type 0 where

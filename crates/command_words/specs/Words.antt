@@ -1,5 +1,5 @@
 -- The grammar of the program's words, and the first bad word of those that have none of its forms.
-use Rattle.std.specs.Prelude.{◌≡◌, ◌+◌, ◌<◌, ◌≤◌, ℕ, Option, unwrap_or, List, [], ◌∷◌, ◌++◌, length, take, map, string_bytes, codes}
+use Rattle.std.specs.Prelude.{◌≡◌, ◌+◌, ◌^◌, ◌<◌, ◌≤◌, ℕ, Option, unwrap_or, List, [], ◌∷◌, ◌++◌, length, take, map, string_bytes, codes, decimal}
 use Rattle.std.specs.Global.{Global}
 use Rattle.std.specs.declared.string.String.{String}
 use Rattle.cargo_core.specs.Lists.{IsPrefix}
@@ -37,11 +37,17 @@ pub record IsPlay (words : List (List ℕ)) (desc trace : List ℕ) (options : O
   pub options_are : AreOptions more seed options.steps options.journal
   pub seed_is : options.seed ≡ unwrap_or seed 0
 
+-- `gen` and a number below 2 ^ 64, in decimal without leading zeros
+pub record IsGen (words : List (List ℕ)) (n : ℕ) : Type 0 where
+  pub words_are : words ≡ codes "gen" ∷ decimal n ∷ []
+  pub small : n < 2 ^ 64
+
 -- the words spell a command
 abbrev pub Spells : List (List ℕ) → Command → Type 0
 Spells words Do.Check = (desc : List ℕ) × IsCheck words desc
 Spells words Do.Layout = (desc : List ℕ) × IsLayout words desc
 Spells words (Do.Play options) = (desc trace : List ℕ) × IsPlay words desc trace options
+Spells words (Do.Gen n) = IsGen words n
 
 -- a command begins with these words
 abbrev pub Begins : List (List ℕ) → Type 0
@@ -55,8 +61,9 @@ pub record IsBadWord (words : List (List ℕ)) (k : ℕ) : Type 0 where
   pub here : k < length words → Begins (take (k + 1) words) → ⊥
   pub whole : k ≡ length words → (command : Command) → Spells words command → ⊥
 
--- the place of the last name in the words of a command
+-- the place of the last name, or of the number, in the words of a command
 abbrev pub last_name : Command → ℕ
 last_name Do.Check = 1
 last_name Do.Layout = 1
 last_name (Do.Play options) = 2
+last_name (Do.Gen n) = 1

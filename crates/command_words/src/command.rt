@@ -13,6 +13,8 @@ pub enum Command {
     Layout,
     /// `play DESC TRACE`, with options: to play a trace on a description.
     Play(Options),
+    /// `gen N`: to play the full example on the trace that a number below 2^64 generates.
+    Gen(u64),
 }
 
 /// What the options of `play` set.

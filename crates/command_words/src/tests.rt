@@ -27,6 +27,10 @@ fn the_first_bad_word_is_told(rt: HostRuntime) -> Result<(), Fail> {
     assert_eq!(rt; read(alloc, &["play", "S"])?, Err(2));
     assert_eq!(rt; read(alloc, &["check", "S", "x"])?, Err(2));
     assert_eq!(rt; read(alloc, &["play", "S", "T", "--seed"])?, Err(4));
+    assert_eq!(rt; read(alloc, &["gen"])?, Err(1));
+    assert_eq!(rt; read(alloc, &["gen", "01"])?, Err(1));
+    assert_eq!(rt; read(alloc, &["gen", "18446744073709551616"])?, Err(1));
+    assert_eq!(rt; read(alloc, &["gen", "1", "--seed"])?, Err(2));
     assert_eq!(rt; read(alloc, &["play", "S", "T", "--steps", "0"])?, Err(4));
     assert_eq!(rt;
         read(alloc, &["play", "S", "T", "--seed", "1", "--seed", "2"])?,
@@ -39,6 +43,7 @@ fn the_first_bad_word_is_told(rt: HostRuntime) -> Result<(), Fail> {
 fn options_stand_in_any_order(rt: HostRuntime) -> Result<(), Fail> {
     let alloc = rt.alloc();
     let all = play(7, Some(9), true);
+    assert_eq!(rt; read(alloc, &["gen", "7"])?, Ok(Command::Gen(7)));
     assert_eq!(rt; read(alloc, &["layout", "S"])?, Ok(Command::Layout));
     assert_eq!(rt; read(alloc, &["play", "S", "T"])?, play(0, None, false));
     assert_eq!(rt;

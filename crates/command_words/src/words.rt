@@ -2,9 +2,9 @@
 
 ghost use Rattle.std.specs.Prelude.{◌≡◌, ◌<◌, ◌≤◌, ℕ, List, Ok, Err, length, drop, OnOk, IfOk, IfErr};
 ghost use Rattle.command_words.specs.Words.{texts_of, Spells, IsBadWord, last_name};
-ghost use Rattle.command_words.specs.Reading.{IsBadFrom, IsOneName, AsksToPlay, MayAskToPlay, OptionsAre, MayBeOptions};
+ghost use Rattle.command_words.specs.Reading.{IsBadFrom, IsOneName, IsTheNumber, IsOneNumber, AsksToPlay, MayAskToPlay, OptionsAre, MayBeOptions};
 
-use crate::chosen::Chosen;
+use crate::chosen::{Chosen, number_at};
 use crate::command::{Command, Options};
 use crate::name::{is_name_at, is_word, word_at};
 
@@ -49,7 +49,24 @@ fn read_command(words: &[String]) -> Result<Command, usize>
     if is_word(name, "play") {
         return Ok(Command::Play(read_play(words)?));
     }
+    if is_word(name, "gen") {
+        return Ok(Command::Gen(read_one_number(words)?));
+    }
     Err(0)
+}
+
+// Reads the one number behind the first word.
+fn read_one_number(words: &[String]) -> Result<u64, usize>
+    ensures ok { IfOk result (IsTheNumber (drop 1 (texts_of words.now))) }
+    ensures err { IfErr result (IsBadFrom 1 IsOneNumber (texts_of words.now)) }
+{
+    let Some(number) = number_at(words, 1, 0, u64::MAX) else {
+        return Err(1);
+    };
+    if words.len() != 2 {
+        return Err(2);
+    }
+    Ok(number)
 }
 
 // Reads the one name behind the first word.

@@ -11,9 +11,10 @@ use Rattle.sdf_plan.specs.declared.plan.Net.{Net}
 use Rattle.sdf_plan.specs.declared.plan.NetClient.{NetClient}
 use Rattle.sdf_plan.specs.declared.plan.Serial.{Serial}
 use Rattle.sdf_plan.specs.declared.plan.Blk.{Blk}
+use Rattle.sdf_plan.specs.declared.plan.BlkClient.{BlkClient}
 use Rattle.sdf_plan.specs.Elements.{outline_of}
 use Rattle.sdf_check.specs.ClassRules.{IsClientCount, IsBufferCount}
-use Rattle.sdf_check.specs.Valid.{Valid, BreaksAtPlace}
+use Rattle.sdf_check.specs.Valid.{Valid, BreaksAtPlace, first_rule, last_rule}
 use Rattle.sdf_check.proofs.ListLemmas.{get-left, get-right}
 use Rattle.sdf_check.proofs.SoughtLemmas.{here-some}
 use Rattle.trace_text.specs.declared.trace.Trace.{Trace}
@@ -70,6 +71,14 @@ not_above a b past = ⊎_elim (λ (less : a < b). absurd (past less)) (λ (most 
 
 counted : {T : Type 0} (count : T → ℕ) (o : Option T) (x : T) → o ≡ Some x → option_map count o ≡ Some (count x)
 counted count o x is = rw is refl
+
+-- a block client of a valid plan breaks no rule that is told of its place
+pub blk_client_kept : (plan : Plan) (blk : Blk) (c : ℕ) (client : BlkClient) (rule : ℕ) → Valid plan → plan.blk ≡ Some blk → slice_get blk.client c ≡ Some client → first_rule ≤ rule → rule ≤ last_rule → BreaksAtPlace plan rule (At.BlkClient c) → ⊥
+blk_client_kept plan blk c client rule valid is at from to bad =
+    let there : IsIn (At.BlkClient c) (class_places At.Blk (λ c. At.BlkClient c) (outline_of plan).blk) =
+    rw (counted (λ (b : Blk). length b.client) plan.blk blk is) (client_in At.Blk (λ c. At.BlkClient c) (length blk.client) c (slice_get_within blk.client c client at)) in
+    let walked = in_blk (outline_of plan) (At.BlkClient c) there in
+    valid rule from to walked.0 (At.BlkClient c) walked.1 (inl bad)
 
 at_most_8 : (n : ℕ) → ((IsClientCount n → ⊥) → ⊥) → n ≤ 8
 at_most_8 n h = not_above 8 n (λ more. h (λ is. let most = is.1 in absurd (omega arith)))

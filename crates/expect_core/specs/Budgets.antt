@@ -1,6 +1,6 @@
 -- The step budget: how many steps are enough for a play, from the numbers of its plan and its
 -- trace.
-use Rattle.std.specs.Prelude.{ℕ, ◌+◌, ◌*◌, ◌≤◌, max, Option, Some, None, List, [], length, sum_by}
+use Rattle.std.specs.Prelude.{ℕ, ◌+◌, ◌*◌, ◌≤◌, max, Option, Some, None, [], length, sum_by}
 use Rattle.std.specs.Option.{option_map, option_map_or}
 use Rattle.sdf_plan.specs.declared.plan.Plan.{Plan}
 use Rattle.sdf_plan.specs.declared.plan.Net.{Net}

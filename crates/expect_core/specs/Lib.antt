@@ -1,2 +1,3 @@
--- What the contracts on the step budget say.
+-- What the contracts on the step budget and on the replies that a client must get say.
 pub mod Budgets
+pub mod Expected

@@ -7,7 +7,7 @@ mod expected;
 mod report;
 
 pub use counts::{ClassCounts, budget};
-pub use expected::input_of;
+pub use expected::{client_entry, frames_for, input_of, replies_of};
 pub use report::{Census, Report};
 
 #[cfg(test)]

@@ -22,6 +22,7 @@ use Rattle.sdf_check.specs.Valid.{Valid}
 use Rattle.sdf_check.proofs.ListLemmas.{get-either}
 use Rattle.sdf_check.proofs.NamedLemmas.{named-none}
 use Rattle.sdf_check.proofs.SoughtLemmas.{here-some}
+use Rattle.sdf_check.proofs.ClassLemmas.{domains_same}
 use Rattle.region_layout.specs.Rows.{acts, one_if, acting_count, actor_named, actors_of, devices_of, each_client}
 use Rattle.region_layout.proofs.NameLemmas.{acting_and_devices}
 use Rattle.region_layout.proofs.WalkLemmas.{kept, domain_walked}
@@ -124,7 +125,7 @@ module _ (plan : Plan) where
       let n = option_map_or net_posts plan.net [] in
       let s = option_map_or serial_posts plan.serial [] in
       let b = option_map_or blk_posts plan.blk [] in
-      map-append name_at (n ++ s) b ∙ ap₂ (λ x y. x ++ y) (map-append name_at n s ∙ ap₂ (λ x y. x ++ y) (net_names plan.net) (serial_names plan.serial)) (blk_names plan.blk)
+      map-append name_at (n ++ s) b ∙ ap₂ (λ x y. x ++ y) (map-append name_at n s ∙ ap₂ (λ x y. x ++ y) (net_names plan.net) (serial_names plan.serial)) (blk_names plan.blk) ∙ sym (domains_same plan)
 
   abbrev IsDomain : Post → Type 0
   IsDomain p = domain_of plan p.job ≡ Some p.name

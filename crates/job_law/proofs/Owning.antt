@@ -12,6 +12,7 @@ use Rattle.sdf_plan.specs.declared.plan.SerialClient.{SerialClient as SerialClie
 use Rattle.sdf_plan.specs.declared.plan.Blk.{Blk}
 use Rattle.sdf_plan.specs.declared.plan.BlkClient.{BlkClient as BlkClientKeys}
 use Rattle.region_layout.specs.Rows.{one_if, acting_count, actor_named, eth_number, uart_number, disk_number, queue_in, queue_pair, each_client, eth_rx_queues, eth_tx_queues, net_rx_queues, net_tx_queues, lease_queues, client_rx_queues, client_tx_queues, net_client_queues, net_queues, uart_queues, shared_serial_queues, serial_client_queues, serial_queues, disk_queues, shared_blk_queues, blk_client_queues, blk_queues, queues_of}
+use Rattle.region_layout.proofs.SameLemmas.{queues_same}
 use Rattle.play_core.proofs.Lists.{some_is}
 use Rattle.job_law.specs.Jobs.{Job, EthDevice, EthDriver, NetReceiver, NetSender, NetCopier, NetClient, UartDevice, UartDriver, SerialReceiver, SerialSender, SerialClient, DiskDevice, DiskDriver, BlkVirtualiser, BlkClient, Post, post, net_client_posts, net_posts, serial_client_posts, serial_posts, blk_client_posts, blk_posts, posts_of, job_if, device_jobs, HasJob}
 use Rattle.job_law.specs.Queues.{Owners, one_way, both_ways, net_client_owners, net_owners, serial_client_owners, serial_owners, blk_owners, owners_of}
@@ -207,19 +208,19 @@ module _ (plan : Plan) where
     unfolding posts_of
     in_blk p s = stands_right p (net_part ++ serial_part) blk_part (subst (λ o. Stands p (option_map_or blk_posts o [])) (sym is) s)
 
-    blk_client : (k : ℕ) (x : BlkClientKeys) → slice_get blk.client k ≡ Some x → HasJob plan (BlkClient (0 + k)) (actor_named plan x.pd).0
+    pub blk_client : (k : ℕ) (x : BlkClientKeys) → slice_get blk.client k ≡ Some x → HasJob plan (BlkClient (0 + k)) (actor_named plan x.pd).0
     blk_client k x there =
         let p = post (BlkClient (0 + k)) x.pd in
         let e = stands_each blk_client_posts p 0 blk.client k x there (0, refl) in
         hired p (in_blk p (suc (suc e.0), e.1))
 
-    disk : HasJob plan DiskDevice (disk_number plan).0
+    pub disk : HasJob plan DiskDevice (disk_number plan).0
     disk = disk_at (ap is_some is)
 
-    disk_driver : HasJob plan DiskDriver (actor_named plan blk.driver).0
+    pub disk_driver : HasJob plan DiskDriver (actor_named plan blk.driver).0
     disk_driver = hired (post DiskDriver blk.driver) (in_blk (post DiskDriver blk.driver) (0, refl))
 
-    virtualiser : HasJob plan BlkVirtualiser (actor_named plan blk.virt).0
+    pub virtualiser : HasJob plan BlkVirtualiser (actor_named plan blk.virt).0
     virtualiser = hired (post BlkVirtualiser blk.virt) (in_blk (post BlkVirtualiser blk.virt) (1, refl))
 
     fit_blk_client : (k : ℕ) (x : BlkClientKeys) → slice_get blk.client k ≡ Some x → Fit (blk_client_queues plan blk (0 + k) x) (both_ways (BlkClient (0 + k)) BlkVirtualiser)
@@ -236,16 +237,16 @@ module _ (plan : Plan) where
         (fit_each (blk_client_queues plan blk) (λ c client. both_ways (BlkClient c) BlkVirtualiser) 0 blk.client fit_blk_client)
 
   all_fit : Fit (queues_of plan) (owners_of plan)
-  unfolding queues_of
   all_fit =
       let n = option_map_or (net_queues plan) plan.net [] in
       let s = option_map_or (serial_queues plan) plan.serial [] in
       let b = option_map_or (blk_queues plan) plan.blk [] in
-      fit_append (n ++ s) b (option_map_or net_owners plan.net [] ++ option_map_or serial_owners plan.serial []) (option_map_or blk_owners plan.blk [])
+      subst (λ (rows : List QueueRow). Fit rows (owners_of plan)) (sym (queues_same plan))
+      (fit_append (n ++ s) b (option_map_or net_owners plan.net [] ++ option_map_or serial_owners plan.serial []) (option_map_or blk_owners plan.blk [])
       (fit_append n s (option_map_or net_owners plan.net []) (option_map_or serial_owners plan.serial [])
       (fit_class (net_queues plan) net_owners plan.net fit_net)
       (fit_class (serial_queues plan) serial_owners plan.serial fit_serial))
-      (fit_class (blk_queues plan) blk_owners plan.blk fit_blk)
+      (fit_class (blk_queues plan) blk_owners plan.blk fit_blk))
 
   pub owners_long : length (owners_of plan) ≡ length (queues_of plan)
   owners_long = fit_long (queues_of plan) (owners_of plan) all_fit

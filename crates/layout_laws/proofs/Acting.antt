@@ -17,6 +17,7 @@ use Rattle.class_table.specs.Roles.{IsProgramOf}
 use Rattle.class_table.specs.Rows.{plays}
 use Rattle.sdf_check.specs.ClassRules.{class_domains, net_names, serial_names, blk_names, the_domain, Plays}
 use Rattle.sdf_check.specs.Valid.{Valid}
+use Rattle.sdf_check.proofs.ClassLemmas.{domains_same}
 use Rattle.sdf_check.proofs.ListLemmas.{get-left}
 use Rattle.sdf_check.proofs.NamedLemmas.{named-none}
 use Rattle.sdf_check.proofs.SoughtLemmas.{here-some, some-here, none-here}
@@ -119,32 +120,32 @@ net_acts plan valid net is =
     let fine = net_keeps plan 21 valid (omega arith) (omega arith) net is in
     All-append (IsActor plan) (net_domains net) (flat_map net_client_domains net.client)
     (three plan net.driver net.rx_virt net.tx_virt
-    (role-acts plan net.driver For.NetDriver (λ never. fine (0, never))) (role-acts plan net.rx_virt For.NetRxVirt (λ never. fine (1, never)))
-    (role-acts plan net.tx_virt For.NetTxVirt (λ never. fine (2, never))))
+    (role-acts plan net.driver For.NetDriver (λ never. fine (inl (0, never)))) (role-acts plan net.rx_virt For.NetRxVirt (λ never. fine (inl (1, never))))
+    (role-acts plan net.tx_virt For.NetTxVirt (λ never. fine (inl (2, never)))))
     (all-names (IsActor plan) net_client_domains net.client (λ c client there.
     let good = net_client_keeps plan 21 valid (omega arith) (omega arith) net c client is there in
-    two plan client.pd client.copier (role-acts plan client.pd For.NetClient (λ never. good (0, never)))
-    (role-acts plan client.copier For.NetCopier (λ never. good (1, never)))))
+    two plan client.pd client.copier (role-acts plan client.pd For.NetClient (λ never. good (inl (0, never))))
+    (role-acts plan client.copier For.NetCopier (λ never. good (inl (1, never))))))
 
 serial_acts : (plan : Plan) → Valid plan → (serial : Serial) → plan.serial ≡ Some serial → All (IsActor plan) (serial_domains serial ++ flat_map serial_client_domains serial.client)
 serial_acts plan valid serial is =
     let fine = serial_keeps plan 21 valid (omega arith) (omega arith) serial is in
     All-append (IsActor plan) (serial_domains serial) (flat_map serial_client_domains serial.client)
     (three plan serial.driver serial.rx_virt serial.tx_virt
-    (role-acts plan serial.driver For.SerialDriver (λ never. fine (0, never))) (role-acts plan serial.rx_virt For.SerialRxVirt (λ never. fine (1, never)))
-    (role-acts plan serial.tx_virt For.SerialTxVirt (λ never. fine (2, never))))
+    (role-acts plan serial.driver For.SerialDriver (λ never. fine (inl (0, never)))) (role-acts plan serial.rx_virt For.SerialRxVirt (λ never. fine (inl (1, never))))
+    (role-acts plan serial.tx_virt For.SerialTxVirt (λ never. fine (inl (2, never)))))
     (all-names (IsActor plan) serial_client_domains serial.client (λ c client there.
     let good = serial_client_keeps plan 21 valid (omega arith) (omega arith) serial c client is there in
-    one plan client.pd (role-acts plan client.pd For.SerialClient (λ never. good (0, never)))))
+    one plan client.pd (role-acts plan client.pd For.SerialClient (λ never. good (inl (0, never))))))
 
 blk_acts : (plan : Plan) → Valid plan → (blk : Blk) → plan.blk ≡ Some blk → All (IsActor plan) (blk_domains blk ++ flat_map blk_client_domains blk.client)
 blk_acts plan valid blk is =
     let fine = blk_keeps plan 21 valid (omega arith) (omega arith) blk is in
     All-append (IsActor plan) (blk_domains blk) (flat_map blk_client_domains blk.client)
-    (two plan blk.driver blk.virt (role-acts plan blk.driver For.BlkDriver (λ never. fine (0, never))) (role-acts plan blk.virt For.BlkVirt (λ never. fine (1, never))))
+    (two plan blk.driver blk.virt (role-acts plan blk.driver For.BlkDriver (λ never. fine (inl (0, never)))) (role-acts plan blk.virt For.BlkVirt (λ never. fine (inl (1, never)))))
     (all-names (IsActor plan) blk_client_domains blk.client (λ c client there.
     let good = blk_client_keeps plan 21 valid (omega arith) (omega arith) blk c client is there in
-    one plan client.pd (role-acts plan client.pd For.BlkClient (λ never. good (0, never)))))
+    one plan client.pd (role-acts plan client.pd For.BlkClient (λ never. good (inl (0, never))))))
 
 -- each domain that a class element of a valid plan names
 pub class_acts : (plan : Plan) → Valid plan → All (IsActor plan) (class_domains plan)
@@ -153,5 +154,6 @@ class_acts plan valid =
     let net = all-class P (λ (x : Net). net_domains x ++ flat_map net_client_domains x.client) plan.net (net_acts plan valid) in
     let serial = all-class P (λ (x : Serial). serial_domains x ++ flat_map serial_client_domains x.client) plan.serial (serial_acts plan valid) in
     let blk = all-class P (λ (x : Blk). blk_domains x ++ flat_map blk_client_domains x.client) plan.blk (blk_acts plan valid) in
-    All-append P (net_names net_domains net_client_domains plan ++ serial_names serial_domains serial_client_domains plan) (blk_names blk_domains blk_client_domains plan)
-    (All-append P (net_names net_domains net_client_domains plan) (serial_names serial_domains serial_client_domains plan) net serial) blk
+    subst (All P) (sym (domains_same plan))
+    (All-append P (net_names net_domains net_client_domains plan ++ serial_names serial_domains serial_client_domains plan) (blk_names blk_domains blk_client_domains plan)
+    (All-append P (net_names net_domains net_client_domains plan) (serial_names serial_domains serial_client_domains plan) net serial) blk)

@@ -8,6 +8,7 @@ use Rattle.sdf_plan.specs.declared.plan.Blk.{Blk}
 use Rattle.sdf_plan.specs.declared.plan.BlkClient.{BlkClient}
 use Rattle.sdf_check.specs.Names.{net_regions, net_client_regions, serial_regions, serial_client_regions, blk_regions, blk_client_regions}
 use Rattle.sdf_check.specs.ClassRules.{class_regions, net_names, serial_names, blk_names}
+use Rattle.sdf_check.proofs.ClassLemmas.{regions_same}
 use Rattle.sdf_check.proofs.ListLemmas.{get-left, get-right}
 
 -- a name of a client among those of all clients, of which each has as many
@@ -53,16 +54,17 @@ abbrev pub blk_at : Plan → ℕ
 blk_at plan = serial_at plan + length (serial_part plan)
 
 net-class : (plan : Plan) (k : ℕ) (name : List ℕ) → slice_get (net_part plan) k ≡ Some name → slice_get (class_regions plan) k ≡ Some name
-net-class plan k name at = get-left (net_part plan ++ serial_part plan) (blk_part plan) k name (get-left (net_part plan) (serial_part plan) k name at)
+net-class plan k name at = ap (λ names. slice_get names k) (regions_same plan) ∙ get-left (net_part plan ++ serial_part plan) (blk_part plan) k name (get-left (net_part plan) (serial_part plan) k name at)
 
 serial-class : (plan : Plan) (k : ℕ) (name : List ℕ) → slice_get (serial_part plan) k ≡ Some name → slice_get (class_regions plan) (serial_at plan + k) ≡ Some name
 serial-class plan k name at =
-    get-left (net_part plan ++ serial_part plan) (blk_part plan) (serial_at plan + k) name (get-right (net_part plan) (serial_part plan) k name at)
+    ap (λ names. slice_get names (serial_at plan + k)) (regions_same plan)
+    ∙ get-left (net_part plan ++ serial_part plan) (blk_part plan) (serial_at plan + k) name (get-right (net_part plan) (serial_part plan) k name at)
 
 blk-class : (plan : Plan) (k : ℕ) (name : List ℕ) → slice_get (blk_part plan) k ≡ Some name → slice_get (class_regions plan) (blk_at plan + k) ≡ Some name
 blk-class plan k name at =
     subst (λ n. slice_get (class_regions plan) (n + k) ≡ Some name) (length-append (net_part plan) (serial_part plan))
-    (get-right (net_part plan ++ serial_part plan) (blk_part plan) k name at)
+    (ap (λ names. slice_get names (length (net_part plan ++ serial_part plan) + k)) (regions_same plan) ∙ get-right (net_part plan ++ serial_part plan) (blk_part plan) k name at)
 
 net-is : (plan : Plan) (net : Net) → plan.net ≡ Some net → net_part plan ≡ net_regions net ++ flat_map net_client_regions net.client
 net-is plan net is = rw is refl
@@ -135,25 +137,25 @@ blk-client-key plan blk c i client name is there at =
 -- the keys of pools
 abbrev pub IsPool : Plan → ℕ → Type 0
 IsPool plan key =
-    ((key < serial_at plan) × ((key ≡ 0) ⊎ ((c : ℕ) × ((key ≡ 3 + 5 * c + 1) ⊎ (key ≡ 3 + 5 * c + 3)))))
-    ⊎ ((blk_at plan ≤ key) × ((key ≡ blk_at plan + 1) ⊎ ((c : ℕ) × (key ≡ blk_at plan + 2 + 2 * c))))
+    ((key < serial_at plan) × ((key ≡ 2) ⊎ ((c : ℕ) × ((key ≡ 3 + 5 * c + 3) ⊎ (key ≡ 3 + 5 * c + 4)))))
+    ⊎ ((blk_at plan ≤ key) × ((key ≡ blk_at plan + 1) ⊎ ((c : ℕ) × (key ≡ blk_at plan + 2 + 2 * c + 1))))
 
 -- keys of queues
-pub net-queue : (plan : Plan) (key : ℕ) → key < serial_at plan → (key ≡ 1) ⊎ (key ≡ 2) → IsPool plan key → ⊥
+pub net-queue : (plan : Plan) (key : ℕ) → key < serial_at plan → (key ≡ 0) ⊎ (key ≡ 1) → IsPool plan key → ⊥
 net-queue plan key below is pool =
-    ⊎_elim (λ (h : (key < serial_at plan) × ((key ≡ 0) ⊎ ((c : ℕ) × ((key ≡ 3 + 5 * c + 1) ⊎ (key ≡ 3 + 5 * c + 3))))).
-    ⊎_elim (λ (z : key ≡ 0). ⊎_elim (λ (e : key ≡ 1). let no : ⊥ = omega (arith, z, e) in no) (λ (e : key ≡ 2). let no : ⊥ = omega (arith, z, e) in no) is)
-    (λ (w : (c : ℕ) × ((key ≡ 3 + 5 * c + 1) ⊎ (key ≡ 3 + 5 * c + 3))).
-    let least : 3 ≤ key = ⊎_elim (λ (e : key ≡ 3 + 5 * w.0 + 1). let goal : 3 ≤ key = omega (arith, e) in goal) (λ (e : key ≡ 3 + 5 * w.0 + 3). let goal : 3 ≤ key = omega (arith, e) in goal) w.1 in
-    ⊎_elim (λ (e : key ≡ 1). let no : ⊥ = omega (arith, least, e) in no) (λ (e : key ≡ 2). let no : ⊥ = omega (arith, least, e) in no) is) h.1)
-    (λ (h : (blk_at plan ≤ key) × ((key ≡ blk_at plan + 1) ⊎ ((c : ℕ) × (key ≡ blk_at plan + 2 + 2 * c)))). let no : ⊥ = omega (arith, h.0, below) in no) pool
+    ⊎_elim (λ (h : (key < serial_at plan) × ((key ≡ 2) ⊎ ((c : ℕ) × ((key ≡ 3 + 5 * c + 3) ⊎ (key ≡ 3 + 5 * c + 4))))).
+    ⊎_elim (λ (z : key ≡ 2). ⊎_elim (λ (e : key ≡ 0). let no : ⊥ = omega (arith, z, e) in no) (λ (e : key ≡ 1). let no : ⊥ = omega (arith, z, e) in no) is)
+    (λ (w : (c : ℕ) × ((key ≡ 3 + 5 * c + 3) ⊎ (key ≡ 3 + 5 * c + 4))).
+    let least : 3 ≤ key = ⊎_elim (λ (e : key ≡ 3 + 5 * w.0 + 3). let goal : 3 ≤ key = omega (arith, e) in goal) (λ (e : key ≡ 3 + 5 * w.0 + 4). let goal : 3 ≤ key = omega (arith, e) in goal) w.1 in
+    ⊎_elim (λ (e : key ≡ 0). let no : ⊥ = omega (arith, least, e) in no) (λ (e : key ≡ 1). let no : ⊥ = omega (arith, least, e) in no) is) h.1)
+    (λ (h : (blk_at plan ≤ key) × ((key ≡ blk_at plan + 1) ⊎ ((c : ℕ) × (key ≡ blk_at plan + 2 + 2 * c + 1)))). let no : ⊥ = omega (arith, h.0, below) in no) pool
 
-pub net-client-queue : (plan : Plan) (key c : ℕ) → key < serial_at plan → (key ≡ 3 + 5 * c) ⊎ (key ≡ 3 + 5 * c + 2) ⊎ (key ≡ 3 + 5 * c + 4) → IsPool plan key → ⊥
+pub net-client-queue : (plan : Plan) (key c : ℕ) → key < serial_at plan → (key ≡ 3 + 5 * c) ⊎ (key ≡ 3 + 5 * c + 1) ⊎ (key ≡ 3 + 5 * c + 2) → IsPool plan key → ⊥
 net-client-queue plan key c below is pool =
-    ⊎_elim (λ (h : (key < serial_at plan) × ((key ≡ 0) ⊎ ((d : ℕ) × ((key ≡ 3 + 5 * d + 1) ⊎ (key ≡ 3 + 5 * d + 3))))). none is h.1)
-    (λ (h : (blk_at plan ≤ key) × ((key ≡ blk_at plan + 1) ⊎ ((d : ℕ) × (key ≡ blk_at plan + 2 + 2 * d)))). let no : ⊥ = omega (arith, h.0, below) in no) pool
+    ⊎_elim (λ (h : (key < serial_at plan) × ((key ≡ 2) ⊎ ((d : ℕ) × ((key ≡ 3 + 5 * d + 3) ⊎ (key ≡ 3 + 5 * d + 4))))). none is h.1)
+    (λ (h : (blk_at plan ≤ key) × ((key ≡ blk_at plan + 1) ⊎ ((d : ℕ) × (key ≡ blk_at plan + 2 + 2 * d + 1)))). let no : ⊥ = omega (arith, h.0, below) in no) pool
   where
-    none : (key ≡ 3 + 5 * c) ⊎ (key ≡ 3 + 5 * c + 2) ⊎ (key ≡ 3 + 5 * c + 4) → (key ≡ 0) ⊎ ((d : ℕ) × ((key ≡ 3 + 5 * d + 1) ⊎ (key ≡ 3 + 5 * d + 3))) → ⊥
+    none : (key ≡ 3 + 5 * c) ⊎ (key ≡ 3 + 5 * c + 1) ⊎ (key ≡ 3 + 5 * c + 2) → (key ≡ 2) ⊎ ((d : ℕ) × ((key ≡ 3 + 5 * d + 3) ⊎ (key ≡ 3 + 5 * d + 4))) → ⊥
     none (inl e) (inl z) = omega (arith, e, z)
     none (inl e) (inr (d, inl f)) = omega (arith, e, f)
     none (inl e) (inr (d, inr f)) = omega (arith, e, f)
@@ -166,19 +168,19 @@ net-client-queue plan key c below is pool =
 
 pub serial-queue : (plan : Plan) (key : ℕ) → serial_at plan ≤ key → key < blk_at plan → IsPool plan key → ⊥
 serial-queue plan key above below pool =
-    ⊎_elim (λ (h : (key < serial_at plan) × ((key ≡ 0) ⊎ ((d : ℕ) × ((key ≡ 3 + 5 * d + 1) ⊎ (key ≡ 3 + 5 * d + 3))))). let no : ⊥ = omega (arith, h.0, above) in no)
-    (λ (h : (blk_at plan ≤ key) × ((key ≡ blk_at plan + 1) ⊎ ((d : ℕ) × (key ≡ blk_at plan + 2 + 2 * d)))). let no : ⊥ = omega (arith, h.0, below) in no) pool
+    ⊎_elim (λ (h : (key < serial_at plan) × ((key ≡ 2) ⊎ ((d : ℕ) × ((key ≡ 3 + 5 * d + 3) ⊎ (key ≡ 3 + 5 * d + 4))))). let no : ⊥ = omega (arith, h.0, above) in no)
+    (λ (h : (blk_at plan ≤ key) × ((key ≡ blk_at plan + 1) ⊎ ((d : ℕ) × (key ≡ blk_at plan + 2 + 2 * d + 1)))). let no : ⊥ = omega (arith, h.0, below) in no) pool
 
-pub blk-queue : (plan : Plan) (key c : ℕ) → (key ≡ blk_at plan) ⊎ (key ≡ blk_at plan + 2 + 2 * c + 1) → IsPool plan key → ⊥
+pub blk-queue : (plan : Plan) (key c : ℕ) → (key ≡ blk_at plan) ⊎ (key ≡ blk_at plan + 2 + 2 * c) → IsPool plan key → ⊥
 blk-queue plan key c is pool =
-    ⊎_elim (λ (h : (key < serial_at plan) × ((key ≡ 0) ⊎ ((d : ℕ) × ((key ≡ 3 + 5 * d + 1) ⊎ (key ≡ 3 + 5 * d + 3))))). under is h.0)
-    (λ (h : (blk_at plan ≤ key) × ((key ≡ blk_at plan + 1) ⊎ ((d : ℕ) × (key ≡ blk_at plan + 2 + 2 * d)))). none is h.1) pool
+    ⊎_elim (λ (h : (key < serial_at plan) × ((key ≡ 2) ⊎ ((d : ℕ) × ((key ≡ 3 + 5 * d + 3) ⊎ (key ≡ 3 + 5 * d + 4))))). under is h.0)
+    (λ (h : (blk_at plan ≤ key) × ((key ≡ blk_at plan + 1) ⊎ ((d : ℕ) × (key ≡ blk_at plan + 2 + 2 * d + 1)))). none is h.1) pool
   where
-    under : (key ≡ blk_at plan) ⊎ (key ≡ blk_at plan + 2 + 2 * c + 1) → key < serial_at plan → ⊥
+    under : (key ≡ blk_at plan) ⊎ (key ≡ blk_at plan + 2 + 2 * c) → key < serial_at plan → ⊥
     under (inl e) less = omega (arith, e, less)
     under (inr e) less = omega (arith, e, less)
 
-    none : (key ≡ blk_at plan) ⊎ (key ≡ blk_at plan + 2 + 2 * c + 1) → (key ≡ blk_at plan + 1) ⊎ ((d : ℕ) × (key ≡ blk_at plan + 2 + 2 * d)) → ⊥
+    none : (key ≡ blk_at plan) ⊎ (key ≡ blk_at plan + 2 + 2 * c) → (key ≡ blk_at plan + 1) ⊎ ((d : ℕ) × (key ≡ blk_at plan + 2 + 2 * d + 1)) → ⊥
     none (inl e) (inl z) = omega (arith, e, z)
     none (inl e) (inr (d, f)) = omega (arith, e, f)
     none (inr e) (inl z) = omega (arith, e, z)

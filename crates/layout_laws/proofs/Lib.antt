@@ -9,3 +9,4 @@ pub mod Keys
 pub mod Spreads
 pub mod Owners
 pub mod Rooms
+pub mod Tables

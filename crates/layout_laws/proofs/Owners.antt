@@ -15,8 +15,10 @@ use Rattle.sdf_plan.specs.declared.plan.BlkClient.{BlkClient}
 use Rattle.sdf_check.specs.Names.{net_domains, net_client_domains, serial_domains, serial_client_domains, blk_domains, blk_client_domains, region_named}
 use Rattle.sdf_check.specs.ClassRules.{class_domains, net_names, serial_names, blk_names}
 use Rattle.sdf_check.specs.Valid.{Valid}
+use Rattle.sdf_check.proofs.ClassLemmas.{domains_same}
 use Rattle.sdf_check.proofs.ListLemmas.{get-left, get-right}
 use Rattle.region_layout.specs.Rows.{acting_count, actors_of, one_if, actor_named, eth_number, uart_number, disk_number, queue_in, queue_pair, queue_span, each_client, eth_rx_queues, eth_tx_queues, net_rx_queues, net_tx_queues, lease_queues, client_rx_queues, client_tx_queues, net_client_queues, net_queues, uart_queues, shared_serial_queues, serial_client_queues, serial_queues, disk_queues, shared_blk_queues, blk_client_queues, blk_queues, queues_of}
+use Rattle.region_layout.proofs.SameLemmas.{queues_same}
 use Rattle.region_layout.proofs.NameLemmas.{acting_and_devices}
 use Rattle.layout_laws.specs.Sound.{IsOwned, IsActor}
 use Rattle.layout_laws.proofs.Lists.{all-at, all-clients, all-class, get-below}
@@ -90,11 +92,14 @@ module _ (plan : Plan) (valid : Valid plan) where
   abbrev blk_part : List (List ℕ)
   blk_part = blk_names blk_domains blk_client_domains plan
 
+  to_all : (k : ℕ) (name : List ℕ) → slice_get (net_part ++ serial_part ++ blk_part) k ≡ Some name → At k name
+  to_all k name at = ap (λ ns. slice_get ns k) (domains_same plan) ∙ at
+
   module _ (net : Net) (is : plan.net ≡ Some net) where
     in_net : (k : ℕ) (name : List ℕ) → slice_get (net_domains net ++ flat_map net_client_domains net.client) k ≡ Some name → At k name
     in_net k name at =
         let here : slice_get net_part k ≡ Some name = subst (λ (o : Option Net). slice_get (option_map_or (λ (x : Net). net_domains x ++ flat_map net_client_domains x.client) o []) k ≡ Some name) (sym is) at in
-        get-left (net_part ++ serial_part) blk_part k name (get-left net_part serial_part k name here)
+        to_all k name (get-left (net_part ++ serial_part) blk_part k name (get-left net_part serial_part k name here))
 
     head : (i : ℕ) (name : List ℕ) → slice_get (net_domains net) i ≡ Some name → At i name
     head i name at = in_net i name (get-left (net_domains net) (flat_map net_client_domains net.client) i name at)
@@ -143,7 +148,7 @@ module _ (plan : Plan) (valid : Valid plan) where
     in_serial : (k : ℕ) (name : List ℕ) → slice_get (serial_domains serial ++ flat_map serial_client_domains serial.client) k ≡ Some name → At (serial_start + k) name
     in_serial k name at =
         let here : slice_get serial_part k ≡ Some name = subst (λ (o : Option Serial). slice_get (option_map_or (λ (x : Serial). serial_domains x ++ flat_map serial_client_domains x.client) o []) k ≡ Some name) (sym is) at in
-        get-left (net_part ++ serial_part) blk_part (serial_start + k) name (get-right net_part serial_part k name here)
+        to_all (serial_start + k) name (get-left (net_part ++ serial_part) blk_part (serial_start + k) name (get-right net_part serial_part k name here))
 
     serial_head : (i : ℕ) (name : List ℕ) → slice_get (serial_domains serial) i ≡ Some name → At (serial_start + i) name
     serial_head i name at = in_serial i name (get-left (serial_domains serial) (flat_map serial_client_domains serial.client) i name at)
@@ -185,7 +190,7 @@ module _ (plan : Plan) (valid : Valid plan) where
     in_blk : (k : ℕ) (name : List ℕ) → slice_get (blk_domains blk ++ flat_map blk_client_domains blk.client) k ≡ Some name → At (blk_start + k) name
     in_blk k name at =
         let here : slice_get blk_part k ≡ Some name = subst (λ (o : Option Blk). slice_get (option_map_or (λ (x : Blk). blk_domains x ++ flat_map blk_client_domains x.client) o []) k ≡ Some name) (sym is) at in
-        get-right (net_part ++ serial_part) blk_part k name here
+        to_all (blk_start + k) name (get-right (net_part ++ serial_part) blk_part k name here)
 
     blk_head : (i : ℕ) (name : List ℕ) → slice_get (blk_domains blk) i ≡ Some name → At (blk_start + i) name
     blk_head i name at = in_blk i name (get-left (blk_domains blk) (flat_map blk_client_domains blk.client) i name at)
@@ -219,10 +224,9 @@ module _ (plan : Plan) (valid : Valid plan) where
 
   -- the two owners of each queue of a valid plan
   pub queues_owned : All (IsOwned plan) (queues_of plan)
-  unfolding queues_of
   queues_owned =
       let net = all-class (IsOwned plan) (net_queues plan) plan.net net_owned in
       let serial = all-class (IsOwned plan) (serial_queues plan) plan.serial serial_owned in
       let blk = all-class (IsOwned plan) (blk_queues plan) plan.blk blk_owned in
-      both plan (option_map_or (net_queues plan) plan.net [] ++ option_map_or (serial_queues plan) plan.serial []) (option_map_or (blk_queues plan) plan.blk [])
-      (both plan (option_map_or (net_queues plan) plan.net []) (option_map_or (serial_queues plan) plan.serial []) net serial) blk
+      subst (All (IsOwned plan)) (sym (queues_same plan)) (both plan (option_map_or (net_queues plan) plan.net [] ++ option_map_or (serial_queues plan) plan.serial []) (option_map_or (blk_queues plan) plan.blk [])
+      (both plan (option_map_or (net_queues plan) plan.net []) (option_map_or (serial_queues plan) plan.serial []) net serial) blk)

@@ -1,4 +1,4 @@
-use Rattle.std.proofs.Common.{◌≡◌, ℕ, suc, ◌+◌, ◌*◌, ◌<◌, ◌≤◌, inl, inr, List, [], ◌∷◌, length, Some, is_some, slice_get, codes, refl, ap, subst, arith}
+use Rattle.std.proofs.Common.{◌≡◌, ℕ, suc, ◌+◌, ◌*◌, ◌<◌, ◌≤◌, inl, inr, List, [], ◌∷◌, length, Some, is_some, slice_get, codes, refl, ap, subst, arith, sym}
 use Rattle.std.specs.List.{All}
 use Rattle.std.specs.Option.{IsNone, option_map_or}
 use Rattle.std.proofs.lemmas.List.Elements.{All-nil, All-cons, All-append}
@@ -16,6 +16,7 @@ use Rattle.sdf_check.specs.Valid.{Valid}
 use Rattle.sdf_check.proofs.SoughtLemmas.{here-some}
 use Rattle.region_layout.specs.Bases.{bases_from, bases_of, floor_of, free_after}
 use Rattle.region_layout.specs.Rows.{pool_in, net_buffer, blk_buffer, net_client_pools, net_pools, blk_client_pools, blk_pools, pools_of, each_client, client_name}
+use Rattle.region_layout.proofs.SameLemmas.{pools_same}
 use Rattle.region_layout.proofs.KeptLemmas.{net_keeps, net_client_keeps, blk_keeps, blk_client_keeps}
 use Rattle.region_layout.proofs.ValidLemmas.{net_counts, net_client_counts, blk_client_counts}
 use Rattle.layout_laws.specs.Sound.{IsSoundPool}
@@ -117,7 +118,6 @@ blk_sound plan valid blk is =
 
 -- each pool of a valid plan
 pub pools_sound : (plan : Plan) → Valid plan → All (IsSoundPool plan) (pools_of plan)
-unfolding pools_of
 pools_sound plan valid =
-    All-append (IsSoundPool plan) (option_map_or (net_pools plan) plan.net []) (option_map_or (blk_pools plan) plan.blk [])
-    (all-class (IsSoundPool plan) (net_pools plan) plan.net (net_sound plan valid)) (all-class (IsSoundPool plan) (blk_pools plan) plan.blk (blk_sound plan valid))
+    subst (All (IsSoundPool plan)) (sym (pools_same plan)) (All-append (IsSoundPool plan) (option_map_or (net_pools plan) plan.net []) (option_map_or (blk_pools plan) plan.blk [])
+    (all-class (IsSoundPool plan) (net_pools plan) plan.net (net_sound plan valid)) (all-class (IsSoundPool plan) (blk_pools plan) plan.blk (blk_sound plan valid)))

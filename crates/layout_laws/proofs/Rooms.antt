@@ -9,6 +9,7 @@ use Rattle.sdf_plan.specs.declared.plan.NetClient.{NetClient}
 use Rattle.sdf_check.specs.Valid.{Valid}
 use Rattle.sdf_check.proofs.ListLemmas.{get-left, get-right}
 use Rattle.region_layout.specs.Rows.{queue_in, queue_pair, each_client, eth_rx_queues, eth_tx_queues, net_rx_queues, net_tx_queues, lease_queues, client_rx_queues, client_tx_queues, net_client_queues, net_queues, serial_queues, blk_queues, queues_of, pool_in, net_client_pools, net_pools, blk_pools, pools_of, net_buffer}
+use Rattle.region_layout.proofs.SameLemmas.{queues_same, pools_same}
 use Rattle.region_layout.proofs.KeptLemmas.{net_keeps, net_client_keeps}
 use Rattle.layout_laws.specs.Sound.{HoldsPool, HasRooms}
 use Rattle.layout_laws.proofs.Lists.{there_is, each-at}
@@ -38,17 +39,17 @@ module _ (plan : Plan) (valid : Valid plan) (net : Net) (is : plan.net ≡ Some 
 
   -- the queues and pools of the network class come first
   queue_at : (n : ℕ) (row : QueueRow) → slice_get (net_queues plan net) n ≡ Some row → slice_get (queues_of plan) n ≡ Some row
-  unfolding queues_of
   queue_at n row at =
       let here : slice_get (option_map_or (net_queues plan) plan.net []) n ≡ Some row = subst (λ (o : Option Net). slice_get (option_map_or (net_queues plan) o []) n ≡ Some row) (sym is) at in
-      get-left (option_map_or (net_queues plan) plan.net [] ++ option_map_or (serial_queues plan) plan.serial []) (option_map_or (blk_queues plan) plan.blk []) n row
-      (get-left (option_map_or (net_queues plan) plan.net []) (option_map_or (serial_queues plan) plan.serial []) n row here)
+      subst (λ (rows : List QueueRow). slice_get rows n ≡ Some row) (sym (queues_same plan))
+      (get-left (option_map_or (net_queues plan) plan.net [] ++ option_map_or (serial_queues plan) plan.serial []) (option_map_or (blk_queues plan) plan.blk []) n row
+      (get-left (option_map_or (net_queues plan) plan.net []) (option_map_or (serial_queues plan) plan.serial []) n row here))
 
   pool_at : (n : ℕ) (row : PoolRow) → slice_get (net_pools plan net) n ≡ Some row → slice_get (pools_of plan) n ≡ Some row
-  unfolding pools_of
   pool_at n row at =
       let here : slice_get (option_map_or (net_pools plan) plan.net []) n ≡ Some row = subst (λ (o : Option Net). slice_get (option_map_or (net_pools plan) o []) n ≡ Some row) (sym is) at in
-      get-left (option_map_or (net_pools plan) plan.net []) (option_map_or (blk_pools plan) plan.blk []) n row here
+      subst (λ (rows : List PoolRow). slice_get rows n ≡ Some row) (sym (pools_same plan))
+      (get-left (option_map_or (net_pools plan) plan.net []) (option_map_or (blk_pools plan) plan.blk []) n row here)
 
   abbrev head : List QueueRow
   head = eth_rx_queues plan net ++ eth_tx_queues plan net ++ net_rx_queues plan net ++ net_tx_queues plan net

@@ -22,6 +22,7 @@ use Rattle.sdf_check.proofs.ListLemmas.{get-either}
 use Rattle.sdf_check.proofs.SweepLemmas.{some-inj, none-is-some}
 use Rattle.wire_core.specs.declared.names.ActorId.{ActorId}
 use Rattle.region_layout.specs.Rows.{actor_named, eth_number, uart_number, disk_number, queue_span, queue_in, queue_pair, eth_rx_queues, eth_tx_queues, net_rx_queues, net_tx_queues, lease_queues, client_rx_queues, client_tx_queues, net_client_queues, net_queues, uart_queues, shared_serial_queues, serial_client_queues, serial_queues, disk_queues, shared_blk_queues, blk_client_queues, blk_queues, queues_of, pool_in, net_buffer, blk_buffer, net_client_pools, net_pools, blk_client_pools, blk_pools, pools_of, each_client, client_name}
+use Rattle.region_layout.proofs.SameLemmas.{queues_same, pools_same}
 use Rattle.layout_laws.specs.Sound.{queue_range, pool_range, ranges_of}
 use Rattle.layout_laws.proofs.Queues.{net_fine, net_client_fine, serial_fine, serial_client_fine, blk_fine, blk_client_fine}
 use Rattle.layout_laws.proofs.Pools.{not-missed, net_named, net_client_named, blk_named, blk_client_named}
@@ -78,6 +79,9 @@ pair plan key region first second from to kind back capacity queue at large =
 both : (plan : Plan) (low mid high : ℕ) (xs ys : List QueueRow) → Valid plan → low ≤ mid → mid ≤ high → QueueSpread plan low mid xs → QueueSpread plan mid high ys → QueueSpread plan low high (xs ++ ys)
 both plan low mid high xs ys valid up down one other = spread-both plan (queue_range plan) (NotPool plan) low mid high xs ys valid up down one other
 
+widen : (plan : Plan) (low mid high : ℕ) (xs : List QueueRow) → mid ≤ high → QueueSpread plan low mid xs → QueueSpread plan low high xs
+widen plan low mid high xs less s = (λ i x a there is. let w = s.0 i x a there is in let most : w.0 < high = omega (arith, w.2, less) in (w.0, w.1, most, w.3, w.4), s.1)
+
 net-client-queues : (plan : Plan) (net : Net) → Valid plan → plan.net ≡ Some net → (c : ℕ) (client : NetClient) → slice_get net.client c ≡ Some client
     → QueueSpread plan (3 + 5 * c) (3 + 5 * suc c) (net_client_queues plan net c client)
 unfolding net_client_queues lease_queues client_rx_queues client_tx_queues
@@ -87,48 +91,44 @@ net-client-queues plan net valid is c client there =
     let begins = serial-begins plan net is in
     let start = 3 + 5 * c in
     let first : start < serial_at plan = omega (arith, begins, inside) in
+    let second : start + 1 < serial_at plan = omega (arith, begins, inside) in
     let third : start + 2 < serial_at plan = omega (arith, begins, inside) in
-    let fifth : start + 4 < serial_at plan = omega (arith, begins, inside) in
     let zeroth : start + 0 ≡ start = add-zero start in
     let lease = pair plan start client.lease_queues (client_name (codes "net.") c (codes ".lease.active")) (client_name (codes "net.") c (codes ".lease.free")) (actor_named plan net.rx_virt) (actor_named plan client.copier) Kind.Net Kind.Net net.rx_capacity
     (net-client-queue plan start c first (inl refl)) (subst (λ n. slice_get (class_regions plan) n ≡ Some client.lease_queues) zeroth (net-client-key plan net c 0 client client.lease_queues is there refl))
     (λ small. fine (inl (1, small))) in
-    let rx = pair plan (start + 2) client.rx_queues (client_name (codes "net.") c (codes ".rx.active")) (client_name (codes "net.") c (codes ".rx.free")) (actor_named plan client.copier) (actor_named plan client.pd) Kind.Net Kind.Net client.rx_capacity
-    (net-client-queue plan (start + 2) c third (inr (inl refl))) (net-client-key plan net c 2 client client.rx_queues is there refl)
+    let rx = pair plan (start + 1) client.rx_queues (client_name (codes "net.") c (codes ".rx.active")) (client_name (codes "net.") c (codes ".rx.free")) (actor_named plan client.copier) (actor_named plan client.pd) Kind.Net Kind.Net client.rx_capacity
+    (net-client-queue plan (start + 1) c second (inr (inl refl))) (net-client-key plan net c 1 client client.rx_queues is there refl)
     (λ small. fine (inl (3, small))) in
-    let tx = pair plan (start + 4) client.tx_queues (client_name (codes "net.") c (codes ".tx.active")) (client_name (codes "net.") c (codes ".tx.free")) (actor_named plan client.pd) (actor_named plan net.tx_virt) Kind.Net Kind.Net client.tx_capacity
-    (net-client-queue plan (start + 4) c fifth (inr (inr refl))) (net-client-key plan net c 4 client client.tx_queues is there refl)
+    let tx = pair plan (start + 2) client.tx_queues (client_name (codes "net.") c (codes ".tx.active")) (client_name (codes "net.") c (codes ".tx.free")) (actor_named plan client.pd) (actor_named plan net.tx_virt) Kind.Net Kind.Net client.tx_capacity
+    (net-client-queue plan (start + 2) c third (inr (inr refl))) (net-client-key plan net c 2 client client.tx_queues is there refl)
     (λ small. fine (inl (5, small))) in
-    let ends : start + 4 + 1 ≡ 3 + 5 * suc c = omega arith in
-    subst (λ n. QueueSpread plan start n (net_client_queues plan net c client)) ends
-    (both plan start (start + 4) (start + 4 + 1) (lease_queues plan net c client ++ client_rx_queues plan c client) (client_tx_queues plan net c client) valid (omega arith) (omega arith)
-    (widen plan start (start + 2 + 1) (start + 4) (lease_queues plan net c client ++ client_rx_queues plan c client) (omega arith)
-    (both plan start (start + 2) (start + 2 + 1) (lease_queues plan net c client) (client_rx_queues plan c client) valid (omega arith) (omega arith)
-    (widen plan start (start + 1) (start + 2) (lease_queues plan net c client) (omega arith) lease) rx)) tx)
-  where
-    widen : (plan : Plan) (low mid high : ℕ) (xs : List QueueRow) → mid ≤ high → QueueSpread plan low mid xs → QueueSpread plan low high xs
-    widen plan low mid high xs less s = (λ i x a there is. let w = s.0 i x a there is in let most : w.0 < high = omega (arith, w.2, less) in (w.0, w.1, most, w.3, w.4), s.1)
+    let joined = both plan start (start + 2) (start + 2 + 1) (lease_queues plan net c client ++ client_rx_queues plan c client) (client_tx_queues plan net c client) valid (omega arith) (omega arith)
+    (widen plan start (start + 1 + 1) (start + 2) (lease_queues plan net c client ++ client_rx_queues plan c client) (omega arith)
+    (both plan start (start + 1) (start + 1 + 1) (lease_queues plan net c client) (client_rx_queues plan c client) valid (omega arith) (omega arith) lease rx)) tx in
+    widen plan start (start + 2 + 1) (3 + 5 * suc c) (net_client_queues plan net c client) (omega arith) joined
 
 net-spread : (plan : Plan) → Valid plan → (net : Net) → plan.net ≡ Some net → QueueSpread plan 0 (0 + length (net_regions net ++ flat_map net_client_regions net.client)) (net_queues plan net)
 unfolding net_queues eth_rx_queues eth_tx_queues net_rx_queues net_tx_queues
 net-spread plan valid net is =
     let fine = net_fine plan net valid is in
     let begins = serial-begins plan net is in
+    let zero : 0 < serial_at plan = omega (arith, begins) in
     let one : 1 < serial_at plan = omega (arith, begins) in
-    let two : 2 < serial_at plan = omega (arith, begins) in
-    let eth_rx = device plan 0 1 (codes "eth.rx.free") (codes "eth.rx.active") (actor_named plan net.driver) (eth_number plan) (eth_number plan) (actor_named plan net.driver) Kind.Net Kind.Net net.rx_capacity in
-    let eth_tx = device plan 1 1 (codes "eth.tx.active") (codes "eth.tx.free") (actor_named plan net.driver) (eth_number plan) (eth_number plan) (actor_named plan net.driver) Kind.Net Kind.Net net.tx_capacity in
-    let rx = pair plan 1 net.rx_queues (codes "net.rx.active") (codes "net.rx.free") (actor_named plan net.driver) (actor_named plan net.rx_virt) Kind.Net Kind.Net net.rx_capacity (net-queue plan 1 one (inl refl)) (net-key plan net 1 net.rx_queues is refl)
+    let eth_rx = device plan 0 0 (codes "eth.rx.free") (codes "eth.rx.active") (actor_named plan net.driver) (eth_number plan) (eth_number plan) (actor_named plan net.driver) Kind.Net Kind.Net net.rx_capacity in
+    let eth_tx = device plan 0 0 (codes "eth.tx.active") (codes "eth.tx.free") (actor_named plan net.driver) (eth_number plan) (eth_number plan) (actor_named plan net.driver) Kind.Net Kind.Net net.tx_capacity in
+    let rx = pair plan 0 net.rx_queues (codes "net.rx.active") (codes "net.rx.free") (actor_named plan net.driver) (actor_named plan net.rx_virt) Kind.Net Kind.Net net.rx_capacity (net-queue plan 0 zero (inl refl)) (net-key plan net 0 net.rx_queues is refl)
     (λ small. fine (inl (5, small))) in
-    let tx = pair plan 2 net.tx_queues (codes "net.tx.active") (codes "net.tx.free") (actor_named plan net.tx_virt) (actor_named plan net.driver) Kind.Net Kind.Net net.tx_capacity (net-queue plan 2 two (inr refl)) (net-key plan net 2 net.tx_queues is refl)
+    let tx = pair plan 1 net.tx_queues (codes "net.tx.active") (codes "net.tx.free") (actor_named plan net.tx_virt) (actor_named plan net.driver) Kind.Net Kind.Net net.tx_capacity (net-queue plan 1 one (inr refl)) (net-key plan net 1 net.tx_queues is refl)
     (λ small. fine (inl (7, small))) in
     let clients = spread-clients plan (queue_range plan) (NotPool plan) (net_client_queues plan net) (λ k. 3 + 5 * k) 0 net.client valid (λ k. omega arith)
     (λ k (client : NetClient) there. subst (λ n. QueueSpread plan (3 + 5 * k) (3 + 5 * suc k) (net_client_queues plan net n client)) (sym (zero-add k)) (net-client-queues plan net valid is k client there)) in
     subst (λ n. QueueSpread plan 0 n (net_queues plan net)) (sym (net-count net) ∙ sym (zero-add (length (net_regions net ++ flat_map net_client_regions net.client))))
     (both plan 0 3 (3 + 5 * length net.client) (eth_rx_queues plan net ++ eth_tx_queues plan net ++ net_rx_queues plan net ++ net_tx_queues plan net) (each_client (net_client_queues plan net) 0 net.client) valid (omega arith) (omega arith)
-    (both plan 0 2 3 (eth_rx_queues plan net ++ eth_tx_queues plan net ++ net_rx_queues plan net) (net_tx_queues plan net) valid (omega arith) (omega arith)
-    (both plan 0 1 2 (eth_rx_queues plan net ++ eth_tx_queues plan net) (net_rx_queues plan net) valid (omega arith) (omega arith)
-    (both plan 0 1 1 (eth_rx_queues plan net) (eth_tx_queues plan net) valid (omega arith) (omega arith) eth_rx eth_tx) rx) tx) clients)
+    (both plan 0 1 3 (eth_rx_queues plan net ++ eth_tx_queues plan net ++ net_rx_queues plan net) (net_tx_queues plan net) valid (omega arith) (omega arith)
+    (both plan 0 0 1 (eth_rx_queues plan net ++ eth_tx_queues plan net) (net_rx_queues plan net) valid (omega arith) (omega arith)
+    (both plan 0 0 0 (eth_rx_queues plan net) (eth_tx_queues plan net) valid (omega arith) (omega arith) eth_rx eth_tx) rx)
+    (widen plan 1 (1 + 1) 3 (net_tx_queues plan net) (omega arith) tx)) clients)
 
 serial-client-queues : (plan : Plan) (serial : Serial) → Valid plan → plan.serial ≡ Some serial → (c : ℕ) (client : SerialClient) → slice_get serial.client c ≡ Some client
     → QueueSpread plan (serial_at plan + 2 + 2 * c) (serial_at plan + 2 + 2 * suc c) (serial_client_queues plan serial c client)
@@ -197,8 +197,8 @@ blk-client-queues : (plan : Plan) (blk : Blk) → Valid plan → plan.blk ≡ So
 unfolding blk_client_queues
 blk-client-queues plan blk valid is c client there =
     let start = blk_at plan + 2 + 2 * c in
-    let s = pair plan (start + 1) client.queues (client_name (codes "blk.") c (codes ".req")) (client_name (codes "blk.") c (codes ".resp")) (actor_named plan client.pd) (actor_named plan blk.virt) Kind.Req Kind.Resp client.capacity
-    (blk-queue plan (start + 1) c (inr refl)) (blk-client-key plan blk c 1 client client.queues is there refl)
+    let s = pair plan start client.queues (client_name (codes "blk.") c (codes ".req")) (client_name (codes "blk.") c (codes ".resp")) (actor_named plan client.pd) (actor_named plan blk.virt) Kind.Req Kind.Resp client.capacity
+    (blk-queue plan start c (inr refl)) (subst (λ n. slice_get (class_regions plan) n ≡ Some client.queues) (add-zero start) (blk-client-key plan blk c 0 client client.queues is there refl))
     (λ small. (blk_client_fine plan blk c client valid is there) (inl (1, small))) in (
       λ i x a at e.
           let w = s.0 i x a at e in
@@ -229,14 +229,14 @@ blk-spread plan valid blk is =
 
 -- all queues
 queues-spread : (plan : Plan) → Valid plan → QueueSpread plan 0 (blk_at plan + length (blk_names blk_regions blk_client_regions plan)) (queues_of plan)
-unfolding queues_of
 queues-spread plan valid =
     let net = spread-class plan (queue_range plan) (NotPool plan) 0 (λ (x : Net). net_regions x ++ flat_map net_client_regions x.client) (net_queues plan) plan.net (net-spread plan valid) in
     let serial = spread-class plan (queue_range plan) (NotPool plan) (serial_at plan) (λ (x : Serial). serial_regions x ++ flat_map serial_client_regions x.client) (serial_queues plan) plan.serial (serial-spread plan valid) in
     let blk = spread-class plan (queue_range plan) (NotPool plan) (blk_at plan) (λ (x : Blk). blk_regions x ++ flat_map blk_client_regions x.client) (blk_queues plan) plan.blk (blk-spread plan valid) in
     let net' : QueueSpread plan 0 (serial_at plan) (option_map_or (net_queues plan) plan.net []) = subst (λ n. QueueSpread plan 0 n (option_map_or (net_queues plan) plan.net [])) (zero-add (serial_at plan)) net in
-    both plan 0 (blk_at plan) (blk_at plan + length (blk_names blk_regions blk_client_regions plan)) (option_map_or (net_queues plan) plan.net [] ++ option_map_or (serial_queues plan) plan.serial []) (option_map_or (blk_queues plan) plan.blk []) valid (omega arith) (omega arith)
-    (both plan 0 (serial_at plan) (blk_at plan) (option_map_or (net_queues plan) plan.net []) (option_map_or (serial_queues plan) plan.serial []) valid (omega arith) (omega arith) net' serial) blk
+    subst (QueueSpread plan 0 (blk_at plan + length (blk_names blk_regions blk_client_regions plan))) (sym (queues_same plan))
+    (both plan 0 (blk_at plan) (blk_at plan + length (blk_names blk_regions blk_client_regions plan)) (option_map_or (net_queues plan) plan.net [] ++ option_map_or (serial_queues plan) plan.serial []) (option_map_or (blk_queues plan) plan.blk []) valid (omega arith) (omega arith)
+    (both plan 0 (serial_at plan) (blk_at plan) (option_map_or (net_queues plan) plan.net []) (option_map_or (serial_queues plan) plan.serial []) valid (omega arith) (omega arith) net' serial) blk)
 
 -- one pool
 pool : (plan : Plan) (key : ℕ) (region name : List ℕ) (buffers size r : ℕ) → IsPool plan key → slice_get (class_regions plan) key ≡ Some region → region_named plan region ≡ Some r
@@ -266,19 +266,19 @@ net-client-pools plan net valid is c client there =
     let inside : c < length net.client = slice_get_within net.client c client there in
     let begins = serial-begins plan net is in
     let start = 3 + 5 * c in
-    let second : start + 1 < serial_at plan = omega (arith, begins, inside) in
     let fourth : start + 3 < serial_at plan = omega (arith, begins, inside) in
+    let fifth : start + 4 < serial_at plan = omega (arith, begins, inside) in
     let rx_at = not-missed plan client.rx_region (λ none. names (inr (0, none))) in
     let tx_at = not-missed plan client.tx_region (λ none. names (inr (1, none))) in
     let one = pool_in plan client.rx_region (client_name (codes "net.") c (codes ".rx")) client.rx_buffers net_buffer in
     let other = pool_in plan client.tx_region (client_name (codes "net.") c (codes ".tx")) client.tx_buffers net_buffer in
-    let rx = pool plan (start + 1) client.rx_region (client_name (codes "net.") c (codes ".rx")) client.rx_buffers net_buffer rx_at.0 (inl (second, inr (c, inl refl)))
-    (net-client-key plan net c 1 client client.rx_region is there refl) rx_at.1 (λ small. fine (inr (0, small))) in
-    let tx = pool plan (start + 3) client.tx_region (client_name (codes "net.") c (codes ".tx")) client.tx_buffers net_buffer tx_at.0 (inl (fourth, inr (c, inr refl)))
-    (net-client-key plan net c 3 client client.tx_region is there refl) tx_at.1 (λ small. fine (inr (1, small))) in
-    let joined : PoolSpread plan (start + 1) (start + 3 + 1) (one ∷ other ∷ []) =
-    pools-both plan (start + 1) (start + 3) (start + 3 + 1) (one ∷ []) (other ∷ []) valid (omega arith) (omega arith)
-    (λ i x a at e. let w = rx.0 i x a at e in let most : w.0 < start + 3 = omega (arith, w.2) in (w.0, w.1, most, w.3, w.4), rx.1) tx in (
+    let rx = pool plan (start + 3) client.rx_region (client_name (codes "net.") c (codes ".rx")) client.rx_buffers net_buffer rx_at.0 (inl (fourth, inr (c, inl refl)))
+    (net-client-key plan net c 3 client client.rx_region is there refl) rx_at.1 (λ small. fine (inr (0, small))) in
+    let tx = pool plan (start + 4) client.tx_region (client_name (codes "net.") c (codes ".tx")) client.tx_buffers net_buffer tx_at.0 (inl (fifth, inr (c, inr refl)))
+    (net-client-key plan net c 4 client client.tx_region is there refl) tx_at.1 (λ small. fine (inr (1, small))) in
+    let joined : PoolSpread plan (start + 3) (start + 4 + 1) (one ∷ other ∷ []) =
+    pools-both plan (start + 3) (start + 4) (start + 4 + 1) (one ∷ []) (other ∷ []) valid (omega arith) (omega arith)
+    (λ i x a at e. let w = rx.0 i x a at e in let most : w.0 < start + 4 = omega (arith, w.2) in (w.0, w.1, most, w.3, w.4), rx.1) tx in (
       λ i x a at e.
           let w = joined.0 i x a at e in
           let least : start ≤ w.0 = omega (arith, w.1) in
@@ -291,16 +291,16 @@ net-pools : (plan : Plan) → Valid plan → (net : Net) → plan.net ≡ Some n
 unfolding net_pools
 net-pools plan valid net is =
     let begins = serial-begins plan net is in
-    let none : 0 < serial_at plan = omega (arith, begins) in
+    let two : 2 < serial_at plan = omega (arith, begins) in
     let there = not-missed plan net.rx_region (λ none. (net_named plan net valid is) (inr (0, none))) in
     let one = pool_in plan net.rx_region (codes "net.rx") net.rx_buffers net_buffer in
-    let s = pool plan 0 net.rx_region (codes "net.rx") net.rx_buffers net_buffer there.0 (inl (none, inl refl)) (net-key plan net 0 net.rx_region is refl) there.1
+    let s = pool plan 2 net.rx_region (codes "net.rx") net.rx_buffers net_buffer there.0 (inl (two, inl refl)) (net-key plan net 2 net.rx_region is refl) there.1
     (λ small. (net_fine plan net valid is) (inr (0, small))) in
     let clients = spread-clients plan pool_range (IsPool plan) (net_client_pools plan) (λ k. 3 + 5 * k) 0 net.client valid (λ k. omega arith)
     (λ k (client : NetClient) there. subst (λ n. PoolSpread plan (3 + 5 * k) (3 + 5 * suc k) (net_client_pools plan n client)) (sym (zero-add k)) (net-client-pools plan net valid is k client there)) in
     subst (λ n. PoolSpread plan 0 n (net_pools plan net)) (sym (net-count net) ∙ sym (zero-add (length (net_regions net ++ flat_map net_client_regions net.client))))
     (pools-both plan 0 3 (3 + 5 * length net.client) (one ∷ []) (each_client (net_client_pools plan) 0 net.client) valid (omega arith) (omega arith)
-    (λ i x a at e. let w = s.0 i x a at e in let most : w.0 < 3 = omega (arith, w.2) in (w.0, w.1, most, w.3, w.4), s.1) clients)
+    (λ i x a at e. let w = s.0 i x a at e in let least : 0 ≤ w.0 = omega arith in let most : w.0 < 3 = omega (arith, w.2) in (w.0, least, most, w.3, w.4), s.1) clients)
 
 blk-client-pools : (plan : Plan) (blk : Blk) → Valid plan → plan.blk ≡ Some blk → (c : ℕ) (client : BlkClient) → slice_get blk.client c ≡ Some client
     → PoolSpread plan (blk_at plan + 2 + 2 * c) (blk_at plan + 2 + 2 * suc c) (blk_client_pools plan c client)
@@ -308,10 +308,15 @@ unfolding blk_client_pools
 blk-client-pools plan blk valid is c client there =
     let start = blk_at plan + 2 + 2 * c in
     let at_region = not-missed plan client.region (λ none. (blk_client_named plan blk c client valid is there) (inr (0, none))) in
-    let s = pool plan start client.region (client_name (codes "blk.") c []) client.buffers blk_buffer at_region.0 (inr (omega arith, inr (c, refl)))
-    (subst (λ n. slice_get (class_regions plan) n ≡ Some client.region) (add-zero start) (blk-client-key plan blk c 0 client client.region is there refl)) at_region.1
-    (λ small. (blk_client_fine plan blk c client valid is there) (inr (0, small))) in
-    (λ i x a at e. let w = s.0 i x a at e in let most : w.0 < blk_at plan + 2 + 2 * suc c = omega (arith, w.2) in (w.0, w.1, most, w.3, w.4), s.1)
+    let s = pool plan (start + 1) client.region (client_name (codes "blk.") c []) client.buffers blk_buffer at_region.0 (inr (omega arith, inr (c, refl)))
+    (blk-client-key plan blk c 1 client client.region is there refl) at_region.1 (λ small. (blk_client_fine plan blk c client valid is there) (inr (0, small))) in (
+      λ i x a at e.
+          let w = s.0 i x a at e in
+          let least : start ≤ w.0 = omega (arith, w.1) in
+          let most : w.0 < blk_at plan + 2 + 2 * suc c = omega (arith, w.2) in
+          (w.0, least, most, w.3, w.4),
+      s.1,
+    )
 
 blk-pools : (plan : Plan) → Valid plan → (blk : Blk) → plan.blk ≡ Some blk
     → PoolSpread plan (blk_at plan) (blk_at plan + length (blk_regions blk ++ flat_map blk_client_regions blk.client)) (blk_pools plan blk)
@@ -339,12 +344,12 @@ blk-pools plan valid blk is =
 
 -- all pools
 pools-spread : (plan : Plan) → Valid plan → PoolSpread plan 0 (blk_at plan + length (blk_names blk_regions blk_client_regions plan)) (pools_of plan)
-unfolding pools_of
 pools-spread plan valid =
     let net = spread-class plan pool_range (IsPool plan) 0 (λ (x : Net). net_regions x ++ flat_map net_client_regions x.client) (net_pools plan) plan.net (net-pools plan valid) in
     let blk = spread-class plan pool_range (IsPool plan) (blk_at plan) (λ (x : Blk). blk_regions x ++ flat_map blk_client_regions x.client) (blk_pools plan) plan.blk (blk-pools plan valid) in
-    pools-both plan 0 (blk_at plan) (blk_at plan + length (blk_names blk_regions blk_client_regions plan)) (option_map_or (net_pools plan) plan.net []) (option_map_or (blk_pools plan) plan.blk []) valid (omega arith) (omega arith)
-    (λ i x a at e. let w = net.0 i x a at e in let most : w.0 < blk_at plan = omega (arith, w.2) in (w.0, w.1, most, w.3, w.4), net.1) blk
+    subst (PoolSpread plan 0 (blk_at plan + length (blk_names blk_regions blk_client_regions plan))) (sym (pools_same plan))
+    (pools-both plan 0 (blk_at plan) (blk_at plan + length (blk_names blk_regions blk_client_regions plan)) (option_map_or (net_pools plan) plan.net []) (option_map_or (blk_pools plan) plan.blk []) valid (omega arith) (omega arith)
+    (λ i x a at e. let w = net.0 i x a at e in let most : w.0 < blk_at plan = omega (arith, w.2) in (w.0, w.1, most, w.3, w.4), net.1) blk)
 
 -- a range of a list that a function goes over is that of an element
 from-map : {T : Type 0} (range : T → Option Range) (rows : List T) (k : ℕ) (a : Range) → slice_get (map range rows) k ≡ Some (Some a) → (x : T) × (slice_get rows k ≡ Some x) × (range x ≡ Some a)

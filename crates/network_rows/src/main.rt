@@ -2,27 +2,35 @@
 //! description, a trace for it, and the seeds, so many from the first on. For each seed one line is
 //! written: how the play ended, how many frames the wire got of those that the clients are to send,
 //! and how many each client recorded of those that are for it. Where the wire lacks a frame or has
-//! a client's frames out of order, or a record isn't what it must be, the line says so.
+//! a client's frames out of order, or a record isn't what it must be, the line says so. A row with
+//! `| pools` behind it has also where the buffers of each pool are.
 #![tactic(auto)]
 
-ghost use Rattle.std.specs.Prelude.{◌≡◌, ◌<◌, ◌≤◌, IfOk, length, None};
+ghost use Rattle.std.specs.Prelude.{◌<◌, ◌≤◌, IfOk, length};
 ghost use Rattle.sdf_check.specs.Valid.{Valid};
 ghost use Rattle.sdf_model.specs.Counts.{text_most};
-ghost use Rattle.system_core.specs.Builds.{unplayed};
 ghost use Rattle.trace_text.specs.Traces.{IsReadFor};
 
 use cargo_core::{FrameLog, Memory};
-use expect_core::Report;
+use expect_core::{Report, frames_for};
 use frame_core::read_mac;
-use net_expect::{answers_for, frames_for};
+use net_expect::answers_for;
 use region_layout::lay_out;
 use sdf_check::check;
 use sdf_model::{TEXT_MOST, read_description};
 use sdf_plan::{Net, Plan, SdfFault};
 use std::alloc::Global;
 use std::{fs, io};
-use system_core::{Ending, System, unplayed};
+use system_core::{Ending, System};
 use trace_text::{Trace, TraceFault, is_source, read_trace, runs};
+
+/// So many seeds from the first on, and whether the pools are to be told.
+#[derive(Clone, Copy)]
+struct Seeds {
+    first: u64,
+    count: u64,
+    pools: bool,
+}
 
 /// The most steps of a play.
 const STEPS: u64 = 268_435_456;
@@ -66,7 +74,7 @@ fn to_record(alloc: Global, net: &Net, trace: &Trace, client: usize) -> Result<F
     requires { client < length net.now.client }
 {
     match read_mac(net.client.get(client).mac.as_str()) {
-        Some(mac) => frames_for(alloc, trace.frames(), mac),
+        Some(mac) => frames_for(alloc, trace, mac),
         None => Ok(FrameLog::new(alloc)),
     }
 }
@@ -152,13 +160,29 @@ fn add_client(
     Ok(())
 }
 
-// What a play came to.
+// Where the buffers of each pool are, and how many entries were bad.
+fn add_pools(to: &mut String, report: &Report) -> Result<(), Memory> {
+    for k in 0..report.pools.len() {
+        let pool = report.pools.get(k);
+        write!(to, " pool {} buffers {}", pool.name.as_str(), pool.buffers)?;
+        write!(
+            to,
+            " queues {} hands {} lent {}",
+            pool.queues, pool.hands, pool.lent
+        )?;
+    }
+    write!(to, " bad {}", report.bad)?;
+    Ok(())
+}
+
+// What a play came to, with its pools where they are asked for.
 fn told(
     alloc: Global,
     plan: &Plan,
     report: &Report,
     trace: &Trace,
     ending: Ending,
+    pools: bool,
 ) -> Result<String, Memory> {
     let mut line = match ending {
         Ending::Quiet => String::from_str(alloc, "quiet")?,
@@ -172,68 +196,48 @@ fn told(
             }
         }
     }
+    if pools {
+        add_pools(&mut line, report)?;
+    }
     line.push_str("\n")?;
     Ok(line)
 }
 
-// What plays of a plan come to, with a trace that was read for it: so many, of the seeds from the
-// first on.
-fn plays(
-    alloc: Global,
-    plan: &Plan,
-    trace: &Trace,
-    first: u64,
-    count: u64,
-) -> Result<String, Memory>
+// What plays of a plan come to, with a trace that was read for it.
+fn plays(alloc: Global, plan: &Plan, trace: &Trace, seeds: Seeds) -> Result<String, Memory>
     requires valid { Valid plan.now }
-    requires played { unplayed plan.now ≡ None }
     requires trace { IsReadFor plan.now trace.now }
 {
     let layout = lay_out(alloc, plan)?;
     let mut text = String::new(alloc);
-    for k in 0..count {
-        let seed = first.saturating_add(k);
+    for k in 0..seeds.count {
+        let seed = seeds.first.saturating_add(k);
         let (system, ending) = System::played(alloc, plan, &layout, trace, seed, STEPS)?;
         let report = system.report()?;
-        let line = told(alloc, plan, &report, trace, ending)?;
+        let line = told(alloc, plan, &report, trace, ending, seeds.pools)?;
         text.push_str(line.as_str())?;
     }
     Ok(text)
 }
 
 // What plays of a plan come to, with the text of a trace.
-fn plays_of(
-    alloc: Global,
-    plan: &Plan,
-    text: &str,
-    first: u64,
-    count: u64,
-) -> Result<String, Memory>
+fn plays_of(alloc: Global, plan: &Plan, text: &str, seeds: Seeds) -> Result<String, Memory>
     requires { Valid plan.now }
 {
-    if unplayed(plan).is_some() {
-        return Ok(String::from_str(alloc, "not played\n")?);
-    }
     match read_trace(alloc, text.as_bytes(), plan) {
-        Ok(trace) => plays(alloc, plan, &trace, first, count),
+        Ok(trace) => plays(alloc, plan, &trace, seeds),
         Err(TraceFault::BadLine(_)) => Ok(String::from_str(alloc, "bad trace\n")?),
         Err(TraceFault::Memory(memory)) => Err(memory),
     }
 }
 
 // What plays of a description's text come to.
-fn answer(
-    alloc: Global,
-    text: &str,
-    trace: &str,
-    first: u64,
-    count: u64,
-) -> Result<String, Memory> {
+fn answer(alloc: Global, text: &str, trace: &str, seeds: Seeds) -> Result<String, Memory> {
     if text.len() > TEXT_MOST {
         return Ok(String::from_str(alloc, "too long\n")?);
     }
     match judged(alloc, text) {
-        Ok(plan) => plays_of(alloc, &plan, trace, first, count),
+        Ok(plan) => plays_of(alloc, &plan, trace, seeds),
         Err(SdfFault::Refused(_)) => Ok(String::from_str(alloc, "refused\n")?),
         Err(SdfFault::Memory(memory)) => Err(memory),
     }
@@ -247,14 +251,18 @@ fn row(rt: &HostRuntime, row: &str) -> io::Result<()> {
     let Some((trace_name, rest)) = rest.split_once(" | ") else {
         return rt.println("no row");
     };
-    let Some((first, count)) = rest.split_once(" | ") else {
+    let Some((first, rest)) = rest.split_once(" | ") else {
         return rt.println("no row");
     };
+    let (count, asked) = rest.split_once(" | ").unwrap_or((rest, ""));
     let text = fs::read_to_string(rt, name)?;
     let trace = fs::read_to_string(rt, trace_name)?;
-    let first = first.parse::<u64>().unwrap_or(0);
-    let count = count.parse::<u64>().unwrap_or(0);
-    match answer(rt.alloc(), text.as_str(), trace.as_str(), first, count) {
+    let seeds = Seeds {
+        first: first.parse::<u64>().unwrap_or(0),
+        count: count.parse::<u64>().unwrap_or(0),
+        pools: asked == "pools",
+    };
+    match answer(rt.alloc(), text.as_str(), trace.as_str(), seeds) {
         Ok(text) => rt.print(text.as_str()),
         Err(_) => rt.println("no memory"),
     }

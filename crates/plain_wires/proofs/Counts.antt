@@ -1,10 +1,10 @@
-use Rattle.std.proofs.Common.{◌≡◌, ◌≢◌, ◌⊎◌, ◌==◌, ◌+◌, ◌<◌, ◌≤◌, ◌&&◌, ◌||◌, ℕ, Bool, true, false, not, nat_lt, List, [], ◌∷◌, length, replicate, slice_index_or, slice_set, length-set, get_or-set_same, get_or-set_other, refl, sym, ap, ◌∙◌, subst, inl, inr, arith, All, sum_by, eq-eqb}
+use Rattle.std.proofs.Common.{◌≡◌, ◌≢◌, ◌⊎◌, ◌==◌, ◌+◌, ◌<◌, ◌≤◌, ◌&&◌, ◌||◌, ℕ, Bool, true, false, not, nat_lt, List, [], ◌∷◌, ◌++◌, length, take, replicate, slice_index_or, slice_set, length-set, get_or-set_same, get_or-set_other, refl, sym, ap, ◌∙◌, subst, inl, inr, arith, All, sum_by, eq-eqb}
 use Rattle.std.proofs.Math.Dec.{eqb}
 use Rattle.std.proofs.lemmas.Bool.Decides.{eqb_tells}
 use Rattle.std.proofs.lemmas.Bool.{ltb-true, ltb-false}
-use Rattle.std.proofs.lemmas.List.{get_or-replicate, get_or_past, get_or_default, length-replicate}
-use Rattle.std.proofs.lemmas.List.Sums.{sum_by-set, sum_by-cons}
-use Rattle.std.proofs.lemmas.List.Elements.{All-set, All-map, All-get_or}
+use Rattle.std.proofs.lemmas.List.{get_or-replicate, get_or_past, get_or_default, length-replicate, length-take}
+use Rattle.std.proofs.lemmas.List.Sums.{sum_by-set, sum_by-cons, sum_by-append}
+use Rattle.std.proofs.lemmas.List.Elements.{All-nil, All-cons, All-append, All-set, All-map, All-get_or}
 use Rattle.wire_core.specs.declared.names.Side.{Side}
 use Rattle.wire_core.specs.declared.names.Side.TheVariants.{Forward, Backward}
 use Rattle.wire_core.specs.declared.names.Op.{Op}
@@ -42,6 +42,14 @@ few actor (q ∷ w) =
     let b = bit_small (q.producer == actor && q.bells.backward.pending) in
     let s = sum_by-cons (pending_of actor) q w in
     omega (arith, h, a, b, s)
+
+-- so is that of the queues up to a place
+pub count_small : (counts : List ℕ) (w : List Queue) (n actor : ℕ) → IsCounted counts (take n w) → length w ≤ 65536 → slice_index_or counts actor 0 ≤ 131072
+count_small counts w n actor ok short =
+    let was = ok.right actor in
+    let h = few actor (take n w) in
+    let l = length-take n w in
+    omega (arith, was, h, l, short)
 
 bit_here : (n : ℕ) (p : Bool) → bit (n == n && p) ≡ bit p
 bit_here n p = ap (λ t. bit (t && p)) (eq-eqb n n refl)
@@ -206,3 +214,40 @@ at_start n rows h = record {
   right = λ actor. zero_at n actor ∙ sym (none_of actor rows);
   known = subst (λ l. All (IsAmong l) (starts rows)) (sym (length-replicate {A = ℕ} n 0)) (All-map (IsAmong n) start_queue rows h);
 }
+
+-- a count is raised where a word is 1
+abbrev raised : List ℕ → ℕ → Bool → List ℕ
+raised counts a p = slice_set counts a (slice_index_or counts a 0 + bit p)
+
+raised_at : (counts : List ℕ) (a b : ℕ) (p : Bool) → a < length counts → slice_index_or (raised counts a p) b 0 ≡ slice_index_or counts b 0 + bit (a == b && p)
+raised_at counts a b p inside = decide (eqb_tells a b)
+  where
+    decide : ((eqb a b ≡ true) × (a ≡ b)) ⊎ ((eqb a b ≡ false) × (a ≢ b)) → slice_index_or (raised counts a p) b 0 ≡ slice_index_or counts b 0 + bit (a == b && p)
+    decide (inl same) = subst (λ n. slice_index_or (raised counts a p) n 0 ≡ slice_index_or counts n 0 + bit (a == n && p)) same.1 (get_or-set_same counts a (slice_index_or counts a 0 + bit p) 0 inside ∙ ap (λ n. slice_index_or counts a 0 + n) (sym (bit_here a p)))
+    decide (inr apart) = let other = get_or-set_other counts a b (slice_index_or counts a 0 + bit p) 0 (λ e. apart.1 (sym e)) in let none : bit (a == b && p) ≡ 0 = ap (λ t. bit (t && p)) apart.0 in omega (arith, other, none)
+
+-- by no more than one
+pub raised_small : (counts : List ℕ) (a b : ℕ) (p : Bool) → a < length counts → slice_index_or (raised counts a p) b 0 ≤ slice_index_or counts b 0 + 1
+raised_small counts a b p inside = let e = raised_at counts a b p inside in let one = bit_small (a == b && p) in omega (arith, e, one)
+
+-- a queue more is counted
+pub counted_more : (counts mid new : List ℕ) (w : List Queue) (q : Queue) → IsCounted counts w → IsAmong (length counts) q
+    → mid ≡ slice_set counts q.consumer (slice_index_or counts q.consumer 0 + bit q.bells.forward.pending)
+    → new ≡ slice_set mid q.producer (slice_index_or mid q.producer 0 + bit q.bells.backward.pending)
+    → IsCounted new (w ++ q ∷ [])
+counted_more counts mid new w q ok among first second = record {
+  right = λ b.
+      let sum = sum_by-append (pending_of b) w (q ∷ []) in
+      let one = sum_by-cons (pending_of b) q [] in
+      let was = ok.right b in
+      let front : slice_index_or mid b 0 ≡ slice_index_or counts b 0 + bit (q.consumer == b && q.bells.forward.pending) = ap (λ c. slice_index_or c b 0) first ∙ raised_at counts q.consumer b q.bells.forward.pending among.1 in
+      let back : slice_index_or new b 0 ≡ slice_index_or mid b 0 + bit (q.producer == b && q.bells.backward.pending) = ap (λ c. slice_index_or c b 0) second ∙ raised_at mid q.producer b q.bells.backward.pending (subst (λ n. q.producer < n) (sym long_mid) among.0) in
+      omega (arith, sum, one, was, front, back);
+  known = subst (λ n. All (IsAmong n) (w ++ q ∷ [])) (sym long_new) (All-append (IsAmong (length counts)) w (q ∷ []) ok.known (All-cons (IsAmong (length counts)) q [] among (All-nil (IsAmong (length counts)))));
+}
+  where
+    long_mid : length mid ≡ length counts
+    long_mid = ap length first ∙ length-set counts q.consumer _
+
+    long_new : length new ≡ length counts
+    long_new = ap length second ∙ (length-set mid q.producer _ ∙ long_mid)

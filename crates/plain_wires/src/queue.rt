@@ -6,11 +6,13 @@ ghost use Rattle.wire_core.specs.Deeds.{answer_of};
 ghost use Rattle.wire_core.specs.Ends.{Condition, Consumer, Producer};
 ghost use Rattle.wire_core.specs.Queues.{Queue, queue_after, start_queue, end_of, bell_of, with_bell, is_filled, has_room};
 ghost use Rattle.cargo_core.specs.Capacities.{IsCapacity};
+ghost use Rattle.plain_wires.specs.Adopted.{IsEndedOf, adopted};
 ghost use Rattle.plain_wires.specs.Pages.{pages_at};
 ghost use Rattle.plain_wires.specs.Pendings.{waiting_actor};
 
 use crate::slots::Slots;
 use cargo_core::{Body, Item, Memory, PoolId, QueueKind};
+use spsc_queue::Ended;
 use std::alloc::Global;
 use std::marker::Model;
 use wire_core::{ActorId, Answer, BellState, Op, QueueRow, Ringer, Side, Waiter};
@@ -26,6 +28,8 @@ pub struct PlainQueue {
     back: BellState,
     saw: bool,
     free: bool,
+    // What is kept of the ring that the queue was made of, if any. Its entries were moved out.
+    ended: Option<Ended>,
 }
 
 impl Model for PlainQueue {
@@ -65,7 +69,25 @@ impl PlainQueue {
             },
             saw: false,
             free: false,
+            ended: None,
         })
+    }
+
+    /// The queue of a row with the entries that an ended ring left and with its two bells. The
+    /// ended ring is kept. Memory is the answer for want of memory alone.
+    pub fn adopt(alloc: Global, row: &QueueRow, mut ended: Ended) -> Result<PlainQueue, Memory>
+        requires sized { IsCapacity row.now.capacity }
+        requires left { IsEndedOf row.now ended }
+        ensures { IfOk result (λ l. l ≡ adopted (row.now, ended)) }
+    {
+        let mut queue = PlainQueue::new(alloc, row)?;
+        while let Some(entry) = ended.next() {
+            queue.cargo.push(entry);
+        }
+        queue.front = ended.bell(Side::Forward);
+        queue.back = ended.bell(Side::Backward);
+        queue.ended = Some(ended);
+        Ok(queue)
     }
 
     /// How many entries stand in it.

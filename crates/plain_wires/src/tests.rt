@@ -1,12 +1,15 @@
 //! Each helper makes one call where the discipline allows it, and answers None where it doesn't.
 
-ghost use Rattle.std.specs.Prelude.{◌≡◌, ◌<◌, length, IfOk};
-ghost use Rattle.wire_core.specs.Ends.{Producer};
+ghost use Rattle.std.specs.Prelude.{◌≡◌, ◌<◌, ◌≤◌, true, length, All, IfOk};
+ghost use Rattle.cargo_core.specs.Items.{kind_of};
+ghost use Rattle.wire_core.specs.declared.names.Ringer.TheVariants as Rung;
+ghost use Rattle.wire_core.specs.Ends.{Producer, is_busy_or_off};
 ghost use Rattle.wire_core.specs.Queues.{end_at};
 ghost use Rattle.cargo_core.specs.Capacities.{IsCapacity};
 
 use crate::World;
 use cargo_core::{Body, Item, QueueKind, Text};
+use spsc_queue::{self, Ended, Ring};
 use std::alloc::Global;
 use std::test::Fail;
 use wire_core::{ActorId, QueueId, QueueRow, Ringer, Side, Waiter, Wires};
@@ -50,23 +53,31 @@ fn room(world: &mut World) -> Option<bool>
     Some(world.room(Q))
 }
 
-// Looks and takes.
+// Looks and takes at a queue.
+fn take_at(world: &mut World, q: QueueId) -> Option<Item>
+    requires { q.0 < length world.old }
+    ensures len { length world.new ≡ length world.old }
+    ensures kind { (end_at world.new Producer 0).kind ≡ (end_at world.old Producer 0).kind }
+{
+    if world.bell(q, Side::Forward).waiter == Waiter::Clear {
+        return None;
+    }
+    match world.bell(q, Side::Backward).ringer {
+        Ringer::Free | Ringer::Put => {}
+        Ringer::Hot | Ringer::Ringing => return None,
+    }
+    if !world.see(q) {
+        return None;
+    }
+    Some(world.take(q).0)
+}
+
 fn take(world: &mut World) -> Option<Item>
     requires { 0 < length world.old }
     ensures len { length world.new ≡ length world.old }
     ensures kind { (end_at world.new Producer 0).kind ≡ (end_at world.old Producer 0).kind }
 {
-    if world.bell(Q, Side::Forward).waiter == Waiter::Clear {
-        return None;
-    }
-    match world.bell(Q, Side::Backward).ringer {
-        Ringer::Free | Ringer::Put => {}
-        Ringer::Hot | Ringer::Ringing => return None,
-    }
-    if !world.see(Q) {
-        return None;
-    }
-    Some(world.take(Q).0)
+    take_at(world, Q)
 }
 
 // Looks and puts.
@@ -191,6 +202,75 @@ fn fills_and_empties(world: &mut World, capacity: u32) -> bool
         byte = byte.wrapping_add(1);
     }
     see(world) == Some(false)
+}
+
+// Looks, puts, and notifies the consumer where it wants that.
+fn send(producer: &mut spsc_queue::Producer, ring: &Ring, byte: u8)
+    requires own { producer.old.ring ≡ ring.now.id }
+    requires calm { is_busy_or_off producer.old.knows.waiter ≡ true }
+    requires free { producer.old.knows.ringer ≡ Rung.Free }
+    requires kind { producer.old.knows.kind ≡ QueueKind.Byte }
+    ensures own { producer.new.ring ≡ producer.old.ring }
+    ensures calm { is_busy_or_off producer.new.knows.waiter ≡ true }
+    ensures free { producer.new.knows.ringer ≡ Rung.Free }
+    ensures kind { producer.new.knows.kind ≡ producer.old.knows.kind }
+{
+    if !producer.room(ring) {
+        return;
+    }
+    producer.put(ring, Item::Byte(byte), Body::Empty);
+    if producer.wanted(ring) {
+        producer.settle(ring);
+        producer.ring(ring);
+    }
+}
+
+// Looks and takes.
+fn receive(consumer: &mut spsc_queue::Consumer, ring: &Ring) -> Option<Item>
+    requires own { consumer.old.ring ≡ ring.now.id }
+    requires calm { is_busy_or_off consumer.old.knows.waiter ≡ true }
+    requires free { consumer.old.knows.ringer ≡ Rung.Free }
+    ensures own { consumer.new.ring ≡ consumer.old.ring }
+{
+    if !consumer.see(ring) {
+        return None;
+    }
+    let (item, _body) = consumer.take(ring);
+    Some(item)
+}
+
+// A ring that came to its end: three bytes were sent, of which the first was taken.
+fn ended_ring(alloc: Global, first: u8) -> Result<Ended, Fail>
+    requires { first ≤ 100 }
+    ensures kind { IfOk result (λ e. e.producer.kind ≡ QueueKind.Byte) }
+    ensures capacity { IfOk result (λ e. e.capacity ≡ 4) }
+    ensures kinds { IfOk result (λ e. All (λ c. kind_of c.0 ≡ QueueKind.Byte) e.left) }
+    ensures within { IfOk result (λ e. length e.left ≤ 4) }
+{
+    let (ring, mut producer, mut consumer) = spsc_queue::open(alloc, QueueKind::Byte, 4)?;
+    send(&mut producer, &ring, first);
+    send(&mut producer, &ring, first + 1);
+    send(&mut producer, &ring, first + 2);
+    receive(&mut consumer, &ring);
+    Ok(spsc_queue::finish(ring, producer, consumer)?)
+}
+
+#[test]
+fn ended_rings_go_on_as_queues(rt: HostRuntime) -> Result<(), Fail> {
+    let rows = [row(rt.alloc(), 4)?, row(rt.alloc(), 4)?];
+    let mut ended = Vec::new(rt.alloc());
+    ended.push(ended_ring(rt.alloc(), 10)?)?;
+    ended.push(ended_ring(rt.alloc(), 20)?)?;
+    let mut world = World::adopt(rt.alloc(), &rows, ended)?;
+    assert!(rt; world.is_pending(ActorId(1)));
+    assert!(rt; !world.is_pending(ActorId(0)));
+    assert_eq!(rt; take_at(&mut world, QueueId(1)), Some(Item::Byte(21)));
+    assert_eq!(rt; take_at(&mut world, QueueId(0)), Some(Item::Byte(11)));
+    assert_eq!(rt; take_at(&mut world, QueueId(0)), Some(Item::Byte(12)));
+    assert_eq!(rt; take_at(&mut world, QueueId(0)), None);
+    assert_eq!(rt; take_at(&mut world, QueueId(1)), Some(Item::Byte(22)));
+    assert_eq!(rt; world.len(QueueId(1)), 0);
+    Ok(())
 }
 
 #[test]

@@ -1,13 +1,17 @@
 //! All queues of a system, and how many notifications are pending for each actor.
 
-ghost use Rattle.std.specs.Prelude.{◌≡◌, ◌<◌, ◌≤◌, ◌^◌, length, map, All, IfOk, IfSome, OnOk, slice_get, Some};
+ghost use Rattle.std.specs.Prelude.{◌≡◌, ◌<◌, ◌≤◌, ◌^◌, ◌+◌, length, map, All, IfOk, IfSome, OnOk, slice_get, slice_index_or, slice_set, Some, []};
+ghost use Rattle.std.specs.List.{AllZip};
+ghost use Rattle.wire_core.specs.Bells.{bit};
 ghost use Rattle.wire_core.specs.Sizes.{AreSized};
 ghost use Rattle.wire_core.specs.Queues.{Happens, bell_of, queue_at, end_at, starts, is_pending};
+ghost use Rattle.plain_wires.specs.Adopted.{IsEndedOf, all_adopted};
 ghost use Rattle.plain_wires.specs.Pages.{pages_in};
-ghost use Rattle.plain_wires.specs.Pendings.{IsCounted};
+ghost use Rattle.plain_wires.specs.Pendings.{IsAmong, IsCounted, waiting_actor};
 
 use crate::queue::PlainQueue;
 use cargo_core::{Body, Item, Memory, PoolId};
+use spsc_queue::Ended;
 use std::alloc::Global;
 use std::marker::Model;
 use wire_core::{ActorId, BellState, Op, QueueId, QueueRow, Side, Wires};
@@ -57,6 +61,31 @@ fn none_pending(alloc: Global, rows: &[QueueRow]) -> Result<Vec<u64>, Memory>
     Ok(vec![in alloc; 0; actors_of(rows)]?)
 }
 
+// One more for the actor that waits on a bell, where a notification is pending there.
+fn count_bell(counts: &mut [u64], queue: &PlainQueue, side: Side)
+    requires known { waiting_actor queue.now side < length counts.old }
+    requires few { slice_index_or counts.old (waiting_actor queue.now side) 0 < 2 ^ 32 }
+    ensures { counts.new ≡ slice_set counts.old (waiting_actor queue.now side)
+        (slice_index_or counts.old (waiting_actor queue.now side) 0
+        + bit (bell_of queue.now.bells side).pending) }
+{
+    let actor = queue.waiting_actor(side);
+    counts[actor.0 as usize] += u64::from(queue.bell(side).pending);
+}
+
+// Counts for each actor how many pending words of its waiters are 1, from none on.
+fn count_bells(counts: &mut [u64], queues: &[PlainQueue])
+    requires few { length queues.now ≤ 65536 }
+    requires known { All (IsAmong (length counts.old)) queues.now }
+    requires none { IsCounted counts.old [] }
+    ensures { IsCounted counts.new queues.now }
+{
+    for queue in queues {
+        count_bell(counts, queue, Side::Forward);
+        count_bell(counts, queue, Side::Backward);
+    }
+}
+
 // How many buffers of a pool stand in these queues.
 fn pages_in(pool: PoolId, queues: &[PlainQueue]) -> u32
     requires { length queues.now ≤ 65536 }
@@ -84,6 +113,24 @@ impl World {
             queues,
             pending: none_pending(alloc, rows)?,
         })
+    }
+
+    /// Every queue with the entries and the bells of a ring that came to its end. The ended rings
+    /// stand in the order of the rows, each of its row's kind and capacity; they are kept, with
+    /// their entries moved out. Memory is the answer for want of memory alone.
+    pub fn adopt(alloc: Global, rows: &[QueueRow], ended: Vec<Ended>) -> Result<World, Memory>
+        requires sized { AreSized rows.now }
+        requires ended { AllZip IsEndedOf rows.now ended.items }
+        ensures { IfOk result (λ w. w ≡ all_adopted rows.now ended.items) }
+    {
+        let mut queues = Vec::with_capacity(alloc, rows.len())?;
+        for ring in ended {
+            let row = &rows[queues.len()];
+            queues.push(PlainQueue::adopt(alloc, row, ring)?)?;
+        }
+        let mut pending = vec![in alloc; 0; actors_of(rows)]?;
+        count_bells(&mut pending, &queues);
+        Ok(World { queues, pending })
     }
 
     /// How many entries stand in a queue.

@@ -16,6 +16,7 @@ use Rattle.sdf_plan.specs.declared.plan.BlkClient.{BlkClient}
 use Rattle.trace_text.specs.declared.trace.Trace.{Trace}
 use Rattle.trace_text.specs.Events.{net_clients}
 use Rattle.region_layout.specs.Rows.{queues_of, net_queues, eth_rx_queues, eth_tx_queues, net_rx_queues, net_tx_queues, net_client_queues, lease_queues, client_rx_queues, client_tx_queues, queue_pair, serial_queues, blk_queues, uart_queues, shared_serial_queues, serial_client_queues, disk_queues, shared_blk_queues, blk_client_queues, each_client}
+use Rattle.region_layout.proofs.SameLemmas.{queues_same}
 use Rattle.expect_core.specs.Budgets.{counts_of, hops_of, clients_or_none, first_read_hops}
 use Rattle.serial_law.specs.Serial.{SerialClass}
 use Rattle.serial_hops.specs.Hops.{put_to, serial_put}
@@ -63,15 +64,15 @@ blk_rows plan blk = let h = two_each plan blk 0 blk.client in omega (arith, h)
 
 -- the rows of a plan
 rows_count : (plan : Plan) → length (queues_of plan) ≡ blk_first plan + length (option_map_or (blk_queues plan) plan.blk [])
-unfolding queues_of
 rows_count plan =
+    let same = ap length (queues_same plan) in
     let front = option_map_or (net_queues plan) plan.net [] in
     let serial = option_map_or (serial_queues plan) plan.serial [] in
     let a = length-append (front ++ serial) (option_map_or (blk_queues plan) plan.blk []) in
     let b = length-append front serial in
     let c = rows_of_net plan plan.net in
     let d = rows_of_serial plan plan.serial in
-    omega (arith, a, b, c, d)
+    omega (arith, same, a, b, c, d)
 
 total_sum : {T : Type 0} (lists : List (List T)) → total lists ≡ sum_by length lists
 total_sum [] = refl
@@ -164,9 +165,9 @@ blk_within : (plan : Plan) (trace : Trace) (m : Moved) → BlkMoves plan trace m
 blk_within plan trace m (without_blk none) =
     let e : sum_below (λ n. put_at m (blk_first plan + n)) (length (option_map_or (blk_queues plan) plan.blk [])) ≡ 0 = ap (λ b. sum_below (λ n. put_at m (blk_first plan + n)) (length (option_map_or (blk_queues plan) b []))) none in
     omega (arith, e)
-blk_within plan trace m (with_blk blk is many few) =
-    let rows : length (option_map_or (blk_queues plan) plan.blk []) ≡ 4 + 2 * length trace.asks = ap (λ b. length (option_map_or (blk_queues plan) b [])) is ∙ (blk_rows plan blk ∙ ap (λ n. 4 + 2 * n) (sym many)) in
-    let size : sum_below (λ n. put_at m (blk_first plan + n)) (length (option_map_or (blk_queues plan) plan.blk [])) ≡ sum_below (λ n. put_at m (blk_first plan + n)) (4 + 2 * length trace.asks) = ap (sum_below (λ n. put_at m (blk_first plan + n))) rows in
+blk_within plan trace m (with_blk blk is few) =
+    let rows : length (option_map_or (blk_queues plan) plan.blk []) ≡ 4 + 2 * length blk.client = ap (λ b. length (option_map_or (blk_queues plan) b [])) is ∙ blk_rows plan blk in
+    let size : sum_below (λ n. put_at m (blk_first plan + n)) (length (option_map_or (blk_queues plan) plan.blk [])) ≡ sum_below (λ n. put_at m (blk_first plan + n)) (4 + 2 * length blk.client) = ap (sum_below (λ n. put_at m (blk_first plan + n))) rows in
     let read : first_read_hops (option_map (λ (b : Blk). length b.client) plan.blk) ≡ 4 = ap (λ b. first_read_hops (option_map (λ (x : Blk). length x.client) b)) is in
     omega (arith, size, few, read)
 

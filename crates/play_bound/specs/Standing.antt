@@ -73,6 +73,6 @@ blk_first plan = serial_first plan.net + serial_many plan.serial
 -- and so of the block class
 pub data BlkMoves (plan : Plan) (trace : Trace) (m : Moved) : Type 0 where
   without_blk : plan.blk ≡ None → BlkMoves plan trace m
-  with_blk : (blk : Blk) → plan.blk ≡ Some blk → length trace.asks ≡ length blk.client
-      → blk_put (blk_first plan) (length trace.asks) m ≤ blk_moves trace.asks
+  with_blk : (blk : Blk) → plan.blk ≡ Some blk
+      → blk_put (blk_first plan) (length blk.client) m ≤ blk_moves trace.asks
       → BlkMoves plan trace m

@@ -14,11 +14,14 @@ use Rattle.net_tx_parts.specs.Table.{shipper_ends}
 use Rattle.sdf_plan.specs.declared.plan.Plan.{Plan}
 use Rattle.trace_text.specs.declared.trace.Trace.{Trace}
 use Rattle.trace_text.specs.Events.{serial_clients}
+use Rattle.blk_parts.specs.Numbers.{sharers_from}
+use Rattle.blk_parts.specs.Table.{sharer_ends}
+use Rattle.net_owners.specs.Names.{PoolAt}
 use Rattle.actor_set.specs.Parts.{Part}
 use Rattle.actor_law.specs.Kinds.{sheet}
 use Rattle.job_law.specs.Jobs.{Job, EthDevice, EthDriver, NetReceiver, NetSender, NetCopier, NetClient, UartDevice, UartDriver, SerialReceiver, SerialSender, SerialClient, DiskDevice, DiskDriver, BlkVirtualiser, BlkClient}
-use Rattle.cast_core.specs.Casts.{net_place, job_part}
-use Rattle.cast_core.specs.Sources.{every_second, first_serial}
+use Rattle.cast_core.specs.Casts.{net_place, blk_place, job_part}
+use Rattle.cast_core.specs.Sources.{every_second, first_serial, first_blk}
 
 -- ends that labels tell apart
 labelled : (label : Seat → ℕ) (seats : List Seat) → ((i : ℕ) (s : Seat) → slice_get seats i ≡ Some s → label s ≡ i) → AreApart seats
@@ -144,6 +147,11 @@ said_rise : (first count ins outs : ℕ) → ins ≤ first → Rise ins outs (ma
 said_rise first zero ins outs below = tt
 said_rise first (suc count) ins outs below = (below, said_rise (first + 2) count (first + 1) outs (omega arith))
 
+asks_rise : (first k : ℕ) (entries : List ℕ) (pools : List PoolAt) (ins outs : ℕ) → ins ≤ first + 4 + 2 * k → outs ≤ first + 5 + 2 * k → Rise ins outs (flat_map sharer_ends (sharers_from first k entries pools))
+asks_rise first k [] pools ins outs below under = tt
+asks_rise first k (e ∷ entries) [] ins outs below under = tt
+asks_rise first k (e ∷ entries) (p ∷ pools) ins outs below under = (omega (arith, below), (omega (arith, under), asks_rise first (k + 1) entries pools (first + 4 + 2 * k + 1) (first + 5 + 2 * k + 1) (omega arith) (omega arith)))
+
 -- the part of each job
 pub job_apart : (plan : Plan) (trace : Trace) (scene : Scene) (job : Job) (p : Part) → job_part plan trace job ≡ Some p → AreApart (sheet scene p).ends
 job_apart plan trace scene EthDevice p is = subst (λ q. AreApart (sheet scene q).ends) (some_is is) (by_turns 0 1 2 3 (λ e. omega (arith, e)) (λ e. omega (arith, e)))
@@ -161,7 +169,8 @@ job_apart plan trace scene SerialReceiver p is = subst (λ q. AreApart (sheet sc
 job_apart plan trace scene SerialSender p is = subst (λ q. AreApart (sheet scene q).ends) (some_is is)
     (rising (outlet (first_serial plan + 3) ∷ map intake (every_second (first_serial plan + 5) (length (serial_clients plan)))) 0 0 (omega arith, said_rise (first_serial plan + 5) (length (serial_clients plan)) 0 (first_serial plan + 3 + 1) (omega arith)))
 job_apart plan trace scene (SerialClient c) p is = subst (λ q. AreApart (sheet scene q).ends) (some_is is) (one_each (first_serial plan + 4 + 2 * c) (first_serial plan + 5 + 2 * c))
-job_apart plan trace scene DiskDevice p is = absurd cc
-job_apart plan trace scene DiskDriver p is = absurd cc
-job_apart plan trace scene BlkVirtualiser p is = absurd cc
-job_apart plan trace scene (BlkClient c) p is = absurd cc
+job_apart plan trace scene DiskDevice p is = subst (λ q. AreApart (sheet scene q).ends) (some_is is) (one_each (first_blk plan) (first_blk plan + 1))
+job_apart plan trace scene DiskDriver p is = subst (λ q. AreApart (sheet scene q).ends) (some_is is) (by_turns (first_blk plan + 2) (first_blk plan) (first_blk plan + 1) (first_blk plan + 3) (λ e. omega (arith, e)) (λ e. omega (arith, e)))
+job_apart plan trace scene BlkVirtualiser p is = subst (λ q. AreApart (sheet scene q).ends) (some_is is)
+    (rising (intake (first_blk plan + 3) ∷ outlet (first_blk plan + 2) ∷ flat_map sharer_ends (sharers_from (first_blk plan) 0 (blk_place plan trace).entries (blk_place plan trace).pools)) 0 0 (omega arith, (omega arith, asks_rise (first_blk plan) 0 (blk_place plan trace).entries (blk_place plan trace).pools (first_blk plan + 3 + 1) (first_blk plan + 2 + 1) (omega arith) (omega arith))))
+job_apart plan trace scene (BlkClient c) p is = subst (λ q. AreApart (sheet scene q).ends) (some_is is) (one_each (first_blk plan + 5 + 2 * c) (first_blk plan + 4 + 2 * c))

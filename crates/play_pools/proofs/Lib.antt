@@ -1,3 +1,4 @@
 pub mod Ends
+pub mod Placing
 pub mod Showing
 pub mod Owning

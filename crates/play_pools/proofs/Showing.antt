@@ -1,48 +1,27 @@
--- What a play shows of pools.
-use Rattle.std.proofs.Common.{◌≡◌, ◌⊎◌, ◌+◌, ◌<◌, ℕ, zero, suc, None, Some, List, [], ◌∷◌, length, slice_get, refl, sym, ap, ◌∙◌, subst, arith, inl, inr}
-use Rattle.std.proofs.lemmas.List.{length-map}
+-- What a play's report says of its pools is what the table of owners says, and each line adds up.
+use Rattle.std.proofs.Common.{◌≡◌, ◌+◌, ◌<◌, ◌≤◌, ℕ, zero, suc, Some, List, [], ◌∷◌, length, slice_get, refl, sym, ap, ◌∙◌, subst, arith}
 use Rattle.wire_core.specs.declared.names.PoolRow.{PoolRow}
-use Rattle.wire_core.specs.declared.names.QueueRow.{QueueRow}
-use Rattle.wire_core.specs.Journal.{start_history}
-use Rattle.play_core.specs.Sheets.{AreSeated}
-use Rattle.play_core.proofs.Lists.{some_is}
 use Rattle.expect_core.specs.declared.report.Census.{Census}
+use Rattle.play_core.proofs.Lists.{some_is}
 use Rattle.owner_law.specs.Owners.{Table}
-use Rattle.owner_law.specs.Keeping.{keeper_of, start_table}
 use Rattle.owner_law.specs.Census.{census, IsPool}
 use Rattle.owner_law.proofs.Counting.{census_whole}
 use Rattle.pool_lines.specs.PoolLines.{line_of, table_lines}
-use Rattle.net_tx_parts.specs.Numbers.{NetPlace}
-use Rattle.net_pools.specs.Sizes.{net_pools, AreNumbered}
-use Rattle.net_pools.proofs.Sizing.{spread_pools}
-use Rattle.sdf_plan.specs.declared.plan.Net.{Net}
 use Rattle.sdf_plan.specs.declared.plan.Plan.{Plan}
+use Rattle.sdf_check.specs.Valid.{Valid}
 use Rattle.region_layout.specs.Rows.{pools_of}
 use Rattle.trace_text.specs.declared.trace.Trace.{Trace}
-use Rattle.actor_set.specs.Parts.{Part}
-use Rattle.actor_law.specs.Kinds.{sheet, scene_of}
-use Rattle.wired_law.specs.Wiring.{HasWhole}
-use Rattle.cast_core.specs.Casts.{net_place}
-use Rattle.cast_law.proofs.Pooled.{numbered_is, sized_is, many_are}
-use Rattle.cast_pools.specs.Pooling.{net_naming, net_sizes, keepers_at, HasPools}
-use Rattle.cast_pools.proofs.Dealing.{owner, are_spread, pool_owned}
+use Rattle.actor_law.specs.Kinds.{scene_of}
+use Rattle.cast_pools.specs.Places.{PoolPlace, IsPlaced, HasPools, cast_naming, place_sizes}
+use Rattle.cast_pools.specs.Pooling.{BeginsWith}
+use Rattle.cast_pools.proofs.Playing.{begins_anew}
+use Rattle.cast_law.specs.Places.{pool_place}
+use Rattle.cast_law.proofs.Pooled.{pooled}
 use Rattle.system_core.specs.Shows.{Shown}
+use Rattle.system_core.specs.Builds.{BeginsAnew}
 use Rattle.system_core.specs.PlanPlays.{IsPlayedOn}
-use Rattle.play_pools.specs.Pools.{table_now, ShowsPools, AllAdd}
-
--- the layout's pools are those of the network's place
-pub place_has : (plan : Plan) → plan.blk ≡ None → (trace : Trace) (net : Net) → plan.net ≡ Some net → HasPools (pools_of plan) (net_place plan trace)
-place_has plan blk trace net has = record { first = refl; many = many_are plan trace blk net has; numbered = numbered_is plan trace; sized = sized_is plan trace blk net has }
-
--- each pool has all its buffers at the start
-all_there : (rows : List QueueRow) (net : NetPlace) (cast : List Part) → HasWhole rows net cast → net.first ≡ 0 → AreSeated (sheet (scene_of cast)) rows cast → AreNumbered (net_pools net.pool net.pools) → (k : ℕ) → IsPool (start_table (keepers_at cast)) k (net_sizes net k)
-all_there rows net cast whole first seated numbered k = by (pool_owned rows net cast whole first seated numbered k)
-  where
-    by : (owner rows net cast whole first seated numbered k < length cast) ⊎ (net_sizes net k ≡ 0) → IsPool (start_table (keepers_at cast)) k (net_sizes net k)
-    by (inl lt) =
-        let same : length (keepers_at cast) ≡ length cast = length-map cast (λ p. keeper_of (sheet (scene_of cast) p)) in
-        spread_pools (net_sizes net) (owner rows net cast whole first seated numbered) (keepers_at cast) (are_spread rows net cast whole first seated numbered) k (omega (arith, lt, same))
-    by (inr none) = λ no lt is. absurd (omega (arith, lt, none))
+use Rattle.play_pools.specs.Pools.{IsFirstTable, HasFirstTable, owners_table, table_now, ShowsPools, AllAdd}
+use Rattle.play_pools.proofs.Placing.{placed}
 
 -- a line of a table
 line_from : (t : Table) (first : ℕ) (ps : List PoolRow) (k : ℕ) (l : Census) → slice_get (table_lines t first ps) k ≡ Some l → (row : PoolRow) × (slice_get ps k ≡ Some row) × (l ≡ line_of row (census t (first + k) row.buffers))
@@ -55,23 +34,34 @@ line_from t first (p ∷ ps) (suc k) l at =
     let shift : first + 1 + k ≡ first + suc k = omega arith in
     (x.0, x.1, x.2 ∙ ap (λ n. line_of x.0 (census t n x.0.buffers)) shift)
 
-module _ (plan : Plan) (trace : Trace) (seed limit : ℕ) (s : Shown) (blk : plan.blk ≡ None) (played : IsPlayedOn plan trace seed limit s) (net : Net) (has : plan.net ≡ Some net) where
-  abbrev place : NetPlace
-  place = net_place plan trace
+module _ (plan : Plan) (trace : Trace) (seed limit : ℕ) (s : Shown) (valid : Valid plan) (played : IsPlayedOn plan trace seed limit s) where
+  abbrev place : PoolPlace
+  place = pool_place plan trace
 
   pools : HasPools (pools_of plan) place
-  pools = place_has plan blk trace net has
+  pools = pooled plan trace
 
-  pub shows_lines : ShowsPools plan place s
-  shows_lines =
-      played.stands.told.pools place (played.cast.whole net has) (subst (λ ps. HasPools ps place) (sym played.cast.pools) pools)
-      ∙ ap (table_lines (table_now place s) 0) played.cast.pools
+  here : IsPlaced s.setting.rows place s.setting.cast
+  here = placed plan trace seed limit s valid played
+
+  numbered : HasPools s.setting.pools place
+  numbered = subst (λ ps. HasPools ps place) (sym played.cast.pools) pools
+
+  -- the system begins with a table of owners
+  pub has_first : HasFirstTable place s
+  has_first = played.stands.fitted.owners place here numbered
+
+  -- at the start state with the one in which each pool's buffers are in its owner's hand
+  pub first_anew : BeginsAnew s.setting → IsFirstTable place s (owners_table s)
+  first_anew anew = subst (λ h. BeginsWith h s.setting.rows place s.setting.cast (owners_table s)) (sym anew) (begins_anew s.setting.rows s.setting.cast played.stands.fitted.seated place here pools.numbered)
+
+  pub shows_lines : (first : Table) → IsFirstTable place s first → ShowsPools plan place first s
+  shows_lines first is = played.stands.told.pools place here numbered first is ∙ ap (table_lines (table_now place first s) 0) played.cast.pools
 
   pub lines_add : AllAdd s.state.pools
   lines_add k l at =
-      let x = line_from (table_now place s) 0 (pools_of plan) k l (ap (λ ls. slice_get ls k) (sym shows_lines) ∙ at) in
-      let plus : 0 + k ≡ k = omega arith in
-      let size : net_sizes place (0 + k) ≡ x.0.buffers = pools.sized k x.0 x.1 in
-      let there = all_there s.setting.rows place s.setting.cast (played.cast.whole net has) pools.first played.stands.fitted.seated pools.numbered (0 + k) in
-      let whole = census_whole (net_naming (scene_of s.setting.cast) place) (start_history s.setting.rows) (start_table (keepers_at s.setting.cast)) (0 + k) x.0.buffers (subst (IsPool (start_table (keepers_at s.setting.cast)) (0 + k)) size there) s.journal in
+      let owners : HasFirstTable place s = has_first in
+      let x = line_from (table_now place owners.table s) 0 (pools_of plan) k l (ap (λ ls. slice_get ls k) (sym (shows_lines owners.table owners.begins)) ∙ at) in
+      let size : place_sizes place (0 + k) ≡ x.0.buffers = pools.sized k x.0 x.1 in
+      let whole = census_whole (cast_naming (scene_of s.setting.cast) place) s.setting.history owners.table (0 + k) x.0.buffers (subst (IsPool owners.table (0 + k)) size (owners.pools (0 + k))) s.journal in
       subst (λ (y : Census). y.queues + y.hands + y.lent ≡ y.buffers) (sym x.2) whole

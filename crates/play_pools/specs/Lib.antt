@@ -1,2 +1,2 @@
--- What a play shows of the pools of its plan's network (Pools).
+-- What a play shows of the pools of its plan (Pools).
 pub mod Pools

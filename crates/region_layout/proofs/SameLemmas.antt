@@ -1,4 +1,4 @@
--- The rows of the layout are those of the table.
+-- The rows of the table, told by the names of the queues and pools, class by class.
 use Rattle.std.proofs.Common.{◌≡◌, ℕ, List, [], ◌++◌, flat_map, Option, Some, None, refl, sym, ap, ◌∙◌}
 use Rattle.std.specs.Option.{option_map_or}
 use Rattle.std.proofs.lemmas.List.{append-nil}
@@ -10,9 +10,9 @@ use Rattle.sdf_plan.specs.declared.plan.SerialClient.{SerialClient}
 use Rattle.sdf_plan.specs.declared.plan.Blk.{Blk}
 use Rattle.sdf_plan.specs.declared.plan.BlkClient.{BlkClient}
 use Rattle.class_table.specs.Table.{Element, table_of, net_element, net_client_element, net_elements, serial_client_element, serial_elements, blk_element, blk_client_element, blk_elements}
-use Rattle.region_layout.specs.Rows.{each_client, queue_span, queue_pair, eth_rx_queues, eth_tx_queues, net_rx_queues, net_tx_queues, lease_queues, client_rx_queues, client_tx_queues, net_client_queues, net_queues, uart_queues, shared_serial_queues, serial_client_queues, serial_queues, disk_queues, shared_blk_queues, blk_client_queues, blk_queues, queues_of, net_client_pools, net_pools, blk_client_pools, blk_pools, pools_of}
-use Rattle.region_layout.specs.Uses.{queue_rows, pool_rows}
-use Rattle.region_layout.proofs.FlatLemmas.{flat-numbered, flat-nothing, flat-class, flat-three}
+use Rattle.region_layout.specs.Rows.{each_client, queue_span, queue_pair, eth_rx_queues, eth_tx_queues, net_rx_queues, net_tx_queues, lease_queues, client_rx_queues, client_tx_queues, net_client_queues, net_queues, uart_queues, shared_serial_queues, serial_client_queues, serial_queues, disk_queues, shared_blk_queues, blk_client_queues, blk_queues, queues_of, queue_rows, class_queues, net_client_pools, net_pools, blk_client_pools, blk_pools, pools_of, pool_rows, class_pools}
+use Rattle.class_table.proofs.Flat.{flat-nothing, flat-class, flat-three}
+use Rattle.region_layout.proofs.FlatLemmas.{flat-numbered}
 
 -- queues
 client-queues : (plan : Plan) (net : Net) (c : ℕ) (client : NetClient) → net_client_queues plan net c client ≡ queue_rows plan (net_client_element net c client)
@@ -49,12 +49,12 @@ blk-queues plan blk =
     ap (λ rest. (disk_queues plan blk ++ shared_blk_queues plan blk) ++ rest)
     (flat-numbered (queue_rows plan) (blk_client_element blk) (blk_client_queues plan blk) 0 blk.client (blk-client-queues plan blk))
 
-pub queues_same : (plan : Plan) → queues_of plan ≡ flat_map (queue_rows plan) (table_of plan)
+pub queues_same : (plan : Plan) → queues_of plan ≡ class_queues plan
 unfolding queues_of
 queues_same plan =
-    flat-three (queue_rows plan) plan _ _ _ (flat-class (queue_rows plan) net_elements (net_queues plan) plan.net (net-queues plan))
+    sym (flat-three (queue_rows plan) plan _ _ _ (flat-class (queue_rows plan) net_elements (net_queues plan) plan.net (net-queues plan))
     (flat-class (queue_rows plan) serial_elements (serial_queues plan) plan.serial (serial-queues plan))
-    (flat-class (queue_rows plan) blk_elements (blk_queues plan) plan.blk (blk-queues plan))
+    (flat-class (queue_rows plan) blk_elements (blk_queues plan) plan.blk (blk-queues plan)))
 
 -- pools
 net-client-pools : (plan : Plan) (net : Net) (c : ℕ) (client : NetClient) → net_client_pools plan c client ≡ pool_rows plan (net_client_element net c client)
@@ -80,10 +80,10 @@ none-of : (plan : Plan) (class : Option Serial) → [] ≡ flat_map (pool_rows p
 none-of plan None = refl
 none-of plan (Some serial) = no-pools plan serial
 
-pub pools_same : (plan : Plan) → pools_of plan ≡ flat_map (pool_rows plan) (table_of plan)
+pub pools_same : (plan : Plan) → pools_of plan ≡ class_pools plan
 unfolding pools_of
 pools_same plan =
-    ap (λ rows. rows ++ option_map_or (blk_pools plan) plan.blk []) (sym (append-nil (option_map_or (net_pools plan) plan.net [])))
+    sym (ap (λ rows. rows ++ option_map_or (blk_pools plan) plan.blk []) (sym (append-nil (option_map_or (net_pools plan) plan.net [])))
     ∙ flat-three (pool_rows plan) plan (option_map_or (net_pools plan) plan.net []) [] (option_map_or (blk_pools plan) plan.blk [])
     (flat-class (pool_rows plan) net_elements (net_pools plan) plan.net (net-pools plan)) (none-of plan plan.serial)
-    (flat-class (pool_rows plan) blk_elements (blk_pools plan) plan.blk (blk-pools plan))
+    (flat-class (pool_rows plan) blk_elements (blk_pools plan) plan.blk (blk-pools plan)))

@@ -58,7 +58,7 @@ power_or_none n (suc m) =
     (λ (differs : h.0 ≡ suc m → ⊥). let most : h.0 ≤ m = omega (arith, h.1, differs) in none (h.0, most, h.2)) (cases_eq h.0 (suc m))))
     (power_or_none n m)) (cases_eq n (2 ^ suc m))
 
-is_capacity : (n : ℕ) → ((IsCapacity n → ⊥) → ⊥) → IsCapacity n
+pub is_capacity : (n : ℕ) → ((IsCapacity n → ⊥) → ⊥) → IsCapacity n
 is_capacity n h = ⊎_elim (λ (is : IsCapacity n). is) (λ (never : IsCapacity n → ⊥). absurd (h never)) (power_or_none n 15)
 
 pub capacity_small : (n : ℕ) → IsCapacity n → n < 2 ^ 32

@@ -1,5 +1,6 @@
--- The tables of actors, queues and pools that a plan gives, class by class.
+-- The tables of actors, queues and pools that a plan gives.
 use Rattle.std.specs.Prelude.{ℕ, ◌+◌, ◌*◌, not, Bool, if◌then◌else◌, List, [], ◌∷◌, ◌++◌, length, map, filter, codes, bytes_eq, slice_index, Option, None, is_some, unwrap_or}
+use Rattle.std.specs.List.{flat_map}
 use Rattle.std.specs.Option.{option_map_or}
 use Rattle.std.specs.Fmt.{decimal}
 use Rattle.cargo_core.specs.declared.item.QueueKind.{QueueKind}
@@ -7,6 +8,8 @@ use Rattle.cargo_core.specs.declared.item.QueueKind.TheVariants as Kind
 use Rattle.wire_core.specs.declared.names.ActorId.{ActorId}
 use Rattle.wire_core.specs.declared.names.QueueRow.{QueueRow}
 use Rattle.wire_core.specs.declared.names.PoolRow.{PoolRow}
+use Rattle.sdf_plan.specs.declared.place.Place.{Place}
+use Rattle.sdf_plan.specs.declared.place.Place.TheVariants as At
 use Rattle.sdf_plan.specs.declared.plan.Plan.{Plan}
 use Rattle.sdf_plan.specs.declared.plan.Domain.{Domain}
 use Rattle.sdf_plan.specs.declared.plan.Net.{Net}
@@ -15,7 +18,14 @@ use Rattle.sdf_plan.specs.declared.plan.Serial.{Serial}
 use Rattle.sdf_plan.specs.declared.plan.SerialClient.{SerialClient}
 use Rattle.sdf_plan.specs.declared.plan.Blk.{Blk}
 use Rattle.sdf_plan.specs.declared.plan.BlkClient.{BlkClient}
-use Rattle.class_table.specs.Sizes.{entry_size}
+use Rattle.class_table.specs.declared.uses.Ends.{Ends}
+use Rattle.class_table.specs.declared.uses.Ends.TheVariants as Way
+use Rattle.class_table.specs.declared.uses.QueueUse.{QueueUse}
+use Rattle.class_table.specs.declared.uses.PoolUse.{PoolUse}
+use Rattle.class_table.specs.Named.{text_of}
+use Rattle.class_table.specs.Rows.{Name}
+use Rattle.class_table.specs.Sizes.{entry_size, offset_behind}
+use Rattle.class_table.specs.Table.{Element, table_of}
 use Rattle.sdf_check.specs.Names.{place_of, region_named}
 use Rattle.region_layout.specs.Bases.{round_up, bases_of}
 
@@ -81,6 +91,65 @@ queue_in plan region offset name kind producer consumer capacity = record {
   region = region;
   offset = offset;
 }
+
+-- a pool that fills a region from its base on
+unfoldable pub pool_in : Plan → List ℕ → List ℕ → ℕ → ℕ → PoolRow
+pool_in plan key name buffers size = record {
+  name = name;
+  region = unwrap_or (region_named plan key) 0;
+  base = slice_index (bases_of plan.memory_region) (unwrap_or (region_named plan key) 0);
+  buffers = buffers;
+  size = size;
+}
+
+-- the number of the device of the class at a place
+abbrev pub device_at : Plan → Place → ActorId
+device_at plan At.Net = eth_number plan
+device_at plan At.Serial = uart_number plan
+device_at plan _ = disk_number plan
+
+-- the producer of a queue of the element at a place, and its consumer
+abbrev pub producer_of : Plan → Place → Ends Name → ActorId
+producer_of plan place (Way.FromDevice driver) = device_at plan place
+producer_of plan place (Way.ToDevice driver) = actor_named plan driver
+producer_of plan place (Way.Across link) = actor_named plan link.from
+
+abbrev pub consumer_of : Plan → Place → Ends Name → ActorId
+consumer_of plan place (Way.FromDevice driver) = actor_named plan driver
+consumer_of plan place (Way.ToDevice driver) = device_at plan place
+consumer_of plan place (Way.Across link) = actor_named plan link.to
+
+-- the number of the region in which a queue stands
+abbrev pub region_of : Plan → Ends Name → Option ℕ
+region_of plan (Way.Across link) = region_named plan link.region
+region_of plan _ = None
+
+-- the row of the layout that a queue of the element at a place is, and that a pool is
+abbrev pub queue_row : Plan → Place → QueueUse Name → QueueRow
+queue_row plan place q =
+    queue_in plan (region_of plan q.ends) (offset_behind q.behind q.capacity)
+    (text_of q.name) q.kind
+    (producer_of plan place q.ends) (consumer_of plan place q.ends) q.capacity
+
+abbrev pub pool_row : Plan → PoolUse Name → PoolRow
+pool_row plan p = pool_in plan p.region (text_of p.name) p.buffers p.size
+
+-- the rows of an element
+abbrev pub queue_rows : Plan → Element → List QueueRow
+queue_rows plan e = map (queue_row plan e.place) e.queues
+
+abbrev pub pool_rows : Plan → Element → List PoolRow
+pool_rows plan e = map (pool_row plan) e.pools
+
+-- all queues and all pools: the rows of the table of classes, element by element
+unfoldable pub queues_of : Plan → List QueueRow
+queues_of plan = flat_map (queue_rows plan) (table_of plan)
+
+unfoldable pub pools_of : Plan → List PoolRow
+pools_of plan = flat_map (pool_rows plan) (table_of plan)
+
+-- The same rows by the names of the queues and pools, class by class, as proofs go through them:
+-- that these are the table's is a lemma.
 
 -- a queue that a device shares with its driver: it stands in no region
 abbrev pub device_queue : Plan → List ℕ → QueueKind → ActorId → ActorId → ℕ → QueueRow
@@ -222,28 +291,12 @@ unfoldable pub blk_queues : Plan → Blk → List QueueRow
 blk_queues plan blk = disk_queues plan blk ++ shared_blk_queues plan blk
     ++ each_client (blk_client_queues plan blk) 0 blk.client
 
--- all queues, class by class
-unfoldable pub queues_of : Plan → List QueueRow
-queues_of plan = option_map_or (net_queues plan) plan.net []
-    ++ option_map_or (serial_queues plan) plan.serial []
-    ++ option_map_or (blk_queues plan) plan.blk []
-
 -- the bytes of a network buffer, and of a block buffer
 abbrev pub net_buffer : ℕ
 net_buffer = 2048
 
 abbrev pub blk_buffer : ℕ
 blk_buffer = 32768
-
--- a pool that fills a region from its base on
-unfoldable pub pool_in : Plan → List ℕ → List ℕ → ℕ → ℕ → PoolRow
-pool_in plan key name buffers size = record {
-  name = name;
-  region = unwrap_or (region_named plan key) 0;
-  base = slice_index (bases_of plan.memory_region) (unwrap_or (region_named plan key) 0);
-  buffers = buffers;
-  size = size;
-}
 
 unfoldable pub net_client_pools : Plan → ℕ → NetClient → List PoolRow
 net_client_pools plan c client =
@@ -264,7 +317,13 @@ unfoldable pub blk_pools : Plan → Blk → List PoolRow
 blk_pools plan blk = pool_in plan blk.region (codes "blk") 1 blk_buffer
     ∷ each_client (blk_client_pools plan) 0 blk.client
 
--- all pools, class by class
-unfoldable pub pools_of : Plan → List PoolRow
-pools_of plan = option_map_or (net_pools plan) plan.net []
+-- all queues so told, class by class
+abbrev pub class_queues : Plan → List QueueRow
+class_queues plan = option_map_or (net_queues plan) plan.net []
+    ++ option_map_or (serial_queues plan) plan.serial []
+    ++ option_map_or (blk_queues plan) plan.blk []
+
+-- all pools so told
+abbrev pub class_pools : Plan → List PoolRow
+class_pools plan = option_map_or (net_pools plan) plan.net []
     ++ option_map_or (blk_pools plan) plan.blk []

@@ -2,8 +2,7 @@
 ghost use Rattle.std.specs.Prelude.{◌≡◌, ◌+◌, ◌<◌, ◌≤◌, ◌++◌, length, map, filter, codes, IfOk, OnOk, IfSome, slice_index};
 ghost use Rattle.sdf_check.specs.Names.{place_of, region_named, region_names_of};
 ghost use Rattle.region_layout.specs.Bases.{bases_of};
-ghost use Rattle.region_layout.specs.Rows.{acts, actors_of, devices_of, name_if, actor_named, acting_count, one_if, eth_number, uart_number, disk_number};
-ghost use Rattle.region_layout.specs.Uses.{device_at};
+ghost use Rattle.region_layout.specs.Rows.{acts, actors_of, devices_of, name_if, actor_named, acting_count, one_if, eth_number, uart_number, disk_number, device_at};
 
 use cargo_core::{Memory, Series, Text};
 use sdf_plan::{Domain, Place, Plan, Region};

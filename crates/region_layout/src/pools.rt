@@ -2,8 +2,8 @@
 ghost use Rattle.std.specs.Prelude.{◌≡◌, ◌++◌, All, IfOk, OnOk};
 ghost use Rattle.class_table.specs.Shown.{AreClasses, element_shown, pool_shown};
 ghost use Rattle.class_table.specs.Table.{table_of};
-ghost use Rattle.region_layout.specs.Rows.{pool_in, pools_of};
-ghost use Rattle.region_layout.specs.Uses.{IsSmallElement, IsSmallPool, pool_row, pool_rows};
+ghost use Rattle.region_layout.specs.Rows.{pool_in, pool_row, pool_rows, pools_of};
+ghost use Rattle.region_layout.specs.Uses.{IsSmallElement, IsSmallPool};
 
 use crate::actors::Names;
 use crate::texts::text_of;

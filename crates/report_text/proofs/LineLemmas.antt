@@ -1,6 +1,6 @@
 use Rattle.std.proofs.Common.{◌≡◌, refl, sym, ◌∙◌, ap, ℕ, zero, suc, ◌+◌, List, [], ◌∷◌, ◌++◌, map, drop, slice_get, Some, append_assoc, rules}
 use Rattle.report_text.specs.Lines.{text_of}
-use Rattle.report_text.specs.Reports.{each_numbered}
+use Rattle.report_text.specs.Reports.{each_numbered, one_numbered}
 
 -- the text of more lines
 pub text_of-append : (a b : List (List ℕ)) → text_of (a ++ b) ≡ text_of a ++ text_of b
@@ -35,3 +35,12 @@ client_written {X = X} lines xs k x old new whole at is so =
 -- lines written behind lines
 pub written_on : (a b : List (List ℕ)) (old new : List ℕ) → old ≡ text_of a → new ≡ old ++ text_of b → new ≡ text_of (a ++ b)
 written_on a b old new before more = more ∙ ap (λ w. w ++ text_of b) before ∙ sym (text_of-append a b)
+
+-- the line of one more client written
+pub count_written : {X : Type 0} (line : ℕ → X → List ℕ) (xs : List X) (k : ℕ) (x : X) (old new whole : List ℕ)
+    → slice_get xs k ≡ Some x → new ≡ old ++ text_of (line k x ∷ []) → old ++ text_of (one_numbered line k (drop k xs)) ≡ whole
+    → new ++ text_of (one_numbered line (k + 1) (drop (k + 1) xs)) ≡ whole
+count_written {X = X} line xs k x old new whole at is so =
+    let rest = text_of (one_numbered line (k + 1) (drop (k + 1) xs)) in
+    ap (λ w. w ++ rest) is ∙ append_assoc old (line k x ++ 10 ∷ []) rest ∙ ap (λ w. old ++ w) (append_assoc (line k x) (10 ∷ []) rest)
+    ∙ sym (ap (λ (l : List X). old ++ text_of (one_numbered line k l)) (drop_at xs k x at)) ∙ so

@@ -9,6 +9,7 @@ use Rattle.sdf_plan.specs.declared.plan.SerialClient.{SerialClient}
 use Rattle.sdf_plan.specs.declared.plan.Blk.{Blk}
 use Rattle.sdf_plan.specs.declared.plan.BlkClient.{BlkClient}
 use Rattle.region_layout.specs.Rows.{each_client, queue_pair, eth_rx_queues, eth_tx_queues, net_rx_queues, net_tx_queues, lease_queues, client_rx_queues, client_tx_queues, net_client_queues, net_queues, uart_queues, shared_serial_queues, serial_client_queues, serial_queues, disk_queues, shared_blk_queues, blk_client_queues, blk_queues, queues_of}
+use Rattle.region_layout.proofs.SameLemmas.{queues_same}
 
 -- clients of which each gives as many rows
 six_each : {C T : Type 0} (rows : ℕ → C → List T) (c : ℕ) (clients : List C) → ((k : ℕ) (client : C) → length (rows k client) ≡ 6) → length (each_client rows c clients) ≡ 6 * length clients
@@ -51,7 +52,7 @@ blk_count plan blk = let clients = two_each (blk_client_queues plan blk) 0 blk.c
 
 pub all_counts : (plan : Plan)
     → length (queues_of plan) ≡ length (option_map_or (net_queues plan) plan.net []) + length (option_map_or (serial_queues plan) plan.serial []) + length (option_map_or (blk_queues plan) plan.blk [])
-unfolding queues_of
 all_counts plan =
-    length-append (option_map_or (net_queues plan) plan.net [] ++ option_map_or (serial_queues plan) plan.serial []) (option_map_or (blk_queues plan) plan.blk [])
+    ap length (queues_same plan)
+    ∙ length-append (option_map_or (net_queues plan) plan.net [] ++ option_map_or (serial_queues plan) plan.serial []) (option_map_or (blk_queues plan) plan.blk [])
     ∙ ap (λ n. n + length (option_map_or (blk_queues plan) plan.blk [])) (length-append (option_map_or (net_queues plan) plan.net []) (option_map_or (serial_queues plan) plan.serial []))

@@ -18,8 +18,7 @@ pub fn write_usage(alloc: Global, k: u32) -> Result<String, Memory>
     Ok(format!(in alloc; "usage: word {k}\n")?)
 }
 
-/// The line for a description that is refused: the rule that it breaks, 0 where none is broken and
-/// it can't be played, and the place.
+/// The line for a description that is refused: the rule that it breaks, and the place.
 pub fn write_refused(alloc: Global, refusal: &Refusal) -> Result<String, Memory>
     ensures { IfOk result (λ s. string_bytes s ≡ refused_text refusal.now) }
 {

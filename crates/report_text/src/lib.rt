@@ -6,12 +6,14 @@ mod journal;
 mod layout;
 mod place;
 mod report;
+mod summary;
 
 pub use answers::{write_accepted, write_bad_trace, write_refused, write_too_long, write_usage};
 pub use journal::write_journal;
 pub use layout::write_layout;
 pub use place::write_place;
 pub use report::write_report;
+pub use summary::write_summary;
 
 #[cfg(test)]
 mod tests;

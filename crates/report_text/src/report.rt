@@ -4,7 +4,7 @@ ghost use Rattle.std.specs.Prelude.{◌≡◌, ◌<◌, ◌≤◌, ◌∷◌, []
 ghost use Rattle.hex.specs.Hex.{encode_lower};
 ghost use Rattle.report_text.specs.Lines.{text_of};
 ghost use Rattle.report_text.specs.Runs.{runs_of, run_text, more_runs_text};
-ghost use Rattle.report_text.specs.Reports.{report_text, byte_lines, wire_lines, net_lines, uart_lines, serial_lines, blk_lines, each_numbered, pool_line, reply_line, given_text, status_text, ending_line, steps_line, bad_line};
+ghost use Rattle.report_text.specs.Reports.{report_text, byte_lines, wire_line, wire_lines, net_line, net_lines, uart_line, uart_lines, serial_line, serial_lines, blk_line, blk_lines, each_numbered, pool_line, reply_line, given_text, status_text, ending_line, steps_line, bad_line};
 
 use cargo_core::{BlkStatus, Bytes, FrameLog, Memory, Reply, Series};
 use expect_core::{Census, Report};
@@ -50,13 +50,58 @@ fn add_frames(alloc: Global, to: &mut String, frames: &FrameLog) -> Result<(), M
     Ok(())
 }
 
+// Appends how many frames the wire got.
+pub fn add_wire_line(to: &mut String, frames: &FrameLog) -> Result<(), Memory>
+    ensures { OnOk result (string_bytes to.new ≡ string_bytes to.old
+        ++ text_of (wire_line frames.now ∷ [])) }
+{
+    write!(to, "wire {}\n", frames.len())?;
+    Ok(())
+}
+
+// Appends how many bytes the serial line got.
+pub fn add_uart_line(to: &mut String, bytes: &Bytes) -> Result<(), Memory>
+    ensures { OnOk result (string_bytes to.new ≡ string_bytes to.old
+        ++ text_of (uart_line bytes.now ∷ [])) }
+{
+    write!(to, "uart {}\n", bytes.len())?;
+    Ok(())
+}
+
+// Appends how many frames a network client recorded.
+pub fn add_net_line(to: &mut String, c: usize, frames: &FrameLog) -> Result<(), Memory>
+    ensures { OnOk result (string_bytes to.new ≡ string_bytes to.old
+        ++ text_of (net_line c frames.now ∷ [])) }
+{
+    write!(to, "net {} frames {}\n", c, frames.len())?;
+    Ok(())
+}
+
+// Appends how many bytes a serial client recorded.
+pub fn add_serial_line(to: &mut String, c: usize, bytes: &Bytes) -> Result<(), Memory>
+    ensures { OnOk result (string_bytes to.new ≡ string_bytes to.old
+        ++ text_of (serial_line c bytes.now ∷ [])) }
+{
+    write!(to, "serial {} bytes {}\n", c, bytes.len())?;
+    Ok(())
+}
+
+// Appends how many responses a block client recorded.
+pub fn add_blk_line(to: &mut String, c: usize, replies: &Series<Reply>) -> Result<(), Memory>
+    ensures { OnOk result (string_bytes to.new ≡ string_bytes to.old
+        ++ text_of (blk_line c replies.now ∷ [])) }
+{
+    write!(to, "blk {} replies {}\n", c, replies.len())?;
+    Ok(())
+}
+
 // Appends what the wire got, where there is one.
 fn add_wire(alloc: Global, to: &mut String, wire: &Option<FrameLog>) -> Result<(), Memory>
     ensures { OnOk result (string_bytes to.new ≡ string_bytes to.old
         ++ text_of (wire_lines wire.now)) }
 {
     if let Some(frames) = wire {
-        write!(to, "wire {}\n", frames.len())?;
+        add_wire_line(to, frames)?;
         add_frames(alloc, to, frames)?;
     }
     Ok(())
@@ -68,7 +113,7 @@ fn add_uart(alloc: Global, to: &mut String, line: &Option<Bytes>) -> Result<(), 
         ++ text_of (uart_lines line.now)) }
 {
     if let Some(bytes) = line {
-        write!(to, "uart {}\n", bytes.len())?;
+        add_uart_line(to, bytes)?;
         add_bytes(alloc, to, bytes.as_slice())?;
     }
     Ok(())
@@ -79,7 +124,7 @@ fn add_net_client(alloc: Global, to: &mut String, c: usize, frames: &FrameLog) -
     ensures { OnOk result (string_bytes to.new ≡ string_bytes to.old
         ++ text_of (net_lines c frames.now)) }
 {
-    write!(to, "net {} frames {}\n", c, frames.len())?;
+    add_net_line(to, c, frames)?;
     add_frames(alloc, to, frames)
 }
 
@@ -88,7 +133,7 @@ fn add_serial_client(alloc: Global, to: &mut String, c: usize, bytes: &Bytes) ->
     ensures { OnOk result (string_bytes to.new ≡ string_bytes to.old
         ++ text_of (serial_lines c bytes.now)) }
 {
-    write!(to, "serial {} bytes {}\n", c, bytes.len())?;
+    add_serial_line(to, c, bytes)?;
     add_bytes(alloc, to, bytes.as_slice())
 }
 
@@ -178,7 +223,7 @@ fn add_blk_client(
     ensures { OnOk result (string_bytes to.new ≡ string_bytes to.old
         ++ text_of (blk_lines c replies.now)) }
 {
-    write!(to, "blk {} replies {}\n", c, replies.len())?;
+    add_blk_line(to, c, replies)?;
     for k in 0..replies.len() {
         add_reply(alloc, to, replies.get(k))?;
     }
@@ -235,7 +280,7 @@ fn add_blk(alloc: Global, to: &mut String, clients: &Series<Series<Reply>>) -> R
 }
 
 // Appends where the buffers of each pool are.
-fn add_pools(to: &mut String, pools: &Series<Census>) -> Result<(), Memory>
+pub fn add_pools(to: &mut String, pools: &Series<Census>) -> Result<(), Memory>
     ensures { OnOk result (string_bytes to.new ≡ string_bytes to.old
         ++ text_of (map pool_line pools.now)) }
 {
@@ -246,7 +291,7 @@ fn add_pools(to: &mut String, pools: &Series<Census>) -> Result<(), Memory>
 }
 
 // Appends the two lines with which a report begins.
-fn add_head(to: &mut String, quiet: bool, steps: u64) -> Result<(), Memory>
+pub fn add_head(to: &mut String, quiet: bool, steps: u64) -> Result<(), Memory>
     ensures { OnOk result (string_bytes to.new ≡ string_bytes to.old
         ++ text_of (ending_line quiet ∷ steps_line steps ∷ [])) }
 {
@@ -256,7 +301,7 @@ fn add_head(to: &mut String, quiet: bool, steps: u64) -> Result<(), Memory>
 }
 
 // Appends the line with which a report ends.
-fn add_bad(to: &mut String, bad: u64) -> Result<(), Memory>
+pub fn add_bad(to: &mut String, bad: u64) -> Result<(), Memory>
     ensures { OnOk result (string_bytes to.new ≡ string_bytes to.old
         ++ text_of (bad_line bad ∷ [])) }
 {

@@ -1,6 +1,6 @@
 //! The texts of places and reports beside texts that were written down by hand.
 
-use super::{write_place, write_report};
+use super::{write_place, write_report, write_summary};
 use cargo_core::{BlkResp, BlkStatus, Bytes, Reply, Series, Text};
 use expect_core::{Census, Report};
 use sdf_plan::Place;
@@ -59,6 +59,11 @@ fn serial_reports_show_the_line_and_each_client(rt: HostRuntime) -> Result<(), F
     assert_eq!(rt;
         text.as_str(),
         "quiet\nsteps 12\nuart 3\n616263\nserial 0 bytes 0\nserial 1 bytes 2\n6869\nbad 0\n"
+    );
+    let text = write_summary(alloc, &report)?;
+    assert_eq!(rt;
+        text.as_str(),
+        "quiet\nsteps 12\nuart 3\nserial 0 bytes 0\nserial 1 bytes 2\nbad 0\n"
     );
     Ok(())
 }

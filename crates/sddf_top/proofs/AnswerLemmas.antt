@@ -2,15 +2,16 @@ use Rattle.std.proofs.Common.{◌≡◌, ◌⊎◌, inl, inr, ℕ, Bool, true, f
 use Rattle.sdf_plan.specs.declared.plan.Plan.{Plan}
 use Rattle.trace_text.specs.declared.trace.Trace.{Trace}
 use Rattle.system_core.specs.Reports.{report_of}
-use Rattle.command_words.specs.declared.command.Options.{Options}
+use Rattle.sddf_top.specs.declared.showing.Showing.{Showing}
+use Rattle.sddf_top.specs.declared.showing.Showing.TheVariants as Show
 use Rattle.sddf_top.specs.declared.status.Status.{Status}
 use Rattle.sddf_top.specs.declared.status.Status.TheVariants as Ended
 use Rattle.sddf_top.specs.declared.played.Played.{Played}
-use Rattle.sddf_top.specs.Decisions.{Decision, Say, Play, Decides, TextDecides, PlanDecides, TraceDecides, long_trace, bad_trace, good_trace, checked, laid_out, not_played, traced, long_description, refused, accepted, no_command, described}
+use Rattle.sddf_top.specs.Decisions.{Decision, Say, Play, Decides, TextDecides, PlanDecides, TraceDecides, GeneratedDecides, long_trace, bad_trace, good_trace, checked, laid_out, traced, long_description, refused, accepted, no_command, described, generated}
 use Rattle.sddf_top.specs.Shown.{ending_of}
 use Rattle.sddf_top.specs.Answers.{Answers, Comes, Shows, IsStatusOf, Serves, WasRead, IsTold, IsFault, no_reading, no_writing, no_memory}
 use Rattle.sddf_top.specs.Outside.{appended}
-use Rattle.sddf_top.proofs.DecisionLemmas.{Agrees, one-decision, text-read}
+use Rattle.sddf_top.proofs.DecisionLemmas.{Agrees, one-decision, plan-read, text-read}
 
 -- what was read of a told text is its bytes
 pub told-same : (told : List ℕ → Option (List ℕ)) (name a b : List ℕ) → IsTold told name a → WasRead told name b → a ≡ b
@@ -21,15 +22,16 @@ pub read-before : (told told' : List ℕ → Option (List ℕ)) → ((n : List �
 read-before told told' same name bytes r = rw (same name) at r
 
 pub text-before : (told told' : List ℕ → Option (List ℕ)) → ((n : List ℕ) → told' n ≡ told n) → (words : List (List ℕ)) (bytes : List ℕ) (d : Decision)
-    → TextDecides (WasRead told') words bytes d → TextDecides (WasRead told) words bytes d
-text-before told told' same = text-read (WasRead told') (WasRead told) (read-before told told' same)
+    → TextDecides (PlanDecides (WasRead told') words) bytes d → TextDecides (PlanDecides (WasRead told) words) bytes d
+text-before told told' same words =
+    text-read (PlanDecides (WasRead told') words) (PlanDecides (WasRead told) words) (plan-read (WasRead told') (WasRead told) (read-before told told' same) words)
 
 -- a play gets quiet or spends its steps
 ending-status : (quiet : Bool) (steps : ℕ) (s : Status) → s ≡ ending_of quiet steps → (s ≡ Ended.Ok) ⊎ ((n : ℕ) × (s ≡ Ended.Spent n))
 ending-status true steps s e = inl e
 ending-status false steps s e = inr (steps, e)
 
-play-status : (plan : Plan) (t : Trace) (o : Options) (s : Status) (x : List ℕ) (p : Played) → Shows plan t o s x p → (s ≡ Ended.Ok) ⊎ ((n : ℕ) × (s ≡ Ended.Spent n))
+play-status : (plan : Plan) (t : Trace) (o : Showing) (s : Status) (x : List ℕ) (p : Played) → Shows plan t o s x p → (s ≡ Ended.Ok) ⊎ ((n : ℕ) × (s ≡ Ended.Spent n))
 play-status plan t o s x p h = ending-status (report_of h.system).quiet (report_of h.system).steps s h.status_is
 
 -- the status of an answer is the one that a decision which agrees leads to
@@ -79,26 +81,29 @@ abbrev pub IsCalm : Decision → Type 0
 IsCalm (Say s x) = IsFault s → ⊥
 IsCalm (Play q t o) = Unit {0}
 
-trace-calm : (plan : Plan) (o : Options) (bytes : List ℕ) (d : Decision) → TraceDecides plan o bytes d → IsCalm d
+trace-calm : (plan : Plan) (o : Showing) (bytes : List ℕ) (d : Decision) → TraceDecides plan o bytes d → IsCalm d
 trace-calm plan o bytes _ (long_trace l) = may-be Ended.TooLong
 trace-calm plan o bytes _ (bad_trace k l b) = may-be (Ended.BadTrace k)
 trace-calm plan o bytes _ (good_trace l g) = tt
+
+text-calm : (P : Plan → Decision → Type 0) → ((plan : Plan) (d : Decision) → P plan d → IsCalm d) → (bytes : List ℕ) (d : Decision) → TextDecides P bytes d → IsCalm d
+text-calm P calm bytes _ (long_description l) = may-be Ended.TooLong
+text-calm P calm bytes _ (refused r l h) = may-be (Ended.Refused r.rule)
+text-calm P calm bytes _ (accepted p d l h q) = calm p d q
+
+generated-calm : (n : ℕ) (plan : Plan) (d : Decision) → GeneratedDecides n plan d → IsCalm d
+generated-calm n plan d t = trace-calm plan Show.Summary _ d t
 
 module _ (R : List ℕ → List ℕ → Type 0) (words : List (List ℕ)) where
   plan-calm : (plan : Plan) (d : Decision) → PlanDecides R words plan d → IsCalm d
   plan-calm plan _ (checked desc c) = may-be Ended.Ok
   plan-calm plan _ (laid_out desc l) = may-be Ended.Ok
-  plan-calm plan _ (not_played desc trace o place p u) = may-be (Ended.Refused 0)
-  plan-calm plan _ (traced desc trace bytes o d p u r t) = trace-calm plan o bytes d t
-
-  text-calm : (bytes : List ℕ) (d : Decision) → TextDecides R words bytes d → IsCalm d
-  text-calm bytes _ (long_description l) = may-be Ended.TooLong
-  text-calm bytes _ (refused r l h) = may-be (Ended.Refused r.rule)
-  text-calm bytes _ (accepted p d l h q) = plan-calm p d q
+  plan-calm plan _ (traced desc trace bytes o d p r t) = trace-calm plan (Show.Report o) bytes d t
 
   is-calm : (d : Decision) → Decides R words d → IsCalm d
   is-calm _ (no_command k h) = may-be (Ended.Usage k)
-  is-calm _ (described desc bytes d n r t) = text-calm bytes d t
+  is-calm _ (described desc bytes d n r t) = text-calm (PlanDecides R words) plan-calm bytes d t
+  is-calm _ (generated n d g t) = text-calm (GeneratedDecides n) (generated-calm n) _ d t
 
 calm-ending : (s : Status) → (s ≡ Ended.Ok) ⊎ ((n : ℕ) × (s ≡ Ended.Spent n)) → IsFault s → ⊥
 calm-ending s (inl e) f = may-be Ended.Ok (subst (λ t. IsFault t) e f)

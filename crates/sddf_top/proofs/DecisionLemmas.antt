@@ -1,5 +1,6 @@
-use Rattle.std.proofs.Common.{◌≡◌, inl, inr, ◌<◌, ◌≤◌, ◌+◌, ℕ, Some, List, ◌++◌, ◌∷◌, length, take, drop, refl, sym, ap, ◌∙◌, subst, append_assoc, arith}
+use Rattle.std.proofs.Common.{◌≡◌, inl, inr, ◌<◌, ◌≤◌, ◌+◌, ℕ, Some, List, ◌++◌, ◌∷◌, length, take, drop, refl, sym, ap, ◌∙◌, subst, append_assoc, decimal, arith}
 use Rattle.std.proofs.lemmas.Bool.{cases_lt}
+use Rattle.std.proofs.lemmas.Fmt.{decimal_injective}
 use Rattle.std.proofs.lemmas.List.{take-append-drop, take-take}
 use Rattle.sdf_plan.specs.declared.place.Refusal.{Refusal}
 use Rattle.sdf_plan.specs.declared.plan.Plan.{Plan}
@@ -8,9 +9,13 @@ use Rattle.report_text.specs.Answers.{usage_text, bad_trace_text}
 use Rattle.command_words.specs.declared.command.Command.{Command}
 use Rattle.command_words.specs.declared.command.Command.TheVariants as Do
 use Rattle.command_words.specs.declared.command.Options.{Options}
-use Rattle.command_words.specs.Words.{IsCheck, IsLayout, IsPlay, Spells, Begins, IsBadWord}
+use Rattle.command_words.specs.Words.{IsCheck, IsLayout, IsPlay, IsGen, Spells, Begins, IsBadWord}
 use Rattle.sddf_top.specs.declared.status.Status.TheVariants as Ended
-use Rattle.sddf_top.specs.Decisions.{Decision, Say, Play, TraceDecides, PlanDecides, TextDecides, Decides, NamesDescription, refuses, long_trace, bad_trace, good_trace, checked, laid_out, not_played, traced, long_description, refused, accepted, no_command, described}
+use Rattle.sddf_top.specs.declared.showing.Showing.{Showing}
+use Rattle.sddf_top.specs.declared.showing.Showing.TheVariants as Show
+use Rattle.workload.specs.Generated.{generated_text}
+use Rattle.workload.specs.declared.description.TheConstants.{FULL_EXAMPLE}
+use Rattle.sddf_top.specs.Decisions.{Decision, Say, Play, TraceDecides, PlanDecides, TextDecides, GeneratedDecides, Decides, NamesDescription, refuses, long_trace, bad_trace, good_trace, checked, laid_out, traced, long_description, refused, accepted, no_command, described, generated}
 use Rattle.sddf_top.proofs.JudgedLemmas.{same-accepted, accepted-or-refused, same-refused}
 
 -- fewer words begin a command too
@@ -99,7 +104,7 @@ agrees-bad : (l m : ℕ) → l ≡ m → Agrees (Say (Ended.BadTrace l) (bad_tra
 agrees-bad l m e = (ap (λ n. Ended.BadTrace n) e, ap bad_trace_text e)
 
 -- what the bytes of a trace decide
-one-trace : (plan : Plan) (o o' : Options) (bytes : List ℕ) (d d' : Decision) → TraceDecides plan o bytes d → TraceDecides plan o' bytes d' → Agrees d d'
+one-trace : (plan : Plan) (o o' : Showing) (bytes : List ℕ) (d d' : Decision) → TraceDecides plan o bytes d → TraceDecides plan o' bytes d' → Agrees d d'
 one-trace plan o o' bytes _ _ (long_trace l) (long_trace m) = (refl, refl)
 one-trace plan o o' bytes _ _ (long_trace l) (bad_trace k m b) = absurd (long-or-short bytes l m)
 one-trace plan o o' bytes _ _ (long_trace l) (good_trace m g) = absurd (long-or-short bytes l m)
@@ -110,43 +115,47 @@ one-trace plan o o' bytes _ _ (good_trace l g) (long_trace m) = absurd (long-or-
 one-trace plan o o' bytes _ _ (good_trace l g) (bad_trace k m b) = absurd (good-or-bad plan bytes k g b)
 one-trace plan o o' bytes _ _ (good_trace l g) (good_trace m g') = tt
 
+-- what the bytes of a description decide, where what a plan decides agrees
+one-text : (P Q : Plan → Decision → Type 0) → ((plan : Plan) (d d' : Decision) → P plan d → Q plan d' → Agrees d d') → (bytes : List ℕ) (d d' : Decision)
+    → TextDecides P bytes d → TextDecides Q bytes d' → Agrees d d'
+one-text P Q one bytes _ _ (long_description l) (long_description m) = (refl, refl)
+one-text P Q one bytes _ _ (long_description l) (refused r m i) = absurd (long-or-short bytes l m)
+one-text P Q one bytes _ _ (long_description l) (accepted p d m i q) = absurd (long-or-short bytes l m)
+one-text P Q one bytes _ _ (refused r l h) (long_description m) = absurd (long-or-short bytes m l)
+one-text P Q one bytes _ _ (refused r l h) (refused r' m i) = agrees-refused r r' (same-refused bytes r r' h i)
+one-text P Q one bytes _ _ (refused r l h) (accepted p d m i q) = absurd (accepted-or-refused bytes p r i h)
+one-text P Q one bytes _ _ (accepted p d l h q) (long_description m) = absurd (long-or-short bytes m l)
+one-text P Q one bytes _ _ (accepted p d l h q) (refused r m i) = absurd (accepted-or-refused bytes p r h i)
+one-text P Q one bytes _ _ (accepted p d l h q) (accepted p' d' m i q') =
+    one p' d d' (subst (λ x. P x d) (same-accepted bytes p p' h i) q) q'
+
+-- no words are `gen` and another command
+gen-or-named : (words : List (List ℕ)) (n : ℕ) (desc : List ℕ) → IsGen words n → NamesDescription words desc → ⊥
+gen-or-named words n desc g (inl c) = let e = sym g.words_are ∙ c.words_are in cc
+gen-or-named words n desc g (inr (inl l)) = let e = sym g.words_are ∙ l.words_are in cc
+gen-or-named words n desc g (inr (inr p)) = let e = sym g.words_are ∙ p.2.words_are in cc
+
+gen-same : (words : List (List ℕ)) (n m : ℕ) → IsGen words n → IsGen words m → n ≡ m
+gen-same words n m g h =
+    let e = sym g.words_are ∙ h.words_are in
+    let same : decimal n ≡ decimal m = cc in
+    decimal_injective n m g.small h.small same
+
 -- two tellings of what was read agree
 module _ (R S : List ℕ → List ℕ → Type 0) (same : (name a b : List ℕ) → R name a → S name b → a ≡ b) (words : List (List ℕ)) where
   -- what the words decide for a plan
   one-plan : (plan : Plan) (d d' : Decision) → PlanDecides R words plan d → PlanDecides S words plan d' → Agrees d d'
   one-plan plan _ _ (checked desc c) (checked desc' c') = (refl, refl)
   one-plan plan _ _ (checked desc c) (laid_out desc' l') = absurd (check-or-layout words desc desc' c l')
-  one-plan plan _ _ (checked desc c) (not_played desc' trace' o' place' p' u') = absurd (check-or-play words desc desc' trace' o' c p')
-  one-plan plan _ _ (checked desc c) (traced desc' trace' bytes' o' d' p' u' r' t') = absurd (check-or-play words desc desc' trace' o' c p')
+  one-plan plan _ _ (checked desc c) (traced desc' trace' bytes' o' d' p' r' t') = absurd (check-or-play words desc desc' trace' o' c p')
   one-plan plan _ _ (laid_out desc l) (checked desc' c') = absurd (check-or-layout words desc' desc c' l)
   one-plan plan _ _ (laid_out desc l) (laid_out desc' l') = (refl, refl)
-  one-plan plan _ _ (laid_out desc l) (not_played desc' trace' o' place' p' u') = absurd (layout-or-play words desc desc' trace' o' l p')
-  one-plan plan _ _ (laid_out desc l) (traced desc' trace' bytes' o' d' p' u' r' t') = absurd (layout-or-play words desc desc' trace' o' l p')
-  one-plan plan _ _ (not_played desc trace o place p u) (checked desc' c') = absurd (check-or-play words desc' desc trace o c' p)
-  one-plan plan _ _ (not_played desc trace o place p u) (laid_out desc' l') = absurd (layout-or-play words desc' desc trace o l' p)
-  one-plan plan _ _ (not_played desc trace o place p u) (not_played desc' trace' o' place' p' u') =
-      let e : Some place ≡ Some place' = sym u ∙ u' in let f : place ≡ place' = cc in
-      agrees-refused (record { rule = 0; place = place }) (record { rule = 0; place = place' }) (ap (λ q. record { rule = 0; place = q }) f)
-  one-plan plan _ _ (not_played desc trace o place p u) (traced desc' trace' bytes' o' d' p' u' r' t') = let e = sym u ∙ u' in cc
-  one-plan plan _ _ (traced desc trace bytes o d p u r t) (checked desc' c') = absurd (check-or-play words desc' desc trace o c' p)
-  one-plan plan _ _ (traced desc trace bytes o d p u r t) (laid_out desc' l') = absurd (layout-or-play words desc' desc trace o l' p)
-  one-plan plan _ _ (traced desc trace bytes o d p u r t) (not_played desc' trace' o' place' p' u') = let e = sym u ∙ u' in cc
-  one-plan plan _ _ (traced desc trace bytes o d p u r t) (traced desc' trace' bytes' o' d' p' u' r' t') =
+  one-plan plan _ _ (laid_out desc l) (traced desc' trace' bytes' o' d' p' r' t') = absurd (layout-or-play words desc desc' trace' o' l p')
+  one-plan plan _ _ (traced desc trace bytes o d p r t) (checked desc' c') = absurd (check-or-play words desc' desc trace o c' p)
+  one-plan plan _ _ (traced desc trace bytes o d p r t) (laid_out desc' l') = absurd (layout-or-play words desc' desc trace o l' p)
+  one-plan plan _ _ (traced desc trace bytes o d p r t) (traced desc' trace' bytes' o' d' p' r' t') =
       let b : bytes ≡ bytes' = same trace' bytes bytes' (subst (λ n. R n bytes) (same-trace words desc trace desc' trace' o o' p p') r) r' in
-      one-trace plan o o' bytes' d d' (subst (λ x. TraceDecides plan o x d) b t) t'
-
-  -- what the words and the bytes of a description decide
-  one-text : (bytes : List ℕ) (d d' : Decision) → TextDecides R words bytes d → TextDecides S words bytes d' → Agrees d d'
-  one-text bytes _ _ (long_description l) (long_description m) = (refl, refl)
-  one-text bytes _ _ (long_description l) (refused r m i) = absurd (long-or-short bytes l m)
-  one-text bytes _ _ (long_description l) (accepted p d m i q) = absurd (long-or-short bytes l m)
-  one-text bytes _ _ (refused r l h) (long_description m) = absurd (long-or-short bytes m l)
-  one-text bytes _ _ (refused r l h) (refused r' m i) = agrees-refused r r' (same-refused bytes r r' h i)
-  one-text bytes _ _ (refused r l h) (accepted p d m i q) = absurd (accepted-or-refused bytes p r i h)
-  one-text bytes _ _ (accepted p d l h q) (long_description m) = absurd (long-or-short bytes m l)
-  one-text bytes _ _ (accepted p d l h q) (refused r m i) = absurd (accepted-or-refused bytes p r h i)
-  one-text bytes _ _ (accepted p d l h q) (accepted p' d' m i q') =
-      one-plan p' d d' (subst (λ x. PlanDecides R words x d) (same-accepted bytes p p' h i) q) q'
+      one-trace plan (Show.Report o) (Show.Report o') bytes' d d' (subst (λ x. TraceDecides plan (Show.Report o) x d) b t) t'
 
   -- what the words and the texts under their names decide
   pub one-decision : (d d' : Decision) → Decides R words d → Decides S words d' → Agrees d d'
@@ -155,18 +164,24 @@ module _ (R S : List ℕ → List ℕ → Type 0) (same : (name a b : List ℕ) 
   one-decision _ _ (described desc bytes d n r t) (no_command k h) = let s = names-spell words desc n in absurd (bad-none words k s.0 h s.1)
   one-decision _ _ (described desc bytes d n r t) (described desc' bytes' d' n' r' t') =
       let b : bytes ≡ bytes' = same desc' bytes bytes' (subst (λ x. R x bytes) (same-desc words desc desc' n n') r) r' in
-      one-text bytes' d d' (subst (λ x. TextDecides R words x d) b t) t'
+      one-text (PlanDecides R words) (PlanDecides S words) one-plan bytes' d d' (subst (λ x. TextDecides (PlanDecides R words) x d) b t) t'
+  one-decision _ _ (no_command k h) (generated n d g t) = absurd (bad-none words k (Do.Gen n) h g)
+  one-decision _ _ (generated n d g t) (no_command k h) = absurd (bad-none words k (Do.Gen n) h g)
+  one-decision _ _ (described desc bytes d n r t) (generated m d' g t') = absurd (gen-or-named words m desc g n)
+  one-decision _ _ (generated m d g t) (described desc bytes d' n r t') = absurd (gen-or-named words m desc g n)
+  one-decision _ _ (generated n d g t) (generated m d' g' t') =
+      one-text (GeneratedDecides m) (GeneratedDecides m) (λ plan e e' a b. one-trace plan Show.Summary Show.Summary (generated_text m) e e' a b) FULL_EXAMPLE.now d d'
+      (subst (λ k. TextDecides (GeneratedDecides k) FULL_EXAMPLE.now d) (gen-same words n m g g') t) t'
 
 -- what is decided where a text was read as it was before
 pub plan-read : (R S : List ℕ → List ℕ → Type 0) → ((name bytes : List ℕ) → R name bytes → S name bytes) → (words : List (List ℕ)) (plan : Plan) (d : Decision)
     → PlanDecides R words plan d → PlanDecides S words plan d
 plan-read R S m words plan _ (checked desc c) = checked desc c
 plan-read R S m words plan _ (laid_out desc l) = laid_out desc l
-plan-read R S m words plan _ (not_played desc trace o place p u) = not_played desc trace o place p u
-plan-read R S m words plan _ (traced desc trace bytes o d p u r t) = traced desc trace bytes o d p u (m trace bytes r) t
+plan-read R S m words plan _ (traced desc trace bytes o d p r t) = traced desc trace bytes o d p (m trace bytes r) t
 
-pub text-read : (R S : List ℕ → List ℕ → Type 0) → ((name bytes : List ℕ) → R name bytes → S name bytes) → (words : List (List ℕ)) (bytes : List ℕ) (d : Decision)
-    → TextDecides R words bytes d → TextDecides S words bytes d
-text-read R S m words bytes _ (long_description l) = long_description l
-text-read R S m words bytes _ (refused r l h) = refused r l h
-text-read R S m words bytes _ (accepted p d l h q) = accepted p d l h (plan-read R S m words p d q)
+pub text-read : (P Q : Plan → Decision → Type 0) → ((plan : Plan) (d : Decision) → P plan d → Q plan d) → (bytes : List ℕ) (d : Decision)
+    → TextDecides P bytes d → TextDecides Q bytes d
+text-read P Q m bytes _ (long_description l) = long_description l
+text-read P Q m bytes _ (refused r l h) = refused r l h
+text-read P Q m bytes _ (accepted p d l h q) = accepted p d l h (m p d q)

@@ -5,15 +5,16 @@ use Rattle.sdf_plan.specs.declared.plan.Plan.{Plan}
 use Rattle.system_core.specs.Reports.{report_of}
 use Rattle.command_words.specs.declared.command.Options.{Options}
 use Rattle.command_words.specs.Words.{IsPlay}
+use Rattle.sddf_top.specs.declared.showing.Showing.{Showing}
 use Rattle.sddf_top.specs.declared.status.Status.{Status}
 use Rattle.sddf_top.specs.declared.status.Status.TheVariants as Ended
 use Rattle.sddf_top.specs.declared.played.Played.{Played}
 use Rattle.sdf_model.specs.Counts.{text_most}
 use Rattle.sddf_top.specs.Outside.{IsRead, read_most}
-use Rattle.sddf_top.specs.Decisions.{Decision, TraceDecides, long_trace, bad_trace, good_trace, NamesDescription}
+use Rattle.sddf_top.specs.Decisions.{Decision, TextDecides, TraceDecides, GeneratedDecides, long_description, refused, accepted, long_trace, bad_trace, good_trace, NamesDescription}
 use Rattle.sddf_top.specs.Shown.{ending_of}
 use Rattle.sddf_top.specs.Answers.{Comes, ComesBy, IsFault, no_writing}
-use Rattle.sddf_top.specs.Readings.{Behind, IsLong, IsWithinLimit, IsOfText, IsOfPlay, LeavesPlay, LeavesPlan, LeavesText, ReadLast, read_description, read_trace}
+use Rattle.sddf_top.specs.Readings.{Behind, IsLong, IsWithinLimit, IsOfText, IsOfPlay, IsUnread, LeavesPlay, LeavesPlan, LeavesText, ReadLast, read_description, read_trace}
 use Rattle.sddf_top.proofs.DecisionLemmas.{same-desc}
 
 -- a text is too long, or within the limit, as the bytes are that were read of it
@@ -30,7 +31,7 @@ ending-of-trace : (quiet : Bool) (steps : ℕ) → IsOfPlay (ending_of quiet ste
 ending-of-trace true steps = tt
 ending-of-trace false steps = tt
 
-trace-comes : (told : Option (List ℕ)) (plan : Plan) (o : Options) (bytes : List ℕ) (d : Decision) (s : Status) (x : List ℕ) (p : Played) → IsRead told bytes → TraceDecides plan o bytes d
+trace-comes : (told : Option (List ℕ)) (plan : Plan) (o : Showing) (bytes : List ℕ) (d : Decision) (s : Status) (x : List ℕ) (p : Played) → IsRead told bytes → TraceDecides plan o bytes d
     → Comes d s x p → IsOfText told IsOfPlay s
 trace-comes told plan o bytes _ s x p r (long_trace l) c = inl (long-read told bytes r l, c.0)
 trace-comes told plan o bytes _ s x p r (bad_trace k l b) c = inr (within-read told bytes r l, rw c.0 tt)
@@ -38,15 +39,14 @@ trace-comes told plan o bytes _ s x p r (good_trace l g) c =
     inr (within-read told bytes r l, rw c.status_is (ending-of-trace (report_of c.system).quiet (report_of c.system).steps))
 
 -- what a trace decides is an answer to a trace
-pub trace-status : (told : Option (List ℕ)) (plan : Plan) (o : Options) (bytes : List ℕ) (s : Status) (x : List ℕ) (p : Played) → IsRead told bytes → ComesBy (TraceDecides plan o bytes) s x p
+pub trace-status : (told : Option (List ℕ)) (plan : Plan) (o : Showing) (bytes : List ℕ) (s : Status) (x : List ℕ) (p : Played) → IsRead told bytes → ComesBy (TraceDecides plan o bytes) s x p
     → IsOfText told IsOfPlay s
 trace-status told plan o bytes s x p r h = trace-comes told plan o bytes h.0 s x p r h.1 h.2
 
 -- a play that was asked for leaves what a plan leaves
 pub play-leaves : (told : List ℕ → Option (List ℕ)) (words : List (List ℕ)) (desc trace : List ℕ) (options : Options) (old new : Option (List ℕ)) (s : Status)
     → IsPlay words desc trace options → LeavesPlay told trace old new s → LeavesPlan told words old new s
-play-leaves told words desc trace options old new s p (inl h) = inl (rw h.1 tt, h.2)
-play-leaves told words desc trace options old new s p (inr h) = inr (desc, trace, options, p, h.0, h.1)
+play-leaves told words desc trace options old new s p h = inr (desc, trace, options, p, h.0, h.1)
 
 -- what was read last, once a description within the limit was read
 plan-read-last : (told told' : List ℕ → Option (List ℕ)) → ((n : List ℕ) → told' n ≡ told n) → (words : List (List ℕ)) (desc : List ℕ) (first old new : Option (List ℕ)) (s : Status)
@@ -71,3 +71,21 @@ pub last-written : (told : List ℕ → Option (List ℕ)) (words : List (List �
     → (result ≡ s) ⊎ (result ≡ Ended.WriteFault) → ReadLast told words old new result ⊎ IsFault result
 last-written told words old new s result h (inl e) = inl (subst (λ t. ReadLast told words old new t) (sym e) h)
 last-written told words old new s result h (inr e) = inr (subst (λ t. IsFault t) (sym e) no_writing)
+
+-- what `gen` answers is an answer to a command that reads no text
+ending-unread : (quiet : Bool) (steps : ℕ) → IsUnread (ending_of quiet steps)
+ending-unread true steps = tt
+ending-unread false steps = tt
+
+trace-unread : (plan : Plan) (o : Showing) (bytes : List ℕ) (d : Decision) (s : Status) (x : List ℕ) (p : Played) → TraceDecides plan o bytes d → Comes d s x p → IsUnread s
+trace-unread plan o bytes _ s x p (long_trace l) c = rw c.0 tt
+trace-unread plan o bytes _ s x p (bad_trace k l b) c = rw c.0 tt
+trace-unread plan o bytes _ s x p (good_trace l g) c = rw c.status_is (ending-unread (report_of c.system).quiet (report_of c.system).steps)
+
+text-unread : (n : ℕ) (bytes : List ℕ) (d : Decision) (s : Status) (x : List ℕ) (p : Played) → TextDecides (GeneratedDecides n) bytes d → Comes d s x p → IsUnread s
+text-unread n bytes _ s x p (long_description l) c = rw c.0 tt
+text-unread n bytes _ s x p (refused r l h) c = rw c.0 tt
+text-unread n bytes _ s x p (accepted plan d l h t) c = trace-unread plan _ _ d s x p t c
+
+pub gen-unread : (n : ℕ) (bytes : List ℕ) (s : Status) (x : List ℕ) (p : Played) → ComesBy (TextDecides (GeneratedDecides n) bytes) s x p → IsUnread s
+gen-unread n bytes s x p h = text-unread n bytes h.0 s x p h.1 h.2

@@ -1,11 +1,11 @@
-use Rattle.std.proofs.Common.{◌≡◌, ℕ, List, [], ◌∷◌, sym, ap, ◌∙◌, subst, inl, inr, get_or}
+use Rattle.std.proofs.Common.{◌≡◌, ℕ, List, [], ◌∷◌, refl, sym, ap, ◌∙◌, subst, inl, inr, get_or}
 use Rattle.std.specs.Prelude.{string_bytes}
 use Rattle.std.specs.Global.{Global}
 use Rattle.std.specs.declared.string.String.{String}
 use Rattle.command_words.specs.declared.command.Command.{Command}
 use Rattle.command_words.specs.declared.command.Command.TheVariants as Do
 use Rattle.command_words.specs.declared.command.Options.{Options}
-use Rattle.command_words.specs.Words.{texts_of, IsCheck, IsLayout, IsPlay, Spells}
+use Rattle.command_words.specs.Words.{texts_of, IsCheck, IsLayout, IsPlay, IsGen, Spells}
 use Rattle.sddf_top.specs.Decisions.{NamesDescription}
 
 -- the words of a command are two at least
@@ -13,23 +13,26 @@ none-spelled : (c : Command) → Spells [] c → ⊥
 none-spelled Do.Check s = let e = s.1.words_are in cc
 none-spelled Do.Layout s = let e = s.1.words_are in cc
 none-spelled (Do.Play o) s = let e = s.2.words_are in cc
+none-spelled (Do.Gen n) s = let e = s.words_are in cc
 
 one-spelled : (w : List ℕ) (c : Command) → Spells (w ∷ []) c → ⊥
 one-spelled w Do.Check s = let e = s.1.words_are in cc
 one-spelled w Do.Layout s = let e = s.1.words_are in cc
 one-spelled w (Do.Play o) s = let e = s.2.words_are in cc
+one-spelled w (Do.Gen n) s = let e = s.words_are in cc
 
 -- the names in the words of a command
-pub second-named : (words : List (String Global)) (c : Command) (w : String Global) → Spells (texts_of words) c → w ≡ get_or words 1 w → NamesDescription (texts_of words) (string_bytes w)
-second-named [] c w s e = absurd (none-spelled c s)
-second-named (a ∷ []) c w s e = absurd (one-spelled (string_bytes a) c s)
-second-named (a ∷ b ∷ ws) Do.Check w s e =
+pub second-named : (words : List (String Global)) (c : Command) (w : String Global) → Spells (texts_of words) c → ((n : ℕ) → c ≡ Do.Gen n → ⊥) → w ≡ get_or words 1 w → NamesDescription (texts_of words) (string_bytes w)
+second-named [] c w s named e = absurd (none-spelled c s)
+second-named (a ∷ []) c w s named e = absurd (one-spelled (string_bytes a) c s)
+second-named (a ∷ b ∷ ws) Do.Check w s named e =
     let f = s.1.words_are in let d : s.0 ≡ string_bytes b = cc in
     inl (subst (λ x. IsCheck (texts_of (a ∷ b ∷ ws)) x) (d ∙ ap (λ (x : String Global). string_bytes x) (sym e)) s.1)
-second-named (a ∷ b ∷ ws) Do.Layout w s e =
+second-named (a ∷ b ∷ ws) Do.Layout w s named e =
     let f = s.1.words_are in let d : s.0 ≡ string_bytes b = cc in
     inr (inl (subst (λ x. IsLayout (texts_of (a ∷ b ∷ ws)) x) (d ∙ ap (λ (x : String Global). string_bytes x) (sym e)) s.1))
-second-named (a ∷ b ∷ ws) (Do.Play o) w s e =
+second-named (a ∷ b ∷ ws) (Do.Gen n) w s named e = absurd (named n refl)
+second-named (a ∷ b ∷ ws) (Do.Play o) w s named e =
     let f = s.2.words_are in let d : s.0 ≡ string_bytes b = cc in
     inr (inr (s.1, o, subst (λ x. IsPlay (texts_of (a ∷ b ∷ ws)) x s.1 o) (d ∙ ap (λ (x : String Global). string_bytes x) (sym e)) s.2))
 
@@ -41,3 +44,10 @@ third-named (a ∷ b ∷ []) desc trace o w p e = let f = p.words_are in cc
 third-named (a ∷ b ∷ c ∷ ws) desc trace o w p e =
     let f = p.words_are in let t : trace ≡ string_bytes c = cc in
     subst (λ x. IsPlay (texts_of (a ∷ b ∷ c ∷ ws)) desc x o) (t ∙ ap (λ (x : String Global). string_bytes x) (sym e)) p
+
+-- the words of `gen` spell no other command
+pub gen-alone : (words : List (List ℕ)) (n : ℕ) (c : Command) → IsGen words n → Spells words c → ((m : ℕ) → c ≡ Do.Gen m → ⊥) → ⊥
+gen-alone words n Do.Check g s named = let e = sym g.words_are ∙ s.1.words_are in cc
+gen-alone words n Do.Layout g s named = let e = sym g.words_are ∙ s.1.words_are in cc
+gen-alone words n (Do.Play o) g s named = let e = sym g.words_are ∙ s.2.words_are in cc
+gen-alone words n (Do.Gen m) g s named = named m refl

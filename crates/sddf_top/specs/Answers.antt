@@ -9,34 +9,34 @@ use Rattle.expect_core.specs.Budgets.{budget_of}
 use Rattle.system_core.specs.declared.system.System.{System}
 use Rattle.system_core.specs.PlanPlays.{IsPlayed}
 use Rattle.system_core.specs.Reports.{report_of}
-use Rattle.command_words.specs.declared.command.Options.{Options}
+use Rattle.sddf_top.specs.declared.showing.Showing.{Showing}
 use Rattle.sddf_top.specs.declared.status.Status.{Status}
 use Rattle.sddf_top.specs.declared.status.Status.TheVariants as Ended
 use Rattle.sddf_top.specs.declared.played.Played.{Played}
 use Rattle.sddf_top.specs.declared.played.Played.TheVariants as Was
 use Rattle.sddf_top.specs.Decisions.{Decision, Say, Play, Decides}
-use Rattle.sddf_top.specs.Shown.{limit_of, ending_of, shown_text}
+use Rattle.sddf_top.specs.Shown.{seed_of, limit_of, ending_of, shown_text}
 use Rattle.sddf_top.specs.Outside.{IsRead, appended, read_most}
 
 -- a trace was played on a plan: the system that was built and played, the status by whether it is
--- quiet, and the text of its report, with its journal where the options ask for it. Where it isn't
--- quiet all steps were made.
-pub record Shows (plan : Plan) (trace : Trace) (options : Options) (status : Status) (text : List ℕ)
+-- quiet, and the text of its report, with its journal where the options ask for it, or its summary.
+-- Where it isn't quiet all steps were made.
+pub record Shows (plan : Plan) (trace : Trace) (showing : Showing) (status : Status) (text : List ℕ)
     (played : Played) : Type 0 where
   pub system : System
   pub played_is : played ≡ Was.Classes system
-  pub plays : IsPlayed plan trace options.seed (limit_of plan trace options) system
-  pub spent : (report_of system).quiet ≡ false → length system.journal ≡ limit_of plan trace options
+  pub plays : IsPlayed plan trace (seed_of showing) (limit_of plan trace showing) system
+  pub spent : (report_of system).quiet ≡ false → length system.journal ≡ limit_of plan trace showing
   pub status_is : status ≡ ending_of (report_of system).quiet (report_of system).steps
-  pub bounded : budget_of plan trace ≤ limit_of plan trace options → status ≡ Ended.Ok
-  pub text_is : text ≡ shown_text (layout_of plan) options.journal (report_of system) system.journal
+  pub bounded : budget_of plan trace ≤ limit_of plan trace showing → status ≡ Ended.Ok
+  pub text_is : text ≡ shown_text (layout_of plan) showing (report_of system) system.journal
 
 -- the answer that a decision leads to: its status, the whole text that is written, and the system
 -- that was played
 abbrev pub Comes : Decision → Status → List ℕ → Played → Type 0
 Comes (Say status' text') status text played =
     (status ≡ status') × (text ≡ text') × (played ≡ Was.Nothing)
-Comes (Play plan trace options) status text played = Shows plan trace options status text played
+Comes (Play plan trace showing) status text played = Shows plan trace showing status text played
 
 -- an answer that comes by such a decision
 abbrev pub ComesBy : (Decision → Type 0) → Status → List ℕ → Played → Type 0
@@ -50,7 +50,7 @@ Answers reads words status text played = ComesBy (Decides reads words) status te
 -- the status that a decision leads to: a play gets quiet or spends its steps
 abbrev pub IsStatusOf : Decision → Status → Type 0
 IsStatusOf (Say status' text') status = status ≡ status'
-IsStatusOf (Play plan trace options) status =
+IsStatusOf (Play plan trace showing) status =
     (status ≡ Ended.Ok) ⊎ ((steps : ℕ) × (status ≡ Ended.Spent steps))
 
 -- the bytes that were read of a text, where a shelf tells some texts

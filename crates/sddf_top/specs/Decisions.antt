@@ -1,6 +1,5 @@
 -- What the words and the texts under their names decide, one constructor a cause.
 use Rattle.std.specs.Prelude.{◌≡◌, ◌⊎◌, ◌<◌, ◌≤◌, ℕ, Some, None, List, length}
-use Rattle.sdf_plan.specs.declared.place.Place.{Place}
 use Rattle.sdf_plan.specs.declared.place.Refusal.{Refusal}
 use Rattle.sdf_plan.specs.declared.plan.Plan.{Plan}
 use Rattle.trace_text.specs.declared.trace.Trace.{Trace}
@@ -9,10 +8,13 @@ use Rattle.region_layout.specs.Layouts.{layout_of}
 use Rattle.report_text.specs.Answers.{usage_text, refused_text, bad_trace_text, long_text, accepted_text}
 use Rattle.report_text.specs.Layouts.{layout_text}
 use Rattle.command_words.specs.declared.command.Options.{Options}
-use Rattle.command_words.specs.Words.{IsCheck, IsLayout, IsPlay, IsBadWord}
+use Rattle.command_words.specs.Words.{IsCheck, IsLayout, IsPlay, IsGen, IsBadWord}
+use Rattle.workload.specs.declared.description.TheConstants.{FULL_EXAMPLE}
+use Rattle.workload.specs.Generated.{generated_text}
+use Rattle.sddf_top.specs.declared.showing.Showing.{Showing}
+use Rattle.sddf_top.specs.declared.showing.Showing.TheVariants as Show
 use Rattle.sddf_top.specs.declared.status.Status.{Status}
 use Rattle.sddf_top.specs.declared.status.Status.TheVariants as Ended
-use Rattle.system_core.specs.Builds.{unplayed}
 use Rattle.sdf_model.specs.Counts.{text_most}
 use Rattle.sddf_top.specs.Judged.{IsAccepted, IsRefusedText}
 
@@ -20,7 +22,7 @@ use Rattle.sddf_top.specs.Judged.{IsAccepted, IsRefusedText}
 -- is played on a plan
 pub data Decision : Type 0 where
   Say : Status → List ℕ → Decision
-  Play : Plan → Trace → Options → Decision
+  Play : Plan → Trace → Showing → Decision
 
 -- a description is refused
 abbrev pub refuses : Refusal → Decision
@@ -30,42 +32,41 @@ refuses refusal = Say (Ended.Refused refusal.rule) (refused_text refusal)
 abbrev pub too_long : Decision
 too_long = Say Ended.TooLong long_text
 
--- what the bytes of a trace decide for a plan that can be played: it is too long, a line of it is
--- bad, or it is played
-pub data TraceDecides (plan : Plan) (options : Options) (bytes : List ℕ) : Decision → Type 0 where
-  long_trace : text_most < length bytes → TraceDecides plan options bytes too_long
+-- what the bytes of a trace decide for a plan: it is too long, a line of it is bad, or it is played
+pub data TraceDecides (plan : Plan) (showing : Showing) (bytes : List ℕ) : Decision → Type 0 where
+  long_trace : text_most < length bytes → TraceDecides plan showing bytes too_long
   bad_trace : (line : ℕ) → length bytes ≤ text_most → IsLeastBadLine plan bytes line
-      → TraceDecides plan options bytes (Say (Ended.BadTrace line) (bad_trace_text line))
+      → TraceDecides plan showing bytes (Say (Ended.BadTrace line) (bad_trace_text line))
   good_trace : length bytes ≤ text_most → HasNoBadLine plan bytes
-      → TraceDecides plan options bytes (Play plan (trace_of plan bytes) options)
+      → TraceDecides plan showing bytes (Play plan (trace_of plan bytes) showing)
 
--- what the words decide for the plan of a description that is accepted. To play it, no class may be
--- there that can't be played yet, where reads tells the bytes that were read of a text.
+-- what the words decide for the plan of a description that is accepted, where reads tells the bytes
+-- that were read of a text
 pub data PlanDecides (reads : List ℕ → List ℕ → Type 0) (words : List (List ℕ)) (plan : Plan)
     : Decision → Type 0 where
   checked : (desc : List ℕ) → IsCheck words desc
       → PlanDecides reads words plan (Say Ended.Ok (accepted_text plan))
   laid_out : (desc : List ℕ) → IsLayout words desc
       → PlanDecides reads words plan (Say Ended.Ok (layout_text plan (layout_of plan)))
-  not_played : (desc trace : List ℕ) (options : Options) (place : Place)
-      → IsPlay words desc trace options
-      → unplayed plan ≡ Some place
-      → PlanDecides reads words plan (refuses (record { rule = 0; place = place }))
   traced : (desc trace bytes : List ℕ) (options : Options) (decision : Decision)
       → IsPlay words desc trace options
-      → unplayed plan ≡ None → reads trace bytes → TraceDecides plan options bytes decision
+      → reads trace bytes → TraceDecides plan (Show.Report options) bytes decision
       → PlanDecides reads words plan decision
 
--- what the words and the bytes of a description decide: it is too long, it is refused, or it is
--- accepted
-pub data TextDecides (reads : List ℕ → List ℕ → Type 0) (words : List (List ℕ)) (bytes : List ℕ)
+-- what the bytes of a description decide: it is too long, it is refused, or it is accepted, and
+-- then its plan decides
+pub data TextDecides (decides : Plan → Decision → Type 0) (bytes : List ℕ)
     : Decision → Type 0 where
-  long_description : text_most < length bytes → TextDecides reads words bytes too_long
+  long_description : text_most < length bytes → TextDecides decides bytes too_long
   refused : (refusal : Refusal) → length bytes ≤ text_most → IsRefusedText bytes refusal
-      → TextDecides reads words bytes (refuses refusal)
+      → TextDecides decides bytes (refuses refusal)
   accepted : (plan : Plan) (decision : Decision) → length bytes ≤ text_most → IsAccepted bytes plan
-      → PlanDecides reads words plan decision
-      → TextDecides reads words bytes decision
+      → decides plan decision → TextDecides decides bytes decision
+
+-- what a generated trace decides for a plan: it is read as any other, and played with seed 0; the
+-- summary is shown
+abbrev pub GeneratedDecides : ℕ → Plan → Decision → Type 0
+GeneratedDecides n plan decision = TraceDecides plan Show.Summary (generated_text n) decision
 
 -- the words are a command on this description
 abbrev pub NamesDescription : List (List ℕ) → List ℕ → Type 0
@@ -80,5 +81,7 @@ pub data Decides (reads : List ℕ → List ℕ → Type 0) (words : List (List 
   no_command : (k : ℕ) → IsBadWord words k
       → Decides reads words (Say (Ended.Usage k) (usage_text k))
   described : (desc bytes : List ℕ) (decision : Decision) → NamesDescription words desc
-      → reads desc bytes → TextDecides reads words bytes decision
+      → reads desc bytes → TextDecides (PlanDecides reads words) bytes decision
       → Decides reads words decision
+  generated : (n : ℕ) (decision : Decision) → IsGen words n
+      → TextDecides (GeneratedDecides n) FULL_EXAMPLE.now decision → Decides reads words decision

@@ -2,7 +2,7 @@
 use Rattle.std.specs.Prelude.{◌≡◌, ◌≤◌, ◌<◌, ◌⊎◌, ℕ, Option, List, [], ◌++◌, length, take, drop, IfSome}
 use Rattle.std.specs.Option.{option_map}
 use Rattle.command_words.specs.declared.command.Options.{Options}
-use Rattle.command_words.specs.Words.{IsCheck, IsLayout, IsPlay}
+use Rattle.command_words.specs.Words.{IsCheck, IsLayout, IsPlay, IsGen}
 use Rattle.sddf_top.specs.declared.status.Status.{Status}
 use Rattle.sddf_top.specs.declared.status.Status.TheVariants as Ended
 use Rattle.sdf_model.specs.Counts.{text_most}
@@ -66,8 +66,7 @@ IsOfText told answers status =
 abbrev pub LeavesPlay : (List ℕ → Option (List ℕ)) → List ℕ → Option (List ℕ) → Option (List ℕ)
     → Status → Type 0
 LeavesPlay told trace old new status =
-    ((n : ℕ) × (status ≡ Ended.Refused n) × (new ≡ old))
-    ⊎ (Behind told trace new × IsOfText (told trace) IsOfPlay status)
+    Behind told trace new × IsOfText (told trace) IsOfPlay status
 
 -- the same of the words of a command whose description was read
 abbrev pub LeavesPlan : (List ℕ → Option (List ℕ)) → List (List ℕ) → Option (List ℕ)
@@ -84,13 +83,28 @@ LeavesText told words bytes old new status =
     ((text_most < length bytes) × (status ≡ Ended.TooLong) × (new ≡ old))
     ⊎ ((length bytes ≤ text_most) × LeavesPlan told words old new status)
 
--- which text was read last, and how far, where this is the answer to the words: none for bad words;
+-- an answer to a command that reads no text
+abbrev pub IsUnread : Status → Type 0
+IsUnread Ended.Ok = Unit {0}
+IsUnread (Ended.Spent s) = Unit {0}
+IsUnread (Ended.BadTrace l) = Unit {0}
+IsUnread (Ended.Refused n) = Unit {0}
+IsUnread Ended.TooLong = Unit {0}
+IsUnread (Ended.Usage k) = ⊥
+IsUnread Ended.ReadFault = ⊥
+IsUnread Ended.WriteFault = ⊥
+IsUnread (Ended.Memory memory) = ⊥
+
+-- which text was read last, and how far, where this is the answer to the words: none for bad words
+-- and for `gen`;
 -- the description where it is too long or refused, or the words ask for no play; else the trace. A
 -- text that is too long is the one that was read last, and the trace is read where the description
 -- is within the limit.
 pub data ReadLast (told : List ℕ → Option (List ℕ)) (words : List (List ℕ))
     (old new : Option (List ℕ)) (status : Status) : Type 0 where
   read_none : (k : ℕ) → status ≡ Ended.Usage k → new ≡ old → ReadLast told words old new status
+  read_no_text : (n : ℕ) → IsGen words n → IsUnread status → new ≡ old
+      → ReadLast told words old new status
   read_description : (desc : List ℕ) → NamesDescription words desc → Behind told desc new
       → IsOfText (told desc) (IsOfPlan words) status → ReadLast told words old new status
   read_trace : (desc trace : List ℕ) (options : Options) → IsPlay words desc trace options

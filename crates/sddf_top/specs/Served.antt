@@ -2,7 +2,7 @@
 use Rattle.std.specs.Prelude.{◌≡◌, ◌⊎◌, ◌<◌, ℕ, Option, List}
 use Rattle.cargo_core.specs.declared.memory.Memory.{Memory}
 use Rattle.command_words.specs.declared.command.Command.{Command}
-use Rattle.command_words.specs.Words.{Spells}
+use Rattle.command_words.specs.Words.{Spells, IsGen}
 use Rattle.sddf_top.specs.declared.status.Status.{Status}
 use Rattle.sddf_top.specs.declared.status.Status.TheVariants as Ended
 use Rattle.sddf_top.specs.declared.played.Played.{Played}
@@ -30,6 +30,8 @@ pub record IsServed {F K : Type 0} (text : F → List ℕ → Option (List ℕ))
   pub read_always : reads shelf < reads shelf' → status ≡ Ended.ReadFault
   pub read_command : status ≡ Ended.ReadFault → (command : Command) × Spells words command
   pub read_unwritten : status ≡ Ended.ReadFault → sink' ≡ sink
+  -- `gen` leaves the shelf as it is
+  pub unread : (n : ℕ) → IsGen words n → shelf' ≡ shelf
   -- a fault of writing
   pub write_fault : status ≡ Ended.WriteFault → Rose (writes sink) (writes sink')
   pub write_always : writes sink < writes sink' → status ≡ Ended.WriteFault

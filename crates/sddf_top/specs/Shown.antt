@@ -6,22 +6,35 @@ use Rattle.wire_core.specs.declared.names.Entry.{Entry}
 use Rattle.region_layout.specs.declared.layout.Layout.{Layout}
 use Rattle.expect_core.specs.declared.report.Report.{Report}
 use Rattle.expect_core.specs.Budgets.{budget_of}
-use Rattle.report_text.specs.Reports.{report_text}
+use Rattle.report_text.specs.Reports.{report_text, summary_text}
 use Rattle.report_text.specs.Journals.{journal_text}
-use Rattle.command_words.specs.declared.command.Options.{Options}
+use Rattle.sddf_top.specs.declared.showing.Showing.{Showing}
+use Rattle.sddf_top.specs.declared.showing.Showing.TheVariants as Show
 use Rattle.sddf_top.specs.declared.status.Status.{Status}
 use Rattle.sddf_top.specs.declared.status.Status.TheVariants as Ended
 
+-- the seed of the picks
+abbrev pub seed_of : Showing → ℕ
+seed_of (Show.Report options) = options.seed
+seed_of Show.Summary = 0
+
 -- how many steps a play may make: those that the words say, or those that are enough
-abbrev pub limit_of : Plan → Trace → Options → ℕ
-limit_of plan trace options = unwrap_or options.steps (budget_of plan trace)
+abbrev pub limit_of : Plan → Trace → Showing → ℕ
+limit_of plan trace (Show.Report options) = unwrap_or options.steps (budget_of plan trace)
+limit_of plan trace Show.Summary = budget_of plan trace
 
 -- how a play ended: quiet, or with so many steps
 abbrev pub ending_of : Bool → ℕ → Status
 ending_of true steps = Ended.Ok
 ending_of false steps = Ended.Spent steps
 
--- the text of a play: its report, and the journal behind it where it is asked for
-abbrev pub shown_text : Layout → Bool → Report → List Entry → List ℕ
-shown_text layout false report journal = report_text report
-shown_text layout true report journal = report_text report ++ journal_text layout journal
+-- a report, and the journal behind it where it is asked for
+abbrev pub told_text : Layout → Bool → Report → List Entry → List ℕ
+told_text layout false report journal = report_text report
+told_text layout true report journal = report_text report ++ journal_text layout journal
+
+-- the text of a play: its report, with the journal where it is asked for, or its summary
+abbrev pub shown_text : Layout → Showing → Report → List Entry → List ℕ
+shown_text layout (Show.Report options) report journal =
+    told_text layout options.journal report journal
+shown_text layout Show.Summary report journal = summary_text report

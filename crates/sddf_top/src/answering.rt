@@ -5,20 +5,20 @@ ghost use Rattle.sdf_plan.specs.declared.place.Refusal.{Refusal};
 ghost use Rattle.region_layout.specs.Layouts.{layout_of};
 ghost use Rattle.report_text.specs.Answers.{accepted_text, bad_trace_text};
 ghost use Rattle.report_text.specs.Layouts.{layout_text};
-ghost use Rattle.command_words.specs.Words.{texts_of, IsPlay, Spells, last_name};
+ghost use Rattle.command_words.specs.Words.{texts_of, IsPlay, IsGen, Spells, last_name};
+ghost use Rattle.workload.specs.Generated.{generated_text};
 ghost use Rattle.command_words.specs.declared.command.Command.{Command};
 ghost use Rattle.sddf_top.specs.Outside.{Rose};
-ghost use Rattle.system_core.specs.Builds.{unplayed};
 ghost use Rattle.sddf_top.specs.Judged.{IsAcceptedPlan};
 ghost use Rattle.sddf_top.specs.Outcomes.{Follows, FollowsBy};
-ghost use Rattle.sddf_top.specs.Decisions.{Say, Decides, TextDecides, PlanDecides, TraceDecides, refuses, too_long};
+ghost use Rattle.sddf_top.specs.Decisions.{Say, Decides, TextDecides, PlanDecides, TraceDecides, GeneratedDecides, refuses, too_long};
 ghost use Rattle.sddf_top.specs.Answers.{WasRead};
 ghost use Rattle.sddf_top.specs.Readings.{LeavesPlay, LeavesPlan, LeavesText, ReadLast};
 
 use crate::judging::judge;
 use crate::playing::play;
 use crate::reading::{ReadStop, read_text};
-use crate::{Played, Shelf, Status};
+use crate::{Played, Shelf, Showing, Status};
 use command_words::{Command, Options, read_words};
 use region_layout::lay_out;
 use report_text::{
@@ -27,8 +27,8 @@ use report_text::{
 use sdf_model::TEXT_MOST;
 use sdf_plan::{Plan, Refusal, SdfFault};
 use std::alloc::Global;
-use system_core::unplayed;
 use trace_text::{TraceFault, read_trace};
+use workload::{FULL_EXAMPLE, generate};
 
 /// An answer as a whole, before any of it is written.
 #[derive(Drop)]
@@ -125,24 +125,47 @@ fn answer_layout(alloc: Global, plan: &Plan) -> Result<Outcome, ReadStop>
     Ok(Outcome::of(Status::Ok, text))
 }
 
-/// The answer to `play` on a plan that can be played, by the bytes of the trace.
+/// The answer where a plan is played, by the bytes of the trace.
 fn answer_trace(
     alloc: Global,
     plan: &Plan,
-    options: Options,
+    showing: Showing,
     bytes: &[u8],
 ) -> Result<Outcome, ReadStop>
     requires accepted { IsAcceptedPlan plan.now }
-    requires played { unplayed plan.now ≡ None }
-    ensures answer { IfOk result (FollowsBy (TraceDecides plan.now options bytes.now)) }
+    ensures answer { IfOk result (FollowsBy (TraceDecides plan.now showing bytes.now)) }
     ensures unfailing { result ≡ Err ReadStop.Failed → ⊥ }
 {
     if bytes.len() > TEXT_MOST {
         return answer_too_long(alloc);
     }
     match read_trace(alloc, bytes, plan) {
-        Ok(trace) => play(alloc, plan, &trace, options),
+        Ok(trace) => play(alloc, plan, &trace, showing),
         Err(fault) => answer_unread(alloc, fault),
+    }
+}
+
+/// The answer to `gen` on the plan of its description.
+fn answer_generated(alloc: Global, plan: &Plan, number: u64) -> Result<Outcome, ReadStop>
+    requires { IsAcceptedPlan plan.now }
+    ensures answer { IfOk result (FollowsBy (GeneratedDecides number plan.now)) }
+    ensures unfailing { result ≡ Err ReadStop.Failed → ⊥ }
+{
+    let text = generate(alloc, number)?;
+    answer_trace(alloc, plan, Showing::Summary, text.as_bytes())
+}
+
+/// The answer to `gen`, by the bytes of its description.
+fn answer_gen(alloc: Global, desc: &[u8], number: u64) -> Result<Outcome, ReadStop>
+    ensures answer { IfOk result (FollowsBy (TextDecides (GeneratedDecides number) desc.now)) }
+    ensures unfailing { result ≡ Err ReadStop.Failed → ⊥ }
+{
+    if desc.len() > TEXT_MOST {
+        return answer_too_long(alloc);
+    }
+    match judge(alloc, desc) {
+        Ok(plan) => answer_generated(alloc, &plan, number),
+        Err(fault) => answer_unaccepted(alloc, fault),
     }
 }
 
@@ -166,11 +189,8 @@ fn answer_play<F: Shelf>(
     ensures starved { (memory : Memory) → result ≡ Err (ReadStop.Memory memory)
         → F.faults shelf.new ≡ F.faults shelf.old }
 {
-    if let Some(place) = unplayed(plan) {
-        return answer_refusal(alloc, Refusal { rule: 0, place });
-    }
     let bytes = read_text(alloc, shelf, trace)?;
-    answer_trace(alloc, plan, options, bytes.as_slice())
+    answer_trace(alloc, plan, Showing::Report(options), bytes.as_slice())
 }
 
 /// The answer to a command on a description that is accepted.
@@ -183,6 +203,7 @@ fn answer_plan<F: Shelf>(
 ) -> Result<Outcome, ReadStop>
     requires accepted { IsAcceptedPlan plan.now }
     requires spells { Spells (texts_of words.now) command }
+    requires named { (n : ℕ) → command ≡ Command.Gen n → ⊥ }
     ensures texts { (n : List ℕ) → F.text shelf.new n ≡ F.text shelf.old n }
     ensures answer { IfOk result (FollowsBy (PlanDecides (WasRead (F.text shelf.old))
         (texts_of words.now) plan.now)) }
@@ -197,6 +218,7 @@ fn answer_plan<F: Shelf>(
         Command::Check => answer_check(alloc, plan),
         Command::Layout => answer_layout(alloc, plan),
         Command::Play(options) => answer_play(alloc, shelf, plan, options, words[2].as_str()),
+        Command::Gen(_) => unreachable!(),
     }
 }
 
@@ -208,10 +230,11 @@ fn answer_text<F: Shelf>(
     command: Command,
     text: &[u8],
 ) -> Result<Outcome, ReadStop>
-    requires { Spells (texts_of words.now) command }
+    requires spells { Spells (texts_of words.now) command }
+    requires named { (n : ℕ) → command ≡ Command.Gen n → ⊥ }
     ensures texts { (n : List ℕ) → F.text shelf.new n ≡ F.text shelf.old n }
-    ensures answer { IfOk result (FollowsBy (TextDecides (WasRead (F.text shelf.old))
-        (texts_of words.now) text.now)) }
+    ensures answer { IfOk result (FollowsBy (TextDecides
+        (PlanDecides (WasRead (F.text shelf.old)) (texts_of words.now)) text.now)) }
     ensures last { IfOk result (λ r. LeavesText (F.text shelf.old) (texts_of words.now) text.now
         (F.left shelf.old) (F.left shelf.new) r.status) }
     ensures calm { OnOk result (F.faults shelf.new ≡ F.faults shelf.old) }
@@ -235,7 +258,8 @@ fn answer_command<F: Shelf>(
     words: &[String],
     command: Command,
 ) -> Result<Outcome, ReadStop>
-    requires { Spells (texts_of words.now) command }
+    requires spells { Spells (texts_of words.now) command }
+    requires named { (n : ℕ) → command ≡ Command.Gen n → ⊥ }
     ensures texts { (n : List ℕ) → F.text shelf.new n ≡ F.text shelf.old n }
     ensures answer { IfOk result (FollowsBy (Decides (WasRead (F.text shelf.old))
         (texts_of words.now))) }
@@ -267,8 +291,10 @@ pub fn answer_words<F: Shelf>(
         → F.faults shelf.new ≡ F.faults shelf.old }
     ensures command { result ≡ Err ReadStop.Failed
         → (command : Command) × Spells (texts_of words.now) command }
+    ensures unread { (n : ℕ) → IsGen (texts_of words.now) n → shelf.new ≡ shelf.old }
 {
     match read_words(words) {
+        Ok(Command::Gen(number)) => answer_gen(alloc, FULL_EXAMPLE.as_bytes(), number),
         Ok(command) => answer_command(alloc, shelf, words, command),
         Err(k) => {
             let text = write_usage(alloc, k)?;

@@ -1,19 +1,17 @@
 //! A trace is played on a plan, and what the system shows is made the answer.
 ghost use Rattle.std.specs.Prelude.{◌≡◌, None, Err, IfOk, OnErr, string_bytes};
 ghost use Rattle.trace_text.specs.Traces.{IsReadFor};
-ghost use Rattle.system_core.specs.Builds.{unplayed};
 ghost use Rattle.sddf_top.specs.Judged.{IsAcceptedPlan};
 ghost use Rattle.sddf_top.specs.Decisions.{Play};
-ghost use Rattle.sddf_top.specs.Shown.{limit_of, ending_of, shown_text};
+ghost use Rattle.sddf_top.specs.Shown.{seed_of, limit_of, ending_of, told_text, shown_text};
 ghost use Rattle.sddf_top.specs.Outcomes.{Follows};
 
 use crate::answering::Outcome;
-use crate::{Played, ReadStop, Status};
+use crate::{Played, ReadStop, Showing, Status};
 use cargo_core::Memory;
-use command_words::Options;
 use expect_core::{Report, budget};
 use region_layout::{Layout, lay_out};
-use report_text::{write_journal, write_report};
+use report_text::{write_journal, write_report, write_summary};
 use sdf_plan::Plan;
 use std::alloc::Global;
 use system_core::System;
@@ -21,14 +19,27 @@ use trace_text::Trace;
 use wire_core::Entry;
 
 /// How many steps a play may make: those that the words say, or those that are enough.
-fn limit_of(plan: &Plan, trace: &Trace, options: Options) -> u64
+fn limit_of(plan: &Plan, trace: &Trace, showing: Showing) -> u64
     requires accepted { IsAcceptedPlan plan.now }
     requires read { IsReadFor plan.now trace.now }
-    ensures { result ≡ limit_of plan.now trace.now options }
+    ensures { result ≡ limit_of plan.now trace.now showing }
 {
-    match options.steps {
-        Some(steps) => steps,
-        None => budget(plan, trace),
+    match showing {
+        Showing::Report(options) => match options.steps {
+            Some(steps) => steps,
+            None => budget(plan, trace),
+        },
+        Showing::Summary => budget(plan, trace),
+    }
+}
+
+/// The seed of the picks.
+fn seed_of(showing: Showing) -> u64
+    ensures { result ≡ seed_of showing }
+{
+    match showing {
+        Showing::Report(options) => options.seed,
+        Showing::Summary => 0,
     }
 }
 
@@ -43,8 +54,8 @@ fn ending_of(report: &Report) -> Status
     }
 }
 
-/// The text of a play: its report, and the journal behind it where it is asked for.
-fn shown_text(
+/// A report, and the journal behind it where it is asked for.
+fn told_text(
     alloc: Global,
     layout: &Layout,
     with_journal: bool,
@@ -52,7 +63,7 @@ fn shown_text(
     journal: &[Entry],
 ) -> Result<String, Memory>
     ensures { IfOk result (λ s. string_bytes s
-        ≡ shown_text layout.now with_journal report.now journal.now) }
+        ≡ told_text layout.now with_journal report.now journal.now) }
 {
     let mut text = write_report(alloc, report)?;
     if with_journal {
@@ -62,24 +73,40 @@ fn shown_text(
     Ok(text)
 }
 
+/// The text of a play: its report, with the journal where it is asked for, or its summary.
+fn shown_text(
+    alloc: Global,
+    layout: &Layout,
+    showing: Showing,
+    report: &Report,
+    journal: &[Entry],
+) -> Result<String, Memory>
+    ensures { IfOk result (λ s. string_bytes s
+        ≡ shown_text layout.now showing report.now journal.now) }
+{
+    match showing {
+        Showing::Report(options) => told_text(alloc, layout, options.journal, report, journal),
+        Showing::Summary => write_summary(alloc, report),
+    }
+}
+
 /// Plays a trace on a plan, and makes the answer of what the system shows.
 pub fn play(
     alloc: Global,
     plan: &Plan,
     trace: &Trace,
-    options: Options,
+    showing: Showing,
 ) -> Result<Outcome, ReadStop>
     requires accepted { IsAcceptedPlan plan.now }
-    requires played { unplayed plan.now ≡ None }
     requires read { IsReadFor plan.now trace.now }
-    ensures answer { IfOk result (Follows (Play plan.now trace.now options)) }
+    ensures answer { IfOk result (Follows (Play plan.now trace.now showing)) }
     ensures unfailing { result ≡ Err ReadStop.Failed → ⊥ }
 {
     let layout = lay_out(alloc, plan)?;
-    let limit = limit_of(plan, trace, options);
-    let (system, _) = System::played(alloc, plan, &layout, trace, options.seed, limit)?;
+    let limit = limit_of(plan, trace, showing);
+    let (system, _) = System::played(alloc, plan, &layout, trace, seed_of(showing), limit)?;
     let report = system.report()?;
-    let text = shown_text(alloc, &layout, options.journal, &report, system.journal())?;
+    let text = shown_text(alloc, &layout, showing, &report, system.journal())?;
     Ok(Outcome {
         status: ending_of(&report),
         text,

@@ -6,10 +6,10 @@ ghost use Rattle.sddf_top.specs.Answers.{Answers, Serves, WasRead};
 ghost use Rattle.sddf_top.specs.Served.{IsServed};
 
 use crate::answering::{Outcome, answer_words};
-use crate::gate::Gate;
 use crate::reading::ReadStop;
 use crate::writing::write_text;
 use crate::{Played, Shelf, Sink, Status};
+use pd_runner::Gate;
 use std::alloc::Global;
 use std::sync::Wait;
 use std::thread::Threads;

@@ -11,7 +11,7 @@ pub enum Status {
     Ok,
     /// The words are no command; the place of the first bad word, counted from 0.
     Usage(u32),
-    /// The description is refused; the number of the broken rule, 0 where it can't be played yet.
+    /// The description is refused; the number of the broken rule.
     Refused(u8),
     /// The trace is refused; the number of the bad line, counted from 1.
     BadTrace(u64),

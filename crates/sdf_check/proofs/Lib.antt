@@ -11,3 +11,5 @@ pub mod LoopLemmas
 pub mod NamedLemmas
 pub mod ValueLemmas
 pub mod BrokenLemmas
+pub mod KeyLemmas
+pub mod ClassLemmas

@@ -1,5 +1,5 @@
 -- The rules on the classes of a plan: roles, channels, maps, capacities, sizes, ids and counts.
-use Rattle.std.specs.Prelude.{◌≡◌, ◌≢◌, ℕ, ◌+◌, ◌*◌, ◌^◌, ◌<◌, ◌≤◌, ◌⊎◌, Bool, true, List, [], ◌∷◌, ◌++◌, length, map, Option, slice_get, codes, IsNone, IsSomeAnd, MatchBool}
+use Rattle.std.specs.Prelude.{◌≡◌, ◌≢◌, ℕ, ◌+◌, ◌*◌, ◌^◌, ◌<◌, ◌≤◌, ◌⊎◌, Bool, true, List, [], ◌∷◌, ◌++◌, length, map, take, Option, slice_get, codes, IsNone, IsSomeAnd, MatchBool}
 use Rattle.cargo_core.specs.Capacities.{IsCapacity}
 use Rattle.std.specs.List.{flat_map}
 use Rattle.std.specs.Option.{option_map_or, option_and_then}
@@ -26,10 +26,12 @@ use Rattle.class_table.specs.declared.uses.Grant.{Grant}
 use Rattle.class_table.specs.declared.uses.PoolUse.{PoolUse}
 use Rattle.class_table.specs.Rows.{Name}
 use Rattle.class_table.specs.Sizes.{queue_end, pool_bytes}
-use Rattle.class_table.specs.Table.{Element}
+use Rattle.class_table.specs.Names.{domains_of, regions_of}
+use Rattle.class_table.specs.Order.{elements_before}
+use Rattle.class_table.specs.Table.{Element, table_of}
 use Rattle.class_table.specs.Roles.{IsProgramOf}
 use Rattle.sdf_plan.specs.Elements.{OfDomain, OfNetClient, OfSerialClient, OfBlkClient}
-use Rattle.sdf_check.specs.Names.{StandsBefore, region_named, domain_named, net_regions, net_client_regions, serial_regions, serial_client_regions, blk_regions, blk_client_regions, net_domains, net_client_domains, serial_domains, serial_client_domains, blk_domains, blk_client_domains}
+use Rattle.sdf_check.specs.Names.{StandsBefore, region_named, domain_named}
 use Rattle.sdf_check.specs.Rules.{the_region, count_of}
 
 -- this holds of one of the elements of a list
@@ -74,49 +76,18 @@ abbrev pub blk_names : (Blk → List (List ℕ)) → (BlkClient → List (List �
 blk_names class client plan = option_map_or
     (λ blk. class blk ++ flat_map client blk.client) plan.blk []
 
--- the domains that class elements name, key by key in the order of the walk
+-- the domains, and the regions, that class elements name, element by element in the order of the
+-- table
 abbrev pub class_domains : Plan → List (List ℕ)
-class_domains plan =
-    net_names net_domains net_client_domains plan
-    ++ serial_names serial_domains serial_client_domains plan
-    ++ blk_names blk_domains blk_client_domains plan
+class_domains plan = flat_map domains_of (table_of plan)
 
--- how many of these keys stand before an element
-abbrev pub domains_before : Plan → Place → ℕ
-domains_before plan (At.NetClient c) = 3 + 2 * c
-domains_before plan At.Serial = length (net_names net_domains net_client_domains plan)
-domains_before plan (At.SerialClient c) =
-    length (net_names net_domains net_client_domains plan) + 3 + c
-domains_before plan At.Blk = length (net_names net_domains net_client_domains plan)
-    + length (serial_names serial_domains serial_client_domains plan)
-domains_before plan (At.BlkClient c) =
-    length (net_names net_domains net_client_domains plan)
-    + length (serial_names serial_domains serial_client_domains plan) + 2 + c
-domains_before plan _ = 0
-
--- the regions that class elements name, in the same way
 abbrev pub class_regions : Plan → List (List ℕ)
-class_regions plan =
-    net_names net_regions net_client_regions plan
-    ++ serial_names serial_regions serial_client_regions plan
-    ++ blk_names blk_regions blk_client_regions plan
+class_regions plan = flat_map regions_of (table_of plan)
 
-abbrev pub regions_before : Plan → Place → ℕ
-regions_before plan (At.NetClient c) = 3 + 5 * c
-regions_before plan At.Serial = length (net_names net_regions net_client_regions plan)
-regions_before plan (At.SerialClient c) =
-    length (net_names net_regions net_client_regions plan) + 2 + 2 * c
-regions_before plan At.Blk = length (net_names net_regions net_client_regions plan)
-    + length (serial_names serial_regions serial_client_regions plan)
-regions_before plan (At.BlkClient c) =
-    length (net_names net_regions net_client_regions plan)
-    + length (serial_names serial_regions serial_client_regions plan) + 2 + 2 * c
-regions_before plan _ = 0
-
--- one of these names, whose keys begin at a place of a list of names, stands there before its key
-abbrev pub RepeatsName : List (List ℕ) → ℕ → List (List ℕ) → Type 0
-RepeatsName all before names = (key : ℕ)
-    × IsSomeAnd (slice_get names key) (λ name. StandsBefore name all (before + key))
+-- one of these names is among those before, or stands at an earlier key
+abbrev pub RepeatsName : List (List ℕ) → List (List ℕ) → Type 0
+RepeatsName before names = (key : ℕ) × IsSomeAnd (slice_get names key)
+    (λ name. SomeOf (λ other. other ≡ name) (before ++ take key names))
 
 -- the domain that has this name
 abbrev pub the_domain : Plan → List ℕ → Option Domain
@@ -131,33 +102,17 @@ Plays plan r = IsSomeAnd (the_domain plan r.domain) (λ domain. IsProgramOf r.ro
 abbrev pub GivesWrongRole : Plan → Element → Type 0
 GivesWrongRole plan e = SomeOf (λ (r : RoleUse Name). ¬ Plays plan r) e.roles
 
--- a class element names a domain at a key, where an earlier key names it too
-abbrev pub NamesDomainAgain : Plan → Place → List (List ℕ) → Type 0
-NamesDomainAgain plan place names =
-    RepeatsName (class_domains plan) (domains_before plan place) names
+-- rule 21 too: an element gives a role to a domain that has one
+abbrev pub NamesDomainAgain : Plan → Element → Type 0
+NamesDomainAgain plan e =
+    RepeatsName (flat_map domains_of (elements_before plan e.place)) (domains_of e)
 
--- rule 21 too: a domain whose program isn't `idle` has no role, or a class element gives one to a
--- domain that has one
-abbrev pub LacksOrTakesRole : Plan → Place → Type 0
-LacksOrTakesRole plan (At.Domain d) =
+-- and a domain whose program isn't `idle` has no role
+abbrev pub LacksRole : Plan → Place → Type 0
+LacksRole plan (At.Domain d) =
     OfDomain plan d (λ domain. (domain.program ≢ codes "idle")
     × ¬ SomeOf (λ name. name ≡ domain.name) (class_domains plan))
-LacksOrTakesRole plan At.Net = IsSomeAnd plan.net
-    (λ net. NamesDomainAgain plan At.Net (net_domains net))
-LacksOrTakesRole plan (At.NetClient c) =
-    OfNetClient plan c (λ client. NamesDomainAgain plan (At.NetClient c)
-    (net_client_domains client))
-LacksOrTakesRole plan At.Serial = IsSomeAnd plan.serial
-    (λ serial. NamesDomainAgain plan At.Serial (serial_domains serial))
-LacksOrTakesRole plan (At.SerialClient c) =
-    OfSerialClient plan c (λ client. NamesDomainAgain plan (At.SerialClient c)
-    (serial_client_domains client))
-LacksOrTakesRole plan At.Blk = IsSomeAnd plan.blk
-    (λ blk. NamesDomainAgain plan At.Blk (blk_domains blk))
-LacksOrTakesRole plan (At.BlkClient c) =
-    OfBlkClient plan c (λ client. NamesDomainAgain plan (At.BlkClient c)
-    (blk_client_domains client))
-LacksOrTakesRole plan _ = ⊥
+LacksRole plan _ = ⊥
 
 -- a channel joins two domains, whichever end stands first
 abbrev pub Joins : List ℕ × List ℕ → Channel → Type 0
@@ -232,25 +187,10 @@ abbrev pub IsSharedWithStranger : Plan → Element → Type 0
 IsSharedWithStranger plan e = SomeOf (QueueHasStranger plan) e.queues
     ⊎ SomeOf (PoolHasStranger plan) e.pools
 
--- rule 24 too: a region that a class element names is named by an earlier key
-abbrev pub NamesRegionAgain : Plan → Place → Type 0
-NamesRegionAgain plan At.Net = IsSomeAnd plan.net
-    (λ net. RepeatsName (class_regions plan) (regions_before plan At.Net) (net_regions net))
-NamesRegionAgain plan (At.NetClient c) =
-    OfNetClient plan c (λ client. RepeatsName (class_regions plan)
-    (regions_before plan (At.NetClient c)) (net_client_regions client))
-NamesRegionAgain plan At.Serial =
-    IsSomeAnd plan.serial (λ serial. RepeatsName (class_regions plan)
-    (regions_before plan At.Serial) (serial_regions serial))
-NamesRegionAgain plan (At.SerialClient c) =
-    OfSerialClient plan c (λ client. RepeatsName (class_regions plan)
-    (regions_before plan (At.SerialClient c)) (serial_client_regions client))
-NamesRegionAgain plan At.Blk = IsSomeAnd plan.blk
-    (λ blk. RepeatsName (class_regions plan) (regions_before plan At.Blk) (blk_regions blk))
-NamesRegionAgain plan (At.BlkClient c) =
-    OfBlkClient plan c (λ client. RepeatsName (class_regions plan)
-    (regions_before plan (At.BlkClient c)) (blk_client_regions client))
-NamesRegionAgain plan _ = ⊥
+-- rule 24 too: an element names a region that is named already
+abbrev pub NamesRegionAgain : Plan → Element → Type 0
+NamesRegionAgain plan e =
+    RepeatsName (flat_map regions_of (elements_before plan e.place)) (regions_of e)
 
 -- rule 25: the capacity of a queue is none
 abbrev pub HasBadCapacity : Element → Type 0

@@ -1,4 +1,5 @@
--- The names of a plan: those of its regions and domains, and those that class elements name.
+-- The names of a plan: those of its regions and domains, and those that class elements name, told
+-- class by class. That these are the names of the rows of the table is a lemma.
 use Rattle.std.specs.Prelude.{◌≡◌, ℕ, ◌<◌, List, [], ◌∷◌, map, Option, Some, slice_get, bytes_eq, position}
 use Rattle.sdf_plan.specs.declared.plan.Plan.{Plan}
 use Rattle.sdf_plan.specs.declared.plan.Region.{Region}
@@ -39,13 +40,13 @@ abbrev pub StandsBefore : {T : Type 0} → T → List T → ℕ → Type 0
 StandsBefore value values at = (earlier : ℕ) × (earlier < at)
     × (slice_get values earlier ≡ Some value)
 
--- the regions that a class element names, by its keys in the order of the key table
+-- the regions that the elements of a class name, as proofs tell them one by one
 abbrev pub net_regions : Net → List (List ℕ)
-net_regions net = net.rx_region ∷ net.rx_queues ∷ net.tx_queues ∷ []
+net_regions net = net.rx_queues ∷ net.tx_queues ∷ net.rx_region ∷ []
 
 abbrev pub net_client_regions : NetClient → List (List ℕ)
-net_client_regions client = client.lease_queues ∷ client.rx_region ∷ client.rx_queues
-    ∷ client.tx_region ∷ client.tx_queues ∷ []
+net_client_regions client = client.lease_queues ∷ client.rx_queues ∷ client.tx_queues
+    ∷ client.rx_region ∷ client.tx_region ∷ []
 
 abbrev pub serial_regions : Serial → List (List ℕ)
 serial_regions serial = serial.rx_queues ∷ serial.tx_queues ∷ []
@@ -57,9 +58,9 @@ abbrev pub blk_regions : Blk → List (List ℕ)
 blk_regions blk = blk.queues ∷ blk.region ∷ []
 
 abbrev pub blk_client_regions : BlkClient → List (List ℕ)
-blk_client_regions client = client.region ∷ client.queues ∷ []
+blk_client_regions client = client.queues ∷ client.region ∷ []
 
--- the domains that a class element names
+-- and their domains
 abbrev pub net_domains : Net → List (List ℕ)
 net_domains net = net.driver ∷ net.rx_virt ∷ net.tx_virt ∷ []
 

@@ -7,10 +7,8 @@ use Rattle.sdf_plan.specs.declared.place.Place.TheVariants as At
 use Rattle.sdf_plan.specs.declared.plan.Plan.{Plan}
 use Rattle.class_table.specs.Shown.{AreClasses}
 use Rattle.sdf_check.specs.declared.judge.Tables.{Tables}
-use Rattle.std.specs.Prelude.{◌+◌}
-use Rattle.sdf_check.specs.Lookups.{FindsPlaces}
-use Rattle.sdf_check.specs.Names.{net_domains, net_client_domains, serial_domains, serial_client_domains, net_regions, net_client_regions, serial_regions, serial_client_regions}
-use Rattle.sdf_check.specs.ClassRules.{class_domains, class_regions, net_names, serial_names}
+use Rattle.class_table.specs.Names.{domains_of, regions_of}
+use Rattle.sdf_check.specs.Keys.{AreKeys}
 use Rattle.sdf_check.specs.Rules.{given_range}
 use Rattle.sdf_check.specs.Meetings.{IsFirstMeeting, AreFirstMaps}
 use Rattle.sdf_check.specs.Uses.{use_cmp, UsesUpTo}
@@ -32,15 +30,5 @@ pub record AreTables (tables : Tables) (plan : Plan) : Type 0 where
   pub given : IsFirstMeeting (map given_range plan.memory_region) tables.given
   pub maps : AreFirstMaps plan tables.maps
   pub uses : UsesUpTo (get use_cmp tables.uses) plan (length plan.channel) 0
-  pub domains : FindsPlaces tables.named_domains.places (class_domains plan)
-  pub domains_to_serial : tables.named_domains.to_serial
-      ≡ length (net_names net_domains net_client_domains plan)
-  pub domains_to_blk : tables.named_domains.to_blk
-      ≡ length (net_names net_domains net_client_domains plan)
-      + length (serial_names serial_domains serial_client_domains plan)
-  pub regions : FindsPlaces tables.named_regions.places (class_regions plan)
-  pub regions_to_serial : tables.named_regions.to_serial
-      ≡ length (net_names net_regions net_client_regions plan)
-  pub regions_to_blk : tables.named_regions.to_blk
-      ≡ length (net_names net_regions net_client_regions plan)
-      + length (serial_names serial_regions serial_client_regions plan)
+  pub domains : AreKeys tables.named_domains domains_of plan
+  pub regions : AreKeys tables.named_regions regions_of plan

@@ -8,7 +8,7 @@ use Rattle.sdf_plan.specs.declared.place.SdfFault.TheVariants as Fault
 use Rattle.sdf_plan.specs.declared.plan.Plan.{Plan}
 use Rattle.sdf_plan.specs.Elements.{outline_of}
 use Rattle.class_table.specs.Table.{Element, OfElement}
-use Rattle.sdf_check.specs.ClassRules.{UsesNoRegion, UsesNoDomain, LacksOrTakesRole, GivesWrongRole, LacksChannel, LacksRight, IsSharedWithStranger, NamesRegionAgain, HasBadCapacity, HasLowCapacity, LacksRoom, HasBadMac, HasBadPartition, IsPastLimit}
+use Rattle.sdf_check.specs.ClassRules.{UsesNoRegion, UsesNoDomain, LacksRole, GivesWrongRole, NamesDomainAgain, LacksChannel, LacksRight, IsSharedWithStranger, NamesRegionAgain, HasBadCapacity, HasLowCapacity, LacksRoom, HasBadMac, HasBadPartition, IsPastLimit}
 use Rattle.sdf_check.specs.Rules.{TakesName, IsPastLastDomain, HasPriorityTooHigh, HasPeriodTooShort, HasBadSize, HasBadPageSize, HasBadPhysAddr, MeetsGivenRange, NamesNoRegion, HasBadVaddr, MeetsMap, HasBadPerms, NamesNoDomain, HasIdTooHigh, TakesId, JoinsOneDomain}
 
 -- the first and the last rule that a plan is judged by
@@ -41,11 +41,10 @@ BreaksPlanRule plan rule place =
 
 abbrev pub BreaksClassRule : Plan → ℕ → Place → Type 0
 BreaksClassRule plan rule place =
-    MatchBool (rule == 21) (LacksOrTakesRole plan place) (
-    MatchBool (rule == 24) (NamesRegionAgain plan place) (
+    MatchBool (rule == 21) (LacksRole plan place) (
     MatchBool (rule == 28) (HasBadMac plan place) (
     MatchBool (rule == 29) (HasBadPartition plan place) (
-    MatchBool (rule == 30) (IsPastLimit plan place) ⊥))))
+    MatchBool (rule == 30) (IsPastLimit plan place) ⊥)))
 
 -- this rule is told of the place alone, and the element breaks it
 abbrev pub BreaksAtPlace : Plan → ℕ → Place → Type 0
@@ -57,10 +56,10 @@ abbrev pub BreaksByRows : Plan → ℕ → Element → Type 0
 BreaksByRows plan rule e =
     MatchBool (rule == 13) (UsesNoRegion plan e) (
     MatchBool (rule == 17) (UsesNoDomain plan e) (
-    MatchBool (rule == 21) (GivesWrongRole plan e) (
+    MatchBool (rule == 21) (GivesWrongRole plan e ⊎ NamesDomainAgain plan e) (
     MatchBool (rule == 22) (LacksChannel plan e) (
     MatchBool (rule == 23) (LacksRight plan e) (
-    MatchBool (rule == 24) (IsSharedWithStranger plan e) (
+    MatchBool (rule == 24) (IsSharedWithStranger plan e ⊎ NamesRegionAgain plan e) (
     MatchBool (rule == 25) (HasBadCapacity e) (
     MatchBool (rule == 26) (HasLowCapacity e) (
     MatchBool (rule == 27) (LacksRoom plan e) ⊥))))))))

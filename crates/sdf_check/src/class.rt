@@ -1,16 +1,14 @@
 //! The questions that the rules on classes share: of domains, channels, maps and strangers.
-ghost use Rattle.std.specs.Prelude.{◌≡◌, ◌↔◌, ◌<◌, ◌+◌, ◌^◌, ℕ, List, length, IsTrue, IsSomeAnd, Some, None, MatchOption};
-ghost use Rattle.sdf_check.specs.Names.{StandsBefore};
+ghost use Rattle.std.specs.Prelude.{◌≡◌, ◌↔◌, ◌<◌, ℕ, List, length, IsTrue, IsSomeAnd, Some, None, MatchOption};
 ghost use Rattle.sdf_plan.specs.declared.plan.Map.{Map};
 ghost use Rattle.sdf_check.specs.Lookups.{FindsPlaces, names_shown};
-ghost use Rattle.sdf_check.specs.ClassRules.{SomeOf, RepeatsName, the_domain, Joins, AreJoined, HasInterrupt, Grants, IsGranted, IsStranger, HasStranger, IsSmaller};
+ghost use Rattle.sdf_check.specs.ClassRules.{SomeOf, the_domain, Joins, AreJoined, HasInterrupt, Grants, IsGranted, IsStranger, HasStranger, IsSmaller};
 ghost use Rattle.class_table.specs.Roles.{IsProgramOf};
 
-use crate::judge::{Judge, at, is_same, nth};
+use crate::judge::{Judge, at, is_same};
 use crate::names::{Places, place_of};
 use crate::sizes::allow_use;
-use cargo_core::Text;
-use class_table::{Role, is_program_of};
+use class_table::{Role, is_program_of, nth};
 use sdf_plan::{Channel, Domain, Map};
 
 /// The domain that has a name.
@@ -21,30 +19,6 @@ fn the_domain<'b>(judge: &'b Judge<'_>, name: &str) -> Option<&'b Domain>
     match place_of(&judge.domains, name) {
         Some(at) => nth(&judge.plan.protection_domain, at),
         None => None,
-    }
-}
-
-/// Whether one of these names stands before its key, where the first has the key `before`.
-pub fn repeats_name(keys: &Places<'_>, before: u128, names: &[&Text]) -> bool
-    requires { before < 2 ^ 100 }
-    ensures { (all : List (List ℕ)) → FindsPlaces keys.now all
-        → (IsTrue result ↔ RepeatsName all before (names_shown names.now)) }
-{
-    for (key, name) in names.iter().enumerate() {
-        if stands_before_key(keys, *name, before + key as u128) {
-            return true;
-        }
-    }
-    false
-}
-
-fn stands_before_key(keys: &Places<'_>, name: &Text, key: u128) -> bool
-    ensures { (all : List (List ℕ)) → FindsPlaces keys.now all
-        → (IsTrue result ↔ StandsBefore name.now all key) }
-{
-    match place_of(keys, name.as_str()) {
-        Some(first) => (first as u128) < key,
-        None => false,
     }
 }
 
@@ -165,11 +139,11 @@ pub fn is_smaller(judge: &Judge<'_>, name: &str, size: u128) -> bool
 }
 
 /// Whether a name stands at a key.
-pub fn is_named(keys: &Places<'_>, name: &Text) -> bool
+pub fn is_named(keys: &Places<'_>, name: &str) -> bool
     ensures { (all : List (List ℕ)) → FindsPlaces keys.now all
         → (IsTrue result ↔ SomeOf (λ other. other ≡ name.now) all) }
 {
-    match place_of(keys, name.as_str()) {
+    match place_of(keys, name) {
         Some(_) => true,
         None => false,
     }

@@ -10,7 +10,7 @@ use crate::names::{Places, place_of};
 use crate::numbers::{are_permissions, ends_above, is_multiple, is_page_size};
 use crate::uses::Uses;
 use cargo_core::Series;
-use class_table::Classes;
+use class_table::{Classes, nth};
 use sdf_plan::{Place, Plan, Region};
 
 /// What is found out once about a plan: its classes, its ranges and its ids.
@@ -45,18 +45,6 @@ pub fn at<T>(items: &Series<T>, number: u32) -> Option<&T>
         (λ item. slice_get items.now number ≡ Some item.now) }
 {
     nth(items, number as usize)
-}
-
-/// The element at a place of a list.
-pub fn nth<T>(items: &Series<T>, at: usize) -> Option<&T>
-    ensures { MatchOption result (slice_get items.now at ≡ None)
-        (λ item. slice_get items.now at ≡ Some item.now) }
-{
-    if at < items.len() {
-        Some(items.get(at))
-    } else {
-        None
-    }
 }
 
 /// Whether two texts are equal.

@@ -1,9 +1,10 @@
 //! Judging a plan: the least rule that is broken, and the first element that breaks it.
-ghost use Rattle.std.specs.Prelude.{◌≡◌, ◌↔◌, ℕ, MatchOption, MatchResult, IsTrue, Ok, IfOk, OnOk};
+ghost use Rattle.std.specs.Prelude.{◌≡◌, ◌↔◌, ℕ, MatchOption, MatchResult, IsTrue, Ok, Some, IfOk, OnOk, slice_get};
 ghost use Rattle.std.specs.BTreeMap.{get};
 ghost use Rattle.sdf_plan.specs.Places.{walk, IsKept, IsFirstBroken};
-ghost use Rattle.class_table.specs.Shown.{element_shown, AreClasses};
-ghost use Rattle.class_table.specs.Table.{OfElement};
+ghost use Rattle.class_table.specs.Order.{number_of};
+ghost use Rattle.class_table.specs.Shown.{element_shown};
+ghost use Rattle.class_table.specs.Table.{OfElement, table_of};
 ghost use Rattle.sdf_plan.specs.Elements.{outline_of, IsNumbered};
 ghost use Rattle.sdf_check.specs.Priors.{OrPrior, AreTables};
 ghost use Rattle.sdf_check.specs.Valid.{Valid, IsRefused, IfRefused, broken, BreaksAtPlace, BreaksPlanRule, BreaksClassRule, BreaksByRows};
@@ -11,18 +12,18 @@ ghost use Rattle.sdf_check.specs.Valid.{Valid, IsRefused, IfRefused, broken, Bre
 use crate::class_ids::{has_bad_mac, has_bad_partition};
 use crate::counts::is_past_limit;
 use crate::judge::{Judge, Tables};
-use crate::keys::{domain_keys, region_keys};
+use crate::keys::{Named, keys_of};
 use crate::names::{domains_by_name, regions_by_name};
-use crate::repeats::{lacks_or_takes_role, names_region_again};
+use crate::repeats::{gives_bad_role, lacks_role, shares_region};
 use crate::rows::{
-    gives_wrong_role, has_bad_capacity, has_low_capacity, is_shared_with_stranger, lacks_channel,
-    lacks_right, lacks_room, uses_no_domain, uses_no_region,
+    has_bad_capacity, has_low_capacity, lacks_channel, lacks_right, lacks_room, uses_no_domain,
+    uses_no_region,
 };
 use crate::sought::{meets_given_range, meets_map, takes_id};
 use crate::tables::{first_given, first_maps};
 use crate::uses::uses_of;
 use cargo_core::{Memory, Series};
-use class_table::{ClassElement, Classes, classes_of};
+use class_table::{ClassElement, classes_of};
 use sdf_plan::{Place, Plan, Refusal, SdfFault, places_of};
 use std::alloc::Global;
 
@@ -50,8 +51,8 @@ fn tables_of<'a>(alloc: Global, judge: &Judge<'a>) -> Result<Tables<'a>, Memory>
     let given = first_given(alloc, judge.plan.memory_region.as_slice())?;
     let maps = Series::from_vec(first_maps(alloc, judge)?);
     let uses = uses_of(alloc, judge.plan, &judge.domains)?;
-    let named_domains = domain_keys(alloc, judge.plan)?;
-    let named_regions = region_keys(alloc, judge.plan)?;
+    let named_domains = keys_of(alloc, &classes, Named::Domains)?;
+    let named_regions = keys_of(alloc, &classes, Named::Regions)?;
     Ok(Tables {
         classes,
         given,
@@ -96,8 +97,7 @@ fn breaks_class_rule(judge: &Judge<'_>, tables: &Tables<'_>, rule: u8, place: Pl
     ensures { IsTrue result ↔ BreaksClassRule judge.now.plan.now rule place }
 {
     match rule {
-        21 => lacks_or_takes_role(judge, tables, place),
-        24 => names_region_again(judge, tables, place),
+        21 => lacks_role(judge, tables, place),
         28 => has_bad_mac(judge, place),
         29 => has_bad_partition(judge, place),
         30 => is_past_limit(judge, place),
@@ -120,16 +120,24 @@ fn breaks_at_place(judge: &Judge<'_>, tables: &Tables<'_>, rule: u8, place: Plac
 }
 
 // Whether the rows of an element of a class break a rule.
-fn breaks_by_rows(judge: &Judge<'_>, rule: u8, element: &ClassElement<&str>) -> bool
+fn breaks_by_rows(
+    judge: &Judge<'_>,
+    tables: &Tables<'_>,
+    rule: u8,
+    element: &ClassElement<&str>,
+) -> bool
+    requires tables { AreTables tables.now judge.now.plan.now }
+    requires stands { slice_get (table_of judge.now.plan.now)
+        (number_of judge.now.plan.now element.now.place) ≡ Some (element_shown element.now) }
     ensures { IsTrue result ↔ BreaksByRows judge.now.plan.now rule (element_shown element.now) }
 {
     match rule {
         13 => uses_no_region(judge, element),
         17 => uses_no_domain(judge, element),
-        21 => gives_wrong_role(judge, element),
+        21 => gives_bad_role(judge, tables, element),
         22 => lacks_channel(judge, element),
         23 => lacks_right(judge, element),
-        24 => is_shared_with_stranger(judge, element),
+        24 => shares_region(judge, tables, element),
         25 => has_bad_capacity(element),
         26 => has_low_capacity(element),
         27 => lacks_room(judge, element),
@@ -138,13 +146,13 @@ fn breaks_by_rows(judge: &Judge<'_>, rule: u8, element: &ClassElement<&str>) -> 
 }
 
 // Whether an element of a class stands at a place, and its rows break a rule.
-fn element_breaks(judge: &Judge<'_>, classes: &Classes<'_>, rule: u8, place: Place) -> bool
-    requires { AreClasses classes.now judge.now.plan.now }
+fn element_breaks(judge: &Judge<'_>, tables: &Tables<'_>, rule: u8, place: Place) -> bool
+    requires { AreTables tables.now judge.now.plan.now }
     ensures { IsTrue result ↔ OfElement judge.now.plan.now place
         (BreaksByRows judge.now.plan.now rule) }
 {
-    match classes.at(place) {
-        Some(element) => breaks_by_rows(judge, rule, element),
+    match tables.classes.at(place) {
+        Some(element) => breaks_by_rows(judge, tables, rule, element),
         None => false,
     }
 }
@@ -156,8 +164,7 @@ fn breaks(judge: &Judge<'_>, tables: &Tables<'_>, rule: u8, place: Place) -> boo
     ensures complete { broken judge.now.plan.now rule place → IsTrue result }
     ensures sound { IsTrue result → OrPrior (broken judge.now.plan.now rule) place }
 {
-    breaks_at_place(judge, tables, rule, place)
-        || element_breaks(judge, &tables.classes, rule, place)
+    breaks_at_place(judge, tables, rule, place) || element_breaks(judge, tables, rule, place)
 }
 
 // The first place that breaks a rule.

@@ -1,215 +1,168 @@
-//! The domains and the regions that class elements name, key by key in the order of the walk.
-ghost use Rattle.std.specs.Prelude.{◌≡◌, ◌+◌, ◌++◌, ◌∷◌, List, ℕ, [], length, map, IfOk, OnOk};
-ghost use Rattle.std.specs.List.{flat_map};
-ghost use Rattle.sdf_check.specs.Lookups.{FindsPlaces};
-ghost use Rattle.sdf_check.specs.Names.{net_domains, net_client_domains, serial_domains, serial_client_domains, blk_domains, blk_client_domains, net_regions, net_client_regions, serial_regions, serial_client_regions, blk_regions, blk_client_regions};
-ghost use Rattle.sdf_check.specs.ClassRules.{class_domains, class_regions, net_names, serial_names, blk_names};
-ghost use Rattle.sdf_check.specs.Lookups.{names_shown};
+//! The domains and the regions that class elements name, element by element in the order of the
+//! table: where each name stands first, and which elements name one again.
+ghost use Rattle.std.specs.Prelude.{◌≡◌, ◌↔◌, ◌⊎◌, ◌++◌, ◌∷◌, [], List, ℕ, true, Some, map, slice_get, IsTrue, IfOk, OnOk};
+ghost use Rattle.sdf_plan.specs.declared.plan.Plan.{Plan};
+ghost use Rattle.class_table.specs.Names.{domains_of, regions_of, queue_region, pool_region};
+ghost use Rattle.class_table.specs.Order.{number_of};
+ghost use Rattle.class_table.specs.Shown.{AreClasses, element_shown, pool_shown, queue_shown};
+ghost use Rattle.class_table.specs.Table.{table_of, Element};
+ghost use Rattle.class_table.specs.Rows.{Name};
+ghost use Rattle.sdf_check.specs.ClassRules.{RepeatsName, SomeOf};
+ghost use Rattle.sdf_check.specs.Keys.{AreKeys, names_of};
+ghost use Rattle.sdf_check.specs.Lookups.{FindsPlaces, names_shown};
 
-use crate::names::{Places, places_by_name};
-use cargo_core::Memory;
-use sdf_plan::{Blk, Net, Plan, Serial};
+use crate::class::is_named;
+use crate::names::{Places, note};
+use cargo_core::{Memory, Series};
+use class_table::{ClassElement, Classes, Ends, PoolUse, QueueUse};
 use std::alloc::Global;
+use std::collections::BTreeMap;
 
-/// The names that class elements have at their keys, in the order of the walk: for each name its
-/// first key, counted from 0, and how many keys stand before the serial and the block class.
+/// Which names of an element are asked for.
+#[derive(Clone, Copy)]
+pub enum Named {
+    Domains,
+    Regions,
+}
+
+/// The names that class elements have at their keys, in the order of the table: for each name its
+/// first key, counted from 0, and for each element whether a name of it stands before its key.
 #[derive(Drop)]
 pub struct Keys<'a> {
     pub places: Places<'a>,
-    pub to_serial: usize,
-    pub to_blk: usize,
+    pub again: Series<bool>,
 }
 
-fn push_net_domains<'a>(names: &mut Vec<&'a str>, net: &'a Net) -> Result<(), Memory>
-    ensures { OnOk result (names_shown names.new.items
-        ≡ names_shown names.old.items ++ (net_domains net.now
-        ++ flat_map net_client_domains net.now.client)) }
-{
-    names.extend_from_slice(&[
-        net.driver.as_str(),
-        net.rx_virt.as_str(),
-        net.tx_virt.as_str(),
-    ])?;
-    for client in net.client.as_slice() {
-        names.extend_from_slice(&[client.pd.as_str(), client.copier.as_str()])?;
-    }
-    Ok(())
-}
-
-fn push_serial_domains<'a>(names: &mut Vec<&'a str>, serial: &'a Serial) -> Result<(), Memory>
-    ensures { OnOk result (names_shown names.new.items
-        ≡ names_shown names.old.items ++ (serial_domains serial.now
-        ++ flat_map serial_client_domains serial.now.client)) }
-{
-    names.extend_from_slice(&[
-        serial.driver.as_str(),
-        serial.rx_virt.as_str(),
-        serial.tx_virt.as_str(),
-    ])?;
-    for client in serial.client.as_slice() {
-        names.extend_from_slice(&[client.pd.as_str()])?;
-    }
-    Ok(())
-}
-
-fn push_blk_domains<'a>(names: &mut Vec<&'a str>, blk: &'a Blk) -> Result<(), Memory>
-    ensures { OnOk result (names_shown names.new.items
-        ≡ names_shown names.old.items ++ (blk_domains blk.now
-        ++ flat_map blk_client_domains blk.now.client)) }
-{
-    names.extend_from_slice(&[blk.driver.as_str(), blk.virt.as_str()])?;
-    for client in blk.client.as_slice() {
-        names.extend_from_slice(&[client.pd.as_str()])?;
-    }
-    Ok(())
-}
-
-/// The domains that class elements name.
-pub fn domain_keys<'a>(alloc: Global, plan: &'a Plan) -> Result<Keys<'a>, Memory>
-    ensures { IfOk result (λ keys. FindsPlaces keys.places (class_domains plan.now)
-        × (keys.to_serial ≡ length (net_names net_domains net_client_domains plan.now))
-        × (keys.to_blk ≡ length (net_names net_domains net_client_domains plan.now)
-        + length (serial_names serial_domains serial_client_domains plan.now))) }
+fn domains<'a>(alloc: Global, element: &ClassElement<&'a str>) -> Result<Vec<&'a str>, Memory>
+    ensures { IfOk result (λ names. names_shown names.items
+        ≡ domains_of (element_shown element.now)) }
 {
     let mut names = Vec::new(alloc);
-    push_all_net_domains(&mut names, plan)?;
-    let to_serial = names.len();
-    push_all_serial_domains(&mut names, plan)?;
-    let to_blk = names.len();
-    push_all_blk_domains(&mut names, plan)?;
-    let places = places_by_name(alloc, &names)?;
-    Ok(Keys {
-        places,
-        to_serial,
-        to_blk,
-    })
+    for role in element.roles.as_slice() {
+        names.push(role.domain)?;
+    }
+    Ok(names)
 }
 
-fn push_all_net_domains<'a>(names: &mut Vec<&'a str>, plan: &'a Plan) -> Result<(), Memory>
+// The region of a queue that stands first in one.
+fn push_first<'a>(names: &mut Vec<&'a str>, queue: &QueueUse<&'a str>) -> Result<(), Memory>
     ensures { OnOk result (names_shown names.new.items
-        ≡ names_shown names.old.items ++ net_names net_domains net_client_domains plan.now) }
+        ≡ names_shown names.old.items ++ queue_region (queue_shown queue.now)) }
 {
-    if let Some(net) = &plan.net {
-        push_net_domains(names, net)?;
+    if let Ends::Across(link) = queue.ends {
+        if queue.behind.is_none() {
+            names.push(link.region)?;
+        }
     }
     Ok(())
 }
 
-fn push_all_serial_domains<'a>(names: &mut Vec<&'a str>, plan: &'a Plan) -> Result<(), Memory>
+fn push_pools<'a>(names: &mut Vec<&'a str>, pools: &[PoolUse<&'a str>]) -> Result<(), Memory>
     ensures { OnOk result (names_shown names.new.items
-        ≡ names_shown names.old.items
-        ++ serial_names serial_domains serial_client_domains plan.now) }
+        ≡ names_shown names.old.items ++ map pool_region (map pool_shown pools.now)) }
 {
-    if let Some(serial) = &plan.serial {
-        push_serial_domains(names, serial)?;
+    for pool in pools {
+        names.push(pool.region)?;
     }
     Ok(())
 }
 
-fn push_all_blk_domains<'a>(names: &mut Vec<&'a str>, plan: &'a Plan) -> Result<(), Memory>
-    ensures { OnOk result (names_shown names.new.items
-        ≡ names_shown names.old.items ++ blk_names blk_domains blk_client_domains plan.now) }
-{
-    if let Some(blk) = &plan.blk {
-        push_blk_domains(names, blk)?;
-    }
-    Ok(())
-}
-
-fn push_net_regions<'a>(names: &mut Vec<&'a str>, net: &'a Net) -> Result<(), Memory>
-    ensures { OnOk result (names_shown names.new.items
-        ≡ names_shown names.old.items ++ (net_regions net.now
-        ++ flat_map net_client_regions net.now.client)) }
-{
-    names.extend_from_slice(&[
-        net.rx_region.as_str(),
-        net.rx_queues.as_str(),
-        net.tx_queues.as_str(),
-    ])?;
-    for client in net.client.as_slice() {
-        names.extend_from_slice(&[
-            client.lease_queues.as_str(),
-            client.rx_region.as_str(),
-            client.rx_queues.as_str(),
-            client.tx_region.as_str(),
-            client.tx_queues.as_str(),
-        ])?;
-    }
-    Ok(())
-}
-
-fn push_serial_regions<'a>(names: &mut Vec<&'a str>, serial: &'a Serial) -> Result<(), Memory>
-    ensures { OnOk result (names_shown names.new.items
-        ≡ names_shown names.old.items ++ (serial_regions serial.now
-        ++ flat_map serial_client_regions serial.now.client)) }
-{
-    names.extend_from_slice(&[serial.rx_queues.as_str(), serial.tx_queues.as_str()])?;
-    for client in serial.client.as_slice() {
-        names.extend_from_slice(&[client.rx_queues.as_str(), client.tx_queues.as_str()])?;
-    }
-    Ok(())
-}
-
-fn push_blk_regions<'a>(names: &mut Vec<&'a str>, blk: &'a Blk) -> Result<(), Memory>
-    ensures { OnOk result (names_shown names.new.items
-        ≡ names_shown names.old.items ++ (blk_regions blk.now
-        ++ flat_map blk_client_regions blk.now.client)) }
-{
-    names.extend_from_slice(&[blk.queues.as_str(), blk.region.as_str()])?;
-    for client in blk.client.as_slice() {
-        names.extend_from_slice(&[client.region.as_str(), client.queues.as_str()])?;
-    }
-    Ok(())
-}
-
-/// The regions that class elements name.
-pub fn region_keys<'a>(alloc: Global, plan: &'a Plan) -> Result<Keys<'a>, Memory>
-    ensures { IfOk result (λ keys. FindsPlaces keys.places (class_regions plan.now)
-        × (keys.to_serial ≡ length (net_names net_regions net_client_regions plan.now))
-        × (keys.to_blk ≡ length (net_names net_regions net_client_regions plan.now)
-        + length (serial_names serial_regions serial_client_regions plan.now))) }
+fn regions<'a>(alloc: Global, element: &ClassElement<&'a str>) -> Result<Vec<&'a str>, Memory>
+    ensures { IfOk result (λ names. names_shown names.items
+        ≡ regions_of (element_shown element.now)) }
 {
     let mut names = Vec::new(alloc);
-    push_all_net_regions(&mut names, plan)?;
-    let to_serial = names.len();
-    push_all_serial_regions(&mut names, plan)?;
-    let to_blk = names.len();
-    push_all_blk_regions(&mut names, plan)?;
-    let places = places_by_name(alloc, &names)?;
-    Ok(Keys {
-        places,
-        to_serial,
-        to_blk,
-    })
+    for queue in element.queues.as_slice() {
+        push_first(&mut names, queue)?;
+    }
+    push_pools(&mut names, element.pools.as_slice())?;
+    Ok(names)
 }
 
-fn push_all_net_regions<'a>(names: &mut Vec<&'a str>, plan: &'a Plan) -> Result<(), Memory>
-    ensures { OnOk result (names_shown names.new.items
-        ≡ names_shown names.old.items ++ net_names net_regions net_client_regions plan.now) }
+fn names_of<'a>(
+    alloc: Global,
+    element: &ClassElement<&'a str>,
+    named: Named,
+) -> Result<Vec<&'a str>, Memory>
+    ensures { IfOk result (λ names. names_shown names.items
+        ≡ names_of named (element_shown element.now)) }
 {
-    if let Some(net) = &plan.net {
-        push_net_regions(names, net)?;
+    match named {
+        Named::Domains => domains(alloc, element),
+        Named::Regions => regions(alloc, element),
     }
-    Ok(())
 }
 
-fn push_all_serial_regions<'a>(names: &mut Vec<&'a str>, plan: &'a Plan) -> Result<(), Memory>
-    ensures { OnOk result (names_shown names.new.items
-        ≡ names_shown names.old.items
-        ++ serial_names serial_regions serial_client_regions plan.now) }
+// Notes the next of all names, and answers whether it was there before.
+fn note_next<'a>(
+    places: &mut Places<'a>,
+    all: &mut Vec<&'a str>,
+    name: &'a str,
+) -> Result<bool, Memory>
+    ensures { IfOk result (λ again. FindsPlaces places.old (names_shown all.old.items)
+        → FindsPlaces places.new (names_shown all.new.items)
+        × (names_shown all.new.items ≡ names_shown all.old.items ++ name.now ∷ [])
+        × (IsTrue again ↔ SomeOf (λ other. other ≡ name.now) (names_shown all.old.items))) }
 {
-    if let Some(serial) = &plan.serial {
-        push_serial_regions(names, serial)?;
-    }
-    Ok(())
+    let again = is_named(places, name);
+    note(places, name, all.len())?;
+    all.push(name)?;
+    Ok(again)
 }
 
-fn push_all_blk_regions<'a>(names: &mut Vec<&'a str>, plan: &'a Plan) -> Result<(), Memory>
-    ensures { OnOk result (names_shown names.new.items
-        ≡ names_shown names.old.items ++ blk_names blk_regions blk_client_regions plan.now) }
+fn either(first: bool, second: bool) -> bool
+    ensures { IsTrue result ↔ (IsTrue first ⊎ IsTrue second) }
 {
-    if let Some(blk) = &plan.blk {
-        push_blk_regions(names, blk)?;
+    first || second
+}
+
+// Notes the names of an element, and answers whether one was there before its key.
+fn note_names<'a>(
+    places: &mut Places<'a>,
+    all: &mut Vec<&'a str>,
+    names: &[&'a str],
+) -> Result<bool, Memory>
+    ensures { IfOk result (λ again. FindsPlaces places.old (names_shown all.old.items)
+        → FindsPlaces places.new (names_shown all.new.items)
+        × (names_shown all.new.items ≡ names_shown all.old.items ++ names_shown names.now)
+        × (IsTrue again ↔ RepeatsName (names_shown all.old.items) (names_shown names.now))) }
+{
+    let mut again = false;
+    for name in names {
+        again = either(again, note_next(places, all, *name)?);
     }
-    Ok(())
+    Ok(again)
+}
+
+/// The names that are asked for, of all elements.
+pub fn keys_of<'a>(alloc: Global, classes: &Classes<'a>, named: Named) -> Result<Keys<'a>, Memory>
+    ensures { IfOk result (λ keys. (plan : Plan) → AreClasses classes.now plan
+        → AreKeys keys (names_of named) plan) }
+{
+    let elements = classes.in_order(alloc)?;
+    let mut places = BTreeMap::new(alloc);
+    let mut all = Vec::new(alloc);
+    let mut again = Vec::new(alloc);
+    for at in 0..elements.len() {
+        let names = names_of(alloc, elements[at], named)?;
+        again.push(note_names(&mut places, &mut all, &names)?)?;
+    }
+    let again = Series::from_vec(again);
+    Ok(Keys { places, again })
+}
+
+// Whether a flag is set.
+fn is_set(flags: &[bool], number: u128) -> bool
+    ensures { IsTrue result ↔ (slice_get flags.now number ≡ Some true) }
+{
+    number < flags.len() as u128 && flags[number as usize]
+}
+
+/// Whether an element names again what an element before it, or an earlier key of its own, names.
+pub fn names_again(keys: &Keys<'_>, classes: &Classes<'_>, element: &ClassElement<&str>) -> bool
+    ensures { (plan : Plan) → AreClasses classes.now plan
+        → IsTrue result ↔ (slice_get keys.now.again (number_of plan element.now.place)
+        ≡ Some true) }
+{
+    is_set(keys.again.as_slice(), classes.number(element.place))
 }

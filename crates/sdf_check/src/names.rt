@@ -1,6 +1,6 @@
 //! The places of regions and domains by their names: of equal names, the first counts.
 ghost use Rattle.std.specs.Prelude.{◌≡◌, ◌∷◌, ◌++◌, List, [], ℕ, length, map, IfOk, OnOk, Option};
-ghost use Rattle.sdf_check.specs.Lookups.{FindsPlaces, names_shown};
+ghost use Rattle.sdf_check.specs.Lookups.{FindsPlaces};
 ghost use Rattle.sdf_check.specs.Names.{place_of, region_names_of, domain_names_of};
 
 use cargo_core::Memory;
@@ -11,8 +11,8 @@ use std::collections::BTreeMap;
 /// For each name the place of the first element that has it.
 pub type Places<'a> = BTreeMap<&'a str, usize>;
 
-// Notes the next name, whose place is `at`.
-fn note<'a>(places: &mut Places<'a>, name: &'a str, at: usize) -> Result<(), Memory>
+/// Notes the next name, whose place is `at`.
+pub fn note<'a>(places: &mut Places<'a>, name: &'a str, at: usize) -> Result<(), Memory>
     ensures { OnOk result ((names : List (List ℕ)) → length names ≡ at
         → FindsPlaces places.old names → FindsPlaces places.new (names ++ name.now ∷ [])) }
 {
@@ -50,15 +50,4 @@ pub fn place_of(places: &Places<'_>, name: &str) -> Option<usize>
         → result ≡ place_of name.now names }
 {
     places.get(name).copied()
-}
-
-/// The places of names in a list of them.
-pub fn places_by_name<'a>(alloc: Global, names: &[&'a str]) -> Result<Places<'a>, Memory>
-    ensures { IfOk result (λ places. FindsPlaces places (names_shown names.now)) }
-{
-    let mut places = BTreeMap::new(alloc);
-    for (at, name) in names.iter().enumerate() {
-        note(&mut places, *name, at)?;
-    }
-    Ok(places)
 }

@@ -8,10 +8,11 @@ ghost use Rattle.sdf_check.specs.Names.{StandsBefore};
 ghost use Rattle.sdf_check.specs.Priors.{OrPrior, AreTables};
 ghost use Rattle.sdf_check.specs.Rules.{MeetsGivenRange, MeetsMap, TakesId, InterruptHas};
 
-use crate::judge::{Judge, Tables, at, nth};
+use crate::judge::{Judge, Tables, at};
 use crate::names::place_of;
 use crate::uses::{Uses, is_used_before};
 use cargo_core::Series;
+use class_table::nth;
 use sdf_plan::{Irq, Place};
 
 // Whether the first place that was found is this one or before it.

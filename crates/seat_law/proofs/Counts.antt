@@ -1,5 +1,5 @@
 -- How many queues each class has.
-use Rattle.std.proofs.Common.{◌≡◌, ⊎_elim, ◌+◌, ◌*◌, ◌<◌, ◌≤◌, ◌++◌, ℕ, suc, Option, Some, None, List, [], ◌∷◌, length, length-append, refl, sym, ap, arith}
+use Rattle.std.proofs.Common.{◌≡◌, ⊎_elim, ◌+◌, ◌*◌, ◌<◌, ◌≤◌, ◌++◌, ℕ, suc, Option, Some, None, List, [], ◌∷◌, length, length-append, refl, sym, arith}
 use Rattle.std.specs.Option.{option_map_or}
 use Rattle.std.proofs.lemmas.Bool.{cases_lt}
 use Rattle.sdf_plan.specs.declared.place.Place.TheVariants as At
@@ -9,12 +9,13 @@ use Rattle.sdf_plan.specs.declared.plan.Serial.{Serial}
 use Rattle.sdf_plan.specs.declared.plan.Blk.{Blk}
 use Rattle.sdf_check.specs.Valid.{Valid}
 use Rattle.region_layout.proofs.NameLemmas.{few_actors}
-use Rattle.region_layout.proofs.ValidLemmas.{net_counts, serial_counts}
+use Rattle.region_layout.proofs.ValidLemmas.{net_counts, serial_counts, blk_counts}
 use Rattle.region_layout.proofs.WalkLemmas.{kept, domain_walked}
 use Rattle.region_layout.specs.Rows.{each_client, queue_pair, eth_rx_queues, eth_tx_queues, net_rx_queues, net_tx_queues, lease_queues, client_rx_queues, client_tx_queues, net_client_queues, net_queues, queues_of, actors_of}
-use Rattle.job_law.specs.Queues.{net_client_owners, net_owners, serial_client_owners, serial_owners, blk_owners}
+use Rattle.job_law.specs.Jobs.{BlkVirtualiser, BlkClient}
+use Rattle.job_law.specs.Queues.{both_ways, net_client_owners, net_owners, serial_client_owners, serial_owners, blk_owners}
 use Rattle.job_law.proofs.Owning.{owners_long}
-use Rattle.seat_law.specs.Ends.{serial_first}
+use Rattle.seat_law.specs.Ends.{serial_first, blk_first}
 
 -- how many rows there are where each client has so many
 pub each_count : {C T : Type 0} (rows : ℕ → C → List T) (many : ℕ) (times : ℕ → ℕ) → times 0 ≡ 0 → ((n : ℕ) → times (suc n) ≡ many + times n) → ((c : ℕ) (x : C) → length (rows c x) ≡ many) → (from : ℕ) (clients : List C)
@@ -61,9 +62,27 @@ queues_before plan = go plan.net
     go None = refl
     go (Some net) = queue_count plan net
 
+blk_owner_count : (blk : Blk) → length (blk_owners blk) ≡ 4 + 2 * length blk.client
+blk_owner_count blk =
+    let each : length (each_client (λ c client. both_ways (BlkClient c) BlkVirtualiser) 0 blk.client) ≡ 2 * length blk.client = each_count (λ c client. both_ways (BlkClient c) BlkVirtualiser) 2 (λ n. 2 * n) (omega arith) (λ n. omega arith) (λ c x. refl) 0 blk.client in
+    let four : length (blk_owners blk) ≡ suc (suc (suc (suc (length (each_client (λ c client. both_ways (BlkClient c) BlkVirtualiser) 0 blk.client))))) = refl in
+    omega (arith, each, four)
+
+asked_after : (o : Option Blk) → length (option_map_or blk_owners o []) ≡ option_map_or (λ (blk : Blk). 4 + 2 * length blk.client) o 0
+asked_after None = refl
+asked_after (Some blk) = blk_owner_count blk
+
 speakers_after : (o : Option Serial) → length (option_map_or serial_owners o []) ≡ option_map_or (λ (serial : Serial). 4 + 2 * length serial.client) o 0
 speakers_after None = refl
 speakers_after (Some serial) = serial_owner_count serial
+
+-- the queues of the network and of the serial class stand before those of the block class
+pub all_before : (plan : Plan) → length (option_map_or net_owners plan.net [] ++ option_map_or serial_owners plan.serial []) ≡ blk_first plan
+all_before plan =
+    let two = length-append (option_map_or net_owners plan.net []) (option_map_or serial_owners plan.serial []) in
+    let front = owners_before plan in
+    let back = speakers_after plan.serial in
+    omega (arith, two, front, back)
 
 module _ (plan : Plan) (valid : Valid plan) where
   few_net : (o : Option Net) → plan.net ≡ o → option_map_or (λ (net : Net). 8 + 6 * length net.client) o 0 ≤ 56
@@ -74,13 +93,18 @@ module _ (plan : Plan) (valid : Valid plan) where
   few_serial None is = omega arith
   few_serial (Some serial) is = let few = (serial_counts plan serial valid is).1 in omega (arith, few)
 
+  few_blk : (o : Option Blk) → plan.blk ≡ o → option_map_or (λ (blk : Blk). 4 + 2 * length blk.client) o 0 ≤ 20
+  few_blk None is = omega arith
+  few_blk (Some blk) is = let few = (blk_counts plan blk valid is).1 in omega (arith, few)
+
   -- queues and actors have numbers of 16 bits
-  pub few_queues : plan.blk ≡ None → length (queues_of plan) ≤ 65536
-  few_queues none =
+  pub few_queues : length (queues_of plan) ≤ 65536
+  few_queues =
       let n = option_map_or net_owners plan.net [] in
       let s = option_map_or serial_owners plan.serial [] in
       let b = option_map_or blk_owners plan.blk [] in
-      let nothing : length b ≡ 0 = ap (λ (o : Option Blk). length (option_map_or blk_owners o [])) none in
+      let asked = asked_after plan.blk in
+      let fewest = few_blk plan.blk refl in
       let two = length-append n s in
       let all = length-append (n ++ s) b in
       let front = owners_before plan in
@@ -88,7 +112,7 @@ module _ (plan : Plan) (valid : Valid plan) where
       let long = owners_long plan in
       let few = few_net plan.net refl in
       let fewer = few_serial plan.serial refl in
-      omega (arith, nothing, two, all, front, back, long, few, fewer)
+      omega (arith, asked, fewest, two, all, front, back, long, few, fewer)
 
   pub few_numbers : length (actors_of plan) ≤ 65536
   few_numbers = let few = few_actors plan domains_few in omega (arith, few)

@@ -3,10 +3,11 @@ use Rattle.std.proofs.Common.{◌≡◌, ◌+◌, Some, refl, subst, arith}
 use Rattle.sdf_plan.specs.declared.plan.Plan.{Plan}
 use Rattle.sdf_plan.specs.declared.plan.Net.{Net}
 use Rattle.sdf_plan.specs.declared.plan.Serial.{Serial}
-use Rattle.job_law.specs.Jobs.{NetCopier, NetClient, SerialClient, HasJob, post}
-use Rattle.job_law.proofs.Owning.{net_client, eth, driver, receiver, sender, uart, uart_driver, serial_receiver, serial_sender, serial_client}
+use Rattle.sdf_plan.specs.declared.plan.Blk.{Blk}
+use Rattle.job_law.specs.Jobs.{NetCopier, NetClient, SerialClient, BlkClient, HasJob, post}
+use Rattle.job_law.proofs.Owning.{net_client, eth, driver, receiver, sender, uart, uart_driver, serial_receiver, serial_sender, serial_client, disk, disk_driver, virtualiser, blk_client}
 use Rattle.region_layout.specs.Rows.{actor_named}
-use Rattle.seat_law.specs.Named.{AreNetNamed, AreSerialNamed}
+use Rattle.seat_law.specs.Named.{AreNetNamed, AreSerialNamed, AreBlkNamed}
 
 pub net_named : (plan : Plan) (net : Net) → plan.net ≡ Some net → AreNetNamed plan net
 net_named plan net is = record {
@@ -25,4 +26,12 @@ serial_named plan serial is = record {
   receiver = serial_receiver plan serial is;
   sender = serial_sender plan serial is;
   client = λ c client at. let z : 0 + c ≡ c = omega arith in subst (λ k. HasJob plan (SerialClient k) (actor_named plan client.pd).0) z (serial_client plan serial is c client at);
+}
+
+pub blk_named : (plan : Plan) (blk : Blk) → plan.blk ≡ Some blk → AreBlkNamed plan blk
+blk_named plan blk is = record {
+  device = disk plan blk is;
+  driver = disk_driver plan blk is;
+  virtualiser = virtualiser plan blk is;
+  client = λ c client at. let z : 0 + c ≡ c = omega arith in subst (λ k. HasJob plan (BlkClient k) (actor_named plan client.pd).0) z (blk_client plan blk is c client at);
 }

@@ -1,19 +1,20 @@
 -- The two owners of each queue have its ends.
-use Rattle.std.proofs.Common.{◌≡◌, ◌+◌, ◌-◌, ◌*◌, ◌<◌, ◌≤◌, ◌++◌, ℕ, zero, suc, Option, Some, None, inl, inr, List, [], ◌∷◌, length, slice_get, refl, sym, ap, subst, arith}
+use Rattle.std.proofs.Common.{◌≡◌, ◌+◌, ◌-◌, ◌*◌, ◌<◌, ◌≤◌, ◌++◌, ℕ, zero, suc, Option, Some, None, inl, inr, List, [], ◌∷◌, length, slice_get, refl, sym, subst, arith}
 use Rattle.std.specs.Option.{option_map_or}
 use Rattle.sdf_plan.specs.declared.plan.Plan.{Plan}
 use Rattle.sdf_plan.specs.declared.plan.Net.{Net}
 use Rattle.sdf_plan.specs.declared.plan.Serial.{Serial}
+use Rattle.sdf_plan.specs.declared.plan.Blk.{Blk}
 use Rattle.sdf_check.proofs.ListLemmas.{get-left, get-right, get-either}
 use Rattle.region_layout.specs.Rows.{each_client}
 use Rattle.play_core.specs.Moved.{Seat}
 use Rattle.play_core.specs.Wants.{intake, outlet}
 use Rattle.play_core.proofs.Lists.{some_is}
-use Rattle.job_law.specs.Jobs.{EthDevice, EthDriver, NetReceiver, NetSender, NetCopier, UartDevice, UartDriver, SerialReceiver, SerialSender, SerialClient}
+use Rattle.job_law.specs.Jobs.{EthDevice, EthDriver, NetReceiver, NetSender, NetCopier, UartDevice, UartDriver, SerialReceiver, SerialSender, SerialClient, DiskDevice, DiskDriver, BlkVirtualiser, BlkClient}
 use Rattle.job_law.specs.Queues.{Owners, one_way, both_ways, net_client_owners, net_owners, serial_client_owners, serial_owners, blk_owners, owners_of}
-use Rattle.seat_law.specs.Ends.{net_count, serial_count, serial_first, client_queue, ends_from, lease_ends, send_ends, given_end, said_end, job_ends}
+use Rattle.seat_law.specs.Ends.{net_count, serial_count, blk_count, serial_first, blk_first, ask_ends, client_queue, ends_from, lease_ends, send_ends, given_end, said_end, job_ends}
 use Rattle.seat_law.proofs.Having.{count_is}
-use Rattle.seat_law.proofs.Counts.{owners_before}
+use Rattle.seat_law.proofs.Counts.{owners_before, all_before}
 
 -- an end is among these
 abbrev pub IsAmong : List Seat → Seat → Type 0
@@ -135,19 +136,56 @@ module _ (plan : Plan) where
       (tells_each serial_client_owners (λ k. first + 4 + 2 * k) (λ k. omega arith) 0 serial.client
       (λ c lt. serial_client_tells c (let many = count_is plan.serial (λ (n : Serial). length n.client) serial is in omega (arith, lt, many)))))
 
+  -- a block client's queues
+  module _ (c : ℕ) (there : c < blk_count plan) where
+    abbrev at_disk : ℕ
+    at_disk = blk_first plan
+
+    takes : IsAmong (job_ends plan BlkVirtualiser) (intake (at_disk + 4 + 2 * (0 + c)))
+    takes = among_later (intake (at_disk + 3)) (outlet (at_disk + 2) ∷ ends_from (ask_ends at_disk) 0 (blk_count plan)) (intake (at_disk + 4 + 2 * (0 + c))) (among_later (outlet (at_disk + 2)) (ends_from (ask_ends at_disk) 0 (blk_count plan)) (intake (at_disk + 4 + 2 * (0 + c))) (among_each (ask_ends at_disk) 0 (blk_count plan) c (intake (at_disk + 4 + 2 * (0 + c))) there (0, refl)))
+
+    answers : IsAmong (job_ends plan BlkVirtualiser) (outlet (at_disk + 5 + 2 * (0 + c)))
+    answers = among_later (intake (at_disk + 3)) (outlet (at_disk + 2) ∷ ends_from (ask_ends at_disk) 0 (blk_count plan)) (outlet (at_disk + 5 + 2 * (0 + c))) (among_later (outlet (at_disk + 2)) (ends_from (ask_ends at_disk) 0 (blk_count plan)) (outlet (at_disk + 5 + 2 * (0 + c))) (among_each (ask_ends at_disk) 0 (blk_count plan) c (outlet (at_disk + 5 + 2 * (0 + c))) there (1, refl)))
+
+    blk_client_tells : TellsFrom (at_disk + 4 + 2 * (0 + c)) (both_ways (BlkClient (0 + c)) BlkVirtualiser)
+    blk_client_tells zero o at = subst (TellsAt (at_disk + 4 + 2 * (0 + c) + 0)) (some_is at) (at_number (at_disk + 4 + 2 * (0 + c) + 0) (at_disk + 4 + 2 * (0 + c)) (one_way (BlkClient (0 + c)) BlkVirtualiser) (omega arith) ((1, refl), takes))
+    blk_client_tells (suc zero) o at = subst (TellsAt (at_disk + 4 + 2 * (0 + c) + 1)) (some_is at) (at_number (at_disk + 4 + 2 * (0 + c) + 1) (at_disk + 5 + 2 * (0 + c)) (one_way BlkVirtualiser (BlkClient (0 + c))) (omega arith) (answers, (0, refl)))
+    blk_client_tells (suc (suc i)) o at = absurd cc
+
+  -- those of the block class
+  abbrev blk_front : List Owners
+  blk_front = both_ways DiskDriver DiskDevice ++ both_ways BlkVirtualiser DiskDriver
+
+  blk_front_tells : TellsFrom (blk_first plan) blk_front
+  blk_front_tells zero o at = subst (TellsAt (blk_first plan + 0)) (some_is at) (at_number (blk_first plan + 0) (blk_first plan) (one_way DiskDriver DiskDevice) (omega arith) ((1, refl), (0, refl)))
+  blk_front_tells (suc zero) o at = subst (TellsAt (blk_first plan + 1)) (some_is at) ((1, refl), (2, refl))
+  blk_front_tells (suc (suc zero)) o at = subst (TellsAt (blk_first plan + 2)) (some_is at) ((1, refl), (0, refl))
+  blk_front_tells (suc (suc (suc zero))) o at = subst (TellsAt (blk_first plan + 3)) (some_is at) ((3, refl), (0, refl))
+  blk_front_tells (suc (suc (suc (suc i)))) o at = absurd cc
+
+  blk_tells : (blk : Blk) → plan.blk ≡ Some blk → TellsFrom (blk_first plan) (blk_owners blk)
+  blk_tells blk is =
+      let none : blk_first plan + 4 ≡ blk_first plan + 4 + 2 * 0 = omega arith in
+      let each = each_client (λ c client. both_ways (BlkClient c) BlkVirtualiser) 0 blk.client in
+      tells_append (blk_first plan) blk_front each blk_front_tells
+      (subst (λ n. TellsFrom n each) (sym none)
+      (tells_each (λ c. both_ways (BlkClient c) BlkVirtualiser) (λ k. blk_first plan + 4 + 2 * k) (λ k. omega arith) 0 blk.client
+      (λ c lt. blk_client_tells c (let many = count_is plan.blk (λ (n : Blk). length n.client) blk is in omega (arith, lt, many)))))
+
   tells_class : {C : Type 0} (n : ℕ) (owners : C → List Owners) (class : Option C) → ((x : C) → class ≡ Some x → TellsFrom n (owners x)) → TellsFrom n (option_map_or owners class [])
   tells_class n owners None h = λ i o at. absurd cc
   tells_class n owners (Some x) h = h x refl
 
-  pub all_tell : plan.blk ≡ None → (n : ℕ) (o : Owners) → slice_get (owners_of plan) n ≡ Some o → TellsAt n o
-  all_tell none n o at =
+  pub all_tell : (n : ℕ) (o : Owners) → slice_get (owners_of plan) n ≡ Some o → TellsAt n o
+  all_tell n o at =
       let net = option_map_or net_owners plan.net [] in
       let serial = option_map_or serial_owners plan.serial [] in
       let blk = option_map_or blk_owners plan.blk [] in
       let zero_first : 0 + n ≡ n = omega arith in
       let before : 0 + length net ≡ 0 + first = (let b = owners_before plan in omega (arith, b)) in
+      let behind : 0 + length (net ++ serial) ≡ blk_first plan = (let b = all_before plan in omega (arith, b)) in
       subst (λ k. TellsAt k o) zero_first
       (tells_append 0 (net ++ serial) blk
       (tells_append 0 net serial (tells_class 0 net_owners plan.net net_tells)
       (subst (λ k. TellsFrom k serial) (sym before) (tells_class (0 + first) serial_owners plan.serial (λ x is. let e : first ≡ 0 + first = omega arith in subst (λ k. TellsFrom k (serial_owners x)) e (serial_tells x is)))))
-      (subst (λ (os : List Owners). TellsFrom (0 + length (net ++ serial)) os) (sym (ap (λ b. option_map_or blk_owners b []) none)) (λ i x there. absurd cc)) n o at)
+      (subst (λ k. TellsFrom k blk) (sym behind) (tells_class (blk_first plan) blk_owners plan.blk blk_tells)) n o at)

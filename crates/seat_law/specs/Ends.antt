@@ -1,9 +1,11 @@
 -- The ends of queues that each job has in the layout, told by the queues' numbers: those of the
--- network class are the first, and those of the serial class follow.
-use Rattle.std.specs.Prelude.{◌≡◌, ◌+◌, ◌*◌, ◌<◌, ℕ, zero, suc, Some, List, [], ◌∷◌, ◌++◌, length}
+-- network class are the first, those of the serial class follow, and those of the block class are
+-- the last.
+use Rattle.std.specs.Prelude.{◌≡◌, ◌==◌, ◌+◌, ◌*◌, ◌<◌, ℕ, zero, suc, if◌then◌else◌, Some, List, [], ◌∷◌, ◌++◌, length}
 use Rattle.std.specs.Option.{option_map_or}
 use Rattle.cargo_core.specs.declared.item.QueueKind.{QueueKind}
 use Rattle.cargo_core.specs.declared.item.QueueKind.TheVariants as Kind
+use Rattle.wire_core.specs.Ends.{Role, Consumer, Producer}
 use Rattle.sdf_plan.specs.declared.plan.Plan.{Plan}
 use Rattle.sdf_plan.specs.declared.plan.Net.{Net}
 use Rattle.sdf_plan.specs.declared.plan.Serial.{Serial}
@@ -75,6 +77,11 @@ send_ends k = intake (client_queue k + 4) ∷ outlet (client_queue k + 5) ∷ []
 abbrev pub serial_first : Plan → ℕ
 serial_first plan = option_map_or (λ (net : Net). client_queue (length net.client)) plan.net 0
 
+-- the number of the first queue of the block class
+abbrev pub blk_first : Plan → ℕ
+blk_first plan = serial_first plan
+    + option_map_or (λ (serial : Serial). 4 + 2 * length serial.client) plan.serial 0
+
 -- the end that the receiving virtualiser of a serial class with this first queue has at the queues of
 -- a client
 abbrev pub given_end : ℕ → ℕ → List Seat
@@ -84,7 +91,11 @@ given_end first k = outlet (first + 4 + 2 * k) ∷ []
 abbrev pub said_end : ℕ → ℕ → List Seat
 said_end first k = intake (first + 5 + 2 * k) ∷ []
 
--- the ends of each job of the network class and of the serial class; none of one of the block class
+-- the ends that the virtualiser of a block class with this first queue has at the queues of a client
+abbrev pub ask_ends : ℕ → ℕ → List Seat
+ask_ends first k = intake (first + 4 + 2 * k) ∷ outlet (first + 5 + 2 * k) ∷ []
+
+-- the ends of each job
 abbrev pub job_ends : Plan → Job → List Seat
 job_ends plan EthDevice = intake 0 ∷ outlet 1 ∷ intake 2 ∷ outlet 3 ∷ []
 job_ends plan EthDriver = intake 5 ∷ outlet 0 ∷ intake 1 ∷ outlet 4 ∷ intake 6 ∷ outlet 2
@@ -104,26 +115,36 @@ job_ends plan SerialSender = outlet (serial_first plan + 3)
     ∷ ends_from (said_end (serial_first plan)) 0 (serial_count plan)
 job_ends plan (SerialClient c) = intake (serial_first plan + 4 + 2 * c)
     ∷ outlet (serial_first plan + 5 + 2 * c) ∷ []
-job_ends plan DiskDevice = []
-job_ends plan DiskDriver = []
-job_ends plan BlkVirtualiser = []
-job_ends plan (BlkClient c) = []
+job_ends plan DiskDevice = intake (blk_first plan) ∷ outlet (blk_first plan + 1) ∷ []
+job_ends plan DiskDriver = intake (blk_first plan + 2) ∷ outlet (blk_first plan)
+    ∷ intake (blk_first plan + 1) ∷ outlet (blk_first plan + 3) ∷ []
+job_ends plan BlkVirtualiser = intake (blk_first plan + 3) ∷ outlet (blk_first plan + 2)
+    ∷ ends_from (ask_ends (blk_first plan)) 0 (blk_count plan)
+job_ends plan (BlkClient c) = intake (blk_first plan + 5 + 2 * c)
+    ∷ outlet (blk_first plan + 4 + 2 * c) ∷ []
 
--- what the queues of a job carry, where it isn't one of the block class: bytes, or entries of the
--- network
-abbrev pub job_kind : Job → QueueKind
-job_kind EthDevice = Kind.Net
-job_kind EthDriver = Kind.Net
-job_kind NetReceiver = Kind.Net
-job_kind NetSender = Kind.Net
-job_kind (NetCopier c) = Kind.Net
-job_kind (NetClient c) = Kind.Net
-job_kind UartDevice = Kind.Byte
-job_kind UartDriver = Kind.Byte
-job_kind SerialReceiver = Kind.Byte
-job_kind SerialSender = Kind.Byte
-job_kind (SerialClient c) = Kind.Byte
-job_kind DiskDevice = Kind.Req
-job_kind DiskDriver = Kind.Req
-job_kind BlkVirtualiser = Kind.Req
-job_kind (BlkClient c) = Kind.Req
+-- what the queue of a number carries to, or from, a job: entries of the network, bytes, or requests
+-- and responses
+abbrev pub job_kind : Plan → Job → Role → ℕ → QueueKind
+job_kind plan EthDevice r n = Kind.Net
+job_kind plan EthDriver r n = Kind.Net
+job_kind plan NetReceiver r n = Kind.Net
+job_kind plan NetSender r n = Kind.Net
+job_kind plan (NetCopier c) r n = Kind.Net
+job_kind plan (NetClient c) r n = Kind.Net
+job_kind plan UartDevice r n = Kind.Byte
+job_kind plan UartDriver r n = Kind.Byte
+job_kind plan SerialReceiver r n = Kind.Byte
+job_kind plan SerialSender r n = Kind.Byte
+job_kind plan (SerialClient c) r n = Kind.Byte
+job_kind plan DiskDevice Consumer n = Kind.Req
+job_kind plan DiskDevice Producer n = Kind.Resp
+job_kind plan DiskDriver Consumer n =
+    if n == blk_first plan + 2 then Kind.Req else Kind.Resp
+job_kind plan DiskDriver Producer n = if n == blk_first plan then Kind.Req else Kind.Resp
+job_kind plan BlkVirtualiser Consumer n =
+    if n == blk_first plan + 3 then Kind.Resp else Kind.Req
+job_kind plan BlkVirtualiser Producer n =
+    if n == blk_first plan + 2 then Kind.Req else Kind.Resp
+job_kind plan (BlkClient c) Consumer n = Kind.Resp
+job_kind plan (BlkClient c) Producer n = Kind.Req

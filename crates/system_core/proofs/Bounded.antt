@@ -1,7 +1,6 @@
 -- A play of a plan and a trace is shorter than their budget.
-use Rattle.std.proofs.Common.{◌≡◌, ◌<◌, ◌+◌, ◌*◌, ℕ, None, Some, Option, List, length, slice_get, [], refl, subst}
+use Rattle.std.proofs.Common.{◌≡◌, ◌<◌, ◌+◌, ◌*◌, ℕ, None, Some, Option, List, length, [], refl, subst}
 use Rattle.std.specs.Option.{option_map_or}
-use Rattle.wire_core.specs.declared.names.QueueRow.{QueueRow}
 use Rattle.wire_core.specs.declared.names.Entry.{Entry}
 use Rattle.wire_core.specs.Journal.{LegalJournal, BellsHold, QueuesFlow}
 use Rattle.sdf_plan.specs.declared.plan.Plan.{Plan}
@@ -20,11 +19,12 @@ use Rattle.serial_law.specs.Serial.{SerialClass, IsSerial}
 use Rattle.serial_law.proofs.Arrivals.{as_there, RowAt}
 use Rattle.actor_law.specs.Kinds.{serial_part, scene_of}
 use Rattle.actor_law.proofs.Calm.{calm_actor, sheet_is}
-use Rattle.wired_law.specs.Wiring.{HasWhole}
-use Rattle.cast_core.specs.Sources.{every_second, first_serial}
-use Rattle.cast_core.specs.Casts.{net_place}
+use Rattle.wired_law.specs.Wiring.{HasWhole, HasBlk}
+use Rattle.cast_core.specs.Sources.{first_serial}
+use Rattle.cast_core.specs.Casts.{net_place, blk_place}
 use Rattle.cast_core.proofs.Seconds.{second_get, second_length}
-use Rattle.play_bound.specs.Standing.{StandsFrom, Carries, serial_first, without_blk}
+use Rattle.play_bound.specs.Standing.{StandsFrom, Carries, serial_first}
+use Rattle.cast_bound.proofs.Blocks.{blk_within}
 use Rattle.cast_bound.proofs.Networks.{net_within}
 use Rattle.cast_bound.proofs.Bounds.{serial_within, short}
 use Rattle.system_core.specs.Shows.{Setting, Shown, hostile_in, sheet_in, moved_in, RowsStand}
@@ -52,7 +52,7 @@ class_stands first count trace = record {
   client_tx = λ k q at. (second_get (first + 5) count k q at).1;
 }
 
-module _ (plan : Plan) (trace : Trace) (valid : Valid plan) (none : plan.blk ≡ None) (s : Shown) (cast : IsCastOf plan trace s.setting) (stands : StandsLawful s)
+module _ (plan : Plan) (trace : Trace) (valid : Valid plan) (s : Shown) (cast : IsCastOf plan trace s.setting) (stands : StandsLawful s)
     (there : (serial : Serial) → plan.serial ≡ Some serial → IsSerial (There s.setting) (hostile_in s.setting) s.setting.rows (serial_class (first_serial plan) (length serial.client) trace)) where
   abbrev went : Moved
   went = moved_in s.setting s.journal
@@ -87,6 +87,6 @@ module _ (plan : Plan) (trace : Trace) (valid : Valid plan) (none : plan.blk ≡
       (flows_at [] stands.lawful.flows.0)
       (subst (λ rs. LegalJournal (hostile_in s.setting) s.setting.history rs s.journal) cast.rows stands.lawful.legal)
       stands.lawful.brisk
-      (net_within plan trace s.setting.cast s.setting.history s.journal valid none (λ net has. subst (λ rs. HasWhole rs (net_place plan trace) s.setting.cast) cast.rows (cast.whole net has)) cast.scene flows_now rows_now)
+      (net_within plan trace s.setting.cast s.setting.history s.journal valid (λ net has. subst (λ rs. HasWhole rs (net_place plan trace) s.setting.cast) cast.rows (cast.whole net has)) cast.scene flows_now rows_now)
       (serial_within plan trace s.setting.cast s.setting.history s.journal flows_now (λ serial has. (class serial has, class_at serial has, carries serial has, rows_of_class serial has)))
-      (without_blk none)
+      (blk_within plan trace s.setting.cast s.setting.history s.journal valid (λ blk has. subst (λ rs. HasBlk rs (blk_place plan trace) s.setting.cast) cast.rows (cast.whole_block blk has)) flows_now rows_now)

@@ -1,4 +1,4 @@
-use Rattle.std.proofs.Common.{◌≡◌, ◌+◌, ◌*◌, ℕ, Some, List, length, map, slice_get, unwrap_or, [], refl, sym, ap, ◌∙◌}
+use Rattle.std.proofs.Common.{◌≡◌, ◌+◌, ◌*◌, ℕ, Some, List, length, map, slice_get, unwrap_or, [], ap, ◌∙◌}
 use Rattle.std.specs.Option.{option_map_or}
 use Rattle.sdf_plan.specs.declared.plan.Plan.{Plan}
 use Rattle.sdf_plan.specs.declared.plan.Serial.{Serial}
@@ -13,7 +13,7 @@ use Rattle.cast_core.specs.Sources.{every_second, first_serial}
 use Rattle.seat_law.proofs.Naming.{serial_named}
 use Rattle.system_core.specs.Shows.{Crew, Setting}
 use Rattle.system_core.specs.States.{crew_of, nobody}
-use Rattle.system_core.specs.Crews.{number_named, serial_crew}
+use Rattle.system_core.specs.Crews.{number_named}
 use Rattle.system_core.specs.Builds.{IsCastOf}
 use Rattle.system_core.proofs.Scripts.{serials}
 

@@ -1,5 +1,5 @@
 -- Counts over actors and over pools, one by one.
-use Rattle.std.proofs.Common.{◌≡◌, ◌+◌, ◌-◌, ◌^◌, ◌<◌, ◌≤◌, ◌++◌, ℕ, zero, suc, min, Some, List, [], ◌∷◌, length, map, take, slice_get, sum_by, refl, sym, ap, ap₂, ◌∙◌, subst, arith}
+use Rattle.std.proofs.Common.{◌≡◌, ◌+◌, ◌++◌, ℕ, zero, suc, Some, List, [], ◌∷◌, map, take, slice_get, sum_by, refl, ap, ap₂, ◌∙◌, arith}
 use Rattle.std.proofs.lemmas.List.Sums.{sum_by-cons}
 use Rattle.cargo_core.specs.declared.item.PoolId.{PoolId}
 use Rattle.cargo_core.specs.Bodies.{buffers_of}
@@ -10,7 +10,7 @@ use Rattle.play_core.specs.Sheets.{Scene}
 use Rattle.play_core.proofs.Lists.{some_is}
 use Rattle.pool_law.specs.Lines.{Holder}
 use Rattle.pool_lines.specs.PoolLines.{line_of, counted, counted_lines}
-use Rattle.actor_set.specs.Actors.{part_of, actor_hand, actor_lent}
+use Rattle.actor_set.specs.Actors.{part_of}
 use Rattle.actor_set.specs.declared.actor.Actor.{Actor}
 use Rattle.actor_law.specs.Kinds.{scene_of}
 use Rattle.cast_pools.specs.Holders.{actor_holder, holders_of}

@@ -7,22 +7,23 @@ use Rattle.sdf_plan.specs.declared.plan.Net.{Net}
 use Rattle.sdf_plan.specs.declared.plan.NetClient.{NetClient}
 use Rattle.sdf_plan.specs.declared.plan.Serial.{Serial}
 use Rattle.sdf_plan.specs.declared.plan.SerialClient.{SerialClient}
-use Rattle.region_layout.specs.Rows.{queues_of, eth_number, uart_number}
+use Rattle.sdf_plan.specs.declared.plan.Blk.{Blk}
+use Rattle.sdf_plan.specs.declared.plan.BlkClient.{BlkClient}
+use Rattle.region_layout.specs.Rows.{queues_of, eth_number, uart_number, disk_number}
 use Rattle.play_core.specs.Wants.{intake}
 use Rattle.play_core.proofs.Lists.{some_is, map_from}
 use Rattle.job_law.specs.Jobs.{Job, HasJob}
 use Rattle.job_law.specs.Jobs as jobs
 use Rattle.sdf_check.specs.Valid.{Valid}
-use Rattle.region_layout.proofs.ValidLemmas.{net_counts, serial_counts}
+use Rattle.region_layout.proofs.ValidLemmas.{net_counts, serial_counts, blk_counts}
 use Rattle.seat_law.specs.Ends.{job_ends}
 use Rattle.cast_core.specs.Known.{HasRows}
 use Rattle.cast_core.proofs.Tables.{has_rows}
 use Rattle.seat_law.proofs.Seats.{has_seat}
-use Rattle.cast_core.specs.Sources.{first_serial}
-use Rattle.seat_law.proofs.Naming.{net_named, serial_named}
-use Rattle.system_core.specs.Shows.{Crew}
+use Rattle.cast_core.specs.Sources.{first_serial, first_blk}
+use Rattle.seat_law.proofs.Naming.{net_named, serial_named, blk_named}
 use Rattle.system_core.specs.States.{crew_of, nobody}
-use Rattle.system_core.specs.Crews.{number_named, net_crew, serial_crew, IsTaker, AreTakers}
+use Rattle.system_core.specs.Crews.{number_named, net_crew, serial_crew, blk_crew, IsTaker, AreTakers}
 
 same_lists : {T : Type 0} (xs ys : List T) → length xs ≡ length ys → ((k : ℕ) (x y : T) → slice_get xs k ≡ Some x → slice_get ys k ≡ Some y → x ≡ y) → xs ≡ ys
 same_lists [] [] n same = refl
@@ -62,14 +63,14 @@ takers_more rows first apart count numbers new actor old is one = record {
 one_taker : (rows : List QueueRow) (queue a b : ℕ) → IsTaker rows queue a → IsTaker rows queue b → a ≡ b
 one_taker rows queue a b x y = sym x.2 ∙ (ap (λ (r : QueueRow). r.consumer.0) (some_is (sym x.1 ∙ y.1)) ∙ y.2)
 
-module _ (plan : Plan) (valid : Valid plan) (blk : plan.blk ≡ None) (rows : List QueueRow) (rows_are : rows ≡ queues_of plan) where
+module _ (plan : Plan) (valid : Valid plan) (rows : List QueueRow) (rows_are : rows ≡ queues_of plan) where
   pub rows_enough : HasRows plan rows
-  rows_enough = subst (HasRows plan) (sym rows_are) (has_rows plan blk valid)
+  rows_enough = subst (HasRows plan) (sym rows_are) (has_rows plan valid)
 
   -- the actor of a job takes where the job does
   takes : (job : Job) (k : ℕ) → HasJob plan job k → (queue : ℕ) → slice_get (job_ends plan job) 0 ≡ Some (intake queue) → IsTaker rows queue k
   takes job k has queue at =
-      let seat = has_seat plan blk job k has 0 (intake queue) at in
+      let seat = has_seat plan job k has 0 (intake queue) at in
       (seat.0, ap (λ rs. slice_get rs queue) rows_are ∙ seat.1, seat.2)
 
   pub net_is : (net : Net) → plan.net ≡ Some net → (numbers : List ℕ) → AreTakers rows (10) 6 (length net.client) numbers → (device : ℕ) → IsTaker rows (0) device → crew_of (Some device) numbers ≡ net_crew plan
@@ -92,6 +93,18 @@ module _ (plan : Plan) (valid : Valid plan) (blk : plan.blk ≡ None) (rows : Li
       ap (λ k. crew_of (Some k) numbers) who
       ∙ (ap (crew_of (Some (uart_number plan).0)) all ∙ sym (ap (λ o. option_map_or (λ (n : Serial). crew_of (Some (uart_number plan).0) (map (λ (c : SerialClient). number_named plan c.pd) n.client)) o nobody) has))
 
+  pub blk_is : (blk : Blk) → plan.blk ≡ Some blk → (first : ℕ) → first ≡ first_blk plan → (numbers : List ℕ) → AreTakers rows (first + 5) 2 (length blk.client) numbers → (device : ℕ) → IsTaker rows first device → crew_of (Some device) numbers ≡ blk_crew plan
+  blk_is blk has first first_is numbers takers device at =
+      let named = blk_named plan blk has in
+      let who : device ≡ (disk_number plan).0 = one_taker rows first device (disk_number plan).0 at (subst (λ n. IsTaker rows n (disk_number plan).0) (sym first_is) (takes jobs.DiskDevice (disk_number plan).0 named.device (first_blk plan) refl)) in
+      let all = takers_are rows (first + 5) 2 numbers blk.client (λ (c : BlkClient). number_named plan c.pd) takers (λ c x client.
+      subst (λ n. IsTaker rows (n + 5 + 2 * c) (number_named plan x.pd)) (sym first_is) (takes (jobs.BlkClient c) (number_named plan x.pd) (named.client c x client) (first_blk plan + 5 + 2 * c) refl)) in
+      ap (λ k. crew_of (Some k) numbers) who
+      ∙ (ap (crew_of (Some (disk_number plan).0)) all ∙ sym (ap (λ o. option_map_or (λ (n : Blk). crew_of (Some (disk_number plan).0) (map (λ (c : BlkClient). number_named plan c.pd) n.client)) o nobody) has))
+
+  pub blk_count : (blk : Blk) → plan.blk ≡ Some blk → length blk.client ≤ 8
+  blk_count blk has = (blk_counts plan blk valid has).1
+
   pub net_count : (net : Net) → plan.net ≡ Some net → length net.client ≤ 8
   net_count net has = (net_counts plan net valid has).0.1
 
@@ -103,3 +116,6 @@ no_net plan none = sym (ap (λ o. option_map_or (λ (n : Net). crew_of (Some (et
 
 pub no_serial : (plan : Plan) → plan.serial ≡ None → nobody ≡ serial_crew plan
 no_serial plan none = sym (ap (λ o. option_map_or (λ (n : Serial). crew_of (Some (uart_number plan).0) (map (λ (c : SerialClient). number_named plan c.pd) n.client)) o nobody) none)
+
+pub no_blk_crew : (plan : Plan) → plan.blk ≡ None → nobody ≡ blk_crew plan
+no_blk_crew plan none = sym (ap (λ o. option_map_or (λ (n : Blk). crew_of (Some (disk_number plan).0) (map (λ (c : BlkClient). number_named plan c.pd) n.client)) o nobody) none)

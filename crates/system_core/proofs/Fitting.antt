@@ -1,4 +1,4 @@
-use Rattle.std.proofs.Common.{◌≡◌, ◌⊎◌, ◌<◌, ◌≤◌, ℕ, Some, List, [], All, get_or, length, map, slice_get, refl, sym, subst, inr}
+use Rattle.std.proofs.Common.{◌≡◌, ◌<◌, ◌≤◌, ℕ, Some, List, [], All, get_or, length, map, slice_get, refl, sym, subst}
 use Rattle.std.proofs.lemmas.List.{length-map}
 use Rattle.std.proofs.lemmas.Option.{slice_get-get_or}
 use Rattle.wire_core.specs.declared.names.PoolRow.{PoolRow}
@@ -16,7 +16,9 @@ use Rattle.actor_set.specs.Parts.{Part}
 use Rattle.actor_set.specs.Actors.{part_of}
 use Rattle.actor_set.specs.declared.actor.Actor.{Actor}
 use Rattle.actor_law.specs.Kinds.{sheet, scene_of, hostiles}
-use Rattle.cast_pools.specs.Pooling.{ArePooled}
+use Rattle.cast_pools.specs.Places.{PoolPlace, IsPlaced, HasPools, ArePooled}
+use Rattle.cast_pools.specs.Pooling.{HasOwners}
+use Rattle.cast_pools.proofs.Playing.{owners_anew}
 use Rattle.system_core.specs.Shows.{Crew}
 use Rattle.system_core.specs.States.{begun}
 use Rattle.cast_law.specs.Seats.{AreSeated}
@@ -35,7 +37,7 @@ pub are_sized : (rows : List QueueRow) → length rows ≤ 65536 → ((n : ℕ) 
 are_sized rows few places = record { few = few; capacities = capacities rows places }
 
 -- seated actors fit the rows
-module _ (history : History) (rows : List QueueRow) (pools : List PoolRow) (actors : List Actor) (net serial : Crew) (s : AreSeated rows actors) (pooled : ArePooled rows pools (map part_of actors)) (anew : (pools ≡ []) ⊎ (history ≡ start_history rows)) where
+module _ (rows : List QueueRow) (actors : List Actor) (s : AreSeated rows actors) where
   abbrev scene : Scene
   scene = scene_of (map part_of actors)
 
@@ -57,23 +59,25 @@ module _ (history : History) (rows : List QueueRow) (pools : List PoolRow) (acto
       let y = there_is actors row.producer.0 (s.peers n row at Producer) in
       s.split row.producer.0 y.0 y.1 n (s.ends row.producer.0 y.0 y.1 n row at Consumer (sym same)) (s.ends row.producer.0 y.0 y.1 n row at Producer refl)
 
-  pub seated_fit : IsFitted (begun history rows pools actors net serial)
-  seated_fit = record {
-    peopled = λ n row at r. subst (λ m. owner_of row r < m) (sym (length-map actors part_of)) (s.peers n row at r);
-    seated = end_given;
-    ends = seat_given;
-    split = two_owners;
-    wired = s.wired;
-    pooled = pooled;
-    anew = anew;
-    numbered = s.numbered;
-    places = s.places;
-  }
+  -- with pools whose owners a history shows
+  module _ (history : History) (pools : List PoolRow) (net serial blk : Crew) (pooled : ArePooled rows pools (map part_of actors)) (owners : (place : PoolPlace) → IsPlaced rows place (map part_of actors) → HasPools pools place → HasOwners history rows place (map part_of actors)) where
+    pub seated_fit : IsFitted (begun history rows pools actors net serial blk)
+    seated_fit = record {
+      peopled = λ n row at r. subst (λ m. owner_of row r < m) (sym (length-map actors part_of)) (s.peers n row at r);
+      seated = end_given;
+      ends = seat_given;
+      split = two_owners;
+      wired = s.wired;
+      pooled = pooled;
+      owners = owners;
+      numbered = s.numbered;
+      places = s.places;
+    }
 
 -- the start state goes on from a history in which nothing happened
-pub start_goes : (rows : List QueueRow) (pools : List PoolRow) (actors : List Actor) (net serial : Crew) → AreSeated rows actors → ArePooled rows pools (map part_of actors) → GoesOn (begun (start_history rows) rows pools actors net serial) (starts rows) actors
-start_goes rows pools actors net serial s pooled = record {
-  fitted = seated_fit (start_history rows) rows pools actors net serial s pooled (inr refl);
+pub start_goes : (rows : List QueueRow) (pools : List PoolRow) (actors : List Actor) (net serial blk : Crew) → AreSeated rows actors → ArePooled rows pools (map part_of actors) → GoesOn (begun (start_history rows) rows pools actors net serial blk) (starts rows) actors
+start_goes rows pools actors net serial blk s pooled = record {
+  fitted = seated_fit rows actors s (start_history rows) pools net serial blk pooled (λ place placed has. owners_anew rows (map part_of actors) (end_given rows actors s) place placed has.numbered);
   before = record { bells_hold = starts_hold (hostiles (map part_of actors)) rows; flows = starts_flow (hostiles (map part_of actors)) rows };
   holds = start_holds rows actors (seated_start rows actors s);
 }

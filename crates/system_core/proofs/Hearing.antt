@@ -12,7 +12,7 @@ use Rattle.actor_set.specs.Actors.{part_of}
 use Rattle.actor_set.specs.declared.actor.Actor.{Actor}
 use Rattle.actor_law.specs.Records.{record_of, record_by}
 use Rattle.system_core.specs.Shows.{hostile_in}
-use Rattle.system_core.specs.States.{record_from, frames_from}
+use Rattle.system_core.specs.States.{record_from, frames_from, replies_from}
 use Rattle.system_core.specs.Lawful.{record_at, IsTold, StandsLawful}
 use Rattle.system_core.specs.Systems.{Holds}
 use Rattle.system_core.specs.Inside.{shown_of, setting_of, IsSystem}
@@ -21,8 +21,8 @@ use Rattle.std.proofs.lemmas.List.{length-map}
 use Rattle.system_core.proofs.Stepping.{runs_below}
 use Rattle.actor_law.proofs.Rows.{heard_here}
 use Rattle.system_core.proofs.RunsNow.{items_here}
-use Rattle.system_core.proofs.Recording.{records_at, wire_at}
-use Rattle.system_core.proofs.Lining.{pool_lines, without_pools, nothing_bad}
+use Rattle.system_core.proofs.Recording.{records_at, wire_at, replies_at}
+use Rattle.system_core.proofs.Lining.{kinds_hold, pool_lines, pool_lines_anew, without_pools, nothing_bad}
 
 module _ (history : History) (rows : List QueueRow) (w : List Queue) (actors : List Actor) (journal : List Entry) (h : Holds history rows w actors journal) where
   pub same_heard : (k : ℕ) → record_from actors k ≡ option_map_or (record_by (moved history journal)) (slice_get (map part_of actors) k) []
@@ -46,7 +46,10 @@ module _ (a : Inside) (i : IsSystem a) where
       records = records_at (setting_of a).history a.rows.items a.world a.actors.items a.journal.items i.holds net whole a.net.clients;
       wire = wire_at (setting_of a).history a.rows.items a.world a.actors.items a.journal.items i.holds net whole a.net.device;
     };
+    blk = length-map a.blk.clients (replies_from a.actors.items);
+    replies = λ blk whole. replies_at (setting_of a).history a.rows.items a.world a.actors.items a.journal.items i.holds blk whole a.blk.clients;
     pools = pool_lines a i;
+    pools_anew = pool_lines_anew a i;
     no_pools = without_pools a i;
     bad = nothing_bad a i;
   }
@@ -75,6 +78,7 @@ module _ (a : Inside) (i : IsSystem a) where
       bells_hold = bells_hold (hostile_in (setting_of a)) (setting_of a).history a.rows.items a.journal.items i.before.bells_hold i.holds.legal;
       flows = queues_flow (hostile_in (setting_of a)) (setting_of a).history a.rows.items a.journal.items i.before.flows i.holds.legal;
       rows_hold = i.rows_hold;
+      kinds = kinds_hold a i;
       brisk = i.brisk;
     };
     told = told;

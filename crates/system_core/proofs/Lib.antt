@@ -17,7 +17,9 @@ pub mod Casting
 pub mod Begun
 pub mod Networking
 pub mod Bounded
+pub mod Replying
 pub mod Crewing
 pub mod Built
 pub mod Quieting
 pub mod Together
+pub mod Parting

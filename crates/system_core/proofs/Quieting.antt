@@ -1,9 +1,10 @@
--- Where nobody is runnable, all frames of the network went through.
-use Rattle.std.proofs.Common.{◌≡◌, Some, None, [], sym, subst, arith}
+-- Where nobody is runnable, all frames of the network went through, and all replies of the block class.
+use Rattle.std.proofs.Common.{◌≡◌, Some, [], sym, subst, arith}
 use Rattle.std.proofs.lemmas.List.{length-map}
 use Rattle.wire_core.specs.Journal.{BellsHold, QueuesFlow}
 use Rattle.sdf_plan.specs.declared.plan.Plan.{Plan}
 use Rattle.sdf_plan.specs.declared.plan.Net.{Net}
+use Rattle.sdf_plan.specs.declared.plan.Blk.{Blk}
 use Rattle.sdf_check.specs.Valid.{Valid}
 use Rattle.trace_text.specs.declared.trace.Trace.{Trace}
 use Rattle.play_core.specs.Wants.{Needful}
@@ -14,17 +15,23 @@ use Rattle.play_core.proofs.Quieting.{quiet_still}
 use Rattle.net_tx_parts.specs.Numbers.{NetPlace}
 use Rattle.net_quiet.specs.Still.{HasRooms, IsNetwork}
 use Rattle.net_quiet.proofs.Receiving.{arrives_all, sends_all}
+use Rattle.blk_parts.specs.Numbers.{BlkPlace}
+use Rattle.blk_quiet.specs.Still.{HasBlkRooms, IsBlock, AnswersAll}
+use Rattle.blk_quiet.proofs.Answering.{answers_all}
 use Rattle.actor_law.specs.Kinds.{scene_of}
-use Rattle.wired_law.specs.Wiring.{HasWhole}
+use Rattle.wired_law.specs.Wiring.{HasWhole, HasBlk}
 use Rattle.wired_quiet.proofs.Quieting.{network_there}
-use Rattle.cast_core.specs.Casts.{net_place}
+use Rattle.wired_quiet.proofs.Answering.{block_there}
+use Rattle.cast_core.specs.Casts.{net_place, blk_place}
 use Rattle.cast_quiet.proofs.Rooms.{pools_are, rooms_are}
+use Rattle.cast_quiet.proofs.Blocks.{blk_pools_are, blk_rooms_are}
 use Rattle.system_core.specs.Shows.{Shown, manner_in, hostile_in, sheet_in, moved_in, RowsStand}
 use Rattle.system_core.specs.Plays.{runnable_now}
 use Rattle.system_core.specs.Lawful.{StandsLawful}
 use Rattle.system_core.specs.Builds.{IsCastOf}
-use Rattle.system_core.specs.PlanPlays.{ShowsAllFrames}
+use Rattle.system_core.specs.PlanPlays.{ShowsAllFrames, ShowsAllReplies}
 use Rattle.system_core.proofs.Networking.{shows_all_frames}
+use Rattle.system_core.proofs.Replying.{shows_all_replies}
 
 module _ (s : Shown) (stands : StandsLawful s) (quiet : runnable_now s ≡ []) where
   abbrev actors : Needful
@@ -39,7 +46,7 @@ module _ (s : Shown) (stands : StandsLawful s) (quiet : runnable_now s ≡ []) w
   })
 
   -- the network of a plan
-  module _ (plan : Plan) (valid : Valid plan) (blk : plan.blk ≡ None) (net : Net) (has : plan.net ≡ Some net) (trace : Trace) (cast : IsCastOf plan trace s.setting) where
+  module _ (plan : Plan) (valid : Valid plan) (net : Net) (has : plan.net ≡ Some net) (trace : Trace) (cast : IsCastOf plan trace s.setting) where
     abbrev place : NetPlace
     place = net_place plan trace
 
@@ -50,10 +57,30 @@ module _ (s : Shown) (stands : StandsLawful s) (quiet : runnable_now s ≡ []) w
     rooms = subst (λ rows. HasRooms (hostile_in s.setting) rows place) (sym cast.rows) (rooms_are plan trace net has valid s.setting.cast (subst (λ rows. HasWhole rows place s.setting.cast) cast.rows whole))
 
     network : IsNetwork (hostile_in s.setting) (scene_of s.setting.cast) s.setting.rows actors place (moved_in s.setting s.journal)
-    network = network_there s.setting.rows s.setting.cast (moved_in s.setting s.journal) place whole (pools_are plan trace net has valid blk) rooms (last_moment (RowsStand s.setting) s.journal stands.lawful.rows_hold)
+    network = network_there s.setting.rows s.setting.cast (moved_in s.setting s.journal) place whole (pools_are plan trace net has valid) rooms (last_moment (RowsStand s.setting) s.journal stands.lawful.rows_hold)
 
     pub shows_whole_net : ShowsAllFrames place trace.frames s.state
     shows_whole_net =
         shows_all_frames plan net trace s cast has stands.told
         (arrives_all (hostile_in s.setting) s.setting.history s.setting.rows actors s.journal (scene_of s.setting.cast) place still_now network)
         (sends_all (hostile_in s.setting) s.setting.history s.setting.rows actors s.journal (scene_of s.setting.cast) place still_now network)
+
+  -- the block class of a plan
+  module _ (plan : Plan) (valid : Valid plan) (blk : Blk) (has : plan.blk ≡ Some blk) (trace : Trace) (cast : IsCastOf plan trace s.setting) where
+    abbrev disk_place : BlkPlace
+    disk_place = blk_place plan trace
+
+    blk_whole : HasBlk s.setting.rows disk_place s.setting.cast
+    blk_whole = cast.whole_block blk has
+
+    blk_rooms : HasBlkRooms (hostile_in s.setting) s.setting.rows disk_place
+    blk_rooms = subst (λ rows. HasBlkRooms (hostile_in s.setting) rows disk_place) (sym cast.rows) (blk_rooms_are plan trace valid blk has s.setting.cast)
+
+    block : IsBlock (hostile_in s.setting) (scene_of s.setting.cast) s.setting.rows actors disk_place (moved_in s.setting s.journal)
+    block = block_there s.setting.rows s.setting.cast (moved_in s.setting s.journal) disk_place blk_whole (blk_pools_are plan trace valid blk has) blk_rooms (last_moment (RowsStand s.setting) s.journal stands.lawful.rows_hold)
+
+    answers : AnswersAll (scene_of s.setting.cast) disk_place (moved_in s.setting s.journal)
+    answers = answers_all (hostile_in s.setting) s.setting.history s.setting.rows actors s.journal (scene_of s.setting.cast) disk_place still_now block
+
+    pub shows_whole_blk : ShowsAllReplies disk_place s.state
+    shows_whole_blk = shows_all_replies plan blk trace s cast has stands.told answers.answered

@@ -1,7 +1,11 @@
-use Rattle.std.proofs.Common.{◌≡◌, ◌≤◌, ◌+◌, ℕ, Option, Some, List, [], length, map, slice_get, sym, ap, ◌∙◌, subst, arith}
+use Rattle.std.proofs.Common.{◌≡◌, ◌≤◌, ◌+◌, ◌*◌, ℕ, Option, Some, List, [], length, map, slice_get, sym, ap, ◌∙◌, subst, arith}
 use Rattle.std.proofs.lemmas.List.{length-map}
 use Rattle.std.specs.Option.{option_map, option_map_or}
 use Rattle.cargo_core.specs.Lists.{IsPrefix, PrefixMerge}
+use Rattle.cargo_core.specs.declared.item.Ask.{Ask}
+use Rattle.cargo_core.specs.declared.item.Reply.{Reply}
+use Rattle.blk_expect.specs.Replies.{replies_of}
+use Rattle.blk_parts.specs.Numbers.{BlkPlace, blk_client_at}
 use Rattle.frame_core.specs.declared.mac.Mac.{Mac}
 use Rattle.wire_core.specs.declared.names.QueueRow.{QueueRow}
 use Rattle.wire_core.specs.declared.names.Entry.{Entry}
@@ -10,21 +14,23 @@ use Rattle.wire_core.specs.Queues.{Queue, queue_at, end_at}
 use Rattle.wire_core.specs.Journal.{History}
 use Rattle.net_expect.specs.Expecting.{Program, frames_for}
 use Rattle.net_kit.specs.Entries.{frame_of}
-use Rattle.net_owners.specs.Names.{ClientPools}
+use Rattle.net_owners.specs.Names.{PoolAt, ClientPools}
 use Rattle.net_parts.specs.Numbers.{client_first, device_at, client_at}
 use Rattle.net_tx_parts.specs.Numbers.{NetPlace}
 use Rattle.net_tx_cast.specs.Casting.{sends_at}
-use Rattle.actor_set.specs.Parts.{NetworkPart}
+use Rattle.actor_set.specs.Parts.{NetworkPart, BlockPart}
 use Rattle.actor_set.specs.Actors.{part_of}
 use Rattle.actor_set.specs.declared.actor.Actor.{Actor}
 use Rattle.actor_law.specs.Kinds.{scene_of}
-use Rattle.actor_law.specs.Records.{frames_got, frames_by}
-use Rattle.actor_law.proofs.Rows.{frames_here}
-use Rattle.wired_law.specs.Wiring.{HasWhole, AreAtWork}
+use Rattle.actor_law.specs.Records.{frames_got, frames_by, replies_got, replies_by}
+use Rattle.actor_law.proofs.Rows.{frames_here, replies_here}
+use Rattle.blk_client.proofs.Asks.{replies_long}
+use Rattle.wired_law.specs.Wiring.{HasWhole, HasBlk, AreAtWork}
 use Rattle.wired_law.proofs.Wiring.{recorded, sent_on}
+use Rattle.blk_replies.proofs.Casts.{replied}
 use Rattle.play_core.specs.Moved.{taken}
 use Rattle.play_core.proofs.Lists.{some_is, map_from}
-use Rattle.system_core.specs.States.{frames_from}
+use Rattle.system_core.specs.States.{frames_from, replies_from}
 use Rattle.system_core.specs.Systems.{Holds}
 
 module _ (history : History) (rows : List QueueRow) (w : List Queue) (actors : List Actor) (journal : List Entry) (h : Holds history rows w actors journal) where
@@ -61,4 +67,25 @@ module _ (history : History) (rows : List QueueRow) (w : List Queue) (actors : L
         ap (option_map (frames_from actors)) is ∙ ap Some (ap (λ o. option_map_or frames_got o []) x.1),
         sent_on (end_at w) rows actors h.passed net whole at_work h.sends k x.0 x.1 x.2,
         shown_long x.0 (net.first + 2) (frames_here h.passed x.0 (h.stands k x.0 x.1) ∙ ap (frames_by h.passed) x.2),
+      )
+
+  -- a reply was recorded for each response that was taken
+  replies_long_here : (x : Actor) (k first j : ℕ) (asks : List Ask) (pool : PoolAt) → slice_get actors k ≡ Some x → part_of x ≡ BlockPart (blk_client_at first j asks pool) → length (taken history (first + 5 + 2 * j) journal) ≤ length asks → length (replies_got x) ≡ length (taken history (first + 5 + 2 * j) journal)
+  replies_long_here x k first j asks pool at is few =
+      let all = length-map (h.passed.taken (first + 5 + 2 * j)) (λ (e : Cargo). e.0) in
+      let shown = ap length (h.shows_taken (first + 5 + 2 * j)) in
+      let same = ap length (replies_here (scene_of (map part_of actors)) h.passed x (h.in_turn k x at) (h.stands k x at) ∙ ap (replies_by h.passed) is) in
+      let long = replies_long asks (h.passed.taken (first + 5 + 2 * j)) (omega (arith, all, shown, few)) in
+      omega (arith, all, shown, same, long)
+
+  -- what the block clients of these numbers recorded, one by one
+  pub replies_at : (blk : BlkPlace) → HasBlk rows blk (map part_of actors) → (numbers : List ℕ) (c k j : ℕ) (asks : List Ask) (pool : PoolAt) (entry : ℕ) (got : List Reply) → slice_get numbers c ≡ Some k → slice_get (map part_of actors) k ≡ Some (BlockPart (blk_client_at blk.first j asks pool)) → slice_get blk.entries j ≡ Some entry
+      → slice_get blk.asks j ≡ Some asks → slice_get (map (replies_from actors) numbers) c ≡ Some got → IsPrefix got (replies_of blk.image entry asks) × (length (taken history (blk.first + 5 + 2 * j) journal) ≤ length asks → length got ≡ length (taken history (blk.first + 5 + 2 * j) journal))
+  replies_at blk whole numbers c k j asks pool entry got number part of its at =
+      let x = map_from part_of actors k (BlockPart (blk_client_at blk.first j asks pool)) part in
+      let m = map_from (replies_from actors) numbers c got at in
+      let same : m.0 ≡ k = some_is (sym m.1 ∙ number) in
+      let is : replies_got x.0 ≡ got = sym (ap (λ o. option_map_or replies_got o []) x.1) ∙ (ap (replies_from actors) (sym same) ∙ m.2) in (
+        subst (λ g. IsPrefix g (replies_of blk.image entry asks)) is (replied (end_at w) rows actors h.passed blk whole at_work h.sends k j x.0 asks pool entry x.1 x.2 of its),
+        λ few. let long = replies_long_here x.0 k blk.first j asks pool x.1 x.2 few in let e = ap length is in omega (arith, long, e),
       )

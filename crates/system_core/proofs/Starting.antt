@@ -20,7 +20,7 @@ use Rattle.actor_law.specs.Kinds.{sheet, scene_of, manner_of, manners, idles}
 use Rattle.actor_law.proofs.Calm.{manner_at}
 use Rattle.wired_law.proofs.Wiring.{in_turn, nothing_sent}
 use Rattle.pool_law.proofs.Handing.{carry_start}
-use Rattle.cast_pools.specs.Pooling.{net_naming}
+use Rattle.cast_pools.specs.Places.{cast_naming}
 use Rattle.system_core.specs.Runnings.{with_number}
 use Rattle.system_core.specs.Starts.{AreStarting}
 use Rattle.system_core.specs.Systems.{Holds}
@@ -53,7 +53,7 @@ start_holds rows actors s = record {
   queues = λ n row at. subst (IsShown row (queue_at (starts rows) n)) (sym (start_is rows n)) (starts_shown rows n row at);
   fits = s.fits;
   stands = s.stands;
-  carry = λ net whole first. carry_start (net_naming (scene_of (map part_of actors)) net) rows;
+  carry = λ place placed. carry_start (cast_naming (scene_of (map part_of actors)) place) rows;
   sends = nothing_sent (map part_of actors);
   in_turn = in_turn (end_at (starts rows)) rows actors nothing_passed s.wired (record { fits = s.fits; stands = s.stands; hands_over = λ n. ([], refl); kinds = λ n row at k c there. cc }) (nothing_sent (map part_of actors));
   owners = s.owners;

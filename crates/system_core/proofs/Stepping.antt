@@ -192,9 +192,9 @@ called_so true b e g = g
 called_so false b e g = cc
 
 -- an actor that is runnable at rest has an end where a notification is pending
-module _ (history : History) (rows : List QueueRow) (pools : List PoolRow) (net serial : Crew) (w : List Queue) (actors : List Actor) (journal : List Entry) (k : ℕ) (x : Actor) (place : ℕ) where
+module _ (history : History) (rows : List QueueRow) (pools : List PoolRow) (net serial blk : Crew) (w : List Queue) (actors : List Actor) (journal : List Entry) (k : ℕ) (x : Actor) (place : ℕ) where
   abbrev now_set : Setting
-  now_set = record { history = history; rows = rows; pools = pools; cast = map part_of actors; net = net; serial = serial }
+  now_set = record { history = history; rows = rows; pools = pools; cast = map part_of actors; net = net; serial = serial; blk = blk }
 
   runs_called : IsFitted now_set → Holds history rows w actors journal → slice_get actors k ≡ Some x → slice_get (runs now_set journal) place ≡ Some k → is_at_rest (actor_round x) ≡ true → IsCalled (pendings history journal) (actor_round x).posts
   runs_called fitted old here at rest =
@@ -231,9 +231,9 @@ pub record StepThen (setting : Setting) (v : List Queue) (actors : List Actor) (
   pub room_is : length actors ≤ room
   pub few : length list ≤ room
 
-module _ (history : History) (rows : List QueueRow) (pools : List PoolRow) (net serial : Crew) (w v : List Queue) (actors : List Actor) (journal : List Entry) (k : ℕ) (x x' y : Actor) (e : Event) (row : QueueRow) (rung : Option ℕ) (woken idle : Bool) (place : ℕ) (list : List ℕ) (room : ℕ) where
+module _ (history : History) (rows : List QueueRow) (pools : List PoolRow) (net serial blk : Crew) (w v : List Queue) (actors : List Actor) (journal : List Entry) (k : ℕ) (x x' y : Actor) (e : Event) (row : QueueRow) (rung : Option ℕ) (woken idle : Bool) (place : ℕ) (list : List ℕ) (room : ℕ) where
   abbrev setting : Setting
-  setting = record { history = history; rows = rows; pools = pools; cast = map part_of actors; net = net; serial = serial }
+  setting = record { history = history; rows = rows; pools = pools; cast = map part_of actors; net = net; serial = serial; blk = blk }
 
   pub system_then : IsFitted setting → Holds history rows w actors journal → EachMoment (RowsStand setting) journal → list ≡ runs setting journal → length actors ≤ room → Brisk (hostile_in setting) no_drops journal
       → slice_get list place ≡ Some k → x ≡ slice_index_or actors k x → ActorEnd x (role_of e.op) e.queue.0 → Stepped ActorStandsFor Happens w v x x' e → ActorTurned x e x' → FitsActor (end_at v) x' → part_of x' ≡ part_of x
@@ -246,7 +246,7 @@ module _ (history : History) (rows : List QueueRow) (pools : List PoolRow) (net 
       let lt : k < length actors = omega (arith, below, size) in
       let here : slice_get actors k ≡ Some x = slice_get_read actors _ k x refl lt x_is in
       let there : slice_get rows e.queue.0 ≡ Some row = slice_get_read rows _ e.queue.0 row refl (subst (λ n. e.queue.0 < n) old.size st.happened.there) row_is in
-      let pressed = runs_called history rows pools net serial w actors journal k x place fitted old here at' in
+      let pressed = runs_called history rows pools net serial blk w actors journal k x place fitted old here at' in
       let new = step_holds history rows w v actors journal k x x' e here old own st turned pressed fitted.seated fitted.split fitted.wired fits part in
       let cast_is = map_same part_of actors k x x' here part in
       let y_same : y ≡ x' = some_is (sym (slice_get_read (slice_set actors k x') _ k y refl (subst (λ n. k < n) (sym (length-set actors k x')) lt) y_is) ∙ slice_get_written actors k x x' here) in

@@ -32,9 +32,8 @@ use Rattle.actor_set.specs.Actors.{FitsActor, ActorStandsFor, ActorEnd, ActorTur
 use Rattle.actor_law.proofs.Rounds.{turned_is}
 use Rattle.actor_set.specs.Parts.{Part}
 use Rattle.play_core.specs.Moved.{moved}
-use Rattle.play_core.specs.Sheets.{AreSeated}
+use Rattle.play_core.specs.Sheets.{AreSeated, RowsHold}
 use Rattle.owner_law.specs.Pages.{CarryPages}
-use Rattle.net_tx_parts.specs.Numbers.{NetPlace}
 use Rattle.actor_law.specs.Kinds.{sheet, scene_of, hostiles}
 use Rattle.actor_law.specs.Turning.{InTurn}
 use Rattle.system_core.specs.Systems.{Holds}
@@ -42,9 +41,10 @@ use Rattle.actor_set.specs.declared.actor.Actor.{Actor}
 use Rattle.actor_law.proofs.Beside.{fits_beside, stands_beside}
 use Rattle.actor_law.proofs.PartEnds.{same_part}
 use Rattle.actor_law.proofs.Starts.{fits_whole}
-use Rattle.wired_law.specs.Wiring.{HasWhole, IsWired, AreAtWork, ClientsSend}
-use Rattle.cast_pools.specs.Pooling.{net_naming}
-use Rattle.cast_pools.proofs.Playing.{carry_next}
+use Rattle.rest_law.specs.Showing.{HaveItems}
+use Rattle.wired_law.specs.Wiring.{IsWired, AreAtWork, ClientsSend}
+use Rattle.cast_pools.specs.Places.{PoolPlace, IsPlaced, cast_naming}
+use Rattle.cast_pools.proofs.Playing.{carry_call, rows_at}
 use Rattle.wired_law.proofs.Wiring.{in_turn, sends_on}
 use Rattle.play_core.proofs.Lists.{some_is, map_get}
 
@@ -271,16 +271,35 @@ module _ (history : History) (rows : List QueueRow) (w v : List Queue) (actors :
   unfolding passed'
   sends' wired new part = sends_on (end_at w) (end_at v) rows actors (slice_set actors k x') old.passed deed wired (all_parts part) works old.sends (works' new)
 
-  carry' : AreSeated (sheet (scene_of (map part_of actors))) rows (map part_of actors) → ((n : ℕ) (row : QueueRow) → slice_get rows n ≡ Some row → row.producer.0 ≡ row.consumer.0 → ⊥) → IsWired rows (map part_of actors) → FitsActor (end_at v) x' → part_of x' ≡ part_of x → (net : NetPlace) → HasWhole rows net (map part_of (slice_set actors k x')) → net.first ≡ 0 → CarryPages (net_naming (scene_of (map part_of (slice_set actors k x'))) net) (moved history (journal ++ entry_of k e ∷ [])) passed'
+  -- rows hold before the call, and after it
+  rows_before : RowsHold (sheet (scene_of (map part_of actors))) (hostiles (map part_of actors)) (map part_of actors) (moved history journal)
+  rows_before = rows_at rows actors old.passed (moved history journal) (record { taken = old.shows_taken; sent = old.shows_sent }) old.in_turn old.stands
+
+  carry' : AreSeated (sheet (scene_of (map part_of actors))) rows (map part_of actors) → ((n : ℕ) (row : QueueRow) → slice_get rows n ≡ Some row → row.producer.0 ≡ row.consumer.0 → ⊥) → IsWired rows (map part_of actors) → FitsActor (end_at v) x' → part_of x' ≡ part_of x → (place : PoolPlace) → IsPlaced rows place (map part_of (slice_set actors k x')) → CarryPages (cast_naming (scene_of (map part_of (slice_set actors k x'))) place) (moved history (journal ++ entry_of k e ∷ [])) passed'
   unfolding passed' deed
-  carry' seated split wired new part net whole first =
-      let whole_old : HasWhole rows net (map part_of actors) = subst (HasWhole rows net) (all_parts part) whole in
-      let turn_new : InTurn (scene_of (map part_of (slice_set actors k x'))) x' passed' = in_turn (end_at v) rows (slice_set actors k x') passed' (subst (IsWired rows) (sym (all_parts part)) wired) (works' new) (sends' wired new part) k x' (slice_get_written actors k x x' here) in
-      subst (λ c. CarryPages (net_naming (scene_of c) net) (moved history (journal ++ entry_of k e ∷ [])) passed') (sym (all_parts part))
-      (carry_next rows net (map part_of actors) whole_old first seated split old.passed deed (moved history journal) (moved history (journal ++ entry_of k e ∷ [])) (old.carry net whole_old first)
-      (record { taken = shows_taken'; sent = shows_sent' }) (λ n. ((queue_at v n).entries, sym (there_after n (eqb_tells e.queue.0 n)))) (λ n row at j c there. kinds' n row at j c there (eqb_tells e.queue.0 n))
-      k x' (map_get part_of actors k x here ∙ ap Some (sym part)) (subst (λ c. InTurn (scene_of c) x' passed') (all_parts part) turn_new) (st.kept old.passed (old.stands k x here)) (fits_whole (end_at v) x' new)
-      (same_part x' x (role_of e.op) e.queue.0 (sym part) (fits_whole (end_at w) x (old.fits k x here)) own))
+  carry' seated split wired new part place placed =
+      let placed_old : IsPlaced rows place (map part_of actors) = subst (IsPlaced rows place) (all_parts part) placed in
+      let turns = in_turn (end_at v) rows (slice_set actors k x') passed' (subst (IsWired rows) (sym (all_parts part)) wired) (works' new) (sends' wired new part) in
+      let items : HaveItems passed' (moved history (journal ++ entry_of k e ∷ [])) = record { taken = shows_taken'; sent = shows_sent' } in
+      let rows_new = rows_at rows (slice_set actors k x') passed' (moved history (journal ++ entry_of k e ∷ [])) items turns (λ j y at. stands' j y at (eqb_tells j k)) in
+      subst (λ c. CarryPages (cast_naming (scene_of c) place) (moved history (journal ++ entry_of k e ∷ [])) passed') (sym (all_parts part))
+      (carry_call rows place (map part_of actors) (moved history journal) (moved history (journal ++ entry_of k e ∷ [])) old.passed deed k x' (record {
+        placed = placed_old;
+        seated = seated;
+        split = split;
+        carried = old.carry place placed_old;
+        rows_before = rows_before;
+        rows_after = subst (λ c. RowsHold (sheet (scene_of c)) (hostiles c) c (moved history (journal ++ entry_of k e ∷ []))) (all_parts part) rows_new;
+        began = λ n. ((queue_at w n).entries, sym (old.stands_there n));
+        items = items;
+        begins = λ n. ((queue_at v n).entries, sym (there_after n (eqb_tells e.queue.0 n)));
+        kinds = λ n row at j c there. kinds' n row at j c there (eqb_tells e.queue.0 n);
+        here = map_get part_of actors k x here ∙ ap Some (sym part);
+        in_turn = subst (λ c. InTurn (scene_of c) x' passed') (all_parts part) (turns k x' (slice_get_written actors k x x' here));
+        stands = st.kept old.passed (old.stands k x here);
+        fits = fits_whole (end_at v) x' new;
+        own = same_part x' x (role_of e.op) e.queue.0 (sym part) (fits_whole (end_at w) x (old.fits k x here)) own;
+      }))
 
   -- all goes on to hold
   pub step_holds : AreSeated (sheet (scene_of (map part_of actors))) rows (map part_of actors) → ((n : ℕ) (row : QueueRow) → slice_get rows n ≡ Some row → row.producer.0 ≡ row.consumer.0 → ⊥) → IsWired rows (map part_of actors) → FitsActor (end_at v) x' → part_of x' ≡ part_of x → Holds history rows v (slice_set actors k x') (journal ++ entry_of k e ∷ [])

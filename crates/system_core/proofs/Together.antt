@@ -1,4 +1,4 @@
-use Rattle.std.proofs.Common.{◌≡◌, ◌≤◌, ◌++◌, ℕ, Some, None, List, [], length, sym, ap, ◌∙◌, subst, arith, refl}
+use Rattle.std.proofs.Common.{◌≡◌, ◌≤◌, ◌++◌, ℕ, Some, List, [], length, sym, ap, ◌∙◌, subst, arith, refl}
 use Rattle.wire_core.specs.declared.names.QueueRow.{QueueRow}
 use Rattle.wire_core.specs.declared.names.Entry.{Entry}
 use Rattle.wire_core.specs.Picks.{PickedFrom}
@@ -10,7 +10,7 @@ use Rattle.trace_text.specs.declared.trace.Trace.{Trace}
 use Rattle.trace_text.specs.Traces.{IsReadFor}
 use Rattle.play_core.specs.Moved.{Moved, moved}
 use Rattle.play_core.specs.Wants.{Needful}
-use Rattle.play_core.specs.Sheets.{Sheet, needful}
+use Rattle.play_core.specs.Sheets.{needful}
 use Rattle.play_core.specs.Still.{IsStill, Plays}
 use Rattle.play_core.proofs.Moments.{last_moment, each_moment}
 use Rattle.play_core.proofs.Tables.{plays_there}
@@ -24,16 +24,16 @@ use Rattle.system_core.specs.Plays.{Played, IsSpent, runnable_now}
 use Rattle.system_core.specs.declared.system.Ending.{Ending}
 use Rattle.system_core.specs.declared.system.Ending.TheVariants as Ends
 use Rattle.system_core.specs.Lawful.{StandsLawful}
-use Rattle.system_core.specs.Builds.{unplayed, IsBuilt, IsCastOf, BeginsAnew, serial_class}
+use Rattle.system_core.specs.Builds.{IsBuilt, IsCastOf, BeginsAnew, serial_class}
 use Rattle.system_core.specs.PlanPlays.{IsPlayed, IsPlayedOn, HasEnded}
 use Rattle.actor_law.proofs.Calm.{calm_actor, sheet_is}
 use Rattle.system_core.proofs.Scripts.{scripts_length}
 use Rattle.cast_core.specs.Sources.{first_serial}
 use Rattle.system_core.proofs.Casting.{HasSerial, has_serial}
 use Rattle.system_core.proofs.Networking.{shows_frames}
-use Rattle.system_core.proofs.Quieting.{still_now, shows_whole_net}
-use Rattle.system_core.proofs.Built.{no_blk}
+use Rattle.system_core.proofs.Quieting.{still_now, shows_whole_net, shows_whole_blk}
 use Rattle.system_core.proofs.Bounded.{row_as, bounded}
+use Rattle.system_core.proofs.Replying.{shows_replies}
 use Rattle.system_core.proofs.Begun.{There, serial_there, shows_in_part, shows_whole}
 
 plays_as : (s : Setting) (hostile : Hostiles) (actors : Needful) (m : Moved) (p : SerialPart) → Plays hostile actors m (sheet_in s (serial_part p)) → Plays hostile actors m (serial_sheet p)
@@ -83,7 +83,7 @@ module _ (old new : Shown) (seed limit : ℕ) (none : old.journal ≡ []) (playe
       subst (λ z. PickedFrom (runs z) seed [] new.journal) (sym played.setting)
       (subst (λ j. PickedFrom (runs old.setting) seed [] j) more_is (subst (λ j. PickedFrom (runs old.setting) seed j played.more) none played.picked))
 
-  module _ (plan : Plan) (valid : Valid plan) (played_all : unplayed plan ≡ None) (trace : Trace) (read : IsReadFor plan trace) (cast : IsCastOf plan trace old.setting) (stands : StandsLawful new) (part : LawInPart) (whole : LawWhole) where
+  module _ (plan : Plan) (valid : Valid plan) (trace : Trace) (read : IsReadFor plan trace) (cast : IsCastOf plan trace old.setting) (stands : StandsLawful new) (part : LawInPart) (whole : LawWhole) where
     cast_is : IsCastOf plan trace new.setting
     cast_is = subst (IsCastOf plan trace) (sym played.setting) cast
 
@@ -105,20 +105,22 @@ module _ (old new : Shown) (seed limit : ℕ) (none : old.journal ≡ []) (playe
       cast = cast_is;
       picked = picked_is;
       within = subst (λ j. length j ≤ limit) more_is played.within;
-      bounded = bounded plan trace valid (no_blk plan played_all) new cast_is stands (λ serial has. there serial has);
+      bounded = bounded plan trace valid new cast_is stands (λ serial has. there serial has);
       stands = stands;
       arrives = λ serial has. arrives new stands (class serial has) (there serial has) part;
       shows = λ serial has. shows_in_part plan serial (first_serial plan) trace new (class_is serial has) (says serial has) stands.told (arrives_now new stands (class serial has) (there serial has) part);
       shows_net = λ net has. shows_frames plan net trace new cast_is has stands.told;
+      shows_blk = λ blk has. shows_replies plan blk trace new cast_is has stands.told;
       whole = λ quiet serial has. shows_whole plan serial (first_serial plan) trace new (class_is serial has) (says serial has) stands.told (arrives_whole new stands (class serial has) (there serial has) whole quiet);
-      whole_net = λ quiet net has. shows_whole_net new stands quiet plan valid (no_blk plan played_all) net has trace cast_is;
+      whole_net = λ quiet net has. shows_whole_net new stands quiet plan valid net has trace cast_is;
+      whole_blk = λ quiet blk has. shows_whole_blk new stands quiet plan valid blk has trace cast_is;
     }
 
 -- one that was built begins with nothing
-pub together : (old new : Shown) (seed limit : ℕ) → Played old new seed limit → (plan : Plan) → Valid plan → unplayed plan ≡ None → (trace : Trace) → IsReadFor plan trace → IsBuilt plan trace old → StandsLawful new → LawInPart → LawWhole → IsPlayed plan trace seed limit new
-together old new seed limit played plan valid played_all trace read built stands part whole = record {
+pub together : (old new : Shown) (seed limit : ℕ) → Played old new seed limit → (plan : Plan) → Valid plan → (trace : Trace) → IsReadFor plan trace → IsBuilt plan trace old → StandsLawful new → LawInPart → LawWhole → IsPlayed plan trace seed limit new
+together old new seed limit played plan valid trace read built stands part whole = record {
   begins = subst BeginsAnew (sym played.setting) built.begins;
-  played = played_on old new seed limit built.journal played plan valid played_all trace read built.cast stands part whole;
+  played = played_on old new seed limit built.journal played plan valid trace read built.cast stands part whole;
 }
 
 -- how a play ended that began with nothing

@@ -1,24 +1,19 @@
 -- The system of a plan and a trace: who acts at which queues, and that nothing happened yet.
-use Rattle.std.specs.Prelude.{◌≡◌, ◌+◌, ℕ, if◌then◌else◌, Option, Some, None, is_some, List, [], length, slice_get}
+use Rattle.std.specs.Prelude.{◌≡◌, ◌+◌, ℕ, Some, [], length, slice_get}
 use Rattle.wire_core.specs.Journal.{start_history}
-use Rattle.sdf_plan.specs.declared.place.Place.{Place}
-use Rattle.sdf_plan.specs.declared.place.Place.TheVariants as At
 use Rattle.sdf_plan.specs.declared.plan.Plan.{Plan}
 use Rattle.sdf_plan.specs.declared.plan.Net.{Net}
+use Rattle.sdf_plan.specs.declared.plan.Blk.{Blk}
 use Rattle.trace_text.specs.declared.trace.Trace.{Trace}
 use Rattle.region_layout.specs.Rows.{queues_of, actors_of, pools_of}
 use Rattle.serial_law.specs.Serial.{SerialClass}
 use Rattle.job_law.specs.Jobs.{Job, HasJob}
 use Rattle.actor_law.specs.Kinds.{scene_of}
-use Rattle.wired_law.specs.Wiring.{HasWhole}
-use Rattle.cast_core.specs.Casts.{job_part, net_place, scene_for}
+use Rattle.wired_law.specs.Wiring.{HasWhole, HasBlk}
+use Rattle.cast_core.specs.Casts.{job_part, net_place, blk_place, scene_for}
 use Rattle.cast_core.specs.Sources.{every_second}
 use Rattle.system_core.specs.Shows.{Setting, Shown}
-use Rattle.system_core.specs.Crews.{net_crew, serial_crew}
-
--- the first class of a plan that can't be played yet, if it has one
-abbrev pub unplayed : Plan → Option Place
-unplayed plan = if is_some plan.blk then Some At.Blk else None
+use Rattle.system_core.specs.Crews.{net_crew, serial_crew, blk_crew}
 
 -- the serial class with so many clients, from its first queue on: two queues between device and
 -- driver, two between driver and virtualisers, and then two for each client; with what a trace
@@ -35,7 +30,7 @@ serial_class first count trace = record {
   scripts = trace.says;
 }
 
--- the queues, the pools and the actors of a plan without the block class, with what a trace gives them
+-- the queues, the pools and the actors of a plan, with what a trace gives them
 pub record IsCastOf (plan : Plan) (trace : Trace) (s : Setting) : Type 0 where
   pub rows : s.rows ≡ queues_of plan
   pub pools : s.pools ≡ pools_of plan
@@ -45,11 +40,14 @@ pub record IsCastOf (plan : Plan) (trace : Trace) (s : Setting) : Type 0 where
   -- the actor of each job has the part of that job
   pub parts : (job : Job) (k : ℕ) → HasJob plan job k
       → slice_get s.cast k ≡ job_part plan trace job
-  -- the network class is there as a whole
+  -- the network class is there as a whole, and the block class
   pub whole : (net : Net) → plan.net ≡ Some net → HasWhole s.rows (net_place plan trace) s.cast
+  pub whole_block : (blk : Blk) → plan.blk ≡ Some blk
+      → HasBlk s.rows (blk_place plan trace) s.cast
   -- the devices and the clients are those of the plan
   pub net : s.net ≡ net_crew plan
   pub serial : s.serial ≡ serial_crew plan
+  pub blk : s.blk ≡ blk_crew plan
 
 -- nothing happened before the journal begins
 abbrev pub BeginsAnew : Setting → Type 0

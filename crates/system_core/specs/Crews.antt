@@ -7,7 +7,9 @@ use Rattle.sdf_plan.specs.declared.plan.Net.{Net}
 use Rattle.sdf_plan.specs.declared.plan.NetClient.{NetClient}
 use Rattle.sdf_plan.specs.declared.plan.Serial.{Serial}
 use Rattle.sdf_plan.specs.declared.plan.SerialClient.{SerialClient}
-use Rattle.region_layout.specs.Rows.{actor_named, eth_number, uart_number}
+use Rattle.sdf_plan.specs.declared.plan.Blk.{Blk}
+use Rattle.sdf_plan.specs.declared.plan.BlkClient.{BlkClient}
+use Rattle.region_layout.specs.Rows.{actor_named, eth_number, uart_number, disk_number}
 use Rattle.system_core.specs.Shows.{Crew}
 use Rattle.system_core.specs.States.{crew_of, nobody}
 
@@ -24,6 +26,11 @@ net_crew plan = option_map_or (λ (net : Net). crew_of (Some (eth_number plan).0
 abbrev pub serial_crew : Plan → Crew
 serial_crew plan = option_map_or (λ (serial : Serial). crew_of (Some (uart_number plan).0)
     (map (λ (c : SerialClient). number_named plan c.pd) serial.client)) plan.serial nobody
+
+-- those of the block class
+abbrev pub blk_crew : Plan → Crew
+blk_crew plan = option_map_or (λ (blk : Blk). crew_of (Some (disk_number plan).0)
+    (map (λ (c : BlkClient). number_named plan c.pd) blk.client)) plan.blk nobody
 
 -- the actor that takes from a queue
 abbrev pub IsTaker : List QueueRow → (queue actor : ℕ) → Type 0

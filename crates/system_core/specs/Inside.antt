@@ -12,14 +12,15 @@ use Rattle.system_core.specs.declared.system.System.TheInside.{Inside}
 abbrev pub setting_of : Inside → Setting
 setting_of a =
     begun (history_of a.rows.items a.past.value.items) a.rows.items a.pools.items a.actors.items
-    a.net a.serial
+    a.net a.serial a.blk
 
 -- the view
 abbrev pub shown_of : Inside → Shown
 shown_of a = record {
   setting = setting_of a;
   journal = a.journal.items;
-  state = state_of a.world a.pools.items a.actors.items a.net a.serial;
+  state = state_of a.world a.pools.items a.actors.items a.net a.serial
+      a.blk;
 }
 
 -- the parts of a system belong together, and which actors are runnable is kept

@@ -1,6 +1,6 @@
 -- What holds of every system, however it was built and played: its seats, its journal at each
 -- moment, and what is seen of it.
-use Rattle.std.specs.Prelude.{◌≡◌, ◌⊎◌, ◌+◌, ◌≤◌, ℕ, Some, is_some, List, [], length, map, slice_get}
+use Rattle.std.specs.Prelude.{◌≡◌, ◌+◌, ◌*◌, ◌≤◌, ℕ, Some, is_some, List, [], length, map, slice_get}
 use Rattle.std.specs.Option.{option_map, option_map_or}
 use Rattle.wire_core.specs.declared.names.QueueRow.{QueueRow}
 use Rattle.wire_core.specs.declared.names.Entry.{Entry}
@@ -8,23 +8,28 @@ use Rattle.wire_core.specs.Journal.{LegalJournal, EachMoment, BellsHold, QueuesF
 use Rattle.wire_core.specs.Marks.{no_drops, Brisk}
 use Rattle.cargo_core.specs.Capacities.{IsCapacity}
 use Rattle.cargo_core.specs.Lists.{IsPrefix, PrefixMerge}
+use Rattle.cargo_core.specs.declared.item.Ask.{Ask}
+use Rattle.cargo_core.specs.declared.item.Reply.{Reply}
+use Rattle.blk_expect.specs.Replies.{replies_of}
+use Rattle.blk_parts.specs.Numbers.{BlkPlace, blk_client_at}
 use Rattle.frame_core.specs.declared.mac.Mac.{Mac}
 use Rattle.net_expect.specs.Expecting.{Program, frames_for}
-use Rattle.net_owners.specs.Names.{ClientPools}
+use Rattle.net_owners.specs.Names.{PoolAt, ClientPools}
 use Rattle.net_parts.specs.Numbers.{client_first, device_at, client_at}
 use Rattle.net_tx_parts.specs.Numbers.{NetPlace}
 use Rattle.net_tx_cast.specs.Casting.{sends_at}
 use Rattle.play_core.specs.Moved.{Seat}
 use Rattle.play_core.specs.Sheets.{AreSeated, IsSeat}
 use Rattle.play_core.specs.Still.{IsPeopled}
-use Rattle.owner_law.specs.Owners.{replay}
+use Rattle.owner_law.specs.Owners.{Table, replay}
 use Rattle.owner_law.specs.Keeping.{start_table}
 use Rattle.pool_lines.specs.PoolLines.{table_lines}
-use Rattle.actor_set.specs.Parts.{Part, NetworkPart}
+use Rattle.actor_set.specs.Parts.{Part, NetworkPart, BlockPart}
 use Rattle.actor_law.specs.Kinds.{scene_of}
 use Rattle.actor_law.specs.Records.{record_by}
-use Rattle.wired_law.specs.Wiring.{HasWhole, HasNoNetwork, IsWired}
-use Rattle.cast_pools.specs.Pooling.{net_naming, keepers_at, HasPools, ArePooled}
+use Rattle.wired_law.specs.Wiring.{HasWhole, HasNoNetwork, HasBlk, HasNoBlock, IsWired}
+use Rattle.cast_pools.specs.Places.{PoolPlace, IsPlaced, HasPools, ArePooled, cast_naming}
+use Rattle.cast_pools.specs.Pooling.{keepers_at, BeginsWith, HasOwners, AreKindly}
 use Rattle.system_core.specs.Shows.{Setting, Shown, hostile_in, sheet_in, moved_in, RowsStand}
 
 -- the rows and the actors fit one another
@@ -39,25 +44,29 @@ pub record IsFitted (s : Setting) : Type 0 where
   -- no actor has both ends of a queue
   pub split : (n : ℕ) (row : QueueRow) → slice_get s.rows n ≡ Some row
       → row.producer.0 ≡ row.consumer.0 → ⊥
-  -- the network's actors, if there are any, are the whole class at the layout's queues
+  -- the actors of the network, if there are any, are the whole class at the layout's queues, and so
+  -- are those of the block class
   pub wired : IsWired s.rows s.cast
-  -- its pools are those of the network, where it has one, and none else; and they are followed from
-  -- the start state on
+  -- its pools are those of these classes, where it has them, and none else; and what was put and
+  -- taken before the journal begins shows a table of owners, in which each of their buffers has its
+  -- place
   pub pooled : ArePooled s.rows s.pools s.cast
-  pub anew : (s.pools ≡ []) ⊎ (s.history ≡ start_history s.rows)
+  pub owners : (place : PoolPlace) → IsPlaced s.rows place s.cast → HasPools s.pools place
+      → HasOwners s.history s.rows place s.cast
   -- each queue has a number of 16 bits
   pub numbered : length s.rows ≤ 65536
   -- and can hold an entry
   pub places : (n : ℕ) (row : QueueRow) → slice_get s.rows n ≡ Some row → IsCapacity row.capacity
 
 -- each queue hands over what was put, once and in order, each call is in discipline, at each moment
--- bells, queues and rows hold, and between two marks no actor but a hostile one makes more than 8
--- calls on an end
+-- bells, queues and rows hold and queues have what is of their kind, and between two marks no actor
+-- but a hostile one makes more than 8 calls on an end
 pub record IsLawful (s : Setting) (journal : List Entry) : Type 0 where
   pub legal : LegalJournal (hostile_in s) s.history s.rows journal
   pub bells_hold : EachMoment (BellsHold (hostile_in s) s.history s.rows) journal
   pub flows : EachMoment (QueuesFlow (hostile_in s) s.history s.rows) journal
   pub rows_hold : EachMoment (RowsStand s) journal
+  pub kinds : EachMoment (AreKindly s.history s.rows) journal
   pub brisk : Brisk (hostile_in s) no_drops journal
 
 -- the bytes that the actor at a place recorded
@@ -84,22 +93,43 @@ pub record TellsFrames (s : Shown) (net : NetPlace) : Type 0 where
       × PrefixMerge (sends_at net.programs net.macs (scene_of s.setting.cast).frames) sent
       × (length sent ≡ length ((moved_in s.setting s.journal).taken (net.first + 2)))
 
--- line and records are what the journal says that device and clients took; those of the network,
--- whose frames no journal has, are what its place says of them
+-- at a place of the block class a client's record is a beginning of what it must get, a reply for
+-- each response that it took, where these are no more than its requests
+abbrev pub TellsReplies : Shown → BlkPlace → Type 0
+TellsReplies s blk = (c k j : ℕ) (asks : List Ask) (pool : PoolAt) (entry : ℕ) (got : List Reply)
+    → slice_get s.setting.blk.clients c ≡ Some k
+    → slice_get s.setting.cast k ≡ Some (BlockPart (blk_client_at blk.first j asks pool))
+    → slice_get blk.entries j ≡ Some entry → slice_get blk.asks j ≡ Some asks
+    → slice_get s.state.blk c ≡ Some got → IsPrefix got (replies_of blk.image entry asks)
+    × (length ((moved_in s.setting s.journal).taken (blk.first + 5 + 2 * j)) ≤ length asks
+    → length got ≡ length ((moved_in s.setting s.journal).taken (blk.first + 5 + 2 * j)))
+
+-- line and records are what the journal says that device and clients took; those of the network and
+-- of the block class, whose frames and blocks no journal has, are what their places say of them
 pub record IsTold (s : Shown) : Type 0 where
   pub line : s.state.line ≡ option_map (record_at s) s.setting.serial.device
   pub serial : s.state.serial ≡ map (record_at s) s.setting.serial.clients
   pub wire : is_some s.state.wire ≡ is_some s.setting.net.device
   pub net : length s.state.net ≡ length s.setting.net.clients
   pub frames : (net : NetPlace) → HasWhole s.setting.rows net s.setting.cast → TellsFrames s net
-  -- the lines of the network's pools are those of the table of owners after the journal
-  pub pools : (net : NetPlace) → HasWhole s.setting.rows net s.setting.cast
-      → HasPools s.setting.pools net → s.state.pools
-      ≡ table_lines (replay (net_naming (scene_of s.setting.cast) net)
+  pub blk : length s.state.blk ≡ length s.setting.blk.clients
+  pub replies : (blk : BlkPlace) → HasBlk s.setting.rows blk s.setting.cast → TellsReplies s blk
+  -- the lines of the pools are those of the table of owners after the journal, from any table on
+  -- with which it begins
+  pub pools : (place : PoolPlace) → IsPlaced s.setting.rows place s.setting.cast
+      → HasPools s.setting.pools place → (start : Table)
+      → BeginsWith s.setting.history s.setting.rows place s.setting.cast start → s.state.pools
+      ≡ table_lines (replay (cast_naming (scene_of s.setting.cast) place) s.setting.history start
+      s.journal) 0 s.setting.pools
+  -- so they are from the start state on, from the table on in which each pool's buffers are in the
+  -- hand of the actor that owns it
+  pub pools_anew : s.setting.history ≡ start_history s.setting.rows → (place : PoolPlace)
+      → IsPlaced s.setting.rows place s.setting.cast → HasPools s.setting.pools place
+      → s.state.pools ≡ table_lines (replay (cast_naming (scene_of s.setting.cast) place)
       (start_history s.setting.rows) (start_table (keepers_at s.setting.cast)) s.journal) 0
       s.setting.pools
-  -- without a network there are none
-  pub no_pools : HasNoNetwork s.setting.cast → s.state.pools ≡ []
+  -- without a network and a block class there are none
+  pub no_pools : HasNoNetwork s.setting.cast → HasNoBlock s.setting.cast → s.state.pools ≡ []
   -- nothing was counted as bad
   pub bad : s.state.bad ≡ 0
 

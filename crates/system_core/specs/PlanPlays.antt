@@ -8,11 +8,16 @@ use Rattle.frame_core.specs.declared.mac.Mac.{Mac}
 use Rattle.net_expect.specs.Expecting.{frames_for}
 use Rattle.net_tx_parts.specs.Numbers.{NetPlace}
 use Rattle.net_tx_cast.specs.Casting.{sends_at}
-use Rattle.cast_core.specs.Casts.{net_place}
+use Rattle.cast_core.specs.Casts.{net_place, blk_place}
 use Rattle.cast_core.specs.Sources.{first_serial}
 use Rattle.serial_law.specs.Serial.{ArrivesInPart}
 use Rattle.sdf_plan.specs.declared.plan.Plan.{Plan}
 use Rattle.sdf_plan.specs.declared.plan.Net.{Net}
+use Rattle.sdf_plan.specs.declared.plan.Blk.{Blk}
+use Rattle.cargo_core.specs.declared.item.Ask.{Ask}
+use Rattle.cargo_core.specs.declared.item.Reply.{Reply}
+use Rattle.blk_expect.specs.Replies.{replies_of}
+use Rattle.blk_parts.specs.Numbers.{BlkPlace}
 use Rattle.sdf_plan.specs.declared.plan.Serial.{Serial}
 use Rattle.trace_text.specs.declared.trace.Trace.{Trace}
 use Rattle.expect_core.specs.Budgets.{budget_of}
@@ -55,6 +60,19 @@ pub record ShowsAllFrames (net : NetPlace) (frames : List (List ℕ)) (s : State
   pub wire : (sent : List (List ℕ)) × (s.wire ≡ Some sent) × Merge
       (sends_at net.programs net.macs frames) sent
 
+-- each block client recorded a beginning of what it must get
+pub record ShowsReplies (blk : BlkPlace) (s : State) : Type 0 where
+  pub count_is : length s.blk ≡ length blk.entries
+  pub records : (c entry : ℕ) (asks : List Ask) (got : List Reply)
+      → slice_get blk.entries c ≡ Some entry → slice_get blk.asks c ≡ Some asks
+      → slice_get s.blk c ≡ Some got → IsPrefix got (replies_of blk.image entry asks)
+
+-- each block client recorded all that it must get
+pub record ShowsAllReplies (blk : BlkPlace) (s : State) : Type 0 where
+  pub records : (c entry : ℕ) (asks : List Ask) (got : List Reply)
+      → slice_get blk.entries c ≡ Some entry → slice_get blk.asks c ≡ Some asks
+      → slice_get s.blk c ≡ Some got → got ≡ replies_of blk.image entry asks
+
 -- the system of a plan and a trace, whatever its queues had before its journal begins, after a seed
 -- picked its steps, at most so many
 pub record IsPlayedOn (plan : Plan) (trace : Trace) (seed limit : ℕ) (s : Shown) : Type 0 where
@@ -71,12 +89,16 @@ pub record IsPlayedOn (plan : Plan) (trace : Trace) (seed limit : ℕ) (s : Show
       → ShowsInPart (length serial.client) trace s.state
   pub shows_net : (net : Net) → plan.net ≡ Some net
       → ShowsFrames (net_place plan trace) trace.frames s.state
+  pub shows_blk : (blk : Blk) → plan.blk ≡ Some blk → ShowsReplies (blk_place plan trace) s.state
   -- where nobody is runnable, all bytes of the serial class arrived
   pub whole : runnable_now s ≡ [] → (serial : Serial) → plan.serial ≡ Some serial
       → ShowsWhole (length serial.client) trace s.state
   -- and all frames of the network
   pub whole_net : runnable_now s ≡ [] → (net : Net) → plan.net ≡ Some net
       → ShowsAllFrames (net_place plan trace) trace.frames s.state
+  -- and all replies of the block class
+  pub whole_blk : runnable_now s ≡ [] → (blk : Blk) → plan.blk ≡ Some blk
+      → ShowsAllReplies (blk_place plan trace) s.state
 
 -- the same from the start state on, before which nothing happened
 pub record IsPlayed (plan : Plan) (trace : Trace) (seed limit : ℕ) (s : Shown) : Type 0 where

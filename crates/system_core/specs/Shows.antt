@@ -29,6 +29,7 @@ pub record Setting : Type 0 where
   pub cast : List Part
   pub net : Crew
   pub serial : Crew
+  pub blk : Crew
 
 -- what can be seen of a system: the wire, the line, what each client of each class recorded, where
 -- the pages are, and what the virtualisers counted as bad; of a class that isn't there, nothing

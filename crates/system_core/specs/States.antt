@@ -2,6 +2,7 @@
 use Rattle.std.specs.Prelude.{◌-◌, ◌^◌, ℕ, false, min, Option, None, List, [], ◌∷◌, map, slice_get, sum_by}
 use Rattle.std.specs.Option.{option_map, option_map_or}
 use Rattle.cargo_core.specs.declared.item.PoolId.{PoolId}
+use Rattle.cargo_core.specs.declared.item.Reply.{Reply}
 use Rattle.cargo_core.specs.Bodies.{buffers_of}
 use Rattle.wire_core.specs.declared.names.PoolRow.{PoolRow}
 use Rattle.wire_core.specs.declared.names.QueueRow.{QueueRow}
@@ -11,7 +12,7 @@ use Rattle.spsc_queue.specs.Known.Ends.{EndedIs}
 use Rattle.pool_lines.specs.PoolLines.{counted_lines}
 use Rattle.actor_set.specs.Actors.{part_of, bad_of, actor_hand, actor_lent}
 use Rattle.actor_set.specs.declared.actor.Actor.{Actor}
-use Rattle.actor_law.specs.Records.{record_of, frames_got}
+use Rattle.actor_law.specs.Records.{record_of, frames_got, replies_got}
 use Rattle.cast_pools.specs.Holders.{holders_of}
 use Rattle.system_core.specs.Shows.{Crew, Setting, State, Shown}
 
@@ -22,6 +23,10 @@ record_from actors k = option_map_or record_of (slice_get actors k) []
 -- the frames that the actor at a place recorded
 abbrev pub frames_from : List Actor → ℕ → List (List ℕ)
 frames_from actors k = option_map_or frames_got (slice_get actors k) []
+
+-- the replies that the actor at a place recorded
+abbrev pub replies_from : List Actor → ℕ → List Reply
+replies_from actors k = option_map_or replies_got (slice_get actors k) []
 
 -- how many buffers of a pool are in the hands of actors
 abbrev pub held_by : PoolId → List Actor → ℕ
@@ -36,13 +41,13 @@ abbrev pub bad_in : List Actor → ℕ
 bad_in actors = min (sum_by bad_of actors) (2 ^ 64 - 1)
 
 -- what is seen of queues and actors
-abbrev pub state_of : List Queue → List PoolRow → List Actor → (net serial : Crew) → State
-state_of world pools actors net serial = record {
+abbrev pub state_of : List Queue → List PoolRow → List Actor → (net serial blk : Crew) → State
+state_of world pools actors net serial blk = record {
   wire = option_map (frames_from actors) net.device;
   net = map (frames_from actors) net.clients;
   line = option_map (record_from actors) serial.device;
   serial = map (record_from actors) serial.clients;
-  blk = [];
+  blk = map (replies_from actors) blk.clients;
   pools = counted_lines world (holders_of actors) 0 pools;
   bad = bad_in actors;
 }
@@ -64,15 +69,16 @@ history_of rows [] = start_history rows
 history_of rows (ring ∷ rings) = map track_of (ring ∷ rings)
 
 -- these queues, pools and actors, with what the queues had before the journal begins
-abbrev pub begun : History → List QueueRow → List PoolRow → List Actor → (net serial : Crew)
+abbrev pub begun : History → List QueueRow → List PoolRow → List Actor → (net serial blk : Crew)
     → Setting
-begun history rows pools actors net serial = record {
+begun history rows pools actors net serial blk = record {
   history = history;
   rows = rows;
   pools = pools;
   cast = map part_of actors;
   net = net;
   serial = serial;
+  blk = blk;
 }
 
 -- a device and clients
@@ -85,9 +91,9 @@ nobody = crew_of None []
 
 -- a system whose journal begins with this history, and whose queues have this in them
 abbrev pub started : History → List QueueRow → List PoolRow → List Queue → List Actor
-    → (net serial : Crew) → Shown
-started history rows pools world actors net serial = record {
-  setting = begun history rows pools actors net serial;
+    → (net serial blk : Crew) → Shown
+started history rows pools world actors net serial blk = record {
+  setting = begun history rows pools actors net serial blk;
   journal = [];
-  state = state_of world pools actors net serial;
+  state = state_of world pools actors net serial blk;
 }

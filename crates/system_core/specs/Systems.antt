@@ -9,13 +9,12 @@ use Rattle.wire_core.specs.Journal.{History, track, IsShown, LegalJournal, Bells
 use Rattle.wire_core.specs.Marks.{no_drops, since}
 use Rattle.play_core.specs.Moved.{moved}
 use Rattle.owner_law.specs.Pages.{CarryPages}
-use Rattle.net_tx_parts.specs.Numbers.{NetPlace}
 use Rattle.turn_kit.specs.Pace.{Paced, pendings}
 use Rattle.actor_set.specs.Actors.{FitsActor, ActorStandsFor, ActorEnd, part_of, actor_round}
 use Rattle.actor_law.specs.Kinds.{hostiles, scene_of}
 use Rattle.actor_law.specs.Turning.{InTurn}
-use Rattle.wired_law.specs.Wiring.{AreOfKind, ClientsSend, HasWhole}
-use Rattle.cast_pools.specs.Pooling.{net_naming}
+use Rattle.wired_law.specs.Wiring.{AreOfKind, ClientsSend}
+use Rattle.cast_pools.specs.Places.{PoolPlace, IsPlaced, cast_naming}
 use Rattle.system_core.specs.Shows.{Setting, hostile_in}
 use Rattle.system_core.specs.Lawful.{IsFitted}
 use Rattle.actor_set.specs.declared.actor.Actor.{Actor}
@@ -36,10 +35,11 @@ pub record Holds (history : History) (rows : List QueueRow) (world : List Queue)
       → IsShown row (queue_at world n) (track history n journal)
   pub fits : (k : ℕ) (x : Actor) → slice_get actors k ≡ Some x → FitsActor (end_at world) x
   pub stands : (k : ℕ) (x : Actor) → slice_get actors k ≡ Some x → ActorStandsFor x passed
-  -- entries carry the pages that their items name, where the network's queues are the first
-  pub carry : (net : NetPlace) → HasWhole rows net (map part_of actors) → net.first ≡ 0
-      → CarryPages (net_naming (scene_of (map part_of actors)) net) (moved history journal) passed
-  -- the network's clients put good descriptors alone
+  -- entries carry the pages that their items name, where the classes with pools stand
+  pub carry : (place : PoolPlace) → IsPlaced rows place (map part_of actors)
+      → CarryPages (cast_naming (scene_of (map part_of actors)) place) (moved history journal)
+      passed
+  -- the network's clients put good descriptors alone, those of the block class good requests
   pub sends : ClientsSend (map part_of actors) passed
   -- nothing came out of turn at any actor
   pub in_turn : (k : ℕ) (x : Actor) → slice_get actors k ≡ Some x

@@ -8,6 +8,7 @@ mod records;
 mod running;
 mod system;
 
+pub use actor_parts::Parts;
 pub use actor_set::Actor;
 pub use crew::Crew;
-pub use system::{Ending, System, unplayed};
+pub use system::{Ending, System};

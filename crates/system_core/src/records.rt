@@ -1,11 +1,12 @@
 //! What the actors of a class recorded: its device for its line or its wire, and each client.
 ghost use Rattle.std.specs.Prelude.{◌≡◌, List, map, IfOk, slice_get, Some, []};
 ghost use Rattle.std.specs.Option.{option_map};
-ghost use Rattle.actor_law.specs.Records.{record_of, frames_got};
-ghost use Rattle.system_core.specs.States.{record_from, frames_from};
+ghost use Rattle.actor_law.specs.Records.{record_of, frames_got, replies_got};
+ghost use Rattle.system_core.specs.States.{record_from, frames_from, replies_from};
 
 use actor_set::Actor;
-use cargo_core::{Bytes, FrameLog, Memory, Series};
+use cargo_core::{Bytes, FrameLog, Memory, Reply, Series};
+use cast_core::copied_frames;
 use std::alloc::Global;
 
 // What an actor sent on its line, or recorded.
@@ -50,24 +51,13 @@ pub fn records(alloc: Global, actors: &[Actor], clients: &[u16]) -> Result<Serie
     Ok(records)
 }
 
-// A copy of frames.
-fn copy(alloc: Global, frames: &FrameLog) -> Result<FrameLog, Memory>
-    ensures { IfOk result (λ l. l ≡ frames.now) }
-{
-    let mut copy = FrameLog::new(alloc);
-    for k in 0..frames.len() {
-        copy.push(frames.get(k))?;
-    }
-    Ok(copy)
-}
-
 // The frames that an actor sent on its wire, or recorded.
 fn frames_got(alloc: Global, actor: &Actor) -> Result<FrameLog, Memory>
     ensures { IfOk result (λ l. l ≡ frames_got actor.now) }
 {
     match actor {
-        Actor::EthDevice(device) => copy(alloc, device.wire()),
-        Actor::NetClient(client) => copy(alloc, client.got()),
+        Actor::EthDevice(device) => copied_frames(alloc, device.wire()),
+        Actor::NetClient(client) => copied_frames(alloc, client.got()),
         _ => Ok(FrameLog::new(alloc)),
     }
 }
@@ -107,6 +97,56 @@ pub fn frame_records(
     let mut records = Series::new(alloc);
     for client in clients {
         records.push(frames_from(alloc, actors, *client)?)?;
+    }
+    Ok(records)
+}
+
+// Copies of replies.
+fn reply_copies(alloc: Global, replies: &[Reply]) -> Result<Series<Reply>, Memory>
+    ensures { IfOk result (λ rs. rs ≡ replies.now) }
+{
+    let mut copies = Series::new(alloc);
+    for reply in replies {
+        let bytes = Bytes::from_slice(alloc, reply.bytes.as_slice())?;
+        copies.push(Reply {
+            resp: reply.resp,
+            bytes,
+        })?;
+    }
+    Ok(copies)
+}
+
+// The replies that an actor recorded.
+fn replies_got(alloc: Global, actor: &Actor) -> Result<Series<Reply>, Memory>
+    ensures { IfOk result (λ rs. rs ≡ replies_got actor.now) }
+{
+    match actor {
+        Actor::BlkClient(client) => reply_copies(alloc, client.replies()),
+        _ => Ok(Series::new(alloc)),
+    }
+}
+
+// The replies that the actor at a place recorded.
+fn replies_from(alloc: Global, actors: &[Actor], place: u16) -> Result<Series<Reply>, Memory>
+    ensures { IfOk result (λ rs. rs ≡ replies_from actors.now place) }
+{
+    match actors.get(place as usize) {
+        Some(actor) => replies_got(alloc, actor),
+        None => Ok(Series::new(alloc)),
+    }
+}
+
+/// The replies that each of these actors recorded.
+pub fn replies(
+    alloc: Global,
+    actors: &[Actor],
+    clients: &[u16],
+) -> Result<Series<Series<Reply>>, Memory>
+    ensures { IfOk result (λ rs. rs ≡ map (replies_from actors.now) clients.now) }
+{
+    let mut records = Series::new(alloc);
+    for client in clients {
+        records.push(replies_from(alloc, actors, *client)?)?;
     }
     Ok(records)
 }

@@ -10,7 +10,7 @@ ghost use Rattle.trace_text.specs.Traces.{IsReadFor};
 ghost use Rattle.region_layout.specs.Layouts.{layout_of};
 ghost use Rattle.sdf_check.specs.Valid.{Valid};
 ghost use Rattle.actor_law.specs.Kinds.{manner_of, idles};
-ghost use Rattle.cast_pools.specs.Pooling.{ArePooled};
+ghost use Rattle.cast_pools.specs.Places.{ArePooled};
 ghost use Rattle.system_core.specs.Shows.{runs};
 ghost use Rattle.system_core.specs.States.{history_of, begun, nobody, started};
 ghost use Rattle.system_core.specs.Systems.{Holds, GoesOn};
@@ -20,13 +20,15 @@ ghost use Rattle.system_core.specs.Reports.{report_of};
 ghost use Rattle.system_core.specs.Runnings.{removed_if, with_option};
 ghost use Rattle.system_core.specs.Plays.{Played, IsSpent, StepsAt, runnable_now};
 ghost use Rattle.system_core.specs.Asking.{IsAsked, AreWhole};
-ghost use Rattle.system_core.specs.Builds.{unplayed, IsBuilt};
+ghost use Rattle.system_core.specs.Builds.{IsBuilt};
 ghost use Rattle.system_core.specs.PlanPlays.{IsPlayed, HasEnded};
 
+mod apart;
+
 use crate::crew::Crew;
-use crate::crews::{net_crew, serial_crew};
+use crate::crews::{blk_crew, net_crew, serial_crew};
 use crate::lines::{bad, lines, pool_copies};
-use crate::records::{frame_records, line, records, wire};
+use crate::records::{frame_records, line, records, replies, wire};
 use crate::running::Running;
 use actor_set::Actor;
 use cargo_core::{Memory, Series};
@@ -34,7 +36,7 @@ use cast_core::{cast, copies};
 use expect_core::Report;
 use plain_wires::World;
 use region_layout::Layout;
-use sdf_plan::{Place, Plan};
+use sdf_plan::Plan;
 use serial_law::serial_law;
 use spsc_queue::Ended;
 use std::alloc::Global;
@@ -62,6 +64,7 @@ pub struct System {
     actors: Vec<Actor>,
     net: Crew,
     serial: Crew,
+    blk: Crew,
     running: Running,
     journal: Vec<Entry>,
     // The rings that the system was made from, with what their queues had before the journal
@@ -79,17 +82,6 @@ impl Model for System {
     ghost view = { shown_of };
 
     ghost invariant = { IsSystem };
-}
-
-/// The first class of a plan that can't be played yet, if it has one.
-pub fn unplayed(plan: &Plan) -> Option<Place>
-    ensures { result ≡ unplayed plan.now }
-{
-    if plan.blk.is_some() {
-        Some(Place::Blk)
-    } else {
-        None
-    }
 }
 
 // Whether the actor at a place isn't runnable.
@@ -192,7 +184,7 @@ fn first_running(
     requires { Holds (history_of rows.now past.now.value.items) rows.now world.now actors.now [] }
     ensures list { IfOk result (λ r. r.list
         ≡ runs (begun (history_of rows.now past.now.value.items) rows.now [] actors.now
-        nobody nobody) []) }
+        nobody nobody nobody) []) }
     ensures room { IfOk result (λ r. length actors.now ≤ r.room) }
 {
     let mut running = Running::with_room(alloc, actors.len())?;
@@ -207,8 +199,8 @@ fn first_running(
 
 impl System {
     /// A system in its start state: actors in theirs, each with the ends that the rows give it.
-    /// `pools` are the pools of its network by their numbers, none where it has no network; `net`
-    /// and `serial` say which of the actors are the devices and the clients of the classes.
+    /// `pools` are the pools of its network and its block class by their numbers; `net`, `serial`
+    /// and `blk` say which of the actors are the devices and the clients of the classes.
     pub fn start(
         alloc: Global,
         rows: Vec<QueueRow>,
@@ -216,12 +208,13 @@ impl System {
         actors: Vec<Actor>,
         net: Crew,
         serial: Crew,
+        blk: Crew,
     ) -> Result<System, Memory>
         requires seated { AreSeated rows.items actors.items }
         requires pooled { ArePooled rows.items pools.items (map part_of actors.items) }
         ensures state { IfOk result (λ s. s
             ≡ started (start_history rows.items) rows.items pools.items (starts rows.items)
-            actors.items net serial) }
+            actors.items net serial blk) }
         ensures stands { IfOk result StandsLawful }
     {
         let world = World::new(alloc, &rows)?;
@@ -234,6 +227,7 @@ impl System {
             actors,
             net,
             serial,
+            blk,
             Snapshot::of(&none),
         )
     }
@@ -248,13 +242,14 @@ impl System {
         actors: Vec<Actor>,
         net: Crew,
         serial: Crew,
+        blk: Crew,
         past: Snapshot<Vec<Ended>>,
     ) -> Result<System, Memory>
         requires { GoesOn (begun (history_of rows.items past.value.items) rows.items pools.items
-            actors.items net serial) world actors.items }
+            actors.items net serial blk) world actors.items }
         ensures state { IfOk result (λ s. s
             ≡ started (history_of rows.items past.value.items) rows.items pools.items world
-            actors.items net serial) }
+            actors.items net serial blk) }
         ensures stands { IfOk result StandsLawful }
     {
         let running = first_running(alloc, &rows, &world, &actors, &past)?;
@@ -266,6 +261,7 @@ impl System {
             actors,
             net,
             serial,
+            blk,
             running,
             journal: Vec::new(alloc),
             past,
@@ -282,7 +278,7 @@ impl System {
     }
 
     /// The system of a plan in its start state: the actors and queues of its layout, with what a
-    /// trace gives them. The plan is one that can be played.
+    /// trace gives them.
     pub fn build(
         alloc: Global,
         plan: &Plan,
@@ -290,7 +286,6 @@ impl System {
         trace: &Trace,
     ) -> Result<System, Memory>
         requires valid { Valid plan.now }
-        requires played { unplayed plan.now ≡ None }
         requires layout { layout.now ≡ layout_of plan.now }
         requires trace { IsReadFor plan.now trace.now }
         ensures built { IfOk result (IsBuilt plan.now trace.now) }
@@ -300,8 +295,9 @@ impl System {
         let actors = cast(alloc, plan, layout, trace)?;
         let net = net_crew(alloc, plan, &rows)?;
         let serial = serial_crew(alloc, plan, &rows)?;
+        let blk = blk_crew(alloc, plan, &rows)?;
         let pools = pool_copies(alloc, layout.pools())?;
-        System::start(alloc, rows, pools, actors, net, serial)
+        System::start(alloc, rows, pools, actors, net, serial, blk)
     }
 
     /// What is seen of the system as it is.
@@ -315,7 +311,7 @@ impl System {
             net: frame_records(self.alloc, &self.actors, self.net.clients())?,
             line: line(self.alloc, &self.actors, self.serial.device())?,
             serial: records(self.alloc, &self.actors, self.serial.clients())?,
-            blk: Series::new(self.alloc),
+            blk: replies(self.alloc, &self.actors, self.blk.clients())?,
             pools: lines(self.alloc, &self.pools, &self.world, &self.actors)?,
             bad: bad(&self.actors),
         })
@@ -393,7 +389,7 @@ impl System {
     }
 
     /// Builds the system of a plan and plays it by a seed until it is quiet or so many steps were
-    /// made. The plan is one that can be played.
+    /// made.
     pub fn played(
         alloc: Global,
         plan: &Plan,
@@ -403,7 +399,6 @@ impl System {
         limit: u64,
     ) -> Result<(System, Ending), Memory>
         requires valid { Valid plan.now }
-        requires played { unplayed plan.now ≡ None }
         requires layout { layout.now ≡ layout_of plan.now }
         requires trace { IsReadFor plan.now trace.now }
         ensures played { IfOk result (λ r. IsPlayed plan.now trace.now seed limit r.0) }

@@ -2,23 +2,24 @@
 //! the seed, the most steps, and the lines of a trace for it. `FILE with NAME as OTHER` stands for
 //! the plan in which a domain has another name, also one that no text spells, as `@uart`, the
 //! serial device's own. For each row one line is written: how the play ended, what was sent on the
-//! line, and what each client recorded. Bytes are written as runs, `3*61` for 616161; where several
-//! clients speak, the line is written as how often each byte stands in it, since their bytes come
-//! in any order.
+//! line, what each serial client recorded, and how many replies each block client got. Bytes are
+//! written as runs, `3*61` for 616161; where several clients speak, the line is written as how often
+//! each byte stands in it, since their bytes come in any order. Where a quiet play left a record or
+//! replies that the trace doesn't give the client, the line says so.
 #![tactic(auto)]
 
 ghost use Rattle.std.specs.Prelude.{◌≡◌, ◌<◌, ◌≤◌, IfOk, IfSome, length, None};
 ghost use Rattle.sdf_check.specs.Valid.{Valid};
 ghost use Rattle.sdf_plan.specs.Elements.{IsNumbered};
 ghost use Rattle.sdf_model.specs.Counts.{text_most};
-ghost use Rattle.system_core.specs.Builds.{unplayed};
+ghost use Rattle.trace_text.specs.Events.{blk_clients};
 ghost use Rattle.trace_text.specs.Traces.{IsReadFor};
 
 mod naming;
 mod numbering;
 
-use cargo_core::Memory;
-use expect_core::{Report, input_of};
+use cargo_core::{Memory, Reply};
+use expect_core::{Report, input_of, replies_of};
 use naming::rename_domain;
 use numbering::is_numbered;
 use region_layout::lay_out;
@@ -27,7 +28,7 @@ use sdf_model::{TEXT_MOST, read_description};
 use sdf_plan::{Plan, SdfFault};
 use std::alloc::Global;
 use std::{fs, io};
-use system_core::{Ending, System, unplayed};
+use system_core::{Ending, System};
 use trace_text::{Trace, TraceFault, read_trace};
 
 // The plan that a text spells, with another name of a domain where a row gives one as
@@ -89,7 +90,8 @@ fn add_counts(to: &mut String, bytes: &[u8]) -> Result<(), Memory> {
     Ok(())
 }
 
-// What a client recorded; that it isn't what the trace gives it is said where the play is quiet.
+// What a serial client recorded; that it isn't what the trace gives it is said where the play is
+// quiet.
 fn add_client(
     alloc: Global,
     to: &mut String,
@@ -116,8 +118,71 @@ fn add_client(
     Ok(())
 }
 
+// Whether these are the same replies.
+fn are_same(some: &[Reply], others: &[Reply]) -> bool {
+    if some.len() != others.len() {
+        return false;
+    }
+    for k in 0..some.len() {
+        if some[k].resp != others[k].resp || some[k].bytes.as_slice() != others[k].bytes.as_slice()
+        {
+            return false;
+        }
+    }
+    true
+}
+
+// How many replies a block client got; that they aren't what the trace gives it is said where the
+// play is quiet.
+fn add_replies(
+    alloc: Global,
+    to: &mut String,
+    report: &Report,
+    plan: &Plan,
+    trace: &Trace,
+    client: usize,
+    ending: Ending,
+) -> Result<(), Memory>
+    requires valid { Valid plan.now }
+    requires trace { IsReadFor plan.now trace.now }
+    requires client { client < length report.now.blk }
+    requires exists { client < length (blk_clients plan.now) }
+{
+    let replies = report.blk.get(client);
+    write!(to, " block {client} {}", replies.len())?;
+    let Ok(client) = u32::try_from(client) else {
+        return Ok(());
+    };
+    if ending == Ending::Quiet {
+        let wanted = replies_of(alloc, trace, plan, client)?;
+        if !are_same(wanted.as_slice(), replies.as_slice()) {
+            to.push_str(" and not what it must get")?;
+        }
+    }
+    Ok(())
+}
+
+// How many block clients a plan has.
+fn block_clients(plan: &Plan) -> usize
+    ensures { result ≡ length (blk_clients plan.now) }
+{
+    match &plan.blk {
+        Some(blk) => blk.client.len(),
+        None => 0,
+    }
+}
+
 // What a play came to.
-fn told(alloc: Global, report: &Report, trace: &Trace, ending: Ending) -> Result<String, Memory> {
+fn told(
+    alloc: Global,
+    report: &Report,
+    plan: &Plan,
+    trace: &Trace,
+    ending: Ending,
+) -> Result<String, Memory>
+    requires valid { Valid plan.now }
+    requires trace { IsReadFor plan.now trace.now }
+{
     let mut line = match ending {
         Ending::Quiet => String::from_str(alloc, "quiet")?,
         Ending::Spent => format!(in alloc; "spent {}", report.steps)?,
@@ -133,6 +198,9 @@ fn told(alloc: Global, report: &Report, trace: &Trace, ending: Ending) -> Result
     for c in 0..report.serial.len() {
         add_client(alloc, &mut line, report, trace, c, ending)?;
     }
+    for c in 0..report.blk.len().min(block_clients(plan)) {
+        add_replies(alloc, &mut line, report, plan, trace, c, ending)?;
+    }
     line.push_str("\n")?;
     Ok(line)
 }
@@ -140,13 +208,12 @@ fn told(alloc: Global, report: &Report, trace: &Trace, ending: Ending) -> Result
 // What a play of a plan comes to, with a trace that was read for it.
 fn play(alloc: Global, plan: &Plan, trace: &Trace, seed: u64, steps: u64) -> Result<String, Memory>
     requires valid { Valid plan.now }
-    requires played { unplayed plan.now ≡ None }
     requires trace { IsReadFor plan.now trace.now }
 {
     let layout = lay_out(alloc, plan)?;
     let (system, ending) = System::played(alloc, plan, &layout, trace, seed, steps)?;
     let report = system.report()?;
-    told(alloc, &report, trace, ending)
+    told(alloc, &report, plan, trace, ending)
 }
 
 // What a play of a plan comes to, with the lines of a row.
@@ -159,9 +226,6 @@ fn play_lines(
 ) -> Result<String, Memory>
     requires { Valid plan.now }
 {
-    if unplayed(plan).is_some() {
-        return Ok(String::from_str(alloc, "not played\n")?);
-    }
     let text = trace_of(alloc, lines)?;
     match read_trace(alloc, text.as_str().as_bytes(), plan) {
         Ok(trace) => play(alloc, plan, &trace, seed, steps),

@@ -26,7 +26,7 @@ use Rattle.trace_text.proofs.SoFar.{events_more, bad_line, bad_end, no_events}
 
 -- the number of sectors of a disk of the plan
 abbrev IsSectors : Plan → ℕ → Type 0
-IsSectors plan n = (is_some plan.blk ≡ true) × ((blocks : ℕ) × (1 ≤ blocks) × (n ≡ blocks * 8))
+IsSectors plan n = (is_some plan.blk ≡ true) × ((blocks : ℕ) × (1 ≤ blocks) × (n ≡ blocks * 8) × (blocks ≤ 8192))
 
 abbrev IsShaped : Plan → Event → Type 0
 IsShaped plan (Event.Rx frame) = IsFrame frame
@@ -80,7 +80,8 @@ sectors-shape plan n h =
     let whole : n % 8 ≡ 0 = eqb-true (n % 8) 0 one.1 in
     let some : 8 ≤ n = leb-true 8 n two.1 in
     let parts : n / 8 * 8 + n % 8 ≡ n = div-add-mod' n 8 in
-    (one.0, (n / 8, omega (arith, whole, some, parts), omega (arith, whole, parts)))
+    let most : n ≤ 65536 = leb-true n 65536 three.1 in
+    (one.0, (n / 8, omega (arith, whole, some, parts), omega (arith, whole, parts), omega (arith, most, parts)))
 
 disk-shape : (plan : Plan) (word : List ℕ) → IfSome (disk_line plan word) (IsShaped plan)
 unfolding disk_line
@@ -273,7 +274,7 @@ disk-more plan events (Event.Disk n) shape good h =
     let blocks = shape.1.0 in
     record {
       none = λ is. absurd (omega (arith, is));
-      some = λ is. (shape.0, (blocks, shape.1.1, length-replicate (512 * n) 0 ∙ omega (arith, shape.1.2)));
+      some = λ is. (shape.0, (blocks, shape.1.1, length-replicate (512 * n) 0 ∙ omega (arith, shape.1.2), shape.1.3));
     }
 disk-more plan events (Event.Patch at bytes) shape good h =
     let both = or-false (eqb (count_by is_disk_line events) 0) (ltb (length (image_of events)) (at + length bytes)) good in
@@ -282,7 +283,7 @@ disk-more plan events (Event.Patch at bytes) shape good h =
     let was = h.some there in
     record {
       none = λ is. absurd (omega (arith, is, there));
-      some = λ is. (was.0, (was.1.0, was.1.1, length-replaced (image_of events) at bytes fits ∙ was.1.2));
+      some = λ is. (was.0, (was.1.0, was.1.1, length-replaced (image_of events) at bytes fits ∙ was.1.2, was.1.3));
     }
 
 disk-after : (plan : Plan) (events : List Event) (m : Option Event) → IfSome m (IsShaped plan) → is_bad_after events m ≡ false

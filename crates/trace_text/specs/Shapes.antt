@@ -11,9 +11,10 @@ use Rattle.trace_text.specs.Limits.{frame_least, frame_most}
 abbrev pub IsFrame : List ℕ → Type 0
 IsFrame frame = (frame_least ≤ length frame) × (length frame ≤ frame_most)
 
--- the bytes of a disk: one block of 4,096 bytes or more
+-- the bytes of a disk: 1 to 8,192 blocks of 4,096 bytes
 abbrev pub IsDisk : List ℕ → Type 0
-IsDisk image = (blocks : ℕ) × (1 ≤ blocks) × (length image ≡ blocks * 4096)
+IsDisk image =
+    (blocks : ℕ) × (1 ≤ blocks) × (length image ≡ blocks * 4096) × (blocks ≤ 8192)
 
 -- a request for 1 to 8 blocks from one on, whose number has 32 bits
 abbrev pub NamesBlocks : Ask → Type 0

@@ -12,8 +12,8 @@ pub fn limits_law()
     ensures { (plan : Plan) (trace : Trace) → IsReadFor plan trace → KeepsLimits plan trace }
 {}
 
-/// The frames of a trace that was read, received and sent, have 14 to 1,514 bytes; its disk has one
-/// block of 4,096 bytes or more where the plan has a block class, and no byte else; and its
+/// The frames of a trace that was read, received and sent, have 14 to 1,514 bytes; its disk has 1
+/// to 8,192 blocks of 4,096 bytes where the plan has a block class, and no byte else; and its
 /// requests are such as a line gives: a read or a write names 1 to 8 blocks, and a write has 4,096
 /// bytes for each, where the others have none; a flush or a barrier names no block.
 pub fn shapes_law()

@@ -14,7 +14,15 @@ use Rattle.net_parts.specs.Numbers.{device_at, driver_at, receiver_at, copier_at
 use Rattle.net_parts.specs.Playing.{device_part, driver_part, receiver_part, copier_part, client_part}
 use Rattle.net_tx_parts.specs.Numbers.{sender_at}
 use Rattle.net_tx_parts.specs.Playing.{send_part}
-use Rattle.actor_set.specs.Parts.{NetworkPart, SendingPart}
+use Rattle.cargo_core.specs.declared.item.Ask.{Ask}
+use Rattle.pipe_driver.specs.Lengths.{two_pipes}
+use Rattle.blk_client.specs.declared.BlkClient.{BlkClient}
+use Rattle.blk_driver.specs.declared.BlkDriver.{BlkDriver}
+use Rattle.blk_virt.specs.declared.virtualiser.BlkVirt.{BlkVirt}
+use Rattle.blk_parts.specs.Numbers.{BlkPlace, disk_at, blk_driver_at, virt_at, blk_client_at}
+use Rattle.blk_parts.specs.Playing.{disk_part, blk_driver_part, virt_part, blk_client_part}
+use Rattle.actor_set.specs.declared.disk.Disk.{Disk}
+use Rattle.actor_set.specs.Parts.{NetworkPart, SendingPart, BlockPart}
 use Rattle.actor_set.specs.Actors.{part_of}
 use Rattle.actor_set.specs.declared.actor.Actor.{Actor}
 use Rattle.actor_set.specs.declared.actor.Actor.TheVariants as Kinds
@@ -31,6 +39,10 @@ device_actor first frames (Kinds.NetVirtRx x) e = absurd cc
 device_actor first frames (Kinds.NetCopier x) e = absurd cc
 device_actor first frames (Kinds.NetClient x) e = absurd cc
 device_actor first frames (Kinds.NetVirtTx x) e = absurd cc
+device_actor first frames (Kinds.DiskDevice x) e = absurd cc
+device_actor first frames (Kinds.BlkDriver x) e = absurd cc
+device_actor first frames (Kinds.BlkVirt x) e = absurd cc
+device_actor first frames (Kinds.BlkClient x) e = absurd cc
 
 pub driver_actor : (first : ℕ) (x : Actor) → part_of x ≡ NetworkPart (driver_at first) → (d : EthDriver) × (x ≡ Kinds.EthDriver d) × (driver_part (four_pipes d.driver.pipes) ≡ driver_at first)
 driver_actor first (Kinds.UartDevice x) e = absurd cc
@@ -44,6 +56,10 @@ driver_actor first (Kinds.NetVirtRx x) e = absurd cc
 driver_actor first (Kinds.NetCopier x) e = absurd cc
 driver_actor first (Kinds.NetClient x) e = absurd cc
 driver_actor first (Kinds.NetVirtTx x) e = absurd cc
+driver_actor first (Kinds.DiskDevice x) e = absurd cc
+driver_actor first (Kinds.BlkDriver x) e = absurd cc
+driver_actor first (Kinds.BlkVirt x) e = absurd cc
+driver_actor first (Kinds.BlkClient x) e = absurd cc
 
 pub receiver_actor : (first : ℕ) (pool : PoolAt) (macs : List Mac) (x : Actor) → part_of x ≡ NetworkPart (receiver_at first pool macs) → (v : NetVirtRx) × (x ≡ Kinds.NetVirtRx v) × (receiver_part v ≡ receiver_at first pool macs)
 receiver_actor first pool macs (Kinds.UartDevice x) e = absurd cc
@@ -57,6 +73,10 @@ receiver_actor first pool macs (Kinds.NetVirtRx x) e = (x, refl, cc)
 receiver_actor first pool macs (Kinds.NetCopier x) e = absurd cc
 receiver_actor first pool macs (Kinds.NetClient x) e = absurd cc
 receiver_actor first pool macs (Kinds.NetVirtTx x) e = absurd cc
+receiver_actor first pool macs (Kinds.DiskDevice x) e = absurd cc
+receiver_actor first pool macs (Kinds.BlkDriver x) e = absurd cc
+receiver_actor first pool macs (Kinds.BlkVirt x) e = absurd cc
+receiver_actor first pool macs (Kinds.BlkClient x) e = absurd cc
 
 pub copier_actor : (first k : ℕ) (x : Actor) → part_of x ≡ NetworkPart (copier_at first k) → (c : NetCopier) × (x ≡ Kinds.NetCopier c) × (copier_part c ≡ copier_at first k)
 copier_actor first k (Kinds.UartDevice x) e = absurd cc
@@ -70,6 +90,10 @@ copier_actor first k (Kinds.NetVirtRx x) e = absurd cc
 copier_actor first k (Kinds.NetCopier x) e = (x, refl, cc)
 copier_actor first k (Kinds.NetClient x) e = absurd cc
 copier_actor first k (Kinds.NetVirtTx x) e = absurd cc
+copier_actor first k (Kinds.DiskDevice x) e = absurd cc
+copier_actor first k (Kinds.BlkDriver x) e = absurd cc
+copier_actor first k (Kinds.BlkVirt x) e = absurd cc
+copier_actor first k (Kinds.BlkClient x) e = absurd cc
 
 pub client_actor : (first k : ℕ) (program : Program) (mac : Mac) (pools : ClientPools) (x : Actor) → part_of x ≡ NetworkPart (client_at first k program mac pools) → (c : NetClient) × (x ≡ Kinds.NetClient c) × (client_part c ≡ client_at first k program mac pools)
 client_actor first k program mac pools (Kinds.UartDevice x) e = absurd cc
@@ -83,6 +107,10 @@ client_actor first k program mac pools (Kinds.NetVirtRx x) e = absurd cc
 client_actor first k program mac pools (Kinds.NetCopier x) e = absurd cc
 client_actor first k program mac pools (Kinds.NetClient x) e = (x, refl, cc)
 client_actor first k program mac pools (Kinds.NetVirtTx x) e = absurd cc
+client_actor first k program mac pools (Kinds.DiskDevice x) e = absurd cc
+client_actor first k program mac pools (Kinds.BlkDriver x) e = absurd cc
+client_actor first k program mac pools (Kinds.BlkVirt x) e = absurd cc
+client_actor first k program mac pools (Kinds.BlkClient x) e = absurd cc
 
 pub sender_actor : (first : ℕ) (pools : List ClientPools) (x : Actor) → part_of x ≡ SendingPart (sender_at first pools) → (v : NetVirtTx) × (x ≡ Kinds.NetVirtTx v) × (send_part v ≡ sender_at first pools)
 sender_actor first pools (Kinds.UartDevice x) e = absurd cc
@@ -96,3 +124,75 @@ sender_actor first pools (Kinds.NetVirtRx x) e = absurd cc
 sender_actor first pools (Kinds.NetCopier x) e = absurd cc
 sender_actor first pools (Kinds.NetClient x) e = absurd cc
 sender_actor first pools (Kinds.NetVirtTx x) e = (x, refl, cc)
+sender_actor first pools (Kinds.DiskDevice x) e = absurd cc
+sender_actor first pools (Kinds.BlkDriver x) e = absurd cc
+sender_actor first pools (Kinds.BlkVirt x) e = absurd cc
+sender_actor first pools (Kinds.BlkClient x) e = absurd cc
+
+pub disk_actor : (place : BlkPlace) (x : Actor) → part_of x ≡ BlockPart (disk_at place) → (d : Disk) × (x ≡ Kinds.DiskDevice d) × (disk_part d.start.value d.device ≡ disk_at place)
+disk_actor place (Kinds.UartDevice x) e = absurd cc
+disk_actor place (Kinds.UartDriver x) e = absurd cc
+disk_actor place (Kinds.SerialVirtRx x) e = absurd cc
+disk_actor place (Kinds.SerialVirtTx x) e = absurd cc
+disk_actor place (Kinds.SerialClient x) e = absurd cc
+disk_actor place (Kinds.EthDevice x) e = absurd cc
+disk_actor place (Kinds.EthDriver x) e = absurd cc
+disk_actor place (Kinds.NetVirtRx x) e = absurd cc
+disk_actor place (Kinds.NetCopier x) e = absurd cc
+disk_actor place (Kinds.NetClient x) e = absurd cc
+disk_actor place (Kinds.NetVirtTx x) e = absurd cc
+disk_actor place (Kinds.DiskDevice x) e = (x, refl, cc)
+disk_actor place (Kinds.BlkDriver x) e = absurd cc
+disk_actor place (Kinds.BlkVirt x) e = absurd cc
+disk_actor place (Kinds.BlkClient x) e = absurd cc
+
+pub blk_driver_actor : (first : ℕ) (x : Actor) → part_of x ≡ BlockPart (blk_driver_at first) → (d : BlkDriver) × (x ≡ Kinds.BlkDriver d) × (blk_driver_part (two_pipes d.driver.pipes) ≡ blk_driver_at first)
+blk_driver_actor first (Kinds.UartDevice x) e = absurd cc
+blk_driver_actor first (Kinds.UartDriver x) e = absurd cc
+blk_driver_actor first (Kinds.SerialVirtRx x) e = absurd cc
+blk_driver_actor first (Kinds.SerialVirtTx x) e = absurd cc
+blk_driver_actor first (Kinds.SerialClient x) e = absurd cc
+blk_driver_actor first (Kinds.EthDevice x) e = absurd cc
+blk_driver_actor first (Kinds.EthDriver x) e = absurd cc
+blk_driver_actor first (Kinds.NetVirtRx x) e = absurd cc
+blk_driver_actor first (Kinds.NetCopier x) e = absurd cc
+blk_driver_actor first (Kinds.NetClient x) e = absurd cc
+blk_driver_actor first (Kinds.NetVirtTx x) e = absurd cc
+blk_driver_actor first (Kinds.DiskDevice x) e = absurd cc
+blk_driver_actor first (Kinds.BlkDriver x) e = (x, refl, cc)
+blk_driver_actor first (Kinds.BlkVirt x) e = absurd cc
+blk_driver_actor first (Kinds.BlkClient x) e = absurd cc
+
+pub virt_actor : (place : BlkPlace) (x : Actor) → part_of x ≡ BlockPart (virt_at place) → (v : BlkVirt) × (x ≡ Kinds.BlkVirt v) × (virt_part v ≡ virt_at place)
+virt_actor place (Kinds.UartDevice x) e = absurd cc
+virt_actor place (Kinds.UartDriver x) e = absurd cc
+virt_actor place (Kinds.SerialVirtRx x) e = absurd cc
+virt_actor place (Kinds.SerialVirtTx x) e = absurd cc
+virt_actor place (Kinds.SerialClient x) e = absurd cc
+virt_actor place (Kinds.EthDevice x) e = absurd cc
+virt_actor place (Kinds.EthDriver x) e = absurd cc
+virt_actor place (Kinds.NetVirtRx x) e = absurd cc
+virt_actor place (Kinds.NetCopier x) e = absurd cc
+virt_actor place (Kinds.NetClient x) e = absurd cc
+virt_actor place (Kinds.NetVirtTx x) e = absurd cc
+virt_actor place (Kinds.DiskDevice x) e = absurd cc
+virt_actor place (Kinds.BlkDriver x) e = absurd cc
+virt_actor place (Kinds.BlkVirt x) e = (x, refl, cc)
+virt_actor place (Kinds.BlkClient x) e = absurd cc
+
+pub blk_client_actor : (first k : ℕ) (asks : List Ask) (pool : PoolAt) (x : Actor) → part_of x ≡ BlockPart (blk_client_at first k asks pool) → (c : BlkClient) × (x ≡ Kinds.BlkClient c) × (blk_client_part c ≡ blk_client_at first k asks pool)
+blk_client_actor first k asks pool (Kinds.UartDevice x) e = absurd cc
+blk_client_actor first k asks pool (Kinds.UartDriver x) e = absurd cc
+blk_client_actor first k asks pool (Kinds.SerialVirtRx x) e = absurd cc
+blk_client_actor first k asks pool (Kinds.SerialVirtTx x) e = absurd cc
+blk_client_actor first k asks pool (Kinds.SerialClient x) e = absurd cc
+blk_client_actor first k asks pool (Kinds.EthDevice x) e = absurd cc
+blk_client_actor first k asks pool (Kinds.EthDriver x) e = absurd cc
+blk_client_actor first k asks pool (Kinds.NetVirtRx x) e = absurd cc
+blk_client_actor first k asks pool (Kinds.NetCopier x) e = absurd cc
+blk_client_actor first k asks pool (Kinds.NetClient x) e = absurd cc
+blk_client_actor first k asks pool (Kinds.NetVirtTx x) e = absurd cc
+blk_client_actor first k asks pool (Kinds.DiskDevice x) e = absurd cc
+blk_client_actor first k asks pool (Kinds.BlkDriver x) e = absurd cc
+blk_client_actor first k asks pool (Kinds.BlkVirt x) e = absurd cc
+blk_client_actor first k asks pool (Kinds.BlkClient x) e = (x, refl, cc)

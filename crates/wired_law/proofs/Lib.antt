@@ -1,3 +1,4 @@
 pub mod Acting
 pub mod Deeds
+pub mod Blocks
 pub mod Wiring

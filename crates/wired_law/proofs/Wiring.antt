@@ -31,6 +31,7 @@ use Rattle.net_cast.proofs.Numbers.{copier_queues}
 use Rattle.net_cast.proofs.Casting.{cast_in_turn, cast_takes, cast_leases, cast_records}
 use Rattle.net_tx_cast.specs.Casting.{AreSends, AllSend, IsClientOf, IsSenderAt, IsSendingClient, IsWholeCast, sends_at}
 use Rattle.net_tx_cast.proofs.Wholes.{none_out, good_taken, back_is, client_puts, wire_is}
+use Rattle.blk_parts.specs.Numbers.{BlkPlace}
 use Rattle.actor_set.specs.Parts.{Part, NetworkPart, SendingPart}
 use Rattle.actor_set.specs.Actors.{FitsActor, ActorStandsFor, part_of}
 use Rattle.actor_set.specs.declared.actor.Actor.{Actor}
@@ -39,9 +40,10 @@ use Rattle.actor_law.specs.Kinds.{scene_of}
 use Rattle.actor_law.specs.Records.{frames_got}
 use Rattle.actor_law.specs.Turning.{InTurn, SendsInTurn}
 use Rattle.actor_law.proofs.NetRows.{device_row_of}
-use Rattle.wired_law.specs.Wiring.{IsOfNetwork, HasWhole, HasNoNetwork, HasPart, IsWired, ClientsSend, AreAtWork}
+use Rattle.wired_law.specs.Wiring.{IsOfNetwork, HasWhole, HasNoNetwork, HasBlk, HasNoBlock, HasPart, IsWired, NetClientsSend, ClientsAsk, ClientsSend, AreAtWork}
 use Rattle.wired_law.proofs.Acting.{device_actor, driver_actor, receiver_actor, sender_actor, copier_actor, client_actor}
 use Rattle.wired_law.proofs.Deeds.{puts_or_takes}
+use Rattle.wired_law.proofs.Blocks.{disk_by, virt_by, client_by, nothing_asked, asks_by}
 
 -- a pool's entries are the same whether told by offsets or by device addresses
 own_sends : (pool : PoolAt) (passed : Passed) (n : ℕ) → AreSends pool (passed.sent n) → AreSends (own_pool pool) (passed.sent n)
@@ -210,7 +212,7 @@ module _ (ends : Role → ℕ → End) (rows : List QueueRow) (actors : List Act
     client_of k c at = client_is net frames _ _ _ _ _ _ _ _ (whole.only k (client_part c) (map_get part_of actors k (Kinds.NetClient c) at))
 
     -- what the clients put, by their numbers
-    all_send : ClientsSend cast passed → AllSend net passed
+    all_send : NetClientsSend cast passed → AllSend net passed
     all_send sends k q at =
         let below = there_below net.pools k q at in
         let pools_many = whole.pools_many in
@@ -221,7 +223,7 @@ module _ (ends : Role → ℕ → End) (rows : List QueueRow) (actors : List Act
         let has = whole.client k program.0 mac.0 q of in
         sends_own q.tx passed (client_first net.first k + 4) (sends has.0 program.0 mac.0 (client_first net.first k + 2) (client_first net.first k + 3) (client_first net.first k + 4) (client_first net.first k + 5) (own_pool q.rx) (own_pool q.tx) has.1)
 
-    sender_turns : ClientsSend cast passed → (v : NetVirtTx) → IsSenderAt net v passed → SendsInTurn v passed
+    sender_turns : NetClientsSend cast passed → (v : NetVirtTx) → IsSenderAt net v passed → SendsInTurn v passed
     unfolding whole_with
     sender_turns sends v is =
         let all = whole_with device_there.0 device_there.1 device_there.2 v is in
@@ -231,28 +233,32 @@ module _ (ends : Role → ℕ → End) (rows : List QueueRow) (actors : List Act
           in_turn = λ row. none_out net frames passed all row send;
         }
 
-    whole_turns : ClientsSend cast passed → (k : ℕ) (x : Actor) → slice_get actors k ≡ Some x → FitsActor ends x → ActorStandsFor x passed → InTurn (scene_of cast) x passed
-    whole_turns sends k (Kinds.UartDevice x) at fits stands = tt
-    whole_turns sends k (Kinds.UartDriver x) at fits stands = tt
-    whole_turns sends k (Kinds.SerialVirtRx x) at fits stands = tt
-    whole_turns sends k (Kinds.SerialVirtTx x) at fits stands = tt
-    whole_turns sends k (Kinds.SerialClient x) at fits stands = tt
-    whole_turns sends k (Kinds.EthDevice x) at fits stands = tt
-    whole_turns sends k (Kinds.EthDriver x) at fits stands = tt
-    whole_turns sends k (Kinds.NetVirtRx v) at fits stands = receiver_turns v (receiver_at_work v (receiver_is net frames v (whole.only k (receiver_part v) (map_get part_of actors k (Kinds.NetVirtRx v) at))) fits stands) fits.1
-    whole_turns sends k (Kinds.NetCopier c) at fits stands =
+    whole_turns : NetClientsSend cast passed → HasNoBlock cast ⊎ ((place : BlkPlace) × HasBlk rows place cast) → ClientsAsk cast passed → (k : ℕ) (x : Actor) → slice_get actors k ≡ Some x → FitsActor ends x → ActorStandsFor x passed → InTurn (scene_of cast) x passed
+    whole_turns sends block ask k (Kinds.UartDevice x) at fits stands = tt
+    whole_turns sends block ask k (Kinds.UartDriver x) at fits stands = tt
+    whole_turns sends block ask k (Kinds.SerialVirtRx x) at fits stands = tt
+    whole_turns sends block ask k (Kinds.SerialVirtTx x) at fits stands = tt
+    whole_turns sends block ask k (Kinds.SerialClient x) at fits stands = tt
+    whole_turns sends block ask k (Kinds.EthDevice x) at fits stands = tt
+    whole_turns sends block ask k (Kinds.EthDriver x) at fits stands = tt
+    whole_turns sends block ask k (Kinds.NetVirtRx v) at fits stands = receiver_turns v (receiver_at_work v (receiver_is net frames v (whole.only k (receiver_part v) (map_get part_of actors k (Kinds.NetVirtRx v) at))) fits stands) fits.1
+    whole_turns sends block ask k (Kinds.NetCopier c) at fits stands =
         let is = copier_is net frames c (whole.only k (copier_part c) (map_get part_of actors k (Kinds.NetCopier c) at)) in
         let own = copier_queues net.first is.0 c is.2 in
         subst (λ n. AreLeases (passed.taken n)) (sym own.0) (cast_leases net.first frames net.pool net.macs passed half_there is.0 is.1)
-    whole_turns sends k (Kinds.NetClient c) at fits stands =
+    whole_turns sends block ask k (Kinds.NetClient c) at fits stands =
         let is = client_of k c at in
         let part = is.5 in
         let own : c.program.mac ≡ is.2 = cc in
         let records = client_records is.0 is.1 is.2 (own_pools is.3) c part (whole.some is.0 is.3 is.4.pools) is.4.address fits stands in
         (fits.1, λ echo. subst (λ m. IsPrefix c.frames.tape.shown (frames_for m frames)) (sym own) records)
-    whole_turns sends k (Kinds.NetVirtTx v) at fits stands =
+    whole_turns sends block ask k (Kinds.NetVirtTx v) at fits stands =
         let part = sender_is net frames v (whole.only_sender k (send_part v) (map_get part_of actors k (Kinds.NetVirtTx v) at)) in
         sender_turns sends v (record { part = part; row = sender_row v passed stands })
+    whole_turns sends block ask k (Kinds.DiskDevice x) at fits stands = disk_by ends rows actors passed work block ask k x at
+    whole_turns sends block ask k (Kinds.BlkDriver x) at fits stands = tt
+    whole_turns sends block ask k (Kinds.BlkVirt x) at fits stands = virt_by ends rows actors passed work block ask k x at
+    whole_turns sends block ask k (Kinds.BlkClient x) at fits stands = client_by ends rows actors passed work block k x at
 
     pub recorded_here : (k c : ℕ) (x : Actor) (program : Program) (mac : Mac) (pools : ClientPools) → slice_get actors k ≡ Some x → part_of x ≡ NetworkPart (client_at net.first c program mac pools) → 1 ≤ pools.rx.buffers → slice_get net.macs c ≡ Some mac → IsPrefix (frames_got x) (frames_for mac frames)
     recorded_here k c x program mac pools at part some address =
@@ -261,7 +267,7 @@ module _ (ends : Role → ℕ → End) (rows : List QueueRow) (actors : List Act
         let stands : ActorStandsFor (Kinds.NetClient y.0) passed = subst (λ a. ActorStandsFor a passed) y.1 (work.stands k x at) in
         subst (λ a. IsPrefix (frames_got a) (frames_for mac frames)) (sym y.1) (client_records c program mac pools y.0 y.2 some address fits stands)
 
-    pub sent_here : ClientsSend cast passed → (k : ℕ) (x : Actor) → slice_get actors k ≡ Some x → part_of x ≡ NetworkPart (device_at net.first frames) → PrefixMerge (sends_at net.programs net.macs frames) (frames_got x)
+    pub sent_here : NetClientsSend cast passed → (k : ℕ) (x : Actor) → slice_get actors k ≡ Some x → part_of x ≡ NetworkPart (device_at net.first frames) → PrefixMerge (sends_at net.programs net.macs frames) (frames_got x)
     unfolding whole_with half_with
     sent_here sends k x at part =
         let d = device_actor net.first frames x part in
@@ -270,7 +276,7 @@ module _ (ends : Role → ℕ → End) (rows : List QueueRow) (actors : List Act
         subst (λ a. PrefixMerge (sends_at net.programs net.macs frames) (frames_got a)) (sym d.1) (wire_is net frames passed all sender_there.1.row (all_send sends))
 
     -- what came back to a client is in its own buffers
-    pub back_here : ClientsSend cast passed → (k : ℕ) (program : Program) (mac : Mac) (q : ClientPools) → IsClientOf net k program mac q → AreSends q.tx (passed.taken (client_first net.first k + 5))
+    pub back_here : NetClientsSend cast passed → (k : ℕ) (program : Program) (mac : Mac) (q : ClientPools) → IsClientOf net k program mac q → AreSends q.tx (passed.taken (client_first net.first k + 5))
     unfolding whole_with
     back_here sends = back_is net frames passed (whole_with device_there.0 device_there.1 device_there.2 sender_there.0 sender_there.1) sender_there.1.row (all_send sends)
 
@@ -278,25 +284,29 @@ module _ (ends : Role → ℕ → End) (rows : List QueueRow) (actors : List Act
     pub puts_here : (k : ℕ) (program : Program) (mac : Mac) (q : ClientPools) → IsClientOf net k program mac q → AreSends q.tx (passed.taken (client_first net.first k + 5)) → AreSends q.tx (passed.sent (client_first net.first k + 4))
     puts_here = client_puts net frames passed whole_there
 
-  none_turns : HasNoNetwork cast → (k : ℕ) (x : Actor) → slice_get actors k ≡ Some x → InTurn (scene_of cast) x passed
-  none_turns empty k (Kinds.UartDevice x) at = tt
-  none_turns empty k (Kinds.UartDriver x) at = tt
-  none_turns empty k (Kinds.SerialVirtRx x) at = tt
-  none_turns empty k (Kinds.SerialVirtTx x) at = tt
-  none_turns empty k (Kinds.SerialClient x) at = tt
-  none_turns empty k (Kinds.EthDevice x) at = tt
-  none_turns empty k (Kinds.EthDriver x) at = tt
-  none_turns empty k (Kinds.NetVirtRx v) at = absurd (empty.none k (receiver_part v) (map_get part_of actors k (Kinds.NetVirtRx v) at))
-  none_turns empty k (Kinds.NetCopier c) at = absurd (empty.none k (copier_part c) (map_get part_of actors k (Kinds.NetCopier c) at))
-  none_turns empty k (Kinds.NetClient c) at = absurd (empty.none k (client_part c) (map_get part_of actors k (Kinds.NetClient c) at))
-  none_turns empty k (Kinds.NetVirtTx v) at = absurd (empty.no_sender k (send_part v) (map_get part_of actors k (Kinds.NetVirtTx v) at))
+  none_turns : HasNoNetwork cast → HasNoBlock cast ⊎ ((place : BlkPlace) × HasBlk rows place cast) → ClientsAsk cast passed → (k : ℕ) (x : Actor) → slice_get actors k ≡ Some x → InTurn (scene_of cast) x passed
+  none_turns empty block ask k (Kinds.UartDevice x) at = tt
+  none_turns empty block ask k (Kinds.UartDriver x) at = tt
+  none_turns empty block ask k (Kinds.SerialVirtRx x) at = tt
+  none_turns empty block ask k (Kinds.SerialVirtTx x) at = tt
+  none_turns empty block ask k (Kinds.SerialClient x) at = tt
+  none_turns empty block ask k (Kinds.EthDevice x) at = tt
+  none_turns empty block ask k (Kinds.EthDriver x) at = tt
+  none_turns empty block ask k (Kinds.NetVirtRx v) at = absurd (empty.none k (receiver_part v) (map_get part_of actors k (Kinds.NetVirtRx v) at))
+  none_turns empty block ask k (Kinds.NetCopier c) at = absurd (empty.none k (copier_part c) (map_get part_of actors k (Kinds.NetCopier c) at))
+  none_turns empty block ask k (Kinds.NetClient c) at = absurd (empty.none k (client_part c) (map_get part_of actors k (Kinds.NetClient c) at))
+  none_turns empty block ask k (Kinds.NetVirtTx v) at = absurd (empty.no_sender k (send_part v) (map_get part_of actors k (Kinds.NetVirtTx v) at))
+  none_turns empty block ask k (Kinds.DiskDevice x) at = disk_by ends rows actors passed work block ask k x at
+  none_turns empty block ask k (Kinds.BlkDriver x) at = tt
+  none_turns empty block ask k (Kinds.BlkVirt x) at = virt_by ends rows actors passed work block ask k x at
+  none_turns empty block ask k (Kinds.BlkClient x) at = client_by ends rows actors passed work block k x at
 
-  turns_by : IsWired rows cast → ClientsSend cast passed → (k : ℕ) (x : Actor) → slice_get actors k ≡ Some x → InTurn (scene_of cast) x passed
-  turns_by (inl empty) sends k x at = none_turns empty k x at
-  turns_by (inr net) sends k x at = whole_turns net.0 net.1 sends k x at (work.fits k x at) (work.stands k x at)
+  turns_by : HasNoNetwork cast ⊎ ((net : NetPlace) × HasWhole rows net cast) → HasNoBlock cast ⊎ ((place : BlkPlace) × HasBlk rows place cast) → ClientsSend cast passed → (k : ℕ) (x : Actor) → slice_get actors k ≡ Some x → InTurn (scene_of cast) x passed
+  turns_by (inl empty) block sends k x at = none_turns empty block sends.requests k x at
+  turns_by (inr net) block sends k x at = whole_turns net.0 net.1 sends.frames block sends.requests k x at (work.fits k x at) (work.stands k x at)
 
 pub in_turn : (ends : Role → ℕ → End) (rows : List QueueRow) (actors : List Actor) (passed : Passed) → IsWired rows (map part_of actors) → AreAtWork ends rows actors passed → ClientsSend (map part_of actors) passed → (k : ℕ) (x : Actor) → slice_get actors k ≡ Some x → InTurn (scene_of (map part_of actors)) x passed
-in_turn ends rows actors passed wired work = turns_by ends rows actors passed work wired
+in_turn ends rows actors passed wired work = turns_by ends rows actors passed work wired.network wired.block
 
 pub recorded : (ends : Role → ℕ → End) (rows : List QueueRow) (actors : List Actor) (passed : Passed) (net : NetPlace) → HasWhole rows net (map part_of actors) → AreAtWork ends rows actors passed → (k c : ℕ) (x : Actor) (program : Program) (mac : Mac) (pools : ClientPools) → slice_get actors k ≡ Some x → part_of x ≡ NetworkPart (client_at net.first c program mac pools) → 1 ≤ pools.rx.buffers → slice_get net.macs c ≡ Some mac
     → IsPrefix (frames_got x) (frames_for mac (scene_of (map part_of actors)).frames)
@@ -304,14 +314,17 @@ recorded ends rows actors passed net whole work = recorded_here ends rows actors
 
 pub sent_on : (ends : Role → ℕ → End) (rows : List QueueRow) (actors : List Actor) (passed : Passed) (net : NetPlace) → HasWhole rows net (map part_of actors) → AreAtWork ends rows actors passed → ClientsSend (map part_of actors) passed → (k : ℕ) (x : Actor) → slice_get actors k ≡ Some x → part_of x ≡ NetworkPart (device_at net.first (scene_of (map part_of actors)).frames)
     → PrefixMerge (sends_at net.programs net.macs (scene_of (map part_of actors)).frames) (frames_got x)
-sent_on ends rows actors passed net whole work = sent_here ends rows actors passed work net whole
+sent_on ends rows actors passed net whole work sends = sent_here ends rows actors passed work net whole sends.frames
 
 -- nothing was put at the start
 pub nothing_sent : (cast : List Part) → ClientsSend cast nothing_passed
-nothing_sent cast k program mac rx_active rx_free tx_active tx_free rx tx at j c there = cc
+nothing_sent cast = record {
+  frames = λ k program mac rx_active rx_free tx_active tx_free rx tx at j c there. cc;
+  requests = nothing_asked cast;
+}
 
 -- a client's entries after one more call: where it puts one, nothing came back to it in this call
-module _ (ends ends' : Role → ℕ → End) (rows : List QueueRow) (actors actors' : List Actor) (passed : Passed) (deed : Deed) (same : map part_of actors' ≡ map part_of actors) (work : AreAtWork ends rows actors passed) (sends : ClientsSend (map part_of actors) passed) (later : AreAtWork ends' rows actors' (with_deed passed deed)) where
+module _ (ends ends' : Role → ℕ → End) (rows : List QueueRow) (actors actors' : List Actor) (passed : Passed) (deed : Deed) (same : map part_of actors' ≡ map part_of actors) (work : AreAtWork ends rows actors passed) (sends : NetClientsSend (map part_of actors) passed) (later : AreAtWork ends' rows actors' (with_deed passed deed)) where
   module _ (net : NetPlace) (whole : HasWhole rows net (map part_of actors)) where
     client_sends_on : (k : ℕ) (program : Program) (mac : Mac) (q : ClientPools) → IsClientOf net k program mac q → AreSends q.tx (passed.sent (client_first net.first k + 4)) → AreSends q.tx ((with_deed passed deed).sent (client_first net.first k + 4))
     client_sends_on k program mac q of old = by (puts_or_takes passed deed)
@@ -322,7 +335,7 @@ module _ (ends ends' : Role → ℕ → End) (rows : List QueueRow) (actors acto
             let back = back_here ends rows actors passed work net whole sends k program mac q of in
             puts_here ends' rows actors' (with_deed passed deed) later net (subst (HasWhole rows net) (sym same) whole) k program mac q of (subst (AreSends q.tx) (sym (still (client_first net.first k + 5))) back)
 
-    whole_sends_on : ClientsSend (map part_of actors) (with_deed passed deed)
+    whole_sends_on : NetClientsSend (map part_of actors) (with_deed passed deed)
     whole_sends_on k program mac rx_active rx_free tx_active tx_free rx tx at =
         let is = client_is net (scene_of (map part_of actors)).frames program mac rx_active rx_free tx_active tx_free rx tx (whole.only k (ClientPart program mac rx_active rx_free tx_active tx_free rx tx) at) in
         let e = is.5 in
@@ -333,9 +346,12 @@ module _ (ends ends' : Role → ℕ → End) (rows : List QueueRow) (actors acto
         let new = own_sends is.3.tx (with_deed passed deed) (client_first net.first is.0 + 4) (client_sends_on is.0 is.1 is.2 is.3 is.4 old) in
         subst (λ n. AreSends tx ((with_deed passed deed).sent n)) (sym queue) (subst (λ p. AreSends p ((with_deed passed deed).sent (client_first net.first is.0 + 4))) (sym pool) new)
 
-  sends_by : IsWired rows (map part_of actors) → ClientsSend (map part_of actors) (with_deed passed deed)
+  sends_by : HasNoNetwork (map part_of actors) ⊎ ((net : NetPlace) × HasWhole rows net (map part_of actors)) → NetClientsSend (map part_of actors) (with_deed passed deed)
   sends_by (inl empty) = λ k program mac rx_active rx_free tx_active tx_free rx tx at. absurd (empty.none k (ClientPart program mac rx_active rx_free tx_active tx_free rx tx) at)
   sends_by (inr net) = whole_sends_on net.0 net.1
 
 pub sends_on : (ends ends' : Role → ℕ → End) (rows : List QueueRow) (actors actors' : List Actor) (passed : Passed) (deed : Deed) → IsWired rows (map part_of actors) → map part_of actors' ≡ map part_of actors → AreAtWork ends rows actors passed → ClientsSend (map part_of actors) passed → AreAtWork ends' rows actors' (with_deed passed deed) → ClientsSend (map part_of actors') (with_deed passed deed)
-sends_on ends ends' rows actors actors' passed deed wired same work sends later = subst (λ c. ClientsSend c (with_deed passed deed)) (sym same) (sends_by ends ends' rows actors actors' passed deed same work sends later wired)
+sends_on ends ends' rows actors actors' passed deed wired same work sends later = subst (λ c. ClientsSend c (with_deed passed deed)) (sym same) (record {
+  frames = sends_by ends ends' rows actors actors' passed deed same work sends.frames later wired.network;
+  requests = asks_by ends ends' rows actors actors' passed deed same work sends.requests later wired.block;
+})

@@ -1,7 +1,8 @@
--- The network's actors in a cast: there are none, or they are the whole network at the layout's
--- queues.
+-- The actors of the network and of the block class in a cast: of either there are none, or they are
+-- the whole class at the layout's queues.
 use Rattle.std.specs.Prelude.{◌≡◌, ◌⊎◌, ◌+◌, ◌*◌, ◌<◌, ◌≤◌, ℕ, Some, List, length, slice_get}
 use Rattle.cargo_core.specs.Items.{kind_of}
+use Rattle.cargo_core.specs.declared.item.Ask.{Ask}
 use Rattle.cargo_core.specs.declared.item.QueueKind.TheVariants as Kind
 use Rattle.frame_core.specs.declared.mac.Mac.{Mac}
 use Rattle.wire_core.specs.declared.names.QueueRow.{QueueRow}
@@ -16,7 +17,11 @@ use Rattle.net_parts.specs.Numbers.{device_at, driver_at, receiver_at, copier_at
 use Rattle.net_tx_parts.specs.Parts.{SendPart}
 use Rattle.net_tx_parts.specs.Numbers.{NetPlace, own_pools, sender_at}
 use Rattle.net_tx_cast.specs.Casting.{AreFrames, AreSends, IsClientOf}
-use Rattle.actor_set.specs.Parts.{Part, NetworkPart, SendingPart}
+use Rattle.blk_parts.specs.Parts.{BlkPart, BlkClient}
+use Rattle.blk_parts.specs.Numbers.{BlkPlace, IsBlkClientOf, disk_at, blk_driver_at, virt_at, blk_client_at}
+use Rattle.blk_cast.specs.Casting.{AreRequests}
+use Rattle.blk_law.specs.Replying.{AreSized}
+use Rattle.actor_set.specs.Parts.{Part, NetworkPart, SendingPart, BlockPart}
 use Rattle.actor_set.specs.Actors.{FitsActor, ActorStandsFor}
 use Rattle.actor_set.specs.declared.actor.Actor.{Actor}
 use Rattle.actor_law.specs.Kinds.{scene_of}
@@ -68,17 +73,65 @@ pub record HasNoNetwork (cast : List Part) : Type 0 where
   pub none : (k : ℕ) (p : NetPart) → slice_get cast k ≡ Some (NetworkPart p) → ⊥
   pub no_sender : (k : ℕ) (p : SendPart) → slice_get cast k ≡ Some (SendingPart p) → ⊥
 
--- a cast has no actor of the network, or the whole network
-abbrev pub IsWired : List QueueRow → List Part → Type 0
-IsWired rows cast = HasNoNetwork cast ⊎ ((net : NetPlace) × HasWhole rows net cast)
+-- a part is one of the block class's at its place: that of the disk, the driver, the virtualiser or a
+-- client
+abbrev pub IsOfBlock : BlkPlace → BlkPart → Type 0
+IsOfBlock place p = (p ≡ disk_at place) ⊎ (p ≡ blk_driver_at place.first) ⊎ (p ≡ virt_at place)
+    ⊎ ((k entry : ℕ) × (asks : List Ask) × (pool : PoolAt) × IsBlkClientOf place k entry asks pool
+    × (p ≡ blk_client_at place.first k asks pool))
+
+-- a cast has the whole block class and no other actor of it; each client has a buffer; requests go
+-- to the driver; the disk has some blocks of 4,096 bytes, which the cast's scene tells; what a client
+-- writes has the size that it says; and no two clients have the same entry of the table of partitions
+pub record HasBlk (rows : List QueueRow) (place : BlkPlace) (cast : List Part) : Type 0 where
+  pub asks_many : length place.asks ≡ length place.entries
+  pub pools_many : length place.pools ≡ length place.entries
+  pub disk : HasPart cast (BlockPart (disk_at place))
+  pub driver : HasPart cast (BlockPart (blk_driver_at place.first))
+  pub virt : HasPart cast (BlockPart (virt_at place))
+  pub client : (k entry : ℕ) (asks : List Ask) (pool : PoolAt)
+      → IsBlkClientOf place k entry asks pool
+      → HasPart cast (BlockPart (blk_client_at place.first k asks pool))
+  pub only : (k : ℕ) (p : BlkPart) → slice_get cast k ≡ Some (BlockPart p) → IsOfBlock place p
+  pub requests : (row : QueueRow) × (slice_get rows (place.first + 2) ≡ Some row)
+      × (row.kind ≡ Kind.Req)
+  pub some : (k : ℕ) (pool : PoolAt) → slice_get place.pools k ≡ Some pool → 1 ≤ pool.buffers
+  pub blocks : ℕ
+  pub some_blocks : 1 ≤ blocks
+  pub image_long : length place.image ≡ blocks * 4096
+  pub image_is : (scene_of cast).image ≡ place.image
+  pub sized : (k : ℕ) (asks : List Ask) → slice_get place.asks k ≡ Some asks → AreSized asks
+  pub apart : (j k entry : ℕ) → slice_get place.entries j ≡ Some entry
+      → slice_get place.entries k ≡ Some entry → j ≡ k
+
+-- a cast has no actor of the block class
+abbrev pub HasNoBlock : List Part → Type 0
+HasNoBlock cast = (k : ℕ) (p : BlkPart) → slice_get cast k ≡ Some (BlockPart p) → ⊥
+
+-- a cast has no actor of the network, or the whole network; and none of the block class, or the
+-- whole class
+pub record IsWired (rows : List QueueRow) (cast : List Part) : Type 0 where
+  pub network : HasNoNetwork cast ⊎ ((net : NetPlace) × HasWhole rows net cast)
+  pub block : HasNoBlock cast ⊎ ((place : BlkPlace) × HasBlk rows place cast)
+
+-- each block client put requests in its own buffers alone
+abbrev pub ClientsAsk : List Part → Passed → Type 0
+ClientsAsk cast passed = (k req resp : ℕ) (asks : List Ask) (pool : PoolAt)
+    → slice_get cast k ≡ Some (BlockPart (BlkClient req resp asks pool))
+    → AreRequests pool (passed.sent req)
 
 -- each network client put entries alone that send frames in buffers of its pool for sending
-abbrev pub ClientsSend : List Part → Passed → Type 0
-ClientsSend cast passed = (k : ℕ) (program : Program) (mac : Mac)
+abbrev pub NetClientsSend : List Part → Passed → Type 0
+NetClientsSend cast passed = (k : ℕ) (program : Program) (mac : Mac)
     (rx_active rx_free tx_active tx_free : ℕ) (rx tx : PoolAt)
     → slice_get cast k
     ≡ Some (NetworkPart (NetClient program mac rx_active rx_free tx_active tx_free rx tx))
     → AreSends tx (passed.sent tx_active)
+
+-- both
+pub record ClientsSend (cast : List Part) (passed : Passed) : Type 0 where
+  pub frames : NetClientsSend cast passed
+  pub requests : ClientsAsk cast passed
 
 -- what was put to each queue is of the queue's kind
 abbrev pub AreOfKind : List QueueRow → Passed → Type 0

@@ -1,6 +1,6 @@
 //! The actors of a cast, of all classes, where the network's are the whole network at the layout's
-//! queues: nothing comes out of turn at any actor, so what passed at each is as its sheet says; and
-//! what the network's device and clients recorded.
+//! queues, and the block class's the whole class: nothing comes out of turn at any actor, so what
+//! passed at each is as its sheet says; and what the network's device and clients recorded.
 #![tactic(auto)]
 
 ghost use Rattle.std.specs.Prelude.{◌≡◌, ◌≤◌, ℕ, Some, List, map, slice_get};
@@ -24,7 +24,7 @@ ghost use Rattle.actor_law.specs.Turning.{InTurn};
 ghost use Rattle.wired_law.specs.Wiring.{HasWhole, IsWired, ClientsSend, AreAtWork};
 
 /// Nothing comes out of turn at any actor of a cast that is wired, where its clients put good
-/// descriptors alone; so they did when nothing had passed yet, and after one more call they still
+/// descriptors and requests alone; so they did when nothing had passed yet, and after one more call they still
 /// have. A network client with buffers of its own recorded a beginning of the frames that are for
 /// its address; and the device a merge of beginnings of what the clients send by their programs.
 pub fn wired_law()

@@ -1,6 +1,6 @@
 -- A cast that has the whole network has it among its actors; and where nobody is runnable these
 -- recorded all.
-use Rattle.std.proofs.Common.{◌≡◌, ◌+◌, ℕ, Some, List, map, slice_get, refl, ap, ◌∙◌, subst, inr}
+use Rattle.std.proofs.Common.{◌≡◌, ◌+◌, ℕ, Some, List, map, slice_get, refl, ap, ◌∙◌}
 use Rattle.cargo_core.specs.Lists.{Merge}
 use Rattle.frame_core.specs.declared.mac.Mac.{Mac}
 use Rattle.wire_core.specs.declared.names.QueueRow.{QueueRow}
@@ -12,7 +12,6 @@ use Rattle.play_core.specs.Moved.{Moved, moved}
 use Rattle.play_core.specs.Sheets.{RowsHold, needful}
 use Rattle.play_core.specs.Still.{IsStill, Plays}
 use Rattle.play_core.specs.Wants.{Needful}
-use Rattle.play_core.proofs.Lists.{map_from}
 use Rattle.play_core.proofs.Tables.{plays_there}
 use Rattle.rest_law.specs.Showing.{HaveItems}
 use Rattle.net_expect.specs.Expecting.{Program, frames_for}
@@ -28,9 +27,10 @@ use Rattle.actor_set.specs.declared.actor.Actor.{Actor}
 use Rattle.actor_law.specs.Kinds.{sheet, scene_of, hostiles}
 use Rattle.actor_law.specs.Records.{frames_got, frames_by}
 use Rattle.actor_law.proofs.Calm.{calm_actor}
-use Rattle.actor_law.proofs.Rows.{actor_row, frames_here}
-use Rattle.wired_law.specs.Wiring.{HasPart, HasWhole, ClientsSend, AreAtWork}
-use Rattle.wired_law.proofs.Wiring.{in_turn, recorded, sent_on}
+use Rattle.actor_law.proofs.Rows.{frames_here}
+use Rattle.wired_law.specs.Wiring.{HasPart, HasWhole, IsWired, ClientsSend, AreAtWork}
+use Rattle.wired_law.proofs.Wiring.{recorded, sent_on}
+use Rattle.wired_quiet.proofs.Rows.{rows_hold}
 
 -- the network among a cast's actors
 module _ (rows : List QueueRow) (cast : List Part) (m : Moved) (net : NetPlace) (whole : HasWhole rows net cast) (pools : HasPools net) (rooms : HasRooms (hostiles cast) rows net) (holds : RowsHold (sheet (scene_of cast)) (hostiles cast) cast m) where
@@ -53,21 +53,15 @@ module _ (rows : List QueueRow) (cast : List Part) (m : Moved) (net : NetPlace) 
   }
 
 -- actors that stand for what passed
-module _ (ends : Role → ℕ → End) (history : History) (rows : List QueueRow) (actors : List Actor) (journal : List Entry) (passed : Passed) (net : NetPlace) (whole : HasWhole rows net (map part_of actors)) (pools : HasPools net) (rooms : HasRooms (hostiles (map part_of actors)) rows net) (work : AreAtWork ends rows actors passed) (send : ClientsSend (map part_of actors) passed) (items : HaveItems passed (moved history journal)) where
+module _ (ends : Role → ℕ → End) (history : History) (rows : List QueueRow) (actors : List Actor) (journal : List Entry) (passed : Passed) (net : NetPlace) (whole : HasWhole rows net (map part_of actors)) (wired : IsWired rows (map part_of actors)) (pools : HasPools net) (rooms : HasRooms (hostiles (map part_of actors)) rows net) (work : AreAtWork ends rows actors passed) (send : ClientsSend (map part_of actors) passed) (items : HaveItems passed (moved history journal)) where
   abbrev cast : List Part
   cast = map part_of actors
 
   abbrev frames : List (List ℕ)
   frames = (scene_of cast).frames
 
-  rows_hold : RowsHold (sheet (scene_of cast)) (hostiles cast) cast (moved history journal)
-  rows_hold k p calm at =
-      let x = map_from part_of actors k p at in
-      let turn = in_turn ends rows actors passed (inr (net, whole)) work send k x.0 x.1 in
-      subst (λ part. (sheet (scene_of cast) part).row (moved history journal)) x.2 (actor_row (scene_of cast) passed (moved history journal) items x.0 turn (work.stands k x.0 x.1))
-
   there : IsNetwork (hostiles cast) (scene_of cast) rows (needful (sheet (scene_of cast)) cast (moved history journal)) net (moved history journal)
-  there = network_there rows cast (moved history journal) net whole pools rooms rows_hold
+  there = network_there rows cast (moved history journal) net whole pools rooms (rows_hold ends history rows actors journal passed wired work send items)
 
   module _ (still : IsStill (hostiles cast) history rows (needful (sheet (scene_of cast)) cast (moved history journal)) journal) where
     pub recorded_whole : (k c : ℕ) (x : Actor) (program : Program) (mac : Mac) (q : ClientPools) → slice_get actors k ≡ Some x → IsClientOf net c program mac q → part_of x ≡ NetworkPart (client_at net.first c program mac (own_pools q)) → frames_got x ≡ frames_for mac frames

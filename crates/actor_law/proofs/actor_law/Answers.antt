@@ -1,6 +1,6 @@
 use Rattle.actor_law.proofs.Calm.{sheet_own}
 use Rattle.actor_law.proofs.PartEnds.{to_part, from_part, end_seat, seat_end}
-use Rattle.actor_law.proofs.Rows.{actor_row, heard_here, frames_here}
+use Rattle.actor_law.proofs.Rows.{actor_row, heard_here, frames_here, replies_here}
 use Rattle.actor_law.proofs.Rests.{rests}
 use Rattle.actor_law.proofs.Beside.{fits_beside, stands_beside}
 use Rattle.actor_law.proofs.Starts.{fits_whole}
@@ -18,6 +18,9 @@ returns-clause-rests c = λ scene history journal world a passed turn fits stand
 
 pub returns-clause-frames : goal.returns-clause-frames
 returns-clause-frames c = λ a passed stands. frames_here passed a stands
+
+pub returns-clause-replies : goal.returns-clause-replies
+returns-clause-replies c = λ scene a passed turn stands. replies_here scene passed a turn stands
 
 pub returns-clause-whole : goal.returns-clause-whole
 returns-clause-whole c = fits_whole

@@ -1,7 +1,8 @@
 use Rattle.cast_law.proofs.Seated.{part_there}
-use Rattle.cast_law.proofs.Joined.{all_seated, whole_network, scene_of_plan}
+use Rattle.cast_law.proofs.Joined.{all_seated, whole_network, whole_block, scene_of_plan}
+use Rattle.cast_law.proofs.Blocks.{no_block}
 use Rattle.cast_law.proofs.Wired.{no_network}
-use Rattle.cast_law.proofs.Pooled.{numbered_is, sized_is, many_are, no_pools}
+use Rattle.cast_law.proofs.Pooled.{pooled, placed}
 use Rattle.cast_law.proofs.cast_law.Goals as goal
 
 pub returns-clause-seated : goal.returns-clause-seated
@@ -16,17 +17,17 @@ returns-clause-whole c = whole_network
 pub returns-clause-scene : goal.returns-clause-scene
 returns-clause-scene c = scene_of_plan
 
-pub returns-clause-numbered : goal.returns-clause-numbered
-returns-clause-numbered c = numbered_is
+pub returns-clause-pooled : goal.returns-clause-pooled
+returns-clause-pooled c = pooled
 
-pub returns-clause-sized : goal.returns-clause-sized
-returns-clause-sized c = sized_is
-
-pub returns-clause-many : goal.returns-clause-many
-returns-clause-many c = many_are
-
-pub returns-clause-no_pools : goal.returns-clause-no_pools
-returns-clause-no_pools c = no_pools
+pub returns-clause-placed : goal.returns-clause-placed
+returns-clause-placed c = λ plan trace actors valid read cast. placed plan trace valid actors read cast
 
 pub returns-clause-no_network : goal.returns-clause-no_network
 returns-clause-no_network c = no_network
+
+pub returns-clause-block : goal.returns-clause-block
+returns-clause-block c = whole_block
+
+pub returns-clause-no_block : goal.returns-clause-no_block
+returns-clause-no_block c = no_block

@@ -3,10 +3,10 @@ use Rattle.cast_pools.proofs.Goodness.{none_bad}
 use Rattle.cast_pools.proofs.holder_law.Goals as goal
 
 pub returns-clause-hands_on : goal.returns-clause-hands_on
-returns-clause-hands_on c = λ naming scene x passed m. actor_on naming scene passed m x
+returns-clause-hands_on c = λ naming scene x passed m items order. actor_on naming scene passed m items order x
 
 pub returns-clause-holds : goal.returns-clause-holds
-returns-clause-holds c = λ naming sizes scene x passed m names sized whole turn st items. actor_holds naming scene passed m sizes items x names sized whole turn st
+returns-clause-holds c = λ naming sizes scene x passed m items. actor_holds naming scene passed m items sizes x
 
 pub returns-clause-bad : goal.returns-clause-bad
 returns-clause-bad c = none_bad

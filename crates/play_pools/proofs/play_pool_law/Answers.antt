@@ -1,9 +1,13 @@
-use Rattle.play_pools.proofs.Showing.{shows_lines, lines_add}
+use Rattle.play_pools.proofs.Showing.{has_first, first_anew, shows_lines, lines_add}
 use Rattle.play_pools.proofs.Owning.{one_owner}
+use Rattle.play_pools.specs.Pools.{owners_table}
 use Rattle.play_pools.proofs.play_pool_law.Goals as goal
 
 pub returns-clause-lines : goal.returns-clause-lines
-returns-clause-lines c = shows_lines
+returns-clause-lines c = λ plan trace seed limit s first valid played. shows_lines plan trace seed limit s valid played first
+
+pub returns-clause-first : goal.returns-clause-first
+returns-clause-first c = has_first
 
 pub returns-clause-adds : goal.returns-clause-adds
 returns-clause-adds c = lines_add
@@ -12,4 +16,10 @@ pub returns-clause-bad : goal.returns-clause-bad
 returns-clause-bad c = λ plan trace seed limit s played. played.stands.told.bad
 
 pub returns-clause-one_owner : goal.returns-clause-one_owner
-returns-clause-one_owner c = one_owner
+returns-clause-one_owner c = λ plan trace seed limit s first valid played. one_owner plan trace seed limit s valid played first
+
+pub returns-clause-lines_anew : goal.returns-clause-lines_anew
+returns-clause-lines_anew c = λ plan trace seed limit s valid played. shows_lines plan trace seed limit s valid played.played (owners_table s) (first_anew plan trace seed limit s valid played.played played.begins)
+
+pub returns-clause-one_owner_anew : goal.returns-clause-one_owner_anew
+returns-clause-one_owner_anew c = λ plan trace seed limit s valid played. one_owner plan trace seed limit s valid played.played (owners_table s) (first_anew plan trace seed limit s valid played.played played.begins)

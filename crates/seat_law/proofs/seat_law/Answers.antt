@@ -2,7 +2,7 @@ use Rattle.seat_law.proofs.Having.{job_is_of}
 use Rattle.seat_law.proofs.Counts.{queues_before, few_queues, few_numbers}
 use Rattle.seat_law.proofs.Seats.{has_seat, has_end, known_by, not_both}
 use Rattle.seat_law.proofs.Carrying.{net_kinds}
-use Rattle.seat_law.proofs.Naming.{net_named, serial_named}
+use Rattle.seat_law.proofs.Naming.{net_named, serial_named, blk_named}
 use Rattle.seat_law.proofs.seat_law.Goals as goal
 
 pub returns-clause-of : goal.returns-clause-of
@@ -37,3 +37,6 @@ returns-clause-numbered c = few_queues
 
 pub returns-clause-few : goal.returns-clause-few
 returns-clause-few c = few_numbers
+
+pub returns-clause-blk_named : goal.returns-clause-blk_named
+returns-clause-blk_named c = blk_named

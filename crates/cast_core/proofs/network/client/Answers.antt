@@ -12,14 +12,14 @@ new-requires-clause-rx_pool c =
     let row = c.pool_row.result.now in
     let fits = pool_fits c.args.pools.now (1 + 2 * c.args.client) row.base row.buffers c.requires.rx c.pool_row.ensures.base c.pool_row.ensures.buffers in
     let few = fits.1 in
-    (record { 0 = 1 + 2 * c.args.client }, 2048, pages_are (1 + 2 * c.args.client) row.buffers 0 c.in_ok-rx_pages.rx_pages.items c.in_ok-rx_pages.ensures few (omega (arith, few)))
+    (record { 0 = 1 + 2 * c.args.client }, 2048, pages_are 2048 (1 + 2 * c.args.client) row.buffers 0 c.in_ok-rx_pages.rx_pages.items (omega arith) c.in_ok-rx_pages.ensures few (omega (arith, few)))
 
 pub new-requires-clause-tx_pool : goal.new-requires-clause-tx_pool
 new-requires-clause-tx_pool c =
     let row = c.pool_row-2.result.now in
     let fits = pool_fits c.args.pools.now (2 + 2 * c.args.client) row.base row.buffers c.requires.tx c.pool_row-2.ensures.base c.pool_row-2.ensures.buffers in
     let few = fits.1 in
-    (record { 0 = 2 + 2 * c.args.client }, 2048, pages_are (2 + 2 * c.args.client) row.buffers 0 c.in_ok-tx_pages.tx_pages.items c.in_ok-tx_pages.ensures few (omega (arith, few)))
+    (record { 0 = 2 + 2 * c.args.client }, 2048, pages_are 2048 (2 + 2 * c.args.client) row.buffers 0 c.in_ok-tx_pages.tx_pages.items (omega arith) c.in_ok-tx_pages.ensures few (omega (arith, few)))
 
 pub returns-clause-new : goal.returns-clause-new
 returns-clause-new c =

@@ -8,7 +8,7 @@ pub new-requires-clause-pool : goal.new-requires-clause-pool
 new-requires-clause-pool c =
     let row = c.pool_row-row.result.now in
     let fits = pool_fits c.args.pools.now 0 row.base row.buffers c.requires.pool c.pool_row-row.ensures.base c.pool_row-row.ensures.buffers in
-    (record { 0 = 0 }, 2048, pages_are 0 row.buffers row.base c.in_ok-pages.pages.items c.in_ok-pages.ensures fits.1 fits.2)
+    (record { 0 = 0 }, 2048, pages_are 2048 0 row.buffers row.base c.in_ok-pages.pages.items (omega arith) c.in_ok-pages.ensures fits.1 fits.2)
 
 pub new-requires-clause-few : goal.new-requires-clause-few
 new-requires-clause-few c =

@@ -1,6 +1,6 @@
 use Rattle.std.proofs.Common.{◌≡◌, ◌++◌, map, take}
 use Rattle.class_table.specs.Shown.{pool_shown}
-use Rattle.region_layout.specs.Uses.{pool_row}
+use Rattle.region_layout.specs.Rows.{pool_row}
 use Rattle.region_layout.proofs.pools.add_element.Given as goal
 
 abbrev pub invariant-loop-pool : goal.invariant-loop-pool

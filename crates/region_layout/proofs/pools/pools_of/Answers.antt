@@ -1,7 +1,6 @@
 use Rattle.std.proofs.Common.{◌≡◌, ◌<◌, ◌≤◌, length, sym, ◌∙◌, arith}
-use Rattle.region_layout.specs.Uses.{pool_rows}
+use Rattle.region_layout.specs.Rows.{pools_of, pool_rows}
 use Rattle.region_layout.proofs.RowLemmas.{rows-of-table, small-pools}
-use Rattle.region_layout.proofs.SameLemmas.{pools_same}
 use Rattle.region_layout.proofs.pools.pools_of.Goals as goal
 
 pub add_element-requires : goal.add_element-requires
@@ -11,8 +10,8 @@ add_element-requires c =
     small-pools items _ (c.in_ok-elements.ensures c.args.names.now.plan.now c.requires.table) c.requires.small c.loop-at.at c.index.result.now less c.index.ensures
 
 pub returns : goal.returns
+unfolding pools_of
 returns c =
     let items = c.in_ok-elements.elements.items in
     let past : length items ≤ c.loop-at.at = omega (arith, c.loop-at-test.false, c.len-at-end.ensures, c.in_ok-elements.elements.ok.0) in
     rows-of-table (pool_rows c.args.names.now.plan.now) items c.loop-at.at _ _ past (c.in_ok-elements.ensures c.args.names.now.plan.now c.requires.table) c.loop-at.invariant
-    ∙ sym (pools_same c.args.names.now.plan.now)

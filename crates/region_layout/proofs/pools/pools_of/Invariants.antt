@@ -1,7 +1,7 @@
 use Rattle.std.proofs.Common.{◌≡◌, take}
 use Rattle.std.specs.List.{flat_map}
 use Rattle.class_table.specs.Numbers.{seen}
-use Rattle.region_layout.specs.Uses.{pool_rows}
+use Rattle.region_layout.specs.Rows.{pool_rows}
 use Rattle.region_layout.proofs.pools.pools_of.Given as goal
 
 abbrev pub invariant-loop-at : goal.invariant-loop-at

@@ -1,6 +1,6 @@
 use Rattle.std.proofs.Common.{◌≡◌, ◌++◌, map, take}
 use Rattle.class_table.specs.Shown.{queue_shown}
-use Rattle.region_layout.specs.Uses.{queue_row}
+use Rattle.region_layout.specs.Rows.{queue_row}
 use Rattle.region_layout.proofs.queues.add_element.Given as goal
 
 abbrev pub invariant-loop-queue : goal.invariant-loop-queue

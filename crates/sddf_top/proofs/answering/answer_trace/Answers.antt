@@ -14,9 +14,9 @@ returns-then-bytes-gt-TEXT_MOST-clause-answer c = map-ok c.answer_too_long.resul
 pub returns-in-Ok-clause-answer : goal.returns-in-Ok-clause-answer
 returns-in-Ok-clause-answer c =
     map-ok c.play.result _ _ (λ r h. (
-      Play c.args.plan.now (trace_of c.args.plan.now c.args.bytes.now) c.args.options,
+      Play c.args.plan.now (trace_of c.args.plan.now c.args.bytes.now) c.args.showing,
       good_trace c.if-bytes-gt-TEXT_MOST.false c.in-Ok.ensures.good,
-      subst (λ t. Comes (Play c.args.plan.now t c.args.options) r.status (string_bytes r.text) r.played) c.in-Ok.ensures.trace h,
+      subst (λ t. Comes (Play c.args.plan.now t c.args.showing) r.status (string_bytes r.text) r.played) c.in-Ok.ensures.trace h,
     ))
     c.play.ensures.answer
 

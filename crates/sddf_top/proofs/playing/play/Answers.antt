@@ -6,7 +6,7 @@ use Rattle.expect_core.specs.declared.report.Report.{Report}
 use Rattle.expect_core.specs.Budgets.{budget_of}
 use Rattle.system_core.specs.PlanPlays.{IsPlayed}
 use Rattle.system_core.specs.Reports.{report_of}
-use Rattle.sddf_top.specs.Shown.{ending_of, shown_text}
+use Rattle.sddf_top.specs.Shown.{seed_of, ending_of, shown_text}
 use Rattle.sddf_top.proofs.PlanLemmas.{spent-whole, quiet-bounded}
 use Rattle.sddf_top.proofs.playing.play.Goals as goal
 
@@ -14,7 +14,7 @@ pub returns-clause-answer : goal.returns-clause-answer
 returns-clause-answer c = record {
   system = c.in_ok-system.system;
   played_is = refl;
-  plays = subst (λ n. IsPlayed c.args.plan.now c.args.trace.now c.args.options.seed n c.in_ok-system.system) c.limit_of-limit.ensures c.in_ok-system.ensures.played;
+  plays = subst (λ n. IsPlayed c.args.plan.now c.args.trace.now (seed_of c.args.showing) n c.in_ok-system.system) c.limit_of-limit.ensures (subst (λ n. IsPlayed c.args.plan.now c.args.trace.now n c.limit_of-limit.result c.in_ok-system.system) c.seed_of.ensures c.in_ok-system.ensures.played);
   spent = λ q. spent-whole c.limit_of-limit.result c.in_ok-system.system c.in_ok-system.field-0-1 c.in_ok-system.ensures.ended q ∙ c.limit_of-limit.ensures;
   status_is = c.ending_of.ensures ∙ ap (λ (r : Report). ending_of r.quiet r.steps) c.in_ok-report.ensures;
   bounded = λ enough. quiet-bounded (report_of c.in_ok-system.system).quiet (report_of c.in_ok-system.system).steps (length c.in_ok-system.system.journal) c.limit_of-limit.result (budget_of c.args.plan.now c.args.trace.now) c.ending_of.result
@@ -22,7 +22,7 @@ returns-clause-answer c = record {
       (λ q. spent-whole c.limit_of-limit.result c.in_ok-system.system c.in_ok-system.field-0-1 c.in_ok-system.ensures.ended q)
       c.in_ok-system.ensures.played.played.bounded
       (subst (λ n. budget_of c.args.plan.now c.args.trace.now ≤ n) (sym c.limit_of-limit.ensures) enough);
-  text_is = c.in_ok-text.ensures ∙ ap (λ (l : Layout). shown_text l c.args.options.journal c.in_ok-report.report c.journal.result.now) c.in_ok-layout.ensures.layout
-      ∙ ap (λ (r : Report). shown_text (layout_of c.args.plan.now) c.args.options.journal r c.journal.result.now) c.in_ok-report.ensures
-      ∙ ap (λ (j : List Entry). shown_text (layout_of c.args.plan.now) c.args.options.journal (report_of c.in_ok-system.system) j) c.journal.ensures;
+  text_is = c.in_ok-text.ensures ∙ ap (λ (l : Layout). shown_text l c.args.showing c.in_ok-report.report c.journal.result.now) c.in_ok-layout.ensures.layout
+      ∙ ap (λ (r : Report). shown_text (layout_of c.args.plan.now) c.args.showing r c.journal.result.now) c.in_ok-report.ensures
+      ∙ ap (λ (j : List Entry). shown_text (layout_of c.args.plan.now) c.args.showing (report_of c.in_ok-system.system) j) c.journal.ensures;
 }

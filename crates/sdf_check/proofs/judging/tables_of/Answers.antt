@@ -10,10 +10,6 @@ returns c = record {
   given = subst (λ (regions : List Region). IsFirstMeeting (map given_range regions) c.in_ok-given.given) c.as_slice.ensures c.in_ok-given.ensures;
   maps = subst (λ (firsts : List (Option ℕ)). AreFirstMaps c.args.judge.now.plan.now firsts) (sym c.from_vec-maps.ensures) c.in_ok-first_maps.ensures;
   uses = c.in_ok-uses.ensures;
-  domains = c.in_ok-named_domains.ensures.0;
-  domains_to_serial = c.in_ok-named_domains.ensures.1;
-  domains_to_blk = c.in_ok-named_domains.ensures.2;
-  regions = c.in_ok-named_regions.ensures.0;
-  regions_to_serial = c.in_ok-named_regions.ensures.1;
-  regions_to_blk = c.in_ok-named_regions.ensures.2;
+  domains = c.in_ok-named_domains.ensures c.args.judge.now.plan.now c.in_ok-classes.ensures;
+  regions = c.in_ok-named_regions.ensures c.args.judge.now.plan.now c.in_ok-classes.ensures;
 }

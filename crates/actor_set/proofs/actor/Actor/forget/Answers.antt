@@ -3,7 +3,8 @@ use Rattle.serial_terminal.specs.Terminals.{terminal_forgotten}
 use Rattle.actor_set.specs.declared.actor.Actor.TheVariants as Kinds
 use Rattle.net_virt_rx.specs.Sharing.{IsSharer}
 use Rattle.net_virt_tx.specs.Traffics.{IsTraffic}
-use Rattle.actor_set.specs.Actors.{FitsActor, IsWhole, IsWholeReceiver, IsWholeSender, Forgot}
+use Rattle.actor_set.specs.Actors.{FitsActor, IsWhole, IsWholeReceiver, IsWholeSender, IsWholeServer, Forgot}
+use Rattle.actor_set.proofs.Casting.{few_still, first_still}
 use Rattle.actor_set.proofs.actor.Actor.forget.Goals as goal
 
 pub returns-in-SerialVirtRx-clause-fits : goal.returns-in-SerialVirtRx-clause-fits
@@ -53,3 +54,17 @@ returns-in-NetVirtTx-clause-whole c = λ h.
 
 pub returns-in-NetVirtTx-clause-fits : goal.returns-in-NetVirtTx-clause-fits
 returns-in-NetVirtTx-clause-fits c = λ ends h. c.forget-in-NetVirtTx.ensures.fits ends (subst (FitsActor ends) c.in-NetVirtTx.is h)
+
+pub returns-in-BlkVirt-clause-fits : goal.returns-in-BlkVirt-clause-fits
+returns-in-BlkVirt-clause-fits c = λ ends h. let f = subst (FitsActor ends) c.in-BlkVirt.is h in (c.forget-in-BlkVirt.ensures.fits ends f.0, few_still c.in-BlkVirt.virt c.forget-in-BlkVirt.new.self c.forget-in-BlkVirt.ensures.same f.1, first_still c.in-BlkVirt.virt c.forget-in-BlkVirt.new.self c.forget-in-BlkVirt.ensures.same f.2)
+
+pub returns-in-BlkVirt-clause-whole : goal.returns-in-BlkVirt-clause-whole
+returns-in-BlkVirt-clause-whole c = λ h.
+    let was : IsWholeServer c.in-BlkVirt.virt = subst IsWhole c.in-BlkVirt.is h in
+    let same = c.forget-in-BlkVirt.ensures.same in
+    record {
+      few = few_still c.in-BlkVirt.virt c.forget-in-BlkVirt.new.self same was.few;
+      first = first_still c.in-BlkVirt.virt c.forget-in-BlkVirt.new.self same was.first;
+      from_each = ap (λ qs. length qs) same.ends.from_clients ∙ (was.from_each ∙ sym (ap (λ hs. length hs) same.work.clients));
+      to_each = ap (λ qs. length qs) same.ends.to_clients ∙ (was.to_each ∙ sym (ap (λ hs. length hs) same.work.clients));
+    }

@@ -1,5 +1,6 @@
 use Rattle.std.proofs.Common.{subst}
-use Rattle.actor_set.specs.Actors.{IsWhole, IsWholeReceiver, IsWholeSender}
+use Rattle.actor_set.specs.Actors.{IsWhole, IsWholeReceiver, IsWholeSender, IsWholeServer}
+use Rattle.actor_set.proofs.Casting.{few_pages}
 use Rattle.actor_set.proofs.actor.Actor.held.Goals as goal
 
 pub held-requires-in-NetVirtRx : goal.held-requires-in-NetVirtRx
@@ -10,3 +11,9 @@ held-requires-in-NetVirtTx c = let whole : IsWholeSender c.in-NetVirtTx.virt = s
 
 pub held-requires-in-NetClient : goal.held-requires-in-NetClient
 held-requires-in-NetClient c = record { few = subst IsWhole c.in-NetClient.is c.requires }
+
+pub held-requires-in-BlkVirt : goal.held-requires-in-BlkVirt
+held-requires-in-BlkVirt c = let whole : IsWholeServer c.in-BlkVirt.virt = subst IsWhole c.in-BlkVirt.is c.requires in whole.few
+
+pub held-requires-in-BlkClient : goal.held-requires-in-BlkClient
+held-requires-in-BlkClient c = record { few = few_pages c.in-BlkClient.client.asking (subst IsWhole c.in-BlkClient.is c.requires) }

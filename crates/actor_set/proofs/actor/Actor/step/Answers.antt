@@ -8,7 +8,10 @@ use Rattle.net_client.specs.Clients.{ClientStandsFor}
 use Rattle.net_virt_rx.specs.Receiving.{RxStandsFor as NetRxStandsFor}
 use Rattle.net_virt_tx.specs.Sending.{TxStandsFor as NetTxStandsFor}
 use Rattle.actor_set.specs.Actors.{FitsActor, ActorStandsFor}
-use Rattle.actor_set.proofs.Casting.{ok_actor, as_actor}
+use Rattle.disk_device.specs.Disks.{DiskStandsFor}
+use Rattle.blk_virt.specs.Virtualising.{BlkVirtStandsFor}
+use Rattle.blk_client.specs.Clients.{BlkClientStandsFor}
+use Rattle.actor_set.proofs.Casting.{ok_actor, as_actor, few_still, first_still}
 use Rattle.actor_set.proofs.actor.Actor.step.Goals as goal
 
 pub returns-in-UartDevice-clause-stepped : goal.returns-in-UartDevice-clause-stepped
@@ -46,3 +49,21 @@ returns-in-NetVirtRx-clause-stepped g c = ok_actor NetRxStandsFor _ _ _ _ _ _ _ 
 
 pub returns-in-NetVirtTx-clause-stepped : goal.returns-in-NetVirtTx-clause-stepped
 returns-in-NetVirtTx-clause-stepped g c = as_actor NetTxStandsFor _ _ _ _ _ _ _ _ (λ passed h. subst (λ a. ActorStandsFor a passed) c.in-NetVirtTx.is h) (λ passed h. h) c.step-in-NetVirtTx.ensures.stepped
+
+pub returns-in-DiskDevice-clause-stepped : goal.returns-in-DiskDevice-clause-stepped
+returns-in-DiskDevice-clause-stepped g c = as_actor (DiskStandsFor c.in-DiskDevice.disk.start.value) _ _ _ _ _ _ _ _ (λ passed h. subst (λ a. ActorStandsFor a passed) c.in-DiskDevice.is h) (λ passed h. h) (c.step-in-DiskDevice.ensures.stepped c.in-DiskDevice.disk.start.value)
+
+pub returns-in-BlkDriver-clause-stepped : goal.returns-in-BlkDriver-clause-stepped
+returns-in-BlkDriver-clause-stepped g c = as_actor PipesStandFor _ _ _ _ _ _ _ _ (λ passed h. subst (λ d. PipesStandFor (two_pipes d.pipes) passed) (sym c.deref_mut-in-BlkDriver.ensures.value) (subst (λ a. ActorStandsFor a passed) c.in-BlkDriver.is h)) (λ passed h. h) c.step-in-BlkDriver.ensures.stepped
+
+pub step-requires-in-BlkVirt : goal.step-requires-in-BlkVirt
+step-requires-in-BlkVirt g c = let f = subst (FitsActor (g.W.Wires.ends c.args.wires.now)) c.in-BlkVirt.is c.requires in f.0
+
+pub returns-in-BlkVirt-clause-fits : goal.returns-in-BlkVirt-clause-fits
+returns-in-BlkVirt-clause-fits g c = let f = subst (FitsActor (g.W.Wires.ends c.args.wires.now)) c.in-BlkVirt.is c.requires in (c.step-in-BlkVirt.ensures.fits, few_still c.in-BlkVirt.virt c.step-in-BlkVirt.new.self c.step-in-BlkVirt.ensures.same f.1, first_still c.in-BlkVirt.virt c.step-in-BlkVirt.new.self c.step-in-BlkVirt.ensures.same f.2)
+
+pub returns-in-BlkVirt-clause-stepped : goal.returns-in-BlkVirt-clause-stepped
+returns-in-BlkVirt-clause-stepped g c = as_actor BlkVirtStandsFor _ _ _ _ _ _ _ _ (λ passed h. subst (λ a. ActorStandsFor a passed) c.in-BlkVirt.is h) (λ passed h. h) c.step-in-BlkVirt.ensures.stepped
+
+pub returns-in-BlkClient-clause-stepped : goal.returns-in-BlkClient-clause-stepped
+returns-in-BlkClient-clause-stepped g c = ok_actor BlkClientStandsFor _ _ _ _ _ _ _ c.step-in-BlkClient.result (λ passed h. subst (λ a. ActorStandsFor a passed) c.in-BlkClient.is h) (λ passed h. h) c.step-in-BlkClient.ensures.stepped

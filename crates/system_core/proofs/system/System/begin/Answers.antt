@@ -1,4 +1,4 @@
-use Rattle.std.proofs.Common.{◌∙◌, ap, refl, None, [], map, arith}
+use Rattle.std.proofs.Common.{◌∙◌, ap, refl, [], map, arith}
 use Rattle.actor_set.specs.Actors.{part_of}
 use Rattle.actor_law.specs.Kinds.{scene_of, hostiles}
 use Rattle.system_core.specs.States.{history_of, begun, nobody}
@@ -17,7 +17,7 @@ invariant_of-system c = record {
   rows_hold = rw c.new.ensures.items (rows_now (scene_of (map part_of c.args.actors.items)) (history_of c.args.rows.items c.args.past.value.items) c.args.rows.items c.args.world c.args.actors.items [] c.requires.holds refl (hostiles (map part_of c.args.actors.items)), tt);
   brisk = rw c.new.ensures.items ((λ a calm r n. omega arith), tt);
   running = rw c.new.ensures.items (c.in_ok-running.ensures.list
-      ∙ (ap (λ rs. runs (begun (history_of rs c.args.past.value.items) rs [] c.deref-2.result.now nobody nobody) []) c.deref.ensures.value
-      ∙ ap (λ xs. runs (begun (history_of c.args.rows.items c.args.past.value.items) c.args.rows.items [] xs nobody nobody) []) c.deref-2.ensures.value));
+      ∙ (ap (λ rs. runs (begun (history_of rs c.args.past.value.items) rs [] c.deref-2.result.now nobody nobody nobody) []) c.deref.ensures.value
+      ∙ ap (λ xs. runs (begun (history_of c.args.rows.items c.args.past.value.items) c.args.rows.items [] xs nobody nobody nobody) []) c.deref-2.ensures.value));
   room = rw c.deref-2.ensures.value at c.in_ok-running.ensures.room;
 }

@@ -3,7 +3,7 @@ use Rattle.system_core.proofs.system.System.played.Goals as goal
 
 pub returns-clause-played : goal.returns-clause-played
 returns-clause-played c =
-    together c.in_ok-system.system c.play.new.self c.args.seed c.args.limit c.in_ok-ending.ensures.played c.args.plan.now c.requires.valid c.requires.played c.args.trace.now c.requires.trace c.in_ok-system.ensures.built c.in_ok-ending.ensures.stands
+    together c.in_ok-system.system c.play.new.self c.args.seed c.args.limit c.in_ok-ending.ensures.played c.args.plan.now c.requires.valid c.args.trace.now c.requires.trace c.in_ok-system.ensures.built c.in_ok-ending.ensures.stands
     c.serial_law.ensures.part c.serial_law.ensures.whole
 
 pub returns-clause-ended : goal.returns-clause-ended

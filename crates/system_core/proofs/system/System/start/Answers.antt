@@ -8,5 +8,5 @@ new-requires c = rw c.deref.ensures.value (are_sized c.args.rows.items c.require
 
 pub begin-requires : goal.begin-requires
 begin-requires c =
-    let goes = start_goes c.args.rows.items c.args.pools.items c.args.actors.items c.args.net c.args.serial c.requires.seated c.requires.pooled in
+    let goes = start_goes c.args.rows.items c.args.pools.items c.args.actors.items c.args.net c.args.serial c.args.blk c.requires.seated c.requires.pooled in
     rw (c.in_ok-world.ensures ∙ ap starts c.deref.ensures.value, c.of.ensures, c.new-none.ensures.items) goes

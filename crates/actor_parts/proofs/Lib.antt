@@ -1,0 +1,4 @@
+mod Giving
+mod Opens
+mod Numbers
+pub mod Apart

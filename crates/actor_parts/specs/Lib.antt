@@ -1,0 +1,7 @@
+-- Actors apart, each with its ends over shared rings: what each stands for (Parting), and how they
+-- begin (Opening).
+pub mod Parting
+pub mod Opening
+pub mod Given
+pub mod Opened
+pub mod Ready

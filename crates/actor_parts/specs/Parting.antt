@@ -1,0 +1,67 @@
+-- An actor apart with its ends: what it knows of them and what passed there, and what it must meet.
+use Rattle.std.specs.Prelude.{◌≡◌, ◌==◌, if◌then◌else◌, ℕ, Option, Some, None, List, [], ◌∷◌, slice_get}
+use Rattle.std.specs.List.{AllZip}
+use Rattle.wire_core.specs.declared.names.QueueId.{QueueId}
+use Rattle.wire_core.specs.declared.names.QueueRow.{QueueRow}
+use Rattle.wire_core.specs.Ends.{Role, Consumer, Producer, End}
+use Rattle.wire_core.specs.Journal.{owner_of}
+use Rattle.wire_core.specs.Lists.{Passed}
+use Rattle.spsc_queue.specs.Known.Ends.{EndIs, RingIs}
+use Rattle.seat_wires.specs.Places.{end_known, entries_known}
+use Rattle.actor_set.specs.Actors.{FitsActor, ActorStandsFor}
+use Rattle.actor_set.specs.declared.actor.Actor.{Actor}
+
+-- an actor, and its producing and consuming ends with the numbers of their queues
+pub record Apart : Type 0 where
+  pub actor : Actor
+  pub producers : List (QueueId × EndIs)
+  pub consumers : List (QueueId × EndIs)
+
+-- its ends of one role
+abbrev pub ends_at : Apart → Role → List (QueueId × EndIs)
+ends_at p Consumer = p.consumers
+ends_at p Producer = p.producers
+
+-- the end of a queue among these, the first of them
+abbrev pub end_in : List (QueueId × EndIs) → ℕ → Option EndIs
+end_in [] n = None
+end_in (x ∷ xs) n = if x.0.0 == n then Some x.1 else end_in xs n
+
+-- what the actor knows of an end
+abbrev pub apart_end : Apart → Role → ℕ → End
+apart_end p r n = end_known (end_in (ends_at p r) n)
+
+-- what passed at its ends: over rings nothing is dropped
+abbrev pub apart_passed : Apart → Passed
+apart_passed p = record {
+  taken = λ n. entries_known (end_in p.consumers n);
+  sent = λ n. entries_known (end_in p.producers n);
+  dropped = λ n. [];
+}
+
+-- no two of an actor's ends on one side are of one queue, and each is of the ring at its queue's
+-- place; the actor fits them and stands for what passed there
+pub record StandsApart (rings : List RingIs) (p : Apart) : Type 0 where
+  pub once : (r : Role) (i j : ℕ) (x y : QueueId × EndIs) → slice_get (ends_at p r) i ≡ Some x
+      → slice_get (ends_at p r) j ≡ Some y → x.0.0 ≡ y.0.0 → i ≡ j
+  pub on : (r : Role) (i : ℕ) (x : QueueId × EndIs) → slice_get (ends_at p r) i ≡ Some x
+      → (ring : RingIs) × (slice_get rings x.0.0 ≡ Some ring) × (x.1.ring ≡ ring.id)
+  pub fits : FitsActor (apart_end p) p.actor
+  pub stands : ActorStandsFor p.actor (apart_passed p)
+
+-- actor k has just the ends that the rows give it
+pub record HasItsEnds (rows : List QueueRow) (k : ℕ) (p : Apart) : Type 0 where
+  pub own : (r : Role) (i : ℕ) (x : QueueId × EndIs) → slice_get (ends_at p r) i ≡ Some x
+      → (row : QueueRow) × (slice_get rows x.0.0 ≡ Some row) × (owner_of row r ≡ k)
+  pub all : (r : Role) (n : ℕ) (row : QueueRow) → slice_get rows n ≡ Some row → owner_of row r ≡ k
+      → (e : EndIs) × (end_in (ends_at p r) n ≡ Some e)
+
+-- a ring as a row says
+abbrev pub IsRingOf : QueueRow → RingIs → Type 0
+IsRingOf row ring = (ring.kind ≡ row.kind) × (ring.id.slots ≡ row.capacity)
+
+-- one ring for each row, and the actors apart, each with the ends that the rows give it
+pub record AreApart (rows : List QueueRow) (rings : List RingIs) (parts : List Apart) : Type 0 where
+  pub rings_are : AllZip IsRingOf rows rings
+  pub ends : (k : ℕ) (p : Apart) → slice_get parts k ≡ Some p → HasItsEnds rows k p
+  pub stand : (k : ℕ) (p : Apart) → slice_get parts k ≡ Some p → StandsApart rings p

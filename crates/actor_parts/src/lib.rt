@@ -1,0 +1,10 @@
+//! Actors apart, each with its ends over the rings of their queues, as they run in threads.
+#![tactic(auto)]
+
+mod laws;
+mod opening;
+mod parts;
+
+pub use laws::opened_law;
+pub use opening::open_apart;
+pub use parts::Parts;

@@ -1,0 +1,15 @@
+//! Actors apart, each with its ends.
+use actor_set::Actor;
+use spsc_queue::{Consumer, Producer, Ring};
+use wire_core::QueueId;
+
+/// An actor, and its producing and consuming ends, each beside the number of its queue.
+pub type Part = (Actor, Vec<(QueueId, Producer)>, Vec<(QueueId, Consumer)>);
+
+/// The rings of all queues and the actors with their ends, both in the order of the layout: the
+/// number of a queue is the place of its ring.
+#[derive(Drop)]
+pub struct Parts {
+    pub rings: Vec<Ring>,
+    pub actors: Vec<Part>,
+}

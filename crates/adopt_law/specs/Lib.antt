@@ -1,0 +1,2 @@
+-- What holds of actors that forget their last looks.
+pub mod Looks

@@ -1,0 +1,5 @@
+pub mod Numbers
+pub mod Answers
+pub mod Judging
+pub mod Turning
+pub mod Clients

@@ -1,0 +1,2 @@
+-- The block class at the layout's queues, apart from any system.
+pub mod Casting

@@ -1,0 +1,4 @@
+pub mod Inside
+pub mod Disks
+pub mod Clients
+pub mod Casts

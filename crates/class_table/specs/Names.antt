@@ -1,0 +1,31 @@
+-- The domains and the regions that the rows of an element name.
+use Rattle.std.specs.Prelude.{List, [], ◌∷◌, ◌++◌, map, Option, Some, None}
+use Rattle.std.specs.List.{flat_map}
+use Rattle.cargo_core.specs.declared.item.QueueKind.{QueueKind}
+use Rattle.class_table.specs.declared.uses.Link.{Link}
+use Rattle.class_table.specs.declared.uses.Ends.{Ends}
+use Rattle.class_table.specs.declared.uses.Ends.TheVariants as Way
+use Rattle.class_table.specs.declared.uses.RoleUse.{RoleUse}
+use Rattle.class_table.specs.declared.uses.QueueUse.{QueueUse}
+use Rattle.class_table.specs.declared.uses.PoolUse.{PoolUse}
+use Rattle.class_table.specs.Rows.{Name}
+use Rattle.class_table.specs.Table.{Element}
+
+-- the domains: those to which it gives roles
+abbrev pub domains_of : Element → List Name
+domains_of e = map (λ (r : RoleUse Name). r.domain) e.roles
+
+-- the region of a queue, where it stands first in one
+abbrev pub first_region : Option QueueKind → Ends Name → List Name
+first_region None (Way.Across link) = link.region ∷ []
+first_region _ _ = []
+
+abbrev pub queue_region : QueueUse Name → List Name
+queue_region q = first_region q.behind q.ends
+
+abbrev pub pool_region : PoolUse Name → Name
+pool_region p = p.region
+
+-- the regions: those of its queues, each once, and then those of its pools
+abbrev pub regions_of : Element → List Name
+regions_of e = flat_map queue_region e.queues ++ map pool_region e.pools

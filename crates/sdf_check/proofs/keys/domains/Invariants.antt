@@ -1,0 +1,9 @@
+use Rattle.std.proofs.Common.{◌≡◌, map, take}
+use Rattle.class_table.specs.declared.uses.RoleUse.{RoleUse}
+use Rattle.class_table.specs.Rows.{Name}
+use Rattle.class_table.specs.Shown.{role_shown}
+use Rattle.sdf_check.specs.Lookups.{names_shown}
+use Rattle.sdf_check.proofs.keys.domains.Given as goal
+
+abbrev pub invariant-loop-role : goal.invariant-loop-role
+invariant-loop-role l = names_shown l.names.items ≡ map (λ (r : RoleUse Name). r.domain) (map role_shown (take l.role-index l.element.roles))

@@ -1,9 +1,0 @@
-use Rattle.std.proofs.Common.{◌≡◌, ◌++◌, take}
-use Rattle.std.specs.List.{flat_map}
-use Rattle.sdf_check.specs.Lookups.{names_shown}
-use Rattle.sdf_check.specs.Names.{net_domains, net_client_domains}
-use Rattle.sdf_check.proofs.keys.push_net_domains.Given as goal
-
-abbrev pub invariant-loop-client : goal.invariant-loop-client
-invariant-loop-client l =
-    names_shown l.names.items ≡ names_shown l.fn.names.items ++ (net_domains l.net ++ flat_map net_client_domains (take l.client-index l.net.client))

@@ -1,0 +1,12 @@
+use Rattle.class_table.specs.Names.{regions_of}
+use Rattle.class_table.specs.Order.{number_of}
+use Rattle.class_table.specs.Shown.{element_shown}
+use Rattle.class_table.specs.Table.{table_of}
+use Rattle.sdf_check.proofs.KeyLemmas.{flag-iff}
+use Rattle.sdf_check.proofs.repeats.names_region_again.Goals as goal
+
+pub returns : goal.returns
+returns c =
+    let plan = c.args.judge.now.plan.now in
+    flag-iff regions_of (table_of plan) c.args.tables.now.named_regions.again (number_of plan c.args.element.now.place) (element_shown c.args.element.now) c.names_again.result
+    c.requires.tables.regions.again c.requires.stands (c.names_again.ensures plan c.requires.tables.classes)

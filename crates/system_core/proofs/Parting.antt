@@ -1,0 +1,84 @@
+-- A system before its first step may be taken apart: its queues are in their start state, where
+-- nothing passed, and its actors are ready.
+use Rattle.std.proofs.Common.{◌≡◌, ◌++◌, ℕ, suc, Some, List, [], ◌∷◌, length, map, slice_get, refl, sym, ap, ◌∙◌, subst, arith}
+use Rattle.wire_core.specs.declared.names.QueueRow.{QueueRow}
+use Rattle.wire_core.specs.Deeds.{Cargo}
+use Rattle.wire_core.specs.Lists.{nothing_passed}
+use Rattle.wire_core.specs.Queues.{Queue, queue_at, end_at, items_of, start_queue, starts}
+use Rattle.wire_core.specs.Journal.{History, Track, IsShown, start_track, start_history}
+use Rattle.wire_core.specs.Sizes.{AreSized}
+use Rattle.wire_core.proofs.BellTheorem.{start_is}
+use Rattle.play_core.proofs.Lists.{map_get}
+use Rattle.actor_set.specs.Actors.{FitsActor, IsWhole, part_of}
+use Rattle.actor_set.specs.declared.actor.Actor.{Actor}
+use Rattle.actor_law.specs.Kinds.{scene_of}
+use Rattle.actor_law.proofs.Beside.{stands_beside}
+use Rattle.actor_law.proofs.Starts.{fits_whole}
+use Rattle.actor_law.proofs.PartEnds.{to_part, end_seat}
+use Rattle.actor_parts.specs.Ready.{AreReady}
+use Rattle.system_core.specs.Systems.{Holds}
+use Rattle.system_core.specs.Inside.{setting_of, IsSystem}
+use Rattle.system_core.specs.declared.system.System.TheInside.{Inside}
+use Rattle.system_core.proofs.Fitting.{are_sized}
+
+-- where no item is shown there is no entry
+no_entry : (xs : List Cargo) → items_of xs ≡ [] → xs ≡ []
+no_entry [] none = refl
+no_entry (x ∷ xs) none = cc
+
+-- a queue that shows nothing and in which nothing stands is in its start state
+same_queue : (row : QueueRow) (q : Queue) → IsShown row q start_track → q.entries ≡ [] → q ≡ start_queue row
+same_queue row q is none =
+    ap (λ k. record { kind = k; capacity = q.capacity; producer = q.producer; consumer = q.consumer; entries = q.entries; bells = q.bells }) is.kind
+    ∙ (ap (λ c. record { kind = row.kind; capacity = c; producer = q.producer; consumer = q.consumer; entries = q.entries; bells = q.bells }) is.capacity
+    ∙ (ap (λ p. record { kind = row.kind; capacity = row.capacity; producer = p; consumer = q.consumer; entries = q.entries; bells = q.bells }) is.producer
+    ∙ (ap (λ c. record { kind = row.kind; capacity = row.capacity; producer = row.producer.0; consumer = c; entries = q.entries; bells = q.bells }) is.consumer
+    ∙ (ap (λ es. record { kind = row.kind; capacity = row.capacity; producer = row.producer.0; consumer = row.consumer.0; entries = es; bells = q.bells }) none
+    ∙ ap (λ b. record { kind = row.kind; capacity = row.capacity; producer = row.producer.0; consumer = row.consumer.0; entries = []; bells = b }) is.bells))))
+
+-- where each queue is, all are
+same_world : (rows : List QueueRow) (world : List Queue) → length world ≡ length rows → ((n : ℕ) (row : QueueRow) → slice_get rows n ≡ Some row → queue_at world n ≡ start_queue row) → world ≡ starts rows
+same_world [] [] size each = refl
+same_world [] (q ∷ world) size each = absurd (omega (arith, size))
+same_world (row ∷ rows) [] size each = absurd (omega (arith, size))
+same_world (row ∷ rows) (q ∷ world) size each =
+    let first : q ≡ start_queue row = each 0 row refl in
+    let rest : world ≡ starts rows = same_world rows world (omega (arith, size)) (λ n r at. each (suc n) r at) in
+    ap (λ (x : Queue). x ∷ world) first ∙ ap (λ (l : List Queue). start_queue row ∷ l) rest
+
+-- nothing passed before the first step
+module _ (rows : List QueueRow) (world : List Queue) (actors : List Actor) (h : Holds (start_history rows) rows world actors []) where
+  none_taken : (n : ℕ) → h.passed.taken n ≡ []
+  none_taken n = no_entry (h.passed.taken n) (h.shows_taken n ∙ ap (λ (t : Track). t.taken) (start_is rows n))
+
+  none_sent : (n : ℕ) → h.passed.sent n ≡ []
+  none_sent n = no_entry (h.passed.sent n) (h.shows_sent n ∙ ap (λ (t : Track). t.sent) (start_is rows n))
+
+  none_there : (n : ℕ) → (queue_at world n).entries ≡ []
+  none_there n =
+      let es : List Cargo = (queue_at world n).entries in
+      sym (ap (λ (l : List Cargo). l ++ es) (none_taken n)) ∙ (sym (h.stands_there n) ∙ none_sent n)
+
+  start_world : world ≡ starts rows
+  start_world = same_world rows world h.size (λ n row at. same_queue row (queue_at world n) (subst (IsShown row (queue_at world n)) (start_is rows n) (h.queues n row at)) (none_there n))
+
+module _ (a : Inside) (i : IsSystem a) (anew : (setting_of a).history ≡ start_history a.rows.items) (none : a.journal.items ≡ []) where
+  holds : Holds (start_history a.rows.items) a.rows.items a.world a.actors.items []
+  holds = subst (Holds (start_history a.rows.items) a.rows.items a.world a.actors.items) none (subst (λ (h : History). Holds h a.rows.items a.world a.actors.items a.journal.items) anew i.holds)
+
+  whole : (k : ℕ) (x : Actor) → slice_get a.actors.items k ≡ Some x → IsWhole x
+  whole k x at = fits_whole (end_at a.world) x (i.holds.fits k x at)
+
+  -- its actors fit the queues in their start state, and own the ends that they have there
+  pub are_ready : AreReady a.rows.items a.actors.items
+  are_ready = record {
+    fits = λ k x at. subst (λ (w : List Queue). FitsActor (end_at w) x) (start_world a.rows.items a.world a.actors.items holds) (holds.fits k x at);
+    stands = λ k x at. stands_beside holds.passed nothing_passed x (whole k x at) (λ n e. sym (none_taken a.rows.items a.world a.actors.items holds n)) (λ n e. sym (none_sent a.rows.items a.world a.actors.items holds n)) (holds.stands k x at);
+    owners = λ k x at r n own.
+        let e = end_seat (scene_of (map part_of a.actors.items)) (part_of x) r n (to_part x r n (whole k x at) own) in
+        i.fitted.seated k (part_of x) (map_get part_of a.actors.items k x at) e.0 (record { queue = n; role = r }) e.1;
+  }
+
+-- rings can be opened for its queues
+pub rings_fit : (a : Inside) → IsSystem a → AreSized a.rows.items
+rings_fit a i = are_sized a.rows.items i.fitted.numbered i.fitted.places

@@ -1,0 +1,74 @@
+use Rattle.std.proofs.Common.{◌≡◌, ◌<◌, ◌≤◌, ◌+◌, ◌*◌, ℕ, Some, List, length, map, slice_get, sym, ap, ◌∙◌, arith}
+use Rattle.std.proofs.lemmas.List.{length-map}
+use Rattle.std.specs.Option.{option_map_or}
+use Rattle.cargo_core.specs.Lists.{IsPrefix}
+use Rattle.cargo_core.specs.declared.item.Ask.{Ask}
+use Rattle.cargo_core.specs.declared.item.Reply.{Reply}
+use Rattle.sdf_plan.specs.declared.plan.Plan.{Plan}
+use Rattle.sdf_plan.specs.declared.plan.Blk.{Blk}
+use Rattle.sdf_plan.specs.declared.plan.BlkClient.{BlkClient as Client}
+use Rattle.trace_text.specs.declared.trace.Trace.{Trace}
+use Rattle.trace_text.specs.Events.{blk_clients}
+use Rattle.region_layout.specs.Rows.{disk_number}
+use Rattle.blk_expect.specs.Replies.{replies_of}
+use Rattle.blk_parts.specs.Numbers.{BlkPlace, blk_client_at}
+use Rattle.job_law.specs.Jobs as jobs
+use Rattle.play_core.proofs.Lists.{map_get, there_is}
+use Rattle.actor_set.specs.Parts.{BlockPart}
+use Rattle.cast_core.specs.Casts.{blk_place, client_pool}
+use Rattle.expect_core.specs.Expected.{client_asks, client_entry}
+use Rattle.cast_core.proofs.Listing.{value_count, value_is}
+use Rattle.wired_quiet.proofs.Answering.{replies_whole}
+use Rattle.seat_law.specs.Named.{AreBlkNamed}
+use Rattle.seat_law.proofs.Naming.{blk_named}
+use Rattle.system_core.specs.Shows.{Crew, Shown, moved_in}
+use Rattle.system_core.specs.States.{crew_of, nobody}
+use Rattle.system_core.specs.Lawful.{IsTold, TellsReplies}
+use Rattle.system_core.specs.Crews.{number_named}
+use Rattle.system_core.specs.Builds.{IsCastOf}
+use Rattle.system_core.specs.PlanPlays.{ShowsReplies, ShowsAllReplies}
+use Rattle.system_core.proofs.Scripts.{blks}
+
+-- what is seen of the block class is what its clients must get
+module _ (plan : Plan) (blk : Blk) (trace : Trace) (s : Shown) (cast : IsCastOf plan trace s.setting) (has : plan.blk ≡ Some blk) (told : IsTold s) where
+  abbrev place : BlkPlace
+  place = blk_place plan trace
+
+  tells : TellsReplies s place
+  tells = told.replies place (cast.whole_block blk has)
+
+  who : s.setting.blk ≡ crew_of (Some (disk_number plan).0) (map (λ (c : Client). number_named plan c.pd) blk.client)
+  who = cast.blk ∙ ap (λ o. option_map_or (λ (n : Blk). crew_of (Some (disk_number plan).0) (map (λ (c : Client). number_named plan c.pd) n.client)) o nobody) has
+
+  named : AreBlkNamed plan blk
+  named = blk_named plan blk has
+
+  many : length (blk_clients plan) ≡ length blk.client
+  many = ap length (blks plan blk has)
+
+  record_is : (c entry : ℕ) (asks : List Ask) (got : List Reply) → slice_get place.entries c ≡ Some entry → slice_get place.asks c ≡ Some asks → slice_get s.state.blk c ≡ Some got
+      → IsPrefix got (replies_of place.image entry asks) × (length ((moved_in s.setting s.journal).taken (place.first + 5 + 2 * c)) ≤ length asks → length got ≡ length ((moved_in s.setting s.journal).taken (place.first + 5 + 2 * c)))
+  record_is c entry asks got of its at =
+      let a = value_is (length (blk_clients plan)) (client_asks trace) c asks its in
+      let below : c < length (blk_clients plan) = a.0 in
+      let client = there_is blk.client c (omega (arith, below, many)) in
+      let number : slice_get s.setting.blk.clients c ≡ Some (number_named plan client.0.pd) =
+      ap (λ (k : Crew). slice_get k.clients c) who ∙ map_get (λ (k : Client). number_named plan k.pd) blk.client c client.0 client.1 in
+      let part = cast.parts (jobs.BlkClient c) (number_named plan client.0.pd) (named.client c client.0 client.1) in
+      tells c (number_named plan client.0.pd) c asks (client_pool plan c) entry got number (part ∙ ap (λ xs. Some (BlockPart (blk_client_at place.first c xs (client_pool plan c)))) (sym a.1)) of its at
+
+  pub shows_replies : ShowsReplies place s.state
+  shows_replies = record {
+    count_is = told.blk ∙ (ap (λ (c : Crew). length c.clients) who ∙ (length-map blk.client (λ (k : Client). number_named plan k.pd) ∙ (sym many ∙ sym (value_count (length (blk_clients plan)) (client_entry plan)))));
+    records = λ c entry asks got of its at. (record_is c entry asks got of its at).0;
+  }
+
+  -- where each client took a response to each of its requests, all replies are seen
+  pub shows_all_replies : ((c : ℕ) (asks : List Ask) → slice_get place.asks c ≡ Some asks → length ((moved_in s.setting s.journal).taken (place.first + 5 + 2 * c)) ≡ length asks) → ShowsAllReplies place s.state
+  shows_all_replies answered = record {
+    records = λ c entry asks got of its at.
+        let is = record_is c entry asks got of its at in
+        let all = answered c asks its in
+        let long = is.1 (omega (arith, all)) in
+        replies_whole place.image entry asks got is.0 (omega (arith, all, long));
+  }

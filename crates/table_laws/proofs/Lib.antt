@@ -1,3 +1,0 @@
-pub mod Flat
-pub mod Same
-pub mod Regions

@@ -1,2 +1,0 @@
--- What the laws on the table of classes say.
-pub mod Ties

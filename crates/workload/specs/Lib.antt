@@ -1,0 +1,4 @@
+-- What the contracts on the generated workload say.
+pub mod Draws
+pub mod Lines
+pub mod Generated
