@@ -30,8 +30,8 @@ entry_few plan c valid less = by plan.blk refl less
     by (Some blk) is less =
         let client = there_is blk.client c less in
         let fine : (3 < client.0.partition → ⊥) = λ above. blk_client_kept plan blk c client.0 29 valid is client.1 (omega arith) (omega arith)
-            (here-some plan.blk blk (λ (b : Blk). IsSomeAnd (slice_get b.client c) (λ (x : BlkClient). (3 < x.partition) ⊎ StandsBefore x.partition (map (λ (other : BlkClient). other.partition) b.client) c)) is
-            (here-some (slice_get blk.client c) client.0 (λ (x : BlkClient). (3 < x.partition) ⊎ StandsBefore x.partition (map (λ (other : BlkClient). other.partition) blk.client) c) client.1 (inl above))) in
+        (here-some plan.blk blk (λ (b : Blk). IsSomeAnd (slice_get b.client c) (λ (x : BlkClient). (3 < x.partition) ⊎ StandsBefore x.partition (map (λ (other : BlkClient). other.partition) b.client) c)) is
+        (here-some (slice_get blk.client c) client.0 (λ (x : BlkClient). (3 < x.partition) ⊎ StandsBefore x.partition (map (λ (other : BlkClient). other.partition) blk.client) c) client.1 (inl above))) in
         let entry : option_map_or (λ (x : BlkClient). x.partition) (slice_get blk.client c) 0 ≡ client.0.partition = ap (λ (o : Option BlkClient). option_map_or (λ (x : BlkClient). x.partition) o 0) client.1 in
         elim (cases_lt 3 client.0.partition) [
           | inl above ↦ absurd (fine above)

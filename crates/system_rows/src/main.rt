@@ -124,7 +124,8 @@ fn are_same(some: &[Reply], others: &[Reply]) -> bool {
         return false;
     }
     for k in 0..some.len() {
-        if some[k].resp != others[k].resp || some[k].bytes.as_slice() != others[k].bytes.as_slice()
+        if some[k].resp != others[k].resp
+            || some[k].bytes.as_slice() != others[k].bytes.as_slice()
         {
             return false;
         }
