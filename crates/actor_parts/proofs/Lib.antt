@@ -2,3 +2,5 @@ mod Giving
 mod Opens
 mod Numbers
 pub mod Apart
+pub mod Places
+pub mod Standing

@@ -5,3 +5,5 @@ pub mod Opening
 pub mod Given
 pub mod Opened
 pub mod Ready
+pub mod Placing
+pub mod Finished

@@ -1,10 +1,12 @@
 //! Actors apart, each with its ends over the rings of their queues, as they run in threads.
 #![tactic(auto)]
 
+mod finishing;
 mod laws;
 mod opening;
 mod parts;
 
+pub use finishing::finish_apart;
 pub use laws::opened_law;
 pub use opening::open_apart;
 pub use parts::Parts;

@@ -14,7 +14,7 @@ use Rattle.wire_core.specs.Journal.{owner_of}
 use Rattle.wire_core.specs.Lists.{Passed, nothing_passed, with_deed}
 use Rattle.spsc_queue.specs.Known.Ends.{EndIs}
 use Rattle.seat_wires.specs.Places.Are.{SeatsAre}
-use Rattle.seat_wires.specs.Places.{ends_of, stands_at, joined_get}
+use Rattle.seat_wires.specs.Places.{ends_of, stands_at, joined_get, seat_end}
 use Rattle.seat_wires.specs.Times.{times_at, AddsTime}
 use Rattle.seat_wires.proofs.Timing.{times_go}
 use Rattle.actor_set.specs.declared.actor.Actor.{Actor}
@@ -270,7 +270,8 @@ module _ (rows : List QueueRow) (news : List Seated) (peers : (n : ℕ) (row : Q
         own = made.own;
         part = made.part;
         kept = made.kept;
-        whole = made.whole;
+        ends = seat_end l.call.seats;
+        fits = made.fits;
         hands_over = λ n. subst (λ (p : Passed). IsPrefix (p.taken n) (p.sent n)) passed_next (over n);
       }
 

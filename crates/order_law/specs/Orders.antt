@@ -4,14 +4,14 @@ use Rattle.std.specs.Option.{option_map_or}
 use Rattle.cargo_core.specs.Lists.{IsPrefix}
 use Rattle.wire_core.specs.declared.names.QueueRow.{QueueRow}
 use Rattle.wire_core.specs.Deeds.{Deed, Cargo}
-use Rattle.wire_core.specs.Ends.{Role, Consumer, Producer, role_of}
+use Rattle.wire_core.specs.Ends.{Role, Consumer, Producer, End, role_of}
 use Rattle.wire_core.specs.Journal.{owner_of}
 use Rattle.wire_core.specs.Lists.{Passed, with_deed}
 use Rattle.spsc_queue.specs.Known.Ends.{EndIs}
 use Rattle.seat_wires.specs.Places.Are.{SeatsAre}
 use Rattle.seat_wires.specs.Places.{ends_of, stands_at, seats_taken, seats_sent}
 use Rattle.seat_wires.specs.Times.{times_at}
-use Rattle.actor_set.specs.Actors.{ActorStandsFor, ActorEnd, IsWhole, part_of}
+use Rattle.actor_set.specs.Actors.{FitsActor, ActorStandsFor, ActorEnd, part_of}
 use Rattle.actor_set.specs.declared.actor.Actor.{Actor}
 use Rattle.order_law.specs.Tales.{Call, Goes}
 
@@ -48,15 +48,16 @@ pub record Turn : Type 0 where
   pub deed : Deed
   pub actor : Actor
 
--- it is the turn of one of these actors, at an end of its own; and after its call what was taken at
--- each queue is a beginning of what was put there
+-- it is the turn of one of these actors, at an end of its own; it fits its ends then, and after its
+-- call what was taken at each queue is a beginning of what was put there
 pub record IsTurn (actors : List Actor) (passed : Passed) (t : Turn) : Type 0 where
   pub old : Actor
   pub there : slice_get actors t.number ≡ Some old
   pub own : ActorEnd old (role_of t.deed.event.op) t.deed.event.queue.0
   pub part : part_of t.actor ≡ part_of old
   pub kept : (p : Passed) → ActorStandsFor old p → ActorStandsFor t.actor (with_deed p t.deed)
-  pub whole : IsWhole t.actor
+  pub ends : Role → ℕ → End
+  pub fits : FitsActor ends t.actor
   pub hands_over : (n : ℕ)
       → IsPrefix ((with_deed passed t.deed).taken n) ((with_deed passed t.deed).sent n)
 

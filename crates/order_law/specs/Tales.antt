@@ -4,8 +4,8 @@ use Rattle.wire_core.specs.Deeds.{Deed}
 use Rattle.wire_core.specs.Ends.{role_of}
 use Rattle.wire_core.specs.Lists.{Passed, with_deed}
 use Rattle.seat_wires.specs.Places.Are.{SeatsAre}
-use Rattle.seat_wires.specs.Places.{SeatDid}
-use Rattle.actor_set.specs.Actors.{ActorStandsFor, ActorEnd, IsWhole, part_of}
+use Rattle.seat_wires.specs.Places.{SeatDid, seat_end}
+use Rattle.actor_set.specs.Actors.{FitsActor, ActorStandsFor, ActorEnd, part_of}
 use Rattle.actor_set.specs.declared.actor.Actor.{Actor}
 
 -- a call, with the actor and its ends as they are then
@@ -14,14 +14,14 @@ pub record Call : Type 0 where
   pub actor : Actor
   pub seats : SeatsAre
 
--- an actor made this call at an end of its own: whatever it stood for, it now stands for that with
--- what the call moved
+-- an actor made this call at an end of its own, and fits its ends then: whatever it stood for, it
+-- now stands for that with what the call moved
 pub record Made (x : Actor) (s : SeatsAre) (c : Call) : Type 0 where
   pub did : SeatDid s c.deed c.seats
   pub own : ActorEnd x (role_of c.deed.event.op) c.deed.event.queue.0
   pub part : part_of c.actor ≡ part_of x
   pub kept : (p : Passed) → ActorStandsFor x p → ActorStandsFor c.actor (with_deed p c.deed)
-  pub whole : IsWhole c.actor
+  pub fits : FitsActor (seat_end c.seats) c.actor
 
 -- an actor made these calls, and came by them to be what it is, with its ends
 abbrev pub Goes : Actor → SeatsAre → List Call → Actor → SeatsAre → Type 0
