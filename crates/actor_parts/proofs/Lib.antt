@@ -4,3 +4,4 @@ mod Numbers
 pub mod Apart
 pub mod Places
 pub mod Standing
+pub mod Numbering

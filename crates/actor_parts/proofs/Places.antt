@@ -1,6 +1,7 @@
 -- What stands at the places.
 use Rattle.std.proofs.Common.{◌≡◌, ◌≢◌, ◌∙◌, ◌⊎◌, inl, inr, ◌==◌, if◌then◌else◌, ℕ, zero, suc, ◌+◌, ◌<◌, ◌≤◌, List, [], ◌∷◌, ◌++◌, length, refl, sym, ap, subst, arith, Option, Some, None, slice_get, slice_set}
 use Rattle.wire_core.specs.declared.names.QueueId.{QueueId}
+use Rattle.seat_wires.specs.Places.{stands_at}
 use Rattle.actor_parts.specs.Placing.{placed, AreWithin, all_placed}
 
 pub length_set : {Y : Type 0} (xs : List Y) (i : ℕ) (y : Y) → length (slice_set xs i y) ≡ length xs
@@ -53,3 +54,10 @@ none_left (x ∷ xs) is = absurd (omega (arith, is))
 -- an end that stands at its place still
 pub still_there : {Y : Type 0} (now was : List (Option Y)) (place n : ℕ) (p : Y) → place ≡ n → slice_get now n ≡ slice_get was n → slice_get was n ≡ Some (Some p) → slice_get now place ≡ Some (Some p)
 still_there now was place n p at same is = ap (λ m. slice_get now m) at ∙ (same ∙ is)
+
+-- one place more at which nothing stands
+pub none_more : {Y : Type 0} (xs : List (Option Y)) (n : ℕ) → stands_at xs n ≡ None → stands_at (xs ++ None ∷ []) n ≡ None
+none_more [] zero is = refl
+none_more [] (suc n) is = refl
+none_more (x ∷ xs) zero is = is
+none_more (x ∷ xs) (suc n) is = none_more xs n is

@@ -9,6 +9,7 @@ use Rattle.wire_core.specs.declared.names.QueueRow.{QueueRow}
 use Rattle.wire_core.specs.Ends.{Role, Consumer, Producer}
 use Rattle.wire_core.specs.Journal.{owner_of}
 use Rattle.spsc_queue.specs.Known.Ends.{EndIs, RingIs}
+use Rattle.seat_wires.specs.Places.{stands_at, joined_get}
 use Rattle.actor_parts.specs.Parting.{Apart, ends_at, end_in, AreApart, IsRingOf}
 use Rattle.actor_parts.specs.Given.{Kept, apart_of}
 use Rattle.actor_parts.specs.Placing.{placed, AreWithin, all_placed}
@@ -92,6 +93,18 @@ found (x ∷ xs) n e is = ⊎_elim
     (λ away. let f = found xs n e (ap (λ (b : Bool). if b then Some x.1 else end_in xs n) (sym away.0) ∙ is) in (suc f.0, f.1, f.2, f.3, f.4))
     (eqb_tells x.0.0 n)
 
+-- where none is found there is none
+lacks : (xs : List Numbered) (n : ℕ) → end_in xs n ≡ None → Lacks n xs
+lacks [] n is i x at number = cc
+lacks (y ∷ xs) n is zero x at number = ⊎_elim
+    (λ same. (let e : Some y.1 ≡ None = ap (λ (b : Bool). if b then Some y.1 else end_in xs n) (sym same.0) ∙ is in cc))
+    (λ away. away.1 (ap (λ (z : Numbered). z.0.0) (same_some y x at) ∙ number))
+    (eqb_tells y.0.0 n)
+lacks (y ∷ xs) n is (suc i) x at number = ⊎_elim
+    (λ same. (let e : Some y.1 ≡ None = ap (λ (b : Bool). if b then Some y.1 else end_in xs n) (sym same.0) ∙ is in cc))
+    (λ away. lacks xs n (ap (λ (b : Bool). if b then Some y.1 else end_in xs n) (sym away.0) ∙ is) i x at number)
+    (eqb_tells y.0.0 n)
+
 abbrev pub ends_of : Role → Kept → List Numbered
 ends_of r p = ends_at (apart_of p) r
 
@@ -133,3 +146,11 @@ map_more f (y ∷ xs) x = ap (λ l. f y ∷ l) (map_more f xs x)
 pub map_actors : (parts : List Kept) → map (λ (p : Kept). p.0) parts ≡ map (λ (p : Apart). p.actor) (map apart_of parts)
 map_actors [] = refl
 map_actors (p ∷ ps) = ap (λ l. p.0 ∷ l) (map_actors ps)
+
+-- what stands at a place is what is found by its number
+pub stands_placed : (xs : List Numbered) (start : List (Option EndIs)) (n : ℕ) → AreWithin (length start) xs → AreOnce xs → ((m : ℕ) → stands_at start m ≡ None) → stands_at (placed xs start) n ≡ end_in xs n
+stands_placed xs start n within once none = by (end_in xs n) refl
+  where
+    by : (o : Option EndIs) → end_in xs n ≡ o → stands_at (placed xs start) n ≡ end_in xs n
+    by None is = ap joined_get (placed_else xs start n (lacks xs n is)) ∙ (none n ∙ sym is)
+    by (Some e) is = let f = found xs n e is in ap joined_get (placed_here xs start n e (subst (λ (z : ℕ). z < length start) f.3 (within f.0 f.1 f.2)) once is) ∙ sym is

@@ -7,3 +7,4 @@ pub mod Opened
 pub mod Ready
 pub mod Placing
 pub mod Finished
+pub mod Numbered

@@ -4,6 +4,7 @@ ghost use Rattle.wire_core.specs.Ends.{Role};
 ghost use Rattle.wire_core.specs.Journal.{owner_of};
 ghost use Rattle.wire_core.specs.declared.names.QueueRow.{QueueRow as Row};
 ghost use Rattle.spsc_queue.specs.Known.Ends.{EndIs, RingIs, EndedIs};
+ghost use Rattle.seat_wires.specs.Places.{stands_at};
 ghost use Rattle.actor_parts.specs.Placing.{placed, AreWithin, all_placed};
 ghost use Rattle.actor_parts.specs.Parting.{AreApart};
 ghost use Rattle.actor_parts.specs.Given.{apart_of, Kept};
@@ -17,8 +18,9 @@ use std::alloc::Global;
 use wire_core::{QueueId, QueueRow};
 
 // As many places as asked, with nothing there.
-fn empty_places<T: Drop>(alloc: Global, count: usize) -> Result<Vec<Option<T>>, Memory>
+pub(crate) fn empty_places<T: Drop>(alloc: Global, count: usize) -> Result<Vec<Option<T>>, Memory>
     ensures many { IfOk result (λ v. length v.items ≡ count) }
+    ensures none { IfOk result (λ v. (n : ℕ) → stands_at v.items n ≡ None) }
 {
     let mut places = Vec::with_capacity(alloc, count)?;
     for _ in 0..count {
@@ -28,7 +30,7 @@ fn empty_places<T: Drop>(alloc: Global, count: usize) -> Result<Vec<Option<T>>, 
 }
 
 // Puts each end at its queue's place.
-fn place_ends<T: Drop>(places: &mut Vec<Option<T>>, ends: Vec<(QueueId, T)>)
+pub(crate) fn place_ends<T: Drop>(places: &mut Vec<Option<T>>, ends: Vec<(QueueId, T)>)
     requires { AreWithin (length places.old.items) ends.items }
     ensures { places.new.items ≡ placed ends.items places.old.items }
 {

@@ -5,8 +5,10 @@ mod finishing;
 mod laws;
 mod opening;
 mod parts;
+mod seating;
 
 pub use finishing::finish_apart;
 pub use laws::opened_law;
 pub use opening::open_apart;
 pub use parts::Parts;
+pub use seating::{by_number, by_place};
