@@ -86,7 +86,7 @@ module _ (ends : Kept → List Numbered) where
   all_here (q ∷ ps) places (suc k) n p e at lt once is others = all_here ps (placed (ends q) places) k n p e at (subst (λ (z : ℕ). n < z) (sym (length_placed (ends q) places)) lt) once is (λ j r ne there. others (suc j) r (λ z. ne (let h = z in omega (arith, h))) there)
 
 -- where an end is found
-found : (xs : List Numbered) (n : ℕ) (e : EndIs) → end_in xs n ≡ Some e → (i : ℕ) × (x : Numbered) × (slice_get xs i ≡ Some x) × (x.0.0 ≡ n) × (x.1 ≡ e)
+pub found : (xs : List Numbered) (n : ℕ) (e : EndIs) → end_in xs n ≡ Some e → (i : ℕ) × (x : Numbered) × (slice_get xs i ≡ Some x) × (x.0.0 ≡ n) × (x.1 ≡ e)
 found [] n e is = cc
 found (x ∷ xs) n e is = ⊎_elim
     (λ same. (0, x, refl, same.1, same_some x.1 e (ap (λ (b : Bool). if b then Some x.1 else end_in xs n) (sym same.0) ∙ is)))
@@ -104,6 +104,18 @@ lacks (y ∷ xs) n is (suc i) x at number = ⊎_elim
     (λ same. (let e : Some y.1 ≡ None = ap (λ (b : Bool). if b then Some y.1 else end_in xs n) (sym same.0) ∙ is in cc))
     (λ away. lacks xs n (ap (λ (b : Bool). if b then Some y.1 else end_in xs n) (sym away.0) ∙ is) i x at number)
     (eqb_tells y.0.0 n)
+
+-- of an end's queue one is found
+pub first_found : (xs : List Numbered) (i : ℕ) (x : Numbered) → slice_get xs i ≡ Some x → (e : EndIs) × (end_in xs x.0.0 ≡ Some e)
+first_found [] i x at = cc
+first_found (y ∷ xs) zero x at = ⊎_elim
+    (λ same. (y.1, ap (λ (b : Bool). if b then Some y.1 else end_in xs x.0.0) same.0))
+    (λ away. absurd (away.1 (ap (λ (z : Numbered). z.0.0) (same_some y x at))))
+    (eqb_tells y.0.0 x.0.0)
+first_found (y ∷ xs) (suc i) x at = ⊎_elim
+    (λ same. (y.1, ap (λ (b : Bool). if b then Some y.1 else end_in xs x.0.0) same.0))
+    (λ away. let h = first_found xs i x at in (h.0, ap (λ (b : Bool). if b then Some y.1 else end_in xs x.0.0) away.0 ∙ h.1))
+    (eqb_tells y.0.0 x.0.0)
 
 abbrev pub ends_of : Role → Kept → List Numbered
 ends_of r p = ends_at (apart_of p) r

@@ -3,3 +3,4 @@ pub mod Running
 pub mod Each
 pub mod Begun
 pub mod Ends
+pub mod Facing
