@@ -19,7 +19,7 @@ impl System {
         requires unplayed { self.journal ≡ [] }
         ensures apart { IfOk result (λ p. AreApart self.setting.rows p.rings.items
             (map apart_of p.actors.items)) }
-        ensures nothing { IfOk result (λ p. HaveNothing p.actors.items) }
+        ensures nothing { IfOk result (λ p. HaveNothing (map apart_of p.actors.items)) }
         ensures cast { IfOk result (λ p. map (λ (x : Kept). part_of x.0) p.actors.items
             ≡ self.setting.cast) }
     {
