@@ -54,6 +54,8 @@ loop-ring-preserved c = let n : ℕ = length c.loop-ring.yielded in let was = c.
       later = did.times.0;
       times = did.times.1;
       timed = did.times.2;
+      producer_kind = did.kinds.0;
+      consumer_kind = did.kinds.1;
       kinds = did.kinds.2;
       forward_is = did.forward.0;
       forward = did.forward.1;
