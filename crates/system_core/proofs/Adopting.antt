@@ -114,6 +114,13 @@ module _ (s : Setting) (rings : List RingIs) (parts : List Apart) (fitted : IsFi
   nows_many : length nows ≡ length s.cast
   nows_many = sym (length-map nows part_of) ∙ ap length cast_now
 
+  map_twice : (ps : List Apart) → map part_of (map (λ (p : Apart). p.actor) ps) ≡ map (λ (p : Apart). part_of p.actor) ps
+  map_twice [] = refl
+  map_twice (p ∷ ps) = ap (λ (l : List Part). part_of p.actor ∷ l) (map_twice ps)
+
+  cast_apart : map (λ (p : Apart). part_of p.actor) parts ≡ s.cast
+  cast_apart = sym (map_twice parts) ∙ (ap (map part_of) (sym done.actors_are) ∙ cast)
+
   peopled : IsPeopled rows (length parts)
   peopled n row at r = subst (λ (m : ℕ). owner_of row r < m) (sym parts_many) (fitted.peopled n row at r)
 
@@ -283,6 +290,7 @@ module _ (s : Setting) (rings : List RingIs) (parts : List Apart) (fitted : IsFi
         let past : t.setting.history ≡ history = ap (λ (z : Setting). z.history) setting in record {
           setting = setting ∙ ap (λ (h : History). record s { history = h }) (sym past);
           journal = ap (λ (z : Shown). z.journal) is;
+          cast = cast_apart;
           keeps = λ n row at p c own_p own_c. subst (λ (h : History). TellsEnds p.knows c.knows (history_at h n)) (sym past) ((left.each n row at).tells p c own_p own_c);
           rests = λ k p at. subst (λ (z : Setting). rests_first z (part_of p.actor) ≡ actor_rests p.actor) (sym setting) (sym (rests_as k p at));
         }

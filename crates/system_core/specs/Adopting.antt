@@ -40,6 +40,7 @@ rests_first s p = all_settled s.history [] ((sheet_in s p).wants (moved_in s [])
 pub record IsAdopted (s : Setting) (parts : List Apart) (t : Shown) : Type 0 where
   pub setting : t.setting ≡ record s { history = t.setting.history }
   pub journal : t.journal ≡ []
+  pub cast : map (λ (p : Apart). part_of p.actor) parts ≡ s.cast
   pub keeps : (n : ℕ) (row : QueueRow) → slice_get s.rows n ≡ Some row → (p c : EndIs)
       → OwnEnd parts row Producer n p → OwnEnd parts row Consumer n c
       → TellsEnds p.knows c.knows (history_at t.setting.history n)
