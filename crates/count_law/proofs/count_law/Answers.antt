@@ -1,5 +1,6 @@
 use Rattle.count_law.proofs.Seats.{all_went, all_came}
 use Rattle.count_law.proofs.Wholes.{all_whole, one_place}
+use Rattle.count_law.proofs.Tables.{pools_stay, table_past}
 use Rattle.count_law.proofs.count_law.Goals as goal
 
 pub returns-clause-put : goal.returns-clause-put
@@ -13,3 +14,9 @@ returns-clause-whole c = all_whole
 
 pub returns-clause-one_place : goal.returns-clause-one_place
 returns-clause-one_place c = one_place
+
+pub returns-clause-pools : goal.returns-clause-pools
+returns-clause-pools c = pools_stay
+
+pub returns-clause-table : goal.returns-clause-table
+returns-clause-table c = table_past
