@@ -3,7 +3,8 @@ use Rattle.std.proofs.Common.{◌≡◌, ◌<◌, ◌≤◌, ◌+◌, ◌++◌, 
 use Rattle.std.specs.List.{AllZip, zip}
 use Rattle.std.proofs.lemmas.Bool.{lt-ltb}
 use Rattle.std.proofs.lemmas.List.{length-map, map-append}
-use Rattle.std.proofs.lemmas.List.Elements.{All-append-right}
+use Rattle.std.proofs.Math.Seq.{drop-append_seam}
+use Rattle.std.proofs.lemmas.List.Elements.{All-drop}
 use Rattle.std.proofs.lemmas.Option.{get_or_from_slice_get}
 use Rattle.cargo_core.specs.Items.{kind_of}
 use Rattle.cargo_core.specs.declared.item.QueueKind.{QueueKind}
@@ -84,11 +85,14 @@ module _ (row : QueueRow) (ring : RingIs) (p c : EndIs) (e : EndedIs) (of_ring :
     consumer = ap (λ (h : Half). let t : Tally = record { noes = h.noes; steps = h.steps } in t) has.consumer;
   }
 
+  pub ring_kinds : All (λ (x : Cargo). kind_of x.0 ≡ row.kind) e.producer.entries
+  ring_kinds = subst (λ (k : QueueKind). All (λ (x : Cargo). kind_of x.0 ≡ k) e.producer.entries) of_ring.0 (subst (All (λ (x : Cargo). kind_of x.0 ≡ ring.kind)) (sym sent_is) has.kinds)
+
   pub ring_ended : IsEndedOf row e
   ring_ended = record {
     kind = ap (λ (h : Half). h.kind) has.producer ∙ (has.producer_kind ∙ of_ring.0);
     capacity = has.capacity ∙ of_ring.1;
-    kinds = subst (λ (k : QueueKind). All (λ (x : Cargo). kind_of x.0 ≡ k) e.left) of_ring.0 (All-append-right (λ (x : Cargo). kind_of x.0 ≡ ring.kind) c.knows.entries e.left (subst (All (λ (x : Cargo). kind_of x.0 ≡ ring.kind)) has.rest has.kinds));
+    kinds = subst (λ (k : QueueKind). All (λ (x : Cargo). kind_of x.0 ≡ k) e.left) of_ring.0 (subst (All (λ (x : Cargo). kind_of x.0 ≡ ring.kind)) (drop-append_seam c.knows.entries e.left) (All-drop (λ (x : Cargo). kind_of x.0 ≡ ring.kind) (length c.knows.entries) (c.knows.entries ++ e.left) (subst (All (λ (x : Cargo). kind_of x.0 ≡ ring.kind)) has.rest has.kinds)));
     within = let few = has.few in let cap = of_ring.1 in omega (arith, few, cap);
   }
 
@@ -166,7 +170,7 @@ module _ (rows : List QueueRow) (rings : List RingIs) (parts : List Apart) (acto
         tells = λ p c own_p own_c. subst (TellsEnds p.knows c.knows) track (ring_tells row l.ring p c l.e l.of_ring (l.has p c own_p own_c));
       }
 
-  same_end : (k : ℕ) (p : Apart) → slice_get parts k ≡ Some p → (r : Role) (n : ℕ) (row : QueueRow) → slice_get rows n ≡ Some row → owner_of row r ≡ k → SameButLook (apart_end p r n) (end_at world r n)
+  pub same_end : (k : ℕ) (p : Apart) → slice_get parts k ≡ Some p → (r : Role) (n : ℕ) (row : QueueRow) → slice_get rows n ≡ Some row → owner_of row r ≡ k → SameButLook (apart_end p r n) (end_at world r n)
   same_end k p here r n row at owner =
       let l = left_at n row at in
       let e = (apart.ends k p here).all r n row at owner in
@@ -189,5 +193,9 @@ module _ (rows : List QueueRow) (rings : List RingIs) (parts : List Apart) (acto
         subst (IsEndedOf row) (some_is (sym l.there ∙ there)) (ring_ended row l.ring l.p l.c l.e l.of_ring h));
     size = world_long;
     each = goes_on;
+    kinds = λ n row e at there.
+        let l = left_at n row at in
+        let h = l.has l.p l.c l.own_p l.own_c in
+        subst (λ (z : EndedIs). All (λ (x : Cargo). kind_of x.0 ≡ row.kind) z.producer.entries) (some_is (sym l.there ∙ there)) (ring_kinds row l.ring l.p l.c l.e l.of_ring h);
     fits = λ k p x here forgot fits own. fits_anew (apart_end p) (end_at world) p.actor x forgot (λ r n mine. (let o = own r n mine in same_end k p here r n o.0 o.1 o.2)) fits;
   }

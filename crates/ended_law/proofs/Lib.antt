@@ -1,3 +1,4 @@
 pub mod Lists
 pub mod Leaving
 pub mod Resting
+pub mod Rounds

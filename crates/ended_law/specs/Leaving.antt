@@ -1,6 +1,7 @@
 -- Queues that go on from ended rings, and actors at them.
-use Rattle.std.specs.Prelude.{◌≡◌, ℕ, Some, List, [], length, map, slice_get}
+use Rattle.std.specs.Prelude.{◌≡◌, ℕ, Some, List, All, length, map, slice_get}
 use Rattle.std.specs.List.{AllZip}
+use Rattle.cargo_core.specs.Items.{kind_of}
 use Rattle.wire_core.specs.declared.names.QueueRow.{QueueRow}
 use Rattle.wire_core.specs.Ends.{Role, Consumer, Producer}
 use Rattle.wire_core.specs.Journal.{History, IsShown, TrackHolds, Flows, history_at, owner_of}
@@ -35,6 +36,9 @@ pub record AreLeft (rows : List QueueRow) (parts : List Apart) (ended : List End
   pub size : length (all_adopted rows ended) ≡ length rows
   pub each : (n : ℕ) (row : QueueRow) → slice_get rows n ≡ Some row
       → GoesOnAt rows parts ended n row
+  -- all that was put to a queue is of its kind
+  pub kinds : (n : ℕ) (row : QueueRow) (e : EndedIs) → slice_get rows n ≡ Some row
+      → slice_get ended n ≡ Some e → All (λ x. kind_of x.0 ≡ row.kind) e.producer.entries
   pub fits : (k : ℕ) (p : Apart) (x : Actor) → slice_get parts k ≡ Some p → Forgot p.actor x
       → FitsActor (apart_end p) x → ((r : Role) (n : ℕ) → ActorEnd x r n → (row : QueueRow)
       × (slice_get rows n ≡ Some row) × (owner_of row r ≡ k))
