@@ -1,12 +1,11 @@
 -- What is kept of an ended ring is what its owners knew of their ends.
-use Rattle.std.proofs.Common.{◌≡◌, ◌∙◌, ◌<◌, ◌≤◌, ◌⊎◌, inl, inr, ◌++◌, ℕ, List, [], ◌∷◌, All, length, refl, sym, ap, subst, arith, Option, Some, None, slice_get}
+use Rattle.std.proofs.Common.{◌≡◌, ◌∙◌, ◌<◌, ◌≤◌, ◌⊎◌, inl, inr, ◌++◌, ℕ, List, [], All, length, refl, sym, ap, subst, arith, Option, Some, slice_get}
 use Rattle.std.specs.Option.{option_map_or}
 use Rattle.std.proofs.lemmas.Bool.{cases_lt}
 use Rattle.std.proofs.lemmas.Slice.Zip.{AllZip-long}
 use Rattle.std.proofs.lemmas.Option.{get_or_from_slice_get}
 use Rattle.cargo_core.specs.Items.{kind_of}
 use Rattle.cargo_core.specs.declared.item.QueueKind.{QueueKind}
-use Rattle.wire_core.specs.declared.names.QueueId.{QueueId}
 use Rattle.wire_core.specs.declared.names.QueueRow.{QueueRow}
 use Rattle.wire_core.specs.Deeds.{Cargo}
 use Rattle.wire_core.specs.Ends.{Role, Consumer, Producer}
@@ -19,8 +18,8 @@ use Rattle.play_core.specs.Still.{IsPeopled}
 use Rattle.play_core.proofs.Lists.{some_is, there_is, there_below}
 use Rattle.actor_set.specs.declared.actor.Actor.{Actor}
 use Rattle.wired_law.specs.Wiring.{AreOfKind}
-use Rattle.actor_parts.specs.Parting.{Apart, AreApart, HasItsEnds, IsRingOf, ends_at, end_in}
-use Rattle.actor_parts.specs.Finished.{HasEnded, OwnEnd, AreFinished}
+use Rattle.actor_parts.specs.Parting.{Apart, AreApart, IsRingOf, ends_at, end_in}
+use Rattle.actor_parts.specs.Finished.{HasEnded, AreFinished}
 use Rattle.gone_law.specs.Gone.{passed_of, left_at}
 use Rattle.gone_law.proofs.Lists.{both_at, none_beyond}
 

@@ -1,9 +1,8 @@
 -- What actors leave that have gone apart over rings.
-use Rattle.std.proofs.Common.{◌≡◌, ◌∙◌, ◌<◌, ◌≤◌, ◌⊎◌, inl, inr, ◌++◌, ℕ, List, [], ◌∷◌, length, map, refl, sym, ap, subst, arith, Option, Some, None, slice_get}
+use Rattle.std.proofs.Common.{◌≡◌, ◌∙◌, ◌<◌, ◌≤◌, ◌⊎◌, inl, inr, ◌++◌, ℕ, List, [], length, map, refl, sym, ap, subst, arith, Option, Some, None, slice_get}
 use Rattle.std.specs.Option.{option_map_or}
 use Rattle.std.proofs.lemmas.List.{length-map}
 use Rattle.std.proofs.lemmas.Bool.{cases_lt}
-use Rattle.wire_core.specs.declared.names.QueueId.{QueueId}
 use Rattle.wire_core.specs.declared.names.QueueRow.{QueueRow}
 use Rattle.wire_core.specs.Deeds.{Cargo}
 use Rattle.wire_core.specs.Ends.{Role, Consumer, Producer, End}
@@ -11,17 +10,17 @@ use Rattle.wire_core.specs.Journal.{owner_of}
 use Rattle.wire_core.specs.Lists.{Passed, nothing_passed}
 use Rattle.spsc_queue.specs.Known.Ends.{EndIs, RingIs, EndedIs}
 use Rattle.seat_wires.specs.Places.Are.{SeatsAre}
-use Rattle.seat_wires.specs.Places.{ends_of, stands_at, joined_get, entries_known, no_end}
+use Rattle.seat_wires.specs.Places.{joined_get, entries_known, no_end}
 use Rattle.seat_wires.specs.Times.{times_known, times_at, times_or}
-use Rattle.play_core.proofs.Lists.{some_is, map_get, map_from, there_is}
-use Rattle.actor_set.specs.Actors.{FitsActor, ActorStandsFor, part_of}
+use Rattle.play_core.proofs.Lists.{map_get, map_from, there_is}
+use Rattle.actor_set.specs.Actors.{FitsActor, ActorStandsFor}
 use Rattle.actor_set.specs.declared.actor.Actor.{Actor}
-use Rattle.order_law.specs.Tales.{Call, Goes}
+use Rattle.order_law.specs.Tales.{Goes}
 use Rattle.order_law.specs.Orders.{Seated, Turn, HaveRun, InOrder, actors_of, entries_at, listed, passed_by}
 use Rattle.order_law.proofs.Ordering.{ordered}
 use Rattle.run_law.specs.Running.{AreReady, HaveHeld}
 use Rattle.run_law.proofs.Holding.{have_held}
-use Rattle.actor_parts.specs.Parting.{Apart, AreApart, HasItsEnds, StandsApart, ends_at, end_in, apart_end, apart_passed}
+use Rattle.actor_parts.specs.Parting.{Apart, ends_at, end_in, apart_end, apart_passed}
 use Rattle.actor_parts.specs.Going.{AreSeatsOf, HasGone}
 use Rattle.actor_parts.specs.Finished.{AreFinished}
 use Rattle.actor_parts.proofs.Standing.{found}

@@ -1,5 +1,5 @@
 -- Lemmas on lists side by side.
-use Rattle.std.proofs.Common.{◌≡◌, ◌∙◌, ◌≤◌, ℕ, zero, suc, List, [], ◌∷◌, All, length, map, refl, sym, ap, subst, arith, Option, Some, None, slice_get}
+use Rattle.std.proofs.Common.{◌≡◌, ◌≤◌, ℕ, zero, suc, List, [], ◌∷◌, length, map, refl, ap, subst, arith, Some, None, slice_get}
 use Rattle.std.specs.List.{AllZip}
 
 pub both_at : {X Y : Type 0} (R : X → Y → Type 0) (xs : List X) (ys : List Y) → AllZip R xs ys → (n : ℕ) (x : X) (y : Y) → slice_get xs n ≡ Some x → slice_get ys n ≡ Some y → R x y
