@@ -1,25 +1,24 @@
 -- All that holds of a wired cast goes on to hold, turn by turn.
-use Rattle.std.proofs.Common.{◌≡◌, ◌≢◌, ◌∙◌, ◌<◌, ℕ, zero, suc, List, [], ◌∷◌, ◌++◌, length, map, refl, sym, ap, subst, append-nil, Option, Some, None, slice_get, slice_set, Bool, true, false, if◌then◌else◌, ◌⊎◌, ⊎_elim}
+use Rattle.std.proofs.Common.{◌≡◌, ◌≢◌, ◌∙◌, ℕ, zero, suc, List, [], ◌∷◌, ◌++◌, map, refl, sym, ap, subst, append-nil, Option, Some, slice_get, slice_set, Bool, if◌then◌else◌, ⊎_elim}
 use Rattle.std.specs.Option.{option_map_or}
 use mathlib.Core.Logic.{dite}
 use native.Mathlib.Decide.{ℕ_discrete}
 use Rattle.std.proofs.Math.Dec.{eqb}
 use Rattle.std.proofs.lemmas.Bool.Decides.{eqb_tells}
-use Rattle.cargo_core.specs.Items.{kind_of}
 use Rattle.cargo_core.specs.Lists.{IsPrefix}
 use Rattle.wire_core.specs.declared.names.QueueRow.{QueueRow}
-use Rattle.wire_core.specs.Deeds.{Deed, Cargo}
+use Rattle.wire_core.specs.Deeds.{Cargo}
 use Rattle.wire_core.specs.Ends.{Role, Consumer, Producer, End, role_of}
 use Rattle.wire_core.specs.Journal.{owner_of}
 use Rattle.wire_core.specs.Lists.{Passed, nothing_passed, with_deed}
 use Rattle.wire_core.specs.Queues.{items_of}
-use Rattle.play_core.specs.Moved.{Moved, Seat}
-use Rattle.play_core.specs.Sheets.{Scene, AreSeated, RowsHold}
-use Rattle.play_core.proofs.Lists.{map_get, map_from}
+use Rattle.play_core.specs.Moved.{Moved}
+use Rattle.play_core.specs.Sheets.{AreSeated, RowsHold}
+use Rattle.play_core.proofs.Lists.{map_get}
 use Rattle.rest_law.specs.Showing.{HaveItems}
 use Rattle.owner_law.specs.Pages.{CarryPages}
 use Rattle.actor_set.specs.Parts.{Part}
-use Rattle.actor_set.specs.Actors.{FitsActor, ActorStandsFor, ActorEnd, IsWhole, part_of}
+use Rattle.actor_set.specs.Actors.{FitsActor, ActorStandsFor, ActorEnd, part_of}
 use Rattle.actor_set.specs.declared.actor.Actor.{Actor}
 use Rattle.actor_law.specs.Kinds.{sheet, scene_of, hostiles}
 use Rattle.actor_law.specs.Turning.{InTurn}
