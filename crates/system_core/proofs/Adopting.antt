@@ -46,6 +46,17 @@ use Rattle.ended_law.proofs.Resting.{rests_left}
 use Rattle.ended_law.proofs.Rounds.{fits_round}
 use Rattle.run_law.specs.Running.{HaveHeld}
 use Rattle.gone_law.specs.Gone.{HaveGone, passed_of, left_at, actors_apart}
+use Rattle.gone_law.proofs.Gone.{have_gone as went_on, hand_over}
+use Rattle.past_owners.proofs.Past.{past_owned}
+use Rattle.sdf_plan.specs.declared.plan.Plan.{Plan}
+use Rattle.sdf_check.specs.Valid.{Valid}
+use Rattle.trace_text.specs.declared.trace.Trace.{Trace}
+use Rattle.region_layout.specs.Rows.{queues_of, pools_of}
+use Rattle.seat_law.proofs.Counts.{few_numbers}
+use Rattle.system_core.specs.Builds.{IsCastOf}
+use Rattle.system_core.specs.Crews.{net_crew, serial_crew, blk_crew}
+use Rattle.system_core.proofs.Fitting.{are_sized}
+use Rattle.wire_core.specs.Sizes.{AreSized}
 use Rattle.system_core.specs.Shows.{Setting, Shown, Crew, hostile_in, sheet_in, moved_in}
 use Rattle.system_core.specs.States.{history_of, begun, started}
 use Rattle.system_core.specs.Lawful.{IsFitted}
@@ -311,22 +322,73 @@ module _ (s : Setting) (rings : List RingIs) (parts : List Apart) (come : HaveCo
   }
 
   -- so the system that takes over what is left goes on from it
-  module _ (few : length s.cast ≤ 65536) (actors nows : List Actor) (ended : List EndedIs) (done : AreFinished s.rows rings parts actors ended) (forgotten : AllZip IsForgotten actors nows) (held : HaveHeld s.rows (actors_apart come.olds) actors (passed_of ended)) (over : (n : ℕ) → (passed_of ended).sent n ≡ (passed_of ended).taken n ++ left_at ended n)
-      (owned : (history : History) (rows : List QueueRow) (pools : List PoolRow) (place : PoolPlace) (actors : List Actor) (passed : Passed) (world : List Queue) → IsPlaced rows place (map part_of actors) → HasPools pools place → AreAtPlay history rows actors [] passed world → HasOwners history rows place (map part_of actors)) where
+  module _ (few : length s.cast ≤ 65536) (actors nows : List Actor) (ended : List EndedIs) (done : AreFinished s.rows rings parts actors ended) (forgotten : AllZip IsForgotten actors nows) where
+    held : HaveHeld s.rows (actors_apart come.olds) actors (passed_of ended)
+    held = went_on s.rows rings come.olds parts actors ended have_gone done
+
+    over : (n : ℕ) → (passed_of ended).sent n ≡ (passed_of ended).taken n ++ left_at ended n
+    over n = hand_over s.rows rings come.olds parts actors ended have_gone done n
+
     cast_is : map part_of actors ≡ s.cast
     cast_is = held.parts ∙ old_cast
 
     owners : (place : PoolPlace) → IsPlaced s.rows place (map part_of nows) → HasPools s.pools place → HasOwners (history_left ended) s.rows place (map part_of nows)
-    owners place placed has = owned (history_left ended) s.rows s.pools place nows (passed_of ended) (all_adopted s.rows ended) placed has (at_play s rings parts come.fitted few come.after actors nows ended done forgotten cast_is (actors_apart come.olds) held over)
+    owners place placed has = past_owned (history_left ended) s.rows s.pools place nows (passed_of ended) (all_adopted s.rows ended) placed has (at_play s rings parts come.fitted few come.after actors nows ended done forgotten cast_is (actors_apart come.olds) held over)
 
     many : length ended ≡ length s.rows
     many = done.many ∙ all_long IsRingOf s.rows rings come.after.rings_are
 
-    pub come_ended : AllZip IsEndedOf s.rows ended
+    come_ended : AllZip IsEndedOf s.rows ended
     come_ended = (left s rings parts come.fitted few come.after actors nows ended done forgotten cast_is (actors_apart come.olds) held over).ended_of
 
-    pub come_goes : GoesOn (begun (history_of s.rows ended) s.rows s.pools nows s.net s.serial s.blk) (all_adopted s.rows ended) nows
+    come_goes : GoesOn (begun (history_of s.rows ended) s.rows s.pools nows s.net s.serial s.blk) (all_adopted s.rows ended) nows
     come_goes = subst (λ (h : History). GoesOn (begun h s.rows s.pools nows s.net s.serial s.blk) (all_adopted s.rows ended) nows) (sym (history_is s.rows ended many)) (goes_on s rings parts come.fitted few come.after actors nows ended done forgotten cast_is (actors_apart come.olds) held over owners)
 
-    pub come_adopted : (t : Shown) → t ≡ started (history_of s.rows ended) s.rows s.pools (all_adopted s.rows ended) nows s.net s.serial s.blk → IsAdopted s parts t
+    come_adopted : (t : Shown) → t ≡ started (history_of s.rows ended) s.rows s.pools (all_adopted s.rows ended) nows s.net s.serial s.blk → IsAdopted s parts t
     come_adopted t is = is_adopted s rings parts come.fitted few come.after actors nows ended done forgotten cast_is (actors_apart come.olds) held over owners t (is ∙ ap (λ (h : History). started h s.rows s.pools (all_adopted s.rows ended) nows s.net s.serial s.blk) (history_is s.rows ended many))
+
+-- the same at the rows, the pools and the crews of a plan
+abbrev Given : Type 0
+Given = List QueueRow × List PoolRow × Crew × Crew × Crew
+
+module _ (plan : Plan) (valid : Valid plan) (trace : Trace) (s : Setting) (cast : IsCastOf plan trace s) (rings : List RingIs) (parts : List Apart) (come : HaveComeFrom s rings parts) (rows : List QueueRow) (rows_are : rows ≡ queues_of plan) where
+  few_cast : length s.cast ≤ 65536
+  few_cast = subst (λ (n : ℕ). n ≤ 65536) (sym cast.count) (few_numbers plan valid)
+
+  same_rows : rows ≡ s.rows
+  same_rows = rows_are ∙ sym cast.rows
+
+  pub parts_apart : AreApart rows rings parts
+  parts_apart = subst (λ (rs : List QueueRow). AreApart rs rings parts) (sym same_rows) come.after
+
+  pub parts_people : (n : ℕ) (row : QueueRow) → slice_get rows n ≡ Some row → (r : Role) → owner_of row r < length parts
+  parts_people n row at r =
+      let many = come.many in
+      let old = sym (length-map come.olds (λ (p : Apart). part_of p.actor)) ∙ ap length come.cast in
+      subst (λ (m : ℕ). owner_of row r < m) (sym (many ∙ old)) (come.fitted.peopled n row (ap (λ (rs : List QueueRow). slice_get rs n) (sym same_rows) ∙ at) r)
+
+  pub parts_sized : AreSized rows
+  parts_sized = subst AreSized (sym same_rows) (are_sized s.rows come.fitted.numbered come.fitted.places)
+
+  module _ (actors nows : List Actor) (ended : List EndedIs) (done : AreFinished rows rings parts actors ended) (forgotten : AllZip IsForgotten actors nows) where
+    done_there : AreFinished s.rows rings parts actors ended
+    done_there = subst (λ (rs : List QueueRow). AreFinished rs rings parts actors ended) same_rows done
+
+    pub parts_ended : AllZip IsEndedOf rows ended
+    parts_ended = subst (λ (rs : List QueueRow). AllZip IsEndedOf rs ended) (sym same_rows) (come_ended s rings parts come few_cast actors nows ended done_there forgotten)
+
+    module _ (pools : List PoolRow) (pools_are : pools ≡ pools_of plan) (net serial blk : Crew) (net_is : net ≡ net_crew plan) (serial_is : serial ≡ serial_crew plan) (blk_is : blk ≡ blk_crew plan) where
+      abbrev given : Given
+      given = (rows, pools, net, serial, blk)
+
+      abbrev theirs : Given
+      theirs = (s.rows, s.pools, s.net, s.serial, s.blk)
+
+      same_given : theirs ≡ given
+      same_given = λ i. (sym same_rows i, (cast.pools ∙ sym pools_are) i, (cast.net ∙ sym net_is) i, (cast.serial ∙ sym serial_is) i, (cast.blk ∙ sym blk_is) i)
+
+      pub parts_go : GoesOn (begun (history_of rows ended) rows pools nows net serial blk) (all_adopted rows ended) nows
+      parts_go = subst (λ (g : Given). GoesOn (begun (history_of g.0 ended) g.0 g.1 nows g.2 g.3 g.4) (all_adopted g.0 ended) nows) same_given (come_goes s rings parts come few_cast actors nows ended done_there forgotten)
+
+      pub parts_adopted : (t : Shown) → t ≡ started (history_of rows ended) rows pools (all_adopted rows ended) nows net serial blk → IsAdopted s parts t
+      parts_adopted t is = come_adopted s rings parts come few_cast actors nows ended done_there forgotten t (is ∙ ap (λ (g : Given). started (history_of g.0 ended) g.0 g.1 (all_adopted g.0 ended) nows g.2 g.3 g.4) (sym same_given))

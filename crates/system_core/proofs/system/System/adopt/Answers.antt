@@ -1,9 +1,14 @@
-use Rattle.std.proofs.Common.{◌∙◌, ◌≡◌, sym, ap, subst, length, List, map}
+use Rattle.std.proofs.Common.{◌∙◌, ◌≡◌, ℕ, sym, ap, subst, length, List, map}
+use Rattle.std.proofs.lemmas.List.{length-map}
 use Rattle.std.proofs.lemmas.Result.{IfOk-weaker}
 use Rattle.wire_core.specs.declared.names.QueueRow.{QueueRow}
+use Rattle.wire_core.specs.Ends.{Role}
+use Rattle.wire_core.specs.Journal.{owner_of}
+use Rattle.wire_core.specs.Sizes.{AreSized}
 use Rattle.actor_parts.specs.Given.{apart_of}
 use Rattle.actor_parts.specs.Parting.{AreApart}
 use Rattle.system_core.proofs.Built.{layout_queues, layout_pools}
+use Rattle.system_core.proofs.Adopting.{parts_apart, parts_people, parts_sized, parts_ended, parts_go, parts_adopted}
 use Rattle.system_core.proofs.system.System.adopt.Goals as goal
 
 pub net_crew-requires-clause-rows : goal.net_crew-requires-clause-rows
