@@ -35,11 +35,11 @@ module _ (looks : Role → ℕ → Bool) where
   told k t = record t { bells = with_looks k t.bells }
 
   -- of queues and tracks from a number on
-  looked_from : ℕ → List Queue → List Queue
+  abbrev looked_from : ℕ → List Queue → List Queue
   looked_from k [] = []
   looked_from k (q ∷ qs) = looked k q ∷ looked_from (k + 1) qs
 
-  told_from : ℕ → History → History
+  abbrev told_from : ℕ → History → History
   told_from k [] = []
   told_from k (t ∷ ts) = told k t ∷ told_from (k + 1) ts
 
@@ -101,9 +101,9 @@ module _ (looks : Role → ℕ → Bool) where
       ap (λ (q : Queue). q.bells) (looked_at 0 n w below) ∙ (ap (with_looks (0 + n)) (have n below) ∙ sym (ap (λ (t : Track). t.bells) (told_at 0 n ts (omega (arith, below, long)))))
 
   end_looked : (w : List Queue) (r : Role) (n : ℕ) → n < length w → end_at (looked_from 0 w) r n ≡ record (end_at w r n) { looked = looks r n }
-  end_looked w r n lt = ap (λ (b : ℕ). end_of (nat_lt n b) (queue_at (looked_from 0 w) n).kind (queue_at (looked_from 0 w) n).bells r) (looked_long 0 w) ∙ (ap (λ (q : Queue). end_of (nat_lt n (length w)) q.kind q.bells r) (looked_at 0 n w lt) ∙ by r)
+  end_looked w r n lt = ap (λ (b : ℕ). end_of (nat_lt n b) (queue_at (looked_from 0 w) n).kind (queue_at (looked_from 0 w) n).bells r) (looked_long 0 w) ∙ (ap (λ (q : Queue). end_of (nat_lt n (length w)) q.kind q.bells r) (looked_at 0 n w lt ∙ ap (λ m. looked m (queue_at w n)) (let e : 0 + n ≡ n = omega arith in e)) ∙ by r)
     where
-      by : (r : Role) → end_of (nat_lt n (length w)) (queue_at w n).kind (with_looks (0 + n) (queue_at w n).bells) r ≡ record (end_at w r n) { looked = looks r n }
+      by : (r : Role) → end_of (nat_lt n (length w)) (queue_at w n).kind (with_looks n (queue_at w n).bells) r ≡ record (end_at w r n) { looked = looks r n }
       by Consumer = refl
       by Producer = refl
 

@@ -6,6 +6,7 @@ use Rattle.std.proofs.lemmas.List.{length-map}
 use Rattle.std.proofs.lemmas.Option.{get_or_from_slice_get}
 use Rattle.cargo_core.specs.Items.{kind_of}
 use Rattle.cargo_core.specs.Lists.{IsPrefix}
+use Rattle.wire_core.specs.declared.names.PoolRow.{PoolRow}
 use Rattle.wire_core.specs.declared.names.QueueRow.{QueueRow}
 use Rattle.wire_core.specs.Deeds.{Cargo}
 use Rattle.wire_core.specs.Ends.{Role, Consumer, Producer, End}
@@ -33,7 +34,7 @@ use Rattle.wired_law.proofs.Wiring.{in_turn}
 use Rattle.cast_pools.specs.Places.{PoolPlace, IsPlaced, HasPools, cast_naming}
 use Rattle.cast_pools.specs.Pooling.{AreAtPlay, HasOwners}
 use Rattle.cast_pools.proofs.Playing.{rows_at}
-use Rattle.plain_wires.specs.Adopted.{adopted, all_adopted}
+use Rattle.plain_wires.specs.Adopted.{IsEndedOf, adopted, all_adopted}
 use Rattle.actor_parts.specs.Opening.{IsForgotten}
 use Rattle.actor_parts.specs.Parting.{Apart, AreApart, IsRingOf, apart_end}
 use Rattle.actor_parts.specs.Finished.{OwnEnd, AreFinished}
@@ -44,32 +45,25 @@ use Rattle.ended_law.proofs.Leaving.{are_left, same_end, queue_is, world_long}
 use Rattle.ended_law.proofs.Resting.{rests_left}
 use Rattle.ended_law.proofs.Rounds.{fits_round}
 use Rattle.run_law.specs.Running.{HaveHeld}
+use Rattle.gone_law.specs.Gone.{HaveGone, passed_of, left_at, actors_apart}
 use Rattle.system_core.specs.Shows.{Setting, Shown, Crew, hostile_in, sheet_in, moved_in}
 use Rattle.system_core.specs.States.{history_of, begun, started}
 use Rattle.system_core.specs.Lawful.{IsFitted}
 use Rattle.system_core.specs.Systems.{Holds, HoldsBefore, GoesOn}
 use Rattle.system_core.specs.Adopting.{HaveComeFrom, IsAdopted, rests_first}
 
--- what passed at the ended rings
-abbrev passed_left : List EndedIs → Passed
-passed_left ended = record {
-  taken = λ n. option_map_or (λ (e : EndedIs). e.consumer.entries) (slice_get ended n) [];
-  sent = λ n. option_map_or (λ (e : EndedIs). e.producer.entries) (slice_get ended n) [];
-  dropped = λ n. [];
-}
-
-taken_shown : (ended : List EndedIs) (n : ℕ) → items_of ((passed_left ended).taken n) ≡ (history_at (history_left ended) n).taken
+taken_shown : (ended : List EndedIs) (n : ℕ) → items_of ((passed_of ended).taken n) ≡ (history_at (history_left ended) n).taken
 taken_shown [] n = refl
 taken_shown (e ∷ ended) zero = refl
 taken_shown (e ∷ ended) (suc n) = taken_shown ended n
 
-sent_shown : (ended : List EndedIs) (n : ℕ) → items_of ((passed_left ended).sent n) ≡ (history_at (history_left ended) n).sent
+sent_shown : (ended : List EndedIs) (n : ℕ) → items_of ((passed_of ended).sent n) ≡ (history_at (history_left ended) n).sent
 sent_shown [] n = refl
 sent_shown (e ∷ ended) zero = refl
 sent_shown (e ∷ ended) (suc n) = sent_shown ended n
 
 -- the entries that stand in the queues are those that are left
-entries_left : (rows : List QueueRow) (ended : List EndedIs) (n : ℕ) → length ended ≡ length rows → (queue_at (all_adopted rows ended) n).entries ≡ option_map_or (λ (e : EndedIs). e.left) (slice_get ended n) []
+entries_left : (rows : List QueueRow) (ended : List EndedIs) (n : ℕ) → length ended ≡ length rows → (queue_at (all_adopted rows ended) n).entries ≡ left_at ended n
 entries_left [] [] n same = refl
 entries_left [] (e ∷ ended) n same = absurd (omega (arith, same))
 entries_left (row ∷ rows) [] n same = absurd (omega (arith, same))
@@ -91,13 +85,17 @@ parts_same [] (y ∷ ys) all = absurd all
 parts_same (x ∷ xs) [] all = absurd all
 parts_same (x ∷ xs) (y ∷ ys) all = ap (λ (p : Part). p ∷ map part_of ys) all.0.part ∙ ap (λ (ps : List Part). part_of x ∷ ps) (parts_same xs ys all.1)
 
+map_twice : (ps : List Apart) → map part_of (actors_apart ps) ≡ map (λ (p : Apart). part_of p.actor) ps
+map_twice [] = refl
+map_twice (p ∷ ps) = ap (λ (l : List Part). part_of p.actor ∷ l) (map_twice ps)
+
 module _ (s : Setting) (rings : List RingIs) (parts : List Apart) (fitted : IsFitted s) (few : length s.cast ≤ 65536) (apart : AreApart s.rows rings parts) (actors nows : List Actor) (ended : List EndedIs) (done : AreFinished s.rows rings parts actors ended) (forgotten : AllZip IsForgotten actors nows) (cast : map part_of actors ≡ s.cast)
-    (olds : List Actor) (held : HaveHeld s.rows olds actors (passed_left ended)) (over : (n : ℕ) → (passed_left ended).sent n ≡ (passed_left ended).taken n ++ option_map_or (λ (e : EndedIs). e.left) (slice_get ended n) []) where
+    (olds : List Actor) (held : HaveHeld s.rows olds actors (passed_of ended)) (over : (n : ℕ) → (passed_of ended).sent n ≡ (passed_of ended).taken n ++ left_at ended n) where
   abbrev rows : List QueueRow
   rows = s.rows
 
   abbrev passed : Passed
-  passed = passed_left ended
+  passed = passed_of ended
 
   abbrev world : List Queue
   world = all_adopted rows ended
@@ -113,10 +111,6 @@ module _ (s : Setting) (rings : List RingIs) (parts : List Apart) (fitted : IsFi
 
   nows_many : length nows ≡ length s.cast
   nows_many = sym (length-map nows part_of) ∙ ap length cast_now
-
-  map_twice : (ps : List Apart) → map part_of (map (λ (p : Apart). p.actor) ps) ≡ map (λ (p : Apart). part_of p.actor) ps
-  map_twice [] = refl
-  map_twice (p ∷ ps) = ap (λ (l : List Part). part_of p.actor ∷ l) (map_twice ps)
 
   cast_apart : map (λ (p : Apart). part_of p.actor) parts ≡ s.cast
   cast_apart = sym (map_twice parts) ∙ (ap (map part_of) (sym done.actors_are) ∙ cast)
@@ -294,3 +288,45 @@ module _ (s : Setting) (rings : List RingIs) (parts : List Apart) (fitted : IsFi
           keeps = λ n row at p c own_p own_c. subst (λ (h : History). TellsEnds p.knows c.knows (history_at h n)) (sym past) ((left.each n row at).tells p c own_p own_c);
           rests = λ k p at. subst (λ (z : Setting). rests_first z (part_of p.actor) ≡ actor_rests p.actor) (sym setting) (sym (rests_as k p at));
         }
+
+-- actors that came from a system in its start state have gone apart
+module _ (s : Setting) (rings : List RingIs) (parts : List Apart) (come : HaveComeFrom s rings parts) where
+  old_cast : map part_of (actors_apart come.olds) ≡ s.cast
+  old_cast = map_twice come.olds ∙ come.cast
+
+  olds_many : length come.olds ≡ length s.cast
+  olds_many = sym (length-map come.olds (λ (p : Apart). part_of p.actor)) ∙ ap length come.cast
+
+  pub have_gone : HaveGone s.rows rings come.olds parts
+  have_gone = record {
+    wired = subst (IsWired s.rows) (sym old_cast) come.fitted.wired;
+    seated = subst (λ (c : List Part). AreSeated (sheet (scene_of c)) s.rows c) (sym old_cast) come.fitted.seated;
+    split = come.fitted.split;
+    peopled = λ n row at r. subst (λ (m : ℕ). owner_of row r < m) (sym olds_many) (come.fitted.peopled n row at r);
+    stood = come.before;
+    nothing = come.nothing;
+    many = come.many;
+    stand = come.after;
+    gone = come.gone;
+  }
+
+  -- so the system that takes over what is left goes on from it
+  module _ (few : length s.cast ≤ 65536) (actors nows : List Actor) (ended : List EndedIs) (done : AreFinished s.rows rings parts actors ended) (forgotten : AllZip IsForgotten actors nows) (held : HaveHeld s.rows (actors_apart come.olds) actors (passed_of ended)) (over : (n : ℕ) → (passed_of ended).sent n ≡ (passed_of ended).taken n ++ left_at ended n)
+      (owned : (history : History) (rows : List QueueRow) (pools : List PoolRow) (place : PoolPlace) (actors : List Actor) (passed : Passed) (world : List Queue) → IsPlaced rows place (map part_of actors) → HasPools pools place → AreAtPlay history rows actors [] passed world → HasOwners history rows place (map part_of actors)) where
+    cast_is : map part_of actors ≡ s.cast
+    cast_is = held.parts ∙ old_cast
+
+    owners : (place : PoolPlace) → IsPlaced s.rows place (map part_of nows) → HasPools s.pools place → HasOwners (history_left ended) s.rows place (map part_of nows)
+    owners place placed has = owned (history_left ended) s.rows s.pools place nows (passed_of ended) (all_adopted s.rows ended) placed has (at_play s rings parts come.fitted few come.after actors nows ended done forgotten cast_is (actors_apart come.olds) held over)
+
+    many : length ended ≡ length s.rows
+    many = done.many ∙ all_long IsRingOf s.rows rings come.after.rings_are
+
+    pub come_ended : AllZip IsEndedOf s.rows ended
+    come_ended = (left s rings parts come.fitted few come.after actors nows ended done forgotten cast_is (actors_apart come.olds) held over).ended_of
+
+    pub come_goes : GoesOn (begun (history_of s.rows ended) s.rows s.pools nows s.net s.serial s.blk) (all_adopted s.rows ended) nows
+    come_goes = subst (λ (h : History). GoesOn (begun h s.rows s.pools nows s.net s.serial s.blk) (all_adopted s.rows ended) nows) (sym (history_is s.rows ended many)) (goes_on s rings parts come.fitted few come.after actors nows ended done forgotten cast_is (actors_apart come.olds) held over owners)
+
+    pub come_adopted : (t : Shown) → t ≡ started (history_of s.rows ended) s.rows s.pools (all_adopted s.rows ended) nows s.net s.serial s.blk → IsAdopted s parts t
+    come_adopted t is = is_adopted s rings parts come.fitted few come.after actors nows ended done forgotten cast_is (actors_apart come.olds) held over owners t (is ∙ ap (λ (h : History). started h s.rows s.pools (all_adopted s.rows ended) nows s.net s.serial s.blk) (history_is s.rows ended many))
