@@ -14,7 +14,7 @@ use Rattle.actor_parts.specs.Placing.{placed, AreWithin}
 use Rattle.actor_parts.specs.Numbered.{numbered}
 use Rattle.actor_set.specs.Actors.{FitsActor, ActorStandsFor}
 use Rattle.pd_runner.specs.Running.{passed_at}
-use Rattle.pd_runner.specs.Facing.{AreSeatsOf}
+use Rattle.actor_parts.specs.Going.{AreSeatsOf}
 use Rattle.actor_parts.proofs.Standing.{found, first_found, stands_placed}
 use Rattle.actor_parts.proofs.Numbering.{numbered_from, found_from, once}
 

@@ -138,13 +138,6 @@ module _ (rows : List QueueRow) (cast : List Part) (wired : IsWired rows cast) (
         (λ n own. ap (λ (c : List Cargo). passed.sent n ++ c) (beside j y ne at' Producer n own) ∙ append-nil (passed.sent n))
         (st.stands j y at'))
 
-    -- all but what is said of clients and pages
-    abbrev Later : Type 0
-    Later = ClientsSend cast passed' × ((place : PoolPlace) → IsPlaced rows place cast → CarryPages (cast_naming (scene_of cast) place) (moved_of passed') passed')
-
-    later : Later → Stands rows cast actors' passed'
-    later then = record { parts = parts' ∙ st.parts; each = each'; fits = fits'; stands = stands'; over = turn.hands_over; sends = then.0; carry = then.1 }
-
     abbrev ends' : Role → ℕ → End
     ends' r n = each' (option_map_or (λ (row : QueueRow). owner_of row r) (slice_get rows n) 0) r n
 
@@ -191,8 +184,9 @@ module _ (rows : List QueueRow) (cast : List Part) (wired : IsWired rows cast) (
       own = same_part t.actor x (role_of t.deed.event.op) t.deed.event.queue.0 (sym turn.part) (fits_whole (st.each k) x (st.fits k x turn.there)) turn.own;
     })
 
+    -- all goes on to hold after the turn
     next : Stands rows cast actors' passed'
-    next = later (sends', carry')
+    next = record { parts = parts' ∙ st.parts; each = each'; fits = fits'; stands = stands'; over = turn.hands_over; sends = sends'; carry = carry' }
 
   -- turn by turn
   held : (turns : List Turn) (actors news : List Actor) (passed last : Passed) → Stands rows cast actors passed → InOrder actors passed turns news last → AreOfKind rows last → Stands rows cast news last
