@@ -1,5 +1,5 @@
 -- What threads left is where the journal of the system begins that takes it over.
-use Rattle.std.proofs.Common.{◌≡◌, ◌<◌, ◌≤◌, ◌⊎◌, ◌+◌, ◌≢◌, ℕ, Bool, true, false, if◌then◌else◌, Option, Some, None, List, [], length, map, slice_get, refl, sym, ap, ◌∙◌, subst, arith, inl, inr, eq-eqb}
+use Rattle.std.proofs.Common.{◌≡◌, ◌<◌, ◌≤◌, ◌⊎◌, ◌+◌, ◌≢◌, ℕ, Bool, true, false, if◌then◌else◌, Option, Some, None, List, [], ◌∷◌, length, map, slice_get, refl, sym, ap, ◌∙◌, subst, arith, inl, inr, eq-eqb}
 use Rattle.std.proofs.Math.Dec.{eqb}
 use Rattle.std.proofs.lemmas.Bool.Decides.{eqb_tells}
 use Rattle.std.proofs.lemmas.List.{length-map}
@@ -15,16 +15,24 @@ use Rattle.owner_law.proofs.Counting.{below_plus, below_same}
 use Rattle.play_core.proofs.Lists.{some_is, map_get, map_from, there_is, there_below}
 use Rattle.actor_set.specs.Actors.{part_of, actor_rests}
 use Rattle.actor_set.specs.Parts.{Part}
+use Rattle.actor_parts.specs.Given.{Kept, apart_of}
+use Rattle.actor_parts.specs.Opened.{HaveNothing}
 use Rattle.actor_parts.specs.Parting.{Apart, AreApart, HasItsEnds, ends_at, end_in}
 use Rattle.actor_parts.specs.Finished.{OwnEnd}
-use Rattle.actor_parts.specs.Going.{AreSeatsOf}
+use Rattle.actor_parts.specs.Going.{AreSeatsOf, HasGone}
 use Rattle.actor_parts.proofs.Standing.{found}
 use Rattle.ended_law.specs.Tracks.{TellsEnds}
-use Rattle.pd_runner.specs.Facing.{CameApart, HasSpent, IsResting}
+use Rattle.pd_runner.specs.Facing.{CameApart, CameWithin, HasSpent, IsResting}
 use Rattle.sdf_plan.specs.declared.plan.Plan.{Plan}
 use Rattle.trace_text.specs.declared.trace.Trace.{Trace}
 use Rattle.system_core.specs.Shows.{Setting, Shown}
-use Rattle.system_core.specs.Builds.{IsCastOf}
+use Rattle.sdf_check.specs.Valid.{Valid}
+use Rattle.trace_text.specs.Traces.{IsReadFor}
+use Rattle.system_core.specs.Lawful.{StandsLawful}
+use Rattle.system_core.specs.Plays.{Played}
+use Rattle.system_core.specs.Builds.{IsBuilt, IsCastOf}
+use Rattle.system_core.proofs.Together.{LawInPart, LawWhole, played_on}
+use Rattle.system_run.specs.Ran.{IsRan}
 use Rattle.system_core.specs.Adopting.{HaveComeFrom, IsAdopted, rests_first, own_steps, steps_first, AllRest, OneSpent}
 use Rattle.system_run.proofs.Counting.{steps_below}
 
@@ -130,3 +138,38 @@ module _ (s : Setting) (rings : List RingIs) (parts : List Apart) (come : HaveCo
         let all = all_steps spent.2.after spent.2.ended in
         let le = spent.1 in
         (k, subst (λ (m : ℕ). k < m) (sym (length-map parts (λ (x : Apart). part_of x.actor)) ∙ (ap length is.cast ∙ sym (ap length cast_is))) (there_below parts k p here), omega (arith, steps, all, le))
+
+map_twice : (ps : List Kept) → map (λ (p : Apart). part_of p.actor) (map apart_of ps) ≡ map (λ (p : Kept). part_of p.0) ps
+map_twice [] = refl
+map_twice (p ∷ ps) = ap (λ (l : List Part). part_of p.0 ∷ l) (map_twice ps)
+
+-- what the threads answered came from the system that was built
+module _ (plan : Plan) (trace : Trace) (built : Shown) (is : IsBuilt plan trace built) (stands : StandsLawful built) (rings rings' : List RingIs) (same : rings' ≡ rings) (olds news : List Kept) (apart : AreApart built.setting.rows rings (map apart_of olds)) (nothing : HaveNothing (map apart_of olds)) (cast : map (λ (p : Kept). part_of p.0) olds ≡ built.setting.cast) (many : length news ≡ length olds) (rows : List QueueRow) (rows_is : rows ≡ built.setting.rows) (apart' : AreApart rows rings' (map apart_of news)) (limit : ℕ)
+    (came : (k : ℕ) (old new : Apart) → slice_get (map apart_of olds) k ≡ Some old → slice_get (map apart_of news) k ≡ Some new → CameWithin rings limit old new) where
+  pub come : HaveComeFrom built.setting rings' (map apart_of news)
+  come = record {
+    begins = is.begins;
+    fitted = stands.fitted;
+    olds = map apart_of olds;
+    before = subst (λ (rs : List RingIs). AreApart built.setting.rows rs (map apart_of olds)) (sym same) apart;
+    nothing = nothing;
+    cast = map_twice olds ∙ cast;
+    many = length-map news apart_of ∙ (many ∙ sym (length-map olds apart_of));
+    after = subst (λ (rs : List QueueRow). AreApart rs rings' (map apart_of news)) rows_is apart';
+    gone = λ k old new at_old at_new. subst (λ (rs : List RingIs). HasGone rs old new) (sym same) (went old new (came k old new at_old at_new));
+  }
+    where
+      went : (old new : Apart) → CameWithin rings limit old new → HasGone rings old new
+      went old new c = record { before = c.2.before; after = c.2.after; began = c.2.began; ended = c.2.ended; calls = c.2.comes.calls; goes = c.2.comes.goes }
+
+  -- where its journal begins all rest, or one has spent its steps
+  pub first_moment : (t : Shown) → IsAdopted built.setting (map apart_of news) t → ((k : ℕ) (new : Apart) → slice_get (map apart_of news) k ≡ Some new → IsResting new) ⊎ ((k : ℕ) × (old : Apart) × (new : Apart) × (slice_get (map apart_of olds) k ≡ Some old) × (slice_get (map apart_of news) k ≡ Some new) × HasSpent rings limit old new) → AllRest t.setting ⊎ OneSpent t.setting limit
+  first_moment t adopted (inl rest) = inl (all_rest built.setting rings' (map apart_of news) come t adopted rest)
+  first_moment t adopted (inr spent) = inr (one_spent built.setting rings' (map apart_of news) come t adopted spent.0 spent.2 spent.4 limit spent.1 (subst (λ (rs : List RingIs). HasSpent rs limit spent.1 spent.2) (sym same) spent.5))
+
+-- so the system that was played on is what a run shows
+pub is_ran : (plan : Plan) → Valid plan → (trace : Trace) → IsReadFor plan trace → (limit : ℕ) (s : Setting) → IsCastOf plan trace s → (parts : List Apart) (t new : Shown) → IsAdopted s parts t → AllRest t.setting ⊎ OneSpent t.setting limit → Played t new 0 limit → StandsLawful new → LawInPart → LawWhole → IsRan plan trace limit new
+is_ran plan valid trace read limit s cast parts t new adopted first played stands part whole = record {
+  played = played_on t new 0 limit adopted.journal played plan valid trace read (subst (IsCastOf plan trace) (sym adopted.setting) (same_cast plan trace s t.setting.history cast)) stands part whole;
+  first = subst (λ (z : Setting). AllRest z ⊎ OneSpent z limit) (sym played.setting) first;
+}
