@@ -16,7 +16,7 @@ none_below f (suc n) none = let rest = none_below f n none in let here = none n 
 
 -- where no end stands from a number on, the steps of all ends are those at the places below
 pub steps_below : (es : List (Option EndIs)) (many : ℕ) → ((n : ℕ) → many ≤ n → stands_at es n ≡ None) → steps_of es ≡ sum_below (λ n. end_steps (stands_at es n)) many
-steps_below [] many none = sym (none_below (λ n. end_steps (stands_at ([] {X = Option EndIs}) n)) many (λ k. refl))
+steps_below [] many none = sym (none_below (λ n. end_steps (stands_at {X = EndIs} [] n)) many (λ k. refl))
 steps_below (e ∷ es) zero none =
     let here : end_steps e ≡ 0 = ap end_steps (none 0 (omega arith)) in
     let rest = steps_below es zero (λ n le. none (suc n) (omega arith)) in omega (arith, here, rest)
