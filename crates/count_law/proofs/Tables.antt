@@ -32,7 +32,7 @@ pools_stay naming lender hostile history rows keepers journal theirs pool buffer
     omega (arith, all_whole naming lender hostile history rows keepers journal theirs b, start_some 0 keepers b (all i lt)))
 
 -- where there is nobody, nothing passed, and the table without places is shown
-pub nobody_shown : (naming : Naming) (lender : ℕ) (hostile : Hostiles) (rows : List QueueRow) (m : Moved) → IsNaming naming lender hostile rows → IsPeopled rows 0 → IsShownBy naming lender [] m (start_table [])
+pub nobody_shown : (naming : Naming) (lender : ℕ) (hostile : Hostiles) (queues : List QueueRow) (m : Moved) → IsNaming naming lender hostile queues → IsPeopled queues 0 → IsShownBy naming lender [] m (start_table [])
 nobody_shown naming lender hostile rows m is peopled = record {
   queued = λ n b. let a = sent_none (as_buffer b) refl n in let c = taken_none (as_buffer b) refl n in omega (arith, a, c);
   leases_queued = λ n b. let a = sent_none (as_lease b) refl n in let c = taken_none (as_lease b) refl n in omega (arith, a, c);

@@ -20,6 +20,7 @@ pub record Seated : Type 0 where
   pub actor : Actor
   pub seats : SeatsAre
 
+-- the actors without their ends
 abbrev pub actors_of : List Seated → List Actor
 actors_of all = map (λ (x : Seated). x.actor) all
 

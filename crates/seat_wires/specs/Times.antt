@@ -65,6 +65,7 @@ abbrev pub sum_of : List ℕ → ℕ
 sum_of [] = 0
 sum_of (t ∷ ts) = t + sum_of ts
 
+-- the times of all that these ends know, added up
 abbrev pub times_of : List (Option EndIs) → ℕ
 times_of [] = 0
 times_of (e ∷ es) = sum_of (times_known e) + times_of es
