@@ -1,12 +1,10 @@
 -- What stands at places, and with its number.
-use Rattle.std.proofs.Common.{◌≡◌, ◌≢◌, ◌∙◌, ◌⊎◌, inl, inr, ⊎_elim, ◌==◌, if◌then◌else◌, ℕ, Bool, true, false, zero, suc, ◌+◌, ◌<◌, ◌≤◌, List, [], ◌∷◌, ◌++◌, length, refl, sym, ap, subst, arith, Option, Some, None, slice_get, slice_set, append_assoc}
-use Rattle.std.proofs.Math.Dec.{eqb}
+use Rattle.std.proofs.Common.{◌≡◌, ◌∙◌, ⊎_elim, if◌then◌else◌, ℕ, Bool, zero, suc, ◌+◌, ◌<◌, ◌≤◌, List, [], ◌∷◌, ◌++◌, refl, sym, ap, arith, Option, Some, None, slice_get, append_assoc}
 use Rattle.std.proofs.lemmas.Bool.Decides.{eqb_tells}
 use Rattle.wire_core.specs.declared.names.QueueId.{QueueId}
 use Rattle.spsc_queue.specs.Known.Ends.{EndIs}
-use Rattle.seat_wires.specs.Places.{stands_at, joined_get}
+use Rattle.seat_wires.specs.Places.{stands_at}
 use Rattle.actor_parts.specs.Parting.{end_in}
-use Rattle.actor_parts.specs.Placing.{placed, AreWithin}
 use Rattle.actor_parts.specs.Numbered.{numbered}
 
 first : {Y : Type 0} {x y : Y} → Some x ≡ Some y → x ≡ y

@@ -1,8 +1,8 @@
 -- What stands at the places.
-use Rattle.std.proofs.Common.{◌≡◌, ◌≢◌, ◌∙◌, ◌⊎◌, inl, inr, ◌==◌, if◌then◌else◌, ℕ, zero, suc, ◌+◌, ◌<◌, ◌≤◌, List, [], ◌∷◌, ◌++◌, length, refl, sym, ap, subst, arith, Option, Some, None, slice_get, slice_set}
+use Rattle.std.proofs.Common.{◌≡◌, ◌≢◌, ◌∙◌, ◌⊎◌, inl, inr, ℕ, zero, suc, ◌<◌, List, [], ◌∷◌, ◌++◌, length, refl, sym, ap, arith, Option, Some, None, slice_get, slice_set}
 use Rattle.wire_core.specs.declared.names.QueueId.{QueueId}
 use Rattle.seat_wires.specs.Places.{stands_at}
-use Rattle.actor_parts.specs.Placing.{placed, AreWithin, all_placed}
+use Rattle.actor_parts.specs.Placing.{AreWithin}
 
 pub length_set : {Y : Type 0} (xs : List Y) (i : ℕ) (y : Y) → length (slice_set xs i y) ≡ length xs
 length_set [] i y = refl

@@ -12,7 +12,7 @@ use Rattle.actor_parts.specs.Parting.{Apart, ends_at, end_in}
 use Rattle.actor_set.specs.declared.actor.Actor.{Actor}
 
 -- what both ends knew of a ring is kept, with what was put and not taken, in order, and when; and
--- with both bells, of which the bell law holds
+-- with both bells, of which the bell law holds; all of it is of the ring's kind
 pub record HasEnded (ring : RingIs) (p c : EndIs) (e : EndedIs) : Type 0 where
   pub capacity : e.capacity ≡ ring.id.slots
   pub producer : e.producer ≡ sent_home p.knows
@@ -22,6 +22,8 @@ pub record HasEnded (ring : RingIs) (p c : EndIs) (e : EndedIs) : Type 0 where
   pub later : List ℕ
   pub times : p.knows.times ≡ c.knows.times ++ later
   pub timed : length later ≡ length e.left
+  pub producer_kind : p.knows.kind ≡ ring.kind
+  pub consumer_kind : c.knows.kind ≡ ring.kind
   pub kinds : All (λ x. kind_of x.0 ≡ ring.kind) p.knows.entries
   pub forward_is : e.forward ≡ forward_bell e.forward.flag e.forward.pending p.knows c.knows
   pub forward : BellHolds e.forward (nat_lt 0 (length e.left)) (length p.knows.entries)

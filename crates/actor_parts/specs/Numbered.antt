@@ -1,7 +1,6 @@
 -- Ends with the numbers of their queues, and by place.
-use Rattle.std.specs.Prelude.{◌≡◌, ◌+◌, ◌<◌, ℕ, Option, Some, None, List, [], ◌∷◌, length, slice_get}
+use Rattle.std.specs.Prelude.{◌+◌, ℕ, Option, Some, None, List, [], ◌∷◌}
 use Rattle.wire_core.specs.declared.names.QueueId.{QueueId}
-use Rattle.seat_wires.specs.Places.{stands_at}
 
 -- the ends that stand at places, from a number on, each with its number
 abbrev pub numbered : {X : Type 0} → ℕ → List (Option X) → List (QueueId × X)

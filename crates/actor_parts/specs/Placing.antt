@@ -1,5 +1,5 @@
 -- Ends by the places of their queues.
-use Rattle.std.specs.Prelude.{◌≡◌, ◌<◌, ℕ, Option, Some, None, List, [], ◌∷◌, slice_get, slice_set, length}
+use Rattle.std.specs.Prelude.{◌≡◌, ◌<◌, ℕ, Option, Some, List, [], ◌∷◌, slice_get, slice_set}
 use Rattle.wire_core.specs.declared.names.QueueId.{QueueId}
 
 -- each of these ends at its queue's place, the last of a place

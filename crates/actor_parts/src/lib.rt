@@ -10,5 +10,5 @@ mod seating;
 pub use finishing::finish_apart;
 pub use laws::opened_law;
 pub use opening::open_apart;
-pub use parts::Parts;
+pub use parts::{Part, Parts};
 pub use seating::{by_number, by_place};

@@ -1,21 +1,18 @@
 -- An actor apart sits at its ends by place as it stood apart, and stands apart as it sat.
-use Rattle.std.proofs.Common.{◌≡◌, ◌≢◌, ◌∙◌, ◌⊎◌, inl, inr, ℕ, zero, suc, ◌+◌, ◌<◌, ◌≤◌, List, [], ◌∷◌, length, refl, sym, ap, subst, arith, Option, Some, None, slice_get}
+use Rattle.std.proofs.Common.{◌≡◌, ◌∙◌, ℕ, List, [], refl, sym, ap, arith, Option, Some, None, slice_get}
 use Rattle.wire_core.specs.declared.names.QueueId.{QueueId}
 use Rattle.wire_core.specs.declared.names.QueueRow.{QueueRow}
-use Rattle.wire_core.specs.Ends.{Role, Consumer, Producer, End}
+use Rattle.wire_core.specs.Ends.{Role, Consumer, Producer}
 use Rattle.wire_core.specs.Journal.{owner_of}
-use Rattle.wire_core.specs.Lists.{Passed}
 use Rattle.spsc_queue.specs.Known.Ends.{EndIs, RingIs}
 use Rattle.seat_wires.specs.Places.Are.{SeatsAre}
 use Rattle.seat_wires.specs.Places.{EndsOn, ends_of, stands_at, joined_get, seat_end, end_known, entries_known}
-use Rattle.seat_wires.specs.Went.{Went, ring_at, ring_known}
-use Rattle.actor_parts.specs.Parting.{Apart, ends_at, end_in, apart_end, apart_passed, StandsApart, HasItsEnds}
-use Rattle.actor_parts.specs.Placing.{placed, AreWithin}
+use Rattle.seat_wires.specs.Went.{Went, ring_known}
+use Rattle.actor_parts.specs.Parting.{Apart, ends_at, end_in, apart_end, apart_passed, HasItsEnds}
 use Rattle.actor_parts.specs.Numbered.{numbered}
-use Rattle.actor_set.specs.Actors.{FitsActor, ActorStandsFor}
 use Rattle.pd_runner.specs.Running.{passed_at}
-use Rattle.pd_runner.specs.Facing.{AreSeatsOf}
-use Rattle.actor_parts.proofs.Standing.{found, first_found, stands_placed}
+use Rattle.actor_parts.specs.Going.{AreSeatsOf}
+use Rattle.actor_parts.proofs.Standing.{found, first_found}
 use Rattle.actor_parts.proofs.Numbering.{numbered_from, found_from, once}
 
 module _ (rings : List RingIs) (p : Apart) (s : SeatsAre) (are : AreSeatsOf rings p s) where

@@ -4,3 +4,4 @@ pub mod Each
 pub mod Begun
 pub mod Ends
 pub mod Facing
+pub mod Seated

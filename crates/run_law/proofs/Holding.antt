@@ -1,25 +1,24 @@
 -- All that holds of a wired cast goes on to hold, turn by turn.
-use Rattle.std.proofs.Common.{◌≡◌, ◌≢◌, ◌∙◌, ◌<◌, ℕ, zero, suc, List, [], ◌∷◌, ◌++◌, length, map, refl, sym, ap, subst, append-nil, Option, Some, None, slice_get, slice_set, Bool, true, false, if◌then◌else◌, ◌⊎◌, ⊎_elim}
+use Rattle.std.proofs.Common.{◌≡◌, ◌≢◌, ◌∙◌, ℕ, zero, suc, List, [], ◌∷◌, ◌++◌, map, refl, sym, ap, subst, append-nil, Option, Some, slice_get, slice_set, Bool, if◌then◌else◌, ⊎_elim}
 use Rattle.std.specs.Option.{option_map_or}
 use mathlib.Core.Logic.{dite}
 use native.Mathlib.Decide.{ℕ_discrete}
 use Rattle.std.proofs.Math.Dec.{eqb}
 use Rattle.std.proofs.lemmas.Bool.Decides.{eqb_tells}
-use Rattle.cargo_core.specs.Items.{kind_of}
 use Rattle.cargo_core.specs.Lists.{IsPrefix}
 use Rattle.wire_core.specs.declared.names.QueueRow.{QueueRow}
-use Rattle.wire_core.specs.Deeds.{Deed, Cargo}
+use Rattle.wire_core.specs.Deeds.{Cargo}
 use Rattle.wire_core.specs.Ends.{Role, Consumer, Producer, End, role_of}
 use Rattle.wire_core.specs.Journal.{owner_of}
 use Rattle.wire_core.specs.Lists.{Passed, nothing_passed, with_deed}
 use Rattle.wire_core.specs.Queues.{items_of}
-use Rattle.play_core.specs.Moved.{Moved, Seat}
-use Rattle.play_core.specs.Sheets.{Scene, AreSeated, RowsHold}
-use Rattle.play_core.proofs.Lists.{map_get, map_from}
+use Rattle.play_core.specs.Moved.{Moved}
+use Rattle.play_core.specs.Sheets.{AreSeated, RowsHold}
+use Rattle.play_core.proofs.Lists.{map_get}
 use Rattle.rest_law.specs.Showing.{HaveItems}
 use Rattle.owner_law.specs.Pages.{CarryPages}
 use Rattle.actor_set.specs.Parts.{Part}
-use Rattle.actor_set.specs.Actors.{FitsActor, ActorStandsFor, ActorEnd, IsWhole, part_of}
+use Rattle.actor_set.specs.Actors.{FitsActor, ActorStandsFor, ActorEnd, part_of}
 use Rattle.actor_set.specs.declared.actor.Actor.{Actor}
 use Rattle.actor_law.specs.Kinds.{sheet, scene_of, hostiles}
 use Rattle.actor_law.specs.Turning.{InTurn}
@@ -138,13 +137,6 @@ module _ (rows : List QueueRow) (cast : List Part) (wired : IsWired rows cast) (
         (λ n own. ap (λ (c : List Cargo). passed.sent n ++ c) (beside j y ne at' Producer n own) ∙ append-nil (passed.sent n))
         (st.stands j y at'))
 
-    -- all but what is said of clients and pages
-    abbrev Later : Type 0
-    Later = ClientsSend cast passed' × ((place : PoolPlace) → IsPlaced rows place cast → CarryPages (cast_naming (scene_of cast) place) (moved_of passed') passed')
-
-    later : Later → Stands rows cast actors' passed'
-    later then = record { parts = parts' ∙ st.parts; each = each'; fits = fits'; stands = stands'; over = turn.hands_over; sends = then.0; carry = then.1 }
-
     abbrev ends' : Role → ℕ → End
     ends' r n = each' (option_map_or (λ (row : QueueRow). owner_of row r) (slice_get rows n) 0) r n
 
@@ -191,8 +183,9 @@ module _ (rows : List QueueRow) (cast : List Part) (wired : IsWired rows cast) (
       own = same_part t.actor x (role_of t.deed.event.op) t.deed.event.queue.0 (sym turn.part) (fits_whole (st.each k) x (st.fits k x turn.there)) turn.own;
     })
 
+    -- all goes on to hold after the turn
     next : Stands rows cast actors' passed'
-    next = later (sends', carry')
+    next = record { parts = parts' ∙ st.parts; each = each'; fits = fits'; stands = stands'; over = turn.hands_over; sends = sends'; carry = carry' }
 
   -- turn by turn
   held : (turns : List Turn) (actors news : List Actor) (passed last : Passed) → Stands rows cast actors passed → InOrder actors passed turns news last → AreOfKind rows last → Stands rows cast news last

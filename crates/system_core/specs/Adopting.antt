@@ -5,10 +5,7 @@ use Rattle.wire_core.specs.declared.names.QueueRow.{QueueRow}
 use Rattle.wire_core.specs.Ends.{Role, Consumer, Producer}
 use Rattle.wire_core.specs.Journal.{Track, history_at}
 use Rattle.wire_core.specs.Marks.{sum_below}
-use Rattle.wire_core.specs.Queues.{items_of}
-use Rattle.spsc_queue.specs.declared.view.Half.{Half}
 use Rattle.spsc_queue.specs.Known.Ends.{EndIs, RingIs}
-use Rattle.spsc_queue.specs.Rule.{forward_bell, backward_bell}
 use Rattle.play_core.specs.Wants.{all_settled}
 use Rattle.actor_set.specs.Actors.{part_of, actor_rests}
 use Rattle.actor_set.specs.Parts.{Part}
@@ -16,6 +13,7 @@ use Rattle.actor_parts.specs.Parting.{Apart, AreApart}
 use Rattle.actor_parts.specs.Opened.{HaveNothing}
 use Rattle.actor_parts.specs.Going.{HasGone}
 use Rattle.actor_parts.specs.Finished.{OwnEnd}
+use Rattle.ended_law.specs.Tracks.{TellsEnds}
 use Rattle.system_core.specs.Shows.{Setting, Shown, sheet_in, moved_in}
 use Rattle.system_core.specs.Lawful.{IsFitted}
 use Rattle.system_core.specs.Builds.{BeginsAnew}
@@ -33,16 +31,6 @@ pub record HaveComeFrom (s : Setting) (rings : List RingIs) (parts : List Apart)
   pub gone : (k : ℕ) (old new : Apart) → slice_get olds k ≡ Some old → slice_get parts k ≡ Some new
       → HasGone rings old new
 
--- a queue's track tells what both its ends knew: the items that were put and taken, what each end
--- keeps of both bells, and their noes and steps
-pub record TellsEnds (p c : Half) (t : Track) : Type 0 where
-  pub sent : t.sent ≡ items_of p.entries
-  pub taken : t.taken ≡ items_of c.entries
-  pub forward : t.bells.forward ≡ forward_bell t.bells.forward.flag t.bells.forward.pending p c
-  pub backward : t.bells.backward ≡ backward_bell t.bells.backward.flag t.bells.backward.pending p c
-  pub producer : t.producer ≡ record { noes = p.noes; steps = p.steps }
-  pub consumer : t.consumer ≡ record { noes = c.noes; steps = c.steps }
-
 -- an actor is at rest where the journal begins: all that it needs is settled
 abbrev pub rests_first : Setting → Part → Bool
 rests_first s p = all_settled s.history [] ((sheet_in s p).wants (moved_in s []))
@@ -52,6 +40,7 @@ rests_first s p = all_settled s.history [] ((sheet_in s p).wants (moved_in s [])
 pub record IsAdopted (s : Setting) (parts : List Apart) (t : Shown) : Type 0 where
   pub setting : t.setting ≡ record s { history = t.setting.history }
   pub journal : t.journal ≡ []
+  pub cast : map (λ (p : Apart). part_of p.actor) parts ≡ s.cast
   pub keeps : (n : ℕ) (row : QueueRow) → slice_get s.rows n ≡ Some row → (p c : EndIs)
       → OwnEnd parts row Producer n p → OwnEnd parts row Consumer n c
       → TellsEnds p.knows c.knows (history_at t.setting.history n)

@@ -1,4 +1,4 @@
-use Rattle.std.proofs.Common.{rules, ◌≡◌, ◌∙◌, ap, sym, length, length-append, arith, None, [], ◌∷◌}
+use Rattle.std.proofs.Common.{◌∙◌, ap, length, length-append, arith, None, [], ◌∷◌}
 use Rattle.seat_wires.specs.Places.{stands_at}
 use Rattle.actor_parts.proofs.Places.{none_more}
 use Rattle.actor_parts.proofs.finishing.empty_places.Goals as goal

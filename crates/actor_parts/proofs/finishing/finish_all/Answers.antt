@@ -1,7 +1,7 @@
-use Rattle.std.proofs.Common.{rules, ◌≡◌, ◌∙◌, ◌++◌, ◌∷◌, [], ◌≤◌, ◌<◌, ◌≢◌, ℕ, List, ap, sym, subst, refl, length, length-append, arith, append_assoc, append-nil, Option, Some, None, slice_get, slice_set, ⊎_elim}
+use Rattle.std.proofs.Common.{◌≡◌, ◌∙◌, ◌++◌, ◌∷◌, [], ℕ, ap, sym, subst, length, length-append, arith, append_assoc, append-nil, None, slice_get, ⊎_elim}
 use Rattle.spsc_queue.specs.Known.Ends.{EndIs, RingIs, EndedIs}
 use Rattle.actor_parts.specs.Finished.{HasEnded}
-use Rattle.actor_parts.proofs.Places.{set_beside, get_seam, get_more, same_end, next_is, none_left, still_there}
+use Rattle.actor_parts.proofs.Places.{set_beside, get_more, same_end, next_is, none_left, still_there}
 use Rattle.actor_parts.proofs.finishing.finish_all.Goals as goal
 
 pub take_end-producer-requires : goal.take_end-producer-requires
@@ -54,6 +54,8 @@ loop-ring-preserved c = let n : ℕ = length c.loop-ring.yielded in let was = c.
       later = did.times.0;
       times = did.times.1;
       timed = did.times.2;
+      producer_kind = did.kinds.0;
+      consumer_kind = did.kinds.1;
       kinds = did.kinds.2;
       forward_is = did.forward.0;
       forward = did.forward.1;

@@ -1,12 +1,9 @@
-use Rattle.std.proofs.Common.{rules, ◌≡◌, ◌∙◌, ◌++◌, ◌∷◌, [], ℕ, List, Option, refl, ap, sym, subst, length, map, arith, append_assoc, append-nil, Some, slice_get}
-use Rattle.wire_core.specs.Ends.{Role, Consumer, Producer}
-use Rattle.spsc_queue.specs.Known.Ends.{EndIs}
-use Rattle.actor_parts.specs.Parting.{Apart}
-use Rattle.actor_parts.specs.Given.{Kept, apart_of}
+use Rattle.std.proofs.Common.{◌≡◌, ◌∙◌, ◌++◌, ◌∷◌, [], ap, sym, subst, length, map, arith, append_assoc, append-nil, slice_get}
+use Rattle.wire_core.specs.Ends.{Consumer, Producer}
+use Rattle.actor_parts.specs.Given.{Kept}
 use Rattle.actor_parts.specs.Placing.{placed, AreWithin, all_placed}
-use Rattle.actor_parts.specs.Finished.{AreFinished}
 use Rattle.actor_parts.proofs.Places.{next_is, none_left}
-use Rattle.actor_parts.proofs.Standing.{ends_of, length_placed, length_all, all_more, own_stands, end_there, all_within, map_more, map_actors}
+use Rattle.actor_parts.proofs.Standing.{ends_of, length_placed, all_more, own_stands, end_there, all_within, map_more, map_actors}
 use Rattle.actor_parts.proofs.finishing.finish_apart.Goals as goal
 
 pub place_ends-requires : goal.place_ends-requires

@@ -1,5 +1,4 @@
-use Rattle.std.proofs.Common.{rules, ◌≡◌, ◌∙◌, ◌∷◌, List, refl, ap, sym, subst, length, arith, Some, slice_set}
-use Rattle.wire_core.specs.declared.names.QueueId.{QueueId}
+use Rattle.std.proofs.Common.{◌∙◌, refl, ap, sym, subst, length, arith, Some}
 use Rattle.actor_parts.specs.Placing.{placed, AreWithin}
 use Rattle.actor_parts.proofs.Places.{length_set, within_rest}
 use Rattle.actor_parts.proofs.finishing.place_ends.Goals as goal

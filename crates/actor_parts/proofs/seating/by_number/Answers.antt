@@ -1,6 +1,4 @@
-use Rattle.std.proofs.Common.{rules, ◌≡◌, ◌∙◌, ◌++◌, ◌∷◌, [], ◌+◌, ℕ, List, Option, refl, ap, sym, subst, length, length-append, arith, append_assoc, Some, None}
-use Rattle.wire_core.specs.declared.names.QueueId.{QueueId}
-use Rattle.actor_parts.specs.Numbered.{numbered}
+use Rattle.std.proofs.Common.{◌∙◌, ◌++◌, ◌∷◌, [], ap, sym, length, length-append, arith, append_assoc}
 use Rattle.actor_parts.proofs.Numbering.{one_more, none_more}
 use Rattle.actor_parts.proofs.seating.by_number.Goals.{in-Some-place+in_ok-push-in-Some-place, in-None-place}
 use Rattle.actor_parts.proofs.seating.by_number.Goals as goal
