@@ -1,5 +1,5 @@
 -- The grammar of the program's words, and the first bad word of those that have none of its forms.
-use Rattle.std.specs.Prelude.{◌≡◌, ◌+◌, ◌^◌, ◌<◌, ◌≤◌, ℕ, Option, unwrap_or, List, [], ◌∷◌, ◌++◌, length, take, map, string_bytes, codes, decimal}
+use Rattle.std.specs.Prelude.{◌≡◌, ◌+◌, ◌^◌, ◌<◌, ◌≤◌, ℕ, Option, Some, unwrap_or, List, [], ◌∷◌, ◌++◌, length, take, slice_get, map, string_bytes, codes, decimal}
 use Rattle.std.specs.Global.{Global}
 use Rattle.std.specs.declared.string.String.{String}
 use Rattle.cargo_core.specs.Lists.{IsPrefix}
@@ -69,6 +69,10 @@ pub record IsBadWord (words : List (List ℕ)) (k : ℕ) : Type 0 where
   pub before : Begins (take k words)
   pub here : k < length words → Begins (take (k + 1) words) → ⊥
   pub whole : k ≡ length words → (command : Command) → Spells words command → ⊥
+
+-- the first word is `run`
+abbrev pub BeginsRun : List (List ℕ) → Type 0
+BeginsRun words = slice_get words 0 ≡ Some (codes "run")
 
 -- the place of the last name, or of the number, in the words of a command
 abbrev pub last_name : Command → ℕ

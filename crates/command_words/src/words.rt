@@ -1,8 +1,8 @@
 //! The reading of all words, command by command.
 
-ghost use Rattle.std.specs.Prelude.{◌≡◌, ◌<◌, ◌≤◌, ℕ, List, Ok, Err, length, drop, OnOk, IfOk, IfErr};
+ghost use Rattle.std.specs.Prelude.{◌≡◌, ◌↔◌, ◌<◌, ◌≤◌, ℕ, List, Ok, Err, length, drop, OnOk, IfOk, IfErr, IsTrue};
 ghost use Rattle.command_words.specs.Options.{IsLimit};
-ghost use Rattle.command_words.specs.Words.{texts_of, Spells, IsBadWord, last_name};
+ghost use Rattle.command_words.specs.Words.{texts_of, Spells, IsBadWord, BeginsRun, last_name};
 ghost use Rattle.command_words.specs.Reading.{IsBadFrom, IsOneName, IsTheNumber, IsOneNumber, AreNamed, IsBadName, AsksToPlay, MayAskToPlay, AsksToRun, MayAskToRun, OptionsAre, MayBeOptions, MayBeLimit};
 
 use crate::chosen::{Chosen, number_at};
@@ -28,6 +28,13 @@ pub fn read_words(words: &[String]) -> Result<Command, u32>
         Ok(command) => Ok(command),
         Err(place) => Err(place as u32),
     }
+}
+
+/// Whether the first word is `run`.
+pub fn begins_run(words: &[String]) -> bool
+    ensures { IsTrue result ↔ BeginsRun (texts_of words.now) }
+{
+    !words.is_empty() && is_word(word_at(words, 0), "run")
 }
 
 // The command that the words spell, or the place of the first bad word.
