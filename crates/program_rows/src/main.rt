@@ -155,7 +155,9 @@ fn print_runs<R: Threads + Wait + Sync + Files + Print + AllocGlobal>(
     let mut same = 0u64;
     let mut late = 0u64;
     for run in 0..count {
-        let gate = Arrivals::new(rt.alloc(), actors)?;
+        let Ok(gate) = Arrivals::new(rt.alloc(), actors) else {
+            return println!(rt; "no memory");
+        };
         let text = told(rt, row, None, &gate)?;
         late = late.saturating_add(gate.late());
         if run == 0 {
