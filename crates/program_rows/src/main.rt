@@ -9,7 +9,7 @@
 mod arrivals;
 
 use arrivals::Arrivals;
-use sddf_top::{FileShelf, Gate, MemSink, OpenGate, Played, serve};
+use sddf_top::{FileShelf, MemSink, Played, serve};
 use std::alloc::Global;
 use std::io;
 use std::rt::Files;
@@ -98,11 +98,11 @@ fn words_of(alloc: Global, row: &str, seed: Option<u64>) -> io::Result<Vec<Strin
 }
 
 // What these words give, with a gate before each step in a thread.
-fn told<R: Threads + Wait + Sync + Files + AllocGlobal, G: Gate + Sync>(
+fn told<R: Threads + Wait + Sync + Files + AllocGlobal>(
     rt: &R,
     row: &str,
     seed: Option<u64>,
-    gate: &G,
+    gate: &Arrivals,
 ) -> io::Result<String> {
     let words = words_of(rt.alloc(), row, seed)?;
     let mut shelf = FileShelf::new(rt);
@@ -131,12 +131,13 @@ fn print_plays<R: Threads + Wait + Sync + Files + Print + AllocGlobal>(
     rt: &R,
     count: u64,
     row: &str,
+    gate: &Arrivals,
 ) -> io::Result<()> {
-    let first = told(rt, row, Some(0), &OpenGate)?;
+    let first = told(rt, row, Some(0), gate)?;
     rt.print(first.as_str())?;
     let mut same = 0u64;
     for seed in 0..count {
-        let text = told(rt, row, Some(seed), &OpenGate)?;
+        let text = told(rt, row, Some(seed), gate)?;
         if text.as_str() == first.as_str() {
             same = same.saturating_add(1);
         }
@@ -171,9 +172,11 @@ fn print_runs<R: Threads + Wait + Sync + Files + Print + AllocGlobal>(
     println!(rt; "the same for {same} of {count} runs, in which {late} actors waited in vain")
 }
 
+// Does what a line asks for; this gate holds nobody back.
 fn print_row<R: Threads + Wait + Sync + Files + Print + AllocGlobal>(
     rt: &R,
     row: &str,
+    gate: &Arrivals,
 ) -> io::Result<()> {
     if row.starts_with('#') {
         return println!(rt; "{row}");
@@ -186,15 +189,18 @@ fn print_row<R: Threads + Wait + Sync + Files + Print + AllocGlobal>(
                 actors.parse::<u64>().unwrap_or(0),
                 row,
             ),
-            None => print_plays(rt, count.parse::<u64>().unwrap_or(0), row),
+            None => print_plays(rt, count.parse::<u64>().unwrap_or(0), row, gate),
         },
-        None => rt.print(told(rt, row, None, &OpenGate)?.as_str()),
+        None => rt.print(told(rt, row, None, gate)?.as_str()),
     }
 }
 
 fn main(rt: HostRuntime) -> io::Result<()> {
+    let Ok(gate) = Arrivals::new(rt.alloc(), 0) else {
+        return println!(rt; "no memory");
+    };
     for line in rt.lines(rt.alloc()) {
-        print_row(&rt, line?.as_str())?;
+        print_row(&rt, line?.as_str(), &gate)?;
     }
     Ok(())
 }
