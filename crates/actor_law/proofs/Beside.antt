@@ -1,4 +1,4 @@
-use Rattle.std.proofs.Common.{◌≡◌, ℕ, refl, sym, ◌∙◌, subst}
+use Rattle.std.proofs.Common.{ap, ◌≡◌, ℕ, refl, sym, ◌∙◌, subst}
 use Rattle.wire_core.specs.Ends.{Role, Consumer, Producer, End}
 use Rattle.wire_core.specs.Lists.{Passed}
 use Rattle.turn_kit.specs.Table.{Agrees}
@@ -23,13 +23,13 @@ use Rattle.actor_law.proofs.TxBeside.{fits_sender, stands_sender}
 use Rattle.actor_law.proofs.BlkBeside.{fits_disk, fits_server, fits_asker, stands_disk, stands_server, stands_asker}
 
 -- where an actor's ends stay, it fits as before
-module _ (ends ends' : Role → ℕ → End) (kinds : (r : Role) (n : ℕ) → (ends' r n).kind ≡ (ends r n).kind) where
+module _ (ends ends' : Role → ℕ → End) where
   fits_terminal : (t : Terminal) → ends' Consumer t.input.queue.0 ≡ ends Consumer t.input.queue.0 → ends' Producer t.output.queue.0 ≡ ends Producer t.output.queue.0 → FitsTerminal ends t → FitsTerminal ends' t
   fits_terminal t i o f = record {
     input = subst (λ e. Agrees e t.input.state) (sym i) f.input;
     output = subst (λ e. Agrees e t.output.state) (sym o) f.output;
-    hears = kinds Consumer t.input.queue.0 ∙ f.hears;
-    says = kinds Producer t.output.queue.0 ∙ f.says;
+    hears = ap (λ (e : End). e.kind) i ∙ f.hears;
+    says = ap (λ (e : End). e.kind) o ∙ f.says;
     next = f.next;
   }
 
@@ -40,8 +40,8 @@ module _ (ends ends' : Role → ℕ → End) (kinds : (r : Role) (n : ℕ) → (
       agrees = λ k i at. subst (λ e. Agrees e i.state) (sym (same Producer i.queue.0 (k, i.queue, map_get (λ (o : Outlet). o.queue) v.outputs.ends.items k i at, refl))) (f.outputs.agrees k i at);
       apart = f.outputs.apart;
     };
-    hears = kinds Consumer v.input.queue.0 ∙ f.hears;
-    says = λ k q at. kinds Producer q.0 ∙ f.says k q at;
+    hears = ap (λ (e : End). e.kind) (same Consumer v.input.queue.0 refl) ∙ f.hears;
+    says = λ k q at. ap (λ (e : End). e.kind) (same Producer q.0 (k, q, at, refl)) ∙ f.says k q at;
     load = f.load;
   }
 
@@ -52,8 +52,8 @@ module _ (ends ends' : Role → ℕ → End) (kinds : (r : Role) (n : ℕ) → (
       apart = f.inputs.apart;
     };
     output = subst (λ e. Agrees e v.output.state) (sym (same Producer v.output.queue.0 refl)) f.output;
-    hears = λ k q at. kinds Consumer q.0 ∙ f.hears k q at;
-    says = kinds Producer v.output.queue.0 ∙ f.says;
+    hears = λ k q at. ap (λ (e : End). e.kind) (same Consumer q.0 (k, q, at, refl)) ∙ f.hears k q at;
+    says = ap (λ (e : End). e.kind) (same Producer v.output.queue.0 refl) ∙ f.says;
     load = f.load;
   }
 
@@ -62,17 +62,17 @@ module _ (ends ends' : Role → ℕ → End) (kinds : (r : Role) (n : ℕ) → (
   fits_beside (Kinds.SerialClient x) same f = fits_terminal x.terminal (same Consumer x.terminal.input.queue.0 refl) (same Producer x.terminal.output.queue.0 refl) f
   fits_beside (Kinds.SerialVirtRx x) same f = fits_rx x same f
   fits_beside (Kinds.SerialVirtTx x) same f = fits_tx x same f
-  fits_beside (Kinds.UartDriver x) same f = fits_pipes ends ends' kinds (two_pipes x.driver.pipes) same f
-  fits_beside (Kinds.EthDevice x) same f = fits_device ends ends' kinds x same f
-  fits_beside (Kinds.EthDriver x) same f = fits_pipes ends ends' kinds (four_pipes x.driver.pipes) same f
-  fits_beside (Kinds.NetVirtRx x) same f = (fits_receiver ends ends' kinds x same f.0, f.1)
-  fits_beside (Kinds.NetCopier x) same f = fits_copier ends ends' kinds x same f
-  fits_beside (Kinds.NetClient x) same f = (fits_client ends ends' kinds x same f.0, f.1)
-  fits_beside (Kinds.NetVirtTx x) same f = fits_sender ends ends' kinds x same f
-  fits_beside (Kinds.DiskDevice x) same f = fits_disk ends ends' kinds x.device same f
-  fits_beside (Kinds.BlkDriver x) same f = fits_pipes ends ends' kinds (two_pipes x.driver.pipes) same f
-  fits_beside (Kinds.BlkVirt x) same f = (fits_server ends ends' kinds x same f.0, f.1, f.2)
-  fits_beside (Kinds.BlkClient x) same f = fits_asker ends ends' kinds x same f
+  fits_beside (Kinds.UartDriver x) same f = fits_pipes ends ends' (two_pipes x.driver.pipes) same f
+  fits_beside (Kinds.EthDevice x) same f = fits_device ends ends' x same f
+  fits_beside (Kinds.EthDriver x) same f = fits_pipes ends ends' (four_pipes x.driver.pipes) same f
+  fits_beside (Kinds.NetVirtRx x) same f = (fits_receiver ends ends' x same f.0, f.1)
+  fits_beside (Kinds.NetCopier x) same f = fits_copier ends ends' x same f
+  fits_beside (Kinds.NetClient x) same f = (fits_client ends ends' x same f.0, f.1)
+  fits_beside (Kinds.NetVirtTx x) same f = fits_sender ends ends' x same f
+  fits_beside (Kinds.DiskDevice x) same f = fits_disk ends ends' x.device same f
+  fits_beside (Kinds.BlkDriver x) same f = fits_pipes ends ends' (two_pipes x.driver.pipes) same f
+  fits_beside (Kinds.BlkVirt x) same f = (fits_server ends ends' x same f.0, f.1, f.2)
+  fits_beside (Kinds.BlkClient x) same f = fits_asker ends ends' x same f
 
 -- where nothing moved at an actor's ends, it stands for the same lists
 module _ (passed passed' : Passed) where

@@ -1,6 +1,6 @@
 -- Where nothing changes at the ends of the block class's actors, they fit them and stand for the
 -- same lists.
-use Rattle.std.proofs.Common.{◌≡◌, ◌++◌, ◌<◌, ℕ, zero, suc, Some, List, length, drop, slice_get, refl, sym, ap, ◌∙◌, subst, arith, inl, inr}
+use Rattle.std.proofs.Common.{ap, ◌≡◌, ◌++◌, ◌<◌, ℕ, zero, suc, Some, List, length, drop, slice_get, refl, sym, ap, ◌∙◌, subst, arith, inl, inr}
 use Rattle.std.specs.Option.{option_to_list}
 use Rattle.std.proofs.lemmas.List.{length-map}
 use Rattle.cargo_core.specs.Bodies.{buffers_of}
@@ -32,13 +32,13 @@ use Rattle.blk_virt.proofs.Answering.{same_lists}
 use Rattle.blk_rests.proofs.Opening.{queue_is}
 use Rattle.actor_law.proofs.NetBeside.{bodies_same}
 
-module _ (ends ends' : Role → ℕ → End) (kinds : (r : Role) (n : ℕ) → (ends' r n).kind ≡ (ends r n).kind) where
+module _ (ends ends' : Role → ℕ → End) where
   pub fits_disk : (d : DiskDevice) → ((r : Role) (n : ℕ) → DiskEnd d r n → ends' r n ≡ ends r n) → FitsDisk ends d → FitsDisk ends' d
   fits_disk d same f = record {
     input = subst (λ e. Agrees e d.input.state) (sym (same Consumer (req d) refl)) f.input;
     output = subst (λ e. Agrees e d.output.state) (sym (same Producer (resp d) refl)) f.output;
-    comes = kinds Consumer (req d) ∙ f.comes;
-    goes = kinds Producer (resp d) ∙ f.goes;
+    comes = ap (λ (e : End). e.kind) (same Consumer (req d) refl) ∙ f.comes;
+    goes = ap (λ (e : End). e.kind) (same Producer (resp d) refl) ∙ f.goes;
     load = f.load;
   }
 
@@ -46,8 +46,8 @@ module _ (ends ends' : Role → ℕ → End) (kinds : (r : Role) (n : ℕ) → (
   fits_asker c same f = record {
     responses = subst (λ e. Agrees e c.responses.state) (sym (same Consumer (resp_queue c) refl)) f.responses;
     requests = subst (λ e. Agrees e c.requests.state) (sym (same Producer (req_queue c) refl)) f.requests;
-    comes = kinds Consumer (resp_queue c) ∙ f.comes;
-    goes = kinds Producer (req_queue c) ∙ f.goes;
+    comes = ap (λ (e : End). e.kind) (same Consumer (resp_queue c) refl) ∙ f.comes;
+    goes = ap (λ (e : End). e.kind) (same Producer (req_queue c) refl) ∙ f.goes;
     asking = f.asking;
   }
 
@@ -63,10 +63,10 @@ module _ (ends ends' : Role → ℕ → End) (kinds : (r : Role) (n : ℕ) → (
       agrees = λ k i at. subst (λ e. Agrees e i.state) (sym (same Producer i.queue.0 (inr (k, i.queue, map_get (λ (x : Outlet). x.queue) v.to_clients.ends.items k i at, refl)))) (f.to_clients.agrees k i at);
       apart = f.to_clients.apart;
     };
-    comes = kinds Consumer v.input.queue.0 ∙ f.comes;
-    goes = kinds Producer v.output.queue.0 ∙ f.goes;
-    come_from = λ k q at. kinds Consumer q.0 ∙ f.come_from k q at;
-    go_to = λ k q at. kinds Producer q.0 ∙ f.go_to k q at;
+    comes = ap (λ (e : End). e.kind) (same Consumer v.input.queue.0 (inl refl)) ∙ f.comes;
+    goes = ap (λ (e : End). e.kind) (same Producer v.output.queue.0 (inl refl)) ∙ f.goes;
+    come_from = λ k q at. ap (λ (e : End). e.kind) (same Consumer q.0 (inr (k, q, at, refl))) ∙ f.come_from k q at;
+    go_to = λ k q at. ap (λ (e : End). e.kind) (same Producer q.0 (inr (k, q, at, refl))) ∙ f.go_to k q at;
     inputs_apart = f.inputs_apart;
     outputs_apart = f.outputs_apart;
     few_from = f.few_from;

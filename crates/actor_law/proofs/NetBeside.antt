@@ -33,12 +33,12 @@ use Rattle.net_client.specs.Clients as client
 use Rattle.net_client.specs.declared.NetClient.{NetClient}
 use Rattle.net_client.proofs.Standing.{held_on}
 
-module _ (ends ends' : Role → ℕ → End) (kinds : (r : Role) (n : ℕ) → (ends' r n).kind ≡ (ends r n).kind) where
+module _ (ends ends' : Role → ℕ → End) where
   pub fits_pipe : (p : Pipe) → ends' Consumer p.input.queue.0 ≡ ends Consumer p.input.queue.0 → ends' Producer p.output.queue.0 ≡ ends Producer p.output.queue.0 → FitsPipe ends p → FitsPipe ends' p
   fits_pipe p i o f = record {
     input = subst (λ e. Agrees e p.input.state) (sym i) f.input;
     output = subst (λ e. Agrees e p.output.state) (sym o) f.output;
-    kinds = kinds Consumer p.input.queue.0 ∙ (f.kinds ∙ sym (kinds Producer p.output.queue.0));
+    kinds = ap (λ (e : End). e.kind) i ∙ (f.kinds ∙ sym (ap (λ (e : End). e.kind) o));
     load = rw o f.load;
   }
 
@@ -54,8 +54,8 @@ module _ (ends ends' : Role → ℕ → End) (kinds : (r : Role) (n : ℕ) → (
     free = subst (λ e. Agrees e d.free.state) (sym (same Consumer (rx_free d) (inl refl))) f.free;
     active = subst (λ e. Agrees e d.active.state) (sym (same Producer (rx_active d) (inl refl))) f.active;
     wire = fits_pipe d.wire.pipe (same Consumer (tx_active d) (inr refl)) (same Producer (tx_free d) (inr refl)) f.wire;
-    comes = kinds Consumer (rx_free d) ∙ f.comes;
-    goes = kinds Producer (rx_active d) ∙ f.goes;
+    comes = ap (λ (e : End). e.kind) (same Consumer (rx_free d) (inl refl)) ∙ f.comes;
+    goes = ap (λ (e : End). e.kind) (same Producer (rx_active d) (inl refl)) ∙ f.goes;
     load = f.load;
     inputs_apart = f.inputs_apart;
     outputs_apart = f.outputs_apart;
@@ -69,10 +69,10 @@ module _ (ends ends' : Role → ℕ → End) (kinds : (r : Role) (n : ℕ) → (
     buffer_input = subst (λ e. Agrees e c.buffer_input.state) (sym (same Consumer c.buffer_input.queue.0 (inr refl))) f.buffer_input;
     buffer_output = subst (λ e. Agrees e c.buffer_output.state) (sym (same Producer c.buffer_output.queue.0 (inl refl))) f.buffer_output;
     lease_output = subst (λ e. Agrees e c.lease_output.state) (sym (same Producer c.lease_output.queue.0 (inr refl))) f.lease_output;
-    leases_come = kinds Consumer c.lease_input.queue.0 ∙ f.leases_come;
-    buffers_come = kinds Consumer c.buffer_input.queue.0 ∙ f.buffers_come;
-    buffers_go = kinds Producer c.buffer_output.queue.0 ∙ f.buffers_go;
-    leases_go = kinds Producer c.lease_output.queue.0 ∙ f.leases_go;
+    leases_come = ap (λ (e : End). e.kind) (same Consumer c.lease_input.queue.0 (inl refl)) ∙ f.leases_come;
+    buffers_come = ap (λ (e : End). e.kind) (same Consumer c.buffer_input.queue.0 (inr refl)) ∙ f.buffers_come;
+    buffers_go = ap (λ (e : End). e.kind) (same Producer c.buffer_output.queue.0 (inl refl)) ∙ f.buffers_go;
+    leases_go = ap (λ (e : End). e.kind) (same Producer c.lease_output.queue.0 (inr refl)) ∙ f.leases_go;
     inputs_apart = f.inputs_apart;
     outputs_apart = f.outputs_apart;
     lease = f.lease;
@@ -85,9 +85,9 @@ module _ (ends ends' : Role → ℕ → End) (kinds : (r : Role) (n : ℕ) → (
     frames = fits_pipe c.frames.pipe (same Consumer (client.rx_active c) (inl refl)) (same Producer (client.rx_free c) (inl refl)) f.frames;
     sent = subst (λ e. Agrees e c.sent.state) (sym (same Consumer (client.tx_free c) (inr refl))) f.sent;
     send = subst (λ e. Agrees e c.send.state) (sym (same Producer (client.tx_active c) (inr refl))) f.send;
-    gives = kinds Producer (client.rx_free c) ∙ f.gives;
-    comes_back = kinds Consumer (client.tx_free c) ∙ f.comes_back;
-    sends = kinds Producer (client.tx_active c) ∙ f.sends;
+    gives = ap (λ (e : End). e.kind) (same Producer (client.rx_free c) (inl refl)) ∙ f.gives;
+    comes_back = ap (λ (e : End). e.kind) (same Consumer (client.tx_free c) (inr refl)) ∙ f.comes_back;
+    sends = ap (λ (e : End). e.kind) (same Producer (client.tx_active c) (inr refl)) ∙ f.sends;
     inputs_apart = f.inputs_apart;
     outputs_apart = f.outputs_apart;
     stock = f.stock;
@@ -109,10 +109,10 @@ module _ (ends ends' : Role → ℕ → End) (kinds : (r : Role) (n : ℕ) → (
       agrees = λ k i at. subst (λ e. Agrees e i.state) (sym (same Producer i.queue.0 (inr (k, i.queue, map_get (λ (x : Outlet). x.queue) v.to_clients.ends.items k i at, refl)))) (f.to_clients.agrees k i at);
       apart = f.to_clients.apart;
     };
-    comes = kinds Consumer v.input.queue.0 ∙ f.comes;
-    goes = kinds Producer v.output.queue.0 ∙ f.goes;
-    come_from = λ k q at. kinds Consumer q.0 ∙ f.come_from k q at;
-    go_to = λ k q at. kinds Producer q.0 ∙ f.go_to k q at;
+    comes = ap (λ (e : End). e.kind) (same Consumer v.input.queue.0 (inl refl)) ∙ f.comes;
+    goes = ap (λ (e : End). e.kind) (same Producer v.output.queue.0 (inl refl)) ∙ f.goes;
+    come_from = λ k q at. ap (λ (e : End). e.kind) (same Consumer q.0 (inr (k, q, at, refl))) ∙ f.come_from k q at;
+    go_to = λ k q at. ap (λ (e : End). e.kind) (same Producer q.0 (inr (k, q, at, refl))) ∙ f.go_to k q at;
     inputs_apart = f.inputs_apart;
     outputs_apart = f.outputs_apart;
     few_from = f.few_from;

@@ -1,6 +1,6 @@
 -- Where nothing changes at the ends of the network's sending virtualiser, it fits them and stands
 -- for the same lists.
-use Rattle.std.proofs.Common.{◌≡◌, ◌⊎◌, ◌==◌, ◌++◌, ◌<◌, ℕ, zero, suc, Bool, true, false, if◌then◌else◌, Option, Some, None, List, [], length, slice_get, refl, sym, ap, ◌∙◌, subst, arith, inl, inr}
+use Rattle.std.proofs.Common.{ap, ◌≡◌, ◌⊎◌, ◌==◌, ◌++◌, ◌<◌, ℕ, zero, suc, Bool, true, false, if◌then◌else◌, Option, Some, None, List, [], length, slice_get, refl, sym, ap, ◌∙◌, subst, arith, inl, inr}
 use Rattle.std.specs.Option.{option_to_list}
 use Rattle.std.proofs.Math.Dec.{eqb}
 use Rattle.std.proofs.lemmas.Bool.Decides.{eqb_tells}
@@ -21,9 +21,9 @@ use Rattle.net_virt_tx.proofs.Serving.{as_lists}
 use Rattle.net_virt_tx.proofs.Steps.{none_if, queue_is}
 use Rattle.actor_law.proofs.NetBeside.{fits_virt, bodies_same, turned}
 
-module _ (ends ends' : Role → ℕ → End) (kinds : (r : Role) (n : ℕ) → (ends' r n).kind ≡ (ends r n).kind) where
+module _ (ends ends' : Role → ℕ → End) where
   pub fits_sender : (v : NetVirtTx) → ((r : Role) (n : ℕ) → VirtOwns v.ends r n → ends' r n ≡ ends r n) → FitsTx ends v → FitsTx ends' v
-  fits_sender v same f = record { ends_fit = fits_virt ends ends' kinds v.ends same f.ends_fit; work = f.work; from_each = f.from_each; to_each = f.to_each }
+  fits_sender v same f = record { ends_fit = fits_virt ends ends' v.ends same f.ends_fit; work = f.work; from_each = f.from_each; to_each = f.to_each }
 
 -- what it took in turn is now what was taken, but where its stray came
 module _ (passed passed' : Passed) (v : NetVirtTx) (from_each : length (from_queues v.ends) ≡ length v.work.clients.items) (to_each : length (to_queues v.ends) ≡ length v.work.clients.items)

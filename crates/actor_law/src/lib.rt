@@ -56,7 +56,6 @@ pub fn actor_law()
         → slice_get (sheet scene (part_of a)).ends i ≡ Some s → ActorEnd a s.role s.queue }
     ensures own { (scene : Scene) (p : Part) → IsOwn (sheet scene p) }
     ensures fits_on { (old new : Role → ℕ → End) (a : Actor)
-        → ((r : Role) (n : ℕ) → (new r n).kind ≡ (old r n).kind)
         → ((r : Role) (n : ℕ) → ActorEnd a r n → new r n ≡ old r n)
         → FitsActor old a → FitsActor new a }
     ensures stands_on { (old new : Passed) (a : Actor) → IsWhole a

@@ -12,6 +12,7 @@ use Rattle.wire_core.specs.Lists.{nothing_passed}
 use Rattle.wire_core.specs.Queues.{Queue, starts, start_queue, no_queue, queue_at, end_at, end_of}
 use Rattle.spsc_queue.specs.Known.Ends.{EndIs, RingIs}
 use Rattle.seat_wires.specs.Places.{end_known, entries_known}
+use Rattle.seat_wires.specs.Times.{times_known}
 use Rattle.actor_set.specs.Actors.{ActorEnd, IsWhole, part_of}
 use Rattle.actor_set.specs.Parts.{Part}
 use Rattle.actor_set.specs.declared.actor.Actor.{Actor}
@@ -25,7 +26,7 @@ use Rattle.actor_parts.specs.Opening.{opened_from, IsForgotten}
 use Rattle.actor_parts.specs.Given.{Kept, apart_of}
 use Rattle.actor_parts.specs.Opened.{AreOpened, HaveNothing}
 use Rattle.actor_parts.specs.Ready.{AreReady}
-use Rattle.actor_parts.proofs.Numbers.{fresh, ComesFrom, comes_from, opened_once, opened_empty, end_opened, zip_there, ring_there}
+use Rattle.actor_parts.proofs.Numbers.{fresh, fresh_empty, fresh_untimed, ComesFrom, comes_from, opened_once, opened_empty, end_opened, zip_there, ring_there}
 
 same_actor : (x y : Actor) → Some x ≡ Some y → x ≡ y
 same_actor x y e = cc
@@ -49,8 +50,13 @@ fresh_end rows n row ring r at = subst (λ (e : End). SameButLook e (end_known (
 
 -- nothing passed yet, and the parts are those of the actors
 module _ (rows : List QueueRow) (actors : List Actor) (rings : List RingIs) (parts : List Kept) (opened : AreOpened rows actors rings parts) where
-  pub have_nothing : HaveNothing parts
-  have_nothing k p at r n = ap (λ (l : List (QueueId × EndIs)). entries_known (end_in l n)) (opened.ends k p at r) ∙ opened_empty r k 0 (zip rows rings) n
+  pub have_nothing : HaveNothing (map apart_of parts)
+  have_nothing k q at r n =
+      let p = map_from apart_of parts k q at in
+      let ends : ends_at q r ≡ opened_from r k 0 (zip rows rings) = ap (λ (a : Apart). ends_at a r) (sym p.2) ∙ opened.ends k p.0 p.1 r in (
+        ap (λ (l : List (QueueId × EndIs)). entries_known (end_in l n)) ends ∙ opened_empty entries_known refl fresh_empty r k 0 (zip rows rings) n,
+        ap (λ (l : List (QueueId × EndIs)). times_known (end_in l n)) ends ∙ opened_empty times_known refl fresh_untimed r k 0 (zip rows rings) n,
+      )
 
   pub same_cast : map (λ (p : Kept). part_of p.0) parts ≡ map part_of actors
   same_cast = alike actors parts opened.many (λ k p at. let x = opened.actors_are k p at in (x.0, x.1, x.2.part))

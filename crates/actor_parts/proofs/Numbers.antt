@@ -1,5 +1,5 @@
 -- The ends that new rings give an actor, by the numbers of their queues.
-use Rattle.std.proofs.Common.{◌≡◌, ◌≢◌, ◌⊎◌, ◌==◌, ◌+◌, ◌++◌, ℕ, Bool, true, false, zero, suc, if◌then◌else◌, Some, List, [], ◌∷◌, slice_get, refl, sym, ap, ◌∙◌, subst, inl, inr, arith, eq-eqb}
+use Rattle.std.proofs.Common.{◌≡◌, ◌≢◌, ◌⊎◌, ◌==◌, ◌+◌, ◌++◌, ℕ, Bool, true, false, zero, suc, if◌then◌else◌, Option, Some, None, List, [], ◌∷◌, slice_get, refl, sym, ap, ◌∙◌, subst, inl, inr, arith, eq-eqb}
 use Rattle.std.specs.List.{AllZip, zip}
 use Rattle.std.proofs.Math.Dec.{eqb}
 use Rattle.std.proofs.lemmas.Bool.Decides.{eqb_tells}
@@ -8,7 +8,6 @@ use Rattle.wire_core.specs.declared.names.QueueRow.{QueueRow}
 use Rattle.wire_core.specs.Ends.{Role, Consumer, Producer}
 use Rattle.wire_core.specs.Journal.{owner_of}
 use Rattle.spsc_queue.specs.Known.Ends.{EndIs, RingIs}
-use Rattle.seat_wires.specs.Places.{entries_known}
 use Rattle.actor_parts.specs.Parting.{end_in, IsRingOf}
 use Rattle.actor_parts.specs.Opening.{first_half, opened_at, opened_from}
 
@@ -114,16 +113,22 @@ ring_there (r ∷ rows) [] all n row at = absurd all
 ring_there (r ∷ rows) (g ∷ rings) all zero row at = let is : r ≡ row = cc in (g, ap (λ (z : QueueRow). Some (z, g)) is)
 ring_there (r ∷ rows) (g ∷ rings) all (suc n) row at = ring_there rows rings all.1 n row at
 
--- nothing passed at a new ring's end
-fresh_empty : (r : Role) (x : Pair) → (fresh r x).knows.entries ≡ []
+-- what passed at a new ring's end, and when: nothing
+pub fresh_empty : (r : Role) (x : Pair) → (fresh r x).knows.entries ≡ []
 fresh_empty Consumer x = refl
 fresh_empty Producer x = refl
 
-either : (b c : Bool) (e : End) (rest : List End) (n : ℕ) → e.1.knows.entries ≡ [] → entries_known (end_in rest n) ≡ [] → (e.0.0 == n) ≡ c → entries_known (end_in ((if b then e ∷ [] else []) ++ rest) n) ≡ []
-either true true e rest n here more is = ap (λ (c : Bool). entries_known (if c then Some e.1 else end_in rest n)) is ∙ here
-either true false e rest n here more is = ap (λ (c : Bool). entries_known (if c then Some e.1 else end_in rest n)) is ∙ more
-either false c e rest n here more is = more
+pub fresh_untimed : (r : Role) (x : Pair) → (fresh r x).knows.times ≡ []
+fresh_untimed Consumer x = refl
+fresh_untimed Producer x = refl
 
-pub opened_empty : (r : Role) (k m : ℕ) (xs : List Pair) (n : ℕ) → entries_known (end_in (opened_from r k m xs) n) ≡ []
-opened_empty r k m [] n = refl
-opened_empty r k m (x ∷ xs) n = either (owner_of x.0 r == k) (m == n) (record { 0 = m }, fresh r x) (opened_from r k (m + 1) xs) n (fresh_empty r x) (opened_empty r k (m + 1) xs n) refl
+-- a list that is empty of a new ring's end, and of one that isn't there, is so of each queue
+module _ {X : Type 0} (known : Option EndIs → List X) (of_none : known None ≡ []) (of_fresh : (r : Role) (x : Pair) → known (Some (fresh r x)) ≡ []) where
+  either : (b c : Bool) (e : End) (rest : List End) (n : ℕ) → known (Some e.1) ≡ [] → known (end_in rest n) ≡ [] → (e.0.0 == n) ≡ c → known (end_in ((if b then e ∷ [] else []) ++ rest) n) ≡ []
+  either true true e rest n here more is = ap (λ (c : Bool). known (if c then Some e.1 else end_in rest n)) is ∙ here
+  either true false e rest n here more is = ap (λ (c : Bool). known (if c then Some e.1 else end_in rest n)) is ∙ more
+  either false c e rest n here more is = more
+
+  pub opened_empty : (r : Role) (k m : ℕ) (xs : List Pair) (n : ℕ) → known (end_in (opened_from r k m xs) n) ≡ []
+  opened_empty r k m [] n = of_none
+  opened_empty r k m (x ∷ xs) n = either (owner_of x.0 r == k) (m == n) (record { 0 = m }, fresh r x) (opened_from r k (m + 1) xs) n (of_fresh r x) (opened_empty r k (m + 1) xs n) refl

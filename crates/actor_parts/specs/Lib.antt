@@ -5,3 +5,7 @@ pub mod Opening
 pub mod Given
 pub mod Opened
 pub mod Ready
+pub mod Going
+pub mod Placing
+pub mod Finished
+pub mod Numbered

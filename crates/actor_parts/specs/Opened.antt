@@ -6,7 +6,8 @@ use Rattle.wire_core.specs.Ends.{Role}
 use Rattle.spsc_queue.specs.Known.Ends.{RingIs}
 use Rattle.actor_set.specs.declared.actor.Actor.{Actor}
 use Rattle.seat_wires.specs.Places.{entries_known}
-use Rattle.actor_parts.specs.Parting.{ends_at, end_in, IsRingOf}
+use Rattle.seat_wires.specs.Times.{times_known}
+use Rattle.actor_parts.specs.Parting.{Apart, ends_at, end_in, IsRingOf}
 use Rattle.actor_parts.specs.Opening.{opened_from, IsForgotten}
 use Rattle.actor_parts.specs.Given.{Kept, apart_of}
 
@@ -21,7 +22,7 @@ pub record AreOpened (rows : List QueueRow) (actors : List Actor) (rings : List 
   pub ends : (k : ℕ) (p : Kept) → slice_get parts k ≡ Some p → (r : Role)
       → ends_at (apart_of p) r ≡ opened_from r k 0 (zip rows rings)
 
--- nothing passed at any end
-abbrev pub HaveNothing : List Kept → Type 0
-HaveNothing parts = (k : ℕ) (p : Kept) → slice_get parts k ≡ Some p → (r : Role) (n : ℕ)
-    → entries_known (end_in (ends_at (apart_of p) r) n) ≡ []
+-- nothing passed at any end, at no time
+abbrev pub HaveNothing : List Apart → Type 0
+HaveNothing parts = (k : ℕ) (p : Apart) → slice_get parts k ≡ Some p → (r : Role) (n : ℕ)
+    → (entries_known (end_in (ends_at p r) n) ≡ []) × (times_known (end_in (ends_at p r) n) ≡ [])

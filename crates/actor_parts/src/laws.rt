@@ -17,7 +17,8 @@ pub fn opened_law()
         (parts : List Kept) → AreOpened rows actors rings parts → AreReady rows actors
         → AreApart rows rings (map apart_of parts) }
     ensures nothing { (rows : List QueueRow) (actors : List Actor) (rings : List RingIs)
-        (parts : List Kept) → AreOpened rows actors rings parts → HaveNothing parts }
+        (parts : List Kept) → AreOpened rows actors rings parts
+        → HaveNothing (map apart_of parts) }
     ensures cast { (rows : List QueueRow) (actors : List Actor) (rings : List RingIs)
         (parts : List Kept) → AreOpened rows actors rings parts
         → map (λ (p : Kept). part_of p.0) parts ≡ map part_of actors }

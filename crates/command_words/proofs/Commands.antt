@@ -1,10 +1,11 @@
-use Rattle.std.proofs.Common.{◌≡◌, ◌≢◌, ◌↔◌, ℕ, List, [], ◌∷◌, length, drop, codes, decimal, refl, sym, ap, ◌∙◌, subst, arith, Some}
+use Rattle.std.proofs.Common.{◌≡◌, ◌≢◌, ◌↔◌, ℕ, Option, List, [], ◌∷◌, length, drop, codes, refl, sym, ap, ◌∙◌, subst, arith, Some}
 use Rattle.std.specs.Prelude.{slice_get}
 use Rattle.command_words.specs.declared.command.Command.{Command}
 use Rattle.command_words.specs.declared.command.Command.TheVariants as Do
 use Rattle.command_words.specs.declared.command.Options.{Options}
 use Rattle.command_words.specs.Words.{Spells, IsBadWord}
-use Rattle.command_words.specs.Reading.{IsFirstBad, IsBadFrom, IsOneName, IsTheNumber, IsOneNumber, AsksToPlay, MayAskToPlay}
+use Rattle.command_words.specs.Reading.{IsFirstBad, IsBadFrom, IsOneName, IsTheNumber, IsOneNumber, AsksToPlay, MayAskToPlay, AsksToRun, MayAskToRun}
+use Rattle.command_words.proofs.Letters.{run-or-gen}
 use Rattle.command_words.proofs.Names.{a-name}
 use Rattle.command_words.proofs.FirstBad.{drop-at, bad-first, bad-none, bad-behind, bad-also}
 
@@ -26,6 +27,7 @@ check-behind more = ((λ o. (Do.Check, (o.0, record { words_are = ap (λ (w : Li
   from Do.Check s = (s.0, (let e = s.1.words_are in cc), s.1.desc_named)
   from Do.Layout s = let e = s.1.words_are in cc
   from (Do.Play options) s = let e = s.2.words_are in cc
+  from (Do.Run n) s = let e = s.2.words_are in cc
   from (Do.Gen n) s = let e = s.words_are in cc
 
 layout-behind : (more : List (List ℕ)) → IsOneName more ↔ IsCommand (codes "layout" ∷ more)
@@ -34,6 +36,7 @@ layout-behind more = ((λ o. (Do.Layout, (o.0, record { words_are = ap (λ (w : 
   from Do.Check s = let e = s.1.words_are in cc
   from Do.Layout s = (s.0, (let e = s.1.words_are in cc), s.1.desc_named)
   from (Do.Play options) s = let e = s.2.words_are in cc
+  from (Do.Run n) s = let e = s.2.words_are in cc
   from (Do.Gen n) s = let e = s.words_are in cc
 
 play-spelled : (more : List (List ℕ)) (options : Options) → AsksToPlay more options → Spells (codes "play" ∷ more) (Do.Play options)
@@ -42,12 +45,12 @@ play-spelled more options o = (
   o.trace,
   record {
     more = o.more;
-    seed = o.options_are.0;
+    seed = o.sets.0;
     words_are = ap (λ (w : List (List ℕ)). codes "play" ∷ w) o.words_are;
     desc_named = o.desc_named;
     trace_named = o.trace_named;
-    options_are = o.options_are.1;
-    seed_is = o.options_are.2;
+    options_are = o.sets.1;
+    seed_is = o.sets.2;
   },
 )
 
@@ -65,10 +68,44 @@ play-behind more = ((λ o. (Do.Play o.0, play-spelled more o.0 o.1)), (λ s. fro
       words_are = let e = s.2.words_are in cc;
       desc_named = s.2.desc_named;
       trace_named = s.2.trace_named;
-      options_are = (s.2.seed, s.2.options_are, s.2.seed_is);
+      sets = (s.2.seed, s.2.options_are, s.2.seed_is);
     },
   )
+  from (Do.Run n) s = let e = s.2.words_are in cc
   from (Do.Gen n) s = let e = s.words_are in cc
+
+run-spelled : (more : List (List ℕ)) (steps : Option ℕ) → AsksToRun more steps → Spells (codes "run" ∷ more) (Do.Run steps)
+run-spelled more steps o = (
+  o.desc,
+  o.trace,
+  record {
+    more = o.more;
+    words_are = ap (λ (w : List (List ℕ)). codes "run" ∷ w) o.words_are;
+    desc_named = o.desc_named;
+    trace_named = o.trace_named;
+    limit_is = o.sets;
+  },
+)
+
+run-behind : (more : List (List ℕ)) → MayAskToRun more ↔ IsCommand (codes "run" ∷ more)
+run-behind more = ((λ o. (Do.Run o.0, run-spelled more o.0 o.1)), (λ s. from s.0 s.1)) where
+  from : (command : Command) → Spells (codes "run" ∷ more) command → MayAskToRun more
+  from Do.Check s = let e = s.1.words_are in cc
+  from Do.Layout s = let e = s.1.words_are in cc
+  from (Do.Play options) s = let e = s.2.words_are in cc
+  from (Do.Run n) s = (
+    n,
+    record {
+      desc = s.0;
+      trace = s.1;
+      more = s.2.more;
+      words_are = let e = s.2.words_are in cc;
+      desc_named = s.2.desc_named;
+      trace_named = s.2.trace_named;
+      sets = s.2.limit_is;
+    },
+  )
+  from (Do.Gen n) s = absurd (run-or-gen (codes "run" ∷ more) _ _ refl s.words_are)
 
 gen-behind : (more : List (List ℕ)) → IsOneNumber more ↔ IsCommand (codes "gen" ∷ more)
 gen-behind more = ((λ o. (Do.Gen o.0, record { words_are = ap (λ (w : List (List ℕ)). codes "gen" ∷ w) o.1.0; small = o.1.1 })), (λ s. from s.0 s.1)) where
@@ -76,6 +113,7 @@ gen-behind more = ((λ o. (Do.Gen o.0, record { words_are = ap (λ (w : List (Li
   from Do.Check s = let e = s.1.words_are in cc
   from Do.Layout s = let e = s.1.words_are in cc
   from (Do.Play options) s = let e = s.2.words_are in cc
+  from (Do.Run n) s = absurd (run-or-gen (codes "gen" ∷ more) _ _ s.2.words_are refl)
   from (Do.Gen n) s = (n, ((let e = s.words_are in cc), s.small))
 
 module _ (words : List (List ℕ)) (name : List ℕ) (first : slice_get words 0 ≡ Some name) where
@@ -97,6 +135,9 @@ module _ (words : List (List ℕ)) (name : List ℕ) (first : slice_get words 0 
   pub bad-play : name ≡ codes "play" → (k : ℕ) → IsBadFrom 1 MayAskToPlay words k → IsBadWord words k
   bad-play e k b = bad-behind-first (codes "play") MayAskToPlay play-behind e k b
 
+  pub bad-run : name ≡ codes "run" → (k : ℕ) → IsBadFrom 1 MayAskToRun words k → IsBadWord words k
+  bad-run e k b = bad-behind-first (codes "run") MayAskToRun run-behind e k b
+
   pub bad-gen : name ≡ codes "gen" → (k : ℕ) → IsBadFrom 1 IsOneNumber words k → IsBadWord words k
   bad-gen e k b = bad-behind-first (codes "gen") IsOneNumber gen-behind e k b
 
@@ -112,25 +153,30 @@ module _ (words : List (List ℕ)) (name : List ℕ) (first : slice_get words 0 
   pub spells-play : name ≡ codes "play" → (options : Options) → AsksToPlay (drop 1 words) options → Spells words (Do.Play options)
   spells-play e options o = subst (λ ws. Spells ws (Do.Play options)) (sym (stands (codes "play") e)) (play-spelled (drop 1 words) options o)
 
+  pub spells-run : name ≡ codes "run" → (steps : Option ℕ) → AsksToRun (drop 1 words) steps → Spells words (Do.Run steps)
+  spells-run e steps o = subst (λ ws. Spells ws (Do.Run steps)) (sym (stands (codes "run") e)) (run-spelled (drop 1 words) steps o)
+
 begun : (more : List (List ℕ)) × IsCommand more
 begun = (codes "check" ∷ codes "a" ∷ [], (Do.Check, (codes "a", record { words_are = refl; desc_named = a-name })))
 
-no-such : (name : List ℕ) → name ≢ codes "check" → name ≢ codes "layout" → name ≢ codes "play" → name ≢ codes "gen" → (more : List (List ℕ)) (command : Command) → Spells (name ∷ more) command → ⊥
-no-such name c l p g more Do.Check s = c (let e = s.1.words_are in cc)
-no-such name c l p g more Do.Layout s = l (let e = s.1.words_are in cc)
-no-such name c l p g more (Do.Play options) s = p (let e = s.2.words_are in cc)
-no-such name c l p g more (Do.Gen n) s = g (let e = s.words_are in cc)
+no-such : (name : List ℕ) → name ≢ codes "check" → name ≢ codes "layout" → name ≢ codes "play" → name ≢ codes "run" → name ≢ codes "gen" → (more : List (List ℕ)) (command : Command) → Spells (name ∷ more) command → ⊥
+no-such name c l p r g more Do.Check s = c (let e = s.1.words_are in cc)
+no-such name c l p r g more Do.Layout s = l (let e = s.1.words_are in cc)
+no-such name c l p r g more (Do.Play options) s = p (let e = s.2.words_are in cc)
+no-such name c l p r g more (Do.Run n) s = r (let e = s.2.words_are in cc)
+no-such name c l p r g more (Do.Gen n) s = g (let e = s.words_are in cc)
 
 -- the first word names no kind of command
-pub bad-kind : (words : List (List ℕ)) (name : List ℕ) → slice_get words 0 ≡ Some name → name ≢ codes "check" → name ≢ codes "layout" → name ≢ codes "play" → name ≢ codes "gen" → IsBadWord words 0
-bad-kind words name first c l p g =
+pub bad-kind : (words : List (List ℕ)) (name : List ℕ) → slice_get words 0 ≡ Some name → name ≢ codes "check" → name ≢ codes "layout" → name ≢ codes "play" → name ≢ codes "run" → name ≢ codes "gen" → IsBadWord words 0
+bad-kind words name first c l p r g =
     from-first words 0
-    (subst (λ ws. IsFirstBad IsCommand ws 0) (sym (drop-at words 0 name first)) (bad-first IsCommand name (drop 1 words) begun (λ more s. no-such name c l p g more s.0 s.1)))
+    (subst (λ ws. IsFirstBad IsCommand ws 0) (sym (drop-at words 0 name first)) (bad-first IsCommand name (drop 1 words) begun (λ more s. no-such name c l p r g more s.0 s.1)))
 
 no-words : (command : Command) → Spells [] command → ⊥
 no-words Do.Check s = let e = s.1.words_are in cc
 no-words Do.Layout s = let e = s.1.words_are in cc
 no-words (Do.Play options) s = let e = s.2.words_are in cc
+no-words (Do.Run n) s = let e = s.2.words_are in cc
 no-words (Do.Gen n) s = let e = s.words_are in cc
 
 pub bad-empty : (words : List (List ℕ)) → length words ≡ 0 → IsBadWord words 0

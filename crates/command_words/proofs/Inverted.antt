@@ -1,6 +1,6 @@
 use Rattle.std.proofs.Common.{◌≡◌, ℕ, ◌+◌, ◌<◌, ◌≤◌, ◌^◌, true, false, Bool, Option, Some, None, List, [], ◌∷◌, length, codes, decimal, refl, sym, ap, ◌∙◌, subst, arith}
 use Rattle.std.proofs.lemmas.Fmt.{decimal_injective}
-use Rattle.command_words.specs.Options.{AreOptions, no_more, seed_set, steps_set, journal_set}
+use Rattle.command_words.specs.Options.{AreOptions, no_more, seed_set, steps_set, journal_set, IsLimit, unlimited, limited}
 
 -- what options are that begin with a word
 
@@ -112,3 +112,31 @@ at-most-one true = omega arith
 pub options-short : (words : List (List ℕ)) (seed steps : Option ℕ) (journal : Bool) → AreOptions words seed steps journal → length words ≤ 5
 options-short words seed steps journal o =
     let r = words-counted words seed steps journal o in let a = at-most-two seed in let b = at-most-two steps in let d = at-most-one journal in omega arith
+
+-- what a limit is that begins with a word
+pub of-limit : (words : List (List ℕ)) (steps : Option ℕ) → IsLimit words steps → (word : List ℕ) (more : List (List ℕ)) → words ≡ word ∷ more
+    → (n : ℕ) × (word ≡ codes "--steps") × (more ≡ decimal n ∷ []) × (1 ≤ n) × (n ≤ 268435456) × (steps ≡ Some n)
+of-limit _ _ unlimited word more e = cc
+of-limit _ _ (limited n enough few) word more e = (n, cc, cc, enough, few, refl)
+
+pub of-no-limit : (steps : Option ℕ) → IsLimit [] steps → steps ≡ None
+of-no-limit steps l = none [] steps l refl where
+  none : (words : List (List ℕ)) (steps : Option ℕ) → IsLimit words steps → words ≡ [] → steps ≡ None
+  none _ _ unlimited e = refl
+  none _ _ (limited n enough few) e = cc
+
+-- words are one limit
+pub limit-once : (words : List (List ℕ)) (n m : Option ℕ) → IsLimit words n → IsLimit words m → n ≡ m
+limit-once _ _ m unlimited l = sym (of-no-limit m l)
+limit-once _ _ m (limited n enough few) l =
+    let o = of-limit (codes "--steps" ∷ decimal n ∷ []) m l (codes "--steps") (decimal n ∷ []) refl in
+    let few' = o.4 in
+    let e = o.2 in
+    let text : decimal n ≡ decimal o.0 = cc in
+    let same : n ≡ o.0 = decimal_injective n o.0 (omega arith) (omega arith) text in
+    ap (λ (k : ℕ). Some k) same ∙ sym o.5
+
+-- and two at most
+pub limit-short : (words : List (List ℕ)) (steps : Option ℕ) → IsLimit words steps → length words ≤ 2
+limit-short _ _ unlimited = omega arith
+limit-short _ _ (limited n enough few) = omega arith

@@ -1,6 +1,8 @@
 mod Commands
 mod FirstBad
 mod Inverted
+pub mod Letters
+mod Limits
 mod Names
 mod Numbers
 mod Once

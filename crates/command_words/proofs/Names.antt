@@ -1,18 +1,15 @@
-use Rattle.std.proofs.Common.{◌≡◌, ◌↔◌, ℕ, ◌+◌, ◌<◌, ◌≤◌, inl, inr, false, List, [], ◌∷◌, length, drop, codes, refl, sym, ap, ◌∙◌, subst, arith, Some, None, lit<}
-use Rattle.std.specs.Prelude.{slice_get, IfOk, IfErr, Result, Ok, Err}
+use Rattle.std.proofs.Common.{◌≡◌, ◌↔◌, ℕ, ◌+◌, ◌<◌, ◌≤◌, inl, inr, false, Option, List, [], ◌∷◌, length, drop, codes, refl, sym, ap, ◌∙◌, subst, arith, None, lit<}
+use Rattle.std.specs.Prelude.{IfOk, IfErr, Result, Ok, Err}
 use Rattle.std.specs.Global.{Global}
 use Rattle.std.specs.declared.string.String.{String}
 use Rattle.std.proofs.lemmas.List.{length-map}
 use Rattle.std.proofs.Math.ListN.{drop_of_length-le}
 use Rattle.std.proofs.lemmas.Option.{slice_get_cases, slice_get_within}
 use Rattle.command_words.specs.declared.command.Options.{Options}
-use Rattle.command_words.specs.Options.{no_more}
+use Rattle.command_words.specs.Options.{no_more, IsLimit, unlimited}
 use Rattle.command_words.specs.Words.{IsName, texts_of}
-use Rattle.command_words.specs.Reading.{IsFirstBad, IsBadFrom, IsOneName, AsksToPlay, MayAskToPlay, OptionsAre, MayBeOptions}
+use Rattle.command_words.specs.Reading.{IsFirstBad, IsBadFrom, IsOneName, IsNameAt, AreNamed, IsBadName, Asks, OptionsAre}
 use Rattle.command_words.proofs.FirstBad.{drop-at, bad-first, bad-none, bad-behind, bad-also}
-
-abbrev pub IsNameAt : List (List ℕ) → ℕ → Type 0
-IsNameAt words k = (w : List ℕ) × (slice_get words k ≡ Some w) × IsName w
 
 -- some word that may name a text
 pub a-name : IsName (codes "a")
@@ -50,65 +47,78 @@ bad-more words named more = elim (slice_get_cases words 2).1 [
 pub one-name : (words : List (List ℕ)) → IsNameAt words 1 → length words ≤ 2 → IsOneName (drop 1 words)
 one-name words named few = (named.0, drop-at words 1 named.0 named.1 ∙ ap (λ (w : List (List ℕ)). named.0 ∷ w) (drop_of_length-le words few), named.2)
 
--- two names and options
+-- two names, and words behind them that set something
 
-no-options : OptionsAre [] (record { seed = 0; steps = None; journal = false })
-no-options = (None, no_more, refl)
+module _ {T : Type 0} (Sets : List (List ℕ) → T → Type 0) (begun : (t : T) × Sets [] t) where
+  abbrev pub MayAsk : List (List ℕ) → Type 0
+  MayAsk words = (t : T) × Asks Sets words t
 
-asks : (desc trace : List ℕ) (more : List (List ℕ)) (options : Options) → IsName desc → IsName trace → OptionsAre more options → AsksToPlay (desc ∷ trace ∷ more) options
-asks desc trace more options d t o = record { desc = desc; trace = trace; more = more; words_are = refl; desc_named = d; trace_named = t; options_are = o }
+  asks : (desc trace : List ℕ) (more : List (List ℕ)) (t : T) → IsName desc → IsName trace → Sets more t → Asks Sets (desc ∷ trace ∷ more) t
+  asks desc trace more t d e s = record { desc = desc; trace = trace; more = more; words_are = refl; desc_named = d; trace_named = e; sets = s }
 
-pub bad-played : (words : List (List ℕ)) → (IsNameAt words 1 → ⊥) → IsBadFrom 1 MayAskToPlay words 1
-bad-played words bad = (
-  0,
-  refl,
-  no-name MayAskToPlay words 1
-      (codes "a" ∷ codes "a" ∷ [], (record { seed = 0; steps = None; journal = false }, asks (codes "a") (codes "a") [] (record { seed = 0; steps = None; journal = false }) a-name a-name no-options))
-      (λ w more g. let e : g.1.desc ≡ w = (let f = g.1.words_are in cc) in subst (λ x. IsName x) e g.1.desc_named)
-      (λ g. let f = g.1.words_are in cc) bad,
-)
-
-pub bad-trace : (words : List (List ℕ)) → IsNameAt words 1 → (IsNameAt words 2 → ⊥) → IsBadFrom 1 MayAskToPlay words 2
-bad-trace words named bad = (
-  1,
-  refl,
-  subst (λ ws. IsFirstBad MayAskToPlay ws 1) (sym (drop-at words 1 named.0 named.1))
-      (bad-behind MayAskToPlay (named.0 ∷ []) (drop 2 words) 0 1 refl
-      (no-name (λ ws. MayAskToPlay (named.0 ∷ ws)) words 2
-      (codes "a" ∷ [], (record { seed = 0; steps = None; journal = false }, asks named.0 (codes "a") [] (record { seed = 0; steps = None; journal = false }) named.2 a-name no-options))
-      (λ w more g. let e : g.1.trace ≡ w = (let f = g.1.words_are in cc) in subst (λ x. IsName x) e g.1.trace_named)
-      (λ g. let f = g.1.words_are in cc) bad)),
-)
-
-module _ (words : List (List ℕ)) (desc : IsNameAt words 1) (trace : IsNameAt words 2) where
-  stands : drop 1 words ≡ desc.0 ∷ trace.0 ∷ drop 3 words
-  stands = drop-at words 1 desc.0 desc.1 ∙ ap (λ (w : List (List ℕ)). desc.0 ∷ w) (drop-at words 2 trace.0 trace.1)
-
-  asked : (options : Options) → OptionsAre (drop 3 words) options → AsksToPlay (drop 1 words) options
-  asked options o = record { desc = desc.0; trace = trace.0; more = drop 3 words; words_are = stands; desc_named = desc.2; trace_named = trace.2; options_are = o }
-
-  behind-names : (more : List (List ℕ)) → MayBeOptions more ↔ MayAskToPlay (desc.0 ∷ trace.0 ∷ more)
-  behind-names more = (
-    (λ o. (o.0, asks desc.0 trace.0 more o.0 desc.2 trace.2 o.1)),
-    (λ g. let e : g.1.more ≡ more = (let f = g.1.words_are in cc) in (g.0, subst (λ ws. OptionsAre ws g.0) e g.1.options_are)),
+  bad-first-name : (words : List (List ℕ)) → (IsNameAt words 1 → ⊥) → IsBadFrom 1 MayAsk words 1
+  bad-first-name words bad = (
+    0,
+    refl,
+    no-name MayAsk words 1
+        (codes "a" ∷ codes "a" ∷ [], (begun.0, asks (codes "a") (codes "a") [] begun.0 a-name a-name begun.1))
+        (λ w more g. let e : g.1.desc ≡ w = (let f = g.1.words_are in cc) in subst (λ x. IsName x) e g.1.desc_named)
+        (λ g. let f = g.1.words_are in cc) bad,
   )
 
-  bad-options : (k : ℕ) → IsBadFrom 3 MayBeOptions words k → IsBadFrom 1 MayAskToPlay words k
-  bad-options k b = (
-    2 + b.0,
-    (let e = b.1 in omega arith),
-    subst (λ ws. IsFirstBad MayAskToPlay ws (2 + b.0)) (sym stands)
-        (bad-behind MayAskToPlay (desc.0 ∷ trace.0 ∷ []) (drop 3 words) b.0 (2 + b.0) refl
-        (bad-also MayBeOptions (λ ws. MayAskToPlay (desc.0 ∷ trace.0 ∷ ws)) behind-names (drop 3 words) b.0 b.2)),
+  bad-second-name : (words : List (List ℕ)) → IsNameAt words 1 → (IsNameAt words 2 → ⊥) → IsBadFrom 1 MayAsk words 2
+  bad-second-name words named bad = (
+    1,
+    refl,
+    subst (λ ws. IsFirstBad MayAsk ws 1) (sym (drop-at words 1 named.0 named.1))
+        (bad-behind MayAsk (named.0 ∷ []) (drop 2 words) 0 1 refl
+        (no-name (λ ws. MayAsk (named.0 ∷ ws)) words 2
+        (codes "a" ∷ [], (begun.0, asks named.0 (codes "a") [] begun.0 named.2 a-name begun.1))
+        (λ w more g. let e : g.1.trace ≡ w = (let f = g.1.words_are in cc) in subst (λ x. IsName x) e g.1.trace_named)
+        (λ g. let f = g.1.words_are in cc) bad)),
   )
 
-  pub ok-asked : (r : Result Options ℕ) → IfOk r (OptionsAre (drop 3 words)) → IfOk r (AsksToPlay (drop 1 words))
-  ok-asked (Ok options) o = asked options o
-  ok-asked (Err k) o = tt
+  -- the first of both names that is none
+  pub bad-names : (words : List (List ℕ)) (k : ℕ) → IsBadName words k → IsBadFrom 1 MayAsk words k
+  bad-names words k (inl b) = subst (λ n. IsBadFrom 1 MayAsk words n) (sym b.0) (bad-first-name words b.1)
+  bad-names words k (inr b) = subst (λ n. IsBadFrom 1 MayAsk words n) (sym b.0) (bad-second-name words b.1 b.2)
 
-  pub err-asked : (r : Result Options ℕ) → IfErr r (IsBadFrom 3 MayBeOptions words) → IfErr r (IsBadFrom 1 MayAskToPlay words)
-  err-asked (Ok options) b = tt
-  err-asked (Err k) b = bad-options k b
+  module _ (words : List (List ℕ)) (named : AreNamed words) where
+    stands : drop 1 words ≡ named.0.0 ∷ named.1.0 ∷ drop 3 words
+    stands = drop-at words 1 named.0.0 named.0.1 ∙ ap (λ (w : List (List ℕ)). named.0.0 ∷ w) (drop-at words 2 named.1.0 named.1.1)
+
+    pub asked : (t : T) → Sets (drop 3 words) t → Asks Sets (drop 1 words) t
+    asked t s = record { desc = named.0.0; trace = named.1.0; more = drop 3 words; words_are = stands; desc_named = named.0.2; trace_named = named.1.2; sets = s }
+
+    behind-names : (more : List (List ℕ)) → ((t : T) × Sets more t) ↔ MayAsk (named.0.0 ∷ named.1.0 ∷ more)
+    behind-names more = (
+      (λ o. (o.0, asks named.0.0 named.1.0 more o.0 named.0.2 named.1.2 o.1)),
+      (λ g. let e : g.1.more ≡ more = (let f = g.1.words_are in cc) in (g.0, subst (λ ws. Sets ws g.0) e g.1.sets)),
+    )
+
+    pub bad-behind-names : (k : ℕ) → IsBadFrom 3 (λ ws. (t : T) × Sets ws t) words k → IsBadFrom 1 MayAsk words k
+    bad-behind-names k b = (
+      2 + b.0,
+      (let e = b.1 in omega arith),
+      subst (λ ws. IsFirstBad MayAsk ws (2 + b.0)) (sym stands)
+          (bad-behind MayAsk (named.0.0 ∷ named.1.0 ∷ []) (drop 3 words) b.0 (2 + b.0) refl
+          (bad-also (λ ws. (t : T) × Sets ws t) (λ ws. MayAsk (named.0.0 ∷ named.1.0 ∷ ws)) behind-names (drop 3 words) b.0 b.2)),
+    )
+
+    pub ok-asked : (r : Result T ℕ) → IfOk r (Sets (drop 3 words)) → IfOk r (Asks Sets (drop 1 words))
+    ok-asked (Ok t) s = asked t s
+    ok-asked (Err k) s = tt
+
+    pub err-asked : (r : Result T ℕ) → IfErr r (IsBadFrom 3 (λ ws. (t : T) × Sets ws t) words) → IfErr r (IsBadFrom 1 MayAsk words)
+    err-asked (Ok t) b = tt
+    err-asked (Err k) b = bad-behind-names k b
+
+-- what begins both
+pub no-options : (options : Options) × OptionsAre [] options
+no-options = (record { seed = 0; steps = None; journal = false }, (None, no_more, refl))
+
+pub no-limit : (steps : Option ℕ) × IsLimit [] steps
+no-limit = (None, unlimited)
 
 -- a trace that is named is word 2
 pub three-words : (words : List (String Global)) → IsNameAt (texts_of words) 2 → 3 ≤ length words

@@ -6,9 +6,10 @@ use Rattle.std.proofs.lemmas.Fmt.{decimal_injective}
 use Rattle.command_words.specs.declared.command.Command.{Command}
 use Rattle.command_words.specs.declared.command.Command.TheVariants as Do
 use Rattle.command_words.specs.declared.command.Options.{Options}
-use Rattle.command_words.specs.Options.{AreOptions}
-use Rattle.command_words.specs.Words.{IsPlay, Spells, Begins, IsBadWord, last_name}
-use Rattle.command_words.proofs.Inverted.{options-once, options-short}
+use Rattle.command_words.specs.Options.{AreOptions, IsLimit}
+use Rattle.command_words.specs.Words.{IsPlay, IsRun, Spells, Begins, IsBadWord, last_name}
+use Rattle.command_words.proofs.Letters.{run-or-gen}
+use Rattle.command_words.proofs.Inverted.{options-once, options-short, limit-once, limit-short}
 
 -- fewer words begin a command too
 begins-fewer : (n m : ℕ) (words : List (List ℕ)) → n ≤ m → Begins (take m words) → Begins (take n words)
@@ -51,22 +52,37 @@ play-once words desc trace desc' trace' o o' p q =
     let once = options-once q.more p.seed o.steps o.journal q.seed o'.steps o'.journal (subst (λ ws. AreOptions ws p.seed o.steps o.journal) more p.options_are) q.options_are in
     options-same o o' (p.seed_is ∙ ap (λ (s : Option ℕ). unwrap_or s 0) once.0 ∙ sym q.seed_is) once.1 once.2
 
+run-once : (words : List (List ℕ)) (desc trace desc' trace' : List ℕ) (n m : Option ℕ) → IsRun words desc trace n → IsRun words desc' trace' m → n ≡ m
+run-once words desc trace desc' trace' n m p q =
+    let e = sym p.words_are ∙ q.words_are in
+    let more : p.more ≡ q.more = cc in
+    limit-once q.more n m (subst (λ ws. IsLimit ws n) more p.limit_is) q.limit_is
+
 spells-once : (words : List (List ℕ)) (a b : Command) → Spells words a → Spells words b → a ≡ b
 spells-once words Do.Check Do.Check s t = refl
 spells-once words Do.Check Do.Layout s t = let e = sym s.1.words_are ∙ t.1.words_are in cc
 spells-once words Do.Check (Do.Play o) s t = let e = sym s.1.words_are ∙ t.2.words_are in cc
+spells-once words Do.Check (Do.Run n) s t = let e = sym s.1.words_are ∙ t.2.words_are in cc
 spells-once words Do.Check (Do.Gen n) s t = let e = sym s.1.words_are ∙ t.words_are in cc
 spells-once words Do.Layout Do.Check s t = let e = sym s.1.words_are ∙ t.1.words_are in cc
 spells-once words Do.Layout Do.Layout s t = refl
 spells-once words Do.Layout (Do.Play o) s t = let e = sym s.1.words_are ∙ t.2.words_are in cc
+spells-once words Do.Layout (Do.Run n) s t = let e = sym s.1.words_are ∙ t.2.words_are in cc
 spells-once words Do.Layout (Do.Gen n) s t = let e = sym s.1.words_are ∙ t.words_are in cc
 spells-once words (Do.Play o) Do.Check s t = let e = sym s.2.words_are ∙ t.1.words_are in cc
 spells-once words (Do.Play o) Do.Layout s t = let e = sym s.2.words_are ∙ t.1.words_are in cc
 spells-once words (Do.Play o) (Do.Play o') s t = ap (λ x. Do.Play x) (play-once words s.0 s.1 t.0 t.1 o o' s.2 t.2)
+spells-once words (Do.Play o) (Do.Run n) s t = let e = sym s.2.words_are ∙ t.2.words_are in cc
 spells-once words (Do.Play o) (Do.Gen n) s t = let e = sym s.2.words_are ∙ t.words_are in cc
+spells-once words (Do.Run n) Do.Check s t = let e = sym s.2.words_are ∙ t.1.words_are in cc
+spells-once words (Do.Run n) Do.Layout s t = let e = sym s.2.words_are ∙ t.1.words_are in cc
+spells-once words (Do.Run n) (Do.Play o) s t = let e = sym s.2.words_are ∙ t.2.words_are in cc
+spells-once words (Do.Run n) (Do.Run m) s t = ap (λ (x : Option ℕ). Do.Run x) (run-once words s.0 s.1 t.0 t.1 n m s.2 t.2)
+spells-once words (Do.Run n) (Do.Gen m) s t = absurd (run-or-gen words _ _ s.2.words_are t.words_are)
 spells-once words (Do.Gen n) Do.Check s t = let e = sym s.words_are ∙ t.1.words_are in cc
 spells-once words (Do.Gen n) Do.Layout s t = let e = sym s.words_are ∙ t.1.words_are in cc
 spells-once words (Do.Gen n) (Do.Play o) s t = let e = sym s.words_are ∙ t.2.words_are in cc
+spells-once words (Do.Gen n) (Do.Run m) s t = absurd (run-or-gen words _ _ t.2.words_are s.words_are)
 spells-once words (Do.Gen n) (Do.Gen m) s t =
     let e = sym s.words_are ∙ t.words_are in
     let same : decimal n ≡ decimal m = cc in
@@ -86,6 +102,10 @@ short words (Do.Play o) s =
     let l = ap length s.2.words_are in
     let five = options-short s.2.more s.2.seed o.steps o.journal s.2.options_are in
     omega arith
+short words (Do.Run n) s =
+    let l = ap length s.2.words_are in
+    let two = limit-short s.2.more n s.2.limit_is in
+    omega arith
 short words (Do.Gen n) s = let l = ap length s.words_are in omega arith
 
 pub bad-early : (words : List (List ℕ)) (k : ℕ) → IsBadWord words k → k ≤ 8
@@ -101,4 +121,5 @@ pub names-there : (words : List (List ℕ)) (command : Command) → Spells words
 names-there words Do.Check s = let l = ap length s.1.words_are in omega arith
 names-there words Do.Layout s = let l = ap length s.1.words_are in omega arith
 names-there words (Do.Play o) s = let l = ap length s.2.words_are in omega arith
+names-there words (Do.Run n) s = let l = ap length s.2.words_are in omega arith
 names-there words (Do.Gen n) s = let l = ap length s.words_are in omega arith

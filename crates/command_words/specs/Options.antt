@@ -1,4 +1,4 @@
--- The options of `play`: which words they are, and what they set.
+-- The options of `play` and `run`: which words they are, and what they set.
 use Rattle.std.specs.Prelude.{ℕ, ◌^◌, ◌<◌, ◌≤◌, true, false, Bool, Option, Some, None, List, [], ◌∷◌, codes, decimal}
 
 -- options in any order, each at most once, and what they set: a seed, a limit of steps, and whether
@@ -15,3 +15,10 @@ pub data AreOptions : List (List ℕ) → Option ℕ → Option ℕ → Bool →
       → AreOptions (codes "--steps" ∷ decimal n ∷ words) seed (Some n) journal
   journal_set : (words : List (List ℕ)) (seed steps : Option ℕ)
       → AreOptions words seed steps false → AreOptions (codes "--journal" ∷ words) seed steps true
+
+-- the one option of `run`, or none: a limit of steps, from 1 to 268,435,456, decimal without leading
+-- zeros
+pub data IsLimit : List (List ℕ) → Option ℕ → Type 0 where
+  unlimited : IsLimit [] None
+  limited : (n : ℕ) → 1 ≤ n → n ≤ 268435456
+      → IsLimit (codes "--steps" ∷ decimal n ∷ []) (Some n)

@@ -1,10 +1,10 @@
 -- What the private functions say of the words that they read; no public clause cites it.
-use Rattle.std.specs.Prelude.{◌≡◌, ◌↔◌, ◌+◌, ◌^◌, ◌<◌, ◌≤◌, ℕ, true, false, Bool, Option, Some, None, unwrap_or, List, [], ◌∷◌, ◌++◌, length, take, drop, slice_get, codes, decimal}
+use Rattle.std.specs.Prelude.{◌≡◌, ◌⊎◌, ◌↔◌, ◌+◌, ◌^◌, ◌<◌, ◌≤◌, ℕ, true, false, Bool, Option, Some, None, unwrap_or, List, [], ◌∷◌, ◌++◌, length, take, drop, slice_get, codes, decimal}
 use Rattle.command_words.specs.declared.command.Options.{Options}
 use Rattle.command_words.specs.declared.chosen.Name.{Name}
 use Rattle.command_words.specs.declared.chosen.Name.TheVariants as An
 use Rattle.command_words.specs.declared.chosen.Chosen.{Chosen}
-use Rattle.command_words.specs.Options.{AreOptions}
+use Rattle.command_words.specs.Options.{AreOptions, IsLimit}
 use Rattle.command_words.specs.Words.{IsName}
 
 -- the first bad word, where good words were to stand
@@ -90,16 +90,47 @@ IsTheNumber words n = (words ≡ decimal n ∷ []) × (n < 2 ^ 64)
 abbrev pub IsOneNumber : List (List ℕ) → Type 0
 IsOneNumber words = (n : ℕ) × IsTheNumber words n
 
--- the words are the names of a description and a trace, and options that set this
-pub record AsksToPlay (words : List (List ℕ)) (options : Options) : Type 0 where
+-- the words are a limit of steps, or none
+abbrev pub MayBeLimit : List (List ℕ) → Type 0
+MayBeLimit words = (steps : Option ℕ) × IsLimit words steps
+
+-- a word at a place may name a text
+abbrev pub IsNameAt : List (List ℕ) → ℕ → Type 0
+IsNameAt words k = (w : List ℕ) × (slice_get words k ≡ Some w) × IsName w
+
+-- words 1 and 2 may name texts
+abbrev pub AreNamed : List (List ℕ) → Type 0
+AreNamed words = IsNameAt words 1 × IsNameAt words 2
+
+-- the first of words 1 and 2 that may not name a text
+abbrev pub IsBadName : List (List ℕ) → ℕ → Type 0
+IsBadName words k =
+    ((k ≡ 1) × (IsNameAt words 1 → ⊥))
+    ⊎ ((k ≡ 2) × IsNameAt words 1 × (IsNameAt words 2 → ⊥))
+
+-- the words are the names of a description and a trace, and behind them words that set this
+pub record Asks {T : Type 0} (Sets : List (List ℕ) → T → Type 0) (words : List (List ℕ)) (t : T)
+    : Type 0 where
   pub desc : List ℕ
   pub trace : List ℕ
   pub more : List (List ℕ)
   pub words_are : words ≡ desc ∷ trace ∷ more
   pub desc_named : IsName desc
   pub trace_named : IsName trace
-  pub options_are : OptionsAre more options
+  pub sets : Sets more t
+
+-- the words ask to play something with these options
+abbrev pub AsksToPlay : List (List ℕ) → Options → Type 0
+AsksToPlay words options = Asks OptionsAre words options
 
 -- the words ask to play something
 abbrev pub MayAskToPlay : List (List ℕ) → Type 0
 MayAskToPlay words = (options : Options) × AsksToPlay words options
+
+-- the words ask to run something with this limit
+abbrev pub AsksToRun : List (List ℕ) → Option ℕ → Type 0
+AsksToRun words steps = Asks IsLimit words steps
+
+-- the words ask to run something
+abbrev pub MayAskToRun : List (List ℕ) → Type 0
+MayAskToRun words = (steps : Option ℕ) × AsksToRun words steps

@@ -1,12 +1,12 @@
 -- The grammar of the program's words, and the first bad word of those that have none of its forms.
-use Rattle.std.specs.Prelude.{◌≡◌, ◌+◌, ◌^◌, ◌<◌, ◌≤◌, ℕ, Option, unwrap_or, List, [], ◌∷◌, ◌++◌, length, take, map, string_bytes, codes, decimal}
+use Rattle.std.specs.Prelude.{◌≡◌, ◌+◌, ◌^◌, ◌<◌, ◌≤◌, ℕ, Option, Some, unwrap_or, List, [], ◌∷◌, ◌++◌, length, take, slice_get, map, string_bytes, codes, decimal}
 use Rattle.std.specs.Global.{Global}
 use Rattle.std.specs.declared.string.String.{String}
 use Rattle.cargo_core.specs.Lists.{IsPrefix}
 use Rattle.command_words.specs.declared.command.Command.{Command}
 use Rattle.command_words.specs.declared.command.Command.TheVariants as Do
 use Rattle.command_words.specs.declared.command.Options.{Options}
-use Rattle.command_words.specs.Options.{AreOptions}
+use Rattle.command_words.specs.Options.{AreOptions, IsLimit}
 
 -- the bytes of each word
 abbrev pub texts_of : List (String Global) → List (List ℕ)
@@ -37,6 +37,14 @@ pub record IsPlay (words : List (List ℕ)) (desc trace : List ℕ) (options : O
   pub options_are : AreOptions more seed options.steps options.journal
   pub seed_is : options.seed ≡ unwrap_or seed 0
 
+-- `run`, the name of a description and that of a trace, and a limit of steps or none
+pub record IsRun (words : List (List ℕ)) (desc trace : List ℕ) (steps : Option ℕ) : Type 0 where
+  pub more : List (List ℕ)
+  pub words_are : words ≡ codes "run" ∷ desc ∷ trace ∷ more
+  pub desc_named : IsName desc
+  pub trace_named : IsName trace
+  pub limit_is : IsLimit more steps
+
 -- `gen` and a number below 2 ^ 64, in decimal without leading zeros
 pub record IsGen (words : List (List ℕ)) (n : ℕ) : Type 0 where
   pub words_are : words ≡ codes "gen" ∷ decimal n ∷ []
@@ -47,6 +55,7 @@ abbrev pub Spells : List (List ℕ) → Command → Type 0
 Spells words Do.Check = (desc : List ℕ) × IsCheck words desc
 Spells words Do.Layout = (desc : List ℕ) × IsLayout words desc
 Spells words (Do.Play options) = (desc trace : List ℕ) × IsPlay words desc trace options
+Spells words (Do.Run steps) = (desc trace : List ℕ) × IsRun words desc trace steps
 Spells words (Do.Gen n) = IsGen words n
 
 -- a command begins with these words
@@ -61,9 +70,14 @@ pub record IsBadWord (words : List (List ℕ)) (k : ℕ) : Type 0 where
   pub here : k < length words → Begins (take (k + 1) words) → ⊥
   pub whole : k ≡ length words → (command : Command) → Spells words command → ⊥
 
+-- the first word is `run`
+abbrev pub BeginsRun : List (List ℕ) → Type 0
+BeginsRun words = slice_get words 0 ≡ Some (codes "run")
+
 -- the place of the last name, or of the number, in the words of a command
 abbrev pub last_name : Command → ℕ
 last_name Do.Check = 1
 last_name Do.Layout = 1
 last_name (Do.Play options) = 2
+last_name (Do.Run steps) = 2
 last_name (Do.Gen n) = 1

@@ -8,7 +8,7 @@ mod number;
 mod words;
 
 pub use command::{Command, MOST_STEPS, Options};
-pub use words::read_words;
+pub use words::{begins_run, read_words};
 
 #[cfg(test)]
 mod tests;

@@ -1,7 +1,8 @@
 //! The words that name a text.
 
-ghost use Rattle.std.specs.Prelude.{◌≡◌, ◌<◌, ◌↔◌, List, ℕ, Some, length, IsTrue, slice_get};
+ghost use Rattle.std.specs.Prelude.{◌≡◌, ◌<◌, ◌↔◌, Some, length, IsTrue, slice_get};
 ghost use Rattle.command_words.specs.Words.{texts_of, IsName};
+ghost use Rattle.command_words.specs.Reading.{IsNameAt};
 
 // The word at a place.
 pub fn word_at(words: &[String], at: usize) -> &str
@@ -20,8 +21,7 @@ pub fn is_word(word: &str, other: &str) -> bool
 
 // Whether a word at a place may name a text.
 pub fn is_name_at(words: &[String], at: usize) -> bool
-    ensures { IsTrue result ↔ ((word : List ℕ) × (slice_get (texts_of words.now) at ≡ Some word)
-        × IsName word) }
+    ensures { IsTrue result ↔ IsNameAt (texts_of words.now) at }
 {
     words.get(at).is_some_and(|w| is_name(w.as_str()))
 }

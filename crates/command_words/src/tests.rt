@@ -40,6 +40,24 @@ fn the_first_bad_word_is_told(rt: HostRuntime) -> Result<(), Fail> {
 }
 
 #[test]
+fn a_run_has_a_limit_alone(rt: HostRuntime) -> Result<(), Fail> {
+    let alloc = rt.alloc();
+    assert_eq!(rt; read(alloc, &["run", "S", "T"])?, Ok(Command::Run(None)));
+    assert_eq!(rt;
+        read(alloc, &["run", "S", "T", "--steps", "9"])?,
+        Ok(Command::Run(Some(9)))
+    );
+    assert_eq!(rt; read(alloc, &["run", "S"])?, Err(2));
+    assert_eq!(rt; read(alloc, &["run", "S", "T", "--seed", "1"])?, Err(3));
+    assert_eq!(rt; read(alloc, &["run", "S", "T", "--steps", "0"])?, Err(4));
+    assert_eq!(rt;
+        read(alloc, &["run", "S", "T", "--steps", "9", "--journal"])?,
+        Err(5)
+    );
+    Ok(())
+}
+
+#[test]
 fn options_stand_in_any_order(rt: HostRuntime) -> Result<(), Fail> {
     let alloc = rt.alloc();
     let all = play(7, Some(9), true);

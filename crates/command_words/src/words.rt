@@ -1,11 +1,12 @@
 //! The reading of all words, command by command.
 
-ghost use Rattle.std.specs.Prelude.{◌≡◌, ◌<◌, ◌≤◌, ℕ, List, Ok, Err, length, drop, OnOk, IfOk, IfErr};
-ghost use Rattle.command_words.specs.Words.{texts_of, Spells, IsBadWord, last_name};
-ghost use Rattle.command_words.specs.Reading.{IsBadFrom, IsOneName, IsTheNumber, IsOneNumber, AsksToPlay, MayAskToPlay, OptionsAre, MayBeOptions};
+ghost use Rattle.std.specs.Prelude.{◌≡◌, ◌↔◌, ◌<◌, ◌≤◌, ℕ, List, Ok, Err, length, drop, OnOk, IfOk, IfErr, IsTrue};
+ghost use Rattle.command_words.specs.Options.{IsLimit};
+ghost use Rattle.command_words.specs.Words.{texts_of, Spells, IsBadWord, BeginsRun, last_name};
+ghost use Rattle.command_words.specs.Reading.{IsBadFrom, IsOneName, IsTheNumber, IsOneNumber, AreNamed, IsBadName, AsksToPlay, MayAskToPlay, AsksToRun, MayAskToRun, OptionsAre, MayBeOptions, MayBeLimit};
 
 use crate::chosen::{Chosen, number_at};
-use crate::command::{Command, Options};
+use crate::command::{Command, MOST_STEPS, Options};
 use crate::name::{is_name_at, is_word, word_at};
 
 /// The command that the words spell, or the place of the first bad word: the least place such that
@@ -29,6 +30,13 @@ pub fn read_words(words: &[String]) -> Result<Command, u32>
     }
 }
 
+/// Whether the first word is `run`.
+pub fn begins_run(words: &[String]) -> bool
+    ensures { IsTrue result ↔ BeginsRun (texts_of words.now) }
+{
+    !words.is_empty() && is_word(word_at(words, 0), "run")
+}
+
 // The command that the words spell, or the place of the first bad word.
 fn read_command(words: &[String]) -> Result<Command, usize>
     ensures command { IfOk result (Spells (texts_of words.now)) }
@@ -48,6 +56,9 @@ fn read_command(words: &[String]) -> Result<Command, usize>
     }
     if is_word(name, "play") {
         return Ok(Command::Play(read_play(words)?));
+    }
+    if is_word(name, "run") {
+        return Ok(Command::Run(read_run(words)?));
     }
     if is_word(name, "gen") {
         return Ok(Command::Gen(read_one_number(words)?));
@@ -88,13 +99,31 @@ fn read_play(words: &[String]) -> Result<Options, usize>
     ensures ok { IfOk result (AsksToPlay (drop 1 (texts_of words.now))) }
     ensures err { IfErr result (IsBadFrom 1 MayAskToPlay (texts_of words.now)) }
 {
+    read_names(words)?;
+    read_options(words)
+}
+
+// Reads what stands behind `run`: two names and a limit.
+fn read_run(words: &[String]) -> Result<Option<u64>, usize>
+    ensures ok { IfOk result (AsksToRun (drop 1 (texts_of words.now))) }
+    ensures err { IfErr result (IsBadFrom 1 MayAskToRun (texts_of words.now)) }
+{
+    read_names(words)?;
+    read_limit(words)
+}
+
+// Reads the two names behind the first word.
+fn read_names(words: &[String]) -> Result<(), usize>
+    ensures ok { OnOk result (AreNamed (texts_of words.now)) }
+    ensures err { IfErr result (IsBadName (texts_of words.now)) }
+{
     if !is_name_at(words, 1) {
         return Err(1);
     }
     if !is_name_at(words, 2) {
         return Err(2);
     }
-    read_options(words)
+    Ok(())
 }
 
 // Reads the options of `play`, which stand behind three words.
@@ -109,4 +138,25 @@ fn read_options(words: &[String]) -> Result<Options, usize>
         at = chosen.read(words, at)?;
     }
     Ok(chosen.options())
+}
+
+// Reads the limit of `run`, which stands behind three words, where it is there.
+fn read_limit(words: &[String]) -> Result<Option<u64>, usize>
+    requires { 3 ≤ length words.now }
+    ensures ok { IfOk result (IsLimit (drop 3 (texts_of words.now))) }
+    ensures err { IfErr result (IsBadFrom 3 MayBeLimit (texts_of words.now)) }
+{
+    if words.len() == 3 {
+        return Ok(None);
+    }
+    if !is_word(word_at(words, 3), "--steps") {
+        return Err(3);
+    }
+    let Some(steps) = number_at(words, 4, 1, MOST_STEPS) else {
+        return Err(4);
+    };
+    if words.len() != 5 {
+        return Err(5);
+    }
+    Ok(Some(steps))
 }

@@ -1,9 +1,10 @@
 -- How the threads and the last pass fit together.
-use Rattle.std.proofs.Common.{◌≡◌, ◌∙◌, ◌≤◌, ◌+◌, ◌⊎◌, inl, inr, ⊎_elim, ℕ, List, [], ◌∷◌, Bool, true, false, arith, refl, subst}
+use Rattle.std.proofs.Common.{◌≡◌, ◌∙◌, ◌≤◌, ◌+◌, ◌⊎◌, inl, inr, ⊎_elim, ℕ, List, [], ◌∷◌, ◌++◌, Bool, true, false, arith, refl, subst}
 use Rattle.spsc_queue.specs.Known.Ends.{RingIs}
 use Rattle.seat_wires.specs.Places.Are.{SeatsAre}
 use Rattle.seat_wires.proofs.Going.{went_then}
 use Rattle.actor_set.specs.declared.actor.Actor.{Actor}
+use Rattle.order_law.proofs.Telling.{goes_then}
 use Rattle.pd_runner.specs.declared.part.Part.{Part}
 use Rattle.pd_runner.specs.declared.part.Ran.{Ran}
 use Rattle.pd_runner.specs.Running.{Comes, Came}
@@ -13,7 +14,7 @@ use Rattle.pd_runner.specs.Each.{Each, Every, AnyOf, AnyPair}
 use Rattle.pd_runner.proofs.Eaches.{each_then}
 
 comes_then : (a : Actor) (s : SeatsAre) (n : ℕ) (b : Actor) (t : SeatsAre) (m : ℕ) (c : Actor) (u : SeatsAre) → Comes a s n b t → Comes b t m c u → Comes a s (n + m) c u
-comes_then a s n b t m c u h k = record { same = k.same ∙ h.same; sits = k.sits; went = went_then s n t m u h.went k.went }
+comes_then a s n b t m c u h k = record { same = k.same ∙ h.same; sits = k.sits; went = went_then s n t m u h.went k.went; calls = h.calls ++ k.calls; goes = goes_then a s h.calls b t k.calls c u h.goes k.goes }
 
 pub came_then : (rings : List RingIs) (a : Part) (n : ℕ) (b : Part) (m : ℕ) (c : Part) → Came rings a n b → Came rings b m c → Came rings a (n + m) c
 came_then rings a n b m c h k = record { stands = k.stands; comes = comes_then _ _ n _ _ m _ _ h.comes k.comes; row = k.row }

@@ -3,3 +3,5 @@ pub mod Running
 pub mod Each
 pub mod Begun
 pub mod Ends
+pub mod Facing
+pub mod Seated

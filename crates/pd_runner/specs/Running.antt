@@ -7,6 +7,7 @@ use Rattle.seat_wires.specs.Places.{EndsOn, seat_end, seats_taken, seats_sent}
 use Rattle.seat_wires.specs.Went.{Went}
 use Rattle.actor_set.specs.Actors.{FitsActor, ActorStandsFor, ActorRow, part_of}
 use Rattle.actor_set.specs.declared.actor.Actor.{Actor}
+use Rattle.order_law.specs.Tales.{Call, Goes}
 use Rattle.pd_runner.specs.declared.part.Part.{Part}
 
 -- what passed at the ends of an actor, as the ends show it: over rings nothing is dropped
@@ -19,11 +20,13 @@ pub record Sits (a : Actor) (s : SeatsAre) : Type 0 where
   pub lists : ActorStandsFor a (passed_at s)
 
 -- the same actor came this far by n steps: its ends stayed, and their lists begin with those that
--- they had
+-- they had; call by call this is what it did
 pub record Comes (a : Actor) (s : SeatsAre) (n : ℕ) (b : Actor) (t : SeatsAre) : Type 0 where
   pub same : part_of b ≡ part_of a
   pub sits : Sits b t
   pub went : Went s n t
+  pub calls : List Call
+  pub goes : Goes a s calls b t
 
 -- the ends of a part over the rings
 abbrev pub part_seats : List RingIs → Part → SeatsAre

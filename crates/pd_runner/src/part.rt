@@ -1,4 +1,4 @@
-//! What a run is given and what it leaves.
+//! What a thread is given and what it leaves.
 use actor_set::Actor;
 use cargo_core::Memory;
 use spsc_queue::{Consumer, Producer, Ring};
@@ -10,13 +10,6 @@ pub struct Part {
     pub actor: Actor,
     pub producers: Vec<Option<Producer>>,
     pub consumers: Vec<Option<Consumer>>,
-}
-
-/// The rings of all queues and the actors at their ends, both in the order of the layout.
-#[derive(Drop)]
-pub struct Parts {
-    pub rings: Vec<Ring>,
-    pub actors: Vec<Part>,
 }
 
 /// A part after its thread ended, how many steps it made there, and the want of memory that the

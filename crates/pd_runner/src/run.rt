@@ -7,7 +7,7 @@ ghost use Rattle.pd_runner.specs.Ends.{RanStands, SettledOf, LawfulOf, SpentOf, 
 
 use crate::floor::Floor;
 use crate::gate::Gate;
-use crate::part::{Part, Parts, Ran, Task};
+use crate::part::{Part, Ran, Task};
 use crate::work::{settle, work};
 use cargo_core::Memory;
 use crossbeam_utils::sync::Parker;
@@ -197,39 +197,31 @@ fn settle_all<G: Gate>(
     Ok(all)
 }
 
-/// Steps each actor in a thread of its own, until all are idle, one has made `limit` steps, or a
-/// step wants memory. A thread waits where its actor is at rest and no notification is pending at
-/// its ends, and a ring wakes it; `rows` tells whom. After the threads have ended, the caller steps
-/// each actor that isn't at rest until it is or has made `limit` steps, unless one made as many in
-/// its thread. An actor for which no thread could be started is stepped there alone. Each step
-/// passes the gate first. Err is the answer where a step or the run itself wanted memory.
-pub fn run_threads<R: Threads + Wait + Sync, G: Gate + Sync>(
+/// Runs the actors in threads, and then makes the last pass, as `run_threads` says.
+pub(crate) fn run_seated<R: Threads + Wait + Sync, G: Gate + Sync>(
     rt: &R,
     alloc: Global,
     rows: &[QueueRow],
-    parts: Parts,
+    rings: &[Ring],
+    parts: Vec<Part>,
     limit: u64,
     gate: &G,
-) -> Result<Parts, Memory>
-    requires { Every (Stands parts.rings.items) parts.actors.items }
-    ensures rings { IfOk result (λ p. p.rings.items ≡ parts.rings.items) }
-    ensures actors { IfOk result (λ p. Each (LawfulOf parts.rings.items limit)
-        parts.actors.items p.actors.items) }
-    ensures ends { IfOk result (λ p. Every Rests p.actors.items
-        ⊎ AnyPair (SpentOf parts.rings.items limit) parts.actors.items p.actors.items) }
+) -> Result<Vec<Part>, Memory>
+    requires { Every (Stands rings.now) parts.items }
+    ensures came { IfOk result (λ v. Each (LawfulOf rings.entry.now limit)
+        parts.items v.items) }
+    ensures ends { IfOk result (λ v. Every Rests v.items
+        ⊎ AnyPair (SpentOf rings.entry.now limit) parts.items v.items) }
 {
-    let Parts { rings, actors } = parts;
     let mut parkers = Vec::new(alloc);
-    for _ in 0..actors.len() {
+    for _ in 0..parts.len() {
         parkers.push(Parker::new(alloc)?)?;
     }
     let floor = Floor::new(alloc, rows, &parkers)?;
-    let shared = rings.as_slice();
-    let rans = in_threads(rt, alloc, shared, &floor, gate, parkers, actors, limit)?;
+    let rans = in_threads(rt, alloc, rings, &floor, gate, parkers, parts, limit)?;
     if let Some(memory) = first_want(&rans) {
         return Err(memory);
     }
     let stop = is_spent(&rans, limit);
-    let actors = settle_all(alloc, shared, gate, rans, limit, stop)?;
-    Ok(Parts { rings, actors })
+    settle_all(alloc, rings, gate, rans, limit, stop)
 }

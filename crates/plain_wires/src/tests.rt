@@ -11,6 +11,7 @@ use crate::World;
 use cargo_core::{Body, Item, QueueKind, Text};
 use spsc_queue::{self, Ended, Ring};
 use std::alloc::Global;
+use std::marker::Brand;
 use std::test::Fail;
 use wire_core::{ActorId, QueueId, QueueRow, Ringer, Side, Waiter, Wires};
 
@@ -218,7 +219,7 @@ fn send(producer: &mut spsc_queue::Producer, ring: &Ring, byte: u8)
     if !producer.room(ring) {
         return;
     }
-    producer.put(ring, Item::Byte(byte), Body::Empty);
+    producer.put::<Brand>(ring, Item::Byte(byte), Body::Empty);
     if producer.wanted(ring) {
         producer.settle(ring);
         producer.ring(ring);

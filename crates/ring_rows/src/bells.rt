@@ -8,6 +8,7 @@ ghost use Rattle.wire_core.specs.Ends.{is_busy_or_off};
 
 use cargo_core::{Body, Item};
 use spsc_queue::{Consumer, Producer, Ring};
+use std::marker::Brand;
 use std::thread::yield_now;
 
 // Notifies the consumer where it wants that.
@@ -68,7 +69,7 @@ pub fn give(producer: &mut Producer, ring: &Ring, byte: u8) -> bool
     if !producer.room(ring) {
         return false;
     }
-    producer.put(ring, Item::Byte(byte), Body::Empty);
+    producer.put::<Brand>(ring, Item::Byte(byte), Body::Empty);
     notify_consumer(producer, ring);
     true
 }
@@ -90,7 +91,7 @@ pub fn send_by_bells(producer: &mut Producer, ring: &Ring, count: u32, looks: u6
         }
         match await_room(producer, ring, looks) {
             Some(true) => {
-                producer.put(ring, Item::Byte((sent % 251) as u8), Body::Empty);
+                producer.put::<Brand>(ring, Item::Byte((sent % 251) as u8), Body::Empty);
                 notify_consumer(producer, ring);
                 sent += 1;
             }

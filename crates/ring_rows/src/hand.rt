@@ -7,6 +7,7 @@ ghost use Rattle.spsc_queue.specs.Rule.{first_producer, first_consumer};
 use cargo_core::{Body, Item, Memory, QueueKind};
 use spsc_queue::{Consumer, Ended, Producer, Ring, finish, open};
 use std::alloc::Global;
+use std::marker::Brand;
 use std::thread::yield_now;
 
 /// A ring of bytes in its start state, whose capacity is 2 to a power.
@@ -36,7 +37,7 @@ pub fn offer(producer: &mut Producer, ring: &Ring, byte: u8) -> bool
     if !producer.room(ring) {
         return false;
     }
-    producer.put(ring, Item::Byte(byte), Body::Empty);
+    producer.put::<Brand>(ring, Item::Byte(byte), Body::Empty);
     true
 }
 

@@ -3,13 +3,15 @@ use Rattle.sdf_plan.specs.declared.plan.Plan.{Plan}
 use Rattle.trace_text.specs.declared.trace.Trace.{Trace}
 use Rattle.system_core.specs.Reports.{report_of}
 use Rattle.sddf_top.specs.declared.showing.Showing.{Showing}
+use Rattle.sddf_top.specs.declared.showing.Asked.{Asked}
+use Rattle.sddf_top.specs.declared.showing.Asked.TheVariants as Ask
 use Rattle.sddf_top.specs.declared.showing.Showing.TheVariants as Show
 use Rattle.sddf_top.specs.declared.status.Status.{Status}
 use Rattle.sddf_top.specs.declared.status.Status.TheVariants as Ended
 use Rattle.sddf_top.specs.declared.played.Played.{Played}
-use Rattle.sddf_top.specs.Decisions.{Decision, Say, Play, Decides, TextDecides, PlanDecides, TraceDecides, GeneratedDecides, long_trace, bad_trace, good_trace, checked, laid_out, traced, long_description, refused, accepted, no_command, described, generated}
+use Rattle.sddf_top.specs.Decisions.{Decision, Say, Play, Run, asked_on, Decides, TextDecides, PlanDecides, TraceDecides, GeneratedDecides, long_trace, bad_trace, good_trace, checked, laid_out, traced, long_description, refused, accepted, no_command, described, generated}
 use Rattle.sddf_top.specs.Shown.{ending_of}
-use Rattle.sddf_top.specs.Answers.{Answers, Comes, Shows, IsStatusOf, Serves, WasRead, IsTold, IsFault, no_reading, no_writing, no_memory}
+use Rattle.sddf_top.specs.Answers.{Answers, Comes, Shows, ShowsRun, IsStatusOf, Serves, WasRead, IsTold, IsFault, no_reading, no_writing, no_memory}
 use Rattle.sddf_top.specs.Outside.{appended}
 use Rattle.sddf_top.proofs.DecisionLemmas.{Agrees, one-decision, plan-read, text-read}
 
@@ -34,12 +36,26 @@ ending-status false steps s e = inr (steps, e)
 play-status : (plan : Plan) (t : Trace) (o : Showing) (s : Status) (x : List ℕ) (p : Played) → Shows plan t o s x p → (s ≡ Ended.Ok) ⊎ ((n : ℕ) × (s ≡ Ended.Spent n))
 play-status plan t o s x p h = ending-status (report_of h.system).quiet (report_of h.system).steps s h.status_is
 
+run-status : (plan : Plan) (t : Trace) (n : Option ℕ) (s : Status) (x : List ℕ) (p : Played) → ShowsRun plan t n s x p → (s ≡ Ended.Ok) ⊎ ((n : ℕ) × (s ≡ Ended.Spent n))
+run-status plan t n s x p h = ending-status (report_of h.system).quiet (report_of h.system).steps s h.status_is
+
+-- an answer has a status to which its decision leads
+pub come-status : (d : Decision) (s : Status) (x : List ℕ) (p : Played) → Comes d s x p → IsStatusOf d s
+come-status (Say t y) s x p c = c.0
+come-status (Play q u o) s x p c = play-status q u o s x p c
+come-status (Run q u n) s x p c = run-status q u n s x p c
+
 -- the status of an answer is the one that a decision which agrees leads to
 agreed-status : (d d' : Decision) (s : Status) (x : List ℕ) (p : Played) → Agrees d d' → Comes d' s x p → IsStatusOf d s
 agreed-status (Say t y) (Say t' y') s x p a c = c.0 ∙ sym a.0
 agreed-status (Say t y) (Play q u o) s x p a c = absurd a
 agreed-status (Play q u o) (Say t' y') s x p a c = absurd a
 agreed-status (Play q u o) (Play q' u' o') s x p a c = play-status q' u' o' s x p c
+agreed-status (Say t y) (Run q u n) s x p a c = absurd a
+agreed-status (Play q u o) (Run q' u' n) s x p a c = absurd a
+agreed-status (Run q u n) (Say t' y') s x p a c = absurd a
+agreed-status (Run q u n) (Play q' u' o) s x p a c = absurd a
+agreed-status (Run q u n) (Run q' u' n') s x p a c = run-status q' u' n' s x p c
 
 -- these aren't faults
 abbrev pub MayBeFault : Status → Type 0
@@ -80,11 +96,16 @@ module _ (told : List ℕ → Option (List ℕ)) (words : List (List ℕ)) where
 abbrev pub IsCalm : Decision → Type 0
 IsCalm (Say s x) = IsFault s → ⊥
 IsCalm (Play q t o) = Unit {0}
+IsCalm (Run q t n) = Unit {0}
 
-trace-calm : (plan : Plan) (o : Showing) (bytes : List ℕ) (d : Decision) → TraceDecides plan o bytes d → IsCalm d
+asked-calm : (plan : Plan) (t : Trace) (a : Asked) → IsCalm (asked_on plan t a)
+asked-calm plan t (Ask.Play o) = tt
+asked-calm plan t (Ask.Run n) = tt
+
+trace-calm : (plan : Plan) (o : Asked) (bytes : List ℕ) (d : Decision) → TraceDecides plan o bytes d → IsCalm d
 trace-calm plan o bytes _ (long_trace l) = may-be Ended.TooLong
 trace-calm plan o bytes _ (bad_trace k l b) = may-be (Ended.BadTrace k)
-trace-calm plan o bytes _ (good_trace l g) = tt
+trace-calm plan o bytes _ (good_trace l g) = asked-calm plan _ o
 
 text-calm : (P : Plan → Decision → Type 0) → ((plan : Plan) (d : Decision) → P plan d → IsCalm d) → (bytes : List ℕ) (d : Decision) → TextDecides P bytes d → IsCalm d
 text-calm P calm bytes _ (long_description l) = may-be Ended.TooLong
@@ -92,13 +113,13 @@ text-calm P calm bytes _ (refused r l h) = may-be (Ended.Refused r.rule)
 text-calm P calm bytes _ (accepted p d l h q) = calm p d q
 
 generated-calm : (n : ℕ) (plan : Plan) (d : Decision) → GeneratedDecides n plan d → IsCalm d
-generated-calm n plan d t = trace-calm plan Show.Summary _ d t
+generated-calm n plan d t = trace-calm plan (Ask.Play Show.Summary) _ d t
 
 module _ (R : List ℕ → List ℕ → Type 0) (words : List (List ℕ)) where
   plan-calm : (plan : Plan) (d : Decision) → PlanDecides R words plan d → IsCalm d
   plan-calm plan _ (checked desc c) = may-be Ended.Ok
   plan-calm plan _ (laid_out desc l) = may-be Ended.Ok
-  plan-calm plan _ (traced desc trace bytes o d p r t) = trace-calm plan (Show.Report o) bytes d t
+  plan-calm plan _ (traced desc trace bytes o d p r t) = trace-calm plan o bytes d t
 
   is-calm : (d : Decision) → Decides R words d → IsCalm d
   is-calm _ (no_command k h) = may-be (Ended.Usage k)
@@ -112,6 +133,7 @@ calm-ending s (inr h) f = may-be (Ended.Spent h.0) (subst (λ t. IsFault t) h.1 
 calm-status : (d : Decision) (s : Status) (x : List ℕ) (p : Played) → IsCalm d → Comes d s x p → IsFault s → ⊥
 calm-status (Say t y) s x p n c f = n (subst (λ s. IsFault s) c.0 f)
 calm-status (Play q t o) s x p n c f = calm-ending s (play-status q t o s x p c) f
+calm-status (Run q t m) s x p n c f = calm-ending s (run-status q t m s x p c) f
 
 -- no answer is a fault
 pub answer-calm : (R : List ℕ → List ℕ → Type 0) (words : List (List ℕ)) (s : Status) (x : List ℕ) (p : Played) → Answers R words s x p → IsFault s → ⊥

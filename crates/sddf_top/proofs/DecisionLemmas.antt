@@ -1,21 +1,23 @@
-use Rattle.std.proofs.Common.{◌≡◌, inl, inr, ◌<◌, ◌≤◌, ◌+◌, ℕ, Some, List, ◌++◌, ◌∷◌, length, take, drop, refl, sym, ap, ◌∙◌, subst, append_assoc, decimal, arith}
+use Rattle.std.proofs.Common.{◌≡◌, inl, inr, ◌<◌, ◌≤◌, ◌+◌, ℕ, List, ◌++◌, ◌∷◌, length, take, drop, refl, sym, ap, ◌∙◌, subst, append_assoc, codes, decimal, arith}
 use Rattle.std.proofs.lemmas.Bool.{cases_lt}
 use Rattle.std.proofs.lemmas.Fmt.{decimal_injective}
 use Rattle.std.proofs.lemmas.List.{take-append-drop, take-take}
 use Rattle.sdf_plan.specs.declared.place.Refusal.{Refusal}
 use Rattle.sdf_plan.specs.declared.plan.Plan.{Plan}
+use Rattle.trace_text.specs.declared.trace.Trace.{Trace}
 use Rattle.trace_text.specs.Traces.{HasNoBadLine, IsLeastBadLine}
 use Rattle.report_text.specs.Answers.{usage_text, bad_trace_text}
 use Rattle.command_words.specs.declared.command.Command.{Command}
 use Rattle.command_words.specs.declared.command.Command.TheVariants as Do
-use Rattle.command_words.specs.declared.command.Options.{Options}
-use Rattle.command_words.specs.Words.{IsCheck, IsLayout, IsPlay, IsGen, Spells, Begins, IsBadWord}
+use Rattle.command_words.specs.Words.{IsCheck, IsLayout, IsGen, Spells, Begins, IsBadWord}
 use Rattle.sddf_top.specs.declared.status.Status.TheVariants as Ended
-use Rattle.sddf_top.specs.declared.showing.Showing.{Showing}
+use Rattle.sddf_top.specs.declared.showing.Asked.{Asked}
+use Rattle.sddf_top.specs.declared.showing.Asked.TheVariants as Ask
 use Rattle.sddf_top.specs.declared.showing.Showing.TheVariants as Show
 use Rattle.workload.specs.Generated.{generated_text}
 use Rattle.workload.specs.declared.description.TheConstants.{FULL_EXAMPLE}
-use Rattle.sddf_top.specs.Decisions.{Decision, Say, Play, TraceDecides, PlanDecides, TextDecides, GeneratedDecides, Decides, NamesDescription, refuses, long_trace, bad_trace, good_trace, checked, laid_out, traced, long_description, refused, accepted, no_command, described, generated}
+use Rattle.sddf_top.specs.Decisions.{Decision, Say, Play, Run, asked_on, AsksFor, to_play, to_run, TraceDecides, PlanDecides, TextDecides, GeneratedDecides, Decides, NamesDescription, refuses, long_trace, bad_trace, good_trace, checked, laid_out, traced, long_description, refused, accepted, no_command, described, generated}
+use Rattle.command_words.proofs.Letters.{run-or-gen}
 use Rattle.sddf_top.proofs.JudgedLemmas.{same-accepted, accepted-or-refused, same-refused}
 
 -- fewer words begin a command too
@@ -43,43 +45,72 @@ bad-none words k command h s = elim (cases_lt k (length words)) [
   | inr ge ↦ h.whole (omega (arith, h.within)) command s
 ]
 
+-- words that ask for something of a trace are a command
+asks-spell : (words : List (List ℕ)) (desc trace : List ℕ) (asked : Asked) → AsksFor words desc trace asked → (command : Command) × Spells words command
+asks-spell words desc trace _ (to_play o p) = (Do.Play o, (desc, trace, p))
+asks-spell words desc trace _ (to_run n p) = (Do.Run n, (desc, trace, p))
+
 -- words that name a description are a command
 names-spell : (words : List (List ℕ)) (desc : List ℕ) → NamesDescription words desc → (command : Command) × Spells words command
 names-spell words desc (inl c) = (Do.Check, (desc, c))
 names-spell words desc (inr (inl l)) = (Do.Layout, (desc, l))
-names-spell words desc (inr (inr p)) = (Do.Play p.1, (desc, p.0, p.2))
+names-spell words desc (inr (inr p)) = asks-spell words desc p.0 p.1 p.2
 
 -- the names in words
 second-of : (words : List (List ℕ)) (w desc : List ℕ) (ws : List (List ℕ)) (v desc' : List ℕ) (vs : List (List ℕ)) → words ≡ w ∷ desc ∷ ws → words ≡ v ∷ desc' ∷ vs → desc ≡ desc'
 second-of words w desc ws v desc' vs e f = let g : w ∷ desc ∷ ws ≡ v ∷ desc' ∷ vs = sym e ∙ f in cc
 
+asks-words : (words : List (List ℕ)) (desc trace : List ℕ) (asked : Asked) → AsksFor words desc trace asked → (w : List ℕ) × (ws : List (List ℕ)) × (words ≡ w ∷ desc ∷ trace ∷ ws)
+asks-words words desc trace _ (to_play o p) = (_, _, p.words_are)
+asks-words words desc trace _ (to_run n p) = (_, _, p.words_are)
+
 names-words : (words : List (List ℕ)) (desc : List ℕ) → NamesDescription words desc → (w : List ℕ) × (ws : List (List ℕ)) × (words ≡ w ∷ desc ∷ ws)
 names-words words desc (inl c) = (_, _, c.words_are)
 names-words words desc (inr (inl l)) = (_, _, l.words_are)
-names-words words desc (inr (inr p)) = (_, _, p.2.words_are)
+names-words words desc (inr (inr p)) = let a = asks-words words desc p.0 p.1 p.2 in (_, _, a.2)
 
 pub same-desc : (words : List (List ℕ)) (desc desc' : List ℕ) → NamesDescription words desc → NamesDescription words desc' → desc ≡ desc'
 same-desc words desc desc' n m = let a = names-words words desc n in let b = names-words words desc' m in second-of words a.0 desc a.1 b.0 desc' b.1 a.2 b.2
 
-same-trace : (words : List (List ℕ)) (desc trace desc' trace' : List ℕ) (o o' : Options) → IsPlay words desc trace o → IsPlay words desc' trace' o' → trace ≡ trace'
-same-trace words desc trace desc' trace' o o' p q = let e = sym p.words_are ∙ q.words_are in cc
+same-trace : (words : List (List ℕ)) (desc trace desc' trace' : List ℕ) (o o' : Asked) → AsksFor words desc trace o → AsksFor words desc' trace' o' → trace ≡ trace'
+same-trace words desc trace desc' trace' o o' p q =
+    let a = asks-words words desc trace o p in
+    let b = asks-words words desc' trace' o' q in
+    let e = sym a.2 ∙ b.2 in cc
 
 -- words are one command
-check-or-play : (words : List (List ℕ)) (desc desc' trace : List ℕ) (o : Options) → IsCheck words desc → IsPlay words desc' trace o → ⊥
-check-or-play words desc desc' trace o c p = let e = sym c.words_are ∙ p.words_are in cc
+check-or-traced : (words : List (List ℕ)) (desc desc' trace : List ℕ) (o : Asked) → IsCheck words desc → AsksFor words desc' trace o → ⊥
+check-or-traced words desc desc' trace _ c (to_play o p) = let e = sym c.words_are ∙ p.words_are in cc
+check-or-traced words desc desc' trace _ c (to_run n p) = let e = sym c.words_are ∙ p.words_are in cc
 
-layout-or-play : (words : List (List ℕ)) (desc desc' trace : List ℕ) (o : Options) → IsLayout words desc → IsPlay words desc' trace o → ⊥
-layout-or-play words desc desc' trace o l p = let e = sym l.words_are ∙ p.words_are in cc
+layout-or-traced : (words : List (List ℕ)) (desc desc' trace : List ℕ) (o : Asked) → IsLayout words desc → AsksFor words desc' trace o → ⊥
+layout-or-traced words desc desc' trace _ l (to_play o p) = let e = sym l.words_are ∙ p.words_are in cc
+layout-or-traced words desc desc' trace _ l (to_run n p) = let e = sym l.words_are ∙ p.words_are in cc
 
 check-or-layout : (words : List (List ℕ)) (desc desc' : List ℕ) → IsCheck words desc → IsLayout words desc' → ⊥
 check-or-layout words desc desc' c l = let e = sym c.words_are ∙ l.words_are in cc
 
--- two decisions agree where they say the same, or both play
+-- two decisions agree where they say the same, or both play, or both run
 abbrev pub Agrees : Decision → Decision → Type 0
 Agrees (Say s x) (Say s' x') = (s ≡ s') × (x ≡ x')
 Agrees (Say s x) (Play p t o) = ⊥
+Agrees (Say s x) (Run p t n) = ⊥
 Agrees (Play p t o) (Say s' x') = ⊥
 Agrees (Play p t o) (Play p' t' o') = Unit {0}
+Agrees (Play p t o) (Run p' t' n) = ⊥
+Agrees (Run p t n) (Say s' x') = ⊥
+Agrees (Run p t n) (Play p' t' o) = ⊥
+Agrees (Run p t n) (Run p' t' n') = Unit {0}
+
+-- what the same words ask for
+play-or-run : (words : List (List ℕ)) (more less : List (List ℕ)) → words ≡ codes "play" ∷ more → words ≡ codes "run" ∷ less → ⊥
+play-or-run words more less e f = let g = sym e ∙ f in cc
+
+agrees-asked : (words : List (List ℕ)) (desc trace desc' trace' : List ℕ) (a b : Asked) → AsksFor words desc trace a → AsksFor words desc' trace' b → (plan : Plan) (t : Trace) → Agrees (asked_on plan t a) (asked_on plan t b)
+agrees-asked words desc trace desc' trace' _ _ (to_play o p) (to_play o' q) plan t = tt
+agrees-asked words desc trace desc' trace' _ _ (to_play o p) (to_run n q) plan t = absurd (play-or-run words _ _ p.words_are q.words_are)
+agrees-asked words desc trace desc' trace' _ _ (to_run n p) (to_play o q) plan t = absurd (play-or-run words _ _ q.words_are p.words_are)
+agrees-asked words desc trace desc' trace' _ _ (to_run n p) (to_run n' q) plan t = tt
 
 agrees-refused : (r r' : Refusal) → r ≡ r' → Agrees (refuses r) (refuses r')
 agrees-refused r r' e = let f = ap refuses e in (cc, cc)
@@ -104,16 +135,16 @@ agrees-bad : (l m : ℕ) → l ≡ m → Agrees (Say (Ended.BadTrace l) (bad_tra
 agrees-bad l m e = (ap (λ n. Ended.BadTrace n) e, ap bad_trace_text e)
 
 -- what the bytes of a trace decide
-one-trace : (plan : Plan) (o o' : Showing) (bytes : List ℕ) (d d' : Decision) → TraceDecides plan o bytes d → TraceDecides plan o' bytes d' → Agrees d d'
-one-trace plan o o' bytes _ _ (long_trace l) (long_trace m) = (refl, refl)
-one-trace plan o o' bytes _ _ (long_trace l) (bad_trace k m b) = absurd (long-or-short bytes l m)
-one-trace plan o o' bytes _ _ (long_trace l) (good_trace m g) = absurd (long-or-short bytes l m)
-one-trace plan o o' bytes _ _ (bad_trace k l b) (long_trace m) = absurd (long-or-short bytes m l)
-one-trace plan o o' bytes _ _ (bad_trace k l b) (bad_trace k' m b') = agrees-bad k k' (same-line plan bytes k k' b b')
-one-trace plan o o' bytes _ _ (bad_trace k l b) (good_trace m g) = absurd (good-or-bad plan bytes k g b)
-one-trace plan o o' bytes _ _ (good_trace l g) (long_trace m) = absurd (long-or-short bytes m l)
-one-trace plan o o' bytes _ _ (good_trace l g) (bad_trace k m b) = absurd (good-or-bad plan bytes k g b)
-one-trace plan o o' bytes _ _ (good_trace l g) (good_trace m g') = tt
+one-trace : (plan : Plan) (o o' : Asked) → ((t : Trace) → Agrees (asked_on plan t o) (asked_on plan t o')) → (bytes : List ℕ) (d d' : Decision) → TraceDecides plan o bytes d → TraceDecides plan o' bytes d' → Agrees d d'
+one-trace plan o o' same bytes _ _ (long_trace l) (long_trace m) = (refl, refl)
+one-trace plan o o' same bytes _ _ (long_trace l) (bad_trace k m b) = absurd (long-or-short bytes l m)
+one-trace plan o o' same bytes _ _ (long_trace l) (good_trace m g) = absurd (long-or-short bytes l m)
+one-trace plan o o' same bytes _ _ (bad_trace k l b) (long_trace m) = absurd (long-or-short bytes m l)
+one-trace plan o o' same bytes _ _ (bad_trace k l b) (bad_trace k' m b') = agrees-bad k k' (same-line plan bytes k k' b b')
+one-trace plan o o' same bytes _ _ (bad_trace k l b) (good_trace m g) = absurd (good-or-bad plan bytes k g b)
+one-trace plan o o' same bytes _ _ (good_trace l g) (long_trace m) = absurd (long-or-short bytes m l)
+one-trace plan o o' same bytes _ _ (good_trace l g) (bad_trace k m b) = absurd (good-or-bad plan bytes k g b)
+one-trace plan o o' same bytes _ _ (good_trace l g) (good_trace m g') = same _
 
 -- what the bytes of a description decide, where what a plan decides agrees
 one-text : (P Q : Plan → Decision → Type 0) → ((plan : Plan) (d d' : Decision) → P plan d → Q plan d' → Agrees d d') → (bytes : List ℕ) (d d' : Decision)
@@ -133,7 +164,10 @@ one-text P Q one bytes _ _ (accepted p d l h q) (accepted p' d' m i q') =
 gen-or-named : (words : List (List ℕ)) (n : ℕ) (desc : List ℕ) → IsGen words n → NamesDescription words desc → ⊥
 gen-or-named words n desc g (inl c) = let e = sym g.words_are ∙ c.words_are in cc
 gen-or-named words n desc g (inr (inl l)) = let e = sym g.words_are ∙ l.words_are in cc
-gen-or-named words n desc g (inr (inr p)) = let e = sym g.words_are ∙ p.2.words_are in cc
+gen-or-named words n desc g (inr (inr p)) = gen-or-traced p.1 p.2 where
+  gen-or-traced : (asked : Asked) → AsksFor words desc p.0 asked → ⊥
+  gen-or-traced _ (to_play o q) = let e = sym g.words_are ∙ q.words_are in cc
+  gen-or-traced _ (to_run m q) = run-or-gen words _ _ q.words_are g.words_are
 
 gen-same : (words : List (List ℕ)) (n m : ℕ) → IsGen words n → IsGen words m → n ≡ m
 gen-same words n m g h =
@@ -147,15 +181,15 @@ module _ (R S : List ℕ → List ℕ → Type 0) (same : (name a b : List ℕ) 
   one-plan : (plan : Plan) (d d' : Decision) → PlanDecides R words plan d → PlanDecides S words plan d' → Agrees d d'
   one-plan plan _ _ (checked desc c) (checked desc' c') = (refl, refl)
   one-plan plan _ _ (checked desc c) (laid_out desc' l') = absurd (check-or-layout words desc desc' c l')
-  one-plan plan _ _ (checked desc c) (traced desc' trace' bytes' o' d' p' r' t') = absurd (check-or-play words desc desc' trace' o' c p')
+  one-plan plan _ _ (checked desc c) (traced desc' trace' bytes' o' d' p' r' t') = absurd (check-or-traced words desc desc' trace' o' c p')
   one-plan plan _ _ (laid_out desc l) (checked desc' c') = absurd (check-or-layout words desc' desc c' l)
   one-plan plan _ _ (laid_out desc l) (laid_out desc' l') = (refl, refl)
-  one-plan plan _ _ (laid_out desc l) (traced desc' trace' bytes' o' d' p' r' t') = absurd (layout-or-play words desc desc' trace' o' l p')
-  one-plan plan _ _ (traced desc trace bytes o d p r t) (checked desc' c') = absurd (check-or-play words desc' desc trace o c' p)
-  one-plan plan _ _ (traced desc trace bytes o d p r t) (laid_out desc' l') = absurd (layout-or-play words desc' desc trace o l' p)
+  one-plan plan _ _ (laid_out desc l) (traced desc' trace' bytes' o' d' p' r' t') = absurd (layout-or-traced words desc desc' trace' o' l p')
+  one-plan plan _ _ (traced desc trace bytes o d p r t) (checked desc' c') = absurd (check-or-traced words desc' desc trace o c' p)
+  one-plan plan _ _ (traced desc trace bytes o d p r t) (laid_out desc' l') = absurd (layout-or-traced words desc' desc trace o l' p)
   one-plan plan _ _ (traced desc trace bytes o d p r t) (traced desc' trace' bytes' o' d' p' r' t') =
       let b : bytes ≡ bytes' = same trace' bytes bytes' (subst (λ n. R n bytes) (same-trace words desc trace desc' trace' o o' p p') r) r' in
-      one-trace plan (Show.Report o) (Show.Report o') bytes' d d' (subst (λ x. TraceDecides plan (Show.Report o) x d) b t) t'
+      one-trace plan o o' (λ t. agrees-asked words desc trace desc' trace' o o' p p' plan t) bytes' d d' (subst (λ x. TraceDecides plan o x d) b t) t'
 
   -- what the words and the texts under their names decide
   pub one-decision : (d d' : Decision) → Decides R words d → Decides S words d' → Agrees d d'
@@ -170,7 +204,7 @@ module _ (R S : List ℕ → List ℕ → Type 0) (same : (name a b : List ℕ) 
   one-decision _ _ (described desc bytes d n r t) (generated m d' g t') = absurd (gen-or-named words m desc g n)
   one-decision _ _ (generated m d g t) (described desc bytes d' n r t') = absurd (gen-or-named words m desc g n)
   one-decision _ _ (generated n d g t) (generated m d' g' t') =
-      one-text (GeneratedDecides m) (GeneratedDecides m) (λ plan e e' a b. one-trace plan Show.Summary Show.Summary (generated_text m) e e' a b) FULL_EXAMPLE.now d d'
+      one-text (GeneratedDecides m) (GeneratedDecides m) (λ plan e e' a b. one-trace plan (Ask.Play Show.Summary) (Ask.Play Show.Summary) (λ t. tt) (generated_text m) e e' a b) FULL_EXAMPLE.now d d'
       (subst (λ k. TextDecides (GeneratedDecides k) FULL_EXAMPLE.now d) (gen-same words n m g g') t) t'
 
 -- what is decided where a text was read as it was before

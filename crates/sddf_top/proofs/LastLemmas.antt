@@ -1,19 +1,16 @@
-use Rattle.std.proofs.Common.{◌≡◌, ◌≤◌, ◌<◌, ◌⊎◌, inl, inr, ℕ, Bool, true, false, List, length, drop, Option, Some, None, sym, ◌∙◌, ap, subst, arith}
+use Rattle.std.proofs.Common.{◌≡◌, ◌≤◌, ◌<◌, ◌⊎◌, inl, inr, ℕ, List, length, drop, Option, Some, None, sym, ◌∙◌, ap, subst, arith}
 use Rattle.std.proofs.lemmas.List.{length-take}
 use Rattle.std.specs.Option.{option_map}
 use Rattle.sdf_plan.specs.declared.plan.Plan.{Plan}
-use Rattle.system_core.specs.Reports.{report_of}
-use Rattle.command_words.specs.declared.command.Options.{Options}
-use Rattle.command_words.specs.Words.{IsPlay}
-use Rattle.sddf_top.specs.declared.showing.Showing.{Showing}
+use Rattle.trace_text.specs.declared.trace.Trace.{Trace}
+use Rattle.sddf_top.specs.declared.showing.Asked.{Asked}
+use Rattle.sddf_top.specs.declared.showing.Asked.TheVariants as Ask
 use Rattle.sddf_top.specs.declared.status.Status.{Status}
 use Rattle.sddf_top.specs.declared.status.Status.TheVariants as Ended
-use Rattle.sddf_top.specs.declared.played.Played.{Played}
 use Rattle.sdf_model.specs.Counts.{text_most}
 use Rattle.sddf_top.specs.Outside.{IsRead, read_most}
-use Rattle.sddf_top.specs.Decisions.{Decision, TextDecides, TraceDecides, GeneratedDecides, long_description, refused, accepted, long_trace, bad_trace, good_trace, NamesDescription}
-use Rattle.sddf_top.specs.Shown.{ending_of}
-use Rattle.sddf_top.specs.Answers.{Comes, ComesBy, IsFault, no_writing}
+use Rattle.sddf_top.specs.Decisions.{Decision, asked_on, AsksFor, TextDecides, TraceDecides, GeneratedDecides, long_description, refused, accepted, long_trace, bad_trace, good_trace, NamesDescription}
+use Rattle.sddf_top.specs.Answers.{IsStatusOf, IsFault, no_writing}
 use Rattle.sddf_top.specs.Readings.{Behind, IsLong, IsWithinLimit, IsOfText, IsOfPlay, IsUnread, LeavesPlay, LeavesPlan, LeavesText, ReadLast, read_description, read_trace}
 use Rattle.sddf_top.proofs.DecisionLemmas.{same-desc}
 
@@ -26,26 +23,24 @@ pub within-read : (told : Option (List ℕ)) (bytes : List ℕ) → IsRead told 
 within-read (Some text) bytes r l = omega (arith, l, ap length r, length-take read_most text)
 within-read None bytes r l = tt
 
--- a play ends as a trace may be answered
-ending-of-trace : (quiet : Bool) (steps : ℕ) → IsOfPlay (ending_of quiet steps)
-ending-of-trace true steps = tt
-ending-of-trace false steps = tt
+-- what is asked of a trace ends as a trace may be answered
+of-play : (s : Status) → (s ≡ Ended.Ok) ⊎ ((n : ℕ) × (s ≡ Ended.Spent n)) → IsOfPlay s
+of-play s (inl e) = rw e tt
+of-play s (inr h) = rw h.1 tt
 
-trace-comes : (told : Option (List ℕ)) (plan : Plan) (o : Showing) (bytes : List ℕ) (d : Decision) (s : Status) (x : List ℕ) (p : Played) → IsRead told bytes → TraceDecides plan o bytes d
-    → Comes d s x p → IsOfText told IsOfPlay s
-trace-comes told plan o bytes _ s x p r (long_trace l) c = inl (long-read told bytes r l, c.0)
-trace-comes told plan o bytes _ s x p r (bad_trace k l b) c = inr (within-read told bytes r l, rw c.0 tt)
-trace-comes told plan o bytes _ s x p r (good_trace l g) c =
-    inr (within-read told bytes r l, rw c.status_is (ending-of-trace (report_of c.system).quiet (report_of c.system).steps))
+asked-leads : (plan : Plan) (t : Trace) (a : Asked) (s : Status) → IsStatusOf (asked_on plan t a) s → IsOfPlay s
+asked-leads plan t (Ask.Play o) s h = of-play s h
+asked-leads plan t (Ask.Run n) s h = of-play s h
 
 -- what a trace decides is an answer to a trace
-pub trace-status : (told : Option (List ℕ)) (plan : Plan) (o : Showing) (bytes : List ℕ) (s : Status) (x : List ℕ) (p : Played) → IsRead told bytes → ComesBy (TraceDecides plan o bytes) s x p
-    → IsOfText told IsOfPlay s
-trace-status told plan o bytes s x p r h = trace-comes told plan o bytes h.0 s x p r h.1 h.2
+pub trace-status : (told : Option (List ℕ)) (plan : Plan) (a : Asked) (bytes : List ℕ) (d : Decision) (s : Status) → IsRead told bytes → TraceDecides plan a bytes d → IsStatusOf d s → IsOfText told IsOfPlay s
+trace-status told plan a bytes _ s r (long_trace l) h = inl (long-read told bytes r l, h)
+trace-status told plan a bytes _ s r (bad_trace k l b) h = inr (within-read told bytes r l, rw h tt)
+trace-status told plan a bytes _ s r (good_trace l g) h = inr (within-read told bytes r l, asked-leads plan _ a s h)
 
--- a play that was asked for leaves what a plan leaves
-pub play-leaves : (told : List ℕ → Option (List ℕ)) (words : List (List ℕ)) (desc trace : List ℕ) (options : Options) (old new : Option (List ℕ)) (s : Status)
-    → IsPlay words desc trace options → LeavesPlay told trace old new s → LeavesPlan told words old new s
+-- what was asked of a trace leaves what a plan leaves
+pub play-leaves : (told : List ℕ → Option (List ℕ)) (words : List (List ℕ)) (desc trace : List ℕ) (options : Asked) (old new : Option (List ℕ)) (s : Status)
+    → AsksFor words desc trace options → LeavesPlay told trace old new s → LeavesPlan told words old new s
 play-leaves told words desc trace options old new s p h = inr (desc, trace, options, p, h.0, h.1)
 
 -- what was read last, once a description within the limit was read
@@ -72,20 +67,19 @@ pub last-written : (told : List ℕ → Option (List ℕ)) (words : List (List �
 last-written told words old new s result h (inl e) = inl (subst (λ t. ReadLast told words old new t) (sym e) h)
 last-written told words old new s result h (inr e) = inr (subst (λ t. IsFault t) (sym e) no_writing)
 
--- what `gen` answers is an answer to a command that reads no text
-ending-unread : (quiet : Bool) (steps : ℕ) → IsUnread (ending_of quiet steps)
-ending-unread true steps = tt
-ending-unread false steps = tt
+-- what `gen` decides is an answer to a command that reads no text
+asked-unread : (plan : Plan) (t : Trace) (a : Asked) (s : Status) → IsStatusOf (asked_on plan t a) s → IsUnread s
+asked-unread plan t (Ask.Play o) s (inl e) = rw e tt
+asked-unread plan t (Ask.Play o) s (inr h) = rw h.1 tt
+asked-unread plan t (Ask.Run n) s (inl e) = rw e tt
+asked-unread plan t (Ask.Run n) s (inr h) = rw h.1 tt
 
-trace-unread : (plan : Plan) (o : Showing) (bytes : List ℕ) (d : Decision) (s : Status) (x : List ℕ) (p : Played) → TraceDecides plan o bytes d → Comes d s x p → IsUnread s
-trace-unread plan o bytes _ s x p (long_trace l) c = rw c.0 tt
-trace-unread plan o bytes _ s x p (bad_trace k l b) c = rw c.0 tt
-trace-unread plan o bytes _ s x p (good_trace l g) c = rw c.status_is (ending-unread (report_of c.system).quiet (report_of c.system).steps)
+trace-unread : (plan : Plan) (a : Asked) (bytes : List ℕ) (d : Decision) (s : Status) → TraceDecides plan a bytes d → IsStatusOf d s → IsUnread s
+trace-unread plan a bytes _ s (long_trace l) h = rw h tt
+trace-unread plan a bytes _ s (bad_trace k l b) h = rw h tt
+trace-unread plan a bytes _ s (good_trace l g) h = asked-unread plan _ a s h
 
-text-unread : (n : ℕ) (bytes : List ℕ) (d : Decision) (s : Status) (x : List ℕ) (p : Played) → TextDecides (GeneratedDecides n) bytes d → Comes d s x p → IsUnread s
-text-unread n bytes _ s x p (long_description l) c = rw c.0 tt
-text-unread n bytes _ s x p (refused r l h) c = rw c.0 tt
-text-unread n bytes _ s x p (accepted plan d l h t) c = trace-unread plan _ _ d s x p t c
-
-pub gen-unread : (n : ℕ) (bytes : List ℕ) (s : Status) (x : List ℕ) (p : Played) → ComesBy (TextDecides (GeneratedDecides n) bytes) s x p → IsUnread s
-gen-unread n bytes s x p h = text-unread n bytes h.0 s x p h.1 h.2
+pub gen-unread : (n : ℕ) (bytes : List ℕ) (d : Decision) (s : Status) → TextDecides (GeneratedDecides n) bytes d → IsStatusOf d s → IsUnread s
+gen-unread n bytes _ s (long_description l) h = rw h tt
+gen-unread n bytes _ s (refused r l i) h = rw h tt
+gen-unread n bytes _ s (accepted plan d l i t) h = trace-unread plan _ _ d s t h

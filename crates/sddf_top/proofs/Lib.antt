@@ -5,4 +5,6 @@ pub mod JudgedLemmas
 pub mod LastLemmas
 pub mod PlanLemmas
 pub mod ReadLemmas
+pub mod ServeLemmas
+pub mod SoundLemmas
 pub mod WordLemmas

@@ -9,13 +9,15 @@ use Rattle.expect_core.specs.Budgets.{budget_of}
 use Rattle.system_core.specs.declared.system.System.{System}
 use Rattle.system_core.specs.PlanPlays.{IsPlayed}
 use Rattle.system_core.specs.Reports.{report_of}
+use Rattle.system_run.specs.Ran.{IsRan}
+use Rattle.report_text.specs.Reports.{report_text}
 use Rattle.sddf_top.specs.declared.showing.Showing.{Showing}
 use Rattle.sddf_top.specs.declared.status.Status.{Status}
 use Rattle.sddf_top.specs.declared.status.Status.TheVariants as Ended
 use Rattle.sddf_top.specs.declared.played.Played.{Played}
 use Rattle.sddf_top.specs.declared.played.Played.TheVariants as Was
-use Rattle.sddf_top.specs.Decisions.{Decision, Say, Play, Decides}
-use Rattle.sddf_top.specs.Shown.{seed_of, limit_of, ending_of, shown_text}
+use Rattle.sddf_top.specs.Decisions.{Decision, Say, Play, Run, Decides}
+use Rattle.sddf_top.specs.Shown.{seed_of, limit_of, limit_or_budget, ending_of, shown_text}
 use Rattle.sddf_top.specs.Outside.{IsRead, appended, read_most}
 
 -- a trace was played on a plan: the system that was built and played, the status by whether it is
@@ -31,12 +33,27 @@ pub record Shows (plan : Plan) (trace : Trace) (showing : Showing) (status : Sta
   pub bounded : budget_of plan trace ≤ limit_of plan trace showing → status ≡ Ended.Ok
   pub text_is : text ≡ shown_text (layout_of plan) showing (report_of system) system.journal
 
+-- a trace was run on a plan, with a thread for each actor: the system that took over what the threads
+-- left and was played on, the status by whether it is quiet, and the text of its report. Where it
+-- isn't quiet all steps were made.
+pub record ShowsRun (plan : Plan) (trace : Trace) (steps : Option ℕ) (status : Status)
+    (text : List ℕ) (played : Played) : Type 0 where
+  pub system : System
+  pub played_is : played ≡ Was.Classes system
+  pub ran : IsRan plan trace (limit_or_budget plan trace steps) system
+  pub spent : (report_of system).quiet ≡ false
+      → length system.journal ≡ limit_or_budget plan trace steps
+  pub status_is : status ≡ ending_of (report_of system).quiet (report_of system).steps
+  pub bounded : budget_of plan trace ≤ limit_or_budget plan trace steps → status ≡ Ended.Ok
+  pub text_is : text ≡ report_text (report_of system)
+
 -- the answer that a decision leads to: its status, the whole text that is written, and the system
 -- that was played
 abbrev pub Comes : Decision → Status → List ℕ → Played → Type 0
 Comes (Say status' text') status text played =
     (status ≡ status') × (text ≡ text') × (played ≡ Was.Nothing)
 Comes (Play plan trace showing) status text played = Shows plan trace showing status text played
+Comes (Run plan trace steps) status text played = ShowsRun plan trace steps status text played
 
 -- an answer that comes by such a decision
 abbrev pub ComesBy : (Decision → Type 0) → Status → List ℕ → Played → Type 0
@@ -47,10 +64,12 @@ ComesBy decides status text played =
 abbrev pub Answers : (List ℕ → List ℕ → Type 0) → List (List ℕ) → Status → List ℕ → Played → Type 0
 Answers reads words status text played = ComesBy (Decides reads words) status text played
 
--- the status that a decision leads to: a play gets quiet or spends its steps
+-- the status that a decision leads to: a play or a run gets quiet or spends its steps
 abbrev pub IsStatusOf : Decision → Status → Type 0
 IsStatusOf (Say status' text') status = status ≡ status'
 IsStatusOf (Play plan trace showing) status =
+    (status ≡ Ended.Ok) ⊎ ((steps : ℕ) × (status ≡ Ended.Spent steps))
+IsStatusOf (Run plan trace limit) status =
     (status ≡ Ended.Ok) ⊎ ((steps : ℕ) × (status ≡ Ended.Spent steps))
 
 -- the bytes that were read of a text, where a shelf tells some texts

@@ -1,13 +1,13 @@
 -- How texts are read: in what pieces, which last, and how far.
 use Rattle.std.specs.Prelude.{◌≡◌, ◌≤◌, ◌<◌, ◌⊎◌, ℕ, Option, List, [], ◌++◌, length, take, drop, IfSome}
 use Rattle.std.specs.Option.{option_map}
-use Rattle.command_words.specs.declared.command.Options.{Options}
-use Rattle.command_words.specs.Words.{IsCheck, IsLayout, IsPlay, IsGen}
+use Rattle.command_words.specs.Words.{IsCheck, IsLayout, IsGen}
 use Rattle.sddf_top.specs.declared.status.Status.{Status}
 use Rattle.sddf_top.specs.declared.status.Status.TheVariants as Ended
 use Rattle.sdf_model.specs.Counts.{text_most}
 use Rattle.sddf_top.specs.Outside.{read_most}
-use Rattle.sddf_top.specs.Decisions.{NamesDescription}
+use Rattle.sddf_top.specs.declared.showing.Asked.{Asked}
+use Rattle.sddf_top.specs.Decisions.{NamesDescription, AsksFor}
 
 -- a piece of n bytes was read on: the next bytes of what was left, where it is told, and none only
 -- at its end
@@ -61,8 +61,7 @@ abbrev pub IsOfText : Option (List ℕ) → (Status → Type 0) → Status → T
 IsOfText told answers status =
     (IsLong told × (status ≡ Ended.TooLong)) ⊎ (IsWithinLimit told × answers status)
 
--- what is left on the shelf once the trace of a play was read and answered, or nothing more was
--- read than before
+-- what is left on the shelf once the trace of a play or a run was read and answered
 abbrev pub LeavesPlay : (List ℕ → Option (List ℕ)) → List ℕ → Option (List ℕ) → Option (List ℕ)
     → Status → Type 0
 LeavesPlay told trace old new status =
@@ -73,7 +72,7 @@ abbrev pub LeavesPlan : (List ℕ → Option (List ℕ)) → List (List ℕ) →
     → Option (List ℕ) → Status → Type 0
 LeavesPlan told words old new status =
     (IsOfPlan words status × (new ≡ old))
-    ⊎ ((desc : List ℕ) × (trace : List ℕ) × (options : Options) × IsPlay words desc trace options
+    ⊎ ((desc : List ℕ) × (trace : List ℕ) × (asked : Asked) × AsksFor words desc trace asked
     × Behind told trace new × IsOfText (told trace) IsOfPlay status)
 
 -- the same of these bytes of a description
@@ -97,7 +96,7 @@ IsUnread (Ended.Memory memory) = ⊥
 
 -- which text was read last, and how far, where this is the answer to the words: none for bad words
 -- and for `gen`;
--- the description where it is too long or refused, or the words ask for no play; else the trace. A
+-- the description where it is too long or refused, or the words name no trace; else the trace. A
 -- text that is too long is the one that was read last, and the trace is read where the description
 -- is within the limit.
 pub data ReadLast (told : List ℕ → Option (List ℕ)) (words : List (List ℕ))
@@ -107,6 +106,6 @@ pub data ReadLast (told : List ℕ → Option (List ℕ)) (words : List (List �
       → ReadLast told words old new status
   read_description : (desc : List ℕ) → NamesDescription words desc → Behind told desc new
       → IsOfText (told desc) (IsOfPlan words) status → ReadLast told words old new status
-  read_trace : (desc trace : List ℕ) (options : Options) → IsPlay words desc trace options
+  read_trace : (desc trace : List ℕ) (asked : Asked) → AsksFor words desc trace asked
       → IsWithinLimit (told desc) → Behind told trace new → IsOfText (told trace) IsOfPlay status
       → ReadLast told words old new status

@@ -1,5 +1,5 @@
--- What is shown of a play.
-use Rattle.std.specs.Prelude.{ℕ, Bool, true, false, List, ◌++◌, unwrap_or}
+-- What is shown of a play or a run.
+use Rattle.std.specs.Prelude.{ℕ, Option, Bool, true, false, List, ◌++◌, unwrap_or}
 use Rattle.sdf_plan.specs.declared.plan.Plan.{Plan}
 use Rattle.trace_text.specs.declared.trace.Trace.{Trace}
 use Rattle.wire_core.specs.declared.names.Entry.{Entry}
@@ -18,12 +18,16 @@ abbrev pub seed_of : Showing → ℕ
 seed_of (Show.Report options) = options.seed
 seed_of Show.Summary = 0
 
+-- a limit of steps, or as many as are enough
+abbrev pub limit_or_budget : Plan → Trace → Option ℕ → ℕ
+limit_or_budget plan trace steps = unwrap_or steps (budget_of plan trace)
+
 -- how many steps a play may make: those that the words say, or those that are enough
 abbrev pub limit_of : Plan → Trace → Showing → ℕ
-limit_of plan trace (Show.Report options) = unwrap_or options.steps (budget_of plan trace)
+limit_of plan trace (Show.Report options) = limit_or_budget plan trace options.steps
 limit_of plan trace Show.Summary = budget_of plan trace
 
--- how a play ended: quiet, or with so many steps
+-- how a play or a run ended: quiet, or with so many steps
 abbrev pub ending_of : Bool → ℕ → Status
 ending_of true steps = Ended.Ok
 ending_of false steps = Ended.Spent steps

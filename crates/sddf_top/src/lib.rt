@@ -2,6 +2,7 @@
 #![tactic(auto)]
 
 mod answering;
+mod deciding;
 mod fault_plan;
 mod faults;
 mod files;
@@ -18,6 +19,7 @@ mod sink;
 mod status;
 mod writing;
 
+pub use command_words::begins_run;
 pub use files::{FileShelf, OutSink};
 pub use judging::judge;
 pub use memory_shelf::{MemShelf, NamedText};
@@ -28,7 +30,7 @@ pub use reading::{READ_MOST, ReadStop, read_text};
 pub use sdf_model::TEXT_MOST;
 pub use serving::{serve, serve_alone};
 pub use shelf::{Failed, Shelf};
-pub use showing::Showing;
+pub use showing::{Asked, Showing};
 pub use sink::Sink;
 pub use status::Status;
 pub use system_core::System;

@@ -1,22 +1,38 @@
-//! A trace is played on a plan, and what the system shows is made the answer.
-ghost use Rattle.std.specs.Prelude.{◌≡◌, None, Err, IfOk, OnErr, string_bytes};
+//! A trace is played or run on a plan, and what the system shows is made the answer.
+ghost use Rattle.std.specs.Prelude.{◌≡◌, IfOk, string_bytes};
 ghost use Rattle.trace_text.specs.Traces.{IsReadFor};
 ghost use Rattle.sddf_top.specs.Judged.{IsAcceptedPlan};
-ghost use Rattle.sddf_top.specs.Decisions.{Play};
-ghost use Rattle.sddf_top.specs.Shown.{seed_of, limit_of, ending_of, told_text, shown_text};
+ghost use Rattle.sddf_top.specs.Decisions.{Play, Run};
+ghost use Rattle.sddf_top.specs.Shown.{seed_of, limit_of, limit_or_budget, ending_of, told_text, shown_text};
 ghost use Rattle.sddf_top.specs.Outcomes.{Follows};
 
 use crate::answering::Outcome;
-use crate::{Played, ReadStop, Showing, Status};
+use crate::{Played, Showing, Status};
 use cargo_core::Memory;
 use expect_core::{Report, budget};
+use pd_runner::Gate;
 use region_layout::{Layout, lay_out};
 use report_text::{write_journal, write_report, write_summary};
 use sdf_plan::Plan;
 use std::alloc::Global;
+use std::sync::Wait;
+use std::thread::Threads;
 use system_core::System;
+use system_run::ran;
 use trace_text::Trace;
 use wire_core::Entry;
+
+/// A limit of steps, or as many as are enough.
+fn limit_or_budget(plan: &Plan, trace: &Trace, steps: Option<u64>) -> u64
+    requires accepted { IsAcceptedPlan plan.now }
+    requires read { IsReadFor plan.now trace.now }
+    ensures { result ≡ limit_or_budget plan.now trace.now steps }
+{
+    match steps {
+        Some(steps) => steps,
+        None => budget(plan, trace),
+    }
+}
 
 /// How many steps a play may make: those that the words say, or those that are enough.
 fn limit_of(plan: &Plan, trace: &Trace, showing: Showing) -> u64
@@ -25,10 +41,7 @@ fn limit_of(plan: &Plan, trace: &Trace, showing: Showing) -> u64
     ensures { result ≡ limit_of plan.now trace.now showing }
 {
     match showing {
-        Showing::Report(options) => match options.steps {
-            Some(steps) => steps,
-            None => budget(plan, trace),
-        },
+        Showing::Report(options) => limit_or_budget(plan, trace, options.steps),
         Showing::Summary => budget(plan, trace),
     }
 }
@@ -43,7 +56,7 @@ fn seed_of(showing: Showing) -> u64
     }
 }
 
-/// How a play ended, by its report.
+/// How a play or a run ended, by its report.
 fn ending_of(report: &Report) -> Status
     ensures { result ≡ ending_of report.now.quiet report.now.steps }
 {
@@ -91,22 +104,42 @@ fn shown_text(
 }
 
 /// Plays a trace on a plan, and makes the answer of what the system shows.
-pub fn play(
-    alloc: Global,
-    plan: &Plan,
-    trace: &Trace,
-    showing: Showing,
-) -> Result<Outcome, ReadStop>
+pub fn play(alloc: Global, plan: &Plan, trace: &Trace, showing: Showing) -> Result<Outcome, Memory>
     requires accepted { IsAcceptedPlan plan.now }
     requires read { IsReadFor plan.now trace.now }
-    ensures answer { IfOk result (Follows (Play plan.now trace.now showing)) }
-    ensures unfailing { result ≡ Err ReadStop.Failed → ⊥ }
+    ensures { IfOk result (Follows (Play plan.now trace.now showing)) }
 {
     let layout = lay_out(alloc, plan)?;
     let limit = limit_of(plan, trace, showing);
     let (system, _) = System::played(alloc, plan, &layout, trace, seed_of(showing), limit)?;
     let report = system.report()?;
     let text = shown_text(alloc, &layout, showing, &report, system.journal())?;
+    Ok(Outcome {
+        status: ending_of(&report),
+        text,
+        played: Played::Classes(system),
+    })
+}
+
+/// Runs a trace on a plan with a thread for each actor, and makes the answer of what the system
+/// shows that took over what the threads left.
+pub fn run<R: Threads + Wait + Sync, G: Gate + Sync>(
+    rt: &R,
+    alloc: Global,
+    plan: &Plan,
+    trace: &Trace,
+    steps: Option<u64>,
+    gate: &G,
+) -> Result<Outcome, Memory>
+    requires accepted { IsAcceptedPlan plan.now }
+    requires read { IsReadFor plan.now trace.now }
+    ensures { IfOk result (Follows (Run plan.now trace.now steps)) }
+{
+    let layout = lay_out(alloc, plan)?;
+    let limit = limit_or_budget(plan, trace, steps);
+    let (system, _) = ran(rt, alloc, plan, &layout, trace, limit, gate)?;
+    let report = system.report()?;
+    let text = write_report(alloc, &report)?;
     Ok(Outcome {
         status: ending_of(&report),
         text,

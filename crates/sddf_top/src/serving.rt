@@ -1,14 +1,16 @@
 //! The program as one call: the answer is made whole, and then written.
 ghost use Rattle.std.specs.Prelude.{◌≡◌, ◌⊎◌, ◌<◌, ℕ, Option, List, string_bytes};
-ghost use Rattle.command_words.specs.Words.{texts_of};
+ghost use Rattle.command_words.specs.Words.{texts_of, BeginsRun};
 ghost use Rattle.sddf_top.specs.Outside.{Rose};
 ghost use Rattle.sddf_top.specs.Answers.{Answers, Serves, WasRead};
+ghost use Rattle.sddf_top.specs.Outcomes.{HasTold};
 ghost use Rattle.sddf_top.specs.Served.{IsServed};
 
-use crate::answering::{Outcome, answer_words};
+use crate::answering::{Outcome, answer_words, answer_words_alone};
 use crate::reading::ReadStop;
 use crate::writing::write_text;
 use crate::{Played, Shelf, Sink, Status};
+use command_words::begins_run;
 use pd_runner::Gate;
 use std::alloc::Global;
 use std::sync::Wait;
@@ -36,8 +38,20 @@ fn write_outcome<K: Sink>(sink: &mut K, outcome: Outcome, played: &mut Played) -
     }
 }
 
-/// Does what the words ask for, over a shelf of texts and a sink for the answer, and tells the
-/// system that was played.
+/// Writes an answer, where there is one, and answers the status.
+fn tell<K: Sink>(sink: &mut K, answer: Result<Outcome, ReadStop>, played: &mut Played) -> Status
+    ensures { HasTold K.written K.faults answer sink.old sink.new result played.new }
+{
+    *played = Played::Nothing;
+    match answer {
+        Ok(outcome) => write_outcome(sink, outcome, played),
+        Err(ReadStop::Failed) => Status::ReadFault,
+        Err(ReadStop::Memory(memory)) => Status::Memory(memory),
+    }
+}
+
+/// Does what the words ask for, where the first isn't `run`, over a shelf of texts and a sink for
+/// the answer, and tells the system that was played. It takes no runtime and waits for no thread.
 ///
 /// The words are judged first, then the description is read and judged, then the trace, and then
 /// the system is played; the first thing that goes wrong is the answer. `Memory` may come at any
@@ -49,20 +63,18 @@ pub fn serve_alone<F: Shelf, K: Sink>(
     sink: &mut K,
     played: &mut Played,
 ) -> Status
+    requires { BeginsRun (texts_of words.now) → ⊥ }
     ensures { IsServed F.text F.left F.faults K.written K.faults
         (texts_of words.now) shelf.old shelf.new
         sink.old sink.new result played.new }
 {
-    *played = Played::Nothing;
-    match answer_words(alloc, words, shelf) {
-        Ok(outcome) => write_outcome(sink, outcome, played),
-        Err(ReadStop::Failed) => Status::ReadFault,
-        Err(ReadStop::Memory(memory)) => Status::Memory(memory),
-    }
+    let answer = answer_words_alone(alloc, words, shelf);
+    tell(sink, answer, played)
 }
 
-/// What `serve_alone` does, with the runtime that threads take and the gate that holds them. No
-/// command starts a thread yet.
+/// Does what the words ask for, whichever they are: what `serve_alone` does, and for `run` the same
+/// with a thread for each actor. `rt` is the runtime that threads take, and the gate may hold an
+/// actor back before each of its steps in a thread.
 pub fn serve<R: Threads + Wait + Sync, F: Shelf, K: Sink, G: Gate + Sync>(
     rt: &R,
     alloc: Global,
@@ -76,5 +88,9 @@ pub fn serve<R: Threads + Wait + Sync, F: Shelf, K: Sink, G: Gate + Sync>(
         (texts_of words.now) shelf.old shelf.new
         sink.old sink.new result played.new }
 {
-    serve_alone(alloc, words, shelf, sink, played)
+    if !begins_run(words) {
+        return serve_alone(alloc, words, shelf, sink, played);
+    }
+    let answer = answer_words(rt, alloc, words, shelf, gate);
+    tell(sink, answer, played)
 }

@@ -1,4 +1,4 @@
-//! What is asked of a play: how its steps are picked and limited, and what is shown of it.
+//! What is asked of a trace on a description: how steps are picked and limited, and what is shown.
 use command_words::Options;
 
 /// What is asked of a play.
@@ -8,4 +8,14 @@ pub enum Showing {
     Report(Options),
     /// Seed 0, as many steps as are enough, and the summary of the report alone.
     Summary,
+}
+
+/// What is asked of a trace.
+#[derive(Clone, Copy, Debug, PartialEq, Eq)]
+pub enum Asked {
+    /// To play it.
+    Play(Showing),
+    /// To run it with a thread for each actor, with a limit of steps or as many as are enough, and
+    /// to show the report.
+    Run(Option<u64>),
 }

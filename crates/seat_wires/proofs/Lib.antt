@@ -1,4 +1,6 @@
 pub mod Seating
+pub mod Adding
+pub mod Timing
 pub mod Listing
 pub mod Going
 pub mod Popping

@@ -1,5 +1,5 @@
 -- The lists of the ends grow by what a call moves.
-use Rattle.std.proofs.Common.{◌≡◌, ◌≢◌, ◌⊎◌, inl, inr, ⊎_elim, ℕ, Bool, true, false, List, [], ◌∷◌, ◌++◌, refl, sym, ap, ◌∙◌, subst, append-nil, Option, Some, None, slice_get, slice_set, eqb, eq-eqb, ne_eqb}
+use Rattle.std.proofs.Common.{◌≡◌, ◌≢◌, ◌⊎◌, inl, inr, ⊎_elim, ℕ, Bool, true, false, List, [], ◌++◌, refl, sym, ap, ◌∙◌, subst, append-nil, Option, Some, slice_get, slice_set, eqb, eq-eqb, ne_eqb}
 use mathlib.Core.Logic.{dite}
 use native.Mathlib.Decide.{ℕ_discrete}
 use Rattle.wire_core.specs.declared.names.Op.{Op}
@@ -7,13 +7,13 @@ use Rattle.wire_core.specs.declared.names.Op.TheVariants as Do
 use Rattle.wire_core.specs.declared.names.Side.TheVariants.{Forward, Backward}
 use Rattle.wire_core.specs.declared.names.Answer.{Answer}
 use Rattle.wire_core.specs.Deeds.{Deed, Cargo, cargo_of}
-use Rattle.wire_core.specs.Lists.{Lists, if_there, if_taken, if_put, taken_by, put_by, with}
+use Rattle.wire_core.specs.Lists.{if_there, if_taken, if_put, taken_by, put_by, with}
 use Rattle.wire_core.specs.Ends.{Role, Consumer, Producer, role_of}
 use Rattle.spsc_queue.specs.declared.view.Half.{Half}
 use Rattle.spsc_queue.specs.Known.Ends.{EndIs}
 use Rattle.spsc_queue.specs.Steps.{EndDid}
 use Rattle.seat_wires.specs.Places.Are.{SeatsAre}
-use Rattle.seat_wires.specs.Places.{ends_of, with_ends, entries_or, seats_taken, seats_sent, SeatDid}
+use Rattle.seat_wires.specs.Places.{ends_of, entries_or, seats_taken, seats_sent, SeatDid}
 use Rattle.seat_wires.proofs.Seating.{ends_with, ends_stay, slice_get_written, slice_get_beside}
 
 -- what a call of this role adds to its end's list
@@ -24,8 +24,8 @@ added Producer o c = if_put o c
 grows : (n : ℕ) (h : Half) (o : Op) (a : Answer) (c : List Cargo) (h' : Half) → EndDid n h o a c h' → h'.entries ≡ h.entries ++ added (role_of o) o c
 grows n h Do.See a c h' d = ap (λ (z : Half). z.entries) d.0 ∙ sym (append-nil h.entries)
 grows n h Do.Room a c h' d = ap (λ (z : Half). z.entries) d.0 ∙ sym (append-nil h.entries)
-grows n h Do.Take a c h' d = ap (λ (z : Half). z.entries) d.3 ∙ ap (λ (z : List Cargo). h.entries ++ z) (sym d.1)
-grows n h Do.Put a c h' d = ap (λ (z : Half). z.entries) d.2 ∙ ap (λ (z : List Cargo). h.entries ++ z) (sym d.1)
+grows n h Do.Take a c h' d = ap (λ (z : Half). z.entries) d.4 ∙ ap (λ (z : List Cargo). h.entries ++ z) (sym d.2)
+grows n h Do.Put a c h' d = ap (λ (z : Half). z.entries) d.3 ∙ ap (λ (z : List Cargo). h.entries ++ z) (sym d.2)
 grows n h (Do.Ask Forward) a c h' d = ap (λ (z : Half). z.entries) d.0 ∙ sym (append-nil h.entries)
 grows n h (Do.Ask Backward) a c h' d = ap (λ (z : Half). z.entries) d.0 ∙ sym (append-nil h.entries)
 grows n h (Do.Waive Forward) a c h' d = ap (λ (z : Half). z.entries) d.0 ∙ sym (append-nil h.entries)

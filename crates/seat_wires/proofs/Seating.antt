@@ -1,5 +1,5 @@
 -- A call on one end, as the trait says it.
-use Rattle.std.proofs.Common.{◌≡◌, ◌≢◌, ◌⊎◌, inl, inr, ⊎_elim, ℕ, Bool, true, false, List, [], ◌∷◌, refl, sym, ap, ◌∙◌, subst, zero, suc, ◌<◌, length, get_or, arith, Option, Some, None, slice_get, slice_set, nat_eq, is_some}
+use Rattle.std.proofs.Common.{◌≡◌, ◌≢◌, ◌⊎◌, inl, inr, ⊎_elim, ℕ, Bool, true, false, List, [], ◌∷◌, refl, sym, ap, ◌∙◌, subst, zero, suc, get_or, Option, Some, slice_get, slice_set, nat_eq}
 use mathlib.Core.Logic.{dite}
 use native.Mathlib.Decide.{ℕ_discrete}
 use Rattle.cargo_core.specs.declared.item.QueueKind.{QueueKind}
@@ -7,7 +7,6 @@ use Rattle.wire_core.specs.declared.names.Op.{Op}
 use Rattle.wire_core.specs.declared.names.Op.TheVariants as Do
 use Rattle.wire_core.specs.declared.names.Side.TheVariants.{Forward, Backward}
 use Rattle.wire_core.specs.declared.names.Answer.{Answer}
-use Rattle.wire_core.specs.declared.names.Answer.TheVariants.{Done, Yes, No}
 use Rattle.wire_core.specs.declared.names.Side.{Side}
 use Rattle.wire_core.specs.declared.names.QueueId.{QueueId}
 use Rattle.wire_core.specs.Deeds.{Deed, Cargo, answer_of, cargo_of, plain_deed, look_deed}
@@ -15,9 +14,10 @@ use Rattle.wire_core.specs.Ends.{Role, Consumer, Producer, End, Moves, role_of, 
 use Rattle.spsc_queue.specs.declared.view.Half.{Half}
 use Rattle.spsc_queue.specs.Known.Ends.{EndIs}
 use Rattle.spsc_queue.specs.Rule.{Slot}
-use Rattle.spsc_queue.specs.Steps.{known_end, EndDid, Granted, after_look, empty_if, tells_entry, tells_room, see_told, room_told, after_wanted, after_wake}
+use Rattle.spsc_queue.specs.Steps.{known_end, EndDid, Granted, after_look, empty_if, tells_entry, tells_room, after_wanted}
 use Rattle.seat_wires.specs.Places.Are.{SeatsAre}
-use Rattle.seat_wires.specs.Places.{no_end, end_or, ends_of, seat_end, with_ends, SeatDid}
+use Rattle.seat_wires.specs.Places.{end_or, ends_of, seat_end, with_ends, SeatDid}
+use Rattle.seat_wires.specs.Times.{IsTimely}
 
 module _ {X : Type 0} where
   pub slice_get_written : (xs : List X) (i : ℕ) (x y : X) → slice_get xs i ≡ Some x → slice_get (slice_set xs i y) i ≡ Some y
@@ -53,8 +53,8 @@ wanted_end w r b h e = refl
 pub end_did : (n : ℕ) (h : Half) (o : Op) (a : Answer) (c : List Cargo) (h' : Half) → EndDid n h o a c h' → known_end h' ≡ end_after (known_end h) o a
 end_did n h Do.See a c h' d = ap known_end d.0 ∙ (see_end (tells_entry _ h'.last_value) h'.grant h h'.last_value h.kind d.3 ∙ ap (λ (z : Answer). end_after (known_end h) Do.See z) (sym d.1))
 end_did n h Do.Room a c h' d = ap known_end d.0 ∙ (room_end (tells_room n _ h'.last_value) h h'.last_value ∙ ap (λ (z : Answer). end_after (known_end h) Do.Room z) (sym d.1))
-end_did n h Do.Take a c h' d = ap known_end d.3
-end_did n h Do.Put a c h' d = ap known_end d.2
+end_did n h Do.Take a c h' d = ap known_end d.4
+end_did n h Do.Put a c h' d = ap known_end d.3
 end_did n h (Do.Ask s) a c h' d = ap known_end d.0
 end_did n h (Do.Waive s) a c h' d = ap known_end d.0
 end_did n h (Do.Wake Forward) a c h' d = ap known_end d.0 ∙ ap (λ (z : Answer). end_after (known_end h) (Do.Wake Forward) z) (sym d.1)
@@ -68,8 +68,8 @@ end_did n h (Do.Ring s) a c h' d = ap known_end d.0
 pub kind_stays : (n : ℕ) (h : Half) (o : Op) (a : Answer) (c : List Cargo) (h' : Half) → EndDid n h o a c h' → h'.kind ≡ h.kind
 kind_stays n h Do.See a c h' d = ap (λ (z : Half). z.kind) d.0
 kind_stays n h Do.Room a c h' d = ap (λ (z : Half). z.kind) d.0
-kind_stays n h Do.Take a c h' d = ap (λ (z : Half). z.kind) d.3
-kind_stays n h Do.Put a c h' d = ap (λ (z : Half). z.kind) d.2
+kind_stays n h Do.Take a c h' d = ap (λ (z : Half). z.kind) d.4
+kind_stays n h Do.Put a c h' d = ap (λ (z : Half). z.kind) d.3
 kind_stays n h (Do.Ask s) a c h' d = ap (λ (z : Half). z.kind) d.0
 kind_stays n h (Do.Waive s) a c h' d = ap (λ (z : Half). z.kind) d.0
 kind_stays n h (Do.Wake Forward) a c h' d = ap (λ (z : Half). z.kind) d.0
@@ -135,12 +135,13 @@ module _ (s : SeatsAre) (d : Deed) (t : SeatsAre) (h : SeatDid s d t) where
 
 -- a call on one end is a call on the seats
 pub seat_did : (s s' : SeatsAre) (d : Deed) (before after : EndIs) → s ≡ s' → slice_get (ends_of s (role_of d.event.op)) d.event.queue.0 ≡ Some (Some before) → after.ring ≡ before.ring → EndDid before.ring.slots before.knows d.event.op d.event.answer (cargo_of d) after.knows
-    → SeatDid s' d (with_ends s (role_of d.event.op) (slice_set (ends_of s (role_of d.event.op)) d.event.queue.0 (Some after)))
-seat_did s s' d before after same there ring did = subst (λ (z : SeatsAre). SeatDid z d (with_ends s (role_of d.event.op) (slice_set (ends_of s (role_of d.event.op)) d.event.queue.0 (Some after)))) same record {
+    → (d.event.op ≡ Do.Put → IsTimely s before.knows after.knows) → SeatDid s' d (with_ends s (role_of d.event.op) (slice_set (ends_of s (role_of d.event.op)) d.event.queue.0 (Some after)))
+seat_did s s' d before after same there ring did timely = subst (λ (z : SeatsAre). SeatDid z d (with_ends s (role_of d.event.op) (slice_set (ends_of s (role_of d.event.op)) d.event.queue.0 (Some after)))) same record {
   before = before;
   knows = after.knows;
   there = there;
   step = did;
+  timely = timely;
   after_is = ap (λ (z : EndIs). with_ends s (role_of d.event.op) (slice_set (ends_of s (role_of d.event.op)) d.event.queue.0 (Some z))) (let e : after ≡ record { ring = before.ring; knows = after.knows } = ap (λ z. record { ring = z; knows = after.knows }) ring in e);
 }
 

@@ -1,5 +1,5 @@
 -- How the ends of one actor lie in the fields of `Seats`.
-use Rattle.std.specs.Prelude.{ℕ, ◌≤◌, length}
+use Rattle.std.specs.Prelude.{◌≤◌, length}
 use Rattle.seat_wires.specs.Places.Are.{SeatsAre}
 use Rattle.seat_wires.specs.Places.{EndsOn}
 use Rattle.seat_wires.specs.declared.seats.Seats.TheInside.{Inside}

@@ -19,6 +19,7 @@ use Rattle.spsc_queue.specs.Known.Ends.{EndIs, RingIs}
 use Rattle.spsc_queue.specs.Rule.{Slot}
 use Rattle.spsc_queue.specs.Steps.{known_end, EndDid}
 use Rattle.seat_wires.specs.Places.Are.{SeatsAre}
+use Rattle.seat_wires.specs.Times.{IsTimely}
 
 -- stands for an end that is another's
 abbrev pub no_end : End
@@ -68,6 +69,7 @@ pub record SeatDid (old : SeatsAre) (d : Deed) (new : SeatsAre) : Type 0 where
   pub knows : Half
   pub there : slice_get (ends_of old (role_of d.event.op)) d.event.queue.0 ≡ Some (Some before)
   pub step : EndDid before.ring.slots before.knows d.event.op d.event.answer (cargo_of d) knows
+  pub timely : d.event.op ≡ Do.Put → IsTimely old before.knows knows
   pub after_is : new ≡ with_ends old (role_of d.event.op)
       (slice_set (ends_of old (role_of d.event.op)) d.event.queue.0
       (Some (record { ring = before.ring; knows = knows })))

@@ -4,6 +4,7 @@
 
 mod laws;
 mod places;
+mod putting;
 mod seats;
 
 pub use laws::seats_law;

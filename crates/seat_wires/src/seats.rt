@@ -5,15 +5,18 @@ ghost use Rattle.spsc_queue.specs.Known.Ends.{RingIs};
 ghost use Rattle.seat_wires.specs.Places.{seat_end, SeatDid, stands_at, EndsOn, SameEnds, SetsEnd};
 
 use crate::places::{last_end, reach};
+use crate::putting::put_at;
 use cargo_core::{Body, Item};
 use spsc_queue::{Consumer, Producer, Ring};
 use std::alloc::Global;
-use std::marker::Model;
+use std::marker::{Brand, Model};
+use std::snapshot::Snapshot;
 use wire_core::{Op, QueueId, Side, Wires};
 
 /// The ends of one actor over shared rings. The ends of the queue at a place, where they are its
 /// own, stand at that place, as the ring does. The ten calls are those of the ends, so each takes
-/// constant time and no memory, and waits for nobody.
+/// constant time and no memory, and waits for nobody. Each entry is put at a time after all that
+/// passed at these ends before, so what was done on all rings stands in one order.
 #[derive(Drop)]
 pub struct Seats<'a> {
     rings: &'a [Ring],
@@ -187,12 +190,13 @@ impl<'a> Wires for Seats<'a> {
     }
 
     fn put(&mut self, q: QueueId, item: Item, body: Body) {
+        let known = Snapshot::of(self);
         let place = q.0 as usize;
         let ring = &self.rings[place];
         let Some(end) = &mut self.producers[place] else {
             unreachable!()
         };
-        end.put(ring, item, body);
+        put_at::<Brand>(end, ring, item, body, known);
     }
 
     fn ask(&mut self, q: QueueId, side: Side) {

@@ -61,6 +61,7 @@ pub record Closing (kind : QueueKind) (n : ℕ) (p c : Half) (words : List ℕ) 
   pub consumer_kind : c.kind ≡ kind
   pub kinds : All (λ x. kind_of x.0 ≡ kind) p.entries
   pub sent : p.entries ≡ c.entries ++ left
+  pub times : (later : List ℕ) × (p.times ≡ c.times ++ later) × (length later ≡ length left)
   pub bells : (flag pending flag_back pending_back : ℕ) → get_elem? words 2 ≡ some flag → get_elem? words 3 ≡ some pending → get_elem? words 4 ≡ some flag_back → get_elem? words 5 ≡ some pending_back
       → BellHolds (forward_bell (nat_eq flag 1) (nat_eq pending 1) p c) (nat_lt 0 (length left)) (length p.entries) × BellHolds (backward_bell (nat_eq flag_back 1) (nat_eq pending_back 1) p c) (nat_lt (length left) n) (length c.entries)
 
@@ -76,6 +77,7 @@ ends_close kind n words homes xs p c e pg cg lie = let is : e.lists.left ≡ ent
       consumer_kind = e.lists.consumer_kind;
       kinds = e.lists.kinds;
       sent = e.lists.sent;
+      times = (e.lists.later, e.lists.times, e.lists.timed);
       bells = λ f q fb qb i2 i3 i4 i5. (
         subst (λ (z : Bool × Bool). BellHolds (forward_bell z.0 z.1 p c) (nat_lt 0 (length e.lists.left)) (length p.entries)) (λ k. (word_bit _ 2 e.shared.flag f words e.shared.words_are refl i2 k, word_bit _ 3 e.shared.pending q words e.shared.words_are refl i3 k)) e.shared.forward,
         subst (λ (z : Bool × Bool). BellHolds (backward_bell z.0 z.1 p c) (nat_lt (length e.lists.left) n) (length c.entries)) (λ k. (word_bit _ 4 e.shared.flag_back fb words e.shared.words_are refl i4 k, word_bit _ 5 e.shared.pending_back qb words e.shared.words_are refl i5 k)) e.shared.backward,

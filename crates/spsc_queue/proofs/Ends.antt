@@ -42,6 +42,10 @@ pub All-at : (P : Cargo → Type 0) (xs : List Cargo) (y : Cargo) (ys : List Car
 All-at P [] y ys h = h 0 y (omega arith)
 All-at P (x ∷ xs) y ys h = All-at P xs y ys (λ k d lt. h (suc k) d (omega arith))
 
+some_first : (ts : List ℕ) → 0 < length ts → (time : ℕ) × (times : List ℕ) × (ts ≡ time ∷ times)
+some_first [] lt = absurd (omega arith)
+some_first (t ∷ ts) lt = (t, ts, refl)
+
 pub some_is : (x y : Cargo) → Some x ≡ Some y → x ≡ y
 some_is x y e = cc
 
@@ -68,6 +72,9 @@ module _ (kind : QueueKind) (n : ℕ) (ws : List ℕ) (hs : List (maybe.Option S
       few = e.lists.few;
       divides = e.lists.divides;
       sent = e.lists.sent;
+      later = e.lists.later;
+      times = e.lists.times;
+      timed = e.lists.timed;
       kinds = e.lists.kinds;
       producer_kind = e.lists.producer_kind;
       consumer_kind = e.lists.consumer_kind;
@@ -106,9 +113,9 @@ module _ (kind : QueueKind) (n : ℕ) (ws : List ℕ) (hs : List (maybe.Option S
   room_goes e false r (Some y) calm is gr = let room : length e.lists.left < n = (e.lists.slots.to_producer y gr).1 in absurd (let z : false ≡ true = is ∙ lt-ltb (length e.lists.left) n room in cc)
 
   -- a store to the tail, with the producer's slot filled
-  pub put_ends : (e : EndsHold kind n ws hs p c) (x : Cargo) (new i : ℕ) → kind_of x.0 ≡ kind → is_clear p.waiter ≡ false → is_free_or_put p.ringer ≡ true → p.grant ≡ Some None → new ≡ wrap (length p.entries + 1) → i ≡ length p.entries % n
-      → EndsHold kind n (set ws 1 new) (set hs i (some (Some x))) (sent_one x p) c
-  put_ends e x new i fits calm may gr is at = let more : length (p.entries ++ x ∷ []) ≡ length p.entries + 1 = length-append p.entries (x ∷ []) in
+  pub put_ends : (e : EndsHold kind n ws hs p c) (x : Cargo) (time new i : ℕ) → kind_of x.0 ≡ kind → is_clear p.waiter ≡ false → is_free_or_put p.ringer ≡ true → p.grant ≡ Some None → new ≡ wrap (length p.entries + 1) → i ≡ length p.entries % n
+      → EndsHold kind n (set ws 1 new) (set hs i (some (Some x))) (sent_one x time p) c
+  put_ends e x time new i fits calm may gr is at = let more : length (p.entries ++ x ∷ []) ≡ length p.entries + 1 = length-append p.entries (x ∷ []) in
       let slots = subst (λ (z : Option Slot). SlotsHold n hs (length c.entries) e.lists.left z c.grant) gr e.lists.slots in record {
         lists = record {
           left = e.lists.left ++ x ∷ [];
@@ -116,6 +123,9 @@ module _ (kind : QueueKind) (n : ℕ) (ws : List ℕ) (hs : List (maybe.Option S
           few = e.lists.few;
           divides = e.lists.divides;
           sent = ap (λ (z : List Cargo). z ++ x ∷ []) e.lists.sent ∙ append_assoc c.entries e.lists.left (x ∷ []);
+          later = e.lists.later ++ time ∷ [];
+          times = ap (λ (z : List ℕ). z ++ time ∷ []) e.lists.times ∙ append_assoc c.times e.lists.later (time ∷ []);
+          timed = omega (arith, length-append e.lists.later (time ∷ []), length-append e.lists.left (x ∷ []), e.lists.timed);
           kinds = All-append (λ (z : Cargo). kind_of z.0 ≡ kind) p.entries (x ∷ []) e.lists.kinds (All-one (λ (z : Cargo). kind_of z.0 ≡ kind) x fits);
           producer_kind = e.lists.producer_kind;
           consumer_kind = e.lists.consumer_kind;
@@ -147,6 +157,9 @@ module _ (kind : QueueKind) (n : ℕ) (ws : List ℕ) (hs : List (maybe.Option S
       few = e.lists.few;
       divides = e.lists.divides;
       sent = e.lists.sent;
+      later = e.lists.later;
+      times = e.lists.times;
+      timed = e.lists.timed;
       kinds = e.lists.kinds;
       producer_kind = e.lists.producer_kind;
       consumer_kind = e.lists.consumer_kind;
@@ -208,10 +221,14 @@ module _ (kind : QueueKind) (n : ℕ) (ws : List ℕ) (hs : List (maybe.Option S
   see_step e calm = let t : ℕ = length c.entries in let k : ℕ = length e.lists.left in let within : k ≤ n = e.lists.slots.within in let few : n ≤ 32768 = e.lists.few in
       see_goes e (tells_entry t (wrap (length p.entries))) (wrap (length p.entries)) c.grant e.lists.left calm (ap (λ (z : ℕ). tells_entry t (wrap z)) (counts e) ∙ entry_tells t k (omega arith)) refl refl
 
-  -- a store to the head, with the consumer's slot empty
-  pub take_ends : (e : EndsHold kind n ws hs p c) (x : Cargo) (new i : ℕ) → is_clear c.waiter ≡ false → is_free_or_put c.ringer ≡ true → c.grant ≡ Some (Some x) → new ≡ wrap (length c.entries + 1) → i ≡ length c.entries % n
-      → EndsHold kind n (set ws 0 new) (set hs i (some None)) p (took_one x c)
-  take_ends e x new i calm may gr is at = let t : ℕ = length c.entries in let more : length (c.entries ++ x ∷ []) ≡ t + 1 = length-append c.entries (x ∷ []) in let o = e.lists.slots.to_consumer (Some x) gr in let same : x ≡ o.0 = some_is x o.0 o.1 in
+  -- the first entry has its time
+  pub first_time : (e : EndsHold kind n ws hs p c) (x : Cargo) → c.grant ≡ Some (Some x) → (time : ℕ) × (times : List ℕ) × (e.lists.later ≡ time ∷ times)
+  first_time e x gr = let o = e.lists.slots.to_consumer (Some x) gr in some_first e.lists.later (omega (arith, ap length o.2, e.lists.timed))
+
+  -- a store to the head, with the consumer's slot empty, and the time of what was taken
+  pub take_ends : (e : EndsHold kind n ws hs p c) (x : Cargo) (time new i : ℕ) (times : List ℕ) → e.lists.later ≡ time ∷ times → is_clear c.waiter ≡ false → is_free_or_put c.ringer ≡ true → c.grant ≡ Some (Some x) → new ≡ wrap (length c.entries + 1) → i ≡ length c.entries % n
+      → EndsHold kind n (set ws 0 new) (set hs i (some None)) p (took_one x time c)
+  take_ends e x time new i times later calm may gr is at = let t : ℕ = length c.entries in let more : length (c.entries ++ x ∷ []) ≡ t + 1 = length-append c.entries (x ∷ []) in let o = e.lists.slots.to_consumer (Some x) gr in let same : x ≡ o.0 = some_is x o.0 o.1 in
       let l : e.lists.left ≡ x ∷ drop 1 e.lists.left = o.2 ∙ ap (λ (z : Cargo). z ∷ drop 1 e.lists.left) (sym same) in let xs : List Cargo = drop 1 e.lists.left in
       let slots = subst (λ (z : Option Slot × List Cargo). SlotsHold n hs t z.1 p.grant z.0) (λ k. (gr k, l k)) e.lists.slots in record {
         lists = record {
@@ -220,6 +237,9 @@ module _ (kind : QueueKind) (n : ℕ) (ws : List ℕ) (hs : List (maybe.Option S
           few = e.lists.few;
           divides = e.lists.divides;
           sent = e.lists.sent ∙ (ap (λ (z : List Cargo). c.entries ++ z) l ∙ sym (append_assoc c.entries (x ∷ []) xs));
+          later = times;
+          times = e.lists.times ∙ (ap (λ (z : List ℕ). c.times ++ z) later ∙ sym (append_assoc c.times (time ∷ []) times));
+          timed = omega (arith, ap length l, ap length later, e.lists.timed);
           kinds = e.lists.kinds;
           producer_kind = e.lists.producer_kind;
           consumer_kind = e.lists.consumer_kind;
@@ -237,16 +257,19 @@ module _ (kind : QueueKind) (n : ℕ) (ws : List ℕ) (hs : List (maybe.Option S
       }
 
   -- new words and bells, with the same entries, slots and kinds
-  pub rebell : (e : EndsHold kind n ws hs p c) (p' c' : Half) (ws' : List ℕ) (flag pending flag_back pending_back : Bool) → p'.entries ≡ p.entries → p'.kind ≡ p.kind → p'.grant ≡ p.grant → c'.entries ≡ c.entries → c'.kind ≡ c.kind → c'.grant ≡ c.grant
+  pub rebell : (e : EndsHold kind n ws hs p c) (p' c' : Half) (ws' : List ℕ) (flag pending flag_back pending_back : Bool) → p'.entries ≡ p.entries → p'.times ≡ p.times → p'.kind ≡ p.kind → p'.grant ≡ p.grant → c'.entries ≡ c.entries → c'.times ≡ c.times → c'.kind ≡ c.kind → c'.grant ≡ c.grant
       → ws' ≡ wrap (length c.entries) ∷ wrap (length p.entries) ∷ bit flag ∷ bit pending ∷ bit flag_back ∷ bit pending_back ∷ []
       → BellHolds (forward_bell flag pending p' c') (nat_lt 0 (length e.lists.left)) (length p.entries) → BellHolds (backward_bell flag_back pending_back p' c') (nat_lt (length e.lists.left) n) (length c.entries) → EndsHold kind n ws' hs p' c'
-  rebell e p' c' ws' flag pending flag_back pending_back pe pk pg ce ck cg w f b = record {
+  rebell e p' c' ws' flag pending flag_back pending_back pe pt pk pg ce ct ck cg w f b = record {
     lists = record {
       left = e.lists.left;
       some_place = e.lists.some_place;
       few = e.lists.few;
       divides = e.lists.divides;
       sent = pe ∙ (e.lists.sent ∙ ap (λ (z : List Cargo). z ++ e.lists.left) (sym ce));
+      later = e.lists.later;
+      times = pt ∙ (e.lists.times ∙ ap (λ (z : List ℕ). z ++ e.lists.later) (sym ct));
+      timed = e.lists.timed;
       kinds = subst (All (λ (z : Cargo). kind_of z.0 ≡ kind)) (sym pe) e.lists.kinds;
       producer_kind = pk ∙ e.lists.producer_kind;
       consumer_kind = ck ∙ e.lists.consumer_kind;
@@ -265,17 +288,17 @@ module _ (kind : QueueKind) (n : ℕ) (ws : List ℕ) (hs : List (maybe.Option S
 
   -- the forward bell's calls
   pub ask_ends : (e : EndsHold kind n ws hs p c) → EndsHold kind n (set ws 2 0) hs p (asked 0 c)
-  ask_ends e = rebell e p (asked 0 c) (set ws 2 0) false e.shared.pending e.shared.flag_back e.shared.pending_back refl refl refl refl refl refl (ap (λ (z : List ℕ). set z 2 0) e.shared.words_are)
+  ask_ends e = rebell e p (asked 0 c) (set ws 2 0) false e.shared.pending e.shared.flag_back e.shared.pending_back refl refl refl refl refl refl refl refl (ap (λ (z : List ℕ). set z 2 0) e.shared.words_are)
       (ask_holds (bell e.shared.flag e.shared.pending c.waiter p.ringer) (nat_lt 0 (length e.lists.left)) (length p.entries) e.shared.forward) e.shared.backward
 
   pub waive_ends : (e : EndsHold kind n ws hs p c) → EndsHold kind n (set ws 2 1) hs p (waived 1 c)
-  waive_ends e = rebell e p (waived 1 c) (set ws 2 1) true e.shared.pending e.shared.flag_back e.shared.pending_back refl refl refl refl refl refl (ap (λ (z : List ℕ). set z 2 1) e.shared.words_are)
+  waive_ends e = rebell e p (waived 1 c) (set ws 2 1) true e.shared.pending e.shared.flag_back e.shared.pending_back refl refl refl refl refl refl refl refl (ap (λ (z : List ℕ). set z 2 1) e.shared.words_are)
       (waive_holds (bell e.shared.flag e.shared.pending c.waiter p.ringer) (nat_lt 0 (length e.lists.left)) (length p.entries) e.shared.forward) e.shared.backward
 
   wake_goes : (e : EndsHold kind n ws hs p c) (b : Bool) → e.shared.pending ≡ b → EndsHold kind n (set ws 3 0) hs p (after_wake 3 (bit b) c)
-  wake_goes e true is = rebell e p (after_wake 3 1 c) (set ws 3 0) e.shared.flag false e.shared.flag_back e.shared.pending_back refl refl refl refl refl refl (ap (λ (z : List ℕ). set z 3 0) e.shared.words_are)
+  wake_goes e true is = rebell e p (after_wake 3 1 c) (set ws 3 0) e.shared.flag false e.shared.flag_back e.shared.pending_back refl refl refl refl refl refl refl refl (ap (λ (z : List ℕ). set z 3 0) e.shared.words_are)
       (wake_holds (bell e.shared.flag e.shared.pending c.waiter p.ringer) (nat_lt 0 (length e.lists.left)) (length p.entries) true is e.shared.forward) e.shared.backward
-  wake_goes e false is = rebell e p (after_wake 3 0 c) (set ws 3 0) e.shared.flag false e.shared.flag_back e.shared.pending_back refl refl refl refl refl refl (ap (λ (z : List ℕ). set z 3 0) e.shared.words_are)
+  wake_goes e false is = rebell e p (after_wake 3 0 c) (set ws 3 0) e.shared.flag false e.shared.flag_back e.shared.pending_back refl refl refl refl refl refl refl refl (ap (λ (z : List ℕ). set z 3 0) e.shared.words_are)
       (subst (λ (z : Bool). BellHolds (forward_bell e.shared.flag z p c) (nat_lt 0 (length e.lists.left)) (length p.entries)) is e.shared.forward) e.shared.backward
 
   pub wake_ends : (e : EndsHold kind n ws hs p c) → EndsHold kind n (set ws 3 0) hs p (after_wake 3 (slice_index ws 3) c)
@@ -286,67 +309,70 @@ module _ (kind : QueueKind) (n : ℕ) (ws : List ℕ) (hs : List (maybe.Option S
   same_words e = ap (λ (z : List ℕ). set z 2 (slice_index z 2)) e.shared.words_are ∙ sym e.shared.words_are
 
   wanted_goes : (e : EndsHold kind n ws hs p c) (b : Bool) → p.ringer ≡ Rung.Put → e.shared.flag ≡ b → EndsHold kind n ws hs (after_wanted 2 (bit b) p) c
-  wanted_goes e true put is = rebell e (after_wanted 2 1 p) c ws e.shared.flag e.shared.pending e.shared.flag_back e.shared.pending_back refl refl refl refl refl refl e.shared.words_are
+  wanted_goes e true put is = rebell e (after_wanted 2 1 p) c ws e.shared.flag e.shared.pending e.shared.flag_back e.shared.pending_back refl refl refl refl refl refl refl refl e.shared.words_are
       (wanted_holds (bell e.shared.flag e.shared.pending c.waiter p.ringer) (nat_lt 0 (length e.lists.left)) (length p.entries) true is put e.shared.forward) e.shared.backward
-  wanted_goes e false put is = rebell e (after_wanted 2 0 p) c ws e.shared.flag e.shared.pending e.shared.flag_back e.shared.pending_back refl refl refl refl refl refl e.shared.words_are
+  wanted_goes e false put is = rebell e (after_wanted 2 0 p) c ws e.shared.flag e.shared.pending e.shared.flag_back e.shared.pending_back refl refl refl refl refl refl refl refl e.shared.words_are
       (wanted_holds (bell e.shared.flag e.shared.pending c.waiter p.ringer) (nat_lt 0 (length e.lists.left)) (length p.entries) false is put e.shared.forward) e.shared.backward
 
   pub wanted_ends : (e : EndsHold kind n ws hs p c) → p.ringer ≡ Rung.Put → EndsHold kind n (set ws 2 (slice_index ws 2)) hs (after_wanted 2 (slice_index ws 2) p) c
   wanted_ends e put = subst (λ (z : ℕ × List ℕ). EndsHold kind n z.1 hs (after_wanted 2 z.0 p) c) (λ k. (ap (λ (z : List ℕ). slice_index z 2) (sym e.shared.words_are) k, sym (same_words e) k)) (wanted_goes e e.shared.flag put refl)
 
   pub settle_ends : (e : EndsHold kind n ws hs p c) → p.ringer ≡ Rung.Hot → EndsHold kind n (set ws 2 1) hs (after_settle 1 p) c
-  settle_ends e hot = rebell e (after_settle 1 p) c (set ws 2 1) true e.shared.pending e.shared.flag_back e.shared.pending_back refl refl refl refl refl refl (ap (λ (z : List ℕ). set z 2 1) e.shared.words_are)
+  settle_ends e hot = rebell e (after_settle 1 p) c (set ws 2 1) true e.shared.pending e.shared.flag_back e.shared.pending_back refl refl refl refl refl refl refl refl (ap (λ (z : List ℕ). set z 2 1) e.shared.words_are)
       (settle_holds (bell e.shared.flag e.shared.pending c.waiter p.ringer) (nat_lt 0 (length e.lists.left)) (length p.entries) hot e.shared.forward) e.shared.backward
 
   pub ring_ends : (e : EndsHold kind n ws hs p c) → p.ringer ≡ Rung.Ringing → EndsHold kind n (set ws 3 1) hs (after_ring 1 p) c
-  ring_ends e on = rebell e (after_ring 1 p) c (set ws 3 1) e.shared.flag true e.shared.flag_back e.shared.pending_back refl refl refl refl refl refl (ap (λ (z : List ℕ). set z 3 1) e.shared.words_are)
+  ring_ends e on = rebell e (after_ring 1 p) c (set ws 3 1) e.shared.flag true e.shared.flag_back e.shared.pending_back refl refl refl refl refl refl refl refl (ap (λ (z : List ℕ). set z 3 1) e.shared.words_are)
       (ring_holds (bell e.shared.flag e.shared.pending c.waiter p.ringer) (nat_lt 0 (length e.lists.left)) (length p.entries) on e.shared.forward) e.shared.backward
 
   -- the backward bell's calls
   pub ask_back_ends : (e : EndsHold kind n ws hs p c) → EndsHold kind n (set ws 4 0) hs (asked 0 p) c
-  ask_back_ends e = rebell e (asked 0 p) c (set ws 4 0) e.shared.flag e.shared.pending false e.shared.pending_back refl refl refl refl refl refl (ap (λ (z : List ℕ). set z 4 0) e.shared.words_are) e.shared.forward
+  ask_back_ends e = rebell e (asked 0 p) c (set ws 4 0) e.shared.flag e.shared.pending false e.shared.pending_back refl refl refl refl refl refl refl refl (ap (λ (z : List ℕ). set z 4 0) e.shared.words_are) e.shared.forward
       (ask_holds (bell e.shared.flag_back e.shared.pending_back p.waiter c.ringer) (nat_lt (length e.lists.left) n) (length c.entries) e.shared.backward)
 
   pub waive_back_ends : (e : EndsHold kind n ws hs p c) → EndsHold kind n (set ws 4 1) hs (waived 1 p) c
-  waive_back_ends e = rebell e (waived 1 p) c (set ws 4 1) e.shared.flag e.shared.pending true e.shared.pending_back refl refl refl refl refl refl (ap (λ (z : List ℕ). set z 4 1) e.shared.words_are) e.shared.forward
+  waive_back_ends e = rebell e (waived 1 p) c (set ws 4 1) e.shared.flag e.shared.pending true e.shared.pending_back refl refl refl refl refl refl refl refl (ap (λ (z : List ℕ). set z 4 1) e.shared.words_are) e.shared.forward
       (waive_holds (bell e.shared.flag_back e.shared.pending_back p.waiter c.ringer) (nat_lt (length e.lists.left) n) (length c.entries) e.shared.backward)
 
   wake_back_goes : (e : EndsHold kind n ws hs p c) (b : Bool) → e.shared.pending_back ≡ b → EndsHold kind n (set ws 5 0) hs (after_wake 5 (bit b) p) c
-  wake_back_goes e true is = rebell e (after_wake 5 1 p) c (set ws 5 0) e.shared.flag e.shared.pending e.shared.flag_back false refl refl refl refl refl refl (ap (λ (z : List ℕ). set z 5 0) e.shared.words_are) e.shared.forward
+  wake_back_goes e true is = rebell e (after_wake 5 1 p) c (set ws 5 0) e.shared.flag e.shared.pending e.shared.flag_back false refl refl refl refl refl refl refl refl (ap (λ (z : List ℕ). set z 5 0) e.shared.words_are) e.shared.forward
       (wake_holds (bell e.shared.flag_back e.shared.pending_back p.waiter c.ringer) (nat_lt (length e.lists.left) n) (length c.entries) true is e.shared.backward)
-  wake_back_goes e false is = rebell e (after_wake 5 0 p) c (set ws 5 0) e.shared.flag e.shared.pending e.shared.flag_back false refl refl refl refl refl refl (ap (λ (z : List ℕ). set z 5 0) e.shared.words_are) e.shared.forward
+  wake_back_goes e false is = rebell e (after_wake 5 0 p) c (set ws 5 0) e.shared.flag e.shared.pending e.shared.flag_back false refl refl refl refl refl refl refl refl (ap (λ (z : List ℕ). set z 5 0) e.shared.words_are) e.shared.forward
       (subst (λ (z : Bool). BellHolds (backward_bell e.shared.flag_back z p c) (nat_lt (length e.lists.left) n) (length c.entries)) is e.shared.backward)
 
   pub wake_back_ends : (e : EndsHold kind n ws hs p c) → EndsHold kind n (set ws 5 0) hs (after_wake 5 (slice_index ws 5) p) c
   wake_back_ends e = subst (λ (z : ℕ). EndsHold kind n (set ws 5 0) hs (after_wake 5 z p) c) (ap (λ (z : List ℕ). slice_index z 5) (sym e.shared.words_are)) (wake_back_goes e e.shared.pending_back refl)
 
   wanted_back_goes : (e : EndsHold kind n ws hs p c) (b : Bool) → c.ringer ≡ Rung.Put → e.shared.flag_back ≡ b → EndsHold kind n ws hs p (after_wanted 4 (bit b) c)
-  wanted_back_goes e true put is = rebell e p (after_wanted 4 1 c) ws e.shared.flag e.shared.pending e.shared.flag_back e.shared.pending_back refl refl refl refl refl refl e.shared.words_are e.shared.forward
+  wanted_back_goes e true put is = rebell e p (after_wanted 4 1 c) ws e.shared.flag e.shared.pending e.shared.flag_back e.shared.pending_back refl refl refl refl refl refl refl refl e.shared.words_are e.shared.forward
       (wanted_holds (bell e.shared.flag_back e.shared.pending_back p.waiter c.ringer) (nat_lt (length e.lists.left) n) (length c.entries) true is put e.shared.backward)
-  wanted_back_goes e false put is = rebell e p (after_wanted 4 0 c) ws e.shared.flag e.shared.pending e.shared.flag_back e.shared.pending_back refl refl refl refl refl refl e.shared.words_are e.shared.forward
+  wanted_back_goes e false put is = rebell e p (after_wanted 4 0 c) ws e.shared.flag e.shared.pending e.shared.flag_back e.shared.pending_back refl refl refl refl refl refl refl refl e.shared.words_are e.shared.forward
       (wanted_holds (bell e.shared.flag_back e.shared.pending_back p.waiter c.ringer) (nat_lt (length e.lists.left) n) (length c.entries) false is put e.shared.backward)
 
   pub wanted_back_ends : (e : EndsHold kind n ws hs p c) → c.ringer ≡ Rung.Put → EndsHold kind n (set ws 4 (slice_index ws 4)) hs p (after_wanted 4 (slice_index ws 4) c)
   wanted_back_ends e put = subst (λ (z : ℕ × List ℕ). EndsHold kind n z.1 hs p (after_wanted 4 z.0 c)) (λ k. (ap (λ (z : List ℕ). slice_index z 4) (sym e.shared.words_are) k, sym (ap (λ (z : List ℕ). set z 4 (slice_index z 4)) e.shared.words_are ∙ sym e.shared.words_are) k)) (wanted_back_goes e e.shared.flag_back put refl)
 
   pub settle_back_ends : (e : EndsHold kind n ws hs p c) → c.ringer ≡ Rung.Hot → EndsHold kind n (set ws 4 1) hs p (after_settle 1 c)
-  settle_back_ends e hot = rebell e p (after_settle 1 c) (set ws 4 1) e.shared.flag e.shared.pending true e.shared.pending_back refl refl refl refl refl refl (ap (λ (z : List ℕ). set z 4 1) e.shared.words_are) e.shared.forward
+  settle_back_ends e hot = rebell e p (after_settle 1 c) (set ws 4 1) e.shared.flag e.shared.pending true e.shared.pending_back refl refl refl refl refl refl refl refl (ap (λ (z : List ℕ). set z 4 1) e.shared.words_are) e.shared.forward
       (settle_holds (bell e.shared.flag_back e.shared.pending_back p.waiter c.ringer) (nat_lt (length e.lists.left) n) (length c.entries) hot e.shared.backward)
 
   pub ring_back_ends : (e : EndsHold kind n ws hs p c) → c.ringer ≡ Rung.Ringing → EndsHold kind n (set ws 5 1) hs p (after_ring 1 c)
-  ring_back_ends e on = rebell e p (after_ring 1 c) (set ws 5 1) e.shared.flag e.shared.pending e.shared.flag_back true refl refl refl refl refl refl (ap (λ (z : List ℕ). set z 5 1) e.shared.words_are) e.shared.forward
+  ring_back_ends e on = rebell e p (after_ring 1 c) (set ws 5 1) e.shared.flag e.shared.pending e.shared.flag_back true refl refl refl refl refl refl refl refl (ap (λ (z : List ℕ). set z 5 1) e.shared.words_are) e.shared.forward
       (ring_holds (bell e.shared.flag_back e.shared.pending_back p.waiter c.ringer) (nat_lt (length e.lists.left) n) (length c.entries) on e.shared.backward)
 
   -- new grants and slots, with the same entries, kinds, waiters and ringers
-  regrant : (e : EndsHold kind n ws hs p c) (p' c' : Half) (hs' : List (maybe.Option Slot)) → p'.entries ≡ p.entries → p'.kind ≡ p.kind → p'.waiter ≡ p.waiter → p'.ringer ≡ p.ringer → c'.entries ≡ c.entries → c'.kind ≡ c.kind → c'.waiter ≡ c.waiter → c'.ringer ≡ c.ringer
+  regrant : (e : EndsHold kind n ws hs p c) (p' c' : Half) (hs' : List (maybe.Option Slot)) → p'.entries ≡ p.entries → p'.times ≡ p.times → p'.kind ≡ p.kind → p'.waiter ≡ p.waiter → p'.ringer ≡ p.ringer → c'.entries ≡ c.entries → c'.times ≡ c.times → c'.kind ≡ c.kind → c'.waiter ≡ c.waiter → c'.ringer ≡ c.ringer
       → SlotsHold n hs' (length c.entries) e.lists.left p'.grant c'.grant → EndsHold kind n ws hs' p' c'
-  regrant e p' c' hs' pe pk pw pr ce ck cw cr slots = record {
+  regrant e p' c' hs' pe pt pk pw pr ce ct ck cw cr slots = record {
     lists = record {
       left = e.lists.left;
       some_place = e.lists.some_place;
       few = e.lists.few;
       divides = e.lists.divides;
       sent = pe ∙ (e.lists.sent ∙ ap (λ (z : List Cargo). z ++ e.lists.left) (sym ce));
+      later = e.lists.later;
+      times = pt ∙ (e.lists.times ∙ ap (λ (z : List ℕ). z ++ e.lists.later) (sym ct));
+      timed = e.lists.timed;
       kinds = subst (All (λ (z : Cargo). kind_of z.0 ≡ kind)) (sym pe) e.lists.kinds;
       producer_kind = pk ∙ e.lists.producer_kind;
       consumer_kind = ck ∙ e.lists.consumer_kind;
@@ -365,9 +391,9 @@ module _ (kind : QueueKind) (n : ℕ) (ws : List ℕ) (hs : List (maybe.Option S
 
   -- a granted slot of the producer goes home
   home_goes : (e : EndsHold kind n ws hs p c) (g : Option Slot) → p.grant ≡ g → EndsHold kind n ws (homes_after hs (slots_held g (length p.entries % n)) gives) (sent_home p) c
-  home_goes e None is = regrant e (sent_home p) c hs refl refl refl refl refl refl refl refl (subst (λ (z : Option Slot). SlotsHold n hs (length c.entries) e.lists.left z c.grant) is e.lists.slots)
+  home_goes e None is = regrant e (sent_home p) c hs refl refl refl refl refl refl refl refl refl refl (subst (λ (z : Option Slot). SlotsHold n hs (length c.entries) e.lists.left z c.grant) is e.lists.slots)
   home_goes e (Some y) is = let slots = subst (λ (z : Option Slot). SlotsHold n hs (length c.entries) e.lists.left z c.grant) is e.lists.slots in let y_is : y ≡ None = (slots.to_producer y refl).0 in
-      regrant e (sent_home p) c (set hs (length p.entries % n) (some y)) refl refl refl refl refl refl refl refl
+      regrant e (sent_home p) c (set hs (length p.entries % n) (some y)) refl refl refl refl refl refl refl refl refl refl
       (subst (λ (z : Slot). SlotsHold n (set hs (length p.entries % n) (some z)) (length c.entries) e.lists.left None c.grant) (sym y_is) (room_comes_back n (length c.entries) hs e.lists.left c.grant (length p.entries % n) (last_place e) (subst (λ (z : Slot). SlotsHold n hs (length c.entries) e.lists.left (Some z) c.grant) y_is slots)))
 
   pub home_ends : (e : EndsHold kind n ws hs p c) → EndsHold kind n ws (homes_after hs (slots_held p.grant (length p.entries % n)) gives) (sent_home p) c
@@ -375,10 +401,10 @@ module _ (kind : QueueKind) (n : ℕ) (ws : List ℕ) (hs : List (maybe.Option S
 
   -- a granted slot of the consumer goes home
   home_back_goes : (e : EndsHold kind n ws hs p c) (g : Option Slot) → c.grant ≡ g → EndsHold kind n ws (homes_after hs (slots_held g (length c.entries % n)) gives) p (sent_home c)
-  home_back_goes e None is = regrant e p (sent_home c) hs refl refl refl refl refl refl refl refl (subst (λ (z : Option Slot). SlotsHold n hs (length c.entries) e.lists.left p.grant z) is e.lists.slots)
+  home_back_goes e None is = regrant e p (sent_home c) hs refl refl refl refl refl refl refl refl refl refl (subst (λ (z : Option Slot). SlotsHold n hs (length c.entries) e.lists.left p.grant z) is e.lists.slots)
   home_back_goes e (Some y) is = let t : ℕ = length c.entries in let i : ℕ = t % n in let o = e.lists.slots.to_consumer y is in let x : Cargo = o.0 in let xs : List Cargo = drop 1 e.lists.left in
       let slots = subst (λ (z : Option Slot × List Cargo). SlotsHold n hs t z.1 p.grant z.0) (λ k. ((is ∙ ap (λ (z : Slot). Some z) o.1) k, o.2 k)) e.lists.slots in
-      regrant e p (sent_home c) (set hs i (some y)) refl refl refl refl refl refl refl refl
+      regrant e p (sent_home c) (set hs i (some y)) refl refl refl refl refl refl refl refl refl refl
       (subst (λ (z : Slot × List Cargo). SlotsHold n (set hs i (some z.0)) t z.1 p.grant None) (λ k. (sym o.1 k, sym o.2 k)) (entry_comes_back n t hs x xs p.grant i (ap (λ (z : ℕ). z % n) (let z : t ≡ t + 0 = omega arith in z)) slots))
 
   pub home_back_ends : (e : EndsHold kind n ws hs p c) → EndsHold kind n ws (homes_after hs (slots_held c.grant (length c.entries % n)) gives) p (sent_home c)

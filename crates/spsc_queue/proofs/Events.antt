@@ -60,12 +60,12 @@ module _ (kind : QueueKind) (n : ℕ) (hs : List (maybe.Option Slot)) (p c : Hal
   room_after true r = refl
   room_after false r = refl
 
-  take_after : (x : Cargo) → ring_queue kind n (words_after words c Do.Take) p (took_one x c) ≡ queue_after shown Do.Take Done (x ∷ [])
-  take_after x = let more : length (c.entries ++ x ∷ []) ≡ suc (length c.entries) = length-append c.entries (x ∷ []) ∙ (let z : length c.entries + 1 ≡ suc (length c.entries) = omega arith in z) in
+  take_after : (x : Cargo) (time : ℕ) → ring_queue kind n (words_after words c Do.Take) p (took_one x time c) ≡ queue_after shown Do.Take Done (x ∷ [])
+  take_after x time = let more : length (c.entries ++ x ∷ []) ≡ suc (length c.entries) = length-append c.entries (x ∷ []) ∙ (let z : length c.entries + 1 ≡ suc (length c.entries) = omega arith in z) in
       ap (λ (z : List Cargo). record (queue_after shown Do.Take Done (x ∷ [])) { entries = z }) (ap (λ (z : ℕ). drop z p.entries) more ∙ drop_next (length c.entries) p.entries)
 
-  put_after : (x : Cargo) → ring_queue kind n (words_after words p Do.Put) (sent_one x p) c ≡ queue_after shown Do.Put Done (x ∷ [])
-  put_after x = let k = counts in let within : length c.entries ≤ length p.entries = omega arith in ap (λ (z : List Cargo). record (queue_after shown Do.Put Done (x ∷ [])) { entries = z }) (drop_short (length c.entries) p.entries (x ∷ []) within)
+  put_after : (x : Cargo) (time : ℕ) → ring_queue kind n (words_after words p Do.Put) (sent_one x time p) c ≡ queue_after shown Do.Put Done (x ∷ [])
+  put_after x time = let k = counts in let within : length c.entries ≤ length p.entries = omega arith in ap (λ (z : List Cargo). record (queue_after shown Do.Put Done (x ∷ [])) { entries = z }) (drop_short (length c.entries) p.entries (x ∷ []) within)
 
   wake_after : (b : Bool) → b ≡ pending → ring_queue kind n (words_after words c (Do.Wake Forward)) p (after_wake 3 (bit b) c) ≡ queue_after shown (Do.Wake Forward) (answer_of (nat_eq (bit b) 1)) []
   wake_after true is = refl
@@ -107,15 +107,15 @@ module _ (kind : QueueKind) (n : ℕ) (hs : List (maybe.Option Slot)) (p c : Hal
     carries = d.2;
     after = subst (λ (z : Half × (Answer × List Cargo)). ring_queue kind n words z.0 c ≡ queue_after shown Do.Room z.1.0 z.1.1) (λ i. (sym d.0 i, (sym d.1 i, sym d.2 i))) (room_after (tells_room n (length p.entries) (wrap (length c.entries))) (wrap (length c.entries)));
   }
-  event Do.Take a cargo h may d = let x : Cargo = d.0 in let o = filled_by (Some x) d.2 in let same : x ≡ o.0 = some_is x o.0 o.1 in record {
-    tells = (d.4, ap (λ (z : List Cargo). nat_lt 0 (length z)) o.2 ∙ lt-ltb 0 (suc (length (drop 1 (drop (length c.entries) p.entries)))) (omega arith));
-    carries = (o.0, d.1 ∙ ap (λ (z : Cargo). z ∷ []) same, o.2);
-    after = subst (λ (z : Half × (Answer × List Cargo)). ring_queue kind n (words_after words c Do.Take) p z.0 ≡ queue_after shown Do.Take z.1.0 z.1.1) (λ i. (sym d.3 i, (sym d.4 i, sym d.1 i))) (take_after x);
+  event Do.Take a cargo h may d = let x : Cargo = d.0 in let o = filled_by (Some x) d.3 in let same : x ≡ o.0 = some_is x o.0 o.1 in record {
+    tells = (d.5, ap (λ (z : List Cargo). nat_lt 0 (length z)) o.2 ∙ lt-ltb 0 (suc (length (drop 1 (drop (length c.entries) p.entries)))) (omega arith));
+    carries = (o.0, d.2 ∙ ap (λ (z : Cargo). z ∷ []) same, o.2);
+    after = subst (λ (z : Half × (Answer × List Cargo)). ring_queue kind n (words_after words c Do.Take) p z.0 ≡ queue_after shown Do.Take z.1.0 z.1.1) (λ i. (sym d.4 i, (sym d.5 i, sym d.2 i))) (take_after x d.1);
   }
   event Do.Put a cargo h may d = let x : Cargo = d.0 in record {
-    tells = (d.3, roomed_by may.1);
-    carries = (x, d.1, d.4 ∙ l.producer_kind);
-    after = subst (λ (z : Half × (Answer × List Cargo)). ring_queue kind n (words_after words p Do.Put) z.0 c ≡ queue_after shown Do.Put z.1.0 z.1.1) (λ i. (sym d.2 i, (sym d.3 i, sym d.1 i))) (put_after x);
+    tells = (d.4, roomed_by may.1);
+    carries = (x, d.2, d.5 ∙ l.producer_kind);
+    after = subst (λ (z : Half × (Answer × List Cargo)). ring_queue kind n (words_after words p Do.Put) z.0 c ≡ queue_after shown Do.Put z.1.0 z.1.1) (λ i. (sym d.3 i, (sym d.4 i, sym d.2 i))) (put_after x d.1);
   }
   event (Do.Wake Forward) a cargo h may d = record {
     tells = d.1;

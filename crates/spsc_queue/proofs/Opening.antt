@@ -48,6 +48,9 @@ starts kind n some_place few divides = let hs : List (maybe.Option Slot) = map s
       few = few;
       divides = divides;
       sent = refl;
+      later = [];
+      times = refl;
+      timed = refl;
       kinds = λ k d lt. absurd (omega arith);
       producer_kind = refl;
       consumer_kind = refl;

@@ -15,7 +15,7 @@ use Rattle.spsc_queue.specs.declared.view.View.{View}
 use Rattle.spsc_queue.specs.Rule.{Slot, wrap, EndsHold, RingHolds}
 use Rattle.spsc_queue.specs.Steps.{Seated, slots_held, room_done, put_done, tells_room, room_told, sent_one, with_producer, with_consumer, see_told, took_one, take_done, see_done, tells_entry, Granted, producing_part, consuming_part, whole, memory_of, spent, sent_home, producer_home, consumer_home}
 use Rattle.spsc_queue.proofs.Places.{below, one_more}
-use Rattle.spsc_queue.proofs.Ends.{LooksRoom, room_step, put_ends, LooksEntry, see_step, take_ends, home_ends, home_back_ends}
+use Rattle.spsc_queue.proofs.Ends.{LooksRoom, room_step, put_ends, LooksEntry, see_step, take_ends, first_time, home_ends, home_back_ends}
 
 module _ (kind : QueueKind) (s : State Slot View) (r : RingHolds kind s) (id : ℕ) (v : View) where
   -- the producing seat's view is the one that the rule speaks of
@@ -146,17 +146,17 @@ module _ (kind : QueueKind) (slots id : ℕ) (me : Seated) where
         (subst (λ (z : ℕ). z < 65536) word (mod-lt (length c.entries) (lit< tt)), refl, go.3),
       )
 
-  pub put_allowed : (x : Cargo) (new : ℕ) → me.0.produces ≡ true → me.0.consumes ≡ false → kind_of x.0 ≡ me.0.producer.kind → is_clear me.0.producer.waiter ≡ false → is_free_or_put me.0.producer.ringer ≡ true → me.0.producer.grant ≡ Some None
+  pub put_allowed : (x : Cargo) (time new : ℕ) → me.0.produces ≡ true → me.0.consumes ≡ false → kind_of x.0 ≡ me.0.producer.kind → is_clear me.0.producer.waiter ≡ false → is_free_or_put me.0.producer.ringer ≡ true → me.0.producer.grant ≡ Some None
       → new ≡ wrap (length me.0.producer.entries + 1) → me.1 ≡ (length me.0.producer.entries % slots, Some x) ∷ []
-      → Allows (RingHolds kind) slots id me 1 (λ _. new) (λ _ m. put_done (step slots 1 new 0 none) me new m)
-  put_allowed x new does not fits calm may gr is holding s r size at bound =
+      → Allows (RingHolds kind) slots id me 1 (λ _. new) (λ _ m. put_done time (step slots 1 new 0 none) me new m)
+  put_allowed x time new does not fits calm may gr is holding s r size at bound =
       let e = producer_ends s r size at does in let p : Half = me.0.producer in let c : Half = r.consuming.consumer in let i : ℕ = length p.entries % slots in (
-        with_producer me.0 (sent_one x p),
+        with_producer me.0 (sent_one x time p),
         gives,
         tt,
-        producer_steps kind s r id me.0 (sent_one x p) (set s.words 1 new) (homes_after s.homes me.1 gives) slots at does not
-            (subst (λ (z : List (ℕ × Slot)). EndsHold kind slots (set s.words 1 new) (homes_after s.homes z gives) (sent_one x p) c) (sym holding) (put_ends kind slots s.words s.homes p c e x new i (fits ∙ e.lists.producer_kind) calm may gr is refl)),
-        (λ y other. (ap (λ (z : List (ℕ × Slot)). with_producer me.0 (sent_one (first_of z x) p)) (sym holding ∙ other), ap (carried_after_gives) holding)),
+        producer_steps kind s r id me.0 (sent_one x time p) (set s.words 1 new) (homes_after s.homes me.1 gives) slots at does not
+            (subst (λ (z : List (ℕ × Slot)). EndsHold kind slots (set s.words 1 new) (homes_after s.homes z gives) (sent_one x time p) c) (sym holding) (put_ends kind slots s.words s.homes p c e x time new i (fits ∙ e.lists.producer_kind) calm may gr is refl)),
+        (λ y other. (ap (λ (z : List (ℕ × Slot)). with_producer me.0 (sent_one (first_of z x) time p)) (sym holding ∙ other), ap (carried_after_gives) holding)),
       )
 
   -- a producer's step that leaves the slots alone
@@ -201,13 +201,13 @@ module _ (kind : QueueKind) (slots id : ℕ) (me : Seated) where
 
   pub take_allowed : (x : Cargo) (new : ℕ) → me.0.consumes ≡ true → me.0.produces ≡ false → is_clear me.0.consumer.waiter ≡ false → is_free_or_put me.0.consumer.ringer ≡ true → me.0.consumer.grant ≡ Some (Some x) → new ≡ wrap (length me.0.consumer.entries + 1)
       → me.1 ≡ (length me.0.consumer.entries % slots, None) ∷ [] → Allows (RingHolds kind) slots id me 0 (λ _. new) (λ _ m. take_done (step slots 0 new 0 none) me new m)
-  take_allowed x new does not calm may gr is holding s r size at bound = let e = consumer_ends s r size at does in let c : Half = me.0.consumer in let p : Half = r.producing.producer in let i : ℕ = length c.entries % slots in (
-    with_consumer me.0 (took_one x c),
+  take_allowed x new does not calm may gr is holding s r size at bound = let e = consumer_ends s r size at does in let c : Half = me.0.consumer in let p : Half = r.producing.producer in let i : ℕ = length c.entries % slots in let first = first_time kind slots s.words s.homes p c e x gr in let time : ℕ = first.0 in (
+    with_consumer me.0 (took_one x time c),
     gives,
     tt,
-    consumer_steps kind s r id me.0 (took_one x c) (set s.words 0 new) (homes_after s.homes me.1 gives) slots at does not
-        (subst (λ (z : List (ℕ × Slot)). EndsHold kind slots (set s.words 0 new) (homes_after s.homes z gives) p (took_one x c)) (sym holding) (take_ends kind slots s.words s.homes p c e x new i calm may gr is refl)),
-    (λ y other. (ap (λ (z : Cargo). with_consumer me.0 (took_one z c)) (same_grant x y (sym gr ∙ other)), ap (λ (z : List (ℕ × Slot)). rest z) holding)),
+    consumer_steps kind s r id me.0 (took_one x time c) (set s.words 0 new) (homes_after s.homes me.1 gives) slots at does not
+        (subst (λ (z : List (ℕ × Slot)). EndsHold kind slots (set s.words 0 new) (homes_after s.homes z gives) p (took_one x time c)) (sym holding) (take_ends kind slots s.words s.homes p c e x time new i first.1 first.2 calm may gr is refl)),
+    (λ y other. (time, ap (λ (z : Cargo). with_consumer me.0 (took_one z time c)) (same_grant x y (sym gr ∙ other)), ap (λ (z : List (ℕ × Slot)). rest z) holding)),
   )
 
   rest_held : (g : Option Slot) (i : ℕ) → rest (slots_held g i) ≡ []

@@ -57,7 +57,8 @@ backward_bell flag pending p c = record {
 }
 
 -- the lists and the slots: what was taken is a beginning of what was sent and at most n shorter,
--- all of it is of the ring's kind, and the rest lies in the slots
+-- each with the time at which it was put; all of it is of the ring's kind, and the rest lies in the
+-- slots
 pub record ListsHold (kind : QueueKind) (n : ℕ) (homes : List (maybe.Option Slot))
     (p c : Half) : Type 0 where
   pub left : List Cargo
@@ -65,6 +66,9 @@ pub record ListsHold (kind : QueueKind) (n : ℕ) (homes : List (maybe.Option Sl
   pub few : n ≤ 32768
   pub divides : 65536 % n ≡ 0
   pub sent : p.entries ≡ c.entries ++ left
+  pub later : List ℕ
+  pub times : p.times ≡ c.times ++ later
+  pub timed : length later ≡ length left
   pub kinds : All (λ x. kind_of x.0 ≡ kind) p.entries
   pub producer_kind : p.kind ≡ kind
   pub consumer_kind : c.kind ≡ kind
@@ -107,6 +111,7 @@ pub record RingHolds (kind : QueueKind) (s : State Slot View) : Type 0 where
 abbrev pub first_producer : QueueKind → Half
 first_producer k = record {
   entries = [];
+  times = [];
   kind = k;
   waiter = Wait.Off;
   ringer = Rung.Free;
@@ -121,6 +126,7 @@ first_producer k = record {
 abbrev pub first_consumer : QueueKind → Half
 first_consumer k = record {
   entries = [];
+  times = [];
   kind = k;
   waiter = Wait.Busy;
   ringer = Rung.Free;

@@ -73,19 +73,20 @@ abbrev pub room_done : Step Slot → Seated → ℕ → Seated → Type 0
 room_done st m r m' = (r < 65536) × (m'.0 ≡ with_producer m.0 (room_told st.slots m.0.producer r))
     × (m'.1 ≡ slots_held m'.0.producer.grant (length m.0.producer.entries % st.slots))
 
--- the producer after a put
-abbrev pub sent_one : Cargo → Half → Half
-sent_one x h = record h {
+-- the producer after a put at a time
+abbrev pub sent_one : Cargo → ℕ → Half → Half
+sent_one x t h = record h {
   entries = h.entries ++ x ∷ [];
+  times = h.times ++ t ∷ [];
   ringer = Rung.Put;
   grant = None;
   steps = h.steps + 1;
 }
 
--- the step of `put`: a store to the tail, at which the granted slot goes home filled
-abbrev pub put_done : Step Slot → Seated → ℕ → Seated → Type 0
-put_done st m r m' = (x : Cargo) → m.1 ≡ (length m.0.producer.entries % st.slots, Some x) ∷ []
-    → (m'.0 ≡ with_producer m.0 (sent_one x m.0.producer)) × (m'.1 ≡ [])
+-- the step of `put` at a time: a store to the tail, at which the granted slot goes home filled
+abbrev pub put_done : ℕ → Step Slot → Seated → ℕ → Seated → Type 0
+put_done t st m r m' = (x : Cargo) → m.1 ≡ (length m.0.producer.entries % st.slots, Some x) ∷ []
+    → (m'.0 ≡ with_producer m.0 (sent_one x t m.0.producer)) × (m'.1 ≡ [])
 
 -- what `see` may grant: nothing where it answers no, and else an entry of the kind
 abbrev pub Granted : QueueKind → Bool → Option Slot → Type 0
@@ -107,10 +108,11 @@ see_done st m r m' = (g : Option Slot)
     × (m'.0 ≡ with_consumer m.0 (see_told g m.0.consumer r))
     × (m'.1 ≡ slots_held g (length m.0.consumer.entries % st.slots))
 
--- the consumer after a take
-abbrev pub took_one : Cargo → Half → Half
-took_one x h = record h {
+-- the consumer after it took what was put at a time
+abbrev pub took_one : Cargo → ℕ → Half → Half
+took_one x t h = record h {
   entries = h.entries ++ x ∷ [];
+  times = h.times ++ t ∷ [];
   ringer = Rung.Put;
   grant = None;
   steps = h.steps + 1;
@@ -119,7 +121,7 @@ took_one x h = record h {
 -- the step of `take`: a store to the head, at which the granted slot goes home empty
 abbrev pub take_done : Step Slot → Seated → ℕ → Seated → Type 0
 take_done st m r m' = (x : Cargo) → m.0.consumer.grant ≡ Some (Some x)
-    → (m'.0 ≡ with_consumer m.0 (took_one x m.0.consumer)) × (m'.1 ≡ [])
+    → (t : ℕ) × (m'.0 ≡ with_consumer m.0 (took_one x t m.0.consumer)) × (m'.1 ≡ [])
 
 -- a step that leaves the slots alone
 abbrev pub producer_turned : (ℕ → Half → Half) → Step Slot → Seated → ℕ → Seated → Type 0
@@ -214,10 +216,10 @@ CallDid n h Do.See r a c h' = (h' ≡ see_told h'.grant h r)
     × Granted h.kind (tells_entry (length h.entries) r) h'.grant
 CallDid n h Do.Room r a c h' = (h' ≡ room_told n h r)
     × (a ≡ answer_of (tells_room n (length h.entries) r)) × (c ≡ [])
-CallDid n h Do.Take r a c h' = (x : Cargo) × (c ≡ x ∷ []) × (h.grant ≡ Some (Some x))
-    × (h' ≡ took_one x h) × (a ≡ Done)
-CallDid n h Do.Put r a c h' = (x : Cargo) × (c ≡ x ∷ []) × (h' ≡ sent_one x h) × (a ≡ Done)
-    × (kind_of x.0 ≡ h.kind)
+CallDid n h Do.Take r a c h' = (x : Cargo) × (t : ℕ) × (c ≡ x ∷ []) × (h.grant ≡ Some (Some x))
+    × (h' ≡ took_one x t h) × (a ≡ Done)
+CallDid n h Do.Put r a c h' = (x : Cargo) × (t : ℕ) × (c ≡ x ∷ []) × (h' ≡ sent_one x t h)
+    × (a ≡ Done) × (kind_of x.0 ≡ h.kind)
 CallDid n h (Do.Ask s) r a c h' = (h' ≡ asked 0 h) × (a ≡ Done) × (c ≡ [])
 CallDid n h (Do.Waive s) r a c h' = (h' ≡ waived 1 h) × (a ≡ Done) × (c ≡ [])
 CallDid n h (Do.Wake Forward) r a c h' =

@@ -1,6 +1,6 @@
 //! How a ring comes to its end: both ends are given up, and what was sent, taken and left is known,
 //! with both bells.
-ghost use Rattle.std.specs.Prelude.{◌≡◌, ◌<◌, ◌≤◌, ◌++◌, length, drop, nat_lt, slice_get, All, IfOk};
+ghost use Rattle.std.specs.Prelude.{◌≡◌, ◌<◌, ◌≤◌, ◌++◌, length, drop, nat_lt, slice_get, All, IfOk, List, ℕ};
 ghost use Rattle.std.specs.Slots.{slots_len, slots_items, IsFull};
 ghost use Rattle.cargo_core.specs.Items.{kind_of};
 ghost use Rattle.wire_core.specs.Bells.{BellHolds};
@@ -115,6 +115,9 @@ pub fn finish(ring: Ring, producer: Producer, consumer: Consumer) -> Result<Ende
         × (e.producer ≡ sent_home producer.knows) × (e.consumer ≡ sent_home consumer.knows)) }
     ensures rest { IfOk result (λ e. (producer.knows.entries ≡ consumer.knows.entries ++ e.left)
         × (length e.left ≤ ring.id.slots)) }
+    ensures times { IfOk result (λ e. (later : List ℕ)
+        × (producer.knows.times ≡ consumer.knows.times ++ later)
+        × (length later ≡ length e.left)) }
     ensures kinds { IfOk result (λ e. (producer.knows.kind ≡ ring.kind)
         × (consumer.knows.kind ≡ ring.kind)
         × All (λ x. kind_of x.0 ≡ ring.kind) producer.knows.entries) }

@@ -4,6 +4,7 @@
 #![tactic(auto)]
 
 mod both;
+mod clock;
 mod consumer;
 mod ended;
 mod laws;
@@ -14,6 +15,7 @@ mod rule;
 mod view;
 
 pub use both::both_look;
+pub use clock::Clock;
 pub use consumer::Consumer;
 pub use ended::{Ended, finish};
 pub use laws::ring_law;

@@ -2,9 +2,11 @@
 //! and the last is joined.
 ghost use Rattle.spsc_queue.specs.Steps.{room_done, put_done, see_done, take_done, producer_turned, consumer_turned, asked, waived, after_wake, after_wanted, after_settle, after_ring, producer_home, consumer_home, producing_part, consuming_part, whole, memory_of, spent};
 
+use crate::clock::Clock;
 use crate::rule::Slot;
 use crate::view::View;
 use atomic_table::{Join, Play, Split};
+use std::marker::PhantomData;
 
 pub(crate) struct Room;
 
@@ -12,10 +14,13 @@ impl Play<Slot, View> for Room {
     ghost then = { room_done };
 }
 
-pub(crate) struct Put;
+// At the time that its caller picks.
+pub(crate) struct Put<C> {
+    clock: PhantomData<C>,
+}
 
-impl Play<Slot, View> for Put {
-    ghost then = { put_done };
+impl<C: Clock> Play<Slot, View> for Put<C> {
+    ghost then = { put_done C.time };
 }
 
 pub(crate) struct See;

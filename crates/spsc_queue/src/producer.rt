@@ -1,11 +1,12 @@
 //! The producing end: each call is one step on one word of the ring, and the queue law's next event
 //! on its queue.
-ghost use Rattle.std.specs.Prelude.{◌≡◌, [], ◌∷◌};
+ghost use Rattle.std.specs.Prelude.{◌≡◌, [], ◌∷◌, ◌++◌};
 ghost use Rattle.cargo_core.specs.Items.{kind_of};
 ghost use Rattle.wire_core.specs.Deeds.{answer_of};
 ghost use Rattle.wire_core.specs.Ends.{Condition};
 ghost use Rattle.spsc_queue.specs.Steps.{EndDid, known_end};
 
+use crate::clock::Clock;
 use crate::plays;
 use crate::ring::Ring;
 use crate::rule::{FLAG, FLAG_BACK, HEAD, PENDING, PENDING_BACK, Place, TAIL};
@@ -52,15 +53,16 @@ impl Producer {
         has_room
     }
 
-    /// Puts an entry of the ring's kind behind the others. The last look must have answered yes,
-    /// and is then used.
-    pub fn put(&mut self, ring: &Ring, item: Item, body: Body)
+    /// Puts an entry of the ring's kind behind the others, at the time that the caller picks. The
+    /// last look must have answered yes, and is then used.
+    pub fn put<C: Clock>(&mut self, ring: &Ring, item: Item, body: Body)
         requires own { self.old.ring ≡ ring.now.id }
         requires condition { Condition (known_end self.old.knows) Op.Put }
         requires kind { kind_of item ≡ self.old.knows.kind }
         ensures own { self.new.ring ≡ self.old.ring }
         ensures did { EndDid self.old.ring.slots self.old.knows Op.Put Answer.Done
             ((item, body) ∷ []) self.new.knows }
+        ensures time { self.new.knows.times ≡ self.old.knows.times ++ C.time ∷ [] }
     {
         let slot = usize::from(self.tail % ring.capacity);
         let next = self.tail.wrapping_add(1);
@@ -70,7 +72,7 @@ impl Producer {
             .exchange(&mut self.seat, slot, Some((item, body)));
         ring.table
             .shared
-            .store::<plays::Put>(&mut self.seat, TAIL, u64::from(next));
+            .store::<plays::Put<C>>(&mut self.seat, TAIL, u64::from(next));
         self.tail = next;
         self.ringer = Ringer::Put;
         drop(old);

@@ -9,6 +9,8 @@ use wire_core::{Ringer, Waiter};
 pub struct Half {
     /// What it sent or took, in order.
     pub entries: LinkedList<(Item, Body)>,
+    /// When each of them was put, by the callers' clock.
+    pub times: LinkedList<u64>,
     pub kind: QueueKind,
     pub waiter: Waiter,
     pub ringer: Ringer,

@@ -23,3 +23,4 @@ pub mod Built
 pub mod Quieting
 pub mod Together
 pub mod Parting
+pub mod Adopting

@@ -205,7 +205,7 @@ module _ (history : History) (rows : List QueueRow) (w v : List Queue) (actors :
   fits' new j y at (inl same) = let e : x' ≡ y = some_is (sym (slice_get_written actors k x x' here) ∙ (ap (slice_get (slice_set actors k x')) (sym same.1) ∙ at)) in subst (FitsActor (end_at v)) e new
   fits' new j y at (inr away) =
       let was : slice_get actors j ≡ Some y = sym (slice_get_beside actors k j x' away.1) ∙ at in
-      fits_beside (end_at w) (end_at v) changes.kinds y (λ r n theirs. changes.others r n (λ a b. apart j y was away.1 (subst (λ r'. ActorEnd y r' e.queue.0) a (subst (ActorEnd y r) b theirs)))) (old.fits j y was)
+      fits_beside (end_at w) (end_at v) y (λ r n theirs. changes.others r n (λ a b. apart j y was away.1 (subst (λ r'. ActorEnd y r' e.queue.0) a (subst (ActorEnd y r) b theirs)))) (old.fits j y was)
 
   stands' : (j : ℕ) (y : Actor) → slice_get (slice_set actors k x') j ≡ Some y → ((eqb j k ≡ true) × (j ≡ k)) ⊎ ((eqb j k ≡ false) × (j ≢ k)) → ActorStandsFor y passed'
   unfolding passed' deed

@@ -1,5 +1,5 @@
 -- The definitions of a system at play: what it shows (Shows), what holds of it (Lawful), how it is
--- built and played (Builds, Plays, PlanPlays), and inside, what it keeps (Runnings, Asking, Starts,
+-- built and played (Builds, Plays, PlanPlays), how it takes over what threads left (Adopting), and inside, what it keeps (Runnings, Asking, Starts,
 -- Systems, Inside).
 pub mod Shows
 pub mod Plays
@@ -13,4 +13,5 @@ pub mod Asking
 pub mod States
 pub mod Starts
 pub mod Systems
+pub mod Adopting
 pub mod Inside

@@ -1,17 +1,18 @@
 -- What is seen of actors as they are, and the state in which a system begins.
-use Rattle.std.specs.Prelude.{◌-◌, ◌^◌, ℕ, false, min, Option, None, List, [], ◌∷◌, map, slice_get, sum_by}
+use Rattle.std.specs.Prelude.{◌-◌, ◌^◌, ℕ, min, Option, None, List, [], ◌∷◌, map, slice_get, sum_by}
 use Rattle.std.specs.Option.{option_map, option_map_or}
 use Rattle.cargo_core.specs.declared.item.PoolId.{PoolId}
 use Rattle.cargo_core.specs.declared.item.Reply.{Reply}
 use Rattle.cargo_core.specs.Bodies.{buffers_of}
 use Rattle.wire_core.specs.declared.names.PoolRow.{PoolRow}
 use Rattle.wire_core.specs.declared.names.QueueRow.{QueueRow}
-use Rattle.wire_core.specs.Journal.{Track, History, start_history}
-use Rattle.wire_core.specs.Queues.{Queue, items_of}
+use Rattle.wire_core.specs.Journal.{History, start_history}
+use Rattle.wire_core.specs.Queues.{Queue}
 use Rattle.spsc_queue.specs.Known.Ends.{EndedIs}
 use Rattle.pool_lines.specs.PoolLines.{counted_lines}
 use Rattle.actor_set.specs.Actors.{part_of, bad_of, actor_hand, actor_lent}
 use Rattle.actor_set.specs.declared.actor.Actor.{Actor}
+use Rattle.ended_law.specs.Tracks.{track_of}
 use Rattle.actor_law.specs.Records.{record_of, frames_got, replies_got}
 use Rattle.cast_pools.specs.Holders.{holders_of}
 use Rattle.system_core.specs.Shows.{Crew, Setting, State, Shown}
@@ -50,16 +51,6 @@ state_of world pools actors net serial blk = record {
   blk = map (replies_from actors) blk.clients;
   pools = counted_lines world (holders_of actors) 0 pools;
   bad = bad_in actors;
-}
-
--- what an ended ring shows of its queue: nobody looked since
-abbrev pub track_of : EndedIs → Track
-track_of e = record {
-  sent = items_of e.producer.entries;
-  taken = items_of e.consumer.entries;
-  bells = record { forward = e.forward; backward = e.backward; seen = false; roomed = false };
-  consumer = record { noes = e.consumer.noes; steps = e.consumer.steps };
-  producer = record { noes = e.producer.noes; steps = e.producer.steps };
 }
 
 -- what the queues had before the journal begins: what the rings show that the system was made from;

@@ -35,7 +35,7 @@ pub returns-clause-own : goal.returns-clause-own
 returns-clause-own c = sheet_own
 
 pub returns-clause-fits_on : goal.returns-clause-fits_on
-returns-clause-fits_on c = λ old new a kinds same fits. fits_beside old new kinds a same fits
+returns-clause-fits_on c = λ old new a same fits. fits_beside old new a same fits
 
 pub returns-clause-stands_on : goal.returns-clause-stands_on
 returns-clause-stands_on c = λ old new a whole ins outs stands. stands_beside old new a whole ins outs stands

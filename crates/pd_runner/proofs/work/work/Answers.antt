@@ -8,7 +8,7 @@ pub loop-preserved : goal.loop-preserved
 loop-preserved g c = let was = c.loop.invariant in record {
   can_next = tt;
   is_finite = tt;
-  comes = comes_on _ _ c.loop.made _ _ _ _ c.in-Ok.event was.comes c.in-Ok.ensures.fits c.in-Ok.ensures.part c.in-Ok.ensures.stepped;
+  comes = comes_on _ _ c.loop.made _ _ _ _ c.in-Ok.event was.comes c.in-Ok.ensures.fits c.in-Ok.ensures.part c.in-Ok.ensures.stepped c.in-Ok.ensures.own;
   within = omega arith;
 }
 

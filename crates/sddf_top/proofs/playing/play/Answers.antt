@@ -10,8 +10,8 @@ use Rattle.sddf_top.specs.Shown.{seed_of, ending_of, shown_text}
 use Rattle.sddf_top.proofs.PlanLemmas.{spent-whole, quiet-bounded}
 use Rattle.sddf_top.proofs.playing.play.Goals as goal
 
-pub returns-clause-answer : goal.returns-clause-answer
-returns-clause-answer c = record {
+pub returns : goal.returns
+returns c = record {
   system = c.in_ok-system.system;
   played_is = refl;
   plays = subst (λ n. IsPlayed c.args.plan.now c.args.trace.now (seed_of c.args.showing) n c.in_ok-system.system) c.limit_of-limit.ensures (subst (λ n. IsPlayed c.args.plan.now c.args.trace.now n c.limit_of-limit.result c.in_ok-system.system) c.seed_of.ensures c.in_ok-system.ensures.played);

@@ -1,4 +1,5 @@
 use Rattle.seat_wires.proofs.Listing.{taken_grow, sent_grow}
+use Rattle.seat_wires.proofs.Timing.{times_go}
 use Rattle.seat_wires.proofs.Going.{went_one, went_none, went_then}
 use Rattle.seat_wires.proofs.laws.seats_law.Goals as goal
 
@@ -16,3 +17,6 @@ returns-clause-none c = went_none
 
 pub returns-clause-then : goal.returns-clause-then
 returns-clause-then c = went_then
+
+pub returns-clause-times : goal.returns-clause-times
+returns-clause-times c = λ s t d h. times_go s d t h

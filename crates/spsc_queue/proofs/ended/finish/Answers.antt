@@ -68,6 +68,13 @@ returns-clause-rest c = (
   subst (λ (z : List Cargo × ℕ). length z.0 ≤ z.1) (λ i. (sym (left_is c) i, size_is c i)) ((closing c).within),
 )
 
+pub returns-clause-times : goal.returns-clause-times
+returns-clause-times c = let t = (closing c).times in (
+  t.0,
+  sym (ap (λ e. e.knows.times) c.producer.view_is) ∙ (t.1 ∙ ap (λ e. e.knows.times ++ t.0) c.consumer.view_is),
+  t.2 ∙ ap length (sym (left_is c)),
+)
+
 pub returns-clause-kinds : goal.returns-clause-kinds
 returns-clause-kinds c = (
   sym (ap (λ e. e.knows.kind) c.producer.view_is) ∙ ((closing c).producer_kind ∙ kind_is c),

@@ -1,0 +1,4 @@
+pub mod Lists
+pub mod Leaving
+pub mod Resting
+pub mod Rounds

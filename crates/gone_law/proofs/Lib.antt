@@ -1,0 +1,3 @@
+pub mod Lists
+pub mod Ended
+pub mod Gone

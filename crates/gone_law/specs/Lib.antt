@@ -1,0 +1,2 @@
+-- What actors leave that have gone apart over rings.
+pub mod Gone

@@ -1,0 +1,3 @@
+-- What actors did at their ends over rings, and one order of all their calls.
+pub mod Tales
+pub mod Orders

@@ -1,0 +1,22 @@
+//! What actors did over rings, each in a thread of its own, could have been done one call after
+//! another: so all that single calls keep holds of what threads leave.
+#![tactic(auto)]
+
+ghost use Rattle.std.specs.Prelude.{◌≡◌, ℕ, List, map};
+ghost use Rattle.cargo_core.specs.Lists.{IsPrefix};
+ghost use Rattle.wire_core.specs.declared.names.QueueRow.{QueueRow};
+ghost use Rattle.wire_core.specs.Lists.{Passed, nothing_passed};
+ghost use Rattle.actor_set.specs.declared.actor.Actor.{Actor};
+ghost use Rattle.order_law.specs.Orders.{Seated, Turn, HaveRun, InOrder, actors_of, passed_by};
+
+/// Where actors began with nothing, each made its calls at its own ends, each put after all that had
+/// passed at its ends, and rings handed over entries with the times at which they were put, the
+/// calls stand in one order: each actor makes its own in turn, and after each call what was taken at
+/// a queue is a beginning of what was put there. What was put stays there.
+pub fn order_law()
+    ensures ordered { (rows : List QueueRow) (olds news : List Seated) → HaveRun rows olds news
+        → (turns : List Turn)
+        × InOrder (actors_of olds) nothing_passed turns (actors_of news) (passed_by rows news) }
+    ensures grows { (actors after : List Actor) (passed end : Passed) (turns : List Turn)
+        → InOrder actors passed turns after end → (n : ℕ) → IsPrefix (passed.sent n) (end.sent n) }
+{}

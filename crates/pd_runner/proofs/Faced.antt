@@ -1,0 +1,171 @@
+-- Actors apart that were seated, went and have the numbers of their ends again.
+use Rattle.std.proofs.Common.{◌≡◌, ◌∙◌, ◌≤◌, ◌⊎◌, inl, inr, ⊎_elim, ℕ, zero, suc, List, [], ◌∷◌, length, map, refl, sym, ap, subst, arith, Some, slice_get}
+use Rattle.std.proofs.lemmas.Slice.Zip.{AllZip-long}
+use Rattle.play_core.proofs.Lists.{some_is, map_get, map_from}
+use Rattle.wire_core.specs.declared.names.QueueRow.{QueueRow}
+use Rattle.wire_core.specs.Ends.{Role, Consumer, Producer, End}
+use Rattle.wire_core.specs.Lists.{Passed}
+use Rattle.spsc_queue.specs.Known.Ends.{RingIs}
+use Rattle.seat_wires.specs.Places.{EndsOn, ends_of}
+use Rattle.actor_set.specs.Actors.{FitsActor, ActorStandsFor, actor_rests}
+use Rattle.actor_set.specs.declared.actor.Actor.{Actor}
+use Rattle.actor_parts.specs.Given.{Kept, apart_of}
+use Rattle.actor_parts.specs.Going.{AreSeatsOf}
+use Rattle.actor_parts.specs.Numbered.{numbered}
+use Rattle.actor_parts.specs.Parting.{Apart, ends_at, StandsApart, HasItsEnds, AreApart, IsRingOf}
+use Rattle.pd_runner.specs.declared.part.Part.{Part}
+use Rattle.pd_runner.specs.Each.{Each, Every, AnyPair}
+use Rattle.pd_runner.specs.Ends.{LawfulOf, SpentOf, Rests}
+use Rattle.pd_runner.specs.Facing.{CameApart, CameWithin, HasSpent, IsResting}
+use Rattle.pd_runner.specs.Running.{Comes, part_seats}
+use Rattle.pd_runner.specs.Seated.{IsApart, IsSeated, HasNumbers, IsNumbered}
+use Rattle.pd_runner.proofs.Eaches.{each_then}
+use Rattle.pd_runner.proofs.Facing.{ends_same, passed_same, seats_numbered, numbered_once, numbered_on, own_ends}
+
+module _ (rings : List RingIs) (limit : ℕ) (k : Kept) (p q : Part) (l : Kept) (seated : IsSeated rings k p) (lawful : LawfulOf rings limit p q) (is : IsNumbered q l) where
+  numbers : (r : Role) → ends_at (apart_of l) r ≡ numbered 0 (ends_of (part_seats rings q) r)
+  numbers Consumer = is.consumers
+  numbers Producer = is.producers
+
+  ends_on : (r : Role) → EndsOn rings (ends_of (part_seats rings q) r)
+  ends_on Consumer = lawful.came.stands.consumers
+  ends_on Producer = lawful.came.stands.producers
+
+  after_is : AreSeatsOf rings (apart_of l) (part_seats rings q)
+  after_is = seats_numbered rings (apart_of l) (part_seats rings q) refl numbers
+
+  came_by : CameApart rings lawful.steps (apart_of k) (apart_of l)
+  came_by = record {
+    before = part_seats rings p;
+    after = part_seats rings q;
+    began = seated.seats;
+    ended = after_is;
+    comes = subst (λ (z : Actor × Actor). Comes z.0 (part_seats rings p) lawful.steps z.1 (part_seats rings q)) (λ i. (seated.actor i, sym is.actor i)) lawful.came.comes;
+  }
+
+  pub came_within : CameWithin rings limit (apart_of k) (apart_of l)
+  came_within = (lawful.steps, lawful.within, came_by)
+
+  pub has_spent : SpentOf rings limit p q → HasSpent rings limit (apart_of k) (apart_of l)
+  has_spent spent = (lawful.steps, (let e = lawful.came.comes.went.steps in omega (arith, e, spent)), came_by)
+
+  pub still_apart : IsApart rings l
+  still_apart = record {
+    once = numbered_once (apart_of l) (part_seats rings q) numbers;
+    on = numbered_on (apart_of l) (part_seats rings q) numbers ends_on;
+    fits = subst (λ (z : (Role → ℕ → End) × Actor). FitsActor z.0 z.1) (λ i. (ends_same rings (apart_of l) (part_seats rings q) after_is i, sym is.actor i)) lawful.came.stands.sits.fits;
+    stands = subst (λ (z : Actor × Passed). ActorStandsFor z.0 z.1) (λ i. (sym is.actor i, passed_same rings (apart_of l) (part_seats rings q) after_is i)) lawful.came.stands.sits.lists;
+  }
+
+  pub still_own : (rows : List QueueRow) (n : ℕ) → HasItsEnds rows n (apart_of k) → HasItsEnds rows n (apart_of l)
+  still_own rows n has = own_ends rows n lawful.steps rings (apart_of k) (apart_of l) (part_seats rings p) (part_seats rings q) seated.seats after_is lawful.came.comes.went has
+
+pub has_numbers : (rings : List RingIs) (limit : ℕ) (p q : Part) → LawfulOf rings limit p q → HasNumbers q
+has_numbers rings limit p q lawful = record { producers = lawful.came.stands.few_producers; consumers = lawful.came.stands.few_consumers }
+
+-- what stands at one place of two lists side by side
+module _ {X Y : Type 0} (R : X → Y → Type 0) where
+  each_at : (xs : List X) (ys : List Y) → Each R xs ys → (n : ℕ) (x : X) (y : Y) → slice_get xs n ≡ Some x → slice_get ys n ≡ Some y → R x y
+  each_at [] [] h n x y at there = cc
+  each_at [] (b ∷ ys) h n x y at there = absurd h
+  each_at (a ∷ xs) [] h n x y at there = absurd h
+  each_at (a ∷ xs) (b ∷ ys) h zero x y at there = subst (λ (z : X × Y). R z.0 z.1) (λ i. (some_is at i, some_is there i)) h.0
+  each_at (a ∷ xs) (b ∷ ys) h (suc n) x y at there = each_at xs ys h.1 n x y at there
+
+  each_left : (xs : List X) (ys : List Y) → Each R xs ys → (n : ℕ) (y : Y) → slice_get ys n ≡ Some y → (x : X) × (slice_get xs n ≡ Some x)
+  each_left [] [] h n y there = cc
+  each_left [] (b ∷ ys) h n y there = absurd h
+  each_left (a ∷ xs) [] h n y there = absurd h
+  each_left (a ∷ xs) (b ∷ ys) h zero y there = (a, refl)
+  each_left (a ∷ xs) (b ∷ ys) h (suc n) y there = each_left xs ys h.1 n y there
+
+  each_long : (xs : List X) (ys : List Y) → Each R xs ys → length ys ≡ length xs
+  each_long [] [] h = refl
+  each_long [] (b ∷ ys) h = absurd h
+  each_long (a ∷ xs) [] h = absurd h
+  each_long (a ∷ xs) (b ∷ ys) h = ap suc (each_long xs ys h.1)
+
+every_of : {X : Type 0} (P : X → Type 0) (xs : List X) → ((n : ℕ) (x : X) → slice_get xs n ≡ Some x → P x) → Every P xs
+every_of P [] each = tt
+every_of P (x ∷ xs) each = (each 0 x refl, every_of P xs (λ n y at. each (suc n) y at))
+
+-- the parts are apart, and there are no more rings than numbers
+pub all_apart : (rows : List QueueRow) (rings : List RingIs) (parts : List Kept) → AreApart rows rings (map apart_of parts) → Every (IsApart rings) parts
+all_apart rows rings parts apart = every_of (IsApart rings) parts (λ n k at. apart.stand n (apart_of k) (map_get apart_of parts n k at))
+
+pub few_rings : (rows : List QueueRow) (rings : List RingIs) (parts : List Apart) → AreApart rows rings parts → length rows ≤ 65536 → length rings ≤ 65536
+few_rings rows rings parts apart few = let e = AllZip-long IsRingOf rows rings apart.rings_are in omega (arith, e, few)
+
+-- what came of one that was handed in
+pub record IsFrom (rings : List RingIs) (limit : ℕ) (k l : Kept) : Type 0 where
+  pub seated : Part
+  pub gone : Part
+  pub began : IsSeated rings k seated
+  pub lawful : LawfulOf rings limit seated gone
+  pub ended : IsNumbered gone l
+
+-- where all rest they do with the numbers of their ends
+all_rest : (gone : List Part) (news : List Kept) → Each IsNumbered gone news → Every Rests gone → (k : ℕ) (l : Kept) → slice_get news k ≡ Some l → IsResting (apart_of l)
+all_rest [] [] ended rest k l at = cc
+all_rest [] (b ∷ news) ended rest k l at = absurd ended
+all_rest (a ∷ gone) [] ended rest k l at = absurd ended
+all_rest (a ∷ gone) (b ∷ news) ended rest zero l at = subst (λ (z : Kept). IsResting (apart_of z)) (some_is at) (ap actor_rests ended.0.actor ∙ rest.0)
+all_rest (a ∷ gone) (b ∷ news) ended rest (suc k) l at = all_rest gone news ended.1 rest.1 k l at
+
+-- one of them spent its steps
+abbrev OneSpent : List RingIs → ℕ → List Kept → List Kept → Type 0
+OneSpent rings limit olds news = (k : ℕ) × (old : Kept) × (new : Kept) × (slice_get olds k ≡ Some old) × (slice_get news k ≡ Some new) × HasSpent rings limit (apart_of old) (apart_of new)
+
+one_spent : (rings : List RingIs) (limit : ℕ) (olds : List Kept) (seated gone : List Part) (news : List Kept) → Each (IsSeated rings) olds seated → Each (LawfulOf rings limit) seated gone → Each IsNumbered gone news → AnyPair (SpentOf rings limit) seated gone → OneSpent rings limit olds news
+one_spent rings limit olds [] gone news began lawful ended any = absurd any
+one_spent rings limit olds (p ∷ seated) [] news began lawful ended any = absurd any
+one_spent rings limit [] (p ∷ seated) (q ∷ gone) news began lawful ended any = absurd began
+one_spent rings limit (k ∷ olds) (p ∷ seated) (q ∷ gone) [] began lawful ended any = absurd ended
+one_spent rings limit (k ∷ olds) (p ∷ seated) (q ∷ gone) (l ∷ news) began lawful ended any = ⊎_elim
+    (λ spent. (0, k, l, refl, refl, has_spent rings limit k p q l began.0 lawful.0 ended.0 spent))
+    (λ later. let h = one_spent rings limit olds seated gone news began.1 lawful.1 ended.1 later in (suc h.0, h.1, h.2, h.3, h.4, h.5))
+    any
+
+-- the rings stayed, each actor was seated, went and has its ends' numbers again
+module _ (rings shared : List RingIs) (same : shared ≡ rings) (limit : ℕ) (olds : List Kept) (seated gone : List Part) (news : List Kept) (were : Each (IsSeated shared) olds seated) (went : Each (LawfulOf shared limit) seated gone) (ended : Each IsNumbered gone news) where
+  began : Each (IsSeated rings) olds seated
+  began = subst (λ (z : List RingIs). Each (IsSeated z) olds seated) same were
+
+  lawful : Each (LawfulOf rings limit) seated gone
+  lawful = subst (λ (z : List RingIs). Each (LawfulOf z limit) seated gone) same went
+
+  all_from : Each (IsFrom rings limit) olds news
+  all_from = each_then (λ k q. (p : Part) × IsSeated rings k p × LawfulOf rings limit p q) IsNumbered (IsFrom rings limit)
+      (λ k q l h n. record { seated = h.0; gone = q; began = h.1; lawful = h.2; ended = n }) olds gone news
+      (each_then (IsSeated rings) (LawfulOf rings limit) (λ k q. (p : Part) × IsSeated rings k p × LawfulOf rings limit p q) (λ k p q s h. (p, s, h)) olds seated gone began lawful)
+      ended
+
+  pub as_many : length news ≡ length olds
+  as_many = each_long (IsFrom rings limit) olds news all_from
+
+  pub all_came : (k : ℕ) (old new : Apart) → slice_get (map apart_of olds) k ≡ Some old → slice_get (map apart_of news) k ≡ Some new → CameWithin rings limit old new
+  all_came k old new at there =
+      let x = map_from apart_of olds k old at in let y = map_from apart_of news k new there in
+      let h = each_at (IsFrom rings limit) olds news all_from k x.0 y.0 x.1 y.1 in
+      subst (λ (z : Apart × Apart). CameWithin rings limit z.0 z.1) (λ i. (x.2 i, y.2 i)) (came_within rings limit x.0 h.seated h.gone y.0 h.began h.lawful h.ended)
+
+  pub still_all : (rows : List QueueRow) → AreApart rows rings (map apart_of olds) → AreApart rows rings (map apart_of news)
+  still_all rows apart = record {
+    rings_are = apart.rings_are;
+    ends = λ k new at. (
+        let y = map_from apart_of news k new at in let x = each_left (IsFrom rings limit) olds news all_from k y.0 y.1 in
+        let h = each_at (IsFrom rings limit) olds news all_from k x.0 y.0 x.1 y.1 in
+        subst (HasItsEnds rows k) y.2 (still_own rings limit x.0 h.seated h.gone y.0 h.began h.lawful h.ended rows k (apart.ends k (apart_of x.0) (map_get apart_of olds k x.0 x.1)))
+        );
+    stand = λ k new at. (
+        let y = map_from apart_of news k new at in let x = each_left (IsFrom rings limit) olds news all_from k y.0 y.1 in
+        let h = each_at (IsFrom rings limit) olds news all_from k x.0 y.0 x.1 y.1 in
+        subst (StandsApart rings) y.2 (still_apart rings limit x.0 h.seated h.gone y.0 h.began h.lawful h.ended)
+        );
+  }
+
+  pub all_end : Every Rests gone ⊎ AnyPair (SpentOf shared limit) seated gone
+      → ((k : ℕ) (new : Apart) → slice_get (map apart_of news) k ≡ Some new → IsResting new) ⊎ ((k : ℕ) × (old : Apart) × (new : Apart) × (slice_get (map apart_of olds) k ≡ Some old) × (slice_get (map apart_of news) k ≡ Some new) × HasSpent rings limit old new)
+  all_end = ⊎_elim
+      (λ rest. inl (λ k new at. let y = map_from apart_of news k new at in subst IsResting y.2 (all_rest gone news ended rest k y.0 y.1)))
+      (λ spent. let h = one_spent rings limit olds seated gone news began lawful ended (subst (λ (z : List RingIs). AnyPair (SpentOf z limit) seated gone) same spent) in inr (h.0, apart_of h.1, apart_of h.2, map_get apart_of olds h.0 h.1 h.3, map_get apart_of news h.0 h.2 h.4, h.5))

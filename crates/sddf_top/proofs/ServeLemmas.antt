@@ -1,0 +1,77 @@
+use Rattle.std.proofs.Common.{◌≡◌, inr, ℕ, List, Option, Result, Ok, Err, IfOk, refl, arith}
+use Rattle.std.specs.Prelude.{OnOk}
+use Rattle.cargo_core.specs.declared.memory.Memory.{Memory}
+use Rattle.command_words.specs.declared.command.Command.{Command}
+use Rattle.command_words.specs.Words.{Spells, IsGen}
+use Rattle.sddf_top.specs.declared.answering.Outcome.{Outcome}
+use Rattle.sddf_top.specs.declared.reading.ReadStop.{ReadStop}
+use Rattle.sddf_top.specs.declared.reading.ReadStop.TheVariants as Stop
+use Rattle.sddf_top.specs.declared.status.Status.{Status}
+use Rattle.sddf_top.specs.declared.played.Played.{Played}
+use Rattle.sddf_top.specs.Outside.{Rose}
+use Rattle.sddf_top.specs.Decisions.{Decides}
+use Rattle.sddf_top.specs.Answers.{WasRead, no_reading, no_writing, no_memory}
+use Rattle.sddf_top.specs.Readings.{ReadLast}
+use Rattle.sddf_top.specs.Outcomes.{FollowsBy, HasTold}
+use Rattle.sddf_top.specs.Served.{IsServed}
+use Rattle.sddf_top.proofs.LastLemmas.{last-written}
+use Rattle.sddf_top.proofs.AnswerLemmas.{served-status, answer-not, not-instead}
+
+-- what is known of an answer that was made over a shelf
+pub record IsAnswered {F : Type 0} (text : F → List ℕ → Option (List ℕ)) (left : F → Option (List ℕ)) (reads : F → ℕ) (words : List (List ℕ)) (shelf shelf' : F) (answer : Result Outcome ReadStop) : Type 0 where
+  pub texts : (name : List ℕ) → text shelf' name ≡ text shelf name
+  pub answers : IfOk answer (FollowsBy (Decides (WasRead (text shelf)) words))
+  pub last : IfOk answer (λ r. ReadLast (text shelf) words (left shelf) (left shelf') r.status)
+  pub calm : OnOk answer (reads shelf' ≡ reads shelf)
+  pub failed : answer ≡ Err Stop.Failed → Rose (reads shelf) (reads shelf')
+  pub starved : (memory : Memory) → answer ≡ Err (Stop.Memory memory) → reads shelf' ≡ reads shelf
+  pub command : answer ≡ Err Stop.Failed → (command : Command) × Spells words command
+  pub unread : (n : ℕ) → IsGen words n → shelf' ≡ shelf
+
+module _ {F K : Type 0} (text : F → List ℕ → Option (List ℕ)) (left : F → Option (List ℕ)) (reads : F → ℕ) (written : K → Option (List ℕ)) (writes : K → ℕ) (words : List (List ℕ)) (shelf shelf' : F) (sink sink' : K) (status : Status)
+    (played : Played) where
+  -- an answer that was told serves the words
+  pub served : (answer : Result Outcome ReadStop) → IsAnswered text left reads words shelf shelf' answer → HasTold written writes answer sink sink' status played
+      → IsServed text left reads written writes words shelf shelf' sink sink' status played
+  served (Ok r) a t = record {
+    served = t.served (text shelf) words a.answers;
+    exactly = λ decision h. served-status (text shelf) words _ _ _ _ decision h (t.served (text shelf) words a.answers);
+    last = last-written (text shelf) words _ _ _ _ a.last t.ends;
+    read_fault = λ e. absurd (not-instead (WasRead (text shelf)) words _ _ _ _ _ a.answers t.ends no_reading (λ f. cc) e);
+    read_always = λ l. absurd (omega (arith, l, a.calm));
+    read_command = λ e. absurd (not-instead (WasRead (text shelf)) words _ _ _ _ _ a.answers t.ends no_reading (λ f. cc) e);
+    read_unwritten = λ e. absurd (not-instead (WasRead (text shelf)) words _ _ _ _ _ a.answers t.ends no_reading (λ f. cc) e);
+    unread = a.unread;
+    write_fault = λ e. t.faulty (answer-not (WasRead (text shelf)) words _ _ _ _ a.answers no_writing) e;
+    write_always = t.always;
+    memory_unwritten = λ memory e. absurd (not-instead (WasRead (text shelf)) words _ _ _ _ _ a.answers t.ends (no_memory memory) (λ f. cc) e);
+    texts = a.texts;
+  }
+  served (Err Stop.Failed) a t = record {
+    served = t.served (text shelf) words tt;
+    exactly = λ decision h. inr (rw t.ends no_reading);
+    last = inr (rw t.ends no_reading);
+    read_fault = λ e. a.failed refl;
+    read_always = λ l. t.ends;
+    read_command = λ e. a.command refl;
+    read_unwritten = λ e. t.unwritten;
+    unread = a.unread;
+    write_fault = λ e. let f = t.ends in cc;
+    write_always = t.always;
+    memory_unwritten = λ memory e. t.unwritten;
+    texts = a.texts;
+  }
+  served (Err (Stop.Memory memory)) a t = record {
+    served = t.served (text shelf) words tt;
+    exactly = λ decision h. inr (rw t.ends (no_memory memory));
+    last = inr (rw t.ends (no_memory memory));
+    read_fault = λ e. let f = t.ends in cc;
+    read_always = λ l. absurd (omega (arith, l, a.starved memory refl));
+    read_command = λ e. let f = t.ends in cc;
+    read_unwritten = λ e. t.unwritten;
+    unread = a.unread;
+    write_fault = λ e. let f = t.ends in cc;
+    write_always = t.always;
+    memory_unwritten = λ m e. t.unwritten;
+    texts = a.texts;
+  }

@@ -1,0 +1,16 @@
+use Rattle.sddf_top.proofs.ServeLemmas.{served}
+use Rattle.sddf_top.proofs.serving.serve.Goals as goal
+
+pub returns : goal.returns
+returns g c =
+    served g.F.Shelf.text g.F.Shelf.left g.F.Shelf.faults g.K.Sink.written g.K.Sink.faults _ _ _ _ _ _ _ _ (record {
+      texts = c.answer_words-answer.ensures.texts;
+      answers = c.answer_words-answer.ensures.answer;
+      last = c.answer_words-answer.ensures.last;
+      calm = c.answer_words-answer.ensures.calm;
+      failed = c.answer_words-answer.ensures.failed;
+      starved = c.answer_words-answer.ensures.starved;
+      command = c.answer_words-answer.ensures.command;
+      unread = c.answer_words-answer.ensures.unread;
+    })
+    c.tell.ensures

@@ -1,0 +1,2 @@
+-- What a run on threads shows.
+pub mod Ran
