@@ -3,3 +3,5 @@ pub mod Started
 pub mod Fitting
 pub mod Driving
 pub mod Merging
+pub mod SeatRows
+pub mod NetTxRows

@@ -2,3 +2,5 @@
 pub mod Parts
 pub mod Actors
 pub mod StartStates
+pub mod ActorLaw
+pub mod AdoptLaw

@@ -10,15 +10,15 @@ use Rattle.wire_core.specs.declared.names.QueueId.{QueueId}
 use Rattle.wire_core.specs.Lists.{nothing_passed}
 use Rattle.turn_kit.specs.ManyEnds.{AreApart, intake_queues, outlet_queues}
 use Rattle.turn_kit.specs.Pipes.{IsNewPipe}
-use Rattle.serial_terminal.specs.Terminals.{IsNewTerminal}
+use Rattle.device_model.specs.SerialTerminal.Terminals.{IsNewTerminal}
 use Rattle.serial_virt.specs.Receiving.{IsNewRx}
 use Rattle.serial_virt.specs.Sending.{IsNewTx}
 use Rattle.pipe_driver.specs.Drivers.{EachPipe, AreDistinct, inputs_of, outputs_of}
 use Rattle.eth_driver.specs.Four.{four_pipes}
-use Rattle.eth_device.specs.Devices.{IsNewDevice, rx_free, rx_active, tx_active, tx_free}
-use Rattle.eth_device.specs.declared.EthDevice.{EthDevice}
-use Rattle.net_kit.specs.Virtualising.{from_queues, to_queues}
-use Rattle.net_kit.specs.declared.virt_ends.VirtEnds.{VirtEnds}
+use Rattle.device_model.specs.EthDevices.Devices.{IsNewDevice, rx_free, rx_active, tx_active, tx_free}
+use Rattle.device_model.specs.declared.eth_device.EthDevice.{EthDevice}
+use Rattle.buffer_kit.specs.Virtualising.{from_queues, to_queues}
+use Rattle.buffer_kit.specs.declared.virt_ends.VirtEnds.{VirtEnds}
 use Rattle.net_virt_rx.specs.Receiving.{IsNewRx as IsNewNetRx, RxStandsFor as NetRxStandsFor}
 use Rattle.net_virt_rx.specs.declared.LeaseEnds.{LeaseEnds}
 use Rattle.net_virt_rx.specs.declared.NetVirtRx.{NetVirtRx}
@@ -26,13 +26,13 @@ use Rattle.net_virt_tx.specs.Sending.{IsNewTx as IsNewNetTx, TxStandsFor as NetT
 use Rattle.net_virt_tx.specs.declared.TxEnds.{TxEnds}
 use Rattle.net_virt_tx.specs.declared.NetVirtTx.{NetVirtTx}
 use Rattle.net_copier.specs.Copying.{IsNewCopier}
-use Rattle.net_client.specs.Clients.{IsNewClient}
-use Rattle.net_client.specs.Clients as client
-use Rattle.net_client.specs.declared.NetClient.{NetClient}
-use Rattle.disk_device.specs.Disks.{IsNewDisk}
-use Rattle.blk_client.specs.Asking.{IsAsking}
-use Rattle.blk_client.specs.Clients.{IsNewBlkClient, BlkClientStandsFor}
-use Rattle.blk_client.specs.declared.BlkClient.{BlkClient}
+use Rattle.client_programs.specs.NetClients.Clients.{IsNewClient}
+use Rattle.client_programs.specs.NetClients.Clients as client
+use Rattle.client_programs.specs.declared.net_client.NetClient.{NetClient}
+use Rattle.device_model.specs.DiskDevices.Disks.{IsNewDisk}
+use Rattle.client_programs.specs.BlkClients.Asking.{IsAsking}
+use Rattle.client_programs.specs.BlkClients.Clients.{IsNewBlkClient, BlkClientStandsFor}
+use Rattle.client_programs.specs.declared.blk_client.BlkClient.{BlkClient}
 use Rattle.blk_driver.specs.declared.BlkDriver.{BlkDriver}
 use Rattle.blk_virt.specs.Works.{IsWork}
 use Rattle.blk_virt.specs.Virtualising.{IsNewBlkVirt, BlkVirtStandsFor}

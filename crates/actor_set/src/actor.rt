@@ -7,10 +7,10 @@ ghost use Rattle.cargo_core.specs.Bodies.{buffers_of};
 ghost use Rattle.actor_set.specs.Actors.{FitsActor, ActorStandsFor, ActorRow, ActorBalances, ActorEnd, ActorTurned, IsWhole, Forgot, actor_rests, actor_hand, part_of, record_length, bad_of, actor_lent};
 
 use crate::Disk;
-use blk_client::BlkClient;
 use blk_driver::BlkDriver;
 use blk_virt::BlkVirt;
 use cargo_core::{Memory, PoolId};
+use client_programs::blk_client::BlkClient;
 use client_programs::{NetClient, SerialClient};
 use device_model::{EthDevice, UartDevice};
 use eth_driver::EthDriver;
@@ -192,18 +192,18 @@ impl Actor {
 pub fn row_law()
     ensures { (a : Actor) (passed : Passed) → ActorStandsFor a passed → ActorRow a passed }
 {
-    serial_terminal::row_law();
+    device_model::serial_terminal::row_law();
     pipe_driver::row_law();
     serial_virt::rx_row_law();
     serial_virt::tx_row_law();
-    eth_device::row_law();
+    device_model::eth_device::row_law();
     net_virt_rx::row_law();
     net_copier::row_law();
-    net_client::row_law();
+    client_programs::net_client::row_law();
     net_virt_tx::row_law();
-    disk_device::row_law();
+    device_model::disk_device::row_law();
     blk_virt::row_law();
-    blk_client::row_law();
+    client_programs::blk_client::row_law();
 }
 
 /// For each pool, what an actor had at the start and what came is what went, what is in its hand,
@@ -211,16 +211,16 @@ pub fn row_law()
 pub fn hand_law()
     ensures { (a : Actor) (passed : Passed) → ActorStandsFor a passed → ActorBalances a passed }
 {
-    serial_terminal::hand_law();
+    device_model::serial_terminal::hand_law();
     pipe_driver::hand_law();
     serial_virt::rx_hand_law();
     serial_virt::tx_hand_law();
-    eth_device::hand_law();
+    device_model::eth_device::hand_law();
     net_virt_rx::hand_law();
     net_copier::hand_law();
-    net_client::hand_law();
+    client_programs::net_client::hand_law();
     net_virt_tx::hand_law();
-    disk_device::hand_law();
+    device_model::disk_device::hand_law();
     blk_virt::hand_law();
-    blk_client::hand_law();
+    client_programs::blk_client::hand_law();
 }

@@ -14,9 +14,9 @@ use Rattle.turn_kit.specs.declared.ends.Outlet.{Outlet}
 use Rattle.turn_kit.specs.declared.intakes.Intakes.{Intakes}
 use Rattle.turn_kit.specs.declared.outlets.Outlets.{Outlets}
 use Rattle.turn_kit.specs.declared.end_state.EndState.{EndState}
-use Rattle.net_kit.specs.declared.virt_ends.VirtEnds.{VirtEnds}
-use Rattle.net_kit.specs.Virtualising.{FitsVirt, SameVirt, from_queues, to_queues}
-use Rattle.net_kit.proofs.VirtFits.{input_moved, output_moved, from_moved, to_moved}
+use Rattle.buffer_kit.specs.declared.virt_ends.VirtEnds.{VirtEnds}
+use Rattle.buffer_kit.specs.Virtualising.{FitsVirt, SameVirt, from_queues, to_queues}
+use Rattle.buffer_kit.proofs.VirtFits.{input_moved, output_moved, from_moved, to_moved}
 use Rattle.blk_virt.specs.Ends.{FitsEnds}
 
 -- an end as if it were of the network

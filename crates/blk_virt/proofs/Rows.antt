@@ -9,7 +9,7 @@ use Rattle.cargo_core.specs.Lists.{IsPrefix}
 use Rattle.wire_core.specs.declared.names.QueueId.{QueueId}
 use Rattle.wire_core.specs.Deeds.{Cargo}
 use Rattle.wire_core.specs.Lists.{Passed}
-use Rattle.net_kit.specs.Virtualising.{from_queues, to_queues}
+use Rattle.buffer_kit.specs.Virtualising.{from_queues, to_queues}
 use Rattle.blk_mbr.specs.declared.part.Part.{Part}
 use Rattle.blk_mbr.specs.Partitions.{part_of}
 use Rattle.blk_virt.specs.declared.client.Client.{Client}

@@ -16,9 +16,9 @@ use Rattle.wire_core.proofs.Places.{if_there_here}
 use Rattle.turn_kit.specs.Hands.{bodies_of, bodies_at}
 use Rattle.turn_kit.specs.ManyEnds.{AreApart}
 use Rattle.turn_kit.proofs.Holding.{cargo-cons}
-use Rattle.net_kit.specs.declared.virt_ends.VirtEnds.{VirtEnds}
-use Rattle.net_kit.specs.Virtualising.{SameVirt, from_queues, to_queues}
-use Rattle.net_kit.proofs.Passing.{none_more, beside, count_more, first_more, later_more}
+use Rattle.buffer_kit.specs.declared.virt_ends.VirtEnds.{VirtEnds}
+use Rattle.buffer_kit.specs.Virtualising.{SameVirt, from_queues, to_queues}
+use Rattle.buffer_kit.proofs.Passing.{none_more, beside, count_more, first_more, later_more}
 use Rattle.blk_mbr.specs.declared.part.Part.{Part}
 use Rattle.blk_virt.specs.declared.client.Client.{Client}
 use Rattle.blk_virt.specs.declared.desk.Desk.{Desk}

@@ -4,9 +4,9 @@ use Rattle.wire_core.specs.declared.names.Event.{Event}
 use Rattle.wire_core.specs.Marks.{is_mark}
 use Rattle.turn_kit.specs.declared.turns.Turn.{Turn}
 use Rattle.turn_kit.specs.Turns.{PostedAt, Turned, choice_of, chosen_place, last_after}
-use Rattle.net_kit.specs.declared.virt_ends.VirtEnd.{VirtEnd}
-use Rattle.net_kit.specs.Virtualising.{IsThere, virt_posts, place_of, need_of}
-use Rattle.net_kit.proofs.VirtTurns.{turned}
+use Rattle.buffer_kit.specs.declared.virt_ends.VirtEnd.{VirtEnd}
+use Rattle.buffer_kit.specs.Virtualising.{IsThere, virt_posts, place_of, need_of}
+use Rattle.buffer_kit.proofs.VirtTurns.{turned}
 use Rattle.blk_virt.specs.declared.virtualiser.BlkVirt.{BlkVirt}
 use Rattle.blk_virt.specs.declared.work.Work.{Work}
 use Rattle.blk_virt.specs.Works.{WorkIsStill, wants_at, gives_at, is_owing}

@@ -6,8 +6,8 @@ use Rattle.wire_core.specs.declared.names.QueueId.{QueueId}
 use Rattle.wire_core.specs.Ends.{Role, Consumer, Producer, End}
 use Rattle.turn_kit.specs.Table.{Agrees}
 use Rattle.turn_kit.specs.ManyEnds.{FitsIntakes, FitsOutlets}
-use Rattle.net_kit.specs.declared.virt_ends.VirtEnds.{VirtEnds}
-use Rattle.net_kit.specs.Virtualising.{from_queues, to_queues}
+use Rattle.buffer_kit.specs.declared.virt_ends.VirtEnds.{VirtEnds}
+use Rattle.buffer_kit.specs.Virtualising.{from_queues, to_queues}
 
 -- the ends are its own, and as it keeps them; no two are one
 pub record FitsEnds (ends : Role → ℕ → End) (v : VirtEnds) : Type 0 where

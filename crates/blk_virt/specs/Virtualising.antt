@@ -12,7 +12,7 @@ use Rattle.wire_core.specs.Lists.{Passed}
 use Rattle.wire_core.specs.Ends.{Role, End}
 use Rattle.turn_kit.specs.Turns.{Round}
 use Rattle.turn_kit.specs.Hands.{Balances, bodies_of, bodies_at}
-use Rattle.net_kit.specs.Virtualising.{SameVirt, IsNewVirt, VirtForgot, VirtOwns, virt_round, virt_came, virt_went, from_queues, to_queues}
+use Rattle.buffer_kit.specs.Virtualising.{SameVirt, IsNewVirt, VirtForgot, VirtOwns, virt_round, virt_came, virt_went, from_queues, to_queues}
 use Rattle.blk_mbr.specs.declared.part.Part.{Part}
 use Rattle.blk_virt.specs.declared.client.Client.{Client}
 use Rattle.blk_virt.specs.declared.virtualiser.BlkEnds.{BlkEnds}

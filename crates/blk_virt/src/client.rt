@@ -7,7 +7,7 @@ ghost use Rattle.wire_core.specs.Lists.{taken_by, put_by, if_there};
 ghost use Rattle.wire_core.specs.Ends.{role_of};
 ghost use Rattle.wire_core.specs.Marks.{is_mark};
 ghost use Rattle.turn_kit.specs.Turns.{PostedAt};
-ghost use Rattle.net_kit.specs.Virtualising.{VirtOwns, SameVirt, from_queues, to_queues, virt_posts};
+ghost use Rattle.buffer_kit.specs.Virtualising.{VirtOwns, SameVirt, from_queues, to_queues, virt_posts};
 ghost use Rattle.blk_virt.specs.Ends.{FitsEnds};
 ghost use Rattle.blk_virt.specs.Requests.{goes_on, number_of, for_disk, page_named, numbered, brings};
 ghost use Rattle.blk_virt.specs.Clients.{carried, client_cargo, IsClient, IsFresh, Moved, is_idle, is_leaving, is_away, is_held, counted, brought, leaving_as, WentOff};
@@ -15,8 +15,8 @@ ghost use Rattle.blk_virt.specs.Clients.{carried, client_cargo, IsClient, IsFres
 use crate::ends::{step_output, step_to_client};
 use crate::{Holder, PageName, brings, numbered, page_named, passed_on, request_of};
 use blk_mbr::Part;
+use buffer_kit::VirtEnds;
 use cargo_core::{Body, Item, PoolId};
-use net_kit::VirtEnds;
 use turn_kit::count_held;
 use wire_core::{Event, Wires};
 

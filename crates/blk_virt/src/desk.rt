@@ -8,7 +8,7 @@ ghost use Rattle.wire_core.specs.Lists.{taken_by, put_by, if_there};
 ghost use Rattle.wire_core.specs.Ends.{role_of};
 ghost use Rattle.wire_core.specs.Marks.{is_mark};
 ghost use Rattle.turn_kit.specs.Turns.{PostedAt};
-ghost use Rattle.net_kit.specs.Virtualising.{VirtOwns, SameVirt, from_queues, to_queues, virt_posts};
+ghost use Rattle.buffer_kit.specs.Virtualising.{VirtOwns, SameVirt, from_queues, to_queues, virt_posts};
 ghost use Rattle.blk_mbr.specs.declared.part.Part.{Part};
 ghost use Rattle.blk_virt.specs.declared.client.Client.{Client};
 ghost use Rattle.blk_virt.specs.declared.desk.Desk.{Desk};
@@ -18,8 +18,8 @@ ghost use Rattle.blk_virt.specs.Desks.{IsDesk, DeskStands, IsRequestOf, desk_car
 
 use crate::{Client, Line};
 use blk_mbr::Part;
+use buffer_kit::VirtEnds;
 use cargo_core::{Body, Item, PoolId};
-use net_kit::VirtEnds;
 use turn_kit::Needs;
 use wire_core::{Event, Wires};
 

@@ -8,11 +8,11 @@ ghost use Rattle.wire_core.specs.Lists.{taken_by, put_by, if_there};
 ghost use Rattle.wire_core.specs.Ends.{role_of};
 ghost use Rattle.wire_core.specs.Marks.{is_mark};
 ghost use Rattle.turn_kit.specs.Turns.{PostedAt};
-ghost use Rattle.net_kit.specs.Virtualising.{VirtOwns, SameVirt, from_queues, to_queues, virt_posts};
+ghost use Rattle.buffer_kit.specs.Virtualising.{VirtOwns, SameVirt, from_queues, to_queues, virt_posts};
 ghost use Rattle.blk_virt.specs.Ends.{FitsEnds};
 
+use buffer_kit::VirtEnds;
 use cargo_core::{Body, Item};
-use net_kit::VirtEnds;
 use wire_core::{Event, Wires};
 
 /// The next call where entries come from the driver. An entry is taken only where it is needed.

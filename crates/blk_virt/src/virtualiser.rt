@@ -6,15 +6,15 @@ ghost use Rattle.wire_core.specs.Ends.{role_of, Role, End};
 ghost use Rattle.wire_core.specs.Lists.{Passed, Stepped, nothing_passed};
 ghost use Rattle.wire_core.specs.Marks.{is_mark};
 ghost use Rattle.turn_kit.specs.Turns.{Turned, PostedAt, choice_of, chosen_place, last_after, is_at_rest};
-ghost use Rattle.net_kit.specs.Virtualising.{from_queues, to_queues, virt_posts, place_of, IsThere, need_of};
+ghost use Rattle.buffer_kit.specs.Virtualising.{from_queues, to_queues, virt_posts, place_of, IsThere, need_of};
 ghost use Rattle.blk_virt.specs.Desks.{bad_count};
 ghost use Rattle.blk_virt.specs.Works.{IsWork, WorkIsStill, wants_at, gives_at, is_owing, work_cargo};
 ghost use Rattle.blk_virt.specs.Virtualising.{FitsBlkVirt, BlkVirtStandsFor, BlkVirtEnd, SameBlkVirt, BlkVirtForgot, BlkVirtRow, BlkVirtBalances, AreClients, IsNewBlkVirt, new_client, blk_virt_round};
 
 use crate::ends::{step_from_client, step_input, step_output, step_to_client};
 use crate::{Client, Desk, Giving, Holder, Line, Opening, Wanting, Work};
+use buffer_kit::{VirtEnd, VirtEnds};
 use cargo_core::{Memory, Page, PoolId};
-use net_kit::{VirtEnd, VirtEnds};
 use std::alloc::Global;
 use wire_core::{Event, QueueId, Wires};
 

@@ -9,7 +9,7 @@ ghost use Rattle.wire_core.specs.Lists.{taken_by, put_by, if_there};
 ghost use Rattle.wire_core.specs.Ends.{role_of};
 ghost use Rattle.wire_core.specs.Marks.{is_mark};
 ghost use Rattle.turn_kit.specs.Turns.{PostedAt};
-ghost use Rattle.net_kit.specs.Virtualising.{VirtOwns, SameVirt, from_queues, to_queues, virt_posts};
+ghost use Rattle.buffer_kit.specs.Virtualising.{VirtOwns, SameVirt, from_queues, to_queues, virt_posts};
 ghost use Rattle.blk_virt.specs.Ends.{FitsEnds};
 ghost use Rattle.blk_virt.specs.declared.client.Client.{Client};
 ghost use Rattle.blk_virt.specs.Clients.{carried};
@@ -19,8 +19,8 @@ ghost use Rattle.blk_virt.specs.Works.{IsWork, SameWork, WorkStands, WorkIsStill
 
 use crate::ends::step_output;
 use crate::{Desk, Opening};
+use buffer_kit::VirtEnds;
 use cargo_core::{Body, Item, PoolId};
-use net_kit::VirtEnds;
 use turn_kit::{Needs, count_held};
 use wire_core::{Event, Wires};
 

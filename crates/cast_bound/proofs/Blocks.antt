@@ -17,19 +17,19 @@ use Rattle.trace_text.specs.declared.trace.Trace.{Trace}
 use Rattle.trace_text.specs.Events.{blk_clients}
 use Rattle.trace_text.specs.Traces.{per_client}
 use Rattle.region_layout.specs.Rows.{queues_of}
-use Rattle.blk_parts.specs.Numbers.{BlkPlace}
-use Rattle.blk_hops.specs.Hops.{blk_put, blk_moves, IsBlock}
-use Rattle.blk_hops.proofs.Moves.{blk_moved}
+use Rattle.blk_law.specs.BlkParts.Numbers.{BlkPlace}
+use Rattle.blk_law.specs.BlkHops.Hops.{blk_put, blk_moves, IsBlock}
+use Rattle.blk_law.proofs.BlkHops.Moves.{blk_moved}
 use Rattle.actor_set.specs.Parts.{Part}
-use Rattle.actor_law.specs.Kinds.{sheet, scene_of, hostiles}
-use Rattle.actor_law.proofs.Calm.{calm_actor, calm_row}
+use Rattle.actor_set.specs.ActorLaw.Kinds.{sheet, scene_of, hostiles}
+use Rattle.actor_set.proofs.ActorLaw.Calm.{calm_actor, calm_row}
 use Rattle.wired_law.specs.Wiring.{HasPart, HasBlk}
 use Rattle.expect_core.specs.Expected.{client_entry}
 use Rattle.cast_core.specs.Sources.{first_blk}
 use Rattle.cast_core.specs.Casts.{blk_place}
 use Rattle.cast_core.proofs.Listing.{value_count}
 use Rattle.cast_core.proofs.Tables.{has_rows}
-use Rattle.play_bound.specs.Standing.{serial_first, serial_many, blk_first, BlkMoves, without_blk, with_blk}
+use Rattle.cast_bound.specs.PlayBound.Standing.{serial_first, serial_many, blk_first, BlkMoves, without_blk, with_blk}
 
 -- what clients ask is no more than what is given
 asks_few : (n : ℕ) (asks : List (List Ask)) → sum_by length (per_client n (λ c. unwrap_or (slice_get asks c) [])) ≤ sum_by length asks

@@ -13,13 +13,13 @@ use Rattle.region_layout.specs.Rows.{queues_of, actors_of}
 use Rattle.expect_core.specs.Budgets.{budget_of}
 use Rattle.serial_law.specs.Serial.{SerialClass, IsSerial}
 use Rattle.serial_law.specs.Table.{serial_sheet}
-use Rattle.serial_hops.proofs.Moves.{serial_moves}
+use Rattle.serial_law.proofs.SerialHops.Moves.{serial_moves}
 use Rattle.actor_set.specs.Parts.{Part}
-use Rattle.actor_law.specs.Kinds.{hostiles}
-use Rattle.actor_law.proofs.Calm.{calm_row}
-use Rattle.play_bound.specs.Standing.{StandsFrom, Carries, serial_first, NetMoves, SerialMoves, without_serial, with_serial, BlkMoves}
-use Rattle.play_bound.proofs.Bounding.{within_budget}
-use Rattle.play_bound.proofs.Classes.{classes_within}
+use Rattle.actor_set.specs.ActorLaw.Kinds.{hostiles}
+use Rattle.actor_set.proofs.ActorLaw.Calm.{calm_row}
+use Rattle.cast_bound.specs.PlayBound.Standing.{StandsFrom, Carries, serial_first, NetMoves, SerialMoves, without_serial, with_serial, BlkMoves}
+use Rattle.cast_bound.proofs.PlayBound.Bounding.{within_budget}
+use Rattle.cast_bound.proofs.PlayBound.Classes.{classes_within}
 
 pub serial_within : (plan : Plan) (trace : Trace) (cast : List Part) (history : History) (journal : List Entry) → QueuesFlow (hostiles cast) history (queues_of plan) journal
     → ((serial : Serial) → plan.serial ≡ Some serial → (class : SerialClass) × StandsFrom (serial_first plan.net) (length serial.client) class × Carries trace class × IsSerial (λ p. (serial_sheet p).row (moved history journal)) (hostiles cast) (queues_of plan) class)

@@ -11,15 +11,15 @@ use Rattle.trace_text.specs.Events.{net_clients}
 use Rattle.trace_text.specs.Traces.{per_client}
 use Rattle.region_layout.specs.Rows.{pools_of, net_pools, blk_pools, net_client_pools, pool_in, each_client}
 use Rattle.region_layout.proofs.SameLemmas.{pools_same}
-use Rattle.net_client.specs.Programs.{program_with}
-use Rattle.net_client.specs.declared.program.NetProgram.{NetProgram}
-use Rattle.net_client.specs.declared.program.NetProgram.TheVariants as Programs
-use Rattle.net_owners.specs.Names.{ClientPools}
+use Rattle.client_programs.specs.NetClients.Programs.{program_with}
+use Rattle.client_programs.specs.declared.net_client.program.NetProgram.{NetProgram}
+use Rattle.client_programs.specs.declared.net_client.program.NetProgram.TheVariants as Programs
+use Rattle.net_law.specs.NetOwners.Names.{ClientPools}
 use Rattle.cast_core.specs.Sources.{pool_at, client_kind}
 use Rattle.cast_core.specs.Casts.{client_pools, net_place}
 use Rattle.cast_core.proofs.Listing.{value_count}
-use Rattle.net_hops.specs.Hops.{script_frames}
-use Rattle.play_bound.specs.Standing.{IsPlaceOf}
+use Rattle.net_law.specs.NetHops.Hops.{script_frames}
+use Rattle.cast_bound.specs.PlayBound.Standing.{IsPlaceOf}
 
 -- a value for each of a list is no more than what each element gives
 per_few : {T X : Type 0} (g : T → ℕ) (h : X → ℕ) (value : ℕ → T) (xs : List X) → ((c : ℕ) (x : X) → slice_get xs c ≡ Some x → g (value c) ≤ h x) → sum_by g (per_client (length xs) value) ≤ sum_by h xs

@@ -16,7 +16,7 @@ use Rattle.wire_core.specs.Lists.{nothing_passed}
 use Rattle.turn_kit.specs.Table.{start_state}
 use Rattle.turn_kit.specs.declared.ends.Intake.{Intake}
 use Rattle.turn_kit.specs.declared.ends.Outlet.{Outlet}
-use Rattle.net_kit.specs.Virtualising.{from_queues, to_queues}
+use Rattle.buffer_kit.specs.Virtualising.{from_queues, to_queues}
 use Rattle.blk_virt.specs.Desks.{holders}
 use Rattle.blk_virt.specs.Requests.{range_of}
 use Rattle.blk_virt.specs.Virtualising.{AreClients, IsNewBlkVirt, BlkVirtStandsFor, new_client}
@@ -25,13 +25,13 @@ use Rattle.blk_virt.specs.declared.client.Client.{Client}
 use Rattle.blk_virt.specs.declared.requests.Holder.{Holder}
 use Rattle.blk_virt.specs.declared.virtualiser.BlkEnds.{BlkEnds}
 use Rattle.blk_virt.specs.declared.virtualiser.BlkVirt.{BlkVirt}
-use Rattle.blk_client.specs.Asking.{IsAsking}
-use Rattle.blk_client.specs.Clients.{IsNewBlkClient, BlkClientStandsFor}
-use Rattle.blk_client.specs.declared.BlkClient.{BlkClient}
-use Rattle.net_owners.specs.Names.{PoolAt}
-use Rattle.blk_parts.specs.Parts.{BlkVirt as VirtPart, BlkClient as ClientPart, Sharer}
-use Rattle.blk_parts.specs.Numbers.{sharers_from, blk_client_at}
-use Rattle.blk_parts.specs.Playing.{sharers, holder_pool, virt_part, blk_client_part}
+use Rattle.client_programs.specs.BlkClients.Asking.{IsAsking}
+use Rattle.client_programs.specs.BlkClients.Clients.{IsNewBlkClient, BlkClientStandsFor}
+use Rattle.client_programs.specs.declared.blk_client.BlkClient.{BlkClient}
+use Rattle.net_law.specs.NetOwners.Names.{PoolAt}
+use Rattle.blk_law.specs.BlkParts.Parts.{BlkVirt as VirtPart, BlkClient as ClientPart, Sharer}
+use Rattle.blk_law.specs.BlkParts.Numbers.{sharers_from, blk_client_at}
+use Rattle.blk_law.specs.BlkParts.Playing.{sharers, holder_pool, virt_part, blk_client_part}
 use Rattle.actor_set.specs.StartStates.{IsNewServer, IsNewAsker}
 use Rattle.trace_text.specs.Traces.{per_client}
 use Rattle.sdf_plan.specs.declared.plan.Plan.{Plan}

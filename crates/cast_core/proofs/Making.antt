@@ -20,11 +20,11 @@ use Rattle.wire_core.specs.declared.names.Side.TheVariants.{Forward, Backward}
 use Rattle.turn_kit.specs.declared.pipe.Pipe.{Pipe}
 use Rattle.turn_kit.specs.declared.ends.Intake.{Intake}
 use Rattle.turn_kit.specs.declared.ends.Outlet.{Outlet}
-use Rattle.net_kit.specs.Pools.{ArePool}
-use Rattle.net_kit.specs.Stocks.{IsStart}
-use Rattle.net_kit.specs.Virtualising.{IsNewVirt, from_queues, to_queues, new_intake, new_outlet}
-use Rattle.net_kit.specs.declared.stock.Stock.{Stock}
-use Rattle.net_kit.specs.declared.virt_ends.VirtEnds.{VirtEnds}
+use Rattle.buffer_kit.specs.Pools.{ArePool}
+use Rattle.buffer_kit.specs.Stocks.{IsStart}
+use Rattle.buffer_kit.specs.Virtualising.{IsNewVirt, from_queues, to_queues, new_intake, new_outlet}
+use Rattle.buffer_kit.specs.declared.stock.Stock.{Stock}
+use Rattle.buffer_kit.specs.declared.virt_ends.VirtEnds.{VirtEnds}
 use Rattle.net_virt_rx.specs.Receiving.{IsNewRx, RxStandsFor}
 use Rattle.net_virt_rx.specs.declared.LeaseEnds.{LeaseEnds}
 use Rattle.net_virt_rx.specs.declared.NetVirtRx.{NetVirtRx}
@@ -32,18 +32,18 @@ use Rattle.net_virt_tx.specs.Sending.{IsNewTx, TxStandsFor, FitsClients, sender_
 use Rattle.net_virt_tx.specs.Traffics.{senders}
 use Rattle.net_virt_tx.specs.declared.TxEnds.{TxEnds}
 use Rattle.net_virt_tx.specs.declared.NetVirtTx.{NetVirtTx}
-use Rattle.net_client.specs.Clients.{IsNewClient}
-use Rattle.net_client.specs.Programs.{program_with}
-use Rattle.net_client.specs.declared.program.NetProgram.{NetProgram}
-use Rattle.net_client.specs.declared.program.ClientProgram.{ClientProgram}
-use Rattle.net_client.specs.declared.NetClient.{NetClient}
-use Rattle.net_owners.specs.Names.{ClientPools}
-use Rattle.net_parts.specs.Parts.{NetDriver, NetReceiver, NetClient as ClientPart, Lessee, Way}
-use Rattle.net_parts.specs.Numbers.{client_first, lessees_from, receiver_at, client_at}
-use Rattle.net_parts.specs.Playing.{stock_pool, way_of, lessees, lessees_of, receiver_part, client_part}
-use Rattle.net_tx_parts.specs.Parts.{SendPart, Shipper}
-use Rattle.net_tx_parts.specs.Numbers.{own_pool, own_pools, shippers_from, sender_at}
-use Rattle.net_tx_parts.specs.Playing.{sender_pool, shippers, send_part}
+use Rattle.client_programs.specs.NetClients.Clients.{IsNewClient}
+use Rattle.client_programs.specs.NetClients.Programs.{program_with}
+use Rattle.client_programs.specs.declared.net_client.program.NetProgram.{NetProgram}
+use Rattle.client_programs.specs.declared.net_client.program.ClientProgram.{ClientProgram}
+use Rattle.client_programs.specs.declared.net_client.NetClient.{NetClient}
+use Rattle.net_law.specs.NetOwners.Names.{ClientPools}
+use Rattle.net_law.specs.NetParts.Parts.{NetDriver, NetReceiver, NetClient as ClientPart, Lessee, Way}
+use Rattle.net_law.specs.NetParts.Numbers.{client_first, lessees_from, receiver_at, client_at}
+use Rattle.net_law.specs.NetParts.Playing.{stock_pool, way_of, lessees, lessees_of, receiver_part, client_part}
+use Rattle.net_law.specs.NetTxParts.Parts.{SendPart, Shipper}
+use Rattle.net_law.specs.NetTxParts.Numbers.{own_pool, own_pools, shippers_from, sender_at}
+use Rattle.net_law.specs.NetTxParts.Playing.{sender_pool, shippers, send_part}
 use Rattle.trace_text.specs.Traces.{per_client}
 use Rattle.actor_set.specs.StartStates.{IsNewLender, IsNewSender, IsNewClientOf}
 use Rattle.sdf_plan.specs.declared.plan.Plan.{Plan}

@@ -6,10 +6,10 @@ use Rattle.trace_text.specs.declared.trace.Trace.{Trace}
 use Rattle.trace_text.specs.Events.{net_clients, serial_clients, blk_clients}
 use Rattle.trace_text.specs.Traces.{per_client}
 use Rattle.region_layout.specs.Rows.{actors_of, pools_of}
-use Rattle.net_owners.specs.Names.{PoolAt, ClientPools}
-use Rattle.net_parts.specs.Numbers.{device_at, driver_at, receiver_at, copier_at, client_at}
-use Rattle.net_tx_parts.specs.Numbers.{NetPlace, own_pools, sender_at}
-use Rattle.blk_parts.specs.Numbers.{BlkPlace, disk_at, blk_driver_at, virt_at, blk_client_at}
+use Rattle.net_law.specs.NetOwners.Names.{PoolAt, ClientPools}
+use Rattle.net_law.specs.NetParts.Numbers.{device_at, driver_at, receiver_at, copier_at, client_at}
+use Rattle.net_law.specs.NetTxParts.Numbers.{NetPlace, own_pools, sender_at}
+use Rattle.blk_law.specs.BlkParts.Numbers.{BlkPlace, disk_at, blk_driver_at, virt_at, blk_client_at}
 use Rattle.actor_set.specs.Parts.{Part, UartPart, DriverPart, RxPart, TxPart, ClientPart, NetworkPart, SendingPart, BlockPart}
 use Rattle.actor_set.specs.Actors.{part_of}
 use Rattle.actor_set.specs.StartStates.{IsNew}
@@ -17,7 +17,7 @@ use Rattle.actor_set.specs.declared.actor.Actor.{Actor}
 use Rattle.play_core.specs.Sheets.{Scene}
 use Rattle.expect_core.specs.Expected.{client_asks, client_entry}
 use Rattle.cast_core.specs.Sources.{every_second, first_serial, pool_at, pools_at, client_mac, client_program, first_blk, first_blk_pool}
-use Rattle.job_law.specs.Jobs.{Job, EthDevice, EthDriver, NetReceiver, NetSender, NetCopier, NetClient, UartDevice, UartDriver, SerialReceiver, SerialSender, SerialClient, DiskDevice, DiskDriver, BlkVirtualiser, BlkClient, HasJob}
+use Rattle.layout_laws.specs.JobLaw.Jobs.{Job, EthDevice, EthDriver, NetReceiver, NetSender, NetCopier, NetClient, UartDevice, UartDriver, SerialReceiver, SerialSender, SerialClient, DiskDevice, DiskDriver, BlkVirtualiser, BlkClient, HasJob}
 
 -- the pools of the network client of a number
 abbrev pub client_pools : Plan → ℕ → ClientPools

@@ -6,3 +6,9 @@ pub mod Wired
 pub mod Pooled
 pub mod Blocks
 pub mod Joined
+pub mod CastQuiet
+pub mod CastPools
+pub mod PastOwners
+pub mod PoolLines
+pub mod RunLaw
+pub mod GoneLaw

@@ -24,29 +24,29 @@ use Rattle.layout_laws.specs.Sound.{IsSoundPool}
 use Rattle.layout_laws.proofs.Pools.{pools_sound}
 use Rattle.layout_laws.proofs.Rooms.{has_rooms}
 use Rattle.net_expect.specs.Expecting.{Program, Source}
-use Rattle.net_client.specs.Programs.{program_with}
-use Rattle.net_client.specs.declared.program.NetProgram.{NetProgram}
-use Rattle.net_client.specs.declared.program.NetProgram.TheVariants as Programs
-use Rattle.net_owners.specs.Names.{ClientPools}
-use Rattle.net_parts.specs.Parts.{NetPart}
-use Rattle.net_parts.specs.Numbers.{device_at, client_at}
-use Rattle.net_parts.proofs.Items.{all_at}
-use Rattle.net_tx_parts.specs.Parts.{SendPart}
-use Rattle.net_tx_parts.specs.Numbers.{NetPlace, own_pools}
-use Rattle.net_tx_cast.specs.Casting.{AreFrames, IsClientOf}
-use Rattle.blk_parts.specs.Numbers.{disk_at}
+use Rattle.client_programs.specs.NetClients.Programs.{program_with}
+use Rattle.client_programs.specs.declared.net_client.program.NetProgram.{NetProgram}
+use Rattle.client_programs.specs.declared.net_client.program.NetProgram.TheVariants as Programs
+use Rattle.net_law.specs.NetOwners.Names.{ClientPools}
+use Rattle.net_law.specs.NetParts.Parts.{NetPart}
+use Rattle.net_law.specs.NetParts.Numbers.{device_at, client_at}
+use Rattle.net_law.proofs.NetParts.Items.{all_at}
+use Rattle.net_law.specs.NetTxParts.Parts.{SendPart}
+use Rattle.net_law.specs.NetTxParts.Numbers.{NetPlace, own_pools}
+use Rattle.net_quiet.specs.NetTxCast.Casting.{AreFrames, IsClientOf}
+use Rattle.blk_law.specs.BlkParts.Numbers.{disk_at}
 use Rattle.actor_set.specs.Parts.{Part, NetworkPart, SendingPart, BlockPart}
 use Rattle.actor_set.specs.Actors.{part_of}
 use Rattle.actor_set.specs.declared.actor.Actor.{Actor}
-use Rattle.actor_law.specs.Kinds.{frames_of, image_of, scene_of}
+use Rattle.actor_set.specs.ActorLaw.Kinds.{frames_of, image_of, scene_of}
 use Rattle.wired_law.specs.Wiring.{HasWhole, HasNoNetwork, IsOfNetwork}
-use Rattle.job_law.specs.Jobs.{Job, EthDevice, EthDriver, NetReceiver, NetSender, NetCopier, NetClient, UartDevice, UartDriver, SerialReceiver, SerialSender, SerialClient, DiskDevice, DiskDriver, BlkVirtualiser, BlkClient, HasJob}
-use Rattle.job_law.proofs.Having.{one_actor, same_job, job_below}
-use Rattle.seat_law.specs.Ends.{HasNet, HasBlk as HasBlkClass, IsOf, net_count}
-use Rattle.seat_law.specs.Named.{AreNetNamed}
-use Rattle.seat_law.proofs.Having.{job_is_of}
-use Rattle.seat_law.proofs.Carrying.{net_kinds}
-use Rattle.seat_law.proofs.Naming.{net_named, blk_named}
+use Rattle.layout_laws.specs.JobLaw.Jobs.{Job, EthDevice, EthDriver, NetReceiver, NetSender, NetCopier, NetClient, UartDevice, UartDriver, SerialReceiver, SerialSender, SerialClient, DiskDevice, DiskDriver, BlkVirtualiser, BlkClient, HasJob}
+use Rattle.layout_laws.proofs.JobLaw.Having.{one_actor, same_job, job_below}
+use Rattle.layout_laws.specs.SeatLaw.Ends.{HasNet, HasBlk as HasBlkClass, IsOf, net_count}
+use Rattle.layout_laws.specs.SeatLaw.Named.{AreNetNamed}
+use Rattle.layout_laws.proofs.SeatLaw.Having.{job_is_of}
+use Rattle.layout_laws.proofs.SeatLaw.Carrying.{net_kinds}
+use Rattle.layout_laws.proofs.SeatLaw.Naming.{net_named, blk_named}
 use Rattle.cast_core.specs.Casts.{client_pools, net_place, blk_place, job_part, scene_for, AreCast}
 use Rattle.cast_core.specs.Sources.{no_mac, client_mac, client_kind, client_program}
 use Rattle.cast_core.proofs.Listing.{value_count, value_at, value_is}

@@ -7,14 +7,18 @@
 ghost use Rattle.std.specs.Prelude.{◌≡◌};
 ghost use Rattle.std.specs.Borrow.{Lends, sem};
 ghost use Rattle.wire_core.specs.Lists.{nothing_passed};
-ghost use Rattle.serial_terminal.specs.Terminals.{IsNewTerminal, TerminalStandsFor};
-ghost use Rattle.serial_terminal.specs.contracts.Terminal.{the_row as terminal_row};
+ghost use Rattle.device_model.specs.SerialTerminal.Terminals.{IsNewTerminal, TerminalStandsFor};
+ghost use Rattle.device_model.specs.contracts.serial_terminal.Terminal.{the_row as terminal_row};
 ghost use Rattle.client_programs.specs.contracts.SerialClient.{the_row};
 
-pub use blk_client::BlkClient;
+pub mod blk_client;
+pub mod net_client;
+
+pub use crate::blk_client::BlkClient;
+pub use crate::net_client::NetClient;
 use cargo_core::Bytes;
-pub use net_client::NetClient;
-use serial_terminal::Terminal;
+use device_model::serial_terminal::Terminal;
+pub use net_client::NetProgram;
 use std::alloc::Global;
 use std::ops::{Deref, DerefMut};
 use wire_core::QueueId;

@@ -6,14 +6,18 @@
 ghost use Rattle.std.specs.Prelude.{◌≡◌};
 ghost use Rattle.std.specs.Borrow.{Lends, sem};
 ghost use Rattle.wire_core.specs.Lists.{nothing_passed};
-ghost use Rattle.serial_terminal.specs.Terminals.{IsNewTerminal, TerminalStandsFor};
-ghost use Rattle.serial_terminal.specs.contracts.Terminal.{the_row as terminal_row};
+ghost use Rattle.device_model.specs.SerialTerminal.Terminals.{IsNewTerminal, TerminalStandsFor};
+ghost use Rattle.device_model.specs.contracts.serial_terminal.Terminal.{the_row as terminal_row};
 ghost use Rattle.device_model.specs.contracts.UartDevice.{the_row};
 
+pub mod disk_device;
+pub mod eth_device;
+pub mod serial_terminal;
+
+pub use crate::disk_device::DiskDevice;
+pub use crate::eth_device::EthDevice;
+use crate::serial_terminal::Terminal;
 use cargo_core::Bytes;
-pub use disk_device::DiskDevice;
-pub use eth_device::EthDevice;
-use serial_terminal::Terminal;
 use std::alloc::Global;
 use std::ops::{Deref, DerefMut};
 use wire_core::QueueId;

@@ -8,13 +8,13 @@ use Rattle.wire_core.specs.Deeds.{Cargo}
 use Rattle.wire_core.specs.Lists.{Passed}
 use Rattle.turn_kit.specs.Hands.{bodies_of}
 use Rattle.turn_kit.proofs.Holding.{at_one, at_more, cargo-append}
-use Rattle.net_kit.specs.Entries.{all_filled}
+use Rattle.buffer_kit.specs.Entries.{all_filled}
 use Rattle.net_copier.specs.declared.Stage.{Stage}
 use Rattle.net_copier.specs.declared.Stage.TheVariants as At
 use Rattle.net_copier.specs.declared.NetCopier.{NetCopier}
 use Rattle.net_copier.specs.Copying.{CopierStandsFor, CopierBalances, CopierRow, is_copied, is_stray, IfThere, IsAt, leased_bytes}
-use Rattle.net_kit.proofs.Filling.{filled_still}
-use Rattle.net_kit.proofs.Counts.{all_filled_in}
+use Rattle.buffer_kit.proofs.Filling.{filled_still}
+use Rattle.buffer_kit.proofs.Counts.{all_filled_in}
 
 -- a lease that is to be returned is there; where a buffer is filled none is
 hand_few : (lease buffer : Option Cargo) (s : Stage) → (is_some buffer ≡ true → (is_some lease ≡ true) × (s ≡ At.Taken)) → bit (is_some lease && is_copied s) + length (option_to_list buffer) ≤ length (option_to_list lease)

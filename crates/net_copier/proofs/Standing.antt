@@ -11,12 +11,12 @@ use Rattle.wire_core.specs.Lists.{Lists, Passed, with, if_there}
 use Rattle.wire_core.proofs.Places.{if_there_here}
 use Rattle.turn_kit.specs.declared.ends.Intake.{Intake}
 use Rattle.turn_kit.specs.declared.ends.Outlet.{Outlet}
-use Rattle.net_kit.specs.Entries.{filled, all_filled}
+use Rattle.buffer_kit.specs.Entries.{filled, all_filled}
 use Rattle.net_copier.specs.declared.Stage.{Stage}
 use Rattle.net_copier.specs.declared.Stage.TheVariants as At
 use Rattle.net_copier.specs.declared.NetCopier.{NetCopier}
 use Rattle.net_copier.specs.Copying.{CopierStandsFor, IsAt, IfThere, is_copied, is_returning, is_stray, is_taken, is_wanting, leased_bytes}
-use Rattle.net_kit.proofs.Filling.{filled_more, filled_still, last_at}
+use Rattle.buffer_kit.proofs.Filling.{filled_more, filled_still, last_at}
 
 -- a queue beside the one of the call
 beside : (m n : ℕ) (c : List Cargo) → (m ≡ n → ⊥) → if_there (m == n) c ≡ []

@@ -16,7 +16,7 @@ use Rattle.turn_kit.specs.Table.{Agrees, start_state}
 use Rattle.turn_kit.specs.Turns.{Round}
 use Rattle.turn_kit.specs.Posts.{intake_post, outlet_post}
 use Rattle.turn_kit.specs.Hands.{Balances, bodies_of, bodies_at}
-use Rattle.net_kit.specs.Entries.{all_filled}
+use Rattle.buffer_kit.specs.Entries.{all_filled}
 use Rattle.net_copier.specs.declared.Stage.{Stage}
 use Rattle.net_copier.specs.declared.Stage.TheVariants as At
 use Rattle.net_copier.specs.declared.NetCopier.{NetCopier}

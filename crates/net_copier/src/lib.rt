@@ -12,8 +12,8 @@ ghost use Rattle.turn_kit.specs.Turns.{Turned, Posted, choice_of, chosen_place, 
 ghost use Rattle.turn_kit.specs.Posts.{intake_post, outlet_post};
 ghost use Rattle.net_copier.specs.Copying.{FitsCopier, CopierStandsFor, CopierRow, CopierBalances, CopierEnd, SameCopier, IsNewCopier, SameWork, IsAt, IsWork, is_copied, leased_bytes, is_stray, is_wanting, is_returning, copier_round, copier_hand, copier_forgotten};
 
+use buffer_kit::fill;
 use cargo_core::{Body, Item, PoolId};
-use net_kit::fill;
 use turn_kit::{Intake, Outlet, Turn, count_held};
 use wire_core::{Event, QueueId, Wires};
 

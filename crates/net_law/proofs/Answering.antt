@@ -7,13 +7,13 @@ use Rattle.frame_core.specs.Frames.{turned_round, is_frame_for}
 use Rattle.wire_core.specs.Deeds.{Cargo}
 use Rattle.wire_core.specs.Lists.{Passed}
 use Rattle.net_expect.specs.Expecting.{frames_for, answers_for, is_for_client, sends_of}
-use Rattle.net_kit.specs.Entries.{frame_of, all_filled}
-use Rattle.net_kit.specs.Pools.{given_entry}
-use Rattle.net_client.specs.declared.program.NetProgram.{NetProgram}
-use Rattle.net_client.specs.declared.program.NetProgram.TheVariants as Kind
-use Rattle.net_client.specs.declared.NetClient.{NetClient}
-use Rattle.net_client.specs.Programs.{program_with, program_of, sent_for, frames_out, answer_to}
-use Rattle.net_client.specs.Clients.{rx_active, tx_active, tx_free}
+use Rattle.buffer_kit.specs.Entries.{frame_of, all_filled}
+use Rattle.buffer_kit.specs.Pools.{given_entry}
+use Rattle.client_programs.specs.declared.net_client.program.NetProgram.{NetProgram}
+use Rattle.client_programs.specs.declared.net_client.program.NetProgram.TheVariants as Kind
+use Rattle.client_programs.specs.declared.net_client.NetClient.{NetClient}
+use Rattle.client_programs.specs.NetClients.Programs.{program_with, program_of, sent_for, frames_out, answer_to}
+use Rattle.client_programs.specs.NetClients.Clients.{rx_active, tx_active, tx_free}
 use Rattle.net_law.specs.Receiving.{AreRoomy}
 use Rattle.net_law.specs.Sending.{IsSending}
 use Rattle.net_law.proofs.Beginnings.{begins_on, begins_map}

@@ -9,7 +9,7 @@ use Rattle.cargo_core.specs.declared.item.QueueKind.TheVariants as Kind
 use Rattle.cargo_core.specs.Items.{kind_of}
 use Rattle.cargo_core.specs.Lists.{IsPrefix, replaced}
 use Rattle.wire_core.specs.Deeds.{Cargo}
-use Rattle.net_kit.specs.Entries.{frame_of, filled, filled_body, all_filled, first_bytes, len_of, with_len}
+use Rattle.buffer_kit.specs.Entries.{frame_of, filled, filled_body, all_filled, first_bytes, len_of, with_len}
 use Rattle.net_law.specs.Receiving.{IsRoomy, AreRoomy, HasRoom}
 
 len_is : (n : ℕ) (item : Item) → kind_of item ≡ Kind.Net → len_of (with_len n item) ≡ n

@@ -20,21 +20,21 @@ use Rattle.play_core.proofs.Lists.{map_get, map_from, there_below}
 use Rattle.play_core.proofs.Merges.{prefix_merge_whole}
 use Rattle.play_core.proofs.Walks.{needs_as, drained, paid, roomy}
 use Rattle.net_expect.specs.Expecting.{Program}
-use Rattle.net_kit.specs.Entries.{addr_of}
+use Rattle.buffer_kit.specs.Entries.{addr_of}
 use Rattle.net_virt_tx.specs.Descriptors.{with_addr}
-use Rattle.net_owners.specs.Names.{PoolAt, ClientPools, by_offset}
-use Rattle.net_owners.specs.Ends.{numbers_from}
-use Rattle.net_parts.specs.Parts.{Way}
-use Rattle.net_parts.specs.Numbers.{client_first, device_at, driver_at, client_at}
-use Rattle.net_parts.specs.Rows.{AllCopy, FillsFrames, ServesClient, given_item, given_items, sent_where}
-use Rattle.net_parts.specs.Table.{net_sheet, is_short, client_items}
-use Rattle.net_parts.proofs.Pairs.{twice, pair_first, pair_second}
-use Rattle.net_parts.proofs.Plain.{numbers_length}
-use Rattle.net_tx_parts.specs.Parts.{Shipper}
-use Rattle.net_tx_parts.specs.Numbers.{NetPlace, own_pools, sender_at, shippers_from}
-use Rattle.net_tx_parts.specs.Rows.{MergesSends, IsOffset, all_sends, sends_due, at_device, at_home, in_range}
-use Rattle.net_tx_parts.specs.Table.{send_sheet}
-use Rattle.net_tx_cast.specs.Casting.{IsClientOf}
+use Rattle.net_law.specs.NetOwners.Names.{PoolAt, ClientPools, by_offset}
+use Rattle.net_law.specs.NetOwners.Ends.{numbers_from}
+use Rattle.net_law.specs.NetParts.Parts.{Way}
+use Rattle.net_law.specs.NetParts.Numbers.{client_first, device_at, driver_at, client_at}
+use Rattle.net_law.specs.NetParts.Rows.{AllCopy, FillsFrames, ServesClient, given_item, given_items, sent_where}
+use Rattle.net_law.specs.NetParts.Table.{net_sheet, is_short, client_items}
+use Rattle.net_law.proofs.NetParts.Pairs.{twice, pair_first, pair_second}
+use Rattle.net_law.proofs.NetParts.Plain.{numbers_length}
+use Rattle.net_law.specs.NetTxParts.Parts.{Shipper}
+use Rattle.net_law.specs.NetTxParts.Numbers.{NetPlace, own_pools, sender_at, shippers_from}
+use Rattle.net_law.specs.NetTxParts.Rows.{MergesSends, IsOffset, all_sends, sends_due, at_device, at_home, in_range}
+use Rattle.net_law.specs.NetTxParts.Table.{send_sheet}
+use Rattle.net_quiet.specs.NetTxCast.Casting.{IsClientOf}
 use Rattle.net_quiet.specs.Still.{IsNetwork}
 use Rattle.net_quiet.proofs.Listing.{keeps, sized_as, sized_few, ship_of, shipper_at, shipper_from}
 

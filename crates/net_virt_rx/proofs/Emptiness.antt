@@ -1,7 +1,7 @@
 -- No buffers are those of a pool without any.
 use Rattle.std.proofs.Common.{◌≡◌, ℕ, [], Some, slice_get, arith}
 use Rattle.cargo_core.specs.Pages.{Paged}
-use Rattle.net_kit.specs.Pools.{ArePool}
+use Rattle.buffer_kit.specs.Pools.{ArePool}
 
 pub no_pages : ArePool 0 (record { 0 = 0 }) 1 []
 no_pages = record {

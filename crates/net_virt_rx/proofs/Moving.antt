@@ -20,10 +20,10 @@ use Rattle.wire_core.proofs.Places.{slice_get_written}
 use Rattle.turn_kit.specs.Hands.{bodies_of}
 use Rattle.turn_kit.proofs.Holding.{buffers-append, buffers-cons}
 use Rattle.net_expect.specs.Expecting.{is_for_client}
-use Rattle.net_kit.specs.Entries.{addr_of, frame_of, len_of}
-use Rattle.net_kit.specs.Pools.{given_entry, page_bodies}
-use Rattle.net_kit.specs.Stocks.{stock_list, stock_hand}
-use Rattle.net_kit.specs.declared.stock.Stock.{Stock}
+use Rattle.buffer_kit.specs.Entries.{addr_of, frame_of, len_of}
+use Rattle.buffer_kit.specs.Pools.{given_entry, page_bodies}
+use Rattle.buffer_kit.specs.Stocks.{stock_list, stock_hand}
+use Rattle.buffer_kit.specs.declared.stock.Stock.{Stock}
 use Rattle.net_virt_rx.specs.declared.sharer.Sharer.{Sharer}
 use Rattle.net_virt_rx.specs.Sharing.{IsSharer, IsLoan, IsBuffer, SharerStands, SameSharer, how_many, named, is_back, is_idle, is_out, is_owing, lease_of, lease_entry, leases_for, owed_to, owed_lease, loan_bodies, lent_bodies, sharer_hand, sharer_bodies, with_more}
 use Rattle.net_virt_rx.proofs.Marking.{all_clear, few_marked, one_less}

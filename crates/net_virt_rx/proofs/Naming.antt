@@ -13,9 +13,9 @@ use Rattle.wire_core.specs.Bells.{bit}
 use Rattle.wire_core.specs.Deeds.{Cargo}
 use Rattle.wire_core.specs.Lists.{if_there}
 use Rattle.net_expect.specs.Expecting.{is_for_client}
-use Rattle.net_kit.specs.Entries.{addr_of, frame_of}
-use Rattle.net_kit.specs.Pools.{given_entry}
-use Rattle.net_kit.specs.declared.stock.Stock.{Stock}
+use Rattle.buffer_kit.specs.Entries.{addr_of, frame_of}
+use Rattle.buffer_kit.specs.Pools.{given_entry}
+use Rattle.buffer_kit.specs.declared.stock.Stock.{Stock}
 use Rattle.net_virt_rx.specs.Sharing.{named, number_of, lease_entry, lease_of, leases_for, IsBuffer}
 
 pub named_append : (base size b : ℕ) (xs ys : List Cargo) → named base size b (xs ++ ys) ≡ named base size b xs + named base size b ys

@@ -21,13 +21,13 @@ use Rattle.turn_kit.specs.declared.turns.Turn.{Turn}
 use Rattle.turn_kit.specs.Hands.{bodies_of, bodies_at}
 use Rattle.turn_kit.specs.Turns.{PostedAt, Turned, Round, choice_of, chosen_place, last_after}
 use Rattle.turn_kit.proofs.Holding.{buffers-append}
-use Rattle.net_kit.specs.Pools.{given_entry, page_bodies}
-use Rattle.net_kit.specs.Stocks.{stock_list, stock_hand}
-use Rattle.net_kit.specs.declared.virt_ends.VirtEnd.{VirtEnd}
-use Rattle.net_kit.specs.declared.virt_ends.VirtEnds.{VirtEnds}
-use Rattle.net_kit.specs.Virtualising.{SameVirt, IsThere, from_queues, to_queues, virt_posts, virt_round, place_of, need_of}
-use Rattle.net_kit.proofs.Counts.{stock_count, given_count}
-use Rattle.net_kit.proofs.VirtTurns.{turned, SameNeeds}
+use Rattle.buffer_kit.specs.Pools.{given_entry, page_bodies}
+use Rattle.buffer_kit.specs.Stocks.{stock_list, stock_hand}
+use Rattle.buffer_kit.specs.declared.virt_ends.VirtEnd.{VirtEnd}
+use Rattle.buffer_kit.specs.declared.virt_ends.VirtEnds.{VirtEnds}
+use Rattle.buffer_kit.specs.Virtualising.{SameVirt, IsThere, from_queues, to_queues, virt_posts, virt_round, place_of, need_of}
+use Rattle.buffer_kit.proofs.Counts.{stock_count, given_count}
+use Rattle.buffer_kit.proofs.VirtTurns.{turned, SameNeeds}
 use Rattle.net_virt_rx.specs.declared.NetVirtRx.{NetVirtRx}
 use Rattle.net_virt_rx.specs.declared.sharer.Sharer.{Sharer}
 use Rattle.net_virt_rx.specs.Sharing.{IsSharer, IsNewSharer, SharerStands, ClientStands, IsBuffer, is_idle, is_out, is_owing, how_many, named, leases_for, owed_to, owed_lease, sharer_hand, lent_bodies}

@@ -12,10 +12,10 @@ use Rattle.frame_core.specs.declared.mac.Mac.{Mac}
 use Rattle.wire_core.specs.Bells.{bit}
 use Rattle.wire_core.specs.Deeds.{Cargo}
 use Rattle.wire_core.specs.Lists.{if_there}
-use Rattle.net_kit.specs.Entries.{frame_of}
-use Rattle.net_kit.specs.Pools.{given_entry}
-use Rattle.net_kit.specs.Stocks.{SameStock, stock_list}
-use Rattle.net_kit.specs.declared.stock.Stock.{Stock}
+use Rattle.buffer_kit.specs.Entries.{frame_of}
+use Rattle.buffer_kit.specs.Pools.{given_entry}
+use Rattle.buffer_kit.specs.Stocks.{SameStock, stock_list}
+use Rattle.buffer_kit.specs.declared.stock.Stock.{Stock}
 use Rattle.net_virt_rx.specs.declared.sharer.Sharer.{Sharer}
 use Rattle.cargo_core.specs.declared.item.Body.TheVariants as Carried
 use Rattle.net_virt_rx.specs.Sharing.{SameSharer, ClientStands, SharerStands, IsBuffer, named, leases_for, owed_to, owed_lease, is_out, with_more}

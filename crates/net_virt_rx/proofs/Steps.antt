@@ -21,14 +21,14 @@ use Rattle.wire_core.proofs.Places.{if_there_here}
 use Rattle.turn_kit.specs.Hands.{bodies_of, bodies_at}
 use Rattle.turn_kit.specs.ManyEnds.{AreApart}
 use Rattle.turn_kit.proofs.Holding.{buffers-append, cargo-cons, cargo-append}
-use Rattle.net_kit.specs.Entries.{addr_of}
-use Rattle.net_kit.specs.Pools.{given_entry, page_bodies}
-use Rattle.net_kit.specs.Stocks.{IsStock, IsStart, SameStock, stock_list, stock_hand}
-use Rattle.net_kit.specs.declared.stock.Stock.{Stock}
-use Rattle.net_kit.specs.declared.virt_ends.VirtEnds.{VirtEnds}
-use Rattle.net_kit.specs.Virtualising.{SameVirt, from_queues, to_queues}
-use Rattle.net_kit.proofs.Counts.{stock_count}
-use Rattle.net_kit.proofs.Passing.{none_more, beside, count_more, first_more, later_more}
+use Rattle.buffer_kit.specs.Entries.{addr_of}
+use Rattle.buffer_kit.specs.Pools.{given_entry, page_bodies}
+use Rattle.buffer_kit.specs.Stocks.{IsStock, IsStart, SameStock, stock_list, stock_hand}
+use Rattle.buffer_kit.specs.declared.stock.Stock.{Stock}
+use Rattle.buffer_kit.specs.declared.virt_ends.VirtEnds.{VirtEnds}
+use Rattle.buffer_kit.specs.Virtualising.{SameVirt, from_queues, to_queues}
+use Rattle.buffer_kit.proofs.Counts.{stock_count}
+use Rattle.buffer_kit.proofs.Passing.{none_more, beside, count_more, first_more, later_more}
 use Rattle.net_virt_rx.specs.declared.sharer.Sharer.{Sharer}
 use Rattle.net_virt_rx.specs.Sharing.{IsSharer, IsLoan, Owes, SameSharer, SharerStands, ClientStands, IsBuffer, IsFrameInTurn, IsLeaseInTurn, named, number_of, leases_for, lease_entry, is_back, is_returned, is_out, is_idle, is_owing, how_many, owed_to, owed_lease, sharer_hand, sharer_bodies, lent_bodies, with_more}
 use Rattle.net_virt_rx.specs.Receiving.{RxStands, IsOutOfTurn, queue_at}

@@ -12,10 +12,10 @@ use Rattle.cargo_core.specs.Loans.{Loan, receivers, receivers_at, after_return, 
 use Rattle.cargo_core.specs.Pages.{Paged}
 use Rattle.wire_core.specs.Deeds.{Cargo}
 use Rattle.wire_core.proofs.Places.{slice_get_written, slice_get_beside}
-use Rattle.net_kit.specs.Entries.{addr_of}
-use Rattle.net_kit.specs.Pools.{given_entry}
-use Rattle.net_kit.specs.Stocks.{IsStock, IsStart, stock_list}
-use Rattle.net_kit.specs.declared.stock.Stock.{Stock}
+use Rattle.buffer_kit.specs.Entries.{addr_of}
+use Rattle.buffer_kit.specs.Pools.{given_entry}
+use Rattle.buffer_kit.specs.Stocks.{IsStock, IsStart, stock_list}
+use Rattle.buffer_kit.specs.declared.stock.Stock.{Stock}
 use Rattle.net_virt_rx.specs.declared.sharer.Sharer.{Sharer}
 use Rattle.net_virt_rx.specs.Sharing.{lent_bodies, IsSharer, IsLoan, Owes, how_many, is_owing, is_idle, is_back, is_out, owed_lease}
 use Rattle.net_virt_rx.proofs.Marking.{none_marked, one_less, all_clear}

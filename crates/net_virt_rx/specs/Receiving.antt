@@ -10,10 +10,10 @@ use Rattle.wire_core.specs.Lists.{Lists, Passed, if_there}
 use Rattle.wire_core.specs.Ends.{Role, End}
 use Rattle.turn_kit.specs.Turns.{Round}
 use Rattle.turn_kit.specs.Hands.{Balances, bodies_at}
-use Rattle.net_kit.specs.Pools.{given_entry, page_bodies}
-use Rattle.net_kit.specs.Stocks.{IsStart}
-use Rattle.net_kit.specs.Virtualising.{FitsVirt, SameVirt, IsNewVirt, VirtForgot, VirtOwns, virt_round, virt_came, virt_went, from_queues, to_queues}
-use Rattle.net_kit.specs.declared.stock.Stock.{Stock}
+use Rattle.buffer_kit.specs.Pools.{given_entry, page_bodies}
+use Rattle.buffer_kit.specs.Stocks.{IsStart}
+use Rattle.buffer_kit.specs.Virtualising.{FitsVirt, SameVirt, IsNewVirt, VirtForgot, VirtOwns, virt_round, virt_came, virt_went, from_queues, to_queues}
+use Rattle.buffer_kit.specs.declared.stock.Stock.{Stock}
 use Rattle.net_virt_rx.specs.declared.LeaseEnds.{LeaseEnds}
 use Rattle.net_virt_rx.specs.declared.NetVirtRx.{NetVirtRx}
 use Rattle.net_virt_rx.specs.declared.sharer.Sharer.{Sharer}

@@ -15,10 +15,10 @@ use Rattle.wire_core.specs.Deeds.{Cargo}
 use Rattle.wire_core.specs.Lists.{if_there}
 use Rattle.turn_kit.specs.Hands.{bodies_of}
 use Rattle.net_expect.specs.Expecting.{is_for_client}
-use Rattle.net_kit.specs.Entries.{addr_of, frame_of}
-use Rattle.net_kit.specs.Pools.{given_entry}
-use Rattle.net_kit.specs.Stocks.{IsStock, IsStart, SameStock, stock_list, stock_hand}
-use Rattle.net_kit.specs.declared.stock.Stock.{Stock}
+use Rattle.buffer_kit.specs.Entries.{addr_of, frame_of}
+use Rattle.buffer_kit.specs.Pools.{given_entry}
+use Rattle.buffer_kit.specs.Stocks.{IsStock, IsStart, SameStock, stock_list, stock_hand}
+use Rattle.buffer_kit.specs.declared.stock.Stock.{Stock}
 use Rattle.net_virt_rx.specs.declared.sharer.Sharer.{Sharer}
 
 -- how many of these are so

@@ -10,14 +10,14 @@ ghost use Rattle.wire_core.specs.Ends.{role_of, Role, End};
 ghost use Rattle.wire_core.specs.Lists.{Passed, Stepped, nothing_passed};
 ghost use Rattle.wire_core.specs.Marks.{is_mark};
 ghost use Rattle.turn_kit.specs.Turns.{Turned, PostedAt, choice_of, chosen_place, last_after, is_at_rest};
-ghost use Rattle.net_kit.specs.Pools.{ArePool};
-ghost use Rattle.net_kit.specs.Virtualising.{from_queues, to_queues, virt_posts, place_of, IsThere, need_of};
+ghost use Rattle.buffer_kit.specs.Pools.{ArePool};
+ghost use Rattle.buffer_kit.specs.Virtualising.{from_queues, to_queues, virt_posts, place_of, IsThere, need_of};
 ghost use Rattle.net_virt_rx.specs.Sharing.{IsSharer, is_idle, is_owing, sharer_hand, lent_many};
 ghost use Rattle.net_virt_rx.specs.Receiving.{FitsRx, RxStandsFor, RxRow, RxBalances, RxEnd, SameRx, IsNewRx, RxForgot, rx_round};
 
+use buffer_kit::{VirtEnd, VirtEnds};
 use cargo_core::{Memory, Page, PoolId};
 use frame_core::Mac;
-use net_kit::{VirtEnd, VirtEnds};
 use std::alloc::Global;
 use wire_core::{Event, QueueId, Wires};
 

@@ -6,14 +6,14 @@ ghost use Rattle.cargo_core.specs.Bodies.{buffers_of, buffers_in};
 ghost use Rattle.cargo_core.specs.Pages.{Paged};
 ghost use Rattle.frame_core.specs.declared.mac.Mac.{Mac};
 ghost use Rattle.wire_core.specs.Deeds.{Cargo};
-ghost use Rattle.net_kit.specs.Entries.{addr_of};
-ghost use Rattle.net_kit.specs.Pools.{ArePool, given_entry};
+ghost use Rattle.buffer_kit.specs.Entries.{addr_of};
+ghost use Rattle.buffer_kit.specs.Pools.{ArePool, given_entry};
 ghost use Rattle.net_virt_rx.specs.Sharing.{IsSharer, IsNewSharer, SameSharer, SharerStands, how_many, is_owing, is_idle, is_back, is_returned, is_out, owed_lease, sharer_hand, sharer_bodies, with_more, lent_many};
 
 use crate::Receivers;
+use buffer_kit::{Stock, address, frame, told_length};
 use cargo_core::{Body, Item, Lent, Memory, NetDesc, Page, PoolId};
 use frame_core::Mac;
-use net_kit::{Stock, address, frame, told_length};
 use std::alloc::Global;
 use turn_kit::count_held;
 

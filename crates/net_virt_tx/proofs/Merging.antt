@@ -6,7 +6,7 @@ use Rattle.cargo_core.specs.Lists.{Merge, merge_none, merge_next}
 use Rattle.wire_core.specs.Bells.{bit}
 use Rattle.wire_core.specs.Deeds.{Cargo}
 use Rattle.wire_core.proofs.Places.{slice_get_written, slice_get_beside}
-use Rattle.net_kit.specs.Entries.{addr_of}
+use Rattle.buffer_kit.specs.Entries.{addr_of}
 use Rattle.net_virt_tx.specs.Clients.{at_address}
 
 some_eq : {X : Type 0} {a b : X} → Some a ≡ Some b → a ≡ b

@@ -9,7 +9,7 @@ use Rattle.cargo_core.specs.Items.{kind_of}
 use Rattle.wire_core.specs.Bells.{bit}
 use Rattle.wire_core.specs.Deeds.{Cargo}
 use Rattle.turn_kit.proofs.Holding.{cargo-append, cargo-cons}
-use Rattle.net_kit.specs.Entries.{addr_of}
+use Rattle.buffer_kit.specs.Entries.{addr_of}
 use Rattle.net_virt_tx.specs.declared.client.Client.{Client}
 use Rattle.net_virt_tx.specs.declared.returns.Returns.{Returns}
 use Rattle.net_virt_tx.specs.Descriptors.{to_device, to_client}

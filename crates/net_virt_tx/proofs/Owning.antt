@@ -9,7 +9,7 @@ use Rattle.cargo_core.specs.declared.ranges.Range.{Range}
 use Rattle.cargo_core.specs.Ranges.{IsOwner, IsNobodys, is_within}
 use Rattle.cargo_core.specs.declared.item.Item.{Item}
 use Rattle.wire_core.specs.Deeds.{Cargo, given}
-use Rattle.net_kit.specs.Entries.{addr_of}
+use Rattle.buffer_kit.specs.Entries.{addr_of}
 use Rattle.net_virt_tx.specs.declared.client.Client.{Client}
 use Rattle.net_virt_tx.specs.declared.traffic.Traffic.{Traffic}
 use Rattle.net_virt_tx.specs.Clients.{IsClient, IsOf, is_away, is_marked, buffer_at, range_of}

@@ -20,10 +20,10 @@ use Rattle.turn_kit.specs.Hands.{bodies_at}
 use Rattle.turn_kit.specs.Turns.{PostedAt, Turned, choice_of, chosen_place, last_after}
 use Rattle.turn_kit.proofs.Holding.{cargo-append}
 use Rattle.turn_kit.proofs.Offers.{get_map}
-use Rattle.net_kit.specs.declared.virt_ends.VirtEnd.{VirtEnd}
-use Rattle.net_kit.specs.declared.virt_ends.VirtEnds.{VirtEnds}
-use Rattle.net_kit.specs.Virtualising.{IsThere, new_intake, new_outlet, from_queues, to_queues, virt_posts, place_of, need_of}
-use Rattle.net_kit.proofs.VirtTurns.{turned}
+use Rattle.buffer_kit.specs.declared.virt_ends.VirtEnd.{VirtEnd}
+use Rattle.buffer_kit.specs.declared.virt_ends.VirtEnds.{VirtEnds}
+use Rattle.buffer_kit.specs.Virtualising.{IsThere, new_intake, new_outlet, from_queues, to_queues, virt_posts, place_of, need_of}
+use Rattle.buffer_kit.proofs.VirtTurns.{turned}
 use Rattle.turn_kit.specs.declared.ends.Intake.{Intake}
 use Rattle.turn_kit.specs.declared.ends.Outlet.{Outlet}
 use Rattle.net_virt_tx.specs.declared.NetVirtTx.{NetVirtTx}

@@ -14,7 +14,7 @@ use Rattle.wire_core.specs.Lists.{if_there}
 use Rattle.wire_core.proofs.Places.{slice_get_written, slice_get_beside}
 use Rattle.turn_kit.proofs.Offers.{get_map}
 use Rattle.turn_kit.proofs.Holding.{cargo-append}
-use Rattle.net_kit.specs.Entries.{addr_of}
+use Rattle.buffer_kit.specs.Entries.{addr_of}
 use Rattle.net_virt_tx.specs.declared.client.Client.{Client}
 use Rattle.net_virt_tx.specs.declared.descriptors.Sender.{Sender}
 use Rattle.net_virt_tx.specs.declared.traffic.Traffic.{Traffic}

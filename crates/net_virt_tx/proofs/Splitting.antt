@@ -10,7 +10,7 @@ use Rattle.wire_core.specs.declared.names.QueueId.{QueueId}
 use Rattle.wire_core.specs.Lists.{Lists}
 use Rattle.cargo_core.specs.Ranges.{AreRanges}
 use Rattle.wire_core.specs.Deeds.{Cargo}
-use Rattle.net_kit.specs.Entries.{addr_of}
+use Rattle.buffer_kit.specs.Entries.{addr_of}
 use Rattle.net_virt_tx.specs.declared.descriptors.Sender.{Sender}
 use Rattle.net_virt_tx.specs.Descriptors.{to_client, to_device, with_addr}
 use Rattle.net_virt_tx.specs.Serving.{is_good_of, is_own, own_of}

@@ -19,11 +19,11 @@ use Rattle.turn_kit.specs.Hands.{bodies_at}
 use Rattle.turn_kit.specs.ManyEnds.{AreApart}
 use Rattle.turn_kit.proofs.Holding.{cargo-append}
 use Rattle.turn_kit.proofs.Offers.{get_map}
-use Rattle.net_kit.specs.Entries.{addr_of}
-use Rattle.net_kit.specs.declared.virt_ends.VirtEnds.{VirtEnds}
+use Rattle.buffer_kit.specs.Entries.{addr_of}
+use Rattle.buffer_kit.specs.declared.virt_ends.VirtEnds.{VirtEnds}
 use Rattle.wire_core.specs.Ends.{Role, End}
-use Rattle.net_kit.specs.Virtualising.{FitsVirt, SameVirt, from_queues, to_queues}
-use Rattle.net_kit.proofs.Passing.{none_more, beside, count_more, first_more, later_more}
+use Rattle.buffer_kit.specs.Virtualising.{FitsVirt, SameVirt, from_queues, to_queues}
+use Rattle.buffer_kit.proofs.Passing.{none_more, beside, count_more, first_more, later_more}
 use Rattle.net_virt_tx.specs.declared.client.Client.{Client}
 use Rattle.net_virt_tx.specs.declared.descriptors.Sender.{Sender}
 use Rattle.net_virt_tx.specs.declared.traffic.Traffic.{Traffic}

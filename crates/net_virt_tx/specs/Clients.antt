@@ -13,7 +13,7 @@ use Rattle.cargo_core.specs.Lists.{Merge}
 use Rattle.wire_core.specs.Bells.{bit}
 use Rattle.wire_core.specs.Deeds.{Cargo}
 use Rattle.turn_kit.specs.Hands.{bodies_of}
-use Rattle.net_kit.specs.Entries.{addr_of}
+use Rattle.buffer_kit.specs.Entries.{addr_of}
 use Rattle.net_virt_tx.specs.declared.client.Client.{Client}
 use Rattle.net_virt_tx.specs.declared.descriptors.Sender.{Sender}
 use Rattle.net_virt_tx.specs.Descriptors.{to_client}

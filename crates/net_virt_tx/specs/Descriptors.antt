@@ -6,7 +6,7 @@ use Rattle.cargo_core.specs.declared.item.Item.{Item}
 use Rattle.cargo_core.specs.declared.item.Item.TheVariants as ItemOf
 use Rattle.cargo_core.specs.declared.item.Body.TheVariants as Carried
 use Rattle.wire_core.specs.Deeds.{Cargo}
-use Rattle.net_kit.specs.Entries.{addr_of, len_of}
+use Rattle.buffer_kit.specs.Entries.{addr_of, len_of}
 
 -- a descriptor is good where its offset is that of one of the client's buffers, its length one of a
 -- frame, and its body the page of that offset; any other is bad: its offset is no multiple of the

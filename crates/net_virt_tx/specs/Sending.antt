@@ -11,8 +11,8 @@ use Rattle.wire_core.specs.Lists.{Lists, Passed, if_there}
 use Rattle.wire_core.specs.Ends.{Role, End}
 use Rattle.turn_kit.specs.Turns.{Round}
 use Rattle.turn_kit.specs.Hands.{Balances, bodies_at}
-use Rattle.net_kit.specs.Entries.{addr_of}
-use Rattle.net_kit.specs.Virtualising.{FitsVirt, SameVirt, IsNewVirt, VirtForgot, VirtOwns, virt_round, virt_came, virt_went, from_queues, to_queues}
+use Rattle.buffer_kit.specs.Entries.{addr_of}
+use Rattle.buffer_kit.specs.Virtualising.{FitsVirt, SameVirt, IsNewVirt, VirtForgot, VirtOwns, virt_round, virt_came, virt_went, from_queues, to_queues}
 use Rattle.net_virt_tx.specs.declared.TxEnds.{TxEnds}
 use Rattle.net_virt_tx.specs.declared.NetVirtTx.{NetVirtTx}
 use Rattle.net_virt_tx.specs.declared.client.Client.{Client}

@@ -1,10 +1,10 @@
 //! Which descriptors of a client are good, and the addresses of their buffers on either side.
 ghost use Rattle.std.specs.Prelude.{◌≡◌, ◌+◌, ◌*◌, ◌≤◌, ◌<◌, ◌^◌};
-ghost use Rattle.net_kit.specs.Entries.{addr_of};
+ghost use Rattle.buffer_kit.specs.Entries.{addr_of};
 ghost use Rattle.net_virt_tx.specs.Descriptors.{is_good, to_device, to_client, with_addr};
 
+use buffer_kit::{address, told_length};
 use cargo_core::{Body, Item, NetDesc, PoolId};
-use net_kit::{address, told_length};
 
 /// The size of a network buffer, in bytes.
 pub const BUFFER_SIZE: u64 = 2048;

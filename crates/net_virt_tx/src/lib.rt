@@ -9,12 +9,12 @@ ghost use Rattle.wire_core.specs.Ends.{role_of, Role, End};
 ghost use Rattle.wire_core.specs.Lists.{Passed, Stepped, nothing_passed};
 ghost use Rattle.wire_core.specs.Marks.{is_mark};
 ghost use Rattle.turn_kit.specs.Turns.{Turned, PostedAt, choice_of, chosen_place, last_after, is_at_rest};
-ghost use Rattle.net_kit.specs.Virtualising.{from_queues, to_queues, virt_posts, place_of, IsThere, need_of};
+ghost use Rattle.buffer_kit.specs.Virtualising.{from_queues, to_queues, virt_posts, place_of, IsThere, need_of};
 ghost use Rattle.net_virt_tx.specs.Traffics.{IsTraffic, IsStill, is_free, owes, needs_at, loaded_at, bad_count, traffic_hand};
 ghost use Rattle.net_virt_tx.specs.Sending.{FitsTx, FitsClients, TxStandsFor, TxRow, TxBalances, TxEnd, SameTx, IsNewTx, TxForgot, sender_of, tx_round};
 
+use buffer_kit::{VirtEnd, VirtEnds};
 use cargo_core::{Memory, PoolId, Ranges};
-use net_kit::{VirtEnd, VirtEnds};
 use std::alloc::Global;
 use wire_core::{Event, QueueId, Wires};
 

@@ -10,8 +10,8 @@ ghost use Rattle.wire_core.specs.Lists.{taken_by, put_by, if_there};
 ghost use Rattle.wire_core.specs.Ends.{role_of};
 ghost use Rattle.wire_core.specs.Marks.{is_mark};
 ghost use Rattle.turn_kit.specs.Turns.{PostedAt};
-ghost use Rattle.net_kit.specs.Entries.{addr_of};
-ghost use Rattle.net_kit.specs.Virtualising.{FitsVirt, VirtOwns, SameVirt, from_queues, to_queues, virt_posts};
+ghost use Rattle.buffer_kit.specs.Entries.{addr_of};
+ghost use Rattle.buffer_kit.specs.Virtualising.{FitsVirt, VirtOwns, SameVirt, from_queues, to_queues, virt_posts};
 ghost use Rattle.net_virt_tx.specs.declared.client.Client.{Client};
 ghost use Rattle.net_virt_tx.specs.declared.traffic.Traffic.{Traffic};
 ghost use Rattle.net_virt_tx.specs.declared.TxEnds.{TxEnds};
@@ -20,8 +20,8 @@ ghost use Rattle.net_virt_tx.specs.Traffics.{IsTraffic, OneMoved, TookBack, Took
 ghost use Rattle.net_virt_tx.specs.Sending.{FitsClients, IsNewTraffic, sender_of};
 
 use crate::{Client, TxEnds};
+use buffer_kit::{VirtEnds, address};
 use cargo_core::{Body, Item, Memory, PoolId, Ranges};
-use net_kit::{VirtEnds, address};
 use std::alloc::Global;
 use turn_kit::{Needs, count_held};
 use wire_core::{Event, Wires};

@@ -3,3 +3,5 @@ pub mod Telling
 pub mod Moving
 pub mod Ranking
 pub mod Ordering
+pub mod ActorParts
+pub mod EndedLaw

@@ -12,3 +12,5 @@ pub mod Casts
 pub mod Showing
 pub mod Adopted
 pub mod Carrying
+pub mod CountLaw
+pub mod PoolLaw

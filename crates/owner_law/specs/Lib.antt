@@ -11,3 +11,5 @@ pub mod Keeping
 pub mod Shown
 pub mod Census
 pub mod Pages
+pub mod CountLaw
+pub mod PoolLaw

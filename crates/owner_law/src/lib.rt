@@ -18,6 +18,9 @@ ghost use Rattle.owner_law.specs.Shown.{buffers_left, buffers_with, of_actor, sh
 ghost use Rattle.owner_law.specs.Pages.{as_page, CarryPages};
 ghost use Rattle.owner_law.specs.Census.{census, IsPool, buffers_among, buffers_at_start};
 
+pub mod count_law;
+pub mod pool_law;
+
 /// The replay of a journal is that of its beginning and then of its rest.
 pub fn replay_law()
     ensures { (naming : Naming) (history : History) (before : List Entry) (t : Table)

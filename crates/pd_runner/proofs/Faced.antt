@@ -9,10 +9,10 @@ use Rattle.spsc_queue.specs.Known.Ends.{RingIs}
 use Rattle.seat_wires.specs.Places.{EndsOn, ends_of}
 use Rattle.actor_set.specs.Actors.{FitsActor, ActorStandsFor, actor_rests}
 use Rattle.actor_set.specs.declared.actor.Actor.{Actor}
-use Rattle.actor_parts.specs.Given.{Kept, apart_of}
-use Rattle.actor_parts.specs.Going.{AreSeatsOf}
-use Rattle.actor_parts.specs.Numbered.{numbered}
-use Rattle.actor_parts.specs.Parting.{Apart, ends_at, StandsApart, HasItsEnds, AreApart, IsRingOf}
+use Rattle.order_law.specs.ActorParts.Given.{Kept, apart_of}
+use Rattle.order_law.specs.ActorParts.Going.{AreSeatsOf}
+use Rattle.order_law.specs.ActorParts.Numbered.{numbered}
+use Rattle.order_law.specs.ActorParts.Parting.{Apart, ends_at, StandsApart, HasItsEnds, AreApart, IsRingOf}
 use Rattle.pd_runner.specs.declared.part.Part.{Part}
 use Rattle.pd_runner.specs.Each.{Each, Every, AnyPair}
 use Rattle.pd_runner.specs.Ends.{LawfulOf, SpentOf, Rests}

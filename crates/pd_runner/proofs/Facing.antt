@@ -8,12 +8,12 @@ use Rattle.spsc_queue.specs.Known.Ends.{EndIs, RingIs}
 use Rattle.seat_wires.specs.Places.Are.{SeatsAre}
 use Rattle.seat_wires.specs.Places.{EndsOn, ends_of, stands_at, joined_get, seat_end, end_known, entries_known}
 use Rattle.seat_wires.specs.Went.{Went, ring_known}
-use Rattle.actor_parts.specs.Parting.{Apart, ends_at, end_in, apart_end, apart_passed, HasItsEnds}
-use Rattle.actor_parts.specs.Numbered.{numbered}
+use Rattle.order_law.specs.ActorParts.Parting.{Apart, ends_at, end_in, apart_end, apart_passed, HasItsEnds}
+use Rattle.order_law.specs.ActorParts.Numbered.{numbered}
 use Rattle.pd_runner.specs.Running.{passed_at}
-use Rattle.actor_parts.specs.Going.{AreSeatsOf}
-use Rattle.actor_parts.proofs.Standing.{found, first_found}
-use Rattle.actor_parts.proofs.Numbering.{numbered_from, found_from, once}
+use Rattle.order_law.specs.ActorParts.Going.{AreSeatsOf}
+use Rattle.order_law.proofs.ActorParts.Standing.{found, first_found}
+use Rattle.order_law.proofs.ActorParts.Numbering.{numbered_from, found_from, once}
 
 module _ (rings : List RingIs) (p : Apart) (s : SeatsAre) (are : AreSeatsOf rings p s) where
   -- what the actor knows of its ends is the same

@@ -7,12 +7,12 @@ use Rattle.spsc_queue.specs.Known.Ends.{EndIs, RingIs}
 use Rattle.seat_wires.specs.Places.{stands_at, ends_of}
 use Rattle.actor_set.specs.Actors.{FitsActor, ActorStandsFor}
 use Rattle.actor_set.specs.declared.actor.Actor.{Actor}
-use Rattle.actor_parts.specs.Given.{Kept, apart_of}
-use Rattle.actor_parts.specs.Going.{AreSeatsOf}
-use Rattle.actor_parts.specs.Parting.{ends_at, end_in}
-use Rattle.actor_parts.specs.Placing.{AreWithin}
-use Rattle.actor_parts.proofs.Places.{get_within}
-use Rattle.actor_parts.proofs.Standing.{length_placed, stands_placed}
+use Rattle.order_law.specs.ActorParts.Given.{Kept, apart_of}
+use Rattle.order_law.specs.ActorParts.Going.{AreSeatsOf}
+use Rattle.order_law.specs.ActorParts.Parting.{ends_at, end_in}
+use Rattle.order_law.specs.ActorParts.Placing.{AreWithin}
+use Rattle.order_law.proofs.ActorParts.Places.{get_within}
+use Rattle.order_law.proofs.ActorParts.Standing.{length_placed, stands_placed}
 use Rattle.pd_runner.specs.declared.part.Part.{Part}
 use Rattle.pd_runner.specs.Running.{Stands, part_seats}
 use Rattle.pd_runner.specs.Seated.{ArePlaced, IsApart, IsSeated}

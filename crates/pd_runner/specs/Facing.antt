@@ -3,8 +3,8 @@ use Rattle.std.specs.Prelude.{◌≡◌, ◌≤◌, ℕ, true, List}
 use Rattle.spsc_queue.specs.Known.Ends.{RingIs}
 use Rattle.seat_wires.specs.Places.Are.{SeatsAre}
 use Rattle.actor_set.specs.Actors.{actor_rests}
-use Rattle.actor_parts.specs.Parting.{Apart}
-use Rattle.actor_parts.specs.Going.{AreSeatsOf}
+use Rattle.order_law.specs.ActorParts.Parting.{Apart}
+use Rattle.order_law.specs.ActorParts.Going.{AreSeatsOf}
 use Rattle.pd_runner.specs.Running.{Comes}
 
 -- the same actor after so many steps: call by call, this is what it did at its ends

@@ -3,11 +3,11 @@ use Rattle.std.specs.Prelude.{◌≡◌, ◌≤◌, ℕ, List, Option, None, len
 use Rattle.wire_core.specs.declared.names.QueueId.{QueueId}
 use Rattle.spsc_queue.specs.Known.Ends.{EndIs, RingIs}
 use Rattle.seat_wires.specs.Places.{stands_at}
-use Rattle.actor_parts.specs.Given.{Kept, apart_of}
-use Rattle.actor_parts.specs.Going.{AreSeatsOf}
-use Rattle.actor_parts.specs.Numbered.{numbered}
-use Rattle.actor_parts.specs.Parting.{StandsApart}
-use Rattle.actor_parts.specs.Placing.{placed}
+use Rattle.order_law.specs.ActorParts.Given.{Kept, apart_of}
+use Rattle.order_law.specs.ActorParts.Going.{AreSeatsOf}
+use Rattle.order_law.specs.ActorParts.Numbered.{numbered}
+use Rattle.order_law.specs.ActorParts.Parting.{StandsApart}
+use Rattle.order_law.specs.ActorParts.Placing.{placed}
 use Rattle.pd_runner.specs.declared.part.Part.{Part}
 use Rattle.pd_runner.specs.Running.{Stands, part_seats}
 

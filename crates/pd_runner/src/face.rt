@@ -1,9 +1,9 @@
 //! Actors apart are given a thread each.
 ghost use Rattle.std.specs.Prelude.{◌≡◌, ◌≤◌, ◌⊎◌, ℕ, IfOk, Some, length, map, slice_get};
-ghost use Rattle.actor_parts.specs.Given.{apart_of};
-ghost use Rattle.actor_parts.specs.Numbered.{numbered};
-ghost use Rattle.actor_parts.specs.Parting.{Apart, AreApart};
-ghost use Rattle.actor_parts.specs.Placing.{AreWithin};
+ghost use Rattle.order_law.specs.ActorParts.Given.{apart_of};
+ghost use Rattle.order_law.specs.ActorParts.Numbered.{numbered};
+ghost use Rattle.order_law.specs.ActorParts.Parting.{Apart, AreApart};
+ghost use Rattle.order_law.specs.ActorParts.Placing.{AreWithin};
 ghost use Rattle.pd_runner.specs.Each.{Each, Every};
 ghost use Rattle.pd_runner.specs.Facing.{CameWithin, HasSpent, IsResting};
 ghost use Rattle.pd_runner.specs.Seated.{ArePlaced, IsApart, IsSeated, HasNumbers, IsNumbered};
@@ -11,8 +11,8 @@ ghost use Rattle.pd_runner.specs.Seated.{ArePlaced, IsApart, IsSeated, HasNumber
 use crate::gate::Gate;
 use crate::part::Part;
 use crate::run::run_seated;
-use actor_parts::{Parts, by_number, by_place};
 use cargo_core::Memory;
+use order_law::actor_parts::{Parts, by_number, by_place};
 use region_layout::Layout;
 use spsc_queue::{Consumer, Producer, Ring};
 use std::alloc::Global;
@@ -54,7 +54,7 @@ fn ends_by_number(
 }
 
 // Seats an actor at its ends.
-fn seat(alloc: Global, rings: &[Ring], part: actor_parts::Part) -> Result<Part, Memory>
+fn seat(alloc: Global, rings: &[Ring], part: order_law::actor_parts::Part) -> Result<Part, Memory>
     requires apart { IsApart rings.now part }
     requires few { length rings.now ≤ 65536 }
     ensures { IfOk result (IsSeated rings.now part) }
@@ -72,7 +72,7 @@ fn seat(alloc: Global, rings: &[Ring], part: actor_parts::Part) -> Result<Part, 
 fn seat_all(
     alloc: Global,
     rings: &[Ring],
-    parts: Vec<actor_parts::Part>,
+    parts: Vec<order_law::actor_parts::Part>,
 ) -> Result<Vec<Part>, Memory>
     requires apart { Every (IsApart rings.now) parts.items }
     requires few { length rings.now ≤ 65536 }
@@ -86,7 +86,7 @@ fn seat_all(
 }
 
 // The actor with the numbers of its ends.
-fn number(alloc: Global, part: Part) -> Result<actor_parts::Part, Memory>
+fn number(alloc: Global, part: Part) -> Result<order_law::actor_parts::Part, Memory>
     requires { HasNumbers part }
     ensures { IfOk result (IsNumbered part) }
 {
@@ -100,7 +100,7 @@ fn number(alloc: Global, part: Part) -> Result<actor_parts::Part, Memory>
 }
 
 // The same for all of them.
-fn number_all(alloc: Global, parts: Vec<Part>) -> Result<Vec<actor_parts::Part>, Memory>
+fn number_all(alloc: Global, parts: Vec<Part>) -> Result<Vec<order_law::actor_parts::Part>, Memory>
     requires { Every HasNumbers parts.items }
     ensures { IfOk result (λ v. Each IsNumbered parts.items v.items) }
 {

@@ -18,6 +18,9 @@ ghost use Rattle.play_core.specs.Resting.{QueueRests, QueuePays, is_due};
 ghost use Rattle.play_core.specs.Totals.{total};
 ghost use Rattle.play_core.specs.Still.{IsQuiet, IsStill, Needs, Owes};
 
+pub mod pick_laws;
+pub mod rest_law;
+
 /// Where no actor is runnable, all ends are settled and nobody is called; and then of each queue
 /// with no hostile end: no entry stands in it where its consumer needs one, and an entry is owed to
 /// it only where it is full.

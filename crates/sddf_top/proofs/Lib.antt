@@ -8,3 +8,4 @@ pub mod ReadLemmas
 pub mod ServeLemmas
 pub mod SoundLemmas
 pub mod WordLemmas
+pub mod SystemRun

@@ -9,7 +9,7 @@ use Rattle.expect_core.specs.Budgets.{budget_of}
 use Rattle.system_core.specs.declared.system.System.{System}
 use Rattle.system_core.specs.PlanPlays.{IsPlayed}
 use Rattle.system_core.specs.Reports.{report_of}
-use Rattle.system_run.specs.Ran.{IsRan}
+use Rattle.sddf_top.specs.SystemRun.Ran.{IsRan}
 use Rattle.report_text.specs.Reports.{report_text}
 use Rattle.sddf_top.specs.declared.showing.Showing.{Showing}
 use Rattle.sddf_top.specs.declared.status.Status.{Status}

@@ -10,3 +10,4 @@ pub mod Readings
 pub mod Served
 pub mod Shown
 pub mod Sunk
+pub mod SystemRun

@@ -17,6 +17,7 @@ mod shelf;
 mod showing;
 mod sink;
 mod status;
+pub mod system_run;
 mod writing;
 
 pub use command_words::begins_run;

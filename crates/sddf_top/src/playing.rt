@@ -7,6 +7,7 @@ ghost use Rattle.sddf_top.specs.Shown.{seed_of, limit_of, limit_or_budget, endin
 ghost use Rattle.sddf_top.specs.Outcomes.{Follows};
 
 use crate::answering::Outcome;
+use crate::system_run::ran;
 use crate::{Played, Showing, Status};
 use cargo_core::Memory;
 use expect_core::{Report, budget};
@@ -18,7 +19,6 @@ use std::alloc::Global;
 use std::sync::Wait;
 use std::thread::Threads;
 use system_core::System;
-use system_run::ran;
 use trace_text::Trace;
 use wire_core::Entry;
 

@@ -4,3 +4,5 @@ pub mod Own
 pub mod InputBegins
 pub mod Arrivals
 pub mod Wholes
+pub mod SerialHops
+pub mod SerialPools

@@ -24,3 +24,4 @@ pub mod Quieting
 pub mod Together
 pub mod Parting
 pub mod Adopting
+pub mod PlayPools

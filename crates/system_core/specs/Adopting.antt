@@ -9,11 +9,11 @@ use Rattle.spsc_queue.specs.Known.Ends.{EndIs, RingIs}
 use Rattle.play_core.specs.Wants.{all_settled}
 use Rattle.actor_set.specs.Actors.{part_of, actor_rests}
 use Rattle.actor_set.specs.Parts.{Part}
-use Rattle.actor_parts.specs.Parting.{Apart, AreApart}
-use Rattle.actor_parts.specs.Opened.{HaveNothing}
-use Rattle.actor_parts.specs.Going.{HasGone}
-use Rattle.actor_parts.specs.Finished.{OwnEnd}
-use Rattle.ended_law.specs.Tracks.{TellsEnds}
+use Rattle.order_law.specs.ActorParts.Parting.{Apart, AreApart}
+use Rattle.order_law.specs.ActorParts.Opened.{HaveNothing}
+use Rattle.order_law.specs.ActorParts.Going.{HasGone}
+use Rattle.order_law.specs.ActorParts.Finished.{OwnEnd}
+use Rattle.order_law.specs.EndedLaw.Tracks.{TellsEnds}
 use Rattle.system_core.specs.Shows.{Setting, Shown, sheet_in, moved_in}
 use Rattle.system_core.specs.Lawful.{IsFitted}
 use Rattle.system_core.specs.Builds.{BeginsAnew}

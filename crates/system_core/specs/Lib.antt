@@ -15,3 +15,4 @@ pub mod Starts
 pub mod Systems
 pub mod Adopting
 pub mod Inside
+pub mod PlayPools

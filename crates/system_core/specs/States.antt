@@ -9,12 +9,12 @@ use Rattle.wire_core.specs.declared.names.QueueRow.{QueueRow}
 use Rattle.wire_core.specs.Journal.{History, start_history}
 use Rattle.wire_core.specs.Queues.{Queue}
 use Rattle.spsc_queue.specs.Known.Ends.{EndedIs}
-use Rattle.pool_lines.specs.PoolLines.{counted_lines}
+use Rattle.cast_law.specs.PoolLines.PoolLines.{counted_lines}
 use Rattle.actor_set.specs.Actors.{part_of, bad_of, actor_hand, actor_lent}
 use Rattle.actor_set.specs.declared.actor.Actor.{Actor}
-use Rattle.ended_law.specs.Tracks.{track_of}
-use Rattle.actor_law.specs.Records.{record_of, frames_got, replies_got}
-use Rattle.cast_pools.specs.Holders.{holders_of}
+use Rattle.order_law.specs.EndedLaw.Tracks.{track_of}
+use Rattle.actor_set.specs.ActorLaw.Records.{record_of, frames_got, replies_got}
+use Rattle.cast_law.specs.CastPools.Holders.{holders_of}
 use Rattle.system_core.specs.Shows.{Crew, Setting, State, Shown}
 
 -- what the actor at a place recorded

@@ -4,11 +4,12 @@
 mod crew;
 mod crews;
 mod lines;
+pub mod play_pools;
 mod records;
 mod running;
 mod system;
 
-pub use actor_parts::Parts;
 pub use actor_set::Actor;
 pub use crew::Crew;
+pub use order_law::actor_parts::Parts;
 pub use system::{Ending, System};

@@ -1,4 +1,4 @@
-use Rattle.net_kit.proofs.VirtTurns.{posted_from}
+use Rattle.buffer_kit.proofs.VirtTurns.{posted_from}
 use Rattle.blk_virt.proofs.Fitting.{fits_from}
 use Rattle.blk_virt.proofs.ends.step_from_client.Goals as goal
 

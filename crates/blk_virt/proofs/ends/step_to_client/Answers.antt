@@ -1,5 +1,5 @@
 use Rattle.std.proofs.Common.{is_some}
-use Rattle.net_kit.proofs.VirtTurns.{posted_to}
+use Rattle.buffer_kit.proofs.VirtTurns.{posted_to}
 use Rattle.blk_virt.proofs.Fitting.{fits_to}
 use Rattle.blk_virt.proofs.ends.step_to_client.Goals as goal
 

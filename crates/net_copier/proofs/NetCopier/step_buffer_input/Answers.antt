@@ -2,7 +2,7 @@ use Rattle.std.proofs.Common.{◌==◌, Some, sym, ap, ◌∙◌, subst}
 use Rattle.std.specs.Option.{option_map, option_to_list}
 use Rattle.wire_core.specs.Deeds.{deed_of}
 use Rattle.wire_core.specs.Lists.{if_there, with_deed}
-use Rattle.net_kit.specs.Entries.{filled}
+use Rattle.buffer_kit.specs.Entries.{filled}
 use Rattle.net_copier.specs.Copying.{CopierStandsFor}
 use Rattle.net_copier.proofs.Standing.{buffer_came, wanting}
 use Rattle.net_copier.proofs.NetCopier.step_buffer_input.Goals as goal

@@ -1,6 +1,6 @@
 use Rattle.std.proofs.Common.{◌≡◌, false, slice_index_or, refl, ap, ◌∙◌}
 use Rattle.turn_kit.specs.Turns.{Round, choice_of, chosen_place, last_after}
-use Rattle.net_kit.specs.Virtualising.{virt_round}
+use Rattle.buffer_kit.specs.Virtualising.{virt_round}
 use Rattle.net_virt_rx.specs.Receiving.{rx_round}
 use Rattle.net_virt_rx.proofs.NetVirtRx.choose.Goals as goal
 

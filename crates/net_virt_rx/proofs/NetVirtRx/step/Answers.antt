@@ -1,6 +1,6 @@
 use Rattle.std.proofs.Common.{sym, subst, refl}
 use Rattle.wire_core.specs.Ends.{role_of}
-use Rattle.net_kit.specs.Virtualising.{from_queues, to_queues}
+use Rattle.buffer_kit.specs.Virtualising.{from_queues, to_queues}
 use Rattle.net_virt_rx.specs.declared.NetVirtRx.{NetVirtRx}
 use Rattle.net_virt_rx.specs.declared.sharer.Sharer.{Sharer}
 use Rattle.net_virt_rx.specs.Sharing.{IsSharer}

@@ -3,9 +3,9 @@ use Rattle.std.specs.Option.{option_map, option_to_list}
 use Rattle.cargo_core.specs.Loans.{page_at}
 use Rattle.wire_core.specs.Deeds.{put_of, deed_of, Cargo}
 use Rattle.wire_core.specs.Lists.{if_there, with_deed}
-use Rattle.net_kit.specs.Pools.{given_entry}
-use Rattle.net_kit.specs.Stocks.{SameStock, stock_list}
-use Rattle.net_kit.specs.Virtualising.{from_queues, to_queues}
+use Rattle.buffer_kit.specs.Pools.{given_entry}
+use Rattle.buffer_kit.specs.Stocks.{SameStock, stock_list}
+use Rattle.buffer_kit.specs.Virtualising.{from_queues, to_queues}
 use Rattle.net_virt_rx.specs.declared.sharer.Sharer.{Sharer}
 use Rattle.net_virt_rx.specs.Sharing.{IsSharer, lease_entry}
 use Rattle.net_virt_rx.proofs.Steps.{still, moved, none_if, puts_none, is_nothing, is_something, load_stays, stray_gone, given_work, hand_less, buffer_out}

@@ -3,7 +3,7 @@ use Rattle.std.specs.Option.{option_map, option_to_list}
 use Rattle.std.proofs.lemmas.Bool.{cases_Bool}
 use Rattle.wire_core.specs.Deeds.{deed_of}
 use Rattle.wire_core.specs.Lists.{if_there, with_deed}
-use Rattle.net_kit.specs.Virtualising.{from_queues, to_queues}
+use Rattle.buffer_kit.specs.Virtualising.{from_queues, to_queues}
 use Rattle.net_virt_rx.specs.Sharing.{is_returned, is_idle}
 use Rattle.net_virt_rx.proofs.Steps.{still, moved, rx_returns, none_if, is_there}
 use Rattle.net_virt_rx.proofs.NetVirtRx.step_returned.Goals as goal

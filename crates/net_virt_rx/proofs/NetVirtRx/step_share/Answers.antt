@@ -5,7 +5,7 @@ use Rattle.cargo_core.specs.Bodies.{buffers_of}
 use Rattle.wire_core.specs.Deeds.{put_of, deed_of, Cargo}
 use Rattle.wire_core.specs.Lists.{if_there, with_deed}
 use Rattle.turn_kit.specs.Turns.{PostedAt}
-use Rattle.net_kit.specs.Virtualising.{from_queues, to_queues, virt_posts}
+use Rattle.buffer_kit.specs.Virtualising.{from_queues, to_queues, virt_posts}
 use Rattle.net_virt_rx.specs.declared.sharer.Sharer.{Sharer}
 use Rattle.net_virt_rx.specs.Sharing.{IsSharer, owed_lease, sharer_hand}
 use Rattle.net_virt_rx.proofs.Steps.{still, moved, none_if, puts_none, is_nothing, is_something, load_stays, load_gone, shared_work, owes_some, owed_after, ready_list, lease_hand, lease_out}

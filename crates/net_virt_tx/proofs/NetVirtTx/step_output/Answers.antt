@@ -2,7 +2,7 @@ use Rattle.std.specs.Option.{option_map, option_to_list}
 use Rattle.std.proofs.Common.{None, ◌∙◌}
 use Rattle.wire_core.specs.Deeds.{put_of, deed_of}
 use Rattle.wire_core.specs.Lists.{with_deed}
-use Rattle.net_kit.specs.Virtualising.{from_queues, to_queues}
+use Rattle.buffer_kit.specs.Virtualising.{from_queues, to_queues}
 use Rattle.net_virt_tx.specs.Traffics.{leaving_at}
 use Rattle.net_virt_tx.proofs.Steps.{still, moved, descriptor_out, puts_none, fits_on, one_keeps}
 use Rattle.net_virt_tx.proofs.NetVirtTx.step_output.Goals as goal

@@ -3,7 +3,7 @@ use Rattle.std.specs.Option.{option_map, option_to_list}
 use Rattle.std.proofs.lemmas.Bool.{and_parts}
 use Rattle.wire_core.specs.Deeds.{put_of, deed_of}
 use Rattle.wire_core.specs.Lists.{with_deed}
-use Rattle.net_kit.specs.Virtualising.{from_queues, to_queues}
+use Rattle.buffer_kit.specs.Virtualising.{from_queues, to_queues}
 use Rattle.net_virt_tx.specs.Clients.{is_loaded}
 use Rattle.net_virt_tx.specs.Traffics.{is_so, load_at, loaded_at}
 use Rattle.net_virt_tx.proofs.Steps.{still, moved, entry_back, puts_none, free_none, fits_on, one_keeps}

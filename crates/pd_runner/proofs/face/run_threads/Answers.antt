@@ -1,6 +1,6 @@
 use Rattle.std.proofs.Common.{◌≤◌, List, length, map, sym, subst}
 use Rattle.spsc_queue.specs.Known.Ends.{RingIs}
-use Rattle.actor_parts.specs.Given.{apart_of}
+use Rattle.order_law.specs.ActorParts.Given.{apart_of}
 use Rattle.pd_runner.specs.Each.{Every}
 use Rattle.pd_runner.specs.Ends.{LawfulOf}
 use Rattle.pd_runner.specs.Running.{Stands}

@@ -3,7 +3,7 @@ use Rattle.expect_core.specs.declared.report.Report.{Report}
 use Rattle.expect_core.specs.Budgets.{budget_of}
 use Rattle.report_text.specs.Reports.{report_text}
 use Rattle.system_core.specs.Reports.{report_of}
-use Rattle.system_run.specs.Ran.{IsRan}
+use Rattle.sddf_top.specs.SystemRun.Ran.{IsRan}
 use Rattle.sddf_top.specs.Shown.{ending_of}
 use Rattle.sddf_top.proofs.PlanLemmas.{spent-whole, quiet-bounded}
 use Rattle.sddf_top.proofs.playing.run.Goals as goal

@@ -1,5 +1,5 @@
 use Rattle.std.proofs.Common.{◌∙◌, sym, ap, subst, length}
-use Rattle.serial_terminal.specs.Terminals.{terminal_forgotten}
+use Rattle.device_model.specs.SerialTerminal.Terminals.{terminal_forgotten}
 use Rattle.actor_set.specs.declared.actor.Actor.TheVariants as Kinds
 use Rattle.net_virt_rx.specs.Sharing.{IsSharer}
 use Rattle.net_virt_tx.specs.Traffics.{IsTraffic}

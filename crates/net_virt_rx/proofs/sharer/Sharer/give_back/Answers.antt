@@ -1,7 +1,7 @@
 use Rattle.std.proofs.Common.{◌≡◌, false, [], slice_set, slice_index_or, sym, ap, ◌∙◌, arith}
 use Rattle.std.specs.Option.{option_map}
 use Rattle.std.proofs.lemmas.List.{get_or_read}
-use Rattle.net_kit.specs.Pools.{given_entry}
+use Rattle.buffer_kit.specs.Pools.{given_entry}
 use Rattle.net_virt_rx.specs.declared.sharer.Sharer.{Sharer}
 use Rattle.net_virt_rx.proofs.Moving.{lent_some, page_within, gave_work, gave_stands, gave_held}
 use Rattle.net_virt_rx.proofs.sharer.Sharer.give_back.Goals as goal

@@ -1,9 +1,9 @@
 use Rattle.std.proofs.Common.{List, map, sym, ap, ◌∙◌, subst}
 use Rattle.std.proofs.lemmas.Result.{IfOk-weaker}
 use Rattle.wire_core.specs.declared.names.QueueRow.{QueueRow}
-use Rattle.actor_parts.specs.Given.{apart_of}
-use Rattle.actor_parts.specs.Parting.{AreApart}
-use Rattle.actor_parts.specs.Ready.{AreReady}
+use Rattle.order_law.specs.ActorParts.Given.{apart_of}
+use Rattle.order_law.specs.ActorParts.Parting.{AreApart}
+use Rattle.order_law.specs.ActorParts.Ready.{AreReady}
 use Rattle.system_core.specs.Builds.{BeginsAnew}
 use Rattle.system_core.specs.Shows.{Shown}
 use Rattle.system_core.proofs.Parting.{are_ready, rings_fit}

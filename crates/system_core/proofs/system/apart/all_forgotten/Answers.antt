@@ -2,7 +2,7 @@ use Rattle.std.proofs.Common.{◌++◌, [], ◌∷◌, List, sym, ap, subst, ◌
 use Rattle.std.specs.List.{AllZip}
 use Rattle.std.proofs.lemmas.Slice.Zip.{all_zipped_more}
 use Rattle.actor_set.specs.declared.actor.Actor.{Actor}
-use Rattle.actor_parts.specs.Opening.{IsForgotten}
+use Rattle.order_law.specs.ActorParts.Opening.{IsForgotten}
 use Rattle.system_core.proofs.system.apart.all_forgotten.Goals as goal
 
 pub loop-actor-preserved : goal.loop-actor-preserved

@@ -1,7 +1,7 @@
 use Rattle.std.proofs.Common.{◌≡◌, ◌++◌, length}
 use Rattle.std.specs.List.{AllZip}
 use Rattle.std.specs.Vec.Iter.{into_iter_items, into_iter_len}
-use Rattle.actor_parts.specs.Opening.{IsForgotten}
+use Rattle.order_law.specs.ActorParts.Opening.{IsForgotten}
 use Rattle.system_core.proofs.system.apart.all_forgotten.Given as goal
 
 abbrev pub invariant-loop-actor : goal.invariant-loop-actor

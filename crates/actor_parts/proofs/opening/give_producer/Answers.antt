@@ -1,5 +1,0 @@
-use Rattle.actor_parts.proofs.Giving.{gives_producer}
-use Rattle.actor_parts.proofs.opening.give_producer.Goals as goal
-
-pub returns : goal.returns
-returns c = gives_producer c.args.actor (c.args.queue, c.args.end) c.args.parts.now.items c.index_mut.result.now c.requires c.index_mut.ensures.value c.push.new.self c.in_ok-push.ensures.items

@@ -1,5 +1,0 @@
-use Rattle.blk_client.proofs.Standing.{row_of}
-use Rattle.blk_client.proofs.row_law.Goals as goal
-
-pub returns : goal.returns
-returns c = row_of

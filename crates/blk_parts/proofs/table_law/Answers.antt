@@ -1,8 +1,0 @@
-use Rattle.blk_parts.proofs.Following.{blk_own, blk_follows}
-use Rattle.blk_parts.proofs.table_law.Goals as goal
-
-pub returns-clause-own : goal.returns-clause-own
-returns-clause-own c = blk_own
-
-pub returns-clause-follow : goal.returns-clause-follow
-returns-clause-follow c = blk_follows

@@ -1,5 +1,0 @@
-use Rattle.blk_record_law.proofs.Whole.{records_now}
-use Rattle.blk_record_law.proofs.client_law.Goals as goal
-
-pub returns : goal.returns
-returns c = λ image entry asks holder has sized. records_now image entry asks holder has sized

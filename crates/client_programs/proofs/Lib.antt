@@ -1,0 +1,2 @@
+pub mod NetClients
+pub mod BlkClients

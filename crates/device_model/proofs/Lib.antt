@@ -1,0 +1,3 @@
+pub mod EthDevices
+pub mod DiskDevices
+pub mod SerialTerminal

@@ -1,6 +1,0 @@
-use Rattle.std.proofs.Common.{◌≡◌, ◌++◌, map, take, drop}
-use Rattle.net_kit.specs.Virtualising.{intake_forgotten}
-use Rattle.net_kit.proofs.virt_ends.forget_inputs.Given as goal
-
-abbrev pub invariant-loop-k : goal.invariant-loop-k
-invariant-loop-k l = l.inputs.ends.items ≡ map intake_forgotten (take l.k l.initial.inputs.ends.items) ++ drop l.k l.initial.inputs.ends.items

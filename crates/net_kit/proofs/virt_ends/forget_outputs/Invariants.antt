@@ -1,6 +1,0 @@
-use Rattle.std.proofs.Common.{◌≡◌, ◌++◌, map, take, drop}
-use Rattle.net_kit.specs.Virtualising.{outlet_forgotten}
-use Rattle.net_kit.proofs.virt_ends.forget_outputs.Given as goal
-
-abbrev pub invariant-loop-k : goal.invariant-loop-k
-invariant-loop-k l = l.outputs.ends.items ≡ map outlet_forgotten (take l.k l.initial.outputs.ends.items) ++ drop l.k l.initial.outputs.ends.items

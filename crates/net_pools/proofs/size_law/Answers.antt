@@ -1,5 +1,0 @@
-use Rattle.net_pools.proofs.Sizing.{layout_within}
-use Rattle.net_pools.proofs.size_law.Goals as goal
-
-pub returns : goal.returns
-returns c = λ scene pool macs pools apart n. layout_within pool pools apart scene macs n

@@ -1,6 +1,0 @@
-//! The network's sending virtualiser stands alone over queues that hold two entries each, whose
-//! other ends are worked by hand.
-#![tactic(auto)]
-
-#[cfg(test)]
-mod tests;

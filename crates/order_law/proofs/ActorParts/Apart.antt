@@ -1,0 +1,135 @@
+-- Actors that were set apart over new rings stand there as they should.
+use Rattle.std.proofs.Common.{◌≡◌, ℕ, suc, Bool, true, ◌∷◌, nat_lt, Option, Some, List, [], length, map, slice_get, refl, sym, ap, ◌∙◌, subst, arith, ◌+◌}
+use Rattle.std.specs.List.{zip}
+use Rattle.std.proofs.lemmas.Bool.{lt-ltb}
+use Rattle.std.proofs.lemmas.Option.{get_or_from_slice_get}
+use Rattle.play_core.proofs.Lists.{map_get, map_from, there_below}
+use Rattle.wire_core.specs.declared.names.QueueId.{QueueId}
+use Rattle.wire_core.specs.declared.names.QueueRow.{QueueRow}
+use Rattle.wire_core.specs.Ends.{Role, Consumer, Producer, End}
+use Rattle.wire_core.specs.Journal.{owner_of}
+use Rattle.wire_core.specs.Lists.{nothing_passed}
+use Rattle.wire_core.specs.Queues.{Queue, starts, start_queue, no_queue, queue_at, end_at, end_of}
+use Rattle.spsc_queue.specs.Known.Ends.{EndIs, RingIs}
+use Rattle.seat_wires.specs.Places.{end_known, entries_known}
+use Rattle.seat_wires.specs.Times.{times_known}
+use Rattle.actor_set.specs.Actors.{ActorEnd, IsWhole, part_of}
+use Rattle.actor_set.specs.Parts.{Part}
+use Rattle.actor_set.specs.declared.actor.Actor.{Actor}
+use Rattle.actor_set.proofs.ActorLaw.Beside.{stands_beside}
+use Rattle.actor_set.proofs.ActorLaw.Starts.{fits_whole}
+use Rattle.actor_set.proofs.ActorLaw.PartEnds.{PartEnd, to_part, from_part}
+use Rattle.actor_set.specs.AdoptLaw.Looks.{SameButLook}
+use Rattle.actor_set.proofs.AdoptLaw.Looks.{fits_anew}
+use Rattle.order_law.specs.ActorParts.Parting.{Apart, ends_at, end_in, apart_end, apart_passed, StandsApart, HasItsEnds, AreApart}
+use Rattle.order_law.specs.ActorParts.Opening.{opened_from, IsForgotten}
+use Rattle.order_law.specs.ActorParts.Given.{Kept, apart_of}
+use Rattle.order_law.specs.ActorParts.Opened.{AreOpened, HaveNothing}
+use Rattle.order_law.specs.ActorParts.Ready.{AreReady}
+use Rattle.order_law.proofs.ActorParts.Numbers.{fresh, fresh_empty, fresh_untimed, ComesFrom, comes_from, opened_once, opened_empty, end_opened, zip_there, ring_there}
+
+same_actor : (x y : Actor) → Some x ≡ Some y → x ≡ y
+same_actor x y e = cc
+
+queue_there : (rows : List QueueRow) (n : ℕ) (row : QueueRow) → slice_get rows n ≡ Some row → queue_at (starts rows) n ≡ start_queue row
+queue_there rows n row at = get_or_from_slice_get (starts rows) n (start_queue row) no_queue (map_get start_queue rows n row at)
+
+-- a new ring's end is that of a queue in its start state
+fresh_end : (rows : List QueueRow) (n : ℕ) (row : QueueRow) (ring : RingIs) (r : Role) → slice_get rows n ≡ Some row → SameButLook (end_at (starts rows) r n) (end_known (Some (fresh r (row, ring))))
+fresh_end rows n row ring r at = subst (λ (e : End). SameButLook e (end_known (Some (fresh r (row, ring))))) (sym start) (as_start r)
+  where
+    here : nat_lt n (length (starts rows)) ≡ true
+    here = lt-ltb n (length (starts rows)) (there_below (starts rows) n (start_queue row) (map_get start_queue rows n row at))
+
+    start : end_at (starts rows) r n ≡ end_of true row.kind (start_queue row).bells r
+    start = ap (λ (b : Bool). end_of b (queue_at (starts rows) n).kind (queue_at (starts rows) n).bells r) here ∙ ap (λ (q : Queue). end_of true q.kind q.bells r) (queue_there rows n row at)
+
+    as_start : (r : Role) → SameButLook (end_of true row.kind (start_queue row).bells r) (end_known (Some (fresh r (row, ring))))
+    as_start Consumer = record { owned = refl; kind = refl; waiter = refl; ringer = refl }
+    as_start Producer = record { owned = refl; kind = refl; waiter = refl; ringer = refl }
+
+-- nothing passed yet, and the parts are those of the actors
+module _ (rows : List QueueRow) (actors : List Actor) (rings : List RingIs) (parts : List Kept) (opened : AreOpened rows actors rings parts) where
+  pub have_nothing : HaveNothing (map apart_of parts)
+  have_nothing k q at r n =
+      let p = map_from apart_of parts k q at in
+      let ends : ends_at q r ≡ opened_from r k 0 (zip rows rings) = ap (λ (a : Apart). ends_at a r) (sym p.2) ∙ opened.ends k p.0 p.1 r in (
+        ap (λ (l : List (QueueId × EndIs)). entries_known (end_in l n)) ends ∙ opened_empty entries_known refl fresh_empty r k 0 (zip rows rings) n,
+        ap (λ (l : List (QueueId × EndIs)). times_known (end_in l n)) ends ∙ opened_empty times_known refl fresh_untimed r k 0 (zip rows rings) n,
+      )
+
+  pub same_cast : map (λ (p : Kept). part_of p.0) parts ≡ map part_of actors
+  same_cast = alike actors parts opened.many (λ k p at. let x = opened.actors_are k p at in (x.0, x.1, x.2.part))
+    where
+      alike : (actors : List Actor) (parts : List Kept) → length parts ≡ length actors → ((k : ℕ) (p : Kept) → slice_get parts k ≡ Some p → (x : Actor) × (slice_get actors k ≡ Some x) × (part_of p.0 ≡ part_of x)) → map (λ (p : Kept). part_of p.0) parts ≡ map part_of actors
+      alike [] [] many each = refl
+      alike [] (p ∷ parts) many each = absurd (omega (arith, many))
+      alike (x ∷ actors) [] many each = absurd (omega (arith, many))
+      alike (x ∷ actors) (p ∷ parts) many each =
+          let first = each 0 p refl in
+          let is : x ≡ first.0 = same_actor x first.0 first.1 in
+          let head : part_of p.0 ≡ part_of x = first.2 ∙ ap part_of (sym is) in
+          ap (λ (q : Part). q ∷ map (λ (p : Kept). part_of p.0) parts) head ∙ ap (λ (l : List Part). part_of x ∷ l) (alike actors parts (omega (arith, many)) (λ k q at. each (suc k) q at))
+
+module _ (rows : List QueueRow) (actors : List Actor) (rings : List RingIs) (parts : List Kept) (opened : AreOpened rows actors rings parts) (ready : AreReady rows actors) where
+  module _ (k : ℕ) (p : Kept) (at : slice_get parts k ≡ Some p) where
+    abbrev a : Apart
+    a = apart_of p
+
+    abbrev pairs : List (QueueRow × RingIs)
+    pairs = zip rows rings
+
+    ends_are : (r : Role) → ends_at a r ≡ opened_from r k 0 pairs
+    ends_are r = opened.ends k p at r
+
+    was : (x : Actor) × (slice_get actors k ≡ Some x) × IsForgotten x p.0
+    was = opened.actors_are k p at
+
+    from : (r : Role) (i : ℕ) (x : QueueId × EndIs) → slice_get (ends_at a r) i ≡ Some x → ComesFrom r k 0 pairs x
+    from r i x h = comes_from r k 0 pairs i x (ap (λ (l : List (QueueId × EndIs)). slice_get l i) (sym (ends_are r)) ∙ h)
+
+    number : (r : Role) (i : ℕ) (x : QueueId × EndIs) (h : slice_get (ends_at a r) i ≡ Some x) → slice_get pairs x.0.0 ≡ Some (from r i x h).pair
+    number r i x h = let c = from r i x h in let e : x.0.0 ≡ c.place = (let m = c.number in omega (arith, m)) in ap (slice_get pairs) e ∙ c.there
+
+    -- the end of a queue whose row names the actor
+    end_there : (r : Role) (n : ℕ) (row : QueueRow) → slice_get rows n ≡ Some row → owner_of row r ≡ k → (ring : RingIs) × (end_in (ends_at a r) n ≡ Some (fresh r (row, ring)))
+    end_there r n row there own =
+        let g = ring_there rows rings opened.rings_are n row there in
+        (g.0, ap (λ (l : List (QueueId × EndIs)). end_in l n) (ends_are r) ∙ (ap (end_in (opened_from r k 0 pairs)) (let e : n ≡ 0 + n = omega arith in e) ∙ end_opened r k 0 pairs n (row, g.0) g.1 own))
+
+    has_ends : HasItsEnds rows k a
+    has_ends = record {
+      own = λ r i x h. let c = from r i x h in let z = zip_there rows rings x.0.0 c.pair (number r i x h) in (c.pair.0, z.0, c.owner);
+      all = λ r n row there own. let e = end_there r n row there own in (fresh r (row, e.0), e.1);
+    }
+
+    whole : IsWhole p.0
+    whole = fits_whole (end_at (starts rows)) p.0 (was.2.fits (end_at (starts rows)) (ready.fits k was.0 was.1))
+
+    -- one of its ends is one that it had
+    owned : (r : Role) (n : ℕ) → ActorEnd p.0 r n → (row : QueueRow) × (slice_get rows n ≡ Some row) × (owner_of row r ≡ k)
+    owned r n e = ready.owners k was.0 was.1 r n (from_part was.0 r n (subst (λ (q : Part). PartEnd q r n) was.2.part (to_part p.0 r n whole e)))
+
+    nothing_known : (r : Role) (n : ℕ) → ActorEnd p.0 r n → entries_known (end_in (ends_at a r) n) ≡ []
+    nothing_known r n e = let o = owned r n e in let x = end_there r n o.0 o.1 o.2 in ap entries_known x.1 ∙ empty r o.0 x.0
+      where
+        empty : (r : Role) (row : QueueRow) (ring : RingIs) → (fresh r (row, ring)).knows.entries ≡ []
+        empty Consumer row ring = refl
+        empty Producer row ring = refl
+
+    stands_there : StandsApart rings a
+    stands_there = record {
+      once = λ r i j x y h g same. opened_once r k 0 pairs i j x y (ap (λ (l : List (QueueId × EndIs)). slice_get l i) (sym (ends_are r)) ∙ h) (ap (λ (l : List (QueueId × EndIs)). slice_get l j) (sym (ends_are r)) ∙ g) same;
+      on = λ r i x h. let c = from r i x h in let z = zip_there rows rings x.0.0 c.pair (number r i x h) in (c.pair.1, z.1, ap (λ (e : EndIs). e.ring) c.is);
+      fits = fits_anew (end_at (starts rows)) (apart_end a) was.0 p.0 was.2.forgot
+          (λ r n e. let o = owned r n e in let x = end_there r n o.0 o.1 o.2 in subst (λ (y : Option EndIs). SameButLook (end_at (starts rows) r n) (end_known y)) (sym x.1) (fresh_end rows n o.0 x.0 r o.1))
+          (was.2.fits (end_at (starts rows)) (ready.fits k was.0 was.1));
+      stands = stands_beside nothing_passed (apart_passed a) p.0 whole (λ n e. nothing_known Consumer n e) (λ n e. nothing_known Producer n e) (was.2.stands nothing_passed (ready.stands k was.0 was.1));
+    }
+
+  pub are_apart : AreApart rows rings (map apart_of parts)
+  are_apart = record {
+    rings_are = opened.rings_are;
+    ends = λ k q at. let p = map_from apart_of parts k q at in subst (HasItsEnds rows k) p.2 (has_ends k p.0 p.1);
+    stand = λ k q at. let p = map_from apart_of parts k q at in subst (StandsApart rings) p.2 (stands_there k p.0 p.1);
+  }

@@ -1,0 +1,28 @@
+-- What actors are where they were set apart with new rings.
+use Rattle.std.specs.Prelude.{◌≡◌, ℕ, Some, List, [], length, slice_get}
+use Rattle.std.specs.List.{AllZip, zip}
+use Rattle.wire_core.specs.declared.names.QueueRow.{QueueRow}
+use Rattle.wire_core.specs.Ends.{Role}
+use Rattle.spsc_queue.specs.Known.Ends.{RingIs}
+use Rattle.actor_set.specs.declared.actor.Actor.{Actor}
+use Rattle.seat_wires.specs.Places.{entries_known}
+use Rattle.seat_wires.specs.Times.{times_known}
+use Rattle.order_law.specs.ActorParts.Parting.{Apart, ends_at, end_in, IsRingOf}
+use Rattle.order_law.specs.ActorParts.Opening.{opened_from, IsForgotten}
+use Rattle.order_law.specs.ActorParts.Given.{Kept, apart_of}
+
+-- one new ring for each of these rows, and each actor with the ends of new rings that the rows give
+-- it, in their order
+pub record AreOpened (rows : List QueueRow) (actors : List Actor) (rings : List RingIs)
+    (parts : List Kept) : Type 0 where
+  pub rings_are : AllZip IsRingOf rows rings
+  pub many : length parts ≡ length actors
+  pub actors_are : (k : ℕ) (p : Kept) → slice_get parts k ≡ Some p → (x : Actor)
+      × (slice_get actors k ≡ Some x) × IsForgotten x p.0
+  pub ends : (k : ℕ) (p : Kept) → slice_get parts k ≡ Some p → (r : Role)
+      → ends_at (apart_of p) r ≡ opened_from r k 0 (zip rows rings)
+
+-- nothing passed at any end, at no time
+abbrev pub HaveNothing : List Apart → Type 0
+HaveNothing parts = (k : ℕ) (p : Apart) → slice_get parts k ≡ Some p → (r : Role) (n : ℕ)
+    → (entries_known (end_in (ends_at p r) n) ≡ []) × (times_known (end_in (ends_at p r) n) ≡ [])

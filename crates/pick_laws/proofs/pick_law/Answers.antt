@@ -1,8 +1,0 @@
-use Rattle.pick_laws.proofs.Seeds.{drawn_by, picked_by}
-use Rattle.pick_laws.proofs.pick_law.Goals as goal
-
-pub returns-clause-drawn : goal.returns-clause-drawn
-returns-clause-drawn c = drawn_by
-
-pub returns-clause-reached : goal.returns-clause-reached
-returns-clause-reached c = picked_by

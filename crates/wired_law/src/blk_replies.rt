@@ -1,0 +1,31 @@
+//! What the clients of the block class recorded at any moment, in a cast that has the whole class at
+//! the layout's queues.
+
+ghost use Rattle.std.specs.Prelude.{◌≡◌, ℕ, Some, List, map, slice_get};
+ghost use Rattle.cargo_core.specs.Lists.{IsPrefix};
+ghost use Rattle.cargo_core.specs.declared.item.Ask.{Ask};
+ghost use Rattle.wire_core.specs.declared.names.QueueRow.{QueueRow};
+ghost use Rattle.wire_core.specs.Ends.{Role, End};
+ghost use Rattle.wire_core.specs.Lists.{Passed};
+ghost use Rattle.net_law.specs.NetOwners.Names.{PoolAt};
+ghost use Rattle.blk_expect.specs.Replies.{replies_of};
+ghost use Rattle.blk_law.specs.BlkParts.Numbers.{BlkPlace, blk_client_at};
+ghost use Rattle.actor_set.specs.Parts.{Part, BlockPart};
+ghost use Rattle.actor_set.specs.Actors.{part_of};
+ghost use Rattle.actor_set.specs.declared.actor.Actor.{Actor};
+ghost use Rattle.actor_set.specs.ActorLaw.Records.{replies_got};
+ghost use Rattle.wired_law.specs.Wiring.{HasBlk, ClientsSend, AreAtWork};
+
+/// In a cast with the whole block class, whose clients put good requests alone, what a client
+/// recorded at any moment is a beginning of the replies to what it asks: those of a disk that has
+/// the bytes of the client's partition alone, whatever the other clients ask for.
+pub fn replied_law()
+    ensures { (ends : Role → ℕ → End) (rows : List QueueRow) (actors : List Actor)
+        (passed : Passed) (place : BlkPlace) → HasBlk rows place (map part_of actors)
+        → AreAtWork ends rows actors passed → ClientsSend (map part_of actors) passed
+        → (k c : ℕ) (x : Actor) (asks : List Ask) (pool : PoolAt) (entry : ℕ)
+        → slice_get actors k ≡ Some x
+        → part_of x ≡ BlockPart (blk_client_at place.first c asks pool)
+        → slice_get place.entries c ≡ Some entry → slice_get place.asks c ≡ Some asks
+        → IsPrefix (replies_got x) (replies_of place.image entry asks) }
+{}
