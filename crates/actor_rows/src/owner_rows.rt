@@ -4,8 +4,11 @@
 ghost use Rattle.std.specs.Prelude.{◌≡◌, true, false, [], ◌∷◌};
 ghost use Rattle.owner_law.specs.Owners.{InQueue, InHand, At, Lent};
 ghost use Rattle.owner_law.specs.Keeping.{start_table};
-ghost use Rattle.actor_rows.specs.OwnerRows.Reading.{asked, responded, replied, block_table, block_line};
-ghost use Rattle.actor_rows.specs.OwnerRows.Broadcast.{to_the_virtualiser, lent, first_back, both_back, answered, table, line, counts, all_found, next_found, puts, takes, actors};
+ghost use Rattle.actor_rows.specs.OwnerRows.Reading.{asked, responded, replied, block_table};
+ghost use Rattle.actor_rows.specs.OwnerRows.Reading.{block_line};
+ghost use Rattle.actor_rows.specs.OwnerRows.Broadcast.{to_the_virtualiser, lent, first_back};
+ghost use Rattle.actor_rows.specs.OwnerRows.Broadcast.{both_back, answered, table, line, counts};
+ghost use Rattle.actor_rows.specs.OwnerRows.Broadcast.{all_found, next_found, puts, takes, actors};
 
 /// The lines of the receive buffers at each moment, and of all pools at the end.
 pub fn broadcast_rows()

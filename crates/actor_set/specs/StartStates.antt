@@ -1,5 +1,6 @@
 -- Actors in their start state, and the ends that rows give them.
-use Rattle.std.specs.Prelude.{◌≡◌, ◌+◌, ◌-◌, ◌<◌, ◌^◌, ◌==◌, if◌then◌else◌, ℕ, Some, List, All, length, slice_get}
+use Rattle.std.specs.Prelude.{◌≡◌, ◌+◌, ◌-◌, ◌<◌, ◌^◌, ◌==◌, if◌then◌else◌, ℕ, Some, List, All}
+use Rattle.std.specs.Prelude.{length, slice_get}
 use Rattle.cargo_core.specs.declared.item.QueueKind.{QueueKind}
 use Rattle.cargo_core.specs.declared.item.QueueKind.TheVariants as Kind
 use Rattle.cargo_core.specs.Pages.{Paged}
@@ -15,7 +16,8 @@ use Rattle.serial_virt.specs.Receiving.{IsNewRx}
 use Rattle.serial_virt.specs.Sending.{IsNewTx}
 use Rattle.pipe_driver.specs.Drivers.{EachPipe, AreDistinct, inputs_of, outputs_of}
 use Rattle.eth_driver.specs.Four.{four_pipes}
-use Rattle.device_model.specs.EthDevices.Devices.{IsNewDevice, rx_free, rx_active, tx_active, tx_free}
+use Rattle.device_model.specs.EthDevices.Devices.{IsNewDevice, rx_free, rx_active, tx_active}
+use Rattle.device_model.specs.EthDevices.Devices.{tx_free}
 use Rattle.device_model.specs.declared.eth_device.EthDevice.{EthDevice}
 use Rattle.buffer_kit.specs.Virtualising.{from_queues, to_queues}
 use Rattle.buffer_kit.specs.declared.virt_ends.VirtEnds.{VirtEnds}

@@ -4,7 +4,9 @@ ghost use Rattle.std.specs.Prelude.{◌≡◌, ℕ, IfOk, OnErr};
 ghost use Rattle.wire_core.specs.Ends.{role_of, Role, End};
 ghost use Rattle.wire_core.specs.Lists.{Passed, Stepped};
 ghost use Rattle.cargo_core.specs.Bodies.{buffers_of};
-ghost use Rattle.actor_set.specs.Actors.{FitsActor, ActorStandsFor, ActorRow, ActorBalances, ActorEnd, ActorTurned, IsWhole, Forgot, actor_rests, actor_hand, part_of, record_length, bad_of, actor_lent};
+ghost use Rattle.actor_set.specs.Actors.{FitsActor, ActorStandsFor, ActorRow, ActorBalances};
+ghost use Rattle.actor_set.specs.Actors.{ActorEnd, ActorTurned, IsWhole, Forgot, actor_rests};
+ghost use Rattle.actor_set.specs.Actors.{actor_hand, part_of, record_length, bad_of, actor_lent};
 
 use crate::Disk;
 use blk_driver::BlkDriver;

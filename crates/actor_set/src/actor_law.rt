@@ -18,10 +18,12 @@ ghost use Rattle.play_core.specs.Wants.{all_settled};
 ghost use Rattle.play_core.specs.Runs.{called_from};
 ghost use Rattle.play_core.specs.Sheets.{Scene, IsOwn, AreApart};
 ghost use Rattle.actor_set.specs.Parts.{Part};
-ghost use Rattle.actor_set.specs.Actors.{FitsActor, ActorStandsFor, ActorEnd, ActorTurned, IsWhole, actor_round, actor_rests, actor_hand, part_of};
+ghost use Rattle.actor_set.specs.Actors.{FitsActor, ActorStandsFor, ActorEnd, ActorTurned, IsWhole};
+ghost use Rattle.actor_set.specs.Actors.{actor_round, actor_rests, actor_hand, part_of};
 ghost use Rattle.actor_set.specs.declared.actor.Actor.{Actor};
 ghost use Rattle.actor_set.specs.ActorLaw.Kinds.{part_kind, sheet};
-ghost use Rattle.actor_set.specs.ActorLaw.Records.{record_of, record_by, frames_got, frames_by, replies_got, replies_by};
+ghost use Rattle.actor_set.specs.ActorLaw.Records.{record_of, record_by, frames_got, frames_by};
+ghost use Rattle.actor_set.specs.ActorLaw.Records.{replies_got, replies_by};
 ghost use Rattle.actor_set.specs.ActorLaw.Turning.{InTurn};
 ghost use Rattle.actor_set.specs.StartStates.{IsNew, HasApartEnds, HasNoLoop, HasSeat, kind_at};
 ghost use Rattle.play_core.specs.RestLaw.Showing.{HaveItems, HaveBells};
@@ -81,8 +83,8 @@ pub fn turn_law()
 
 /// An actor of any kind in its start state stands for nothing and has its sheet's start hand.
 /// Where rows give it ends of its own, it fits them in their start state; and its ends are a round
-/// where no queue is twice among them. Where no end of its sheet stands twice, its ends on each side
-/// are of queues of their own; and its part tells what these carry.
+/// where no queue is twice among them. Where no end of its sheet stands twice, its ends on each
+/// side are of queues of their own; and its part tells what these carry.
 pub fn start_law()
     ensures stands { (a : Actor) → IsNew a → ActorStandsFor a nothing_passed }
     ensures whole { (a : Actor) → IsNew a → IsWhole a }

@@ -1,6 +1,7 @@
 -- A run of a disk's blocks, such as a partition, that the requests of one client alone touch: to
 -- that client it is a disk of its own.
-use Rattle.std.specs.Prelude.{◌≡◌, ◌+◌, ◌≤◌, ◌<◌, ℕ, Bool, false, Some, if◌then◌else◌, List, [], ◌∷◌, All}
+use Rattle.std.specs.Prelude.{◌≡◌, ◌+◌, ◌≤◌, ◌<◌, ℕ, Bool, false, Some, if◌then◌else◌, List, []}
+use Rattle.std.specs.Prelude.{◌∷◌, All}
 use Rattle.std.specs.List.{AllZip, filter}
 use Rattle.cargo_core.specs.declared.item.BlkReq.{BlkReq}
 use Rattle.cargo_core.specs.declared.item.Code.{Code}
@@ -73,8 +74,8 @@ IsInside first count (ItemOf.Resp r, body) = Unit {0}
 abbrev pub OthersBeside : (Cargo → Bool) → ℕ → ℕ → List Cargo → Type 0
 OthersBeside own first count xs = All (λ (x : Cargo). own x ≡ false → IsBeside first count x) xs
 
--- a request of the disk asks for the blocks that another asks of the run: a read or a write is all in
--- the run
+-- a request of the disk asks for the blocks that another asks of the run: a read or a write is all
+-- in the run
 abbrev pub IsMoved : Code → ℕ → ℕ → BlkReq → BlkReq → Type 0
 IsMoved Asked.Read first count r q =
     (r.block ≡ first + q.block) × (r.count ≡ q.count) × (q.block + q.count ≤ count)

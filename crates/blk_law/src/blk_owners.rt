@@ -11,10 +11,10 @@ ghost use Rattle.blk_law.specs.BlkParts.Parts.{DiskDevice, BlkDriver, BlkVirt, B
 ghost use Rattle.blk_law.specs.BlkParts.Table.{blk_sheet};
 ghost use Rattle.blk_law.specs.BlkOwners.Answering.{NamesBlk, ArePoolsApart, PutsItsOwnInOrder};
 
-/// A disk, a driver, a client and the virtualiser put only what was in their hand, where queues hand
-/// over in order and no more was answered than was asked: the first two what they took, the client
-/// and the virtualiser the buffers that they had too. Of a client's requests the virtualiser sends on
-/// or gives back each once, where no two pools have an address in common.
+/// A disk, a driver, a client and the virtualiser put only what was in their hand, where queues
+/// hand over in order and no more was answered than was asked: the first two what they took, the
+/// client and the virtualiser the buffers that they had too. Of a client's requests the
+/// virtualiser sends on or gives back each once, where no two pools have an address in common.
 pub fn blk_own_law()
     ensures disk { (naming : Naming) (scene : Scene) (req resp : ℕ) (image : List ℕ)
         → NamesBlk naming (DiskDevice req resp image)

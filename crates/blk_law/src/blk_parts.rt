@@ -17,7 +17,9 @@ ghost use Rattle.blk_virt.specs.declared.virtualiser.BlkVirt.{BlkVirt};
 ghost use Rattle.net_law.specs.NetOwners.Ends.{AreItemsOf};
 ghost use Rattle.blk_law.specs.BlkParts.Parts.{BlkPart};
 ghost use Rattle.blk_law.specs.BlkParts.Table.{blk_sheet};
-ghost use Rattle.blk_law.specs.BlkParts.Playing.{disk_part, blk_driver_part, virt_part, blk_client_part, DiskInTurn, VirtInTurn, ClientInTurn};
+ghost use Rattle.blk_law.specs.BlkParts.Playing.{disk_part, blk_driver_part, virt_part};
+ghost use Rattle.blk_law.specs.BlkParts.Playing.{blk_client_part, DiskInTurn, VirtInTurn};
+ghost use Rattle.blk_law.specs.BlkParts.Playing.{ClientInTurn};
 
 /// What is said of an actor speaks of its own ends alone, and an output is owed exactly where the
 /// actor's row would still hold after one more put there.

@@ -14,12 +14,15 @@ ghost use Rattle.play_core.specs.Sheets.{Scene};
 ghost use Rattle.pipe_driver.specs.Drivers.{FitsPipes, PipesStandFor, pipes_round};
 ghost use Rattle.device_model.specs.DiskDevices.Disks.{FitsDisk, DiskStandsFor, disk_round};
 ghost use Rattle.device_model.specs.declared.disk_device.DiskDevice.{DiskDevice};
-ghost use Rattle.client_programs.specs.BlkClients.Clients.{FitsBlkClient, BlkClientStandsFor, blk_client_round};
+ghost use Rattle.client_programs.specs.BlkClients.Clients.{FitsBlkClient, BlkClientStandsFor};
+ghost use Rattle.client_programs.specs.BlkClients.Clients.{blk_client_round};
 ghost use Rattle.client_programs.specs.declared.blk_client.BlkClient.{BlkClient};
 ghost use Rattle.blk_virt.specs.Virtualising.{FitsBlkVirt, BlkVirtStandsFor, blk_virt_round};
 ghost use Rattle.blk_virt.specs.declared.virtualiser.BlkVirt.{BlkVirt};
 ghost use Rattle.blk_law.specs.BlkParts.Table.{blk_sheet};
-ghost use Rattle.blk_law.specs.BlkParts.Playing.{disk_part, blk_driver_part, virt_part, blk_client_part, DiskInTurn, ClientInTurn, VirtInTurn};
+ghost use Rattle.blk_law.specs.BlkParts.Playing.{disk_part, blk_driver_part, virt_part};
+ghost use Rattle.blk_law.specs.BlkParts.Playing.{blk_client_part, DiskInTurn, ClientInTurn};
+ghost use Rattle.blk_law.specs.BlkParts.Playing.{VirtInTurn};
 ghost use Rattle.play_core.specs.RestLaw.Showing.{HaveItems, HaveBells};
 
 /// An actor that fits the queues as history and journal show them, and stands for the entries that

@@ -14,7 +14,8 @@ ghost use Rattle.blk_virt.specs.Requests.{page_named};
 ghost use Rattle.blk_virt.specs.Virtualising.{BlkVirtRow};
 ghost use Rattle.net_law.specs.NetOwners.Names.{PoolAt};
 ghost use Rattle.blk_law.specs.BlkParts.Numbers.{BlkPlace, IsBlkClientOf};
-ghost use Rattle.blk_quiet.specs.BlkCast.Casting.{IsBlkCast, IsAskingClient, AllAsk, AreRequests, IsOfPool, IsWhole};
+ghost use Rattle.blk_quiet.specs.BlkCast.Casting.{IsBlkCast, IsAskingClient, AllAsk, AreRequests};
+ghost use Rattle.blk_quiet.specs.BlkCast.Casting.{IsOfPool, IsWhole};
 
 /// The virtualiser takes nothing out of turn, whatever the clients put, and no more responses than
 /// it put requests, of which the first brings the disk's first sector. Where each client put

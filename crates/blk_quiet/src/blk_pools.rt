@@ -13,7 +13,8 @@ ghost use Rattle.pipe_driver.specs.Drivers.{PipesRow, PipesBalance, pipes_hand};
 ghost use Rattle.buffer_kit.specs.Virtualising.{from_queues, to_queues};
 ghost use Rattle.device_model.specs.DiskDevices.Disks.{DiskRow, DiskBalances, disk_hand};
 ghost use Rattle.device_model.specs.declared.disk_device.DiskDevice.{DiskDevice};
-ghost use Rattle.client_programs.specs.BlkClients.Clients.{BlkClientRow, BlkClientBalances, blk_client_hand};
+ghost use Rattle.client_programs.specs.BlkClients.Clients.{BlkClientRow, BlkClientBalances};
+ghost use Rattle.client_programs.specs.BlkClients.Clients.{blk_client_hand};
 ghost use Rattle.client_programs.specs.declared.blk_client.BlkClient.{BlkClient};
 ghost use Rattle.blk_virt.specs.Desks.{holders};
 ghost use Rattle.blk_virt.specs.Virtualising.{BlkVirtRow, BlkVirtBalances};
@@ -24,17 +25,19 @@ ghost use Rattle.owner_law.specs.PoolLaw.Handing.{HandsOn};
 ghost use Rattle.owner_law.specs.PoolLaw.Lines.{HoldsIts, NamesWithin};
 ghost use Rattle.net_law.specs.NetOwners.Names.{PoolAt};
 ghost use Rattle.net_quiet.specs.NetPools.Holders.{holder_of, no_lent};
-ghost use Rattle.blk_law.specs.BlkParts.Numbers.{BlkPlace, disk_at, blk_driver_at, virt_at, blk_client_at};
-ghost use Rattle.blk_law.specs.BlkParts.Playing.{VirtInTurn, disk_part, blk_driver_part, virt_part, blk_client_part};
+ghost use Rattle.blk_law.specs.BlkParts.Numbers.{BlkPlace, disk_at, blk_driver_at, virt_at};
+ghost use Rattle.blk_law.specs.BlkParts.Numbers.{blk_client_at};
+ghost use Rattle.blk_law.specs.BlkParts.Playing.{VirtInTurn, disk_part, blk_driver_part, virt_part};
+ghost use Rattle.blk_law.specs.BlkParts.Playing.{blk_client_part};
 ghost use Rattle.blk_law.specs.BlkParts.Table.{blk_sheet};
 ghost use Rattle.blk_law.specs.BlkOwners.Answering.{NamesBlk, IsInOrder};
 ghost use Rattle.blk_quiet.specs.BlkPools.Naming.{IsNamedAt, NamesServed, blk_names};
 
-/// Where queues hand over in order and what it took carries the pages that are named, so does what an
-/// actor of the block class put: a disk fills the buffer of a read and gives each back with its
-/// response, a driver hands requests and responses on, a client asks in its own buffers and those that
-/// came back, and the virtualiser, whose own buffer is the first of its pool, sends on what its clients
-/// asked and gives it back.
+/// Where queues hand over in order and what it took carries the pages that are named, so does what
+/// an actor of the block class put: a disk fills the buffer of a read and gives each back with its
+/// response, a driver hands requests and responses on, a client asks in its own buffers and those
+/// that came back, and the virtualiser, whose own buffer is the first of its pool, sends on what
+/// its clients asked and gives it back.
 pub fn blk_hand_law()
     ensures disk { (naming : Naming) (scene : Scene) (start : List ℕ) (d : DiskDevice)
         (passed : Passed) (m : Moved) → HaveItems passed m → IsInOrder naming m
@@ -53,7 +56,8 @@ pub fn blk_hand_law()
         → HandsOn naming m passed (blk_sheet scene (blk_client_part c)).ends }
 {}
 
-/// Of each pool such an actor had at the start and took what it put and has in its hand: none lends.
+/// Of each pool such an actor had at the start and took what it put and has in its hand: none
+/// lends.
 pub fn blk_hold_law()
     ensures disk { (naming : Naming) (sizes : ℕ → ℕ) (scene : Scene) (start : List ℕ)
         (d : DiskDevice) (passed : Passed) (m : Moved) → NamesBlk naming (disk_part start d)

@@ -23,7 +23,8 @@ ghost use Rattle.actor_set.specs.Parts.{Part};
 ghost use Rattle.actor_set.specs.ActorLaw.Kinds.{sheet, scene_of, hostiles};
 ghost use Rattle.wired_law.specs.Wiring.{HasWhole, HasBlk};
 ghost use Rattle.cast_core.specs.Casts.{net_place, blk_place, scene_for};
-ghost use Rattle.cast_bound.specs.PlayBound.Standing.{StandsFrom, Carries, serial_first, NetMoves, SerialMoves, BlkMoves};
+ghost use Rattle.cast_bound.specs.PlayBound.Standing.{StandsFrom, Carries, serial_first, NetMoves};
+ghost use Rattle.cast_bound.specs.PlayBound.Standing.{SerialMoves, BlkMoves};
 
 pub mod play_bound;
 

@@ -1,6 +1,7 @@
 -- What a plan, the rows of its pools and a trace give each client of a class, by its number, and
 -- where the classes begin.
-use Rattle.std.specs.Prelude.{◌+◌, ◌*◌, ℕ, zero, suc, Bool, false, if◌then◌else◌, List, [], ◌∷◌, length, codes, slice_get, unwrap_or}
+use Rattle.std.specs.Prelude.{◌+◌, ◌*◌, ℕ, zero, suc, Bool, false, if◌then◌else◌, List, [], ◌∷◌}
+use Rattle.std.specs.Prelude.{length, codes, slice_get, unwrap_or}
 use Rattle.std.specs.Option.{option_map_or}
 use Rattle.cargo_core.specs.declared.item.Ask.{Ask}
 use Rattle.frame_core.specs.declared.mac.Mac.{Mac}

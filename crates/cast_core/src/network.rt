@@ -1,5 +1,6 @@
 //! The actors of the network class.
-ghost use Rattle.std.specs.Prelude.{◌≡◌, ◌<◌, ◌≤◌, ◌+◌, ◌*◌, ℕ, List, Some, length, slice_get, IfOk};
+ghost use Rattle.std.specs.Prelude.{◌≡◌, ◌<◌, ◌≤◌, ◌+◌, ◌*◌, ℕ, List, Some, length, slice_get};
+ghost use Rattle.std.specs.Prelude.{IfOk};
 ghost use Rattle.region_layout.specs.Rows.{pools_of};
 ghost use Rattle.trace_text.specs.Events.{net_clients, is_source};
 ghost use Rattle.trace_text.specs.Traces.{per_client};
@@ -7,16 +8,21 @@ ghost use Rattle.turn_kit.specs.Pipes.{IsNewPipe};
 ghost use Rattle.pipe_driver.specs.Drivers.{EachPipe};
 ghost use Rattle.eth_driver.specs.Four.{four_pipes};
 ghost use Rattle.net_copier.specs.Copying.{IsNewCopier};
-ghost use Rattle.net_law.specs.NetParts.Numbers.{client_first, device_at, driver_at, receiver_at, copier_at, client_at};
-ghost use Rattle.net_law.specs.NetParts.Playing.{device_part, driver_part, receiver_part, copier_part, client_part};
+ghost use Rattle.net_law.specs.NetParts.Numbers.{client_first, device_at, driver_at, receiver_at};
+ghost use Rattle.net_law.specs.NetParts.Numbers.{copier_at, client_at};
+ghost use Rattle.net_law.specs.NetParts.Playing.{device_part, driver_part, receiver_part};
+ghost use Rattle.net_law.specs.NetParts.Playing.{copier_part, client_part};
 ghost use Rattle.net_law.specs.NetTxParts.Numbers.{own_pools, sender_at};
 ghost use Rattle.net_law.specs.NetTxParts.Playing.{send_part};
 ghost use Rattle.actor_set.specs.Actors.{part_of};
-ghost use Rattle.actor_set.specs.StartStates.{IsNew, IsNewReceiving, IsNewLender, IsNewSender, IsNewClientOf};
-ghost use Rattle.cast_core.specs.Sources.{client_kind, client_mac, client_program, is_echo, pool_at, pools_at};
+ghost use Rattle.actor_set.specs.StartStates.{IsNew, IsNewReceiving, IsNewLender, IsNewSender};
+ghost use Rattle.actor_set.specs.StartStates.{IsNewClientOf};
+ghost use Rattle.cast_core.specs.Sources.{client_kind, client_mac, client_program, is_echo};
+ghost use Rattle.cast_core.specs.Sources.{pool_at, pools_at};
 ghost use Rattle.cast_core.specs.Casts.{job_part};
 ghost use Rattle.cast_core.specs.Known.{net_job, net_within};
-ghost use Rattle.cast_core.specs.Making.{lease_ends, tx_ends, AreShort, HasPool, HasPools, HasFrames};
+ghost use Rattle.cast_core.specs.Making.{lease_ends, tx_ends, AreShort, HasPool, HasPools};
+ghost use Rattle.cast_core.specs.Making.{HasFrames};
 
 use crate::jobs::NetJob;
 use crate::pools::{NET_BUFFER, pages, pool_row, ranges, tx_ends};

@@ -26,9 +26,12 @@ ghost use Rattle.actor_set.specs.Actors.{ActorStandsFor, IsWhole, part_of, bad_o
 ghost use Rattle.actor_set.specs.declared.actor.Actor.{Actor};
 ghost use Rattle.actor_set.specs.ActorLaw.Kinds.{sheet, scene_of};
 ghost use Rattle.actor_set.specs.ActorLaw.Turning.{InTurn};
-ghost use Rattle.cast_law.specs.CastPools.Holders.{NamesAt, IsSized, TakesNet, actor_holder, holders_of};
-ghost use Rattle.cast_law.specs.CastPools.Places.{PoolPlace, IsPlaced, HasPools, ArePooled, cast_naming, place_sizes};
-ghost use Rattle.cast_law.specs.CastPools.Pooling.{keepers_at, AddUp, AreAtPlay, BeginsWith, HasOwners, AreKindly, IsCall};
+ghost use Rattle.cast_law.specs.CastPools.Holders.{NamesAt, IsSized, TakesNet, actor_holder};
+ghost use Rattle.cast_law.specs.CastPools.Holders.{holders_of};
+ghost use Rattle.cast_law.specs.CastPools.Places.{PoolPlace, IsPlaced, HasPools, ArePooled};
+ghost use Rattle.cast_law.specs.CastPools.Places.{cast_naming, place_sizes};
+ghost use Rattle.cast_law.specs.CastPools.Pooling.{keepers_at, AddUp, AreAtPlay, BeginsWith};
+ghost use Rattle.cast_law.specs.CastPools.Pooling.{HasOwners, AreKindly, IsCall};
 
 /// Where nothing came out of turn at an actor, of any class, queues hand over in order, and what it
 /// took carries the pages that are named, so does what it put; and of each pool it had at the start
@@ -48,12 +51,12 @@ pub fn holder_law()
 {}
 
 /// Entries that carry the pages which their items name do so after each call of an actor. So the
-/// lines that a program counts, of a cast's pools by their numbers, are those of the table of owners
-/// after the journal, from any table on with which the cast begins; and each line's numbers add up
-/// to its pool, where its buffers have their places in such a table. At the start state it begins
-/// with each pool's buffers in the hand of the actor that owns it. There are no more pools than a
-/// number of 16 bits tells, where there are no more queues. At each moment of a cast at play queues
-/// have what is of their kind.
+/// lines that a program counts, of a cast's pools by their numbers, are those of the table of
+/// owners after the journal, from any table on with which the cast begins; and each line's numbers
+/// add up to its pool, where its buffers have their places in such a table. At the start state it
+/// begins with each pool's buffers in the hand of the actor that owns it. There are no more pools
+/// than a number of 16 bits tells, where there are no more queues. At each moment of a cast at
+/// play queues have what is of their kind.
 pub fn cast_pool_law()
     ensures carries { (rows : List QueueRow) (place : PoolPlace) (cast : List Part)
         (m m' : Moved) (passed : Passed) (d : Deed) (k : ℕ) (x : Actor)

@@ -2,17 +2,24 @@
 //! and write in a buffer that it has in hand, and records and keeps what comes back. The program is
 //! this project's own; that a client has one queue each way is sDDF's.
 
-ghost use Rattle.std.specs.Prelude.{◌≡◌, ◌+◌, ◌-◌, ◌<◌, ◌≤◌, ◌^◌, ◌==◌, ◌∷◌, [], ℕ, None, IfOk, OnErr, is_none, false, length, slice_get};
+ghost use Rattle.std.specs.Prelude.{◌≡◌, ◌+◌, ◌-◌, ◌<◌, ◌≤◌, ◌^◌, ◌==◌, ◌∷◌, [], ℕ, None, IfOk};
+ghost use Rattle.std.specs.Prelude.{OnErr, is_none, false, length, slice_get};
 ghost use Rattle.std.specs.Option.{option_to_list};
 ghost use Rattle.cargo_core.specs.Bodies.{buffers_of};
 ghost use Rattle.wire_core.specs.Ends.{role_of, Role, End};
 ghost use Rattle.wire_core.specs.Lists.{Lists, Passed, Stepped, nothing_passed, with, if_there};
 ghost use Rattle.wire_core.specs.Marks.{is_mark};
-ghost use Rattle.turn_kit.specs.Turns.{Turned, Posted, choice_of, chosen_place, last_after, is_at_rest};
+ghost use Rattle.turn_kit.specs.Turns.{Turned, Posted, choice_of, chosen_place, last_after};
+ghost use Rattle.turn_kit.specs.Turns.{is_at_rest};
 ghost use Rattle.turn_kit.specs.Posts.{intake_post, outlet_post};
 ghost use Rattle.buffer_kit.specs.Pools.{ArePool};
 ghost use Rattle.client_programs.specs.BlkClients.Asking.{IsAsking, SameAsking, reply_room};
-ghost use Rattle.client_programs.specs.BlkClients.Clients.{BlkStands, FitsBlkClient, BlkClientStandsFor, BlkClientRow, BlkClientBalances, BlkClientEnd, SameBlkClient, IsNewBlkClient, is_asking, blk_client_round, blk_client_hand, blk_client_forgotten};
+ghost use Rattle.client_programs.specs.BlkClients.Clients.{BlkStands, FitsBlkClient};
+ghost use Rattle.client_programs.specs.BlkClients.Clients.{BlkClientStandsFor, BlkClientRow};
+ghost use Rattle.client_programs.specs.BlkClients.Clients.{BlkClientBalances, BlkClientEnd};
+ghost use Rattle.client_programs.specs.BlkClients.Clients.{SameBlkClient, IsNewBlkClient};
+ghost use Rattle.client_programs.specs.BlkClients.Clients.{is_asking, blk_client_round};
+ghost use Rattle.client_programs.specs.BlkClients.Clients.{blk_client_hand, blk_client_forgotten};
 
 use cargo_core::{Ask, Body, Item, Memory, Page, PoolId, Reply};
 use std::alloc::Global;

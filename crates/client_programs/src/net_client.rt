@@ -3,16 +3,22 @@
 //! frame that comes. The programs are this project's own; that a client has two queues each way is
 //! sDDF's.
 
-ghost use Rattle.std.specs.Prelude.{◌≡◌, ◌+◌, ◌-◌, ◌<◌, ◌≤◌, ◌^◌, [], ◌∷◌, ℕ, IfOk, OnErr, is_some, false, length};
+ghost use Rattle.std.specs.Prelude.{◌≡◌, ◌+◌, ◌-◌, ◌<◌, ◌≤◌, ◌^◌, [], ◌∷◌, ℕ, IfOk, OnErr, is_some};
+ghost use Rattle.std.specs.Prelude.{false, length};
 ghost use Rattle.cargo_core.specs.Bodies.{buffers_of};
 ghost use Rattle.cargo_core.specs.Pages.{Paged};
 ghost use Rattle.wire_core.specs.Ends.{role_of, Role, End};
 ghost use Rattle.wire_core.specs.Lists.{Passed, Stepped, nothing_passed};
 ghost use Rattle.wire_core.specs.Marks.{is_mark};
-ghost use Rattle.turn_kit.specs.Turns.{Turned, Posted, choice_of, chosen_place, last_after, is_at_rest};
+ghost use Rattle.turn_kit.specs.Turns.{Turned, Posted, choice_of, chosen_place, last_after};
+ghost use Rattle.turn_kit.specs.Turns.{is_at_rest};
 ghost use Rattle.turn_kit.specs.Posts.{intake_post, outlet_post};
 ghost use Rattle.buffer_kit.specs.Pools.{ArePool};
-ghost use Rattle.client_programs.specs.NetClients.Clients.{FitsClient, ClientStandsFor, ClientRow, ClientBalances, ClientEnd, SameClient, IsNewClient, client_frames, is_giving, needs_frame, client_round, client_hand, client_forgotten};
+ghost use Rattle.client_programs.specs.NetClients.Clients.{FitsClient, ClientStandsFor, ClientRow};
+ghost use Rattle.client_programs.specs.NetClients.Clients.{ClientBalances, ClientEnd, SameClient};
+ghost use Rattle.client_programs.specs.NetClients.Clients.{IsNewClient, client_frames, is_giving};
+ghost use Rattle.client_programs.specs.NetClients.Clients.{needs_frame, client_round, client_hand};
+ghost use Rattle.client_programs.specs.NetClients.Clients.{client_forgotten};
 ghost use Rattle.client_programs.specs.NetClients.Sending.{is_sending, needs_buffer, is_through};
 
 mod answers;

@@ -8,9 +8,13 @@ ghost use Rattle.wire_core.specs.Deeds.{Cargo};
 ghost use Rattle.wire_core.specs.Ends.{role_of, Role, End};
 ghost use Rattle.wire_core.specs.Lists.{Passed, Stepped, nothing_passed};
 ghost use Rattle.wire_core.specs.Marks.{is_mark};
-ghost use Rattle.turn_kit.specs.Turns.{Turned, Posted, choice_of, chosen_place, last_after, is_at_rest};
+ghost use Rattle.turn_kit.specs.Turns.{Turned, Posted, choice_of, chosen_place, last_after};
+ghost use Rattle.turn_kit.specs.Turns.{is_at_rest};
 ghost use Rattle.turn_kit.specs.Posts.{intake_post, outlet_post};
-ghost use Rattle.device_model.specs.DiskDevices.Disks.{FitsDisk, DiskStandsFor, DiskRow, DiskBalances, DiskEnd, SameDisk, IsNewDisk, is_asking, disk_with, disk_round, disk_hand, disk_forgotten};
+ghost use Rattle.device_model.specs.DiskDevices.Disks.{FitsDisk, DiskStandsFor, DiskRow};
+ghost use Rattle.device_model.specs.DiskDevices.Disks.{DiskBalances, DiskEnd, SameDisk, IsNewDisk};
+ghost use Rattle.device_model.specs.DiskDevices.Disks.{is_asking, disk_with, disk_round, disk_hand};
+ghost use Rattle.device_model.specs.DiskDevices.Disks.{disk_forgotten};
 
 mod serving;
 
@@ -20,8 +24,8 @@ use turn_kit::{Intake, Outlet, Turn, count_held};
 use wire_core::{Event, QueueId, Wires};
 
 /// The disk. `image` is as the requests that it took left it; `load` is the answer to the last of
-/// them, until it is put; `stray` is a request that came out of turn, after which the disk takes and
-/// puts no more.
+/// them, until it is put; `stray` is a request that came out of turn, after which the disk takes
+/// and puts no more.
 #[derive(Drop)]
 pub struct DiskDevice {
     pub input: Intake,

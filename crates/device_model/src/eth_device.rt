@@ -2,14 +2,19 @@
 //! and records on its wire the frames that it is given to send. That a device is an actor at the
 //! far ends of its driver's queues is this project's own.
 
-ghost use Rattle.std.specs.Prelude.{◌≡◌, ◌+◌, ◌<◌, ◌≤◌, ◌^◌, ℕ, IfOk, OnOk, OnErr, Some, true, false, is_none, is_some, length, slice_get};
+ghost use Rattle.std.specs.Prelude.{◌≡◌, ◌+◌, ◌<◌, ◌≤◌, ◌^◌, ℕ, IfOk, OnOk, OnErr, Some, true};
+ghost use Rattle.std.specs.Prelude.{false, is_none, is_some, length, slice_get};
 ghost use Rattle.cargo_core.specs.Bodies.{buffers_of};
 ghost use Rattle.wire_core.specs.Ends.{role_of, Role, End};
 ghost use Rattle.wire_core.specs.Lists.{Passed, Stepped, nothing_passed};
 ghost use Rattle.wire_core.specs.Marks.{is_mark};
-ghost use Rattle.turn_kit.specs.Turns.{Turned, Posted, choice_of, chosen_place, last_after, is_at_rest};
+ghost use Rattle.turn_kit.specs.Turns.{Turned, Posted, choice_of, chosen_place, last_after};
+ghost use Rattle.turn_kit.specs.Turns.{is_at_rest};
 ghost use Rattle.turn_kit.specs.Posts.{intake_post, outlet_post};
-ghost use Rattle.device_model.specs.EthDevices.Devices.{FitsDevice, DeviceStandsFor, DeviceRow, DeviceBalances, DeviceEnd, SameDevice, IsNewDevice, is_filling, device_round, device_hand, device_forgotten};
+ghost use Rattle.device_model.specs.EthDevices.Devices.{FitsDevice, DeviceStandsFor, DeviceRow};
+ghost use Rattle.device_model.specs.EthDevices.Devices.{DeviceBalances, DeviceEnd, SameDevice};
+ghost use Rattle.device_model.specs.EthDevices.Devices.{IsNewDevice, is_filling, device_round};
+ghost use Rattle.device_model.specs.EthDevices.Devices.{device_hand, device_forgotten};
 
 use buffer_kit::{Recorder, fill};
 use cargo_core::{Body, FrameLog, Item, Memory, PoolId};

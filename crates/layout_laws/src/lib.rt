@@ -10,7 +10,8 @@ ghost use Rattle.sdf_check.specs.ClassRules.{class_domains, class_regions};
 ghost use Rattle.sdf_check.specs.Rules.{MeetsEarlier};
 ghost use Rattle.sdf_check.specs.Valid.{Valid};
 ghost use Rattle.region_layout.specs.Rows.{queues_of, pools_of};
-ghost use Rattle.layout_laws.specs.Sound.{IsSoundQueue, IsSoundPool, IsOwned, IsActor, HasRooms, NoNameTwice, ranges_of};
+ghost use Rattle.layout_laws.specs.Sound.{IsSoundQueue, IsSoundPool, IsOwned, IsActor, HasRooms};
+ghost use Rattle.layout_laws.specs.Sound.{NoNameTwice, ranges_of};
 
 pub mod job_law;
 pub mod seat_law;

@@ -19,9 +19,9 @@ ghost use Rattle.layout_laws.specs.JobLaw.Jobs.{Job, HasJob};
 ghost use Rattle.layout_laws.specs.SeatLaw.Ends.{IsOf, serial_first, job_ends, job_kind};
 ghost use Rattle.layout_laws.specs.SeatLaw.Named.{AreNetNamed, AreSerialNamed, AreBlkNamed};
 
-/// The actor of a job is the owner at each of its job's ends, and of no others; no job has both ends
-/// of a queue, and its queues carry what its class does. Whoever stands at an end of a job has that
-/// job. The queues of the network class are the first, and each
+/// The actor of a job is the owner at each of its job's ends, and of no others; no job has both
+/// ends of a queue, and its queues carry what its class does. Whoever stands at an end of a job
+/// has that job. The queues of the network class are the first, and each
 /// domain that a class element names has the job that it is named for, as each device has its own.
 /// Queues and actors have numbers of 16 bits.
 pub fn seat_law()

@@ -15,7 +15,9 @@ ghost use Rattle.net_copier.specs.declared.NetCopier.{NetCopier};
 ghost use Rattle.client_programs.specs.NetClients.Clients.{ClientRow};
 ghost use Rattle.client_programs.specs.declared.net_client.NetClient.{NetClient};
 ghost use Rattle.net_law.specs.NetOwners.Lending.{Lender, lender_ends, LenderNames, LenderRow};
-ghost use Rattle.net_law.specs.NetOwners.Ends.{AreItemsOf, device_ends, DeviceNames, pipe_ends, DriverNames, copier_ends, CopierNames, client_ends, ClientNames, client_start};
+ghost use Rattle.net_law.specs.NetOwners.Ends.{AreItemsOf, device_ends, DeviceNames, pipe_ends};
+ghost use Rattle.net_law.specs.NetOwners.Ends.{DriverNames, copier_ends, CopierNames, client_ends};
+ghost use Rattle.net_law.specs.NetOwners.Ends.{ClientNames, client_start};
 
 /// The rows of a device, a driver, a copier and a client let each put only what was in its hand: of
 /// the first three, which have nothing at the start, what they took; of a client the buffers that

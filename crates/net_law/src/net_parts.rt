@@ -30,8 +30,11 @@ ghost use Rattle.net_law.specs.NetParts.Parts.{NetPart};
 ghost use Rattle.net_law.specs.NetParts.Rows.{frame_at};
 ghost use Rattle.net_law.specs.NetParts.Table.{net_sheet};
 ghost use Rattle.net_law.specs.NetParts.Naming.{NamesPart};
-ghost use Rattle.net_law.specs.NetParts.Numbers.{device_at, driver_at, receiver_at, copier_at, client_at, layout_naming};
-ghost use Rattle.net_law.specs.NetParts.Playing.{device_part, driver_part, copier_part, client_part, receiver_part, AreLeases, ReceivesInTurn, HasBuffers, AnswersInTurn};
+ghost use Rattle.net_law.specs.NetParts.Numbers.{device_at, driver_at, receiver_at, copier_at};
+ghost use Rattle.net_law.specs.NetParts.Numbers.{client_at, layout_naming};
+ghost use Rattle.net_law.specs.NetParts.Playing.{device_part, driver_part, copier_part};
+ghost use Rattle.net_law.specs.NetParts.Playing.{client_part, receiver_part, AreLeases};
+ghost use Rattle.net_law.specs.NetParts.Playing.{ReceivesInTurn, HasBuffers, AnswersInTurn};
 ghost use Rattle.net_law.specs.NetParts.Turning.{IsReceiveHalf, IsClient};
 
 /// What is said of an actor speaks of its own ends alone, and an output is owed exactly where the

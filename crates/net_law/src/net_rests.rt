@@ -18,10 +18,13 @@ ghost use Rattle.net_virt_rx.specs.Receiving.{FitsRx, RxStandsFor, rx_round};
 ghost use Rattle.net_virt_rx.specs.declared.NetVirtRx.{NetVirtRx};
 ghost use Rattle.net_copier.specs.Copying.{FitsCopier, CopierStandsFor, copier_round};
 ghost use Rattle.net_copier.specs.declared.NetCopier.{NetCopier};
-ghost use Rattle.client_programs.specs.NetClients.Clients.{FitsClient, ClientStandsFor, client_round};
+ghost use Rattle.client_programs.specs.NetClients.Clients.{FitsClient, ClientStandsFor};
+ghost use Rattle.client_programs.specs.NetClients.Clients.{client_round};
 ghost use Rattle.client_programs.specs.declared.net_client.NetClient.{NetClient};
 ghost use Rattle.net_law.specs.NetParts.Table.{net_sheet};
-ghost use Rattle.net_law.specs.NetParts.Playing.{device_part, driver_part, receiver_part, copier_part, client_part, AreLeases, ReceivesInTurn, AnswersInTurn};
+ghost use Rattle.net_law.specs.NetParts.Playing.{device_part, driver_part, receiver_part};
+ghost use Rattle.net_law.specs.NetParts.Playing.{copier_part, client_part, AreLeases};
+ghost use Rattle.net_law.specs.NetParts.Playing.{ReceivesInTurn, AnswersInTurn};
 ghost use Rattle.play_core.specs.RestLaw.Showing.{HaveItems, HaveBells};
 
 /// An actor that fits the queues as history and journal show them, and stands for the entries that

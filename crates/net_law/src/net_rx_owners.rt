@@ -12,7 +12,8 @@ ghost use Rattle.net_virt_rx.specs.Receiving.{RxRow, RxStandsFor};
 ghost use Rattle.net_virt_rx.specs.declared.NetVirtRx.{NetVirtRx};
 ghost use Rattle.net_law.specs.NetOwners.Ends.{AreItemsOf, stock_window};
 ghost use Rattle.net_law.specs.NetOwners.Lending.{lender_ends, LenderNames, LenderRow};
-ghost use Rattle.net_law.specs.NetRxOwners.Virtualiser.{rx_lender, offset_window, TakesFrames, lent_now};
+ghost use Rattle.net_law.specs.NetRxOwners.Virtualiser.{rx_lender, offset_window, TakesFrames};
+ghost use Rattle.net_law.specs.NetRxOwners.Virtualiser.{lent_now};
 
 /// The row of the receiving virtualiser, where the frames that it took are those of their places:
 /// each client's leases are of the frames for it, in their order, and each buffer that it put was

@@ -13,7 +13,8 @@ use Rattle.play_core.specs.Totals.{total}
 use Rattle.play_core.specs.Wants.{Needful}
 use Rattle.net_expect.specs.Expecting.{Program, frames_for, sends_of}
 use Rattle.net_law.specs.NetOwners.Names.{PoolAt, ClientPools}
-use Rattle.net_law.specs.NetParts.Numbers.{client_first, device_at, driver_at, receiver_at, copier_at, client_at}
+use Rattle.net_law.specs.NetParts.Numbers.{client_first, device_at, driver_at, receiver_at}
+use Rattle.net_law.specs.NetParts.Numbers.{copier_at, client_at}
 use Rattle.net_law.specs.NetParts.Rows.{leases_from}
 use Rattle.net_law.specs.NetParts.Table.{net_sheet}
 use Rattle.net_law.specs.NetTxParts.Numbers.{NetPlace, own_pools, sender_at}

@@ -18,7 +18,8 @@ ghost use Rattle.net_expect.specs.Expecting.{Program, frames_for};
 ghost use Rattle.client_programs.specs.declared.net_client.NetClient.{NetClient};
 ghost use Rattle.net_law.specs.NetOwners.Names.{ClientPools};
 ghost use Rattle.net_law.specs.NetTxParts.Numbers.{NetPlace};
-ghost use Rattle.net_quiet.specs.NetTxCast.Casting.{AllSend, IsClientOf, IsSendingClient, IsWholeCast, sends_at};
+ghost use Rattle.net_quiet.specs.NetTxCast.Casting.{AllSend, IsClientOf, IsSendingClient};
+ghost use Rattle.net_quiet.specs.NetTxCast.Casting.{IsWholeCast, sends_at};
 ghost use Rattle.net_quiet.specs.Still.{IsNetwork, ArrivesAll, SendsAll};
 
 pub mod net_cast;

@@ -1,7 +1,8 @@
 //! The pools of the network: its actors hand pages on under the items that name them, and have of
 //! each pool what the table of owners says.
 
-ghost use Rattle.std.specs.Prelude.{◌≡◌, ◌⊎◌, ◌+◌, ◌*◌, ◌<◌, ◌≤◌, ◌++◌, ℕ, true, None, Some, List, [], length, slice_get};
+ghost use Rattle.std.specs.Prelude.{◌≡◌, ◌⊎◌, ◌+◌, ◌*◌, ◌<◌, ◌≤◌, ◌++◌, ℕ, true, None, Some, List};
+ghost use Rattle.std.specs.Prelude.{[], length, slice_get};
 ghost use Rattle.wire_core.specs.declared.names.QueueRow.{QueueRow};
 ghost use Rattle.wire_core.specs.Ends.{Consumer};
 ghost use Rattle.wire_core.specs.Journal.{Hostiles, is_calm, owner_of};
@@ -29,18 +30,20 @@ ghost use Rattle.net_law.specs.NetOwners.Ends.{AreItemsOf};
 ghost use Rattle.net_law.specs.NetRxOwners.Virtualiser.{AreNet, TakesFrames};
 ghost use Rattle.net_law.specs.NetParts.Naming.{NamesPart};
 ghost use Rattle.net_law.specs.NetParts.Numbers.{client_first, layout_naming};
-ghost use Rattle.net_law.specs.NetParts.Playing.{device_part, driver_part, copier_part, receiver_part, client_part, HasBuffers};
+ghost use Rattle.net_law.specs.NetParts.Playing.{device_part, driver_part, copier_part};
+ghost use Rattle.net_law.specs.NetParts.Playing.{receiver_part, client_part, HasBuffers};
 ghost use Rattle.net_law.specs.NetParts.Rows.{frame_at, pool_hand};
 ghost use Rattle.net_law.specs.NetParts.Table.{net_sheet};
 ghost use Rattle.owner_law.specs.PoolLaw.Handing.{HandsOn};
 ghost use Rattle.owner_law.specs.PoolLaw.Lines.{HoldsIts, NamesWithin, HandWithin};
-ghost use Rattle.net_quiet.specs.NetPools.Sizes.{net_pools, sizes_of, AreNumbered, AreSpread, share_of};
+ghost use Rattle.net_quiet.specs.NetPools.Sizes.{net_pools, sizes_of, AreNumbered, AreSpread};
+ghost use Rattle.net_quiet.specs.NetPools.Sizes.{share_of};
 ghost use Rattle.net_quiet.specs.NetPools.Holders.{holder_of, no_lent, rx_lent};
 
 /// Where what it took carries the pages that are named, so does what an actor of the network put:
 /// by their rows a device and a copier fill buffers and hand them on, a driver hands them on as
-/// they came, the receiving virtualiser puts its own buffers, and leases without a page, and a client
-/// its own buffers and those that came, or came back.
+/// they came, the receiving virtualiser puts its own buffers, and leases without a page, and a
+/// client its own buffers and those that came, or came back.
 pub fn hand_on_law()
     ensures device { (naming : Naming) (scene : Scene) (d : EthDevice) (passed : Passed) (m : Moved)
         → NamesPart naming scene (device_part d) → DeviceRow d passed

@@ -15,7 +15,8 @@ ghost use Rattle.net_law.specs.NetOwners.Names.{ClientPools};
 ghost use Rattle.net_law.specs.NetParts.Numbers.{client_first};
 ghost use Rattle.net_law.specs.NetTxParts.Numbers.{NetPlace};
 ghost use Rattle.net_law.specs.NetTxParts.Playing.{TakesGood};
-ghost use Rattle.net_quiet.specs.NetTxCast.Casting.{IsWholeCast, IsClientOf, IsSendingClient, AreSends, AllSend, sends_at};
+ghost use Rattle.net_quiet.specs.NetTxCast.Casting.{IsWholeCast, IsClientOf, IsSendingClient};
+ghost use Rattle.net_quiet.specs.NetTxCast.Casting.{AreSends, AllSend, sends_at};
 
 /// Where each client put good descriptors of its own buffers alone, nothing comes out of turn at
 /// the sending virtualiser, which takes good descriptors alone and gives such back alone; and the

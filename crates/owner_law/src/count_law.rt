@@ -9,8 +9,10 @@ ghost use Rattle.wire_core.specs.Marks.{sum_below};
 ghost use Rattle.play_core.specs.Moved.{Moved, moved};
 ghost use Rattle.owner_law.specs.Things.{Buffer, Naming, Thing, things_sent, things_taken};
 ghost use Rattle.owner_law.specs.Owners.{AreCounted};
-ghost use Rattle.owner_law.specs.Keeping.{Keeper, at_start, all_taken, all_put, start_table, AreDealt, AreKeepers, IsShownBy};
-ghost use Rattle.owner_law.specs.Shown.{buffers_left, buffers_with, of_actor, shown_table, HaveOnePlace};
+ghost use Rattle.owner_law.specs.Keeping.{Keeper, at_start, all_taken, all_put, start_table};
+ghost use Rattle.owner_law.specs.Keeping.{AreDealt, AreKeepers, IsShownBy};
+ghost use Rattle.owner_law.specs.Shown.{buffers_left, buffers_with, of_actor, shown_table};
+ghost use Rattle.owner_law.specs.Shown.{HaveOnePlace};
 ghost use Rattle.owner_law.specs.Census.{IsPool};
 ghost use Rattle.owner_law.specs.CountLaw.Keeping.{KeepTheirs};
 
@@ -18,8 +20,8 @@ ghost use Rattle.owner_law.specs.CountLaw.Keeping.{KeepTheirs};
 /// whatever is counted of it. So where each actor put only what was in its hand, and queues hand
 /// over, a buffer is as often in queues and with actors as it was in hands at the start; and where
 /// it was in no two of them, it has at most one place, and as many leases as receivers. A pool that
-/// was in hands at the start has a place for each of its buffers; and where a history is taken over,
-/// its lists show the table.
+/// was in hands at the start has a place for each of its buffers; and where a history is taken
+/// over, its lists show the table.
 pub fn count_law()
     ensures put { (naming : Naming) (rows : List QueueRow) (keepers : List Keeper) (m : Moved)
         (f : Thing → ℕ) → AreKeepers rows keepers

@@ -7,7 +7,8 @@ ghost use Rattle.sdf_plan.specs.declared.plan.Plan.{Plan};
 ghost use Rattle.sdf_check.specs.Valid.{Valid};
 ghost use Rattle.region_layout.specs.Bases.{bases_of};
 ghost use Rattle.region_layout.specs.Rows.{queues_of, pools_of};
-ghost use Rattle.region_laws.specs.AccessLaws.Access.{AreInterrupted, IsLinked, IsReached, users_of};
+ghost use Rattle.region_laws.specs.AccessLaws.Access.{AreInterrupted, IsLinked, IsReached};
+ghost use Rattle.region_laws.specs.AccessLaws.Access.{users_of};
 ghost use Rattle.region_laws.specs.AccessLaws.Placing.{ArePlaced, AreStacked};
 
 /// In the layout of a valid plan the two actors of each queue that stands in a region are domains

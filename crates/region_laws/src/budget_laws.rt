@@ -13,7 +13,8 @@ ghost use Rattle.region_laws.specs.BudgetLaws.Ends.{IsMostEnds};
 /// and its greatest number of queue ends is that which one of them has at the layout's queues, and
 /// none exceeds.
 pub fn budget_law()
-    ensures actors { (plan : Plan) (trace : Trace) → Valid plan → actors_of (counts_of plan trace) ≡ length (Layout.actors_of plan) }
+    ensures actors { (plan : Plan) (trace : Trace) → Valid plan
+        → actors_of (counts_of plan trace) ≡ length (Layout.actors_of plan) }
     ensures ends { (plan : Plan) (trace : Trace) → Valid plan
         → IsMostEnds (Layout.queues_of plan) (length (Layout.actors_of plan))
         (most_ends (counts_of plan trace)) }

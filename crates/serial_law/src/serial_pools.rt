@@ -13,7 +13,8 @@ ghost use Rattle.serial_virt.specs.Sending.{TxRow};
 ghost use Rattle.serial_virt.specs.declared.rx.SerialVirtRx.{SerialVirtRx};
 ghost use Rattle.serial_virt.specs.declared.tx.SerialVirtTx.{SerialVirtTx};
 ghost use Rattle.owner_law.specs.PoolLaw.Handing.{HandsOn, NameNothing};
-ghost use Rattle.serial_law.specs.SerialPools.SerialEnds.{terminal_ends, piped_ends, rx_ends, tx_ends};
+ghost use Rattle.serial_law.specs.SerialPools.SerialEnds.{terminal_ends, piped_ends, rx_ends};
+ghost use Rattle.serial_law.specs.SerialPools.SerialEnds.{tx_ends};
 
 /// By their rows a device, a client, a driver of any number of pipes and the two virtualisers put
 /// entries without pages where they took such: what is said, and what is switched, has none, and

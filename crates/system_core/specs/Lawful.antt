@@ -1,6 +1,7 @@
 -- What holds of every system, however it was built and played: its seats, its journal at each
 -- moment, and what is seen of it.
-use Rattle.std.specs.Prelude.{◌≡◌, ◌+◌, ◌*◌, ◌≤◌, ℕ, Some, is_some, List, [], length, map, slice_get}
+use Rattle.std.specs.Prelude.{◌≡◌, ◌+◌, ◌*◌, ◌≤◌, ℕ, Some, is_some, List, [], length, map}
+use Rattle.std.specs.Prelude.{slice_get}
 use Rattle.std.specs.Option.{option_map, option_map_or}
 use Rattle.wire_core.specs.declared.names.QueueRow.{QueueRow}
 use Rattle.wire_core.specs.declared.names.Entry.{Entry}
@@ -74,8 +75,8 @@ abbrev pub record_at : Shown → ℕ → List ℕ
 record_at s k = option_map_or (record_by (moved_in s.setting s.journal))
     (slice_get s.setting.cast k) []
 
--- at a place of the network the record of a client that has buffers is a beginning of the frames for
--- its address, a frame for each entry that it took; and what was sent on the device's wire is a
+-- at a place of the network the record of a client that has buffers is a beginning of the frames
+-- for its address, a frame for each entry that it took; and what was sent on the device's wire is a
 -- merge of beginnings of what the clients send, likewise a frame for each entry that it took
 pub record TellsFrames (s : Shown) (net : NetPlace) : Type 0 where
   pub records : (c k j : ℕ) (program : Program) (mac : Mac) (pools : ClientPools)

@@ -5,7 +5,8 @@ use Rattle.wire_core.specs.declared.names.Entry.{Entry}
 use Rattle.wire_core.specs.Ends.{Role}
 use Rattle.wire_core.specs.Lists.{Passed}
 use Rattle.wire_core.specs.Queues.{Queue, queue_at, end_at, items_of}
-use Rattle.wire_core.specs.Journal.{History, track, IsShown, LegalJournal, BellsHold, QueuesFlow, owner_of}
+use Rattle.wire_core.specs.Journal.{History, track, IsShown, LegalJournal, BellsHold, QueuesFlow}
+use Rattle.wire_core.specs.Journal.{owner_of}
 use Rattle.wire_core.specs.Marks.{no_drops, since}
 use Rattle.play_core.specs.Moved.{moved}
 use Rattle.owner_law.specs.Pages.{CarryPages}

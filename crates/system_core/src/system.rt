@@ -1,6 +1,7 @@
 //! The system at play: the queues of a layout with the actors at them, its steps, and what is seen
 //! of it. It stands here, above actors and descriptions, since a plan and a trace say who acts.
-ghost use Rattle.std.specs.Prelude.{◌≡◌, ◌<◌, ◌≤◌, ℕ, List, length, map, OnOk, OnErr, IfOk, slice_get, Some, None, []};
+ghost use Rattle.std.specs.Prelude.{◌≡◌, ◌<◌, ◌≤◌, ℕ, List, length, map, OnOk, OnErr, IfOk};
+ghost use Rattle.std.specs.Prelude.{slice_get, Some, None, []};
 ghost use Rattle.wire_core.specs.Queues.{is_pending, starts};
 ghost use Rattle.wire_core.specs.Ends.{role_of};
 ghost use Rattle.wire_core.specs.Journal.{start_history, owner_of};

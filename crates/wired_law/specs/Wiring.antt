@@ -18,7 +18,8 @@ use Rattle.net_law.specs.NetTxParts.Parts.{SendPart}
 use Rattle.net_law.specs.NetTxParts.Numbers.{NetPlace, own_pools, sender_at}
 use Rattle.net_quiet.specs.NetTxCast.Casting.{AreFrames, AreSends, IsClientOf}
 use Rattle.blk_law.specs.BlkParts.Parts.{BlkPart, BlkClient}
-use Rattle.blk_law.specs.BlkParts.Numbers.{BlkPlace, IsBlkClientOf, disk_at, blk_driver_at, virt_at, blk_client_at}
+use Rattle.blk_law.specs.BlkParts.Numbers.{BlkPlace, IsBlkClientOf, disk_at, blk_driver_at, virt_at}
+use Rattle.blk_law.specs.BlkParts.Numbers.{blk_client_at}
 use Rattle.blk_quiet.specs.BlkCast.Casting.{AreRequests}
 use Rattle.blk_law.specs.Replying.{AreSized}
 use Rattle.actor_set.specs.Parts.{Part, NetworkPart, SendingPart, BlockPart}
@@ -73,16 +74,17 @@ pub record HasNoNetwork (cast : List Part) : Type 0 where
   pub none : (k : ℕ) (p : NetPart) → slice_get cast k ≡ Some (NetworkPart p) → ⊥
   pub no_sender : (k : ℕ) (p : SendPart) → slice_get cast k ≡ Some (SendingPart p) → ⊥
 
--- a part is one of the block class's at its place: that of the disk, the driver, the virtualiser or a
--- client
+-- a part is one of the block class's at its place: that of the disk, the driver, the virtualiser
+-- or a client
 abbrev pub IsOfBlock : BlkPlace → BlkPart → Type 0
 IsOfBlock place p = (p ≡ disk_at place) ⊎ (p ≡ blk_driver_at place.first) ⊎ (p ≡ virt_at place)
     ⊎ ((k entry : ℕ) × (asks : List Ask) × (pool : PoolAt) × IsBlkClientOf place k entry asks pool
     × (p ≡ blk_client_at place.first k asks pool))
 
 -- a cast has the whole block class and no other actor of it; each client has a buffer; requests go
--- to the driver; the disk has some blocks of 4,096 bytes, which the cast's scene tells; what a client
--- writes has the size that it says; and no two clients have the same entry of the table of partitions
+-- to the driver; the disk has some blocks of 4,096 bytes, which the cast's scene tells; what a
+-- client writes has the size that it says; and no two clients have the same entry of the table of
+-- partitions
 pub record HasBlk (rows : List QueueRow) (place : BlkPlace) (cast : List Part) : Type 0 where
   pub asks_many : length place.asks ≡ length place.entries
   pub pools_many : length place.pools ≡ length place.entries

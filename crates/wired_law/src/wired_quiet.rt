@@ -30,11 +30,11 @@ ghost use Rattle.actor_set.specs.ActorLaw.Kinds.{sheet, scene_of, hostiles};
 ghost use Rattle.actor_set.specs.ActorLaw.Records.{frames_got, replies_got};
 ghost use Rattle.wired_law.specs.Wiring.{HasWhole, HasBlk, IsWired, ClientsSend, AreAtWork};
 
-/// Where the rows of a cast hold that has the whole network, this network is among its actors. Where
-/// actors stand for what passed, and nobody is runnable, each network client recorded all frames
-/// that are for its address, and the device a merge of all that the clients send by their programs.
-/// So it is of the whole block class: each client recorded all replies to what it asks, those of a
-/// disk that has the bytes of its partition alone.
+/// Where the rows of a cast hold that has the whole network, this network is among its actors.
+/// Where actors stand for what passed, and nobody is runnable, each network client recorded all
+/// frames that are for its address, and the device a merge of all that the clients send by their
+/// programs. So it is of the whole block class: each client recorded all replies to what it asks,
+/// those of a disk that has the bytes of its partition alone.
 pub fn quiet_law()
     ensures there { (rows : List QueueRow) (cast : List Part) (m : Moved) (net : NetPlace)
         → HasWhole rows net cast → HasPools net → HasRooms (hostiles cast) rows net

@@ -1,6 +1,7 @@
 -- A broadcast frame through one receive buffer to two clients, of which the second answers it: each
 -- put and take of it, in one order that the actors may make.
-use Rattle.std.specs.Prelude.{◌==◌, ◌&&◌, ℕ, Bool, true, false, nat_le, if◌then◌else◌, Some, List, [], ◌∷◌, ◌++◌}
+use Rattle.std.specs.Prelude.{◌==◌, ◌&&◌, ℕ, Bool, true, false, nat_le, if◌then◌else◌, Some, List}
+use Rattle.std.specs.Prelude.{[], ◌∷◌, ◌++◌}
 use Rattle.cargo_core.specs.declared.item.Item.TheVariants as ItemOf
 use Rattle.wire_core.specs.declared.names.Entry.{Entry}
 use Rattle.wire_core.specs.declared.names.Op.{Op}
@@ -8,7 +9,8 @@ use Rattle.wire_core.specs.declared.names.Op.TheVariants as Do
 use Rattle.wire_core.specs.declared.names.Answer.TheVariants.{Done}
 use Rattle.play_core.specs.Moved.{moved}
 use Rattle.owner_law.specs.Things.{Naming, naming_of, Thing, Nothing, Whole, Frame, Lease, Return}
-use Rattle.owner_law.specs.Owners.{Spot, InQueue, InHand, is_spot, Place, Nowhere, At, Lent, Table, leases_at, Move, Stays, Puts, Takes, move_of, after_move, replay}
+use Rattle.owner_law.specs.Owners.{Spot, InQueue, InHand, is_spot, Place, Nowhere, At, Lent, Table}
+use Rattle.owner_law.specs.Owners.{leases_at, Move, Stays, Puts, Takes, move_of, after_move, replay}
 use Rattle.owner_law.specs.Keeping.{Keeper, start_table}
 use Rattle.owner_law.specs.Census.{Census, census}
 use Rattle.net_law.specs.NetOwners.Names.{PoolAt, ClientPools, net_names}

@@ -8,14 +8,17 @@ use Rattle.wire_core.specs.Ends.{Role, Consumer, Producer}
 use Rattle.wire_core.specs.Journal.{Hostiles}
 use Rattle.play_core.specs.Manners.{Manner, Calm, Hostile, Manners, hostile_by}
 use Rattle.play_core.specs.Sheets.{Scene, Sheet}
-use Rattle.serial_law.specs.Parts.{SerialPart, SerialDevice, SerialDriver, SerialReceiver, SerialSender, SerialClient}
+use Rattle.serial_law.specs.Parts.{SerialPart, SerialDevice, SerialDriver, SerialReceiver}
+use Rattle.serial_law.specs.Parts.{SerialSender, SerialClient}
 use Rattle.serial_law.specs.Table.{serial_sheet}
-use Rattle.net_law.specs.NetParts.Parts.{NetPart, NetDevice, NetDriver, NetReceiver, NetCopier, NetClient, Way}
+use Rattle.net_law.specs.NetParts.Parts.{NetPart, NetDevice, NetDriver, NetReceiver, NetCopier}
+use Rattle.net_law.specs.NetParts.Parts.{NetClient, Way}
 use Rattle.net_law.specs.NetParts.Table.{net_sheet}
 use Rattle.net_law.specs.NetTxParts.Table.{send_sheet}
 use Rattle.blk_law.specs.BlkParts.Parts.{BlkPart, DiskDevice, BlkDriver, BlkVirt, BlkClient}
 use Rattle.blk_law.specs.BlkParts.Table.{blk_sheet}
-use Rattle.actor_set.specs.Parts.{Part, UartPart, DriverPart, RxPart, TxPart, ClientPart, NetworkPart, SendingPart, BlockPart}
+use Rattle.actor_set.specs.Parts.{Part, UartPart, DriverPart, RxPart, TxPart, ClientPart}
+use Rattle.actor_set.specs.Parts.{NetworkPart, SendingPart, BlockPart}
 use Rattle.actor_set.specs.StartStates.{kind_by, kind_of_two}
 
 -- an actor of the serial class as one of all

@@ -5,10 +5,12 @@ use Rattle.wire_core.specs.Lists.{Passed}
 use Rattle.play_core.specs.Moved.{Moved}
 use Rattle.serial_law.specs.Bytes.{bytes_in}
 use Rattle.buffer_kit.specs.Entries.{frame_of}
-use Rattle.net_law.specs.NetParts.Parts.{NetPart, NetDevice, NetDriver, NetReceiver, NetCopier, NetClient}
+use Rattle.net_law.specs.NetParts.Parts.{NetPart, NetDevice, NetDriver, NetReceiver, NetCopier}
+use Rattle.net_law.specs.NetParts.Parts.{NetClient}
 use Rattle.client_programs.specs.BlkClients.Asking.{replies_to}
 use Rattle.blk_law.specs.BlkParts.Parts.{BlkPart, DiskDevice, BlkDriver, BlkVirt, BlkClient}
-use Rattle.actor_set.specs.Parts.{Part, UartPart, DriverPart, RxPart, TxPart, ClientPart, NetworkPart, SendingPart, BlockPart}
+use Rattle.actor_set.specs.Parts.{Part, UartPart, DriverPart, RxPart, TxPart, ClientPart}
+use Rattle.actor_set.specs.Parts.{NetworkPart, SendingPart, BlockPart}
 use Rattle.actor_set.specs.declared.actor.Actor.{Actor}
 use Rattle.actor_set.specs.declared.actor.Actor.TheVariants as Kinds
 

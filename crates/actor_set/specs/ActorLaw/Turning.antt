@@ -11,8 +11,8 @@ use Rattle.blk_law.specs.BlkParts.Playing.{DiskInTurn, VirtInTurn, ClientInTurn}
 use Rattle.actor_set.specs.declared.actor.Actor.{Actor}
 use Rattle.actor_set.specs.declared.actor.Actor.TheVariants as Kinds
 
--- nothing came out of turn at a sending virtualiser of the network, and each descriptor that came is
--- good
+-- nothing came out of turn at a sending virtualiser of the network, and each descriptor that came
+-- is good
 pub record SendsInTurn (v : NetVirtTx) (passed : Passed) : Type 0 where
   pub good : TakesGood v passed
   pub in_turn : (row : TxRow v passed) → row.stray ≡ []

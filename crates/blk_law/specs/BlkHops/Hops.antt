@@ -8,7 +8,8 @@ use Rattle.play_core.specs.Moved.{Moved}
 use Rattle.play_core.specs.Sheets.{Scene}
 use Rattle.play_core.specs.Still.{Holds}
 use Rattle.net_law.specs.NetOwners.Names.{PoolAt}
-use Rattle.blk_law.specs.BlkParts.Numbers.{BlkPlace, IsBlkClientOf, disk_at, blk_driver_at, virt_at, blk_client_at}
+use Rattle.blk_law.specs.BlkParts.Numbers.{BlkPlace, IsBlkClientOf, disk_at, blk_driver_at, virt_at}
+use Rattle.blk_law.specs.BlkParts.Numbers.{blk_client_at}
 use Rattle.blk_law.specs.BlkParts.Table.{blk_sheet}
 
 -- how many entries were put to the queues of the class, from the first on, where it has so many

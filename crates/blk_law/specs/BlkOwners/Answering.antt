@@ -58,8 +58,8 @@ NamesBlk naming (BlkClient req resp asks pool) =
 abbrev pub block_range : PoolAt → Range
 block_range p = record { base = p.base; size = p.buffers * 32768 }
 
--- the virtualiser and each of its clients have buffers, and no two of these pools have an address in
--- common
+-- the virtualiser and each of its clients have buffers, and no two of these pools have an address
+-- in common
 pub record ArePoolsApart (pool : PoolAt) (clients : List Sharer) : Type 0 where
   pub own : 1 ≤ pool.buffers
   pub some : (k : ℕ) (c : Sharer) → slice_get clients k ≡ Some c → 1 ≤ c.pool.buffers

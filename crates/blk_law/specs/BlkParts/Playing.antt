@@ -1,5 +1,6 @@
 -- Which part each actor of the block class plays, and what the laws ask of what passed at its ends.
-use Rattle.std.specs.Prelude.{◌≡◌, ◌≤◌, ◌/◌, ℕ, false, None, Some, List, [], ◌∷◌, All, length, map, take, slice_get}
+use Rattle.std.specs.Prelude.{◌≡◌, ◌≤◌, ◌/◌, ℕ, false, None, Some, List, [], ◌∷◌, All, length, map}
+use Rattle.std.specs.Prelude.{take, slice_get}
 use Rattle.cargo_core.specs.Ranges.{AreRanges}
 use Rattle.wire_core.specs.declared.names.QueueId.{QueueId}
 use Rattle.wire_core.specs.Deeds.{Cargo}
@@ -18,7 +19,8 @@ use Rattle.blk_virt.specs.declared.requests.Holder.{Holder}
 use Rattle.blk_virt.specs.declared.virtualiser.BlkVirt.{BlkVirt}
 use Rattle.net_law.specs.NetOwners.Names.{PoolAt}
 use Rattle.net_law.specs.NetParts.Playing.{way_of}
-use Rattle.blk_law.specs.BlkParts.Parts.{BlkPart, DiskDevice as DiskPart, BlkDriver as DriverPart, BlkVirt as VirtPart, BlkClient as ClientPart, Sharer}
+use Rattle.blk_law.specs.BlkParts.Parts.{BlkPart, DiskDevice as DiskPart, BlkDriver as DriverPart}
+use Rattle.blk_law.specs.BlkParts.Parts.{BlkVirt as VirtPart, BlkClient as ClientPart, Sharer}
 
 -- a disk's part, with the image that it had at the start
 abbrev pub disk_part : (start : List ℕ) → DiskDevice → BlkPart

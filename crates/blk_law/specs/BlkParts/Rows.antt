@@ -1,5 +1,7 @@
 -- What each actor of the block class may have put for what it took, of items alone.
-use Rattle.std.specs.Prelude.{◌≡◌, ◌+◌, ◌*◌, ◌<◌, ◌≤◌, ◌^◌, ◌%◌, ℕ, Bool, true, nat_lt, if◌then◌else◌, Option, Some, List, [], ◌∷◌, length, map, take, drop, slice_get}
+use Rattle.std.specs.Prelude.{◌≡◌, ◌+◌, ◌*◌, ◌<◌, ◌≤◌, ◌^◌, ◌%◌, ℕ, Bool, true, nat_lt}
+use Rattle.std.specs.Prelude.{if◌then◌else◌, Option, Some, List, [], ◌∷◌, length, map, take, drop}
+use Rattle.std.specs.Prelude.{slice_get}
 use Rattle.std.specs.List.{filter}
 use Rattle.cargo_core.specs.Lists.{IsPrefix, PrefixMerge}
 use Rattle.cargo_core.specs.Ranges.{is_within}
@@ -15,7 +17,8 @@ use Rattle.blk_mbr.specs.declared.part.Part.{Part}
 use Rattle.blk_expect.specs.Judging.{status_of}
 use Rattle.blk_expect.specs.Replies.{partition_in}
 use Rattle.client_programs.specs.BlkClients.Asking.{needs_buffer, request_for}
-use Rattle.blk_virt.specs.Requests.{request_of, response_of, is_ok, first_block, asked_of_disk, moves_blocks}
+use Rattle.blk_virt.specs.Requests.{request_of, response_of, is_ok, first_block, asked_of_disk}
+use Rattle.blk_virt.specs.Requests.{moves_blocks}
 use Rattle.net_law.specs.NetOwners.Names.{PoolAt}
 use Rattle.blk_law.specs.BlkParts.Parts.{Sharer}
 
@@ -39,7 +42,8 @@ abbrev pub asked_items : (id used hand buffers : ℕ) → List Ask → List Item
 asked_items id used hand buffers [] = []
 asked_items id used hand buffers (a ∷ asks) =
     if needs_buffer a.code then (if nat_lt used hand then
-    (request_for a id ((used % buffers) * 32768) ∷ asked_items (id + 1) (used + 1) hand buffers asks)
+    (request_for a id ((used % buffers) * 32768)
+    ∷ asked_items (id + 1) (used + 1) hand buffers asks)
     else []) else (request_for a id 0 ∷ asked_items (id + 1) used hand buffers asks)
 
 -- the requests that a client can have put where so many responses came: each brought the buffer of

@@ -8,7 +8,8 @@ use Rattle.net_law.specs.NetParts.Parts.{NetDriver}
 use Rattle.net_law.specs.NetParts.Rows.{pool_hand}
 use Rattle.net_law.specs.NetParts.Table.{is_short, net_sheet}
 use Rattle.blk_law.specs.BlkParts.Parts.{BlkPart, DiskDevice, BlkDriver, BlkVirt, BlkClient, Sharer}
-use Rattle.blk_law.specs.BlkParts.Rows.{answer_item, AsksInOrder, client_requests, ServesRequests, answers_due, requests_due}
+use Rattle.blk_law.specs.BlkParts.Rows.{answer_item, AsksInOrder, client_requests, ServesRequests}
+use Rattle.blk_law.specs.BlkParts.Rows.{answers_due, requests_due}
 
 -- the ends at a client's queues
 abbrev pub sharer_ends : Sharer → List Seat

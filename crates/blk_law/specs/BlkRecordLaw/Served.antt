@@ -28,11 +28,12 @@ LeavesPart h (Some part) sent = OthersBeside (is_at h) part.first_block part.blo
 
 -- a client's record at any moment is a beginning of what it must get. The client put a beginning of
 -- its script (`put`), each read and write in its own buffer, of which the virtualiser took a
--- beginning (`taken`) and served it; what the virtualiser sent (`sent`) are requests, of which those
--- for others leave the client's partition alone; what came back are the disk's answers, as far as
--- they go; and the client took a beginning of what it was given (`gave`, `came`)
+-- beginning (`taken`) and served it; what the virtualiser sent (`sent`) are requests, of which
+-- those for others leave the client's partition alone; what came back are the disk's answers, as
+-- far as they go; and the client took a beginning of what it was given (`gave`, `came`)
 abbrev pub RecordsAtAnyMoment : (image : List ℕ) (entry : ℕ) (asks : List Ask) (h : Holder) → Type 0
-RecordsAtAnyMoment image entry asks h = (pages : List Paged) (put taken sent back gave came : List Cargo)
+RecordsAtAnyMoment image entry asks h =
+    (pages : List Paged) (put taken sent back gave came : List Cargo)
     → HaveRoom pages → IsPrefix put (asked_from 0 asks pages) → IsPrefix taken put
     → All (λ (x : Cargo). is_bad h x ≡ false) taken
     → All (λ (x : Cargo). kind_of x.0 ≡ Kind.Req) sent

@@ -25,7 +25,8 @@ use Rattle.blk_virt.specs.Requests.{is_bad, range_of}
 use Rattle.blk_virt.specs.Virtualising.{BlkVirtRow}
 use Rattle.blk_virt.specs.declared.requests.Holder.{Holder}
 use Rattle.blk_virt.specs.declared.virtualiser.BlkVirt.{BlkVirt}
-use Rattle.blk_law.specs.BlkParts.Numbers.{BlkPlace, IsBlkClientOf, disk_at, blk_driver_at, virt_at, blk_client_at}
+use Rattle.blk_law.specs.BlkParts.Numbers.{BlkPlace, IsBlkClientOf, disk_at, blk_driver_at, virt_at}
+use Rattle.blk_law.specs.BlkParts.Numbers.{blk_client_at}
 use Rattle.blk_law.specs.BlkParts.Playing.{disk_part, blk_driver_part, virt_part, blk_client_part}
 
 -- who has a pool's buffers, whatever its entry in the table of partitions

@@ -3,7 +3,8 @@ use Rattle.std.specs.Prelude.{◌≡◌, ℕ, List, map}
 use Rattle.wire_core.specs.Lists.{Passed}
 use Rattle.play_core.specs.Sheets.{Scene}
 use Rattle.owner_law.specs.Things.{Naming}
-use Rattle.net_law.specs.NetParts.Parts.{NetPart, NetDevice, NetDriver, NetReceiver, NetCopier, NetClient}
+use Rattle.net_law.specs.NetParts.Parts.{NetPart, NetDevice, NetDriver, NetReceiver, NetCopier}
+use Rattle.net_law.specs.NetParts.Parts.{NetClient}
 use Rattle.net_law.specs.NetParts.Naming.{NamesPart}
 use Rattle.net_law.specs.NetRxOwners.Virtualiser.{AreNet}
 use Rattle.net_quiet.specs.NetTxOwners.Shipping.{NamesSend}
@@ -11,7 +12,8 @@ use Rattle.blk_quiet.specs.BlkPools.Naming.{NamesServed}
 use Rattle.owner_law.specs.PoolLaw.Handing.{NameNothing}
 use Rattle.owner_law.specs.PoolLaw.Lines.{Holder}
 use Rattle.net_quiet.specs.NetPools.Holders.{holder_of}
-use Rattle.actor_set.specs.Parts.{Part, UartPart, DriverPart, RxPart, TxPart, ClientPart, NetworkPart, SendingPart, BlockPart}
+use Rattle.actor_set.specs.Parts.{Part, UartPart, DriverPart, RxPart, TxPart, ClientPart}
+use Rattle.actor_set.specs.Parts.{NetworkPart, SendingPart, BlockPart}
 use Rattle.actor_set.specs.Actors.{part_of, actor_hand, actor_lent}
 use Rattle.actor_set.specs.declared.actor.Actor.{Actor}
 use Rattle.actor_set.specs.declared.actor.Actor.TheVariants as Kinds

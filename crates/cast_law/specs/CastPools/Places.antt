@@ -1,5 +1,6 @@
 -- Where the classes that have pools stand in a cast, what items name at its queues, and its pools.
-use Rattle.std.specs.Prelude.{◌≡◌, ◌++◌, ℕ, nat_lt, if◌then◌else◌, Option, None, Some, List, [], length}
+use Rattle.std.specs.Prelude.{◌≡◌, ◌++◌, ℕ, nat_lt, if◌then◌else◌, Option, None, Some, List, []}
+use Rattle.std.specs.Prelude.{length}
 use Rattle.wire_core.specs.declared.names.PoolRow.{PoolRow}
 use Rattle.wire_core.specs.declared.names.QueueRow.{QueueRow}
 use Rattle.play_core.specs.Sheets.{Scene}

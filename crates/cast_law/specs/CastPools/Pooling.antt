@@ -1,5 +1,6 @@
 -- A cast at play whose buffers are followed, and one call of an actor of it.
-use Rattle.std.specs.Prelude.{◌≡◌, ◌+◌, ◌++◌, ℕ, Option, None, Some, List, [], length, map, slice_get}
+use Rattle.std.specs.Prelude.{◌≡◌, ◌+◌, ◌++◌, ℕ, Option, None, Some, List, [], length, map}
+use Rattle.std.specs.Prelude.{slice_get}
 use Rattle.cargo_core.specs.Items.{kind_of}
 use Rattle.cargo_core.specs.Lists.{IsPrefix}
 use Rattle.cargo_core.specs.declared.item.Item.{Item}
@@ -43,8 +44,8 @@ AddUp world holders pools = (k : ℕ) (row : PoolRow) → slice_get pools k ≡ 
 
 -- a cast at play whose queues had this before its journal begins: each actor has just the ends that
 -- the rows give it, fits them and stands for what passed there, of which nothing came out of turn;
--- the journal is legal, at each moment queues hand over and rows hold; and in each queue stands what
--- was put there and not taken
+-- the journal is legal, at each moment queues hand over and rows hold; and in each queue stands
+-- what was put there and not taken
 pub record AreAtPlay (history : History) (rows : List QueueRow) (actors : List Actor)
     (journal : List Entry) (passed : Passed) (world : List Queue) : Type 0 where
   pub peopled : IsPeopled rows (length (map part_of actors))
@@ -81,8 +82,8 @@ pub record HasOwners (history : History) (rows : List QueueRow) (place : PoolPla
   pub begins : BeginsWith history rows place cast table
   pub pools : (k : ℕ) → IsPool table k (place_sizes place k)
 
--- what was put to a queue is of its kind; at a number that is no queue's what was taken is a beginning
--- of what was put
+-- what was put to a queue is of its kind; at a number that is no queue's what was taken is a
+-- beginning of what was put
 abbrev pub IsKindly : Option QueueRow → (put took : List Item) → Type 0
 IsKindly None put took = IsPrefix took put
 IsKindly (Some row) put took = (j : ℕ) (i : Item) → slice_get put j ≡ Some i → kind_of i ≡ row.kind
@@ -92,9 +93,9 @@ abbrev pub AreKindly : History → List QueueRow → (journal : List Entry) → 
 AreKindly history rows journal =
     (n : ℕ) → IsKindly (slice_get rows n) (sent history n journal) (taken history n journal)
 
--- entries carried what their items name, and actor k of a cast made a call on an end of its own, and
--- is then x; it stands for what passed by then, of which nothing came out of turn; queues hand over
--- what is of their kind, and rows hold, before the call and after it
+-- entries carried what their items name, and actor k of a cast made a call on an end of its own,
+-- and is then x; it stands for what passed by then, of which nothing came out of turn; queues hand
+-- over what is of their kind, and rows hold, before the call and after it
 pub record IsCall (rows : List QueueRow) (place : PoolPlace) (cast : List Part) (m m' : Moved)
     (passed : Passed) (d : Deed) (k : ℕ) (x : Actor) : Type 0 where
   pub placed : IsPlaced rows place cast

@@ -33,7 +33,8 @@ actors_apart parts = map (λ (p : Apart). p.actor) parts
 
 -- the actors of a wired cast stood apart over rings, each with just the ends that the rows give it,
 -- and nothing passed there; each is now what it became by the calls that it made at its ends
-pub record HaveGone (rows : List QueueRow) (rings : List RingIs) (olds news : List Apart) : Type 0 where
+pub record HaveGone (rows : List QueueRow) (rings : List RingIs) (olds news : List Apart)
+    : Type 0 where
   pub wired : IsWired rows (map part_of (actors_apart olds))
   pub seated : AreSeated (sheet (scene_of (map part_of (actors_apart olds)))) rows
       (map part_of (actors_apart olds))

@@ -1,5 +1,6 @@
 -- The block client: what it must fit, what it stands for, and its row.
-use Rattle.std.specs.Prelude.{◌≡◌, ◌≤◌, ◌&&◌, ◌++◌, ℕ, Bool, is_some, is_none, None, List, [], ◌∷◌, length, option_to_list}
+use Rattle.std.specs.Prelude.{◌≡◌, ◌≤◌, ◌&&◌, ◌++◌, ℕ, Bool, is_some, is_none, None, List, [], ◌∷◌}
+use Rattle.std.specs.Prelude.{length, option_to_list}
 use Rattle.cargo_core.specs.declared.item.Ask.{Ask}
 use Rattle.cargo_core.specs.declared.item.Body.{Body}
 use Rattle.cargo_core.specs.declared.item.QueueKind.TheVariants as Kind
@@ -17,7 +18,8 @@ use Rattle.turn_kit.specs.Hands.{Balances, bodies_of, bodies_at}
 use Rattle.buffer_kit.specs.Pools.{page_bodies}
 use Rattle.client_programs.specs.declared.blk_client.BlkClient.{BlkClient}
 use Rattle.client_programs.specs.declared.blk_client.asking.Asking.{Asking}
-use Rattle.client_programs.specs.BlkClients.Asking.{IsAsking, IsHoard, AskingStands, SameAsking, asked_from, replies_to, pages_in, asking_hand}
+use Rattle.client_programs.specs.BlkClients.Asking.{IsAsking, IsHoard, AskingStands, SameAsking}
+use Rattle.client_programs.specs.BlkClients.Asking.{asked_from, replies_to, pages_in, asking_hand}
 
 -- the queue on which responses come to it
 abbrev pub resp_queue : BlkClient → ℕ

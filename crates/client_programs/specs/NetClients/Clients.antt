@@ -1,5 +1,7 @@
 -- The network client: what it must fit, what it stands for, and its row.
-use Rattle.std.specs.Prelude.{◌≡◌, ◌⊎◌, ◌+◌, ◌-◌, ◌<◌, ◌≤◌, ◌^◌, ◌&&◌, ◌||◌, ℕ, Bool, true, not, is_some, is_none, None, List, [], ◌∷◌, ◌++◌, All, length, map, option_to_list}
+use Rattle.std.specs.Prelude.{◌≡◌, ◌⊎◌, ◌+◌, ◌-◌, ◌<◌, ◌≤◌, ◌^◌, ◌&&◌, ◌||◌, ℕ, Bool, true, not}
+use Rattle.std.specs.Prelude.{is_some, is_none, None, List, [], ◌∷◌, ◌++◌, All, length, map}
+use Rattle.std.specs.Prelude.{option_to_list}
 use Rattle.cargo_core.specs.declared.item.Body.{Body}
 use Rattle.cargo_core.specs.declared.item.QueueKind.TheVariants as Kind
 use Rattle.cargo_core.specs.Lists.{IsPrefix}
@@ -22,7 +24,9 @@ use Rattle.client_programs.specs.declared.net_client.NetClient.{NetClient}
 use Rattle.client_programs.specs.declared.net_client.program.NetProgram.{NetProgram}
 use Rattle.client_programs.specs.declared.net_client.program.ClientProgram.{ClientProgram}
 use Rattle.client_programs.specs.NetClients.Programs.{frames_out, is_echo}
-use Rattle.client_programs.specs.NetClients.Sending.{FitsOutbox, SendsFrames, OutboxStandsFor, IsNewOutbox, outbox_hand, is_sending, needs_buffer, is_through}
+use Rattle.client_programs.specs.NetClients.Sending.{FitsOutbox, SendsFrames, OutboxStandsFor}
+use Rattle.client_programs.specs.NetClients.Sending.{IsNewOutbox, outbox_hand, is_sending}
+use Rattle.client_programs.specs.NetClients.Sending.{needs_buffer, is_through}
 
 -- the queue on which frames come to it
 abbrev pub rx_active : NetClient → ℕ
@@ -148,8 +152,8 @@ is_answering c =
 abbrev pub needs_frame : NetClient → Bool
 needs_frame c = is_none c.frames.pipe.load && not (is_answering c)
 
--- its ends: it needs a frame while it holds none, and owes what it has yet to put; it needs a buffer
--- where it has none for a frame that is to be sent, and owes what it has for one
+-- its ends: it needs a frame while it holds none, and owes what it has yet to put; it needs a
+-- buffer where it has none for a frame that is to be sent, and owes what it has for one
 abbrev pub client_round : NetClient → Round
 client_round c = record {
   posts = intake_post c.frames.pipe.input ∷ outlet_post c.frames.pipe.output

@@ -1,5 +1,6 @@
 -- The sending side of a network client: its buffers, and what it puts in them.
-use Rattle.std.specs.Prelude.{◌≡◌, ◌+◌, ◌<◌, ◌≤◌, ◌&&◌, ◌||◌, ℕ, Bool, nat_lt, not, None, is_none, is_some, List, ◌++◌, length, map, option_to_list}
+use Rattle.std.specs.Prelude.{◌≡◌, ◌+◌, ◌<◌, ◌≤◌, ◌&&◌, ◌||◌, ℕ, Bool, nat_lt, not, None, is_none}
+use Rattle.std.specs.Prelude.{is_some, List, ◌++◌, length, map, option_to_list}
 use Rattle.std.specs.Option.{ForSome}
 use Rattle.cargo_core.specs.declared.item.Body.{Body}
 use Rattle.cargo_core.specs.declared.item.QueueKind.TheVariants as Kind
@@ -32,8 +33,8 @@ needs_buffer o frames = is_none o.load && (is_none o.stock.next && nat_lt o.next
 abbrev pub is_through : Outbox → (frames : ℕ) → Bool
 is_through o frames = is_none o.load && not (nat_lt o.next frames)
 
--- what it put are the first of these frames, in their order, each in the next of the buffers that it
--- had and then of those that came back; and it took one only where it had a frame to send and no
+-- what it put are the first of these frames, in their order, each in the next of the buffers that
+-- it had and then of those that came back; and it took one only where it had a frame to send and no
 -- buffer in its hand
 pub record SendsFrames (frames : List (List ℕ)) (had back put : List Cargo) : Type 0 where
   pub filled : IsPrefix put (all_filled frames (had ++ back))

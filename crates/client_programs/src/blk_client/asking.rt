@@ -1,5 +1,6 @@
 //! What a block client has yet to ask, and how it asks it.
-ghost use Rattle.std.specs.Prelude.{◌≡◌, ◌-◌, ◌+◌, ◌*◌, ◌<◌, ◌≤◌, ◌^◌, ◌∷◌, ◌++◌, ℕ, [], List, None, Some, OnOk, OnErr, nat_lt, length, slice_get};
+ghost use Rattle.std.specs.Prelude.{◌≡◌, ◌-◌, ◌+◌, ◌*◌, ◌<◌, ◌≤◌, ◌^◌, ◌∷◌, ◌++◌, ℕ, [], List};
+ghost use Rattle.std.specs.Prelude.{None, Some, OnOk, OnErr, nat_lt, length, slice_get};
 ghost use Rattle.std.specs.Option.{ForSome, option_to_list};
 ghost use Rattle.cargo_core.specs.Bodies.{buffers_of, buffers_in};
 ghost use Rattle.cargo_core.specs.declared.item.Ask.{Ask};
@@ -9,7 +10,12 @@ ghost use Rattle.cargo_core.specs.Pages.{Paged};
 ghost use Rattle.wire_core.specs.Deeds.{Cargo};
 ghost use Rattle.turn_kit.specs.Hands.{bodies_of};
 ghost use Rattle.buffer_kit.specs.Pools.{ArePool, page_bodies};
-ghost use Rattle.client_programs.specs.BlkClients.Asking.{IsAsking, IsHoard, AskingStands, SameAsking, needs_buffer, request_for, page_for, asked_in, asked_bare, asked_from, made, response_of, read_blocks, came_blocks, read_bytes, reply_room, asking_hand};
+ghost use Rattle.client_programs.specs.BlkClients.Asking.{IsAsking, IsHoard, AskingStands};
+ghost use Rattle.client_programs.specs.BlkClients.Asking.{SameAsking, needs_buffer, request_for};
+ghost use Rattle.client_programs.specs.BlkClients.Asking.{page_for, asked_in, asked_bare};
+ghost use Rattle.client_programs.specs.BlkClients.Asking.{asked_from, made, response_of};
+ghost use Rattle.client_programs.specs.BlkClients.Asking.{read_blocks, came_blocks, read_bytes};
+ghost use Rattle.client_programs.specs.BlkClients.Asking.{reply_room, asking_hand};
 
 use crate::blk_client::Keeping;
 use cargo_core::{

@@ -1,6 +1,7 @@
 //! What a block client keeps of the responses that came: the replies, which are recorded, and the
 //! buffers, which are used again.
-ghost use Rattle.std.specs.Prelude.{◌≡◌, ◌<◌, ◌≤◌, ◌+◌, ◌^◌, ◌∷◌, ◌++◌, [], None, OnOk, OnErr, length, map, min, reverse, vec_len, vec_capacity};
+ghost use Rattle.std.specs.Prelude.{◌≡◌, ◌<◌, ◌≤◌, ◌+◌, ◌^◌, ◌∷◌, ◌++◌, [], None, OnOk, OnErr};
+ghost use Rattle.std.specs.Prelude.{length, map, min, reverse, vec_len, vec_capacity};
 ghost use Rattle.std.specs.Option.{option_to_list};
 ghost use Rattle.cargo_core.specs.Bodies.{buffers_of};
 ghost use Rattle.buffer_kit.specs.Entries.{first_bytes};

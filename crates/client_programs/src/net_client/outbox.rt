@@ -1,11 +1,14 @@
 //! The sending side of a network client: the buffers in which it sends.
-ghost use Rattle.std.specs.Prelude.{◌≡◌, ◌+◌, ◌-◌, ◌<◌, ◌≤◌, ◌^◌, ℕ, List, [], All, length, is_some};
+ghost use Rattle.std.specs.Prelude.{◌≡◌, ◌+◌, ◌-◌, ◌<◌, ◌≤◌, ◌^◌, ℕ, List, [], All, length};
+ghost use Rattle.std.specs.Prelude.{is_some};
 ghost use Rattle.cargo_core.specs.Bodies.{buffers_of};
 ghost use Rattle.wire_core.specs.Deeds.{Cargo};
 ghost use Rattle.buffer_kit.specs.Pools.{ArePool};
 ghost use Rattle.buffer_kit.specs.Stocks.{SameStock};
 ghost use Rattle.client_programs.specs.NetClients.Programs.{frames_out};
-ghost use Rattle.client_programs.specs.NetClients.Sending.{FitsOutbox, OutboxStandsFor, IsNewOutbox, outbox_hand, is_sending, needs_buffer, is_through};
+ghost use Rattle.client_programs.specs.NetClients.Sending.{FitsOutbox, OutboxStandsFor};
+ghost use Rattle.client_programs.specs.NetClients.Sending.{IsNewOutbox, outbox_hand, is_sending};
+ghost use Rattle.client_programs.specs.NetClients.Sending.{needs_buffer, is_through};
 
 use crate::net_client::ClientProgram;
 use buffer_kit::Stock;

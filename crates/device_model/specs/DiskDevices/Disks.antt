@@ -1,5 +1,6 @@
 -- The disk: what it must fit, what it stands for, and its row.
-use Rattle.std.specs.Prelude.{◌≡◌, ◌≤◌, ◌&&◌, ℕ, Bool, true, false, is_some, is_none, Some, None, List, [], ◌∷◌, ◌++◌, All, length, option_to_list}
+use Rattle.std.specs.Prelude.{◌≡◌, ◌≤◌, ◌&&◌, ℕ, Bool, true, false, is_some, is_none, Some, None}
+use Rattle.std.specs.Prelude.{List, [], ◌∷◌, ◌++◌, All, length, option_to_list}
 use Rattle.std.specs.Option.{ForSome}
 use Rattle.cargo_core.specs.declared.item.Body.{Body}
 use Rattle.cargo_core.specs.declared.item.QueueKind.TheVariants as Kind
@@ -15,7 +16,8 @@ use Rattle.turn_kit.specs.Turns.{Round}
 use Rattle.turn_kit.specs.Posts.{intake_post, outlet_post}
 use Rattle.turn_kit.specs.Hands.{Balances, bodies_of, bodies_at}
 use Rattle.device_model.specs.declared.disk_device.DiskDevice.{DiskDevice}
-use Rattle.device_model.specs.DiskDevices.Serving.{is_stray, answer_to, answers_to, done, image_after, AreInTurn}
+use Rattle.device_model.specs.DiskDevices.Serving.{is_stray, answer_to, answers_to, done}
+use Rattle.device_model.specs.DiskDevices.Serving.{image_after, AreInTurn}
 
 -- the queue on which requests come
 abbrev pub req : DiskDevice → ℕ

@@ -1,5 +1,6 @@
 -- The Ethernet device: what it must fit, what it stands for, and its row.
-use Rattle.std.specs.Prelude.{◌≡◌, ◌⊎◌, ◌<◌, ◌≤◌, ◌&&◌, ◌^◌, ℕ, Bool, nat_lt, is_some, is_none, None, List, [], ◌∷◌, ◌++◌, All, length, map, option_to_list}
+use Rattle.std.specs.Prelude.{◌≡◌, ◌⊎◌, ◌<◌, ◌≤◌, ◌&&◌, ◌^◌, ℕ, Bool, nat_lt, is_some, is_none}
+use Rattle.std.specs.Prelude.{None, List, [], ◌∷◌, ◌++◌, All, length, map, option_to_list}
 use Rattle.std.specs.Option.{ForSome}
 use Rattle.cargo_core.specs.declared.item.Body.{Body}
 use Rattle.cargo_core.specs.declared.item.QueueKind.TheVariants as Kind

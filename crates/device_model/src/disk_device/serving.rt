@@ -1,6 +1,7 @@
 //! How a disk does one request on its image.
 ghost use Rattle.std.specs.Prelude.{◌≡◌, ◌*◌, ◌≤◌, true, false, length};
-ghost use Rattle.device_model.specs.DiskDevices.Serving.{is_stray, strays_by, resp_to, body_back, stored, answer_to, done};
+ghost use Rattle.device_model.specs.DiskDevices.Serving.{is_stray, strays_by, resp_to, body_back};
+ghost use Rattle.device_model.specs.DiskDevices.Serving.{stored, answer_to, done};
 
 use blk_kit::{BLOCK_BYTES, blocks_at, carried_blocks, fill, has_blocks, has_room, moved_blocks};
 use cargo_core::{BlkReq, BlkResp, BlkStatus, Body, Bytes, Code, Item};

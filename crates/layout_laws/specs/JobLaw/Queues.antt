@@ -6,7 +6,10 @@ use Rattle.sdf_plan.specs.declared.plan.Net.{Net}
 use Rattle.sdf_plan.specs.declared.plan.Serial.{Serial}
 use Rattle.sdf_plan.specs.declared.plan.Blk.{Blk}
 use Rattle.region_layout.specs.Rows.{each_client}
-use Rattle.layout_laws.specs.JobLaw.Jobs.{Job, EthDevice, EthDriver, NetReceiver, NetSender, NetCopier, NetClient, UartDevice, UartDriver, SerialReceiver, SerialSender, SerialClient, DiskDevice, DiskDriver, BlkVirtualiser, BlkClient}
+use Rattle.layout_laws.specs.JobLaw.Jobs.{Job, EthDevice, EthDriver, NetReceiver, NetSender}
+use Rattle.layout_laws.specs.JobLaw.Jobs.{NetCopier, NetClient, UartDevice, UartDriver}
+use Rattle.layout_laws.specs.JobLaw.Jobs.{SerialReceiver, SerialSender, SerialClient, DiskDevice}
+use Rattle.layout_laws.specs.JobLaw.Jobs.{DiskDriver, BlkVirtualiser, BlkClient}
 
 -- the jobs of a queue's two owners
 pub record Owners : Type 0 where

@@ -1,7 +1,8 @@
 -- The ends of queues that each job has in the layout, told by the queues' numbers: those of the
 -- network class are the first, those of the serial class follow, and those of the block class are
 -- the last.
-use Rattle.std.specs.Prelude.{◌≡◌, ◌==◌, ◌+◌, ◌*◌, ◌<◌, ℕ, zero, suc, if◌then◌else◌, Some, List, [], ◌∷◌, ◌++◌, length}
+use Rattle.std.specs.Prelude.{◌≡◌, ◌==◌, ◌+◌, ◌*◌, ◌<◌, ℕ, zero, suc, if◌then◌else◌, Some, List, []}
+use Rattle.std.specs.Prelude.{◌∷◌, ◌++◌, length}
 use Rattle.std.specs.Option.{option_map_or}
 use Rattle.cargo_core.specs.declared.item.QueueKind.{QueueKind}
 use Rattle.cargo_core.specs.declared.item.QueueKind.TheVariants as Kind
@@ -12,7 +13,10 @@ use Rattle.sdf_plan.specs.declared.plan.Serial.{Serial}
 use Rattle.sdf_plan.specs.declared.plan.Blk.{Blk}
 use Rattle.play_core.specs.Moved.{Seat}
 use Rattle.play_core.specs.Wants.{intake, outlet}
-use Rattle.layout_laws.specs.JobLaw.Jobs.{Job, EthDevice, EthDriver, NetReceiver, NetSender, NetCopier, NetClient, UartDevice, UartDriver, SerialReceiver, SerialSender, SerialClient, DiskDevice, DiskDriver, BlkVirtualiser, BlkClient}
+use Rattle.layout_laws.specs.JobLaw.Jobs.{Job, EthDevice, EthDriver, NetReceiver, NetSender}
+use Rattle.layout_laws.specs.JobLaw.Jobs.{NetCopier, NetClient, UartDevice, UartDriver}
+use Rattle.layout_laws.specs.JobLaw.Jobs.{SerialReceiver, SerialSender, SerialClient, DiskDevice}
+use Rattle.layout_laws.specs.JobLaw.Jobs.{DiskDriver, BlkVirtualiser, BlkClient}
 
 -- the plan has a network class
 abbrev pub HasNet : Plan → Type 0
@@ -82,8 +86,8 @@ abbrev pub blk_first : Plan → ℕ
 blk_first plan = serial_first plan
     + option_map_or (λ (serial : Serial). 4 + 2 * length serial.client) plan.serial 0
 
--- the end that the receiving virtualiser of a serial class with this first queue has at the queues of
--- a client
+-- the end that the receiving virtualiser of a serial class with this first queue has at the queues
+-- of a client
 abbrev pub given_end : ℕ → ℕ → List Seat
 given_end first k = outlet (first + 4 + 2 * k) ∷ []
 
@@ -91,7 +95,8 @@ given_end first k = outlet (first + 4 + 2 * k) ∷ []
 abbrev pub said_end : ℕ → ℕ → List Seat
 said_end first k = intake (first + 5 + 2 * k) ∷ []
 
--- the ends that the virtualiser of a block class with this first queue has at the queues of a client
+-- the ends that the virtualiser of a block class with this first queue has at the queues of a
+-- client
 abbrev pub ask_ends : ℕ → ℕ → List Seat
 ask_ends first k = intake (first + 4 + 2 * k) ∷ outlet (first + 5 + 2 * k) ∷ []
 

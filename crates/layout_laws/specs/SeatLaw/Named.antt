@@ -8,7 +8,10 @@ use Rattle.sdf_plan.specs.declared.plan.SerialClient.{SerialClient as SerialClie
 use Rattle.sdf_plan.specs.declared.plan.Blk.{Blk}
 use Rattle.sdf_plan.specs.declared.plan.BlkClient.{BlkClient as BlkClientKeys}
 use Rattle.region_layout.specs.Rows.{actor_named, eth_number, uart_number, disk_number}
-use Rattle.layout_laws.specs.JobLaw.Jobs.{EthDevice, EthDriver, NetReceiver, NetSender, NetCopier, NetClient, UartDevice, UartDriver, SerialReceiver, SerialSender, SerialClient, DiskDevice, DiskDriver, BlkVirtualiser, BlkClient, HasJob}
+use Rattle.layout_laws.specs.JobLaw.Jobs.{EthDevice, EthDriver, NetReceiver, NetSender, NetCopier}
+use Rattle.layout_laws.specs.JobLaw.Jobs.{NetClient, UartDevice, UartDriver, SerialReceiver}
+use Rattle.layout_laws.specs.JobLaw.Jobs.{SerialSender, SerialClient, DiskDevice, DiskDriver}
+use Rattle.layout_laws.specs.JobLaw.Jobs.{BlkVirtualiser, BlkClient, HasJob}
 
 -- those of the network class
 pub record AreNetNamed (plan : Plan) (net : Net) : Type 0 where

@@ -1,5 +1,6 @@
 -- How much is put to the queues of the network, and how often its entries have to be moved.
-use Rattle.std.specs.Prelude.{◌≡◌, ◌≢◌, ◌+◌, ◌*◌, ◌<◌, ℕ, true, Some, List, length, slice_get, sum_by}
+use Rattle.std.specs.Prelude.{◌≡◌, ◌≢◌, ◌+◌, ◌*◌, ◌<◌, ℕ, true, Some, List, length, slice_get}
+use Rattle.std.specs.Prelude.{sum_by}
 use Rattle.cargo_core.specs.declared.item.Item.{Item}
 use Rattle.frame_core.specs.declared.mac.Mac.{Mac}
 use Rattle.wire_core.specs.declared.names.QueueRow.{QueueRow}

@@ -1,10 +1,12 @@
 -- The actor that lends: what its row says of its items, and for how many clients a frame is.
-use Rattle.std.specs.Prelude.{◌≡◌, ◌+◌, ◌≤◌, ℕ, Bool, nat_lt, if◌then◌else◌, Option, Some, List, [], ◌∷◌, slice_get, sum_by, flat_map}
+use Rattle.std.specs.Prelude.{◌≡◌, ◌+◌, ◌≤◌, ℕ, Bool, nat_lt, if◌then◌else◌, Option, Some, List, []}
+use Rattle.std.specs.Prelude.{◌∷◌, slice_get, sum_by, flat_map}
 use Rattle.cargo_core.specs.Lists.{IsPrefix}
 use Rattle.wire_core.specs.Bells.{bit}
 use Rattle.play_core.specs.Moved.{Moved, Seat}
 use Rattle.play_core.specs.Wants.{intake, outlet}
-use Rattle.owner_law.specs.Things.{Buffer, Window, Buffers, Frames, Leases, Returns, Naming, names_in, times}
+use Rattle.owner_law.specs.Things.{Buffer, Window, Buffers, Frames, Leases, Returns, Naming}
+use Rattle.owner_law.specs.Things.{names_in, times}
 use Rattle.owner_law.specs.Keeping.{at_start}
 
 -- a client as the lender has it: the queues on which leases go there and come back, and which

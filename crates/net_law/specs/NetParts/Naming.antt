@@ -5,7 +5,8 @@ use Rattle.owner_law.specs.Things.{Window, Buffers, Leases, Returns, Naming}
 use Rattle.net_law.specs.NetOwners.Names.{by_address, by_offset}
 use Rattle.net_law.specs.NetOwners.Ends.{NameBuffers}
 use Rattle.net_law.specs.NetOwners.Lending.{LenderNames}
-use Rattle.net_law.specs.NetParts.Parts.{NetPart, NetDevice, NetDriver, NetReceiver, NetCopier, NetClient, Way}
+use Rattle.net_law.specs.NetParts.Parts.{NetPart, NetDevice, NetDriver, NetReceiver, NetCopier}
+use Rattle.net_law.specs.NetParts.Parts.{NetClient, Way}
 use Rattle.net_law.specs.NetParts.Rows.{lender_of}
 
 -- at two queues buffers are named in the same windows

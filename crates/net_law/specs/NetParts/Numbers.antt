@@ -7,7 +7,8 @@ use Rattle.play_core.specs.Sheets.{Scene}
 use Rattle.net_expect.specs.Expecting.{Program}
 use Rattle.net_law.specs.NetOwners.Names.{PoolAt, ClientPools, net_names}
 use Rattle.net_law.specs.NetOwners.Lending.{receivers_of}
-use Rattle.net_law.specs.NetParts.Parts.{NetPart, NetDevice, NetDriver, NetReceiver, NetCopier, NetClient, Lessee}
+use Rattle.net_law.specs.NetParts.Parts.{NetPart, NetDevice, NetDriver, NetReceiver, NetCopier}
+use Rattle.net_law.specs.NetParts.Parts.{NetClient, Lessee}
 use Rattle.net_law.specs.NetParts.Rows.{lender_of}
 
 -- the device's part, with the frames that it receives

@@ -23,7 +23,9 @@ use Rattle.net_law.specs.NetRxOwners.Virtualiser.{TakesFrames}
 use Rattle.net_expect.specs.Expecting.{frames_for}
 use Rattle.net_law.specs.NetOwners.Names.{PoolAt}
 use Rattle.net_law.specs.NetParts.Rows.{frame_at}
-use Rattle.net_law.specs.NetParts.Parts.{NetPart, NetDevice, NetDriver, NetReceiver, NetCopier as CopierPart, NetClient as ClientPart, Way, Lessee}
+use Rattle.net_law.specs.NetParts.Parts.{NetPart, NetDevice, NetDriver, NetReceiver}
+use Rattle.net_law.specs.NetParts.Parts.{NetCopier as CopierPart, NetClient as ClientPart, Way}
+use Rattle.net_law.specs.NetParts.Parts.{Lessee}
 
 -- a device's part
 abbrev pub device_part : EthDevice → NetPart

@@ -1,6 +1,7 @@
 -- The table of the network's receive half: all that is said of one of its actors, one case for each
 -- kind.
-use Rattle.std.specs.Prelude.{◌+◌, ◌&&◌, ◌||◌, ℕ, Bool, not, false, nat_lt, List, [], ◌∷◌, ◌++◌, length, map, flat_map}
+use Rattle.std.specs.Prelude.{◌+◌, ◌&&◌, ◌||◌, ℕ, Bool, not, false, nat_lt, List, [], ◌∷◌, ◌++◌}
+use Rattle.std.specs.Prelude.{length, map, flat_map}
 use Rattle.cargo_core.specs.declared.item.Item.{Item}
 use Rattle.wire_core.specs.Bells.{bit}
 use Rattle.wire_core.specs.Marks.{sum_below}
@@ -11,8 +12,11 @@ use Rattle.frame_core.specs.declared.mac.Mac.{Mac}
 use Rattle.net_expect.specs.Expecting.{Program}
 use Rattle.net_law.specs.NetOwners.Names.{PoolAt, by_offset}
 use Rattle.net_law.specs.NetOwners.Lending.{Lender}
-use Rattle.net_law.specs.NetParts.Parts.{NetPart, NetDevice, NetDriver, NetReceiver, NetCopier, NetClient, Way, Lessee}
-use Rattle.net_law.specs.NetParts.Rows.{FillsFrames, AllCopy, CopiesLeases, ServesClient, sent_where, sent_items, is_answering, SharesFrames, leases_from, lender_of, is_lent, pool_hand}
+use Rattle.net_law.specs.NetParts.Parts.{NetPart, NetDevice, NetDriver, NetReceiver, NetCopier}
+use Rattle.net_law.specs.NetParts.Parts.{NetClient, Way, Lessee}
+use Rattle.net_law.specs.NetParts.Rows.{FillsFrames, AllCopy, CopiesLeases, ServesClient}
+use Rattle.net_law.specs.NetParts.Rows.{sent_where, sent_items, is_answering, SharesFrames}
+use Rattle.net_law.specs.NetParts.Rows.{leases_from, lender_of, is_lent, pool_hand}
 
 -- the first list is shorter than the second
 abbrev pub is_short : {T U : Type 0} → List T → List U → Bool

@@ -1,6 +1,7 @@
 -- What the sending virtualiser may have put for what it took, of items alone, where each descriptor
 -- that came is good.
-use Rattle.std.specs.Prelude.{◌≡◌, ◌+◌, ◌-◌, ◌*◌, ◌&&◌, ◌<◌, ℕ, Bool, nat_le, nat_lt, Some, List, map, slice_get}
+use Rattle.std.specs.Prelude.{◌≡◌, ◌+◌, ◌-◌, ◌*◌, ◌&&◌, ◌<◌, ℕ, Bool, nat_le, nat_lt, Some, List}
+use Rattle.std.specs.Prelude.{map, slice_get}
 use Rattle.std.specs.List.{filter}
 use Rattle.cargo_core.specs.Items.{kind_of}
 use Rattle.cargo_core.specs.Lists.{IsPrefix, PrefixMerge}

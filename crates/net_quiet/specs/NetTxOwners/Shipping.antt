@@ -1,5 +1,6 @@
 -- What items name at the sending virtualiser's queues, and how its clients' pools lie.
-use Rattle.std.specs.Prelude.{◌≡◌, ◌+◌, ◌*◌, ◌&&◌, ℕ, Bool, true, false, nat_le, nat_lt, Some, List, [], ◌∷◌, map, slice_get}
+use Rattle.std.specs.Prelude.{◌≡◌, ◌+◌, ◌*◌, ◌&&◌, ℕ, Bool, true, false, nat_le, nat_lt, Some, List}
+use Rattle.std.specs.Prelude.{[], ◌∷◌, map, slice_get}
 use Rattle.owner_law.specs.Things.{Window, Buffers, Naming}
 use Rattle.net_law.specs.NetOwners.Names.{PoolAt, by_address, by_offset}
 use Rattle.net_law.specs.NetTxParts.Parts.{SendPart, Shipper}

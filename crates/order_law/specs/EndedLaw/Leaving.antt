@@ -29,8 +29,8 @@ pub record GoesOnAt (rows : List QueueRow) (parts : List Apart) (ended : List En
   pub tells : (p c : EndIs) → OwnEnd parts row Producer n p → OwnEnd parts row Consumer n c
       → TellsEnds p.knows c.knows (history_at (history_left ended) n)
 
--- each queue does; and an actor that forgot its looks fits its ends there, where they are its own by
--- the rows
+-- each queue does; and an actor that forgot its looks fits its ends there, where they are its own
+-- by the rows
 pub record AreLeft (rows : List QueueRow) (parts : List Apart) (ended : List EndedIs) : Type 0 where
   pub ended_of : AllZip IsEndedOf rows ended
   pub size : length (all_adopted rows ended) ≡ length rows

@@ -7,7 +7,8 @@ use Rattle.wire_core.specs.Lists.{Passed, with_deed}
 use Rattle.wire_core.specs.Queues.{items_of}
 use Rattle.play_core.specs.Moved.{Moved, Seat}
 use Rattle.play_core.specs.Wants.{intake, outlet}
-use Rattle.owner_law.specs.Things.{Buffer, Window, NoBuffers, Answers, Naming, thing_at, requests_of, as_buffer}
+use Rattle.owner_law.specs.Things.{Buffer, Window, NoBuffers, Answers, Naming, thing_at}
+use Rattle.owner_law.specs.Things.{requests_of, as_buffer}
 use Rattle.owner_law.specs.Pages.{as_page, CarryPages}
 
 -- an entry at a place among all that went to a queue has as its body the page of the buffer that

@@ -1,6 +1,7 @@
 -- What an actor has of each pool, and what a moment shows: the table, the entries that stand in the
 -- queues, and the actors with what is in their hands and lent.
-use Rattle.std.specs.Prelude.{◌≡◌, ◌+◌, ◌<◌, ◌≤◌, ◌++◌, ℕ, Some, List, All, [], length, map, flat_map, slice_get}
+use Rattle.std.specs.Prelude.{◌≡◌, ◌+◌, ◌<◌, ◌≤◌, ◌++◌, ℕ, Some, List, All, [], length, map}
+use Rattle.std.specs.Prelude.{flat_map, slice_get}
 use Rattle.cargo_core.specs.declared.item.PoolId.{PoolId}
 use Rattle.cargo_core.specs.declared.item.Body.{Body}
 use Rattle.cargo_core.specs.Bodies.{buffers_of}
@@ -14,7 +15,8 @@ use Rattle.wire_core.specs.Marks.{sum_below}
 use Rattle.wire_core.specs.Queues.{Queue, queue_at}
 use Rattle.turn_kit.specs.Hands.{bodies_of}
 use Rattle.play_core.specs.Moved.{Moved, Seat, moved}
-use Rattle.owner_law.specs.Things.{Window, Names, NoBuffers, Buffers, Frames, Leases, Returns, Answers, Naming}
+use Rattle.owner_law.specs.Things.{Window, Names, NoBuffers, Buffers, Frames, Leases, Returns}
+use Rattle.owner_law.specs.Things.{Answers, Naming}
 use Rattle.owner_law.specs.Owners.{Table}
 use Rattle.owner_law.specs.Keeping.{Keeper, all_taken, is_out, IsOwned}
 use Rattle.owner_law.specs.Pages.{CarryPages}

@@ -40,8 +40,8 @@ abbrev pub AllAdd : List Census → Type 0
 AllAdd lines = (k : ℕ) (l : Census) → slice_get lines k ≡ Some l
     → l.queues + l.hands + l.lent ≡ l.buffers
 
--- from this table on each move of the journal finds its buffer or lease in the place that it leaves,
--- and a lent buffer has as many receivers as there are leases of it
+-- from this table on each move of the journal finds its buffer or lease in the place that it
+-- leaves, and a lent buffer has as many receivers as there are leases of it
 abbrev pub HasOneOwner : PoolPlace → (first : Table) → Shown → Type 0
 HasOneOwner place first s = EachMoment (OneOwner (cast_naming (scene_of s.setting.cast) place)
     s.setting.history first) s.journal
