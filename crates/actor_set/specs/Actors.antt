@@ -21,9 +21,9 @@ use Rattle.pipe_driver.specs.Drivers.{FitsPipes, PipesStandFor, PipesRow, PipesB
 use Rattle.pipe_driver.specs.Drivers.{pipes_round, pipes_hand, pipe_forgotten}
 use Rattle.pipe_driver.specs.Lengths.{two_pipes}
 use Rattle.eth_driver.specs.Four.{four_pipes}
-use Rattle.device_model.specs.EthDevices.Devices.{FitsDevice, DeviceStandsFor, DeviceRow}
-use Rattle.device_model.specs.EthDevices.Devices.{DeviceBalances, DeviceEnd, device_round}
-use Rattle.device_model.specs.EthDevices.Devices.{device_hand, device_forgotten}
+use Rattle.device_model.specs.Ethernet.Devices.{FitsDevice, DeviceStandsFor, DeviceRow}
+use Rattle.device_model.specs.Ethernet.Devices.{DeviceBalances, DeviceEnd, device_round}
+use Rattle.device_model.specs.Ethernet.Devices.{device_hand, device_forgotten}
 use Rattle.net_virt_rx.specs.Receiving.{FitsRx as FitsNetRx, RxStandsFor as NetRxStandsFor}
 use Rattle.net_virt_rx.specs.Receiving.{RxRow as NetRxRow, RxBalances as NetRxBalances}
 use Rattle.net_virt_rx.specs.Receiving.{RxEnd as NetRxEnd, RxForgot as NetRxForgot}
@@ -39,25 +39,25 @@ use Rattle.net_virt_tx.specs.declared.NetVirtTx.{NetVirtTx}
 use Rattle.buffer_kit.specs.Virtualising.{from_queues, to_queues}
 use Rattle.net_copier.specs.Copying.{FitsCopier, CopierStandsFor, CopierRow, CopierBalances}
 use Rattle.net_copier.specs.Copying.{CopierEnd, copier_round, copier_hand, copier_forgotten}
-use Rattle.client_programs.specs.NetClients.Clients.{FitsClient, ClientStandsFor, ClientRow}
-use Rattle.client_programs.specs.NetClients.Clients.{ClientBalances, ClientEnd, client_round}
-use Rattle.client_programs.specs.NetClients.Clients.{client_hand, client_forgotten}
-use Rattle.net_law.specs.NetParts.Playing.{HasBuffers, device_part, driver_part, receiver_part}
-use Rattle.net_law.specs.NetParts.Playing.{copier_part, client_part}
-use Rattle.net_law.specs.NetTxParts.Playing.{send_part}
-use Rattle.device_model.specs.DiskDevices.Disks.{FitsDisk, DiskStandsFor, DiskRow, DiskBalances}
-use Rattle.device_model.specs.DiskDevices.Disks.{DiskEnd, disk_round, disk_hand, disk_forgotten}
-use Rattle.client_programs.specs.BlkClients.Asking.{IsAsking}
-use Rattle.client_programs.specs.BlkClients.Clients.{FitsBlkClient, BlkClientStandsFor}
-use Rattle.client_programs.specs.BlkClients.Clients.{BlkClientRow, BlkClientBalances, BlkClientEnd}
-use Rattle.client_programs.specs.BlkClients.Clients.{blk_client_round, blk_client_hand}
-use Rattle.client_programs.specs.BlkClients.Clients.{blk_client_forgotten}
+use Rattle.client_programs.specs.Net.Clients.{FitsClient, ClientStandsFor, ClientRow}
+use Rattle.client_programs.specs.Net.Clients.{ClientBalances, ClientEnd, client_round}
+use Rattle.client_programs.specs.Net.Clients.{client_hand, client_forgotten}
+use Rattle.net_law.specs.Parts.Playing.{HasBuffers, device_part, driver_part, receiver_part}
+use Rattle.net_law.specs.Parts.Playing.{copier_part, client_part}
+use Rattle.net_law.specs.TxParts.Playing.{send_part}
+use Rattle.device_model.specs.Disk.Disks.{FitsDisk, DiskStandsFor, DiskRow, DiskBalances}
+use Rattle.device_model.specs.Disk.Disks.{DiskEnd, disk_round, disk_hand, disk_forgotten}
+use Rattle.client_programs.specs.Blk.Asking.{IsAsking}
+use Rattle.client_programs.specs.Blk.Clients.{FitsBlkClient, BlkClientStandsFor}
+use Rattle.client_programs.specs.Blk.Clients.{BlkClientRow, BlkClientBalances, BlkClientEnd}
+use Rattle.client_programs.specs.Blk.Clients.{blk_client_round, blk_client_hand}
+use Rattle.client_programs.specs.Blk.Clients.{blk_client_forgotten}
 use Rattle.blk_virt.specs.Desks.{holders, bad_count as blk_bad_count}
 use Rattle.blk_virt.specs.Works.{work_cargo}
 use Rattle.blk_virt.specs.Virtualising.{FitsBlkVirt, BlkVirtStandsFor, BlkVirtRow, BlkVirtBalances}
 use Rattle.blk_virt.specs.Virtualising.{BlkVirtEnd, BlkVirtForgot, blk_virt_round}
 use Rattle.blk_virt.specs.declared.virtualiser.BlkVirt.{BlkVirt}
-use Rattle.blk_law.specs.BlkParts.Playing.{disk_part, blk_driver_part, virt_part, blk_client_part}
+use Rattle.blk_law.specs.Sheets.Playing.{disk_part, blk_driver_part, virt_part, blk_client_part}
 use Rattle.actor_set.specs.Parts.{Part, UartPart, DriverPart, RxPart, TxPart, ClientPart}
 use Rattle.actor_set.specs.Parts.{NetworkPart, SendingPart, BlockPart}
 use Rattle.actor_set.specs.declared.actor.Actor.{Actor}

@@ -12,7 +12,7 @@ use Rattle.wire_core.specs.Deeds.{Cargo}
 use Rattle.blk_kit.specs.Blocks.{blocks_at}
 use Rattle.blk_mbr.specs.declared.part.Part.{Part}
 use Rattle.blk_mbr.specs.Partitions.{part_of}
-use Rattle.device_model.specs.DiskDevices.Serving.{answer_to, answers_to, done}
+use Rattle.device_model.specs.Disk.Serving.{answer_to, answers_to, done}
 
 -- of a disk's answers to the entries that it takes, those to the entries that pass a test
 abbrev pub answers_for : (Cargo → Bool) → List ℕ → List Cargo → List Cargo

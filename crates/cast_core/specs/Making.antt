@@ -8,7 +8,7 @@ use Rattle.cargo_core.specs.Ranges.{IsApart}
 use Rattle.wire_core.specs.declared.names.PoolRow.{PoolRow}
 use Rattle.sdf_plan.specs.declared.plan.Plan.{Plan}
 use Rattle.trace_text.specs.declared.trace.Trace.{Trace}
-use Rattle.net_law.specs.NetParts.Numbers.{client_first}
+use Rattle.net_law.specs.Parts.Numbers.{client_first}
 use Rattle.net_virt_rx.specs.declared.LeaseEnds.{LeaseEnds}
 use Rattle.net_virt_tx.specs.declared.TxEnds.{TxEnds}
 use Rattle.blk_virt.specs.declared.virtualiser.BlkEnds.{BlkEnds}

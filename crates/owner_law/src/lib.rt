@@ -22,8 +22,8 @@ ghost use Rattle.owner_law.specs.Shown.{HaveOnePlace};
 ghost use Rattle.owner_law.specs.Pages.{as_page, CarryPages};
 ghost use Rattle.owner_law.specs.Census.{census, IsPool, buffers_among, buffers_at_start};
 
-pub mod count_law;
-pub mod pool_law;
+pub mod counts;
+pub mod pools;
 
 /// The replay of a journal is that of its beginning and then of its rest.
 pub fn replay_law()

@@ -14,7 +14,7 @@ use Rattle.order_law.specs.ActorParts.Parting.{Apart, AreApart}
 use Rattle.order_law.specs.ActorParts.Opened.{HaveNothing}
 use Rattle.order_law.specs.ActorParts.Going.{HasGone}
 use Rattle.order_law.specs.ActorParts.Finished.{OwnEnd}
-use Rattle.order_law.specs.EndedLaw.Tracks.{TellsEnds}
+use Rattle.order_law.specs.Ended.Tracks.{TellsEnds}
 use Rattle.system_core.specs.Shows.{Setting, Shown, sheet_in, moved_in}
 use Rattle.system_core.specs.Lawful.{IsFitted}
 use Rattle.system_core.specs.Builds.{BeginsAnew}

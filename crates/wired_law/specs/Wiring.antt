@@ -11,21 +11,21 @@ use Rattle.wire_core.specs.Ends.{Role, End}
 use Rattle.wire_core.specs.Lists.{Passed}
 use Rattle.net_law.specs.Receiving.{HandsOver}
 use Rattle.net_expect.specs.Expecting.{Program, Source}
-use Rattle.net_law.specs.NetOwners.Names.{PoolAt, ClientPools}
-use Rattle.net_law.specs.NetParts.Parts.{NetPart, NetClient}
-use Rattle.net_law.specs.NetParts.Numbers.{device_at, driver_at, receiver_at, copier_at, client_at}
-use Rattle.net_law.specs.NetTxParts.Parts.{SendPart}
-use Rattle.net_law.specs.NetTxParts.Numbers.{NetPlace, own_pools, sender_at}
-use Rattle.net_quiet.specs.NetTxCast.Casting.{AreFrames, AreSends, IsClientOf}
-use Rattle.blk_law.specs.BlkParts.Parts.{BlkPart, BlkClient}
-use Rattle.blk_law.specs.BlkParts.Numbers.{BlkPlace, IsBlkClientOf, disk_at, blk_driver_at, virt_at}
-use Rattle.blk_law.specs.BlkParts.Numbers.{blk_client_at}
-use Rattle.blk_quiet.specs.BlkCast.Casting.{AreRequests}
+use Rattle.net_law.specs.Owners.Names.{PoolAt, ClientPools}
+use Rattle.net_law.specs.Parts.Parts.{NetPart, NetClient}
+use Rattle.net_law.specs.Parts.Numbers.{device_at, driver_at, receiver_at, copier_at, client_at}
+use Rattle.net_law.specs.TxParts.Parts.{SendPart}
+use Rattle.net_law.specs.TxParts.Numbers.{NetPlace, own_pools, sender_at}
+use Rattle.net_quiet.specs.TxCast.Casting.{AreFrames, AreSends, IsClientOf}
+use Rattle.blk_law.specs.Sheets.Parts.{BlkPart, BlkClient}
+use Rattle.blk_law.specs.Sheets.Numbers.{BlkPlace, IsBlkClientOf, disk_at, blk_driver_at, virt_at}
+use Rattle.blk_law.specs.Sheets.Numbers.{blk_client_at}
+use Rattle.blk_quiet.specs.Cast.Casting.{AreRequests}
 use Rattle.blk_law.specs.Replying.{AreSized}
 use Rattle.actor_set.specs.Parts.{Part, NetworkPart, SendingPart, BlockPart}
 use Rattle.actor_set.specs.Actors.{FitsActor, ActorStandsFor}
 use Rattle.actor_set.specs.declared.actor.Actor.{Actor}
-use Rattle.actor_set.specs.ActorLaw.Kinds.{scene_of}
+use Rattle.actor_set.specs.Laws.Kinds.{scene_of}
 
 -- some actor of a cast plays this part
 abbrev pub HasPart : List Part → Part → Type 0

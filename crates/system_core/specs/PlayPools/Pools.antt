@@ -7,9 +7,9 @@ use Rattle.owner_law.specs.Keeping.{start_table}
 use Rattle.cast_law.specs.PoolLines.PoolLines.{table_lines}
 use Rattle.sdf_plan.specs.declared.plan.Plan.{Plan}
 use Rattle.region_layout.specs.Rows.{pools_of}
-use Rattle.actor_set.specs.ActorLaw.Kinds.{scene_of}
-use Rattle.cast_law.specs.CastPools.Places.{PoolPlace, cast_naming}
-use Rattle.cast_law.specs.CastPools.Pooling.{keepers_at, BeginsWith, HasOwners}
+use Rattle.actor_set.specs.Laws.Kinds.{scene_of}
+use Rattle.cast_law.specs.Pools.Places.{PoolPlace, cast_naming}
+use Rattle.cast_law.specs.Pools.Pooling.{keepers_at, BeginsWith, HasOwners}
 use Rattle.system_core.specs.Shows.{Shown}
 
 -- a table of owners with which a system begins whose classes with pools stand at this place: what
