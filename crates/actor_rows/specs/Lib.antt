@@ -1,6 +1,6 @@
 -- What the helpers of these tests say.
 pub mod Hands
 pub mod Standings
-pub mod SeatRows
-pub mod NetTxRows
-pub mod OwnerRows
+pub mod Seats
+pub mod NetTx
+pub mod Owners

@@ -1,12 +1,12 @@
 //! Queues whose other ends are worked by hand, for tests of one actor at a time.
 #![tactic(auto)]
 
-pub mod blk_rows;
+pub mod blk;
 mod hand;
-pub mod net_tx_rows;
-pub mod owner_rows;
+pub mod net_tx;
+pub mod owners;
 mod rows;
-pub mod seat_rows;
+pub mod seats;
 #[cfg(test)]
 mod tests;
 

@@ -2,5 +2,5 @@
 pub mod Parts
 pub mod Actors
 pub mod StartStates
-pub mod ActorLaw
-pub mod AdoptLaw
+pub mod Laws
+pub mod Adopting

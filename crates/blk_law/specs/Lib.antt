@@ -1,7 +1,7 @@
 -- What the laws of the block class say.
 pub mod Runs
 pub mod Replying
-pub mod BlkRecordLaw
-pub mod BlkParts
-pub mod BlkHops
-pub mod BlkOwners
+pub mod Records
+pub mod Sheets
+pub mod Hops
+pub mod Owners

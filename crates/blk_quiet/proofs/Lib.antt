@@ -1,4 +1,4 @@
 pub mod Counting
 pub mod Answering
-pub mod BlkCast
-pub mod BlkPools
+pub mod Cast
+pub mod Pools

@@ -1,4 +1,4 @@
 -- The block class where nobody is runnable.
 pub mod Still
-pub mod BlkCast
-pub mod BlkPools
+pub mod Cast
+pub mod Pools

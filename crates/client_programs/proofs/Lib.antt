@@ -1,2 +1,2 @@
-pub mod NetClients
-pub mod BlkClients
+pub mod Net
+pub mod Blk

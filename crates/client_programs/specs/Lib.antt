@@ -1,3 +1,3 @@
 -- What the contracts of this crate say, by its modules.
-pub mod NetClients
-pub mod BlkClients
+pub mod Net
+pub mod Blk

@@ -1,3 +1,3 @@
-pub mod EthDevices
-pub mod DiskDevices
+pub mod Ethernet
+pub mod Disk
 pub mod SerialTerminal

@@ -1,4 +1,4 @@
 -- What the contracts of this crate say, by its modules.
-pub mod EthDevices
-pub mod DiskDevices
+pub mod Ethernet
+pub mod Disk
 pub mod SerialTerminal

@@ -1,7 +1,7 @@
 -- The whole network where nobody is runnable.
 pub mod Still
-pub mod NetCast
-pub mod NetTxTurns
-pub mod NetTxCast
-pub mod NetPools
-pub mod NetTxOwners
+pub mod Cast
+pub mod TxTurns
+pub mod TxCast
+pub mod Pools
+pub mod TxOwners

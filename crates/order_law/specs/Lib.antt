@@ -2,4 +2,4 @@
 pub mod Tales
 pub mod Orders
 pub mod ActorParts
-pub mod EndedLaw
+pub mod Ended

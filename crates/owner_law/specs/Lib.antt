@@ -11,5 +11,5 @@ pub mod Keeping
 pub mod Shown
 pub mod Census
 pub mod Pages
-pub mod CountLaw
-pub mod PoolLaw
+pub mod Counts
+pub mod Pools

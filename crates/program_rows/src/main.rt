@@ -7,7 +7,7 @@
 #![tactic(auto)]
 
 mod arrivals;
-mod sddf_tests;
+mod tests;
 
 use arrivals::Arrivals;
 use sddf_top::{FileShelf, MemSink, Played, serve};
@@ -67,8 +67,8 @@ fn add_line(
     Ok(())
 }
 
-// Writes the lines of an answer. Of a journal behind a quiet report only the actor of the first step
-// is written.
+// Writes the lines of an answer. Of a journal behind a quiet report only the actor of the first
+// step is written.
 fn add_lines(to: &mut String, text: &str, is_run: bool) -> io::Result<()> {
     let is_quiet = text.starts_with("quiet\n");
     let is_spent = text.starts_with("spent\n");

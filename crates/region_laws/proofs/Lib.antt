@@ -1,2 +1,2 @@
-pub mod AccessLaws
-pub mod BudgetLaws
+pub mod Access
+pub mod Budgets

@@ -1,3 +1,3 @@
 -- What the contracts of this crate say, by its modules.
-pub mod AccessLaws
-pub mod BudgetLaws
+pub mod Access
+pub mod Budgets

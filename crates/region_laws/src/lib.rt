@@ -3,5 +3,5 @@
 //! step budget's formulas say what the tables of the layout say.
 #![tactic(auto)]
 
-pub mod access_laws;
-pub mod budget_laws;
+pub mod access;
+pub mod budgets;

@@ -7,5 +7,5 @@ pub mod Parts
 pub mod Bytes
 pub mod Table
 pub mod Serial
-pub mod SerialHops
-pub mod SerialPools
+pub mod Hops
+pub mod Pools
