@@ -3,5 +3,5 @@ pub mod Started
 pub mod Fitting
 pub mod Driving
 pub mod Merging
-pub mod Seats
+pub mod SeatsLemmas
 pub mod NetTx

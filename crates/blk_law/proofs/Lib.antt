@@ -3,8 +3,8 @@ pub mod Own
 pub mod Recording
 pub mod Scripts
 pub mod Parts
-pub mod Records
-pub mod Sheets
-pub mod Hops
-pub mod Rests
-pub mod Owners
+pub mod RecordsLemmas
+pub mod SheetsLemmas
+pub mod HopsLemmas
+pub mod RestsLemmas
+pub mod OwnersLemmas

@@ -1,4 +1,4 @@
 pub mod Counting
 pub mod Answering
-pub mod Cast
-pub mod Pools
+pub mod CastLemmas
+pub mod PoolsLemmas

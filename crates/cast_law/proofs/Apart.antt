@@ -33,7 +33,7 @@ use Rattle.actor_set.specs.Actors.{IsWhole, part_of}
 use Rattle.actor_set.specs.StartStates.{HasApartEnds, HasApartQueues}
 use Rattle.actor_set.specs.declared.actor.Actor.{Actor}
 use Rattle.actor_set.specs.declared.actor.Actor.TheVariants as Kinds
-use Rattle.actor_set.proofs.Laws.PartEnds.{number_there}
+use Rattle.actor_set.proofs.LawsLemmas.PartEnds.{number_there}
 use Rattle.layout_laws.specs.Jobs.Jobs.{Job, EthDevice, EthDriver, NetReceiver, NetSender, NetCopier, NetClient, UartDevice, UartDriver, SerialReceiver, SerialSender, SerialClient, DiskDevice, DiskDriver, BlkVirtualiser, BlkClient}
 use Rattle.cast_core.specs.Casts.{net_place, blk_place, job_part}
 use Rattle.cast_core.specs.Sources.{first_serial, first_blk}

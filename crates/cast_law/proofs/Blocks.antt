@@ -47,10 +47,10 @@ use Rattle.cast_core.specs.Sources.{pool_at, first_blk_pool}
 use Rattle.cast_core.proofs.Listing.{value_count, value_at, value_is}
 use Rattle.layout_laws.specs.Seats.Ends.{HasBlk, IsOf}
 use Rattle.layout_laws.specs.Seats.Named.{AreBlkNamed}
-use Rattle.layout_laws.proofs.Seats.Having.{job_is_of}
-use Rattle.layout_laws.proofs.Seats.Counts.{each_count}
-use Rattle.layout_laws.proofs.Seats.Naming.{blk_named}
-use Rattle.layout_laws.proofs.Seats.Seats.{has_seat}
+use Rattle.layout_laws.proofs.SeatsLemmas.Having.{job_is_of}
+use Rattle.layout_laws.proofs.SeatsLemmas.Counts.{each_count}
+use Rattle.layout_laws.proofs.SeatsLemmas.Naming.{blk_named}
+use Rattle.layout_laws.proofs.SeatsLemmas.Seats.{has_seat}
 use Rattle.wired_law.specs.Wiring.{HasPart, IsOfBlock, HasBlk as HasBlock, HasNoBlock}
 use Rattle.cast_law.proofs.Numbers.{askers_counted}
 use Rattle.cast_law.proofs.Wired.{part_at, job_of, image_there}

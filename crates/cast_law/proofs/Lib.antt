@@ -6,9 +6,9 @@ pub mod Wired
 pub mod Pooled
 pub mod Blocks
 pub mod Joined
-pub mod Quiet
-pub mod Pools
+pub mod QuietLemmas
+pub mod PoolsLemmas
 pub mod PastOwners
 pub mod PoolLines
-pub mod Runs
-pub mod Gone
+pub mod RunsLemmas
+pub mod GoneLemmas

@@ -13,8 +13,8 @@ use Rattle.actor_set.specs.Actors.{ActorEnd, IsWhole, part_of}
 use Rattle.actor_set.specs.StartStates.{kind_at}
 use Rattle.actor_set.specs.declared.actor.Actor.{Actor}
 use Rattle.actor_set.specs.Laws.Kinds.{part_kind, sheet}
-use Rattle.actor_set.proofs.Laws.Seating.{kind_is as kind_of_actor}
-use Rattle.actor_set.proofs.Laws.PartEnds.{to_part, from_part, end_seat, seat_end}
+use Rattle.actor_set.proofs.LawsLemmas.Seating.{kind_is as kind_of_actor}
+use Rattle.actor_set.proofs.LawsLemmas.PartEnds.{to_part, from_part, end_seat, seat_end}
 use Rattle.layout_laws.specs.Jobs.Jobs.{Job, EthDevice, EthDriver, NetReceiver, NetSender, NetCopier, NetClient, UartDevice, UartDriver, SerialReceiver, SerialSender, SerialClient, DiskDevice, DiskDriver, BlkVirtualiser, BlkClient}
 use Rattle.cast_core.specs.Casts.{client_pools, net_place, client_pool, blk_place, job_part}
 use Rattle.expect_core.specs.Expected.{client_entry}

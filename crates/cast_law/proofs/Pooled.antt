@@ -21,8 +21,8 @@ use Rattle.blk_law.specs.Sheets.Parts.{Sharer}
 use Rattle.blk_law.specs.Sheets.Numbers.{BlkPlace, sharers_from}
 use Rattle.blk_law.specs.Owners.Answering.{block_range}
 use Rattle.blk_quiet.specs.Pools.Naming.{HasApartPools}
-use Rattle.blk_quiet.proofs.Pools.Naming.{sharer_from}
-use Rattle.layout_laws.proofs.Seats.Counts.{each_count}
+use Rattle.blk_quiet.proofs.PoolsLemmas.Naming.{sharer_from}
+use Rattle.layout_laws.proofs.SeatsLemmas.Counts.{each_count}
 use Rattle.actor_set.specs.Actors.{part_of}
 use Rattle.actor_set.specs.declared.actor.Actor.{Actor}
 use Rattle.cast_core.specs.Casts.{client_pools, client_pool, net_place, blk_place, AreCast}

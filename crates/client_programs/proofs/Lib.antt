@@ -1,2 +1,2 @@
-pub mod Net
-pub mod Blk
+pub mod NetLemmas
+pub mod BlkLemmas

@@ -1,3 +1,3 @@
-pub mod Ethernet
-pub mod Disk
+pub mod EthernetLemmas
+pub mod DiskLemmas
 pub mod SerialTerminal

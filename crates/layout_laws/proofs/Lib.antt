@@ -10,5 +10,5 @@ pub mod Spreads
 pub mod Owners
 pub mod Rooms
 pub mod Tables
-pub mod Jobs
-pub mod Seats
+pub mod JobsLemmas
+pub mod SeatsLemmas

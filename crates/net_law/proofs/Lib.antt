@@ -2,11 +2,11 @@ pub mod Beginnings
 pub mod Filled
 pub mod Arriving
 pub mod Answering
-pub mod Wire
-pub mod Owners
+pub mod WireLemmas
+pub mod OwnersLemmas
 pub mod RxOwners
-pub mod Parts
+pub mod PartsLemmas
 pub mod TxParts
-pub mod Rests
+pub mod RestsLemmas
 pub mod TxRests
-pub mod Hops
+pub mod HopsLemmas

@@ -18,8 +18,8 @@ use Rattle.net_law.specs.Owners.Lending.{names_where, leases_due, leases_back}
 use Rattle.net_law.specs.Parts.Parts.{Lessee}
 use Rattle.net_law.specs.Parts.Rows.{IsIn, AreIn, frame_at, lease_item, leases_from, borrower_of, lender_of, is_lent}
 use Rattle.net_law.specs.Parts.Table.{home_count, some_owed, leases_of, is_short}
-use Rattle.net_law.proofs.Parts.Counting.{numbered, buffer_is, count_in, below_few, below_more, below_rest}
-use Rattle.net_law.proofs.Parts.Leasing.{prefix_get}
+use Rattle.net_law.proofs.PartsLemmas.Counting.{numbered, buffer_is, count_in, below_few, below_more, below_rest}
+use Rattle.net_law.proofs.PartsLemmas.Leasing.{prefix_get}
 
 -- a lease begins where its buffer does
 abbrev lease_in : (pool : PoolAt) (frame : List ℕ) (x : Item) → IsIn (by_address pool) x → IsIn (by_offset pool) (lease_item pool.base frame x)

@@ -3,8 +3,8 @@ pub mod Leases
 pub mod Sending
 pub mod Receiving
 pub mod Wholes
-pub mod Cast
+pub mod CastLemmas
 pub mod TxTurns
 pub mod TxCast
-pub mod Pools
+pub mod PoolsLemmas
 pub mod TxOwners

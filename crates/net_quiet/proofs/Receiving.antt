@@ -26,7 +26,7 @@ use Rattle.net_law.specs.Parts.Numbers.{client_first, device_at, driver_at, rece
 use Rattle.net_law.specs.Parts.Rows.{FillsFrames, CopiesLeases, SharesFrames, AllCopy, leases_from, lender_of, sent_where, is_answering}
 use Rattle.buffer_kit.specs.Entries.{len_of}
 use Rattle.net_law.specs.Parts.Table.{net_sheet, is_short, is_busy, some_owed, leases_of, frees_due, home_count}
-use Rattle.net_law.proofs.Parts.Pairs.{twice, pair_first, pair_second}
+use Rattle.net_law.proofs.PartsLemmas.Pairs.{twice, pair_first, pair_second}
 use Rattle.net_law.specs.TxParts.Parts.{Shipper}
 use Rattle.net_law.specs.TxParts.Numbers.{NetPlace, own_pools, shippers_from}
 use Rattle.net_law.specs.TxParts.Rows.{all_sends, at_device}

@@ -28,8 +28,8 @@ use Rattle.net_law.specs.Parts.Parts.{Way}
 use Rattle.net_law.specs.Parts.Numbers.{client_first, device_at, driver_at, client_at}
 use Rattle.net_law.specs.Parts.Rows.{AllCopy, FillsFrames, ServesClient, given_item, given_items, sent_where}
 use Rattle.net_law.specs.Parts.Table.{net_sheet, is_short, client_items}
-use Rattle.net_law.proofs.Parts.Pairs.{twice, pair_first, pair_second}
-use Rattle.net_law.proofs.Parts.Plain.{numbers_length}
+use Rattle.net_law.proofs.PartsLemmas.Pairs.{twice, pair_first, pair_second}
+use Rattle.net_law.proofs.PartsLemmas.Plain.{numbers_length}
 use Rattle.net_law.specs.TxParts.Parts.{Shipper}
 use Rattle.net_law.specs.TxParts.Numbers.{NetPlace, own_pools, sender_at, shippers_from}
 use Rattle.net_law.specs.TxParts.Rows.{MergesSends, IsOffset, all_sends, sends_due, at_device, at_home, in_range}

@@ -23,7 +23,7 @@ use Rattle.net_law.specs.Owners.Names.{ClientPools}
 use Rattle.net_law.specs.Parts.Numbers.{client_first}
 use Rattle.net_law.specs.TxParts.Numbers.{NetPlace}
 use Rattle.net_quiet.specs.Cast.Casting.{IsClientAt}
-use Rattle.net_quiet.proofs.Cast.Casting.{cast_records}
+use Rattle.net_quiet.proofs.CastLemmas.Casting.{cast_records}
 use Rattle.net_quiet.specs.TxCast.Casting.{AllSend, IsClientOf, IsSendingClient, IsWholeCast, sends_at}
 use Rattle.net_quiet.proofs.TxCast.Numbers.{client_queues, device_sends}
 use Rattle.net_quiet.proofs.TxCast.Wholes.{wire_is}

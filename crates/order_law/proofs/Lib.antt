@@ -4,4 +4,4 @@ pub mod Moving
 pub mod Ranking
 pub mod Ordering
 pub mod ActorParts
-pub mod Ended
+pub mod EndedLemmas

@@ -12,5 +12,5 @@ pub mod Casts
 pub mod Showing
 pub mod Adopted
 pub mod Carrying
-pub mod Counts
-pub mod Pools
+pub mod CountsLemmas
+pub mod PoolsLemmas

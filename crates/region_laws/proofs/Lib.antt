@@ -1,2 +1,2 @@
-pub mod Access
-pub mod Budgets
+pub mod AccessLemmas
+pub mod BudgetsLemmas

@@ -4,5 +4,5 @@ pub mod Own
 pub mod InputBegins
 pub mod Arrivals
 pub mod Wholes
-pub mod Hops
-pub mod Pools
+pub mod HopsLemmas
+pub mod PoolsLemmas

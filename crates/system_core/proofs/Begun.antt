@@ -25,7 +25,7 @@ use Rattle.system_core.specs.Crews.{number_named}
 use Rattle.system_core.specs.Builds.{serial_class}
 use Rattle.system_core.proofs.Casting.{HasSerial}
 use Rattle.system_core.specs.PlanPlays.{ShowsInPart, ShowsWhole}
-use Rattle.actor_set.proofs.Laws.Calm.{calm_row}
+use Rattle.actor_set.proofs.LawsLemmas.Calm.{calm_row}
 use Rattle.cast_core.proofs.Seconds.{second_get, second_there, second_length}
 
 -- an actor of the serial class is one of a cast

@@ -10,7 +10,7 @@ use Rattle.layout_laws.specs.Jobs.Jobs as jobs
 use Rattle.actor_set.specs.Parts.{RxPart, TxPart, ClientPart}
 use Rattle.actor_set.specs.Laws.Kinds.{serial_part}
 use Rattle.cast_core.specs.Sources.{every_second, first_serial}
-use Rattle.layout_laws.proofs.Seats.Naming.{serial_named}
+use Rattle.layout_laws.proofs.SeatsLemmas.Naming.{serial_named}
 use Rattle.system_core.specs.Shows.{Crew, Setting}
 use Rattle.system_core.specs.States.{crew_of, nobody}
 use Rattle.system_core.specs.Crews.{number_named}

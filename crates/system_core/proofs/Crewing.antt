@@ -19,9 +19,9 @@ use Rattle.region_layout.proofs.ValidLemmas.{net_counts, serial_counts, blk_coun
 use Rattle.layout_laws.specs.Seats.Ends.{job_ends}
 use Rattle.cast_core.specs.Known.{HasRows}
 use Rattle.cast_core.proofs.Tables.{has_rows}
-use Rattle.layout_laws.proofs.Seats.Seats.{has_seat}
+use Rattle.layout_laws.proofs.SeatsLemmas.Seats.{has_seat}
 use Rattle.cast_core.specs.Sources.{first_serial, first_blk}
-use Rattle.layout_laws.proofs.Seats.Naming.{net_named, serial_named, blk_named}
+use Rattle.layout_laws.proofs.SeatsLemmas.Naming.{net_named, serial_named, blk_named}
 use Rattle.system_core.specs.States.{crew_of, nobody}
 use Rattle.system_core.specs.Crews.{number_named, net_crew, serial_crew, blk_crew, IsTaker, AreTakers}
 

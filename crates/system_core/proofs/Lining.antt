@@ -14,8 +14,8 @@ use Rattle.wired_law.specs.Wiring.{HasNoNetwork, HasNoBlock}
 use Rattle.cast_law.specs.Pools.Holders.{holders_of}
 use Rattle.cast_law.specs.Pools.Places.{PoolPlace, IsPlaced, HasPools, ArePooled, cast_naming}
 use Rattle.cast_law.specs.Pools.Pooling.{keepers_at, AddUp, AreAtPlay, BeginsWith, AreKindly}
-use Rattle.cast_law.proofs.Pools.Goodness.{none_bad}
-use Rattle.cast_law.proofs.Pools.Playing.{bare, begins_anew, play_kinds, play_lines, play_whole, pools_few}
+use Rattle.cast_law.proofs.PoolsLemmas.Goodness.{none_bad}
+use Rattle.cast_law.proofs.PoolsLemmas.Playing.{bare, begins_anew, play_kinds, play_lines, play_whole, pools_few}
 use Rattle.system_core.specs.Shows.{hostile_in}
 use Rattle.system_core.specs.States.{bad_in}
 use Rattle.system_core.specs.Inside.{setting_of, IsSystem}

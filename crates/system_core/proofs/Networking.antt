@@ -27,7 +27,7 @@ use Rattle.cast_core.specs.Casts.{net_place, client_pools}
 use Rattle.cast_core.specs.Sources.{client_mac, client_program}
 use Rattle.cast_core.proofs.Listing.{value_count, value_at, value_is}
 use Rattle.layout_laws.specs.Seats.Named.{AreNetNamed}
-use Rattle.layout_laws.proofs.Seats.Naming.{net_named}
+use Rattle.layout_laws.proofs.SeatsLemmas.Naming.{net_named}
 use Rattle.system_core.specs.Shows.{Crew, Shown, moved_in}
 use Rattle.system_core.specs.States.{crew_of, nobody}
 use Rattle.system_core.specs.Lawful.{IsTold, TellsFrames}

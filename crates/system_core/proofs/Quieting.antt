@@ -20,11 +20,11 @@ use Rattle.blk_quiet.specs.Still.{HasBlkRooms, IsBlock, AnswersAll}
 use Rattle.blk_quiet.proofs.Answering.{answers_all}
 use Rattle.actor_set.specs.Laws.Kinds.{scene_of}
 use Rattle.wired_law.specs.Wiring.{HasWhole, HasBlk}
-use Rattle.wired_law.proofs.Quiet.Quieting.{network_there}
-use Rattle.wired_law.proofs.Quiet.Answering.{block_there}
+use Rattle.wired_law.proofs.QuietLemmas.Quieting.{network_there}
+use Rattle.wired_law.proofs.QuietLemmas.Answering.{block_there}
 use Rattle.cast_core.specs.Casts.{net_place, blk_place}
-use Rattle.cast_law.proofs.Quiet.Rooms.{pools_are, rooms_are}
-use Rattle.cast_law.proofs.Quiet.Blocks.{blk_pools_are, blk_rooms_are}
+use Rattle.cast_law.proofs.QuietLemmas.Rooms.{pools_are, rooms_are}
+use Rattle.cast_law.proofs.QuietLemmas.Blocks.{blk_pools_are, blk_rooms_are}
 use Rattle.system_core.specs.Shows.{Shown, manner_in, hostile_in, sheet_in, moved_in, RowsStand}
 use Rattle.system_core.specs.Plays.{runnable_now}
 use Rattle.system_core.specs.Lawful.{StandsLawful}

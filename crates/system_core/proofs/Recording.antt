@@ -23,8 +23,8 @@ use Rattle.actor_set.specs.Actors.{part_of}
 use Rattle.actor_set.specs.declared.actor.Actor.{Actor}
 use Rattle.actor_set.specs.Laws.Kinds.{scene_of}
 use Rattle.actor_set.specs.Laws.Records.{frames_got, frames_by, replies_got, replies_by}
-use Rattle.actor_set.proofs.Laws.Rows.{frames_here, replies_here}
-use Rattle.client_programs.proofs.Blk.Asks.{replies_long}
+use Rattle.actor_set.proofs.LawsLemmas.Rows.{frames_here, replies_here}
+use Rattle.client_programs.proofs.BlkLemmas.Asks.{replies_long}
 use Rattle.wired_law.specs.Wiring.{HasWhole, HasBlk, AreAtWork}
 use Rattle.wired_law.proofs.Wiring.{recorded, sent_on}
 use Rattle.wired_law.proofs.BlkReplies.Casts.{replied}

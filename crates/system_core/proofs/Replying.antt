@@ -18,9 +18,9 @@ use Rattle.actor_set.specs.Parts.{BlockPart}
 use Rattle.cast_core.specs.Casts.{blk_place, client_pool}
 use Rattle.expect_core.specs.Expected.{client_asks, client_entry}
 use Rattle.cast_core.proofs.Listing.{value_count, value_is}
-use Rattle.wired_law.proofs.Quiet.Answering.{replies_whole}
+use Rattle.wired_law.proofs.QuietLemmas.Answering.{replies_whole}
 use Rattle.layout_laws.specs.Seats.Named.{AreBlkNamed}
-use Rattle.layout_laws.proofs.Seats.Naming.{blk_named}
+use Rattle.layout_laws.proofs.SeatsLemmas.Naming.{blk_named}
 use Rattle.system_core.specs.Shows.{Crew, Shown, moved_in}
 use Rattle.system_core.specs.States.{crew_of, nobody}
 use Rattle.system_core.specs.Lawful.{IsTold, TellsReplies}

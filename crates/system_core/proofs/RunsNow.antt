@@ -16,9 +16,9 @@ use Rattle.actor_set.specs.declared.actor.Actor.{Actor}
 use Rattle.actor_set.specs.Laws.Kinds.{sheet, scene_of, manner_of, idles}
 use Rattle.actor_set.specs.Laws.Turning.{InTurn}
 use Rattle.play_core.specs.Rests.Showing.{HaveItems, HaveBells}
-use Rattle.actor_set.proofs.Laws.Calm.{calm_part}
-use Rattle.actor_set.proofs.Laws.Rows.{actor_row}
-use Rattle.actor_set.proofs.Laws.Rests.{rests}
+use Rattle.actor_set.proofs.LawsLemmas.Calm.{calm_part}
+use Rattle.actor_set.proofs.LawsLemmas.Rows.{actor_row}
+use Rattle.actor_set.proofs.LawsLemmas.Rests.{rests}
 use Rattle.system_core.specs.Systems.{Holds}
 use Rattle.system_core.proofs.SystemStep.{no_row}
 

@@ -26,7 +26,7 @@ use Rattle.system_core.specs.declared.system.Ending.TheVariants as Ends
 use Rattle.system_core.specs.Lawful.{StandsLawful}
 use Rattle.system_core.specs.Builds.{IsBuilt, IsCastOf, BeginsAnew, serial_class}
 use Rattle.system_core.specs.PlanPlays.{IsPlayed, IsPlayedOn, HasEnded}
-use Rattle.actor_set.proofs.Laws.Calm.{calm_actor, sheet_is}
+use Rattle.actor_set.proofs.LawsLemmas.Calm.{calm_actor, sheet_is}
 use Rattle.system_core.proofs.Scripts.{scripts_length}
 use Rattle.cast_core.specs.Sources.{first_serial}
 use Rattle.system_core.proofs.Casting.{HasSerial, has_serial}

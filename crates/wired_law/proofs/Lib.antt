@@ -3,4 +3,4 @@ pub mod Deeds
 pub mod Blocks
 pub mod Wiring
 pub mod BlkReplies
-pub mod Quiet
+pub mod QuietLemmas

@@ -19,7 +19,7 @@ use Rattle.net_virt_tx.proofs.Rounds.{row_of as sender_row}
 use Rattle.net_virt_tx.specs.declared.NetVirtTx.{NetVirtTx}
 use Rattle.net_copier.specs.declared.NetCopier.{NetCopier}
 use Rattle.client_programs.specs.declared.net.NetClient.{NetClient}
-use Rattle.client_programs.proofs.Net.Standing.{row_of as client_row}
+use Rattle.client_programs.proofs.NetLemmas.Standing.{row_of as client_row}
 use Rattle.net_law.specs.Owners.Names.{PoolAt, ClientPools}
 use Rattle.net_law.specs.Parts.Parts.{NetClient as ClientPart}
 use Rattle.net_law.specs.Parts.Numbers.{device_at, driver_at, client_first, receiver_at, copier_at, client_at}
@@ -27,8 +27,8 @@ use Rattle.net_law.specs.Parts.Playing.{device_part, receiver_part, copier_part,
 use Rattle.net_law.specs.TxParts.Numbers.{NetPlace, own_pool, own_pools, sender_at}
 use Rattle.net_law.specs.TxParts.Playing.{send_part}
 use Rattle.net_quiet.specs.Cast.Casting.{IsCast, IsReceiverAt, IsCopierAt, IsClientAt}
-use Rattle.net_quiet.proofs.Cast.Numbers.{copier_queues}
-use Rattle.net_quiet.proofs.Cast.Casting.{cast_in_turn, cast_takes, cast_leases, cast_records}
+use Rattle.net_quiet.proofs.CastLemmas.Numbers.{copier_queues}
+use Rattle.net_quiet.proofs.CastLemmas.Casting.{cast_in_turn, cast_takes, cast_leases, cast_records}
 use Rattle.net_quiet.specs.TxCast.Casting.{AreSends, AllSend, IsClientOf, IsSenderAt, IsSendingClient, IsWholeCast, sends_at}
 use Rattle.net_quiet.proofs.TxCast.Wholes.{none_out, good_taken, back_is, client_puts, wire_is}
 use Rattle.blk_law.specs.Sheets.Numbers.{BlkPlace}
@@ -39,7 +39,7 @@ use Rattle.actor_set.specs.declared.actor.Actor.TheVariants as Kinds
 use Rattle.actor_set.specs.Laws.Kinds.{scene_of}
 use Rattle.actor_set.specs.Laws.Records.{frames_got}
 use Rattle.actor_set.specs.Laws.Turning.{InTurn, SendsInTurn}
-use Rattle.actor_set.proofs.Laws.NetRows.{device_row_of}
+use Rattle.actor_set.proofs.LawsLemmas.NetRows.{device_row_of}
 use Rattle.wired_law.specs.Wiring.{IsOfNetwork, HasWhole, HasNoNetwork, HasBlk, HasNoBlock, HasPart, IsWired, NetClientsSend, ClientsAsk, ClientsSend, AreAtWork}
 use Rattle.wired_law.proofs.Acting.{device_actor, driver_actor, receiver_actor, sender_actor, copier_actor, client_actor}
 use Rattle.wired_law.proofs.Deeds.{puts_or_takes}

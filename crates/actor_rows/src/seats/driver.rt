@@ -42,7 +42,7 @@ fn seats_of<'a>(
 
 /// A driver that moves ring 0 to ring 1 and ring 2 to ring 3, with its ends; None is the answer for
 /// want of memory.
-#[tactic(auto, using(crate::proofs::Seats::Fitting::fits_new_driver))]
+#[tactic(auto, using(crate::proofs::SeatsLemmas::Fitting::fits_new_driver))]
 pub fn seated_driver<'a>(
     alloc: Global,
     rings: &'a [Ring],

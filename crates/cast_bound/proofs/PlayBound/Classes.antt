@@ -23,7 +23,7 @@ use Rattle.serial_law.specs.Hops.Hops.{put_to, serial_put}
 use Rattle.net_law.specs.Hops.Hops.{net_put}
 use Rattle.cast_bound.specs.PlayBound.Standing.{StandsFrom, serial_first, serial_many, blk_first, NetMoves, without_net, with_net, SerialMoves, without_serial, with_serial, BlkMoves, without_blk, with_blk}
 use Rattle.cast_bound.proofs.PlayBound.Sums.{sum_pairs, put_sum}
-use Rattle.net_law.proofs.Hops.Sums.{sum_parts}
+use Rattle.net_law.proofs.HopsLemmas.Sums.{sum_parts}
 
 clients_rows : (plan : Plan) (serial : Serial) (n : ℕ) (clients : List SerialClient) → length (each_client (serial_client_queues plan serial) n clients) ≡ 2 * length clients
 unfolding serial_client_queues

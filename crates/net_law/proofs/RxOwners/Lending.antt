@@ -25,7 +25,7 @@ use Rattle.net_virt_rx.specs.Receiving.{queue_at, RxStandsFor}
 use Rattle.net_virt_rx.specs.declared.NetVirtRx.{NetVirtRx}
 use Rattle.net_law.specs.Owners.Ends.{AreItemsOf, passed_at, stock_window}
 use Rattle.net_law.specs.Owners.Lending.{Borrower, Lender, lender_ends, LenderNames, names_where, frames_taken, leases_due, leases_back}
-use Rattle.net_law.proofs.Owners.Lenders.{lender_out}
+use Rattle.net_law.proofs.OwnersLemmas.Lenders.{lender_out}
 use Rattle.net_law.specs.RxOwners.Virtualiser.{offset_window, borrowers, rx_lender, TakesFrames, lent_now}
 use Rattle.net_law.proofs.RxOwners.Virtualisers.{names_of, times_named, times_outside, leases_names, where_few}
 use Rattle.net_law.proofs.RxOwners.Serving.{Client, client_at, same_sums, ends_at}

@@ -26,7 +26,7 @@ use Rattle.net_virt_rx.specs.declared.NetVirtRx.{NetVirtRx}
 use Rattle.net_law.specs.Owners.Ends.{AreItemsOf, passed_at, stock_window}
 use Rattle.net_law.specs.Owners.Lending.{Borrower, Lender, lender_ends, names_where, frames_taken, LenderRow}
 use Rattle.net_law.specs.RxOwners.Virtualiser.{offset_window, rx_lender, AreNet, TakesFrames}
-use Rattle.net_law.proofs.Owners.Few.{named_begins}
+use Rattle.net_law.proofs.OwnersLemmas.Few.{named_begins}
 use Rattle.net_law.proofs.RxOwners.Virtualisers.{names_of, times_named, times_outside, leases_names, where_begins, where_few}
 use Rattle.net_law.proofs.RxOwners.Serving.{where_split, names_parts, Client, client_at, some_less, same_sums, ends_at, number_there}
 

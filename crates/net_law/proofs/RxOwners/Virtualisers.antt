@@ -23,7 +23,7 @@ use Rattle.net_virt_rx.specs.Sharing.{named, lease_of, leases_for, IsBuffer}
 use Rattle.net_law.specs.Owners.Ends.{stock_window}
 use Rattle.net_law.specs.Owners.Lending.{names_where}
 use Rattle.net_law.specs.RxOwners.Virtualiser.{offset_window, AreNet}
-use Rattle.net_law.proofs.Owners.Clients.{at_address}
+use Rattle.net_law.proofs.OwnersLemmas.Clients.{at_address}
 
 -- the names of entries
 abbrev pub names_of : Window → List Cargo → List (Option Buffer)

@@ -11,8 +11,8 @@ use Rattle.play_core.specs.Sheets.{Sheet, Due, CouldPut, IsOwn, NeedsFollow, Are
 use Rattle.play_core.proofs.Lists.{map_alike, map_from, some_is}
 use Rattle.play_core.proofs.Puts.{put_here, put_beside, copy_shorter}
 use Rattle.net_law.specs.Parts.Table.{is_short}
-use Rattle.net_law.proofs.Parts.Fits.{AllFit, intake_fits, outlet_fits, pairs_fit, sheet_follows}
-use Rattle.net_law.proofs.Parts.Pairs.{twice, twice_same, pair_first, pair_second, pair_seats, flat_alike, each_owed}
+use Rattle.net_law.proofs.PartsLemmas.Fits.{AllFit, intake_fits, outlet_fits, pairs_fit, sheet_follows}
+use Rattle.net_law.proofs.PartsLemmas.Pairs.{twice, twice_same, pair_first, pair_second, pair_seats, flat_alike, each_owed}
 use Rattle.net_law.specs.TxParts.Parts.{SendPart, Shipper}
 use Rattle.net_law.specs.TxParts.Rows.{all_sends, at_device, at_home, sends_due}
 use Rattle.net_law.specs.TxParts.Table.{send_sheet, shipper_wants}

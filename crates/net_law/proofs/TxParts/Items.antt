@@ -27,8 +27,8 @@ use Rattle.net_virt_tx.specs.Sending.{TxRow, all_good}
 use Rattle.net_law.specs.Owners.Names.{PoolAt}
 use Rattle.net_law.specs.Owners.Ends.{AreItemsOf}
 use Rattle.net_law.proofs.Beginnings.{begins_map}
-use Rattle.net_law.proofs.Parts.Items.{all_at}
-use Rattle.net_law.proofs.Parts.Pairs.{twice, pair_first, pair_second}
+use Rattle.net_law.proofs.PartsLemmas.Items.{all_at}
+use Rattle.net_law.proofs.PartsLemmas.Pairs.{twice, pair_first, pair_second}
 use Rattle.net_law.specs.TxParts.Parts.{Shipper}
 use Rattle.net_law.specs.TxParts.Rows.{IsOffset, all_sends, at_device, at_home, in_range}
 use Rattle.net_law.specs.TxParts.Table.{send_sheet}

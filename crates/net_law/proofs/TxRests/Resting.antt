@@ -27,8 +27,8 @@ use Rattle.net_law.specs.TxParts.Rows.{at_home, sends_due}
 use Rattle.net_law.specs.TxParts.Table.{send_sheet, shipper_wants}
 use Rattle.net_law.specs.TxParts.Playing.{TakesGood, send_part, sender_pool, shippers}
 use Rattle.play_core.specs.Rests.Showing.{HaveItems, HaveBells}
-use Rattle.play_core.proofs.Rests.Settling.{both, settled_here}
-use Rattle.net_law.proofs.Rests.Receiving.{needs_long, index_moves}
+use Rattle.play_core.proofs.RestsLemmas.Settling.{both, settled_here}
+use Rattle.net_law.proofs.RestsLemmas.Receiving.{needs_long, index_moves}
 use Rattle.net_law.proofs.TxRests.Sending.{free_is, owes_is, ship_needs, ship_loads}
 
 shuffle : (a x b y : Bool) → ((a && x) && (b && y)) ≡ (a && (b && (x && y)))

@@ -34,7 +34,7 @@ use Rattle.net_law.specs.TxParts.Rows.{at_device, at_home, sends_due}
 use Rattle.net_law.specs.TxParts.Playing.{TakesGood, send_part, sender_pool, shippers}
 use Rattle.net_law.proofs.TxParts.Items.{all_same, none_bad, home_items, Shipped, shipped}
 use Rattle.play_core.specs.Rests.Showing.{HaveItems}
-use Rattle.play_core.proofs.Rests.Settling.{took, put, none_is, held_is}
+use Rattle.play_core.proofs.RestsLemmas.Settling.{took, put, none_is, held_is}
 
 none_of : (o : Option Cargo) → option_to_list o ≡ [] → o ≡ None
 none_of None e = refl

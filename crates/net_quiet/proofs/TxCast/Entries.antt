@@ -20,7 +20,7 @@ use Rattle.net_virt_tx.specs.Serving.{is_good_of}
 use Rattle.net_virt_tx.specs.declared.descriptors.Sender.{Sender}
 use Rattle.net_virt_tx.proofs.Counting.{bit_same, bit_other}
 use Rattle.net_law.specs.Owners.Names.{PoolAt}
-use Rattle.net_law.proofs.Parts.Turning.{replaced_long}
+use Rattle.net_law.proofs.PartsLemmas.Turning.{replaced_long}
 use Rattle.net_law.specs.TxParts.Playing.{sender_pool}
 use Rattle.net_quiet.specs.TxCast.Casting.{IsFrame, IsSend}
 

@@ -22,10 +22,10 @@ use Rattle.net_virt_tx.specs.Clients.{at_address}
 use Rattle.net_virt_tx.proofs.Counting.{at_append}
 use Rattle.net_law.proofs.Answering.{sends_begin}
 use Rattle.net_law.specs.Owners.Names.{ClientPools}
-use Rattle.net_law.proofs.Parts.Leasing.{prefix_get}
-use Rattle.owner_law.proofs.Pools.Merging.{kept_is}
+use Rattle.net_law.proofs.PartsLemmas.Leasing.{prefix_get}
+use Rattle.owner_law.proofs.PoolsLemmas.Merging.{kept_is}
 use Rattle.net_law.specs.TxParts.Numbers.{NetPlace}
-use Rattle.net_quiet.proofs.Cast.Rooms.{IsLong, roomy}
+use Rattle.net_quiet.proofs.CastLemmas.Rooms.{IsLong, roomy}
 use Rattle.net_quiet.proofs.TxTurns.Turning.{at_few}
 use Rattle.net_quiet.specs.TxCast.Casting.{IsFrame, AreFrames, AreSends, IsSend, IsSendingClient}
 use Rattle.net_quiet.proofs.TxCast.Numbers.{client_plays, client_ships}

@@ -23,16 +23,16 @@ use Rattle.net_virt_tx.specs.Sending.{TxRow}
 use Rattle.net_virt_tx.specs.Traffics.{senders}
 use Rattle.net_law.proofs.Beginnings.{begins_map, begins_filter}
 use Rattle.net_law.specs.Wire.Sending.{AllSendGood}
-use Rattle.net_law.proofs.Wire.Wires.{wire_sends}
+use Rattle.net_law.proofs.WireLemmas.Wires.{wire_sends}
 use Rattle.net_law.specs.Owners.Names.{ClientPools}
 use Rattle.net_law.specs.Parts.Numbers.{client_first}
-use Rattle.net_law.proofs.Parts.Leasing.{prefix_get}
-use Rattle.owner_law.proofs.Pools.Merging.{Each, each_begun, kept_is}
+use Rattle.net_law.proofs.PartsLemmas.Leasing.{prefix_get}
+use Rattle.owner_law.proofs.PoolsLemmas.Merging.{Each, each_begun, kept_is}
 use Rattle.net_law.specs.TxParts.Numbers.{NetPlace, shippers_from}
 use Rattle.net_law.specs.TxParts.Playing.{TakesGood, shippers}
 use Rattle.net_law.proofs.TxParts.Items.{none_bad}
 use Rattle.net_quiet.specs.Cast.Casting.{IsClientAt}
-use Rattle.net_quiet.proofs.Cast.Casting.{cast_records}
+use Rattle.net_quiet.proofs.CastLemmas.Casting.{cast_records}
 use Rattle.net_quiet.specs.TxTurns.Turning.{IsSendHalf, SendsFromHand}
 use Rattle.net_quiet.proofs.TxTurns.Turning.{comes_back, none_stray, takes_good}
 use Rattle.net_quiet.specs.TxCast.Casting.{AreSends, AreFrames, AllSend, IsSend, IsClientOf, IsSendingClient, IsWholeCast, sends_at}

@@ -28,15 +28,15 @@ use Rattle.net_virt_tx.specs.Serving.{is_good_of, is_own, own_of, bad_ones}
 use Rattle.net_virt_tx.specs.Sending.{TxRow, IsAnyones}
 use Rattle.net_virt_tx.specs.Traffics.{senders}
 use Rattle.net_law.specs.Owners.Names.{by_offset}
-use Rattle.net_law.proofs.Owners.Clients.{at_address}
+use Rattle.net_law.proofs.OwnersLemmas.Clients.{at_address}
 use Rattle.net_law.specs.RxOwners.Virtualiser.{AreNet}
-use Rattle.net_law.proofs.Parts.Pairs.{twice, pair_first}
+use Rattle.net_law.proofs.PartsLemmas.Pairs.{twice, pair_first}
 use Rattle.net_law.specs.TxParts.Parts.{Shipper}
 use Rattle.net_law.specs.TxParts.Playing.{sender_pool, shippers, send_part}
 use Rattle.net_law.specs.TxParts.Table.{send_sheet, shipper_ends}
 use Rattle.owner_law.specs.Pools.Handing.{AllCarry, TakesPages, PutsPages, HandsOn}
-use Rattle.owner_law.proofs.Pools.Merging.{Each, each_begun, kept_at, kept_is}
-use Rattle.net_quiet.proofs.Pools.Carrying.{HasPage, page_carries, carries_page, puts_none, puts_in, puts_out}
+use Rattle.owner_law.proofs.PoolsLemmas.Merging.{Each, each_begun, kept_at, kept_is}
+use Rattle.net_quiet.proofs.PoolsLemmas.Carrying.{HasPage, page_carries, carries_page, puts_none, puts_in, puts_out}
 use Rattle.net_quiet.specs.TxOwners.Shipping.{device_windows, NamesSend, is_at, ArePoolsApart}
 use Rattle.net_quiet.proofs.TxOwners.Windows.{pick_home}
 

@@ -16,9 +16,9 @@ use Rattle.net_law.specs.TxParts.Parts.{Shipper}
 use Rattle.net_law.specs.TxParts.Playing.{shippers, send_part}
 use Rattle.net_law.specs.TxParts.Table.{send_sheet, shipper_ends}
 use Rattle.owner_law.specs.Pools.Lines.{HoldsIts, came, went}
-use Rattle.owner_law.proofs.Pools.Lining.{LendsNone, lent_away}
+use Rattle.owner_law.proofs.PoolsLemmas.Lining.{LendsNone, lent_away}
 use Rattle.net_quiet.specs.Pools.Holders.{holder_of, no_lent}
-use Rattle.net_quiet.proofs.Pools.Holding.{lends_none, lends_in, lends_out, buffers_stay}
+use Rattle.net_quiet.proofs.PoolsLemmas.Holding.{lends_none, lends_in, lends_out, buffers_stay}
 use Rattle.net_quiet.specs.TxOwners.Shipping.{device_windows, NamesSend}
 
 shippers_came : (passed : Passed) (ss : List Sender) (from to : List QueueId) → length from ≡ length ss → length to ≡ length ss → came passed (flat_map shipper_ends (shippers ss from to)) ≡ bodies_at passed.taken (map (λ (q : QueueId). q.0) from)

@@ -5,7 +5,7 @@ use Rattle.play_core.proofs.Lists.{some_is}
 use Rattle.owner_law.specs.Things.{Buffers}
 use Rattle.net_law.specs.Owners.Names.{PoolAt, ClientPools, by_address, by_offset}
 use Rattle.net_law.specs.Parts.Numbers.{client_first, layout_naming}
-use Rattle.net_law.proofs.Parts.Numbering.{named_at}
+use Rattle.net_law.proofs.PartsLemmas.Numbering.{named_at}
 use Rattle.net_law.specs.TxParts.Numbers.{shippers_from, sender_at}
 use Rattle.net_law.specs.TxParts.Parts.{Shipper}
 use Rattle.net_quiet.specs.TxOwners.Shipping.{device_windows, NamesSend}

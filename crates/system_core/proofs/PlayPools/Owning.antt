@@ -8,7 +8,7 @@ use Rattle.play_core.specs.Sheets.{Scene, AreApart}
 use Rattle.owner_law.specs.Things.{Naming}
 use Rattle.owner_law.proofs.Replays.{owners_hold}
 use Rattle.net_law.specs.Owners.Names.{PoolAt, ClientPools}
-use Rattle.net_law.proofs.Parts.Owning.{net_puts}
+use Rattle.net_law.proofs.PartsLemmas.Owning.{net_puts}
 use Rattle.net_law.specs.TxParts.Parts.{SendPart, Shipper}
 use Rattle.net_law.specs.TxParts.Numbers.{NetPlace, shippers_from, sender_at}
 use Rattle.net_quiet.specs.TxOwners.Shipping.{is_at, ArePoolsApart}
@@ -31,14 +31,14 @@ use Rattle.system_core.specs.PlanPlays.{IsPlayedOn}
 use Rattle.system_core.specs.PlayPools.Pools.{IsFirstTable, HasOneOwner}
 use Rattle.wire_core.specs.Journal.{Hostiles}
 use Rattle.owner_law.specs.Owners.{Table}
-use Rattle.owner_law.proofs.Pools.Casting.{nothing_kept}
+use Rattle.owner_law.proofs.PoolsLemmas.Casting.{nothing_kept}
 use Rattle.blk_law.specs.Owners.Answering.{PutsItsOwnInOrder}
 use Rattle.wired_law.specs.Wiring.{IsOfNetwork}
 use Rattle.cast_law.specs.Pools.Holders.{NamesAt}
 use Rattle.cast_law.specs.Pools.Places.{PoolPlace, HasNetAt, IsPlaced, cast_naming}
 use Rattle.cast_law.specs.Pools.Pooling.{keepers_at}
-use Rattle.cast_law.proofs.Pools.Naming.{names_at, block_own}
-use Rattle.cast_law.proofs.Pools.Owning.{owned}
+use Rattle.cast_law.proofs.PoolsLemmas.Naming.{names_at, block_own}
+use Rattle.cast_law.proofs.PoolsLemmas.Owning.{owned}
 use Rattle.cast_law.specs.Places.{pool_place}
 use Rattle.system_core.proofs.PlayPools.Ends.{job_apart}
 use Rattle.system_core.proofs.PlayPools.Placing.{placed, job_at}

@@ -12,9 +12,9 @@ use Rattle.net_law.specs.TxParts.Parts.{SendPart}
 use Rattle.blk_law.specs.Sheets.Parts.{BlkPart}
 use Rattle.actor_set.specs.Parts.{Part, NetworkPart, SendingPart, BlockPart}
 use Rattle.layout_laws.specs.Jobs.Jobs.{Job, EthDevice, EthDriver, NetReceiver, NetSender, NetCopier, NetClient, UartDevice, UartDriver, SerialReceiver, SerialSender, SerialClient, DiskDevice, DiskDriver, BlkVirtualiser, BlkClient, HasJob}
-use Rattle.layout_laws.proofs.Jobs.Having.{some_job}
+use Rattle.layout_laws.proofs.JobsLemmas.Having.{some_job}
 use Rattle.layout_laws.specs.Seats.Ends.{HasNet, HasBlk, IsOf}
-use Rattle.layout_laws.proofs.Seats.Having.{job_is_of}
+use Rattle.layout_laws.proofs.SeatsLemmas.Having.{job_is_of}
 use Rattle.cast_core.specs.Casts.{net_place, blk_place, job_part}
 use Rattle.cast_law.specs.Pools.Places.{HasNetAt, HasBlkAt, IsPlaced}
 use Rattle.cast_law.specs.Places.{pool_place}

@@ -14,7 +14,7 @@ use Rattle.net_law.specs.TxParts.Numbers.{own_pool}
 use Rattle.device_model.specs.Disk.Disks.{DiskRow}
 use Rattle.client_programs.specs.Blk.Clients.{req_queue, resp_queue}
 use Rattle.client_programs.specs.declared.blk.BlkClient.{BlkClient}
-use Rattle.client_programs.proofs.Blk.Standing.{row_of as asker_row}
+use Rattle.client_programs.proofs.BlkLemmas.Standing.{row_of as asker_row}
 use Rattle.blk_driver.specs.declared.BlkDriver.{BlkDriver}
 use Rattle.blk_expect.specs.Replies.{replies_of}
 use Rattle.blk_virt.specs.Virtualising.{BlkVirtRow, FitsBlkVirt}
@@ -24,14 +24,14 @@ use Rattle.blk_law.specs.Sheets.Parts.{BlkClient as ClientPart}
 use Rattle.blk_law.specs.Sheets.Numbers.{BlkPlace, IsBlkClientOf, disk_at, blk_driver_at, virt_at, blk_client_at}
 use Rattle.blk_law.specs.Sheets.Playing.{disk_part, blk_driver_part, virt_part, blk_client_part}
 use Rattle.blk_quiet.specs.Cast.Casting.{AllAsk, IsAskingClient, IsBlkCast}
-use Rattle.blk_quiet.proofs.Cast.Numbers.{client_queues}
+use Rattle.blk_quiet.proofs.CastLemmas.Numbers.{client_queues}
 use Rattle.actor_set.specs.Parts.{Part, BlockPart}
 use Rattle.actor_set.specs.Actors.{FitsActor, ActorStandsFor, part_of}
 use Rattle.actor_set.specs.declared.disk.Disk.{Disk}
 use Rattle.actor_set.specs.declared.actor.Actor.{Actor}
 use Rattle.actor_set.specs.declared.actor.Actor.TheVariants as Kinds
 use Rattle.actor_set.specs.Laws.Records.{replies_got}
-use Rattle.actor_set.proofs.Laws.BlkRows.{disk_row_of}
+use Rattle.actor_set.proofs.LawsLemmas.BlkRows.{disk_row_of}
 use Rattle.wired_law.specs.Wiring.{IsOfBlock, HasBlk, HasPart, ClientsAsk, ClientsSend, AreAtWork}
 use Rattle.wired_law.proofs.Acting.{disk_actor, blk_driver_actor, virt_actor, blk_client_actor}
 use Rattle.wired_law.proofs.Blocks.{requests_own}

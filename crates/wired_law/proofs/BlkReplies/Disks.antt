@@ -5,9 +5,9 @@ use Rattle.cargo_core.specs.Lists.{IsPrefix}
 use Rattle.wire_core.specs.Deeds.{Cargo}
 use Rattle.wire_core.specs.Lists.{Passed}
 use Rattle.play_core.proofs.Lists.{some_is, map_get, map_from, prefix_trans, there_is, there_below}
-use Rattle.owner_law.proofs.Pools.Merging.{kept_at, kept_is}
+use Rattle.owner_law.proofs.PoolsLemmas.Merging.{kept_at, kept_is}
 use Rattle.buffer_kit.specs.Virtualising.{from_queues, to_queues}
-use Rattle.net_law.proofs.Parts.Leasing.{prefix_get}
+use Rattle.net_law.proofs.PartsLemmas.Leasing.{prefix_get}
 use Rattle.blk_mbr.specs.declared.part.Part.{Part}
 use Rattle.blk_expect.specs.Replies.{partition_in}
 use Rattle.device_model.specs.Disk.Disks as disk
@@ -23,8 +23,8 @@ use Rattle.blk_law.proofs.Parts.{parts_apart}
 use Rattle.blk_law.specs.Records.Served.{LeavesPart}
 use Rattle.blk_law.specs.Sheets.Numbers.{BlkPlace}
 use Rattle.blk_quiet.specs.Cast.Casting.{IsBlkCast}
-use Rattle.blk_quiet.proofs.Cast.Numbers.{disk_queues, driver_queues, virt_queues}
-use Rattle.blk_quiet.proofs.Cast.Turning.{served, shares_at}
+use Rattle.blk_quiet.proofs.CastLemmas.Numbers.{disk_queues, driver_queues, virt_queues}
+use Rattle.blk_quiet.proofs.CastLemmas.Turning.{served, shares_at}
 use Rattle.wired_law.proofs.BlkReplies.Inside.{entry_few, goes_has, goes_inside}
 
 -- each of a list has what each entry of it has

@@ -1,4 +1,4 @@
-use Rattle.actor_set.proofs.Adopting.Looks.{fits_anew}
+use Rattle.actor_set.proofs.AdoptingLemmas.Looks.{fits_anew}
 use Rattle.actor_set.proofs.adopting.forget_law.Goals as goal
 
 pub returns : goal.returns

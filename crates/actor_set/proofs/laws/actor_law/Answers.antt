@@ -1,9 +1,9 @@
-use Rattle.actor_set.proofs.Laws.Calm.{sheet_own}
-use Rattle.actor_set.proofs.Laws.PartEnds.{to_part, from_part, end_seat, seat_end}
-use Rattle.actor_set.proofs.Laws.Rows.{actor_row, heard_here, frames_here, replies_here}
-use Rattle.actor_set.proofs.Laws.Rests.{rests}
-use Rattle.actor_set.proofs.Laws.Beside.{fits_beside, stands_beside}
-use Rattle.actor_set.proofs.Laws.Starts.{fits_whole}
+use Rattle.actor_set.proofs.LawsLemmas.Calm.{sheet_own}
+use Rattle.actor_set.proofs.LawsLemmas.PartEnds.{to_part, from_part, end_seat, seat_end}
+use Rattle.actor_set.proofs.LawsLemmas.Rows.{actor_row, heard_here, frames_here, replies_here}
+use Rattle.actor_set.proofs.LawsLemmas.Rests.{rests}
+use Rattle.actor_set.proofs.LawsLemmas.Beside.{fits_beside, stands_beside}
+use Rattle.actor_set.proofs.LawsLemmas.Starts.{fits_whole}
 use Rattle.actor_set.specs.Actors.{part_of}
 use Rattle.actor_set.proofs.laws.actor_law.Goals as goal
 

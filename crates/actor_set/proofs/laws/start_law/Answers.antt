@@ -1,6 +1,6 @@
-use Rattle.actor_set.proofs.Laws.Paces.{start_round}
-use Rattle.actor_set.proofs.Laws.Starts.{new_stands, new_whole, new_hand, new_fits}
-use Rattle.actor_set.proofs.Laws.Seating.{apart_ends, kind_is}
+use Rattle.actor_set.proofs.LawsLemmas.Paces.{start_round}
+use Rattle.actor_set.proofs.LawsLemmas.Starts.{new_stands, new_whole, new_hand, new_fits}
+use Rattle.actor_set.proofs.LawsLemmas.Seating.{apart_ends, kind_is}
 use Rattle.actor_set.proofs.laws.start_law.Goals as goal
 
 pub returns-clause-stands : goal.returns-clause-stands

@@ -1,5 +1,5 @@
-use Rattle.actor_set.proofs.Laws.Paces.{post_stands, called_end}
-use Rattle.actor_set.proofs.Laws.Rounds.{rests_is, turned_is}
+use Rattle.actor_set.proofs.LawsLemmas.Paces.{post_stands, called_end}
+use Rattle.actor_set.proofs.LawsLemmas.Rounds.{rests_is, turned_is}
 use Rattle.actor_set.proofs.laws.turn_law.Goals as goal
 
 pub returns-clause-turned : goal.returns-clause-turned

@@ -1,6 +1,6 @@
-use Rattle.blk_law.proofs.Owners.Copying.{disk_keeps, driver_keeps}
-use Rattle.blk_law.proofs.Owners.Asking.{client_keeps}
-use Rattle.blk_law.proofs.Owners.Serving.{virt_keeps}
+use Rattle.blk_law.proofs.OwnersLemmas.Copying.{disk_keeps, driver_keeps}
+use Rattle.blk_law.proofs.OwnersLemmas.Asking.{client_keeps}
+use Rattle.blk_law.proofs.OwnersLemmas.Serving.{virt_keeps}
 use Rattle.blk_law.proofs.owners.blk_own_law.Goals as goal
 
 pub returns-clause-disk : goal.returns-clause-disk

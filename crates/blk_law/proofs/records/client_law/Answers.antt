@@ -1,4 +1,4 @@
-use Rattle.blk_law.proofs.Records.Whole.{records_now}
+use Rattle.blk_law.proofs.RecordsLemmas.Whole.{records_now}
 use Rattle.blk_law.proofs.records.client_law.Goals as goal
 
 pub returns : goal.returns

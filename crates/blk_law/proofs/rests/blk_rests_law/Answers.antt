@@ -1,4 +1,4 @@
-use Rattle.blk_law.proofs.Rests.Resting.{disk_rest, driver_rest, client_rest, virt_rest}
+use Rattle.blk_law.proofs.RestsLemmas.Resting.{disk_rest, driver_rest, client_rest, virt_rest}
 use Rattle.blk_law.proofs.rests.blk_rests_law.Goals as goal
 
 pub returns-clause-disk : goal.returns-clause-disk

@@ -1,6 +1,6 @@
-use Rattle.net_law.proofs.Parts.Items.{driver_row}
-use Rattle.blk_law.proofs.Sheets.Items.{disk_row, client_row}
-use Rattle.blk_law.proofs.Sheets.Virtual.{virt_row}
+use Rattle.net_law.proofs.PartsLemmas.Items.{driver_row}
+use Rattle.blk_law.proofs.SheetsLemmas.Items.{disk_row, client_row}
+use Rattle.blk_law.proofs.SheetsLemmas.Virtual.{virt_row}
 use Rattle.blk_law.proofs.sheets.row_law.Goals as goal
 
 pub returns-clause-disk : goal.returns-clause-disk

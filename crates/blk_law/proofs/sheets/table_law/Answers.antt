@@ -1,4 +1,4 @@
-use Rattle.blk_law.proofs.Sheets.Following.{blk_own, blk_follows}
+use Rattle.blk_law.proofs.SheetsLemmas.Following.{blk_own, blk_follows}
 use Rattle.blk_law.proofs.sheets.table_law.Goals as goal
 
 pub returns-clause-own : goal.returns-clause-own

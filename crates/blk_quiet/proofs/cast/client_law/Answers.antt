@@ -1,4 +1,4 @@
-use Rattle.blk_quiet.proofs.Cast.Clients.{client_in_turn, client_like, back_own, client_puts}
+use Rattle.blk_quiet.proofs.CastLemmas.Clients.{client_in_turn, client_like, back_own, client_puts}
 use Rattle.blk_quiet.proofs.cast.client_law.Goals as goal
 
 pub returns-clause-turn : goal.returns-clause-turn

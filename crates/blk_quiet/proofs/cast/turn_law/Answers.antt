@@ -1,4 +1,4 @@
-use Rattle.blk_quiet.proofs.Cast.Turning.{virt_in_turn, responses_few, sector_is, disk_in_turn}
+use Rattle.blk_quiet.proofs.CastLemmas.Turning.{virt_in_turn, responses_few, sector_is, disk_in_turn}
 use Rattle.blk_quiet.proofs.cast.turn_law.Goals as goal
 
 pub returns-clause-virtualiser : goal.returns-clause-virtualiser

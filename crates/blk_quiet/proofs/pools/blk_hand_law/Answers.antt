@@ -1,6 +1,6 @@
-use Rattle.blk_quiet.proofs.Pools.Carrying.{disk_on, driver_on}
-use Rattle.blk_quiet.proofs.Pools.Asking.{client_on}
-use Rattle.blk_quiet.proofs.Pools.Serving.{virt_on}
+use Rattle.blk_quiet.proofs.PoolsLemmas.Carrying.{disk_on, driver_on}
+use Rattle.blk_quiet.proofs.PoolsLemmas.Asking.{client_on}
+use Rattle.blk_quiet.proofs.PoolsLemmas.Serving.{virt_on}
 use Rattle.blk_quiet.proofs.pools.blk_hand_law.Goals as goal
 
 pub returns-clause-disk : goal.returns-clause-disk

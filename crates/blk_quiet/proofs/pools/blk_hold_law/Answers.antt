@@ -1,4 +1,4 @@
-use Rattle.blk_quiet.proofs.Pools.Holding.{disk_holds, driver_holds, virt_holds, client_holds}
+use Rattle.blk_quiet.proofs.PoolsLemmas.Holding.{disk_holds, driver_holds, virt_holds, client_holds}
 use Rattle.blk_quiet.proofs.pools.blk_hold_law.Goals as goal
 
 pub returns-clause-disk : goal.returns-clause-disk

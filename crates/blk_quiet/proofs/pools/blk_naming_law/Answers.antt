@@ -1,5 +1,5 @@
-use Rattle.blk_quiet.proofs.Pools.Naming.{disk_named, driver_named, virt_named, client_named}
-use Rattle.blk_quiet.proofs.Pools.Sizing.{blk_within, blk_past}
+use Rattle.blk_quiet.proofs.PoolsLemmas.Naming.{disk_named, driver_named, virt_named, client_named}
+use Rattle.blk_quiet.proofs.PoolsLemmas.Sizing.{blk_within, blk_past}
 use Rattle.blk_quiet.proofs.pools.blk_naming_law.Goals as goal
 
 pub returns-clause-disk : goal.returns-clause-disk

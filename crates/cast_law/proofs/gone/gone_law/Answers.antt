@@ -1,4 +1,4 @@
-use Rattle.cast_law.proofs.Gone.Gone.{have_gone, hand_over}
+use Rattle.cast_law.proofs.GoneLemmas.Gone.{have_gone, hand_over}
 use Rattle.cast_law.proofs.gone.gone_law.Goals as goal
 
 pub returns-clause-held : goal.returns-clause-held

@@ -1,4 +1,4 @@
-use Rattle.cast_law.proofs.Pools.Playing.{carry_call, play_lines, play_whole, play_kinds, begins_anew, all_there, pools_few}
+use Rattle.cast_law.proofs.PoolsLemmas.Playing.{carry_call, play_lines, play_whole, play_kinds, begins_anew, all_there, pools_few}
 use Rattle.cast_law.proofs.pools.cast_pool_law.Goals as goal
 
 pub returns-clause-carries : goal.returns-clause-carries

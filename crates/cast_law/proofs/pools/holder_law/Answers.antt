@@ -1,5 +1,5 @@
-use Rattle.cast_law.proofs.Pools.Acting.{actor_on, actor_holds}
-use Rattle.cast_law.proofs.Pools.Goodness.{none_bad}
+use Rattle.cast_law.proofs.PoolsLemmas.Acting.{actor_on, actor_holds}
+use Rattle.cast_law.proofs.PoolsLemmas.Goodness.{none_bad}
 use Rattle.cast_law.proofs.pools.holder_law.Goals as goal
 
 pub returns-clause-hands_on : goal.returns-clause-hands_on

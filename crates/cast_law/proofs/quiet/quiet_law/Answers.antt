@@ -1,5 +1,5 @@
-use Rattle.cast_law.proofs.Quiet.Rooms.{pools_are, rooms_are}
-use Rattle.cast_law.proofs.Quiet.Blocks.{blk_pools_are, blk_rooms_are}
+use Rattle.cast_law.proofs.QuietLemmas.Rooms.{pools_are, rooms_are}
+use Rattle.cast_law.proofs.QuietLemmas.Blocks.{blk_pools_are, blk_rooms_are}
 use Rattle.cast_law.proofs.quiet.quiet_law.Goals as goal
 
 pub returns-clause-pools : goal.returns-clause-pools

@@ -1,5 +1,5 @@
-use Rattle.layout_laws.proofs.Jobs.Having.{some_job, one_actor, same_job, job_below}
-use Rattle.layout_laws.proofs.Jobs.Owning.{owners_long, owners_there}
+use Rattle.layout_laws.proofs.JobsLemmas.Having.{some_job, one_actor, same_job, job_below}
+use Rattle.layout_laws.proofs.JobsLemmas.Owning.{owners_long, owners_there}
 use Rattle.layout_laws.proofs.jobs.job_law.Goals as goal
 
 pub returns-clause-each : goal.returns-clause-each

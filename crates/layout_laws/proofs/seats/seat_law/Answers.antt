@@ -1,8 +1,8 @@
-use Rattle.layout_laws.proofs.Seats.Having.{job_is_of}
-use Rattle.layout_laws.proofs.Seats.Counts.{queues_before, few_queues, few_numbers}
-use Rattle.layout_laws.proofs.Seats.Seats.{has_seat, has_end, known_by, not_both}
-use Rattle.layout_laws.proofs.Seats.Carrying.{net_kinds}
-use Rattle.layout_laws.proofs.Seats.Naming.{net_named, serial_named, blk_named}
+use Rattle.layout_laws.proofs.SeatsLemmas.Having.{job_is_of}
+use Rattle.layout_laws.proofs.SeatsLemmas.Counts.{queues_before, few_queues, few_numbers}
+use Rattle.layout_laws.proofs.SeatsLemmas.Seats.{has_seat, has_end, known_by, not_both}
+use Rattle.layout_laws.proofs.SeatsLemmas.Carrying.{net_kinds}
+use Rattle.layout_laws.proofs.SeatsLemmas.Naming.{net_named, serial_named, blk_named}
 use Rattle.layout_laws.proofs.seats.seat_law.Goals as goal
 
 pub returns-clause-of : goal.returns-clause-of

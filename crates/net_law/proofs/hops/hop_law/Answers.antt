@@ -1,4 +1,4 @@
-use Rattle.net_law.proofs.Hops.Moves.{net_moved}
+use Rattle.net_law.proofs.HopsLemmas.Moves.{net_moved}
 use Rattle.net_law.proofs.hops.hop_law.Goals as goal
 
 pub returns : goal.returns

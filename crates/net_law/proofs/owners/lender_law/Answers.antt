@@ -1,4 +1,4 @@
-use Rattle.net_law.proofs.Owners.Lenders.{lender_keeps}
+use Rattle.net_law.proofs.OwnersLemmas.Lenders.{lender_keeps}
 use Rattle.net_law.proofs.owners.lender_law.Goals as goal
 
 pub returns : goal.returns

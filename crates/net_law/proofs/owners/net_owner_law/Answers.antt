@@ -1,7 +1,7 @@
-use Rattle.net_law.proofs.Owners.Actors.{device_keeps}
-use Rattle.net_law.proofs.Owners.Drivers.{driver_keeps}
-use Rattle.net_law.proofs.Owners.Copiers.{copier_keeps}
-use Rattle.net_law.proofs.Owners.Clients.{client_keeps}
+use Rattle.net_law.proofs.OwnersLemmas.Actors.{device_keeps}
+use Rattle.net_law.proofs.OwnersLemmas.Drivers.{driver_keeps}
+use Rattle.net_law.proofs.OwnersLemmas.Copiers.{copier_keeps}
+use Rattle.net_law.proofs.OwnersLemmas.Clients.{client_keeps}
 use Rattle.net_law.proofs.owners.net_owner_law.Goals as goal
 
 pub returns-clause-device : goal.returns-clause-device

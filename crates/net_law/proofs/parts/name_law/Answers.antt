@@ -1,4 +1,4 @@
-use Rattle.net_law.proofs.Parts.Numbering.{device_named, driver_named, receiver_named, copier_named, client_named}
+use Rattle.net_law.proofs.PartsLemmas.Numbering.{device_named, driver_named, receiver_named, copier_named, client_named}
 use Rattle.net_law.proofs.parts.name_law.Goals as goal
 
 pub returns-clause-device : goal.returns-clause-device

@@ -1,5 +1,5 @@
-use Rattle.net_law.proofs.Parts.Items.{device_row, driver_row, copier_row, client_row}
-use Rattle.net_law.proofs.Parts.Leasing.{receiver_row}
+use Rattle.net_law.proofs.PartsLemmas.Items.{device_row, driver_row, copier_row, client_row}
+use Rattle.net_law.proofs.PartsLemmas.Leasing.{receiver_row}
 use Rattle.net_law.proofs.parts.row_law.Goals as goal
 
 pub returns-clause-device : goal.returns-clause-device

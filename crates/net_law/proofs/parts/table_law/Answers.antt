@@ -1,4 +1,4 @@
-use Rattle.net_law.proofs.Parts.Following.{net_own, net_follows}
+use Rattle.net_law.proofs.PartsLemmas.Following.{net_own, net_follows}
 use Rattle.net_law.proofs.parts.table_law.Goals as goal
 
 pub returns-clause-own : goal.returns-clause-own

@@ -1,4 +1,4 @@
-use Rattle.net_law.proofs.Parts.Turning.{all_in_turn, frames_of_places, copiers_take, copiers_read, records_begin}
+use Rattle.net_law.proofs.PartsLemmas.Turning.{all_in_turn, frames_of_places, copiers_take, copiers_read, records_begin}
 use Rattle.net_law.proofs.parts.turn_law.Goals as goal
 
 pub returns-clause-turn : goal.returns-clause-turn

@@ -1,4 +1,4 @@
-use Rattle.net_law.proofs.Rests.Resting.{device_rest, driver_rest, receiver_rest, copier_rest, client_rest}
+use Rattle.net_law.proofs.RestsLemmas.Resting.{device_rest, driver_rest, receiver_rest, copier_rest, client_rest}
 use Rattle.net_law.proofs.rests.rests_law.Goals as goal
 
 pub returns-clause-device : goal.returns-clause-device

@@ -1,6 +1,6 @@
 use Rattle.std.proofs.Common.{[], ◌∷◌}
 use Rattle.net_law.specs.Owners.Ends.{stock_window}
-use Rattle.net_law.proofs.Owners.Lenders.{lender_keeps}
+use Rattle.net_law.proofs.OwnersLemmas.Lenders.{lender_keeps}
 use Rattle.net_law.specs.RxOwners.Virtualiser.{rx_lender, offset_window}
 use Rattle.net_law.proofs.RxOwners.Receivers.{rx_lends}
 use Rattle.net_law.proofs.RxOwners.Lending.{rx_out}

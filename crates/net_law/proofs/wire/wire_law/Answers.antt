@@ -1,4 +1,4 @@
-use Rattle.net_law.proofs.Wire.Wires.{wire_good, wire_sends}
+use Rattle.net_law.proofs.WireLemmas.Wires.{wire_good, wire_sends}
 use Rattle.net_law.proofs.wire.wire_law.Goals as goal
 
 pub returns-clause-good : goal.returns-clause-good

@@ -1,4 +1,4 @@
-use Rattle.net_quiet.proofs.Cast.Casting.{cast_in_turn, cast_takes, cast_leases, cast_records}
+use Rattle.net_quiet.proofs.CastLemmas.Casting.{cast_in_turn, cast_takes, cast_leases, cast_records}
 use Rattle.net_quiet.proofs.cast.cast_law.Goals as goal
 
 pub returns-clause-turn : goal.returns-clause-turn

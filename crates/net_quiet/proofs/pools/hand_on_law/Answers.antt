@@ -1,6 +1,6 @@
-use Rattle.net_quiet.proofs.Pools.Handing.{device_on, driver_on, copier_on}
-use Rattle.net_quiet.proofs.Pools.Clients.{client_on}
-use Rattle.net_quiet.proofs.Pools.Receiving.{receiver_on}
+use Rattle.net_quiet.proofs.PoolsLemmas.Handing.{device_on, driver_on, copier_on}
+use Rattle.net_quiet.proofs.PoolsLemmas.Clients.{client_on}
+use Rattle.net_quiet.proofs.PoolsLemmas.Receiving.{receiver_on}
 use Rattle.net_quiet.proofs.pools.hand_on_law.Goals as goal
 
 pub returns-clause-device : goal.returns-clause-device

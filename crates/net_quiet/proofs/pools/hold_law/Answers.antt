@@ -1,6 +1,6 @@
-use Rattle.net_quiet.proofs.Pools.Clients.{client_holds}
-use Rattle.net_quiet.proofs.Pools.Holding.{device_holds, driver_holds, copier_holds}
-use Rattle.net_quiet.proofs.Pools.Lending.{receiver_holds}
+use Rattle.net_quiet.proofs.PoolsLemmas.Clients.{client_holds}
+use Rattle.net_quiet.proofs.PoolsLemmas.Holding.{device_holds, driver_holds, copier_holds}
+use Rattle.net_quiet.proofs.PoolsLemmas.Lending.{receiver_holds}
 use Rattle.net_quiet.proofs.pools.hold_law.Goals as goal
 
 pub returns-clause-device : goal.returns-clause-device

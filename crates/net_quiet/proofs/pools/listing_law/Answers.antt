@@ -1,4 +1,4 @@
-use Rattle.net_quiet.proofs.Pools.Listing.{layout_names}
+use Rattle.net_quiet.proofs.PoolsLemmas.Listing.{layout_names}
 use Rattle.net_quiet.proofs.pools.listing_law.Goals as goal
 
 pub returns : goal.returns

@@ -1,4 +1,4 @@
-use Rattle.net_quiet.proofs.Pools.Spreading.{its_none, its_one, its_two}
+use Rattle.net_quiet.proofs.PoolsLemmas.Spreading.{its_none, its_one, its_two}
 use Rattle.net_quiet.proofs.pools.share_law.Goals as goal
 
 pub returns-clause-none : goal.returns-clause-none

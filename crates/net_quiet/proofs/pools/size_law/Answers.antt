@@ -1,4 +1,4 @@
-use Rattle.net_quiet.proofs.Pools.Sizing.{layout_within}
+use Rattle.net_quiet.proofs.PoolsLemmas.Sizing.{layout_within}
 use Rattle.net_quiet.proofs.pools.size_law.Goals as goal
 
 pub returns : goal.returns

@@ -1,4 +1,4 @@
-use Rattle.net_quiet.proofs.Pools.Sizing.{spread_dealt, spread_pools, spread_within}
+use Rattle.net_quiet.proofs.PoolsLemmas.Sizing.{spread_dealt, spread_pools, spread_within}
 use Rattle.net_quiet.proofs.pools.spread_law.Goals as goal
 
 pub returns-clause-dealt : goal.returns-clause-dealt

@@ -1,4 +1,4 @@
-use Rattle.order_law.proofs.Ended.Leaving.{are_left}
+use Rattle.order_law.proofs.EndedLemmas.Leaving.{are_left}
 use Rattle.order_law.proofs.ended.ended_law.Goals as goal
 
 pub returns : goal.returns

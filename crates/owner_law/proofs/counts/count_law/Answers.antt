@@ -1,6 +1,6 @@
-use Rattle.owner_law.proofs.Counts.Seats.{all_went, all_came}
-use Rattle.owner_law.proofs.Counts.Wholes.{all_whole, one_place}
-use Rattle.owner_law.proofs.Counts.Tables.{pools_stay, table_past}
+use Rattle.owner_law.proofs.CountsLemmas.Seats.{all_went, all_came}
+use Rattle.owner_law.proofs.CountsLemmas.Wholes.{all_whole, one_place}
+use Rattle.owner_law.proofs.CountsLemmas.Tables.{pools_stay, table_past}
 use Rattle.owner_law.proofs.counts.count_law.Goals as goal
 
 pub returns-clause-put : goal.returns-clause-put

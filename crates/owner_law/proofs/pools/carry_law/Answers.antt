@@ -1,4 +1,4 @@
-use Rattle.owner_law.proofs.Pools.Handing.{carry_start, carry_step, carry_takes}
+use Rattle.owner_law.proofs.PoolsLemmas.Handing.{carry_start, carry_step, carry_takes}
 use Rattle.owner_law.proofs.pools.carry_law.Goals as goal
 
 pub returns-clause-start : goal.returns-clause-start

@@ -1,4 +1,4 @@
-use Rattle.owner_law.proofs.Pools.Lasting.{last_queues, last_hands, last_lent, last_whole}
+use Rattle.owner_law.proofs.PoolsLemmas.Lasting.{last_queues, last_hands, last_lent, last_whole}
 use Rattle.owner_law.proofs.pools.line_law.Goals as goal
 
 pub returns-clause-queues : goal.returns-clause-queues

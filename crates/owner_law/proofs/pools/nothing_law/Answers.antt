@@ -1,5 +1,5 @@
-use Rattle.owner_law.proofs.Pools.Casting.{nothing_kept}
-use Rattle.owner_law.proofs.Pools.Plain.{plain_holds}
+use Rattle.owner_law.proofs.PoolsLemmas.Casting.{nothing_kept}
+use Rattle.owner_law.proofs.PoolsLemmas.Plain.{plain_holds}
 use Rattle.owner_law.proofs.pools.nothing_law.Goals as goal
 
 pub returns-clause-keeps : goal.returns-clause-keeps

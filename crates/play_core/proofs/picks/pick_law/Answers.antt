@@ -1,4 +1,4 @@
-use Rattle.play_core.proofs.Picks.Seeds.{drawn_by, picked_by}
+use Rattle.play_core.proofs.PicksLemmas.Seeds.{drawn_by, picked_by}
 use Rattle.play_core.proofs.picks.pick_law.Goals as goal
 
 pub returns-clause-drawn : goal.returns-clause-drawn

@@ -1,4 +1,4 @@
-use Rattle.play_core.proofs.Rests.Settling.{all_here}
+use Rattle.play_core.proofs.RestsLemmas.Settling.{all_here}
 use Rattle.play_core.proofs.rests.rest_law.Goals as goal
 
 pub returns : goal.returns

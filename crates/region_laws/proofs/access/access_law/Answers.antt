@@ -1,8 +1,8 @@
-use Rattle.region_laws.proofs.Access.Links.{queues_linked}
-use Rattle.region_laws.proofs.Access.Reached.{pools_reached}
-use Rattle.region_laws.proofs.Access.Interrupts.{drivers_interrupted}
-use Rattle.region_laws.proofs.Access.Placed.{regions_placed}
-use Rattle.region_laws.proofs.Access.Stacked.{queues_stacked}
+use Rattle.region_laws.proofs.AccessLemmas.Links.{queues_linked}
+use Rattle.region_laws.proofs.AccessLemmas.Reached.{pools_reached}
+use Rattle.region_laws.proofs.AccessLemmas.Interrupts.{drivers_interrupted}
+use Rattle.region_laws.proofs.AccessLemmas.Placed.{regions_placed}
+use Rattle.region_laws.proofs.AccessLemmas.Stacked.{queues_stacked}
 use Rattle.region_laws.proofs.access.access_law.Goals as goal
 
 pub returns-clause-links : goal.returns-clause-links

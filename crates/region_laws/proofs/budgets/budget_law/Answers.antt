@@ -1,5 +1,5 @@
-use Rattle.region_laws.proofs.Budgets.Actors.{actors_are}
-use Rattle.region_laws.proofs.Budgets.Most.{most_is}
+use Rattle.region_laws.proofs.BudgetsLemmas.Actors.{actors_are}
+use Rattle.region_laws.proofs.BudgetsLemmas.Most.{most_is}
 use Rattle.region_laws.proofs.budgets.budget_law.Goals as goal
 
 pub returns-clause-actors : goal.returns-clause-actors

@@ -1,4 +1,4 @@
-use Rattle.serial_law.proofs.Hops.Moves.{serial_moves}
+use Rattle.serial_law.proofs.HopsLemmas.Moves.{serial_moves}
 use Rattle.serial_law.proofs.hops.hop_law.Goals as goal
 
 pub returns : goal.returns

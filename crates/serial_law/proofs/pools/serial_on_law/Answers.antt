@@ -1,4 +1,4 @@
-use Rattle.serial_law.proofs.Pools.Passing.{terminal_on, driver_on, receiver_on, sender_on}
+use Rattle.serial_law.proofs.PoolsLemmas.Passing.{terminal_on, driver_on, receiver_on, sender_on}
 use Rattle.serial_law.proofs.pools.serial_on_law.Goals as goal
 
 pub returns-clause-terminal : goal.returns-clause-terminal

@@ -1,5 +1,5 @@
-use Rattle.wired_law.proofs.Quiet.Quieting.{network_there, recorded_whole, sent_whole}
-use Rattle.wired_law.proofs.Quiet.Answering.{block_there, replied_whole}
+use Rattle.wired_law.proofs.QuietLemmas.Quieting.{network_there, recorded_whole, sent_whole}
+use Rattle.wired_law.proofs.QuietLemmas.Answering.{block_there, replied_whole}
 use Rattle.wired_law.proofs.quiet.quiet_law.Goals as goal
 
 pub returns-clause-there : goal.returns-clause-there

@@ -1,5 +1,5 @@
 use Rattle.std.proofs.Common.{◌≡◌, ◌∙◌, refl}
-use Rattle.actor_rows.proofs.Seats.Fitting.{starts_on}
+use Rattle.actor_rows.proofs.SeatsLemmas.Fitting.{starts_on}
 use Rattle.actor_rows.proofs.seats.tests.a_driver_moves_a_hundred_bytes_over_rings.Goals as goal
 
 -- src/tests.rt:14:41

@@ -1,4 +1,4 @@
-use Rattle.client_programs.proofs.Blk.Standing.{new_stands}
+use Rattle.client_programs.proofs.BlkLemmas.Standing.{new_stands}
 use Rattle.client_programs.proofs.blk.BlkClient.new.Goals as goal
 
 pub returns-clause-stands : goal.returns-clause-stands

@@ -4,7 +4,7 @@ use Rattle.std.proofs.lemmas.Bool.{ltb-false}
 use Rattle.wire_core.specs.Deeds.{Cargo}
 use Rattle.wire_core.specs.Lists.{with}
 use Rattle.client_programs.specs.Blk.Clients.{BlkStands}
-use Rattle.client_programs.proofs.Blk.Standing.{in_turn, out_of_turn}
+use Rattle.client_programs.proofs.BlkLemmas.Standing.{in_turn, out_of_turn}
 use Rattle.client_programs.proofs.blk.BlkClient.receive.Goals as goal
 
 pub returns-then-is_due-clause-stands : goal.returns-then-is_due-clause-stands

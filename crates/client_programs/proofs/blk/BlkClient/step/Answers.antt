@@ -3,7 +3,7 @@ use Rattle.std.specs.Option.{option_to_list}
 use Rattle.client_programs.specs.declared.blk.BlkClient.{BlkClient}
 use Rattle.client_programs.specs.declared.blk.asking.Asking.{Asking}
 use Rattle.client_programs.specs.Blk.Clients.{BlkStands, BlkClientStandsFor, resp_queue, req_queue}
-use Rattle.client_programs.proofs.Blk.Standing.{ready_stands}
+use Rattle.client_programs.proofs.BlkLemmas.Standing.{ready_stands}
 use Rattle.client_programs.proofs.blk.BlkClient.step.Goals as goal
 
 pub returns-in-0-clause-stepped : goal.returns-in-0-clause-stepped

@@ -6,7 +6,7 @@ use Rattle.wire_core.specs.Lists.{if_there, with_deed}
 use Rattle.client_programs.specs.declared.blk.asking.Asking.{Asking}
 use Rattle.client_programs.specs.Blk.Asking.{AskingStands, asking_hand}
 use Rattle.client_programs.specs.Blk.Clients.{BlkStands, resp_queue, req_queue}
-use Rattle.client_programs.proofs.Blk.Standing.{request_put, is_to_put, went, none_left, hand_put, same_queue}
+use Rattle.client_programs.proofs.BlkLemmas.Standing.{request_put, is_to_put, went, none_left, hand_put, same_queue}
 use Rattle.client_programs.proofs.blk.BlkClient.step_requests.Goals as goal
 
 pub returns-then-is_none-clause-stepped : goal.returns-then-is_none-clause-stepped

@@ -1,5 +1,5 @@
 use Rattle.std.proofs.Common.{arith}
-use Rattle.client_programs.proofs.Net.Holding.{hand_count}
+use Rattle.client_programs.proofs.NetLemmas.Holding.{hand_count}
 use Rattle.client_programs.proofs.net.NetClient.held.Goals as goal
 
 pub returns : goal.returns

@@ -1,4 +1,4 @@
-use Rattle.client_programs.proofs.Net.Standing.{new_holds}
+use Rattle.client_programs.proofs.NetLemmas.Standing.{new_holds}
 use Rattle.client_programs.proofs.net.NetClient.new.Goals as goal
 
 pub returns-clause-stands : goal.returns-clause-stands

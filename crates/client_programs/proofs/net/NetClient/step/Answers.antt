@@ -1,6 +1,6 @@
 use Rattle.std.proofs.Common.{◌∙◌, sym, subst}
 use Rattle.client_programs.specs.Net.Clients.{ClientStandsFor}
-use Rattle.client_programs.proofs.Net.Standing.{reserved_holds}
+use Rattle.client_programs.proofs.NetLemmas.Standing.{reserved_holds}
 use Rattle.client_programs.proofs.net.NetClient.step.Goals as goal
 
 pub returns-in-0-clause-stepped : goal.returns-in-0-clause-stepped

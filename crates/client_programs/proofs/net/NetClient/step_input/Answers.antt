@@ -2,8 +2,8 @@ use Rattle.std.proofs.Common.{◌∙◌, ◌≡◌, ◌==◌, ◌++◌, ◌∷�
 use Rattle.std.specs.Option.{option_map, option_to_list}
 use Rattle.wire_core.specs.Lists.{if_there}
 use Rattle.client_programs.specs.Net.Clients.{rx_active, rx_free, tx_active, tx_free}
-use Rattle.client_programs.proofs.Net.Sending.{needed_so}
-use Rattle.client_programs.proofs.Net.Standing.{frame_came, frames_took, needing, nothing_more, held_by}
+use Rattle.client_programs.proofs.NetLemmas.Sending.{needed_so}
+use Rattle.client_programs.proofs.NetLemmas.Standing.{frame_came, frames_took, needing, nothing_more, held_by}
 use Rattle.client_programs.proofs.net.NetClient.step_input.Goals as goal
 
 pub returns-in-Some-clause-stepped : goal.returns-in-Some-clause-stepped

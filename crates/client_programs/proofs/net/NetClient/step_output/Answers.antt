@@ -2,8 +2,8 @@ use Rattle.std.proofs.Common.{◌∙◌, ◌≡◌, ◌++◌, not, sym, ap, refl
 use Rattle.std.specs.Option.{option_map, option_to_list}
 use Rattle.wire_core.specs.Deeds.{put_of}
 use Rattle.client_programs.specs.Net.Clients.{rx_active, rx_free, tx_active, tx_free}
-use Rattle.client_programs.proofs.Net.Sending.{stock_empty, nothing_in, went_list, still_same}
-use Rattle.client_programs.proofs.Net.Standing.{load_went, stock_went, buffers_put}
+use Rattle.client_programs.proofs.NetLemmas.Sending.{stock_empty, nothing_in, went_list, still_same}
+use Rattle.client_programs.proofs.NetLemmas.Standing.{load_went, stock_went, buffers_put}
 use Rattle.client_programs.proofs.net.NetClient.step_output.Goals as goal
 
 pub returns-then-is_none-clause-stepped : goal.returns-then-is_none-clause-stepped

@@ -4,7 +4,7 @@ use Rattle.wire_core.specs.Deeds.{Cargo, put_of}
 use Rattle.client_programs.specs.Net.Programs.{frames_out}
 use Rattle.client_programs.specs.Net.Sending.{OutboxStandsFor}
 use Rattle.client_programs.specs.Net.Clients.{rx_active, rx_free, tx_active, tx_free}
-use Rattle.client_programs.proofs.Net.Standing.{frame_put, frames_put}
+use Rattle.client_programs.proofs.NetLemmas.Standing.{frame_put, frames_put}
 use Rattle.client_programs.proofs.net.NetClient.step_send.Goals as goal
 
 pub returns-clause-stepped : goal.returns-clause-stepped

@@ -2,8 +2,8 @@ use Rattle.std.proofs.Common.{◌∙◌, ◌≡◌, sym, ap, refl}
 use Rattle.std.specs.Option.{option_map, option_to_list}
 use Rattle.client_programs.specs.Net.Sending.{needs_buffer}
 use Rattle.client_programs.specs.Net.Clients.{rx_active, rx_free, tx_active, tx_free}
-use Rattle.client_programs.proofs.Net.Sending.{needed_some, nothing_came}
-use Rattle.client_programs.proofs.Net.Standing.{buffer_came_back, buffers_took, held_by, no_buffer_more}
+use Rattle.client_programs.proofs.NetLemmas.Sending.{needed_some, nothing_came}
+use Rattle.client_programs.proofs.NetLemmas.Standing.{buffer_came_back, buffers_took, held_by, no_buffer_more}
 use Rattle.client_programs.proofs.net.NetClient.step_sent.Goals as goal
 
 pub returns-then-is_some-clause-stepped : goal.returns-then-is_some-clause-stepped

@@ -3,7 +3,7 @@ use Rattle.std.specs.Option.{option_map, option_to_list}
 use Rattle.wire_core.specs.Deeds.{deed_of}
 use Rattle.wire_core.specs.Lists.{if_there, with_deed}
 use Rattle.device_model.specs.Disk.Disks.{DiskStandsFor, req}
-use Rattle.device_model.proofs.Disk.Standing.{request_came, asking}
+use Rattle.device_model.proofs.DiskLemmas.Standing.{request_came, asking}
 use Rattle.device_model.proofs.disk.DiskDevice.step_input.Goals as goal
 
 pub returns-in-Some-clause-stepped : goal.returns-in-Some-clause-stepped

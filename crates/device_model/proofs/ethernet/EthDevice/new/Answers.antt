@@ -1,5 +1,5 @@
 use Rattle.std.proofs.Common.{arith, refl}
-use Rattle.device_model.proofs.Ethernet.Standing.{nothing_filled}
+use Rattle.device_model.proofs.EthernetLemmas.Standing.{nothing_filled}
 use Rattle.device_model.proofs.ethernet.EthDevice.new.Goals as goal
 
 pub returns-clause-stands : goal.returns-clause-stands

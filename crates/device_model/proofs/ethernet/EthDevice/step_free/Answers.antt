@@ -3,7 +3,7 @@ use Rattle.std.specs.Option.{option_map, option_to_list}
 use Rattle.wire_core.specs.Deeds.{deed_of}
 use Rattle.wire_core.specs.Lists.{if_there, with_deed}
 use Rattle.device_model.specs.Ethernet.Devices.{DeviceStandsFor}
-use Rattle.device_model.proofs.Ethernet.Standing.{buffer_came, filling, needed_so}
+use Rattle.device_model.proofs.EthernetLemmas.Standing.{buffer_came, filling, needed_so}
 use Rattle.device_model.proofs.ethernet.EthDevice.step_free.Goals as goal
 
 pub overflow_add-self : goal.overflow_add-self

@@ -1,5 +1,5 @@
 use Rattle.std.proofs.Common.{[], ◌∷◌, ◌++◌}
-use Rattle.client_programs.proofs.Blk.Asks.{stands_put}
+use Rattle.client_programs.proofs.BlkLemmas.Asks.{stands_put}
 use Rattle.client_programs.proofs.blk.asking.Asking.go_on.Goals as goal
 
 pub returns-clause-stands : goal.returns-clause-stands

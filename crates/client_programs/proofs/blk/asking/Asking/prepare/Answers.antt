@@ -3,7 +3,7 @@ use Rattle.std.specs.Option.{option_to_list}
 use Rattle.cargo_core.specs.Bodies.{buffers_of}
 use Rattle.wire_core.specs.Deeds.{Cargo}
 use Rattle.turn_kit.specs.Hands.{bodies_of}
-use Rattle.client_programs.proofs.Blk.Asks.{stands_prepared, found_at, no_next, hand_count}
+use Rattle.client_programs.proofs.BlkLemmas.Asks.{stands_prepared, found_at, no_next, hand_count}
 use Rattle.client_programs.proofs.blk.asking.Asking.prepare.Goals as goal
 
 none_was : (c : goal.Joined-self-next_request) → c.args.self.now.next ≡ None

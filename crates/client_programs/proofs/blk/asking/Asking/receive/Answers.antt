@@ -4,7 +4,7 @@ use Rattle.cargo_core.specs.declared.item.BlkResp.{BlkResp}
 use Rattle.wire_core.specs.Deeds.{Cargo}
 use Rattle.buffer_kit.specs.Entries.{first_bytes}
 use Rattle.client_programs.specs.Blk.Asking.{reply_to, read_bytes, and_one}
-use Rattle.client_programs.proofs.Blk.Asks.{stands_received, due_ask, hand_count, came_count}
+use Rattle.client_programs.proofs.BlkLemmas.Asks.{stands_received, due_ask, hand_count, came_count}
 use Rattle.client_programs.proofs.blk.asking.Asking.receive.Goals as goal
 
 within_one : (n m : ℕ) (o : Option Cargo) → and_one n o ≤ m → n ≤ m

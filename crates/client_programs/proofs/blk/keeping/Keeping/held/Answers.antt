@@ -3,7 +3,7 @@ use Rattle.cargo_core.specs.Bodies.{buffers_of}
 use Rattle.cargo_core.specs.Pages.{Paged}
 use Rattle.buffer_kit.specs.Pools.{page_bodies}
 use Rattle.client_programs.specs.Blk.Kept.{Kept}
-use Rattle.client_programs.proofs.Blk.Pages.{both_count}
+use Rattle.client_programs.proofs.BlkLemmas.Pages.{both_count}
 use Rattle.client_programs.proofs.blk.keeping.Keeping.held.Goals as goal
 
 pub returns-clause-held : goal.returns-clause-held

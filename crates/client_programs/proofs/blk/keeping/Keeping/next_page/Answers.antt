@@ -3,7 +3,7 @@ use Rattle.std.specs.Option.{option_to_list}
 use Rattle.std.proofs.Common.{append_assoc}
 use Rattle.cargo_core.specs.Pages.{Paged}
 use Rattle.client_programs.specs.Blk.Kept.{Kept}
-use Rattle.client_programs.proofs.Blk.Pages.{popped, none_popped}
+use Rattle.client_programs.proofs.BlkLemmas.Pages.{popped, none_popped}
 use Rattle.client_programs.proofs.blk.keeping.Keeping.next_page.Goals as goal
 
 list_is : (c : goal.After-pop) → c.args.self.now.pages ≡ reverse c.refill.new.front.items ++ c.refill.new.back.items

@@ -1,5 +1,5 @@
 use Rattle.std.proofs.Common.{refl}
-use Rattle.client_programs.proofs.Net.Sending.{outbox_starts}
+use Rattle.client_programs.proofs.NetLemmas.Sending.{outbox_starts}
 use Rattle.client_programs.proofs.net.outbox.Outbox.new.Goals as goal
 
 pub returns-clause-stands : goal.returns-clause-stands
