@@ -10,6 +10,7 @@ use Rattle.wire_core.specs.Journal.{History, track}
 abbrev pub sent : History → ℕ → List Entry → List Item
 sent history n journal = (track history n journal).sent
 
+-- the items that were taken from a queue
 abbrev pub taken : History → ℕ → List Entry → List Item
 taken history n journal = (track history n journal).taken
 

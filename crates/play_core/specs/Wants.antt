@@ -16,6 +16,7 @@ pub record Want : Type 0 where
   pub role : Role
   pub need : Bool
 
+-- the end that a want is about
 abbrev pub seat_of : Want → Seat
 seat_of w = record { queue = w.queue; role = w.role }
 
@@ -23,6 +24,7 @@ seat_of w = record { queue = w.queue; role = w.role }
 abbrev pub intake : ℕ → Seat
 intake n = record { queue = n; role = Consumer }
 
+-- the producing end of a queue
 abbrev pub outlet : ℕ → Seat
 outlet n = record { queue = n; role = Producer }
 
@@ -30,6 +32,7 @@ outlet n = record { queue = n; role = Producer }
 abbrev pub intake_want : ℕ → Bool → Want
 intake_want n need = record { queue = n; role = Consumer; need = need }
 
+-- a producing end, with whether its owner owes an entry there
 abbrev pub outlet_want : ℕ → Bool → Want
 outlet_want n owed = record { queue = n; role = Producer; need = owed }
 
@@ -46,6 +49,7 @@ abbrev pub bells_settled : Bells → Role → Bool → Bool
 bells_settled b Consumer need = end_settled b.forward.waiter b.backward.ringer need
 bells_settled b Producer need = end_settled b.backward.waiter b.forward.ringer need
 
+-- the end of a want is settled, by its bells
 abbrev pub want_settled : History → List Entry → Want → Bool
 want_settled history journal w = bells_settled (track history w.queue journal).bells w.role w.need
 

@@ -114,6 +114,7 @@ producer_of plan place (Way.FromDevice driver) = device_at plan place
 producer_of plan place (Way.ToDevice driver) = actor_named plan driver
 producer_of plan place (Way.Across link) = actor_named plan link.from
 
+-- the consumer of a queue of the element at a place
 abbrev pub consumer_of : Plan → Place → Ends Name → ActorId
 consumer_of plan place (Way.FromDevice driver) = actor_named plan driver
 consumer_of plan place (Way.ToDevice driver) = device_at plan place
@@ -131,6 +132,7 @@ queue_row plan place q =
     (text_of q.name) q.kind
     (producer_of plan place q.ends) (consumer_of plan place q.ends) q.capacity
 
+-- the row of the layout that a pool is
 abbrev pub pool_row : Plan → PoolUse Name → PoolRow
 pool_row plan p = pool_in plan p.region (text_of p.name) p.buffers p.size
 
@@ -138,6 +140,7 @@ pool_row plan p = pool_in plan p.region (text_of p.name) p.buffers p.size
 abbrev pub queue_rows : Plan → Element → List QueueRow
 queue_rows plan e = map (queue_row plan e.place) e.queues
 
+-- the rows of the pools of an element
 abbrev pub pool_rows : Plan → Element → List PoolRow
 pool_rows plan e = map (pool_row plan) e.pools
 
@@ -145,6 +148,7 @@ pool_rows plan e = map (pool_row plan) e.pools
 unfoldable pub queues_of : Plan → List QueueRow
 queues_of plan = flat_map (queue_rows plan) (table_of plan)
 
+-- all pools of a plan, element by element
 unfoldable pub pools_of : Plan → List PoolRow
 pools_of plan = flat_map (pool_rows plan) (table_of plan)
 
@@ -187,6 +191,7 @@ eth_rx_queues plan net =
     ∷ device_queue plan (codes "eth.rx.active") Kind.Net (eth_number plan)
     (actor_named plan net.driver) net.rx_capacity ∷ []
 
+-- the queues between the Ethernet driver and its device, of what is sent
 unfoldable pub eth_tx_queues : Plan → Net → List QueueRow
 eth_tx_queues plan net =
     device_queue plan (codes "eth.tx.active") Kind.Net (actor_named plan net.driver)
@@ -200,6 +205,7 @@ net_rx_queues plan net = queue_pair plan net.rx_queues (codes "net.rx.active") K
     (codes "net.rx.free") Kind.Net (actor_named plan net.driver)
     (actor_named plan net.rx_virt) net.rx_capacity
 
+-- the queues between the sending virtualiser and the Ethernet driver
 unfoldable pub net_tx_queues : Plan → Net → List QueueRow
 net_tx_queues plan net = queue_pair plan net.tx_queues (codes "net.tx.active") Kind.Net
     (codes "net.tx.free") Kind.Net (actor_named plan net.tx_virt)
@@ -213,18 +219,21 @@ lease_queues plan net c client =
     (client_name (codes "net.") c (codes ".lease.free")) Kind.Net
     (actor_named plan net.rx_virt) (actor_named plan client.copier) net.rx_capacity
 
+-- the queues of what a network client receives
 unfoldable pub client_rx_queues : Plan → ℕ → NetClient → List QueueRow
 client_rx_queues plan c client =
     queue_pair plan client.rx_queues (client_name (codes "net.") c (codes ".rx.active")) Kind.Net
     (client_name (codes "net.") c (codes ".rx.free")) Kind.Net (actor_named plan client.copier)
     (actor_named plan client.pd) client.rx_capacity
 
+-- the queues of what a network client sends
 unfoldable pub client_tx_queues : Plan → Net → ℕ → NetClient → List QueueRow
 client_tx_queues plan net c client =
     queue_pair plan client.tx_queues (client_name (codes "net.") c (codes ".tx.active")) Kind.Net
     (client_name (codes "net.") c (codes ".tx.free")) Kind.Net (actor_named plan client.pd)
     (actor_named plan net.tx_virt) client.tx_capacity
 
+-- all queues of a network client
 unfoldable pub net_client_queues : Plan → Net → ℕ → NetClient → List QueueRow
 net_client_queues plan net c client =
     lease_queues plan net c client ++ client_rx_queues plan c client
@@ -295,9 +304,11 @@ blk_queues plan blk = disk_queues plan blk ++ shared_blk_queues plan blk
 abbrev pub net_buffer : ℕ
 net_buffer = 2048
 
+-- the bytes of a block buffer
 abbrev pub blk_buffer : ℕ
 blk_buffer = 32768
 
+-- the pools of a network client
 unfoldable pub net_client_pools : Plan → ℕ → NetClient → List PoolRow
 net_client_pools plan c client =
     pool_in plan client.rx_region (client_name (codes "net.") c
@@ -305,14 +316,17 @@ net_client_pools plan c client =
     ∷ pool_in plan client.tx_region (client_name (codes "net.") c
     (codes ".tx")) client.tx_buffers net_buffer ∷ []
 
+-- the pools of the network class and of its clients
 unfoldable pub net_pools : Plan → Net → List PoolRow
 net_pools plan net = pool_in plan net.rx_region (codes "net.rx") net.rx_buffers net_buffer
     ∷ each_client (net_client_pools plan) 0 net.client
 
+-- the pool of a block client
 unfoldable pub blk_client_pools : Plan → ℕ → BlkClient → List PoolRow
 blk_client_pools plan c client = pool_in plan client.region
     (client_name (codes "blk.") c []) client.buffers blk_buffer ∷ []
 
+-- the pools of the block class and of its clients
 unfoldable pub blk_pools : Plan → Blk → List PoolRow
 blk_pools plan blk = pool_in plan blk.region (codes "blk") 1 blk_buffer
     ∷ each_client (blk_client_pools plan) 0 blk.client

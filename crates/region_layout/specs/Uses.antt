@@ -8,8 +8,10 @@ use Rattle.class_table.specs.declared.uses.ClassElement.{ClassElement}
 abbrev pub IsSmallQueue : {T : Type 0} → QueueUse T → Type 0
 IsSmallQueue q = q.capacity < 2 ^ 32
 
+-- a pool whose number of buffers, and whose size, have 32 bits
 abbrev pub IsSmallPool : {T : Type 0} → PoolUse T → Type 0
 IsSmallPool p = (p.buffers < 2 ^ 32) × (p.size < 2 ^ 32)
 
+-- an element all of whose queues and pools have numbers of 32 bits
 abbrev pub IsSmallElement : {T : Type 0} → ClassElement T → Type 0
 IsSmallElement e = All IsSmallQueue e.queues × All IsSmallPool e.pools

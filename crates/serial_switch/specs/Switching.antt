@@ -15,6 +15,7 @@ pub data Piece : Type 0 where
 abbrev pub escape : ℕ
 escape = 28
 
+-- the byte that ends a selection, a carriage return
 abbrev pub confirm : ℕ
 confirm = 13
 

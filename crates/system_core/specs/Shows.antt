@@ -42,6 +42,7 @@ pub record State : Type 0 where
   pub pools : List Census
   pub bad : ℕ
 
+-- what a system shows: what stays the same, the one journal, and what can be seen of it
 pub record Shown : Type 0 where
   pub setting : Setting
   pub journal : List Entry
@@ -51,6 +52,7 @@ pub record Shown : Type 0 where
 abbrev pub manner_in : Setting → Manners
 manner_in s = manners s.cast
 
+-- which of the actors are hostile
 abbrev pub hostile_in : Setting → Hostiles
 hostile_in s = hostiles s.cast
 

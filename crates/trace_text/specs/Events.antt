@@ -47,9 +47,11 @@ runs domains name program =
 abbrev pub net_clients : Plan → List NetClient
 net_clients plan = option_map_or (λ net. net.client) plan.net []
 
+-- the clients of the serial class
 abbrev pub serial_clients : Plan → List SerialClient
 serial_clients plan = option_map_or (λ serial. serial.client) plan.serial []
 
+-- the clients of the block class
 abbrev pub blk_clients : Plan → List BlkClient
 blk_clients plan = option_map_or (λ blk. blk.client) plan.blk []
 
@@ -77,6 +79,7 @@ kept_if holds event = if holds then event else None
 abbrev pub with_number : List ℕ → (ℕ → Option Event) → Option Event
 with_number word event = option_and_then event (number_of word)
 
+-- the event of the bytes that a word stands for
 abbrev pub with_data : List ℕ → (List ℕ → Option Event) → Option Event
 with_data word event = option_and_then event (data_of word)
 

@@ -9,5 +9,6 @@ use Rattle.turn_kit.specs.Turns.{Post}
 abbrev pub intake_post : Intake → Post
 intake_post i = record { queue = i.queue.0; side = Forward; drops = false; state = i.state }
 
+-- a producing end as one that its actor keeps
 abbrev pub outlet_post : Outlet → Post
 outlet_post o = record { queue = o.queue.0; side = Backward; drops = false; state = o.state }
