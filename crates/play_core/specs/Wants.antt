@@ -20,7 +20,7 @@ pub record Want : Type 0 where
 abbrev pub seat_of : Want → Seat
 seat_of w = record { queue = w.queue; role = w.role }
 
--- an end from which an actor takes, and one to which it puts
+-- the consuming end of a queue
 abbrev pub intake : ℕ → Seat
 intake n = record { queue = n; role = Consumer }
 
@@ -28,11 +28,11 @@ intake n = record { queue = n; role = Consumer }
 abbrev pub outlet : ℕ → Seat
 outlet n = record { queue = n; role = Producer }
 
--- an entry is needed at an intake, or not; room is needed at an outlet, since an entry is owed
+-- a consuming end, with whether its owner needs an entry there
 abbrev pub intake_want : ℕ → Bool → Want
 intake_want n need = record { queue = n; role = Consumer; need = need }
 
--- a producing end, with whether its owner owes an entry there
+-- a producing end, with whether its owner needs room there, since it owes an entry
 abbrev pub outlet_want : ℕ → Bool → Want
 outlet_want n owed = record { queue = n; role = Producer; need = owed }
 

@@ -108,7 +108,7 @@ device_at plan At.Net = eth_number plan
 device_at plan At.Serial = uart_number plan
 device_at plan _ = disk_number plan
 
--- the producer of a queue of the element at a place, and its consumer
+-- the producer of a queue of the element at a place
 abbrev pub producer_of : Plan → Place → Ends Name → ActorId
 producer_of plan place (Way.FromDevice driver) = device_at plan place
 producer_of plan place (Way.ToDevice driver) = actor_named plan driver
@@ -125,7 +125,7 @@ abbrev pub region_of : Plan → Ends Name → Option ℕ
 region_of plan (Way.Across link) = region_named plan link.region
 region_of plan _ = None
 
--- the row of the layout that a queue of the element at a place is, and that a pool is
+-- the row of the layout that a queue of the element at a place is
 abbrev pub queue_row : Plan → Place → QueueUse Name → QueueRow
 queue_row plan place q =
     queue_in plan (region_of plan q.ends) (offset_behind q.behind q.capacity)
@@ -136,7 +136,7 @@ queue_row plan place q =
 abbrev pub pool_row : Plan → PoolUse Name → PoolRow
 pool_row plan p = pool_in plan p.region (text_of p.name) p.buffers p.size
 
--- the rows of an element
+-- the rows of the queues of an element
 abbrev pub queue_rows : Plan → Element → List QueueRow
 queue_rows plan e = map (queue_row plan e.place) e.queues
 
@@ -144,7 +144,7 @@ queue_rows plan e = map (queue_row plan e.place) e.queues
 abbrev pub pool_rows : Plan → Element → List PoolRow
 pool_rows plan e = map (pool_row plan) e.pools
 
--- all queues and all pools: the rows of the table of classes, element by element
+-- all queues: the rows of the table of classes, element by element
 unfoldable pub queues_of : Plan → List QueueRow
 queues_of plan = flat_map (queue_rows plan) (table_of plan)
 
@@ -183,7 +183,7 @@ abbrev pub each_client : {C T : Type 0} → (ℕ → C → List T) → ℕ → L
 each_client rows c [] = []
 each_client rows c (client ∷ rest) = rows c client ++ each_client rows (c + 1) rest
 
--- the queues between the Ethernet device and its driver
+-- the queues between the Ethernet driver and its device, of what is received
 unfoldable pub eth_rx_queues : Plan → Net → List QueueRow
 eth_rx_queues plan net =
     device_queue plan (codes "eth.rx.free") Kind.Net (actor_named plan net.driver)
@@ -199,7 +199,7 @@ eth_tx_queues plan net =
     ∷ device_queue plan (codes "eth.tx.free") Kind.Net (eth_number plan)
     (actor_named plan net.driver) net.tx_capacity ∷ []
 
--- the queues between the driver and each virtualiser of the network class
+-- the queues between the Ethernet driver and the receiving virtualiser
 unfoldable pub net_rx_queues : Plan → Net → List QueueRow
 net_rx_queues plan net = queue_pair plan net.rx_queues (codes "net.rx.active") Kind.Net
     (codes "net.rx.free") Kind.Net (actor_named plan net.driver)
@@ -211,7 +211,7 @@ net_tx_queues plan net = queue_pair plan net.tx_queues (codes "net.tx.active") K
     (codes "net.tx.free") Kind.Net (actor_named plan net.tx_virt)
     (actor_named plan net.driver) net.tx_capacity
 
--- the queues of a network client: of its leases, of what it receives, and of what it sends
+-- the queues of a network client's leases
 unfoldable pub lease_queues : Plan → Net → ℕ → NetClient → List QueueRow
 lease_queues plan net c client =
     queue_pair plan client.lease_queues
@@ -300,7 +300,7 @@ unfoldable pub blk_queues : Plan → Blk → List QueueRow
 blk_queues plan blk = disk_queues plan blk ++ shared_blk_queues plan blk
     ++ each_client (blk_client_queues plan blk) 0 blk.client
 
--- the bytes of a network buffer, and of a block buffer
+-- the bytes of a network buffer
 abbrev pub net_buffer : ℕ
 net_buffer = 2048
 

@@ -22,7 +22,7 @@ pub record AreSmallRegions (regions : List Region) : Type 0 where
   pub few : length regions ≤ 256
   pub each : (k : ℕ) (region : Region) → slice_get regions k ≡ Some region → IsSmallRegion region
 
--- capacities and numbers of buffers have 32 bits
+-- the numbers of a network client have 32 bits
 pub record IsSmallNetClient (client : NetClient) : Type 0 where
   pub rx_capacity : client.rx_capacity < 2 ^ 32
   pub tx_capacity : client.tx_capacity < 2 ^ 32

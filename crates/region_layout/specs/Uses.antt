@@ -4,7 +4,7 @@ use Rattle.class_table.specs.declared.uses.QueueUse.{QueueUse}
 use Rattle.class_table.specs.declared.uses.PoolUse.{PoolUse}
 use Rattle.class_table.specs.declared.uses.ClassElement.{ClassElement}
 
--- a queue, and a pool, whose numbers have 32 bits
+-- a queue whose capacity has 32 bits
 abbrev pub IsSmallQueue : {T : Type 0} → QueueUse T → Type 0
 IsSmallQueue q = q.capacity < 2 ^ 32
 

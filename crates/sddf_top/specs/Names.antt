@@ -5,7 +5,7 @@ use Rattle.std.specs.Cmp.Lexicographic.{pointwise}
 use Rattle.sddf_top.specs.FaultPlans.{Planned}
 use Rattle.sddf_top.specs.declared.memory_shelf.NamedText.{NamedText}
 
--- the first text of this name: its place, and its bytes
+-- the place of the first text of a name
 abbrev pub place_under : List NamedText → List ℕ → Option ℕ
 place_under kept name = position (λ k. pointwise nat_eq k.name name) kept
 

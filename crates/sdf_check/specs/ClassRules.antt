@@ -44,7 +44,7 @@ OfLink P (Way.Across link) = P link
 OfLink P (Way.FromDevice driver) = ⊥
 OfLink P (Way.ToDevice driver) = ⊥
 
--- rule 13: the region of a queue or of a pool isn't there
+-- the region of a queue isn't there
 abbrev pub QueueHasNoRegion : Plan → QueueUse Name → Type 0
 QueueHasNoRegion plan q = OfLink (λ link. IsNone (region_named plan link.region)) q.ends
 
@@ -57,7 +57,7 @@ abbrev pub UsesNoRegion : Plan → Element → Type 0
 UsesNoRegion plan e = SomeOf (QueueHasNoRegion plan) e.queues
     ⊎ SomeOf (PoolHasNoRegion plan) e.pools
 
--- rule 17: a domain that has a role isn't there
+-- the domain that has a role isn't there
 abbrev pub RoleHasNoDomain : Plan → RoleUse Name → Type 0
 RoleHasNoDomain plan r = IsNone (domain_named plan r.domain)
 
@@ -65,7 +65,7 @@ RoleHasNoDomain plan r = IsNone (domain_named plan r.domain)
 abbrev pub UsesNoDomain : Plan → Element → Type 0
 UsesNoDomain plan e = SomeOf (RoleHasNoDomain plan) e.roles
 
--- what the elements of a class name, the class itself and then its clients
+-- the names that the network class and its clients use, read in these two ways
 abbrev pub net_names : (Net → List (List ℕ)) → (NetClient → List (List ℕ)) → Plan → List (List ℕ)
 net_names class client plan = option_map_or
     (λ net. class net ++ flat_map client net.client) plan.net []
@@ -81,8 +81,7 @@ abbrev pub blk_names : (Blk → List (List ℕ)) → (BlkClient → List (List �
 blk_names class client plan = option_map_or
     (λ blk. class blk ++ flat_map client blk.client) plan.blk []
 
--- the domains, and the regions, that class elements name, element by element in the order of the
--- table
+-- the domains that class elements name, element by element in the order of the table
 abbrev pub class_domains : Plan → List (List ℕ)
 class_domains plan = flat_map domains_of (table_of plan)
 
@@ -134,7 +133,7 @@ AreJoined plan link = SomeOf (Joins link) plan.channel
 abbrev pub HasInterrupt : Plan → List ℕ → Type 0
 HasInterrupt plan name = IsSomeAnd (the_domain plan name) (λ domain. 0 < length domain.irq)
 
--- rule 22: the two domains of a queue have no channel between them, or a driver has no interrupt
+-- the two domains of a queue have no channel between them
 abbrev pub QueueHasNoChannel : Plan → QueueUse Name → Type 0
 QueueHasNoChannel plan q = OfLink (λ link. ¬ AreJoined plan (link.from, link.to)) q.ends
 
@@ -156,8 +155,7 @@ abbrev pub IsGranted : Plan → List ℕ × List ℕ × Bool → Type 0
 IsGranted plan right = IsSomeAnd (the_domain plan right.0)
     (λ domain. SomeOf (Grants right.1 right.2) domain.map)
 
--- rule 23: one of the two domains of a queue can't read and write its region, or one that must map
--- the region of a pool doesn't do so with the permissions asked
+-- one of the two domains of a queue can't read and write its region
 abbrev pub QueueLacksRight : Plan → QueueUse Name → Type 0
 QueueLacksRight plan q =
     OfLink (λ link. (¬ IsGranted plan (link.from, link.region, true))
@@ -217,7 +215,7 @@ HasLowCapacity e = SomeOf (λ (q : QueueUse Name). q.capacity < q.holds) e.queue
 abbrev pub IsSmaller : Plan → List ℕ × ℕ → Type 0
 IsSmaller plan need = IsSomeAnd (the_region plan need.0) (λ region. region.size < need.1)
 
--- rule 27: a region ends before the queue or the pool that stands there
+-- a region ends before the queue that stands there
 abbrev pub QueueLacksRoom : Plan → QueueUse Name → Type 0
 QueueLacksRoom plan q = OfLink (λ link. IsSmaller plan (link.region, queue_end q)) q.ends
 
@@ -245,7 +243,7 @@ HasBadPartition plan (At.BlkClient c) =
     (map (λ (other : BlkClient). other.partition) blk.client) c))
 HasBadPartition plan _ = ⊥
 
--- a count of clients, and of the buffers of a pool
+-- a number of clients that is allowed: from 1 to 8
 abbrev pub IsClientCount : ℕ → Type 0
 IsClientCount n = (1 ≤ n) × (n ≤ 8)
 

@@ -11,7 +11,7 @@ use Rattle.sdf_plan.specs.declared.plan.SerialClient.{SerialClient}
 use Rattle.sdf_plan.specs.declared.plan.Blk.{Blk}
 use Rattle.sdf_plan.specs.declared.plan.BlkClient.{BlkClient}
 
--- the names of the regions, and of the domains, in file order
+-- the names of some regions, in file order
 abbrev pub region_names_of : List Region → List (List ℕ)
 region_names_of regions = map (λ (r : Region). r.name) regions
 
@@ -31,7 +31,7 @@ domain_names plan = domain_names_of plan.protection_domain
 abbrev pub place_of : List ℕ → List (List ℕ) → Option ℕ
 place_of name names = position (λ other. bytes_eq other name) names
 
--- the place of the region, or of the domain, that has this name
+-- the place of the region that has a name
 abbrev pub region_named : Plan → List ℕ → Option ℕ
 region_named plan name = place_of name (region_names plan)
 
@@ -44,7 +44,7 @@ abbrev pub StandsBefore : {T : Type 0} → T → List T → ℕ → Type 0
 StandsBefore value values at = (earlier : ℕ) × (earlier < at)
     × (slice_get values earlier ≡ Some value)
 
--- the regions that the elements of a class name, as proofs tell them one by one
+-- the regions that the network class names
 abbrev pub net_regions : Net → List (List ℕ)
 net_regions net = net.rx_queues ∷ net.tx_queues ∷ net.rx_region ∷ []
 
@@ -69,7 +69,7 @@ blk_regions blk = blk.queues ∷ blk.region ∷ []
 abbrev pub blk_client_regions : BlkClient → List (List ℕ)
 blk_client_regions client = client.queues ∷ client.region ∷ []
 
--- and their domains
+-- the domains that the network class names
 abbrev pub net_domains : Net → List (List ℕ)
 net_domains net = net.driver ∷ net.rx_virt ∷ net.tx_virt ∷ []
 

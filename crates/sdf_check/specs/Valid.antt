@@ -11,7 +11,7 @@ use Rattle.class_table.specs.Table.{Element, OfElement}
 use Rattle.sdf_check.specs.ClassRules.{UsesNoRegion, UsesNoDomain, LacksRole, GivesWrongRole, NamesDomainAgain, LacksChannel, LacksRight, IsSharedWithStranger, NamesRegionAgain, HasBadCapacity, HasLowCapacity, LacksRoom, HasBadMac, HasBadPartition, IsPastLimit}
 use Rattle.sdf_check.specs.Rules.{TakesName, IsPastLastDomain, HasPriorityTooHigh, HasPeriodTooShort, HasBadSize, HasBadPageSize, HasBadPhysAddr, MeetsGivenRange, NamesNoRegion, HasBadVaddr, MeetsMap, HasBadPerms, NamesNoDomain, HasIdTooHigh, TakesId, JoinsOneDomain}
 
--- the first and the last rule that a plan is judged by
+-- the number of the first rule that a plan is judged by
 abbrev pub first_rule : ℕ
 first_rule = 5
 

@@ -6,7 +6,7 @@ use Rattle.sdf_model.specs.declared.key.Absent.TheVariants as If
 use Rattle.sdf_model.specs.Keys.{Row}
 use Rattle.sdf_model.specs.Spelled.{number_if, number_or, text_if, truth_if}
 
--- what an absent number is, and an absent text and truth value
+-- the number that stands for an absent key
 abbrev pub absent_number : Absent → Members → ℕ
 absent_number (If.Number n) t = n
 absent_number If.Budget t = number_or 1000 (codes "budget") t
@@ -22,7 +22,7 @@ abbrev pub absent_truth : Absent → Bool
 absent_truth If.True = true
 absent_truth _ = false
 
--- what a field of a plan holds that is read by a key
+-- the number of a key in a table, or what stands for it
 abbrev pub number_in : Row → Members → ℕ
 number_in key t = unwrap_or (number_if key.name t) (absent_number key.absent t)
 

@@ -26,7 +26,7 @@ row name kind absent = record { name = name; kind = kind; absent = absent }
 abbrev pub row_of : Key → Row
 row_of key = record { name = key.name.now; kind = key.kind; absent = key.absent }
 
--- the keys of each element
+-- the keys of the system
 abbrev pub system_keys : List Row
 system_keys =
     row (codes "version") A.Version (If.Number 1)

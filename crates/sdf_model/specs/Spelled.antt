@@ -21,7 +21,7 @@ abbrev pub natural : ℤ → Option ℕ
 natural (pos n) = Some n
 natural (negsuc n) = None
 
--- the number at a key, if it is there; the text; the truth value
+-- the number at a key, if there is one
 abbrev pub number_if : List ℕ → Members → Option ℕ
 number_if key t = option_and_then natural (option_and_then as_integer (get_member key t))
 
@@ -50,7 +50,7 @@ number_at key t = number_or 0 key t
 abbrev pub text_at : List ℕ → Members → List ℕ
 text_at key t = text_or [] key t
 
--- the parts of a plan that a table spells
+-- the region that a table spells
 abbrev pub region_of : Members → Region
 region_of t = record {
   name = text_at (codes "name") t;

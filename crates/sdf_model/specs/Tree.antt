@@ -17,7 +17,7 @@ abbrev pub tables_in : Option Items → List Members
 tables_in None = []
 tables_in (Some items) = if are_tables items then tables_of items else []
 
--- the elements of the list at a key, and the table at a key
+-- the elements of the list at a key
 abbrev pub tables_at : List ℕ → Members → List Members
 tables_at key t = tables_in (option_and_then as_array (get_member key t))
 

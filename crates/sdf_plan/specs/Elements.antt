@@ -16,7 +16,7 @@ use Rattle.sdf_plan.specs.declared.plan.SerialClient.{SerialClient}
 use Rattle.sdf_plan.specs.declared.plan.Blk.{Blk}
 use Rattle.sdf_plan.specs.declared.plan.BlkClient.{BlkClient}
 
--- how many maps and interrupts a domain has, and how many ends a channel
+-- how many maps and interrupts a domain has
 abbrev pub domain_parts : Domain → ℕ × ℕ
 domain_parts domain = (length domain.map, length domain.irq)
 
@@ -47,7 +47,7 @@ pub record IsNumbered (plan : Plan) : Type 0 where
   pub serial : IfSome plan.serial (λ (s : Serial). length s.client < 2 ^ 32)
   pub blk : IfSome plan.blk (λ (b : Blk). length b.client < 2 ^ 32)
 
--- an element stands at this place, and this holds of it
+-- a region stands at this place, and the fact holds of it
 abbrev pub OfRegion : Plan → ℕ → (Region → Type 0) → Type 0
 OfRegion plan r P = IsSomeAnd (slice_get plan.memory_region r) P
 

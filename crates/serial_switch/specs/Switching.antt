@@ -11,7 +11,7 @@ pub data Piece : Type 0 where
   Selection : List ℕ → Piece
   Dropped : List ℕ → ℕ → Piece
 
--- the byte that opens a selection, and the one that ends it
+-- the byte that opens a selection
 abbrev pub escape : ℕ
 escape = 28
 

@@ -3,7 +3,7 @@ use Rattle.std.specs.Prelude.{None}
 use Rattle.turn_kit.specs.declared.ends.Intake.{Intake}
 use Rattle.turn_kit.specs.declared.ends.Outlet.{Outlet}
 
--- an end without its last look
+-- a consuming end without its last look
 abbrev pub intake_forgotten : Intake → Intake
 intake_forgotten i = record i { state = record i.state { look = None } }
 

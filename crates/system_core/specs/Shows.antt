@@ -48,7 +48,7 @@ pub record Shown : Type 0 where
   pub journal : List Entry
   pub state : State
 
--- how each of the actors goes about, and which of them are hostile
+-- how each of the actors goes about
 abbrev pub manner_in : Setting → Manners
 manner_in s = manners s.cast
 

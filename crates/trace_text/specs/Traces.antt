@@ -9,7 +9,7 @@ use Rattle.trace_text.specs.Texts.{lines_of}
 use Rattle.trace_text.specs.Events.{Event, meaning, net_clients, serial_clients, blk_clients}
 use Rattle.trace_text.specs.Limits.{lines_most, stream_most}
 
--- what one event gives to each list of a trace
+-- what an event gives to the frames from outside
 abbrev pub frames_in : Event → List (List ℕ)
 frames_in (Event.Rx frame) = frame ∷ []
 frames_in _ = []
@@ -60,20 +60,19 @@ trace_from plan events = record {
   image = image_of events;
 }
 
--- what counts towards the limits: a line that gives a frame, the bytes of a line, a line that gives
--- a request, a `disk` line
+-- the line counts towards the limit of frames: it gives one
 abbrev pub is_frame_line : Event → Bool
 is_frame_line (Event.Rx frame) = true
 is_frame_line (Event.Send c frame) = true
 is_frame_line _ = false
 
--- the bytes of an event that count towards their limit
+-- the bytes of a line that count towards the limit of bytes
 abbrev pub stream_bytes_in : Event → ℕ
 stream_bytes_in (Event.In bytes) = length bytes
 stream_bytes_in (Event.Say c bytes) = length bytes
 stream_bytes_in _ = 0
 
--- the line gives a request
+-- the line counts towards the limit of requests: it gives one
 abbrev pub is_request_line : Event → Bool
 is_request_line (Event.Request c ask) = true
 is_request_line _ = false

@@ -16,7 +16,7 @@ AreApart qs =
     (k j : ℕ) (q q' : QueueId) → slice_get qs k ≡ Some q → slice_get qs j ≡ Some q' → q.0 ≡ q'.0
     → k ≡ j
 
--- the queues of the ends, in their order
+-- the queues of consuming ends, in their order
 abbrev pub intake_queues : Intakes → List QueueId
 intake_queues xs = map (λ i. i.queue) xs.ends.items
 
@@ -32,7 +32,7 @@ intake_posts xs = map intake_post xs.ends.items
 abbrev pub outlet_posts : Outlets → List Post
 outlet_posts xs = map outlet_post xs.ends.items
 
--- each end is the caller's own, and as it is kept; no two are of one queue
+-- consuming ends are the caller's own as they are kept, each on another queue
 pub record FitsIntakes (ends : Role → ℕ → End) (xs : Intakes) : Type 0 where
   pub agrees : (k : ℕ) (i : Intake) → slice_get xs.ends.items k ≡ Some i
       → Agrees (ends Consumer i.queue.0) i.state

@@ -159,7 +159,7 @@ abbrev pub owner_of : QueueRow → Role → ℕ
 owner_of row Consumer = row.consumer.0
 owner_of row Producer = row.producer.0
 
--- which actors are hostile; a queue has a hostile end where one of its owners is
+-- which actors are hostile
 abbrev pub Hostiles : Type 0
 Hostiles = ℕ → Bool
 
@@ -171,7 +171,7 @@ nobody actor = false
 abbrev pub is_calm : Hostiles → QueueRow → Bool
 is_calm hostile row = not (hostile row.producer.0) && not (hostile row.consumer.0)
 
--- whether an entry stands in the queue, and whether it has room, by what was put and taken
+-- an entry stands in the queue, by its track
 abbrev pub is_sent : Track → Bool
 is_sent t = nat_lt (length t.taken) (length t.sent)
 

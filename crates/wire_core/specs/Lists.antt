@@ -42,7 +42,7 @@ if_put (Do.Wanted s) c = []
 if_put (Do.Settle s) c = []
 if_put (Do.Ring s) c = []
 
--- what a deed takes from queue n, and puts there
+-- what a deed takes from each queue
 abbrev pub taken_by : Deed → Lists
 taken_by d n = if_there (d.event.queue.0 == n) (if_taken d.event.op (cargo_of d))
 

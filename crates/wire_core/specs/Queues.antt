@@ -36,12 +36,11 @@ pub record Queue : Type 0 where
   pub entries : List Cargo
   pub bells : Bells
 
--- a bell at the start: forward the consumer is busy and would be notified, backward the producer
--- wants no notification
+-- the forward bell at the start: the consumer is busy and would be notified
 abbrev pub start_forward : BellState
 start_forward = record { flag = false; pending = false; waiter = Wait.Busy; ringer = Rung.Free }
 
--- the backward bell at the start: the flag is raised, the waiter off
+-- the backward bell at the start: the producer is off and wants no notification
 abbrev pub start_backward : BellState
 start_backward = record { flag = true; pending = false; waiter = Wait.Off; ringer = Rung.Free }
 
