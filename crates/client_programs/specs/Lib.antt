@@ -1,3 +1,4 @@
--- What the contracts of this crate say, by its modules.
+-- What the contracts of the programs of network clients (NetClients) and block clients (BlkClients)
+-- say.
 pub mod NetClients
 pub mod BlkClients

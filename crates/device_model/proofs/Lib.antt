@@ -1,3 +1,4 @@
+-- The proofs on the devices.
 pub mod EthDevices
 pub mod DiskDevices
 pub mod SerialTerminal

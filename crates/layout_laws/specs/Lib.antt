@@ -1,4 +1,5 @@
--- What the laws on the layouts of valid plans say.
+-- What the laws on the layouts of valid plans say: of its queues, pools and actors (Sound), of the
+-- jobs of actors (JobLaw), and of the queues at which these stand (SeatLaw).
 pub mod Sound
 pub mod JobLaw
 pub mod SeatLaw

@@ -1,5 +1,7 @@
-//! The whole network where nobody is runnable: every frame came to each client that it is for, and
-//! all that the clients send is on the wire.
+//! The whole network at the layout's queues. At any moment nothing comes out of turn there, records
+//! and wire are as they should be so far, and its pools are as the table of owners says. Where
+//! nobody is runnable, every frame came to each client that it is for, and all that the clients
+//! send is on the wire.
 #![tactic(auto)]
 
 ghost use Rattle.std.specs.Prelude.{◌≡◌, ℕ, List};
