@@ -29,11 +29,11 @@ pub mod past_owners;
 pub mod pool_lines;
 pub mod run_law;
 
-/// The actors of a valid plan are seated at its layout's queues, each number
-/// has the part of its job, and with a network class or a block class the cast has the whole class
-/// where the layout places it. The scene is what the trace gives the plan's classes. The classes with
-/// pools stand where the plan has them, no two pools of the block class have an address in common, and
-/// their pools are those of the layout, by their numbers and with their sizes.
+/// The actors of a valid plan are seated at its layout's queues, each number has the part of its
+/// job, and with a network class or a block class the cast has the whole class where the layout
+/// places it. The scene is what the trace gives the plan's classes. The classes with pools stand
+/// where the plan has them, no two pools of the block class have an address in common, and their
+/// pools are those of the layout, by their numbers and with their sizes.
 pub fn cast_law()
     ensures seated { (plan : Plan) (trace : Trace) (actors : List Actor) → Valid plan
         → IsReadFor plan trace → AreCast plan trace actors → AreSeated (queues_of plan) actors }

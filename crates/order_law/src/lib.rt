@@ -15,10 +15,10 @@ pub mod ended_law;
 
 pub use actor_parts::{Part, Parts, by_number, by_place, finish_apart, open_apart, opened_law};
 
-/// Where actors began with nothing, each made its calls at its own ends, each put after all that had
-/// passed at its ends, and rings handed over entries with the times at which they were put, the
-/// calls stand in one order: each actor makes its own in turn, and after each call what was taken at
-/// a queue is a beginning of what was put there. What was put stays there.
+/// Where actors began with nothing, each made its calls at its own ends, each put after all that
+/// had passed at its ends, and rings handed over entries with the times at which they were put, the
+/// calls stand in one order: each actor makes its own in turn, and after each call what was taken
+/// at a queue is a beginning of what was put there. What was put stays there.
 pub fn order_law()
     ensures ordered { (rows : List QueueRow) (olds news : List Seated) → HaveRun rows olds news
         → (turns : List Turn)

@@ -68,8 +68,8 @@ fn add_line(
     Ok(())
 }
 
-// Writes the lines of an answer. Of a journal behind a quiet report only the actor of the first step
-// is written.
+// Writes the lines of an answer. Of a journal behind a quiet report only the actor of the first
+// step is written.
 fn add_lines(to: &mut String, text: &str, is_run: bool) -> io::Result<()> {
     let is_quiet = text.starts_with("quiet\n");
     let is_spent = text.starts_with("spent\n");

@@ -28,9 +28,10 @@ pub mod blk_replies;
 pub mod wired_quiet;
 
 /// Nothing comes out of turn at any actor of a cast that is wired, where its clients put good
-/// descriptors and requests alone; so they did when nothing had passed yet, and after one more call they still
-/// have. A network client with buffers of its own recorded a beginning of the frames that are for
-/// its address; and the device a merge of beginnings of what the clients send by their programs.
+/// descriptors and requests alone; so they did when nothing had passed yet, and after one more call
+/// they still have. A network client with buffers of its own recorded a beginning of the frames
+/// that are for its address; and the device a merge of beginnings of what the clients send by their
+/// programs.
 pub fn wired_law()
     ensures turns { (ends : Role → ℕ → End) (rows : List QueueRow) (actors : List Actor)
         (passed : Passed) → IsWired rows (map part_of actors) → AreAtWork ends rows actors passed
