@@ -12,7 +12,7 @@ is_free Rung.Put = false
 is_free Rung.Hot = false
 is_free Rung.Ringing = false
 
--- 1 where a notification is pending, else 0
+-- 1 where it is so, else 0
 abbrev pub bit : Bool → ℕ
 bit true = 1
 bit false = 0
