@@ -64,7 +64,7 @@ is_clear Wait.Busy = false
 is_clear Wait.Off = false
 is_clear Wait.Asked = false
 
--- the ringer has taken no wish back yet
+-- the ringer has found no wish for a notification yet
 abbrev pub is_free_or_put : Ringer → Bool
 is_free_or_put Rung.Free = true
 is_free_or_put Rung.Put = true
