@@ -4,5 +4,5 @@ pub mod Started
 pub mod Fitting
 pub mod Driving
 pub mod Merging
-pub mod SeatRows
-pub mod NetTxRows
+pub mod Seats
+pub mod NetTx

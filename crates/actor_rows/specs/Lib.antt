@@ -1,7 +1,7 @@
 -- What the helpers of these tests say: of calls by hand (Hands), of actors at their queues
--- (Standings, NetTxRows, SeatRows), and of the owner table of two journals (OwnerRows).
+-- (Standings, NetTx, Seats), and of the owner table of two journals (Owners).
 pub mod Hands
 pub mod Standings
-pub mod SeatRows
-pub mod NetTxRows
-pub mod OwnerRows
+pub mod Seats
+pub mod NetTx
+pub mod Owners

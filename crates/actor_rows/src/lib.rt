@@ -3,12 +3,12 @@
 //! replies of the block class; and the owner table of two journals.
 #![tactic(auto)]
 
-pub mod blk_rows;
+pub mod blk;
 mod hand;
-pub mod net_tx_rows;
-pub mod owner_rows;
+pub mod net_tx;
+pub mod owners;
 mod rows;
-pub mod seat_rows;
+pub mod seats;
 #[cfg(test)]
 mod tests;
 

@@ -3,9 +3,9 @@
 #![tactic(auto)]
 
 mod actor;
-pub mod actor_law;
-pub mod adopt_law;
+pub mod adopting;
 mod disk;
+pub mod laws;
 
 pub use actor::{Actor, hand_law, row_law};
 pub use disk::Disk;

@@ -4,8 +4,8 @@ pub mod Own
 pub mod Recording
 pub mod Scripts
 pub mod Parts
-pub mod BlkRecordLaw
-pub mod BlkParts
-pub mod BlkHops
-pub mod BlkRests
-pub mod BlkOwners
+pub mod Records
+pub mod Sheets
+pub mod Hops
+pub mod Rests
+pub mod Owners

@@ -1,9 +1,9 @@
 -- What the laws of the block class say: of a run of blocks (Runs) and of replies (Replying,
--- BlkRecordLaw), of the tables of its actors (BlkParts), of the owners of buffers (BlkOwners), and
--- of how often entries are moved (BlkHops).
+-- Records), of the tables of its actors (Sheets), of the owners of buffers (Owners), and of how
+-- often entries are moved (Hops).
 pub mod Runs
 pub mod Replying
-pub mod BlkRecordLaw
-pub mod BlkParts
-pub mod BlkHops
-pub mod BlkOwners
+pub mod Records
+pub mod Sheets
+pub mod Hops
+pub mod Owners

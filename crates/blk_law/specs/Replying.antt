@@ -17,8 +17,8 @@ use Rattle.blk_kit.specs.Pages.{has_room, carried_blocks}
 use Rattle.blk_mbr.specs.declared.part.Part.{Part}
 use Rattle.blk_expect.specs.Judging.{status_of}
 use Rattle.blk_expect.specs.Replies.{partition_bytes, partition_in, replies_of}
-use Rattle.client_programs.specs.BlkClients.Asking.{asked_from, replies_to}
-use Rattle.device_model.specs.DiskDevices.Serving.{answer_to, done}
+use Rattle.client_programs.specs.Blk.Asking.{asked_from, replies_to}
+use Rattle.device_model.specs.Disk.Serving.{answer_to, done}
 use Rattle.blk_law.specs.Runs.{id_of}
 
 -- how a client's own request is judged; an entry that is no request is invalid

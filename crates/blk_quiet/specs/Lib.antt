@@ -1,5 +1,5 @@
 -- The whole block class where nobody is runnable (Still), and at any moment: at the layout's queues
--- (BlkCast), and its pools (BlkPools).
+-- (Cast), and its pools (Pools).
 pub mod Still
-pub mod BlkCast
-pub mod BlkPools
+pub mod Cast
+pub mod Pools

@@ -20,10 +20,11 @@ ghost use Rattle.expect_core.specs.Budgets.{budget_of};
 ghost use Rattle.serial_law.specs.Serial.{SerialClass, IsSerial};
 ghost use Rattle.serial_law.specs.Table.{serial_sheet};
 ghost use Rattle.actor_set.specs.Parts.{Part};
-ghost use Rattle.actor_set.specs.ActorLaw.Kinds.{sheet, scene_of, hostiles};
+ghost use Rattle.actor_set.specs.Laws.Kinds.{sheet, scene_of, hostiles};
 ghost use Rattle.wired_law.specs.Wiring.{HasWhole, HasBlk};
 ghost use Rattle.cast_core.specs.Casts.{net_place, blk_place, scene_for};
-ghost use Rattle.cast_bound.specs.PlayBound.Standing.{StandsFrom, Carries, serial_first, NetMoves, SerialMoves, BlkMoves};
+ghost use Rattle.cast_bound.specs.PlayBound.Standing.{StandsFrom, Carries, serial_first, NetMoves};
+ghost use Rattle.cast_bound.specs.PlayBound.Standing.{SerialMoves, BlkMoves};
 
 pub mod play_bound;
 

@@ -7,9 +7,9 @@ pub mod Wired
 pub mod Pooled
 pub mod Blocks
 pub mod Joined
-pub mod CastQuiet
-pub mod CastPools
+pub mod Quiet
+pub mod Pools
 pub mod PastOwners
 pub mod PoolLines
-pub mod RunLaw
-pub mod GoneLaw
+pub mod Runs
+pub mod Gone

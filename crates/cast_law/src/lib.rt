@@ -14,20 +14,20 @@ ghost use Rattle.trace_text.specs.Traces.{IsReadFor};
 ghost use Rattle.region_layout.specs.Rows.{pools_of, queues_of};
 ghost use Rattle.actor_set.specs.Actors.{part_of};
 ghost use Rattle.actor_set.specs.declared.actor.Actor.{Actor};
-ghost use Rattle.actor_set.specs.ActorLaw.Kinds.{scene_of};
-ghost use Rattle.layout_laws.specs.JobLaw.Jobs.{Job, HasJob};
+ghost use Rattle.actor_set.specs.Laws.Kinds.{scene_of};
+ghost use Rattle.layout_laws.specs.Jobs.Jobs.{Job, HasJob};
 ghost use Rattle.cast_core.specs.Casts.{blk_place, net_place, job_part, scene_for, AreCast};
 ghost use Rattle.wired_law.specs.Wiring.{HasBlk, HasNoBlock, HasNoNetwork, HasWhole};
-ghost use Rattle.cast_law.specs.CastPools.Places.{IsPlaced, HasPools};
+ghost use Rattle.cast_law.specs.Pools.Places.{IsPlaced, HasPools};
 ghost use Rattle.cast_law.specs.Places.{pool_place};
 ghost use Rattle.cast_law.specs.Seats.{AreSeated};
 
-pub mod cast_pools;
-pub mod cast_quiet;
-pub mod gone_law;
+pub mod gone;
 pub mod past_owners;
 pub mod pool_lines;
-pub mod run_law;
+pub mod pools;
+pub mod quiet;
+pub mod runs;
 
 /// The actors of a valid plan are seated at its layout's queues, each number has the part of its
 /// job, and with a network class or a block class the cast has the whole class where the layout

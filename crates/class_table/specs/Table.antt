@@ -1,5 +1,6 @@
 -- The table: the element of each class and of each of its clients, in the order of the walk.
-use Rattle.std.specs.Prelude.{◌≡◌, ℕ, ◌+◌, List, [], ◌∷◌, ◌++◌, length, Some, None, slice_get, IsSomeAnd}
+use Rattle.std.specs.Prelude.{◌≡◌, ℕ, ◌+◌, List, [], ◌∷◌, ◌++◌, length, Some, None, slice_get}
+use Rattle.std.specs.Prelude.{IsSomeAnd}
 use Rattle.std.specs.Option.{option_map, option_map_or}
 use Rattle.sdf_plan.specs.declared.place.Place.{Place}
 use Rattle.sdf_plan.specs.declared.place.Place.TheVariants as At
@@ -12,7 +13,10 @@ use Rattle.sdf_plan.specs.declared.plan.Blk.{Blk}
 use Rattle.sdf_plan.specs.declared.plan.BlkClient.{BlkClient}
 use Rattle.sdf_plan.specs.Places.{class_places}
 use Rattle.class_table.specs.declared.uses.ClassElement.{ClassElement}
-use Rattle.class_table.specs.Rows.{Name, net_roles, net_queues, net_pools, net_client_roles, net_client_queues, net_client_pools, serial_roles, serial_queues, serial_client_roles, serial_client_queues, blk_roles, blk_queues, blk_pools, blk_client_roles, blk_client_queues, blk_client_pools}
+use Rattle.class_table.specs.Rows.{Name, net_roles, net_queues, net_pools, net_client_roles}
+use Rattle.class_table.specs.Rows.{net_client_queues, net_client_pools, serial_roles, serial_queues}
+use Rattle.class_table.specs.Rows.{serial_client_roles, serial_client_queues, blk_roles, blk_queues}
+use Rattle.class_table.specs.Rows.{blk_pools, blk_client_roles, blk_client_queues, blk_client_pools}
 
 -- an element, with its texts as names
 abbrev pub Element : Type 0

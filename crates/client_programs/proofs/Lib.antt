@@ -1,3 +1,3 @@
 -- The proofs on the programs of network clients and block clients.
-pub mod NetClients
-pub mod BlkClients
+pub mod Net
+pub mod Blk

@@ -1,4 +1,3 @@
--- What the contracts of the programs of network clients (NetClients) and block clients (BlkClients)
--- say.
-pub mod NetClients
-pub mod BlkClients
+-- What the contracts of the programs of network clients (Net) and block clients (Blk) say.
+pub mod Net
+pub mod Blk

@@ -12,14 +12,14 @@ ghost use Rattle.device_model.specs.SerialTerminal.Terminals.{IsNewTerminal, Ter
 ghost use Rattle.device_model.specs.contracts.serial_terminal.Terminal.{the_row as terminal_row};
 ghost use Rattle.client_programs.specs.contracts.SerialClient.{the_row};
 
-pub mod blk_client;
-pub mod net_client;
+pub mod blk;
+pub mod net;
 
-pub use crate::blk_client::BlkClient;
-pub use crate::net_client::NetClient;
+pub use crate::blk::BlkClient;
+pub use crate::net::NetClient;
 use cargo_core::Bytes;
 use device_model::serial_terminal::Terminal;
-pub use net_client::NetProgram;
+pub use net::NetProgram;
 use std::alloc::Global;
 use std::ops::{Deref, DerefMut};
 use wire_core::QueueId;

@@ -1,4 +1,4 @@
 -- The proofs on the devices.
-pub mod EthDevices
-pub mod DiskDevices
+pub mod Ethernet
+pub mod Disk
 pub mod SerialTerminal

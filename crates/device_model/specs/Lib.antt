@@ -1,5 +1,5 @@
--- What the contracts of the devices say: of the Ethernet device (EthDevices), of the disk
--- (DiskDevices), and of the terminal that a serial device is (SerialTerminal).
-pub mod EthDevices
-pub mod DiskDevices
+-- What the contracts of the devices say: of the Ethernet device (Ethernet), of the disk (Disk), and
+-- of the terminal that a serial device is (SerialTerminal).
+pub mod Ethernet
+pub mod Disk
 pub mod SerialTerminal

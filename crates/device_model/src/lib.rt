@@ -11,12 +11,12 @@ ghost use Rattle.device_model.specs.SerialTerminal.Terminals.{IsNewTerminal, Ter
 ghost use Rattle.device_model.specs.contracts.serial_terminal.Terminal.{the_row as terminal_row};
 ghost use Rattle.device_model.specs.contracts.UartDevice.{the_row};
 
-pub mod disk_device;
-pub mod eth_device;
+pub mod disk;
+pub mod ethernet;
 pub mod serial_terminal;
 
-pub use crate::disk_device::DiskDevice;
-pub use crate::eth_device::EthDevice;
+pub use crate::disk::DiskDevice;
+pub use crate::ethernet::EthDevice;
 use crate::serial_terminal::Terminal;
 use cargo_core::Bytes;
 use std::alloc::Global;

@@ -11,5 +11,5 @@ pub mod Spreads
 pub mod Owners
 pub mod Rooms
 pub mod Tables
-pub mod JobLaw
-pub mod SeatLaw
+pub mod Jobs
+pub mod Seats

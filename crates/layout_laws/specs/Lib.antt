@@ -1,5 +1,5 @@
 -- What the laws on the layouts of valid plans say: of its queues, pools and actors (Sound), of the
--- jobs of actors (JobLaw), and of the queues at which these stand (SeatLaw).
+-- jobs of actors (Jobs), and of the queues at which these stand (Seats).
 pub mod Sound
-pub mod JobLaw
-pub mod SeatLaw
+pub mod Jobs
+pub mod Seats

@@ -4,8 +4,8 @@ pub mod Leases
 pub mod Sending
 pub mod Receiving
 pub mod Wholes
-pub mod NetCast
-pub mod NetTxTurns
-pub mod NetTxCast
-pub mod NetPools
-pub mod NetTxOwners
+pub mod Cast
+pub mod TxTurns
+pub mod TxCast
+pub mod Pools
+pub mod TxOwners

@@ -5,4 +5,4 @@ pub mod Moving
 pub mod Ranking
 pub mod Ordering
 pub mod ActorParts
-pub mod EndedLaw
+pub mod Ended

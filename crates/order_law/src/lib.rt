@@ -11,7 +11,7 @@ ghost use Rattle.actor_set.specs.declared.actor.Actor.{Actor};
 ghost use Rattle.order_law.specs.Orders.{Seated, Turn, HaveRun, InOrder, actors_of, passed_by};
 
 pub mod actor_parts;
-pub mod ended_law;
+pub mod ended;
 
 pub use actor_parts::{Part, Parts, by_number, by_place, finish_apart, open_apart, opened_law};
 

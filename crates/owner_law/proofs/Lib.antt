@@ -13,5 +13,5 @@ pub mod Casts
 pub mod Showing
 pub mod Adopted
 pub mod Carrying
-pub mod CountLaw
-pub mod PoolLaw
+pub mod Counts
+pub mod Pools

@@ -4,7 +4,8 @@
 //! for no description.
 #![tactic(auto)]
 
-ghost use Rattle.std.specs.Prelude.{◌≡◌, ◌≢◌, ◌≤◌, ◌++◌, ℕ, Bool, true, false, List, [], ◌∷◌, Some, length, slice_get};
+ghost use Rattle.std.specs.Prelude.{◌≡◌, ◌≢◌, ◌≤◌, ◌++◌, ℕ, Bool, true, false, List, [], ◌∷◌, Some};
+ghost use Rattle.std.specs.Prelude.{length, slice_get};
 ghost use Rattle.cargo_core.specs.Lists.{Merge, PrefixMerge};
 ghost use Rattle.wire_core.specs.declared.names.QueueRow.{QueueRow};
 ghost use Rattle.wire_core.specs.declared.names.Entry.{Entry};
@@ -19,8 +20,8 @@ ghost use Rattle.play_core.specs.Resting.{QueueRests, QueuePays, is_due};
 ghost use Rattle.play_core.specs.Totals.{total};
 ghost use Rattle.play_core.specs.Still.{IsQuiet, IsStill, Needs, Owes};
 
-pub mod pick_laws;
-pub mod rest_law;
+pub mod picks;
+pub mod rests;
 
 /// Where no actor is runnable, all ends are settled and nobody is called; and then of each queue
 /// with no hostile end: no entry stands in it where its consumer needs one, and an entry is owed to

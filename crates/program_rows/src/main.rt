@@ -8,7 +8,7 @@
 #![tactic(auto)]
 
 mod arrivals;
-mod sddf_tests;
+mod tests;
 
 use arrivals::Arrivals;
 use sddf_top::{FileShelf, MemSink, Played, serve};

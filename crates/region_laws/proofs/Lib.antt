@@ -1,3 +1,3 @@
 -- The proofs on regions and budgets.
-pub mod AccessLaws
-pub mod BudgetLaws
+pub mod Access
+pub mod Budgets

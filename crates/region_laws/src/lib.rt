@@ -4,5 +4,5 @@
 //! layout say.
 #![tactic(auto)]
 
-pub mod access_laws;
-pub mod budget_laws;
+pub mod access;
+pub mod budgets;

@@ -1,5 +1,7 @@
 -- The rules on the classes of a plan: roles, channels, maps, capacities, sizes, ids and counts.
-use Rattle.std.specs.Prelude.{◌≡◌, ◌≢◌, ℕ, ◌+◌, ◌*◌, ◌^◌, ◌<◌, ◌≤◌, ◌⊎◌, Bool, true, List, [], ◌∷◌, ◌++◌, length, map, take, Option, slice_get, codes, IsNone, IsSomeAnd, MatchBool}
+use Rattle.std.specs.Prelude.{◌≡◌, ◌≢◌, ℕ, ◌+◌, ◌*◌, ◌^◌, ◌<◌, ◌≤◌, ◌⊎◌, Bool, true, List, [], ◌∷◌}
+use Rattle.std.specs.Prelude.{◌++◌, length, map, take, Option, slice_get, codes, IsNone, IsSomeAnd}
+use Rattle.std.specs.Prelude.{MatchBool}
 use Rattle.cargo_core.specs.Capacities.{IsCapacity}
 use Rattle.std.specs.List.{flat_map}
 use Rattle.std.specs.Option.{option_map_or, option_and_then}

@@ -1,5 +1,6 @@
 -- The first range that meets an earlier one: of some ranges, and of the maps of each domain.
-use Rattle.std.specs.Prelude.{◌≡◌, ℕ, ◌<◌, List, Option, Some, map, slice_get, MatchOption, IsSomeAnd}
+use Rattle.std.specs.Prelude.{◌≡◌, ℕ, ◌<◌, List, Option, Some, map, slice_get, MatchOption}
+use Rattle.std.specs.Prelude.{IsSomeAnd}
 use Rattle.sdf_plan.specs.declared.plan.Plan.{Plan}
 use Rattle.sdf_plan.specs.declared.plan.Domain.{Domain}
 use Rattle.sdf_check.specs.Rules.{Range, MeetsEarlier, map_range}

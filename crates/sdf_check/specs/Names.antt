@@ -1,6 +1,7 @@
 -- The names of a plan: those of its regions and domains, and those that class elements name, told
 -- class by class. That these are the names of the rows of the table is a lemma.
-use Rattle.std.specs.Prelude.{◌≡◌, ℕ, ◌<◌, List, [], ◌∷◌, map, Option, Some, slice_get, bytes_eq, position}
+use Rattle.std.specs.Prelude.{◌≡◌, ℕ, ◌<◌, List, [], ◌∷◌, map, Option, Some, slice_get, bytes_eq}
+use Rattle.std.specs.Prelude.{position}
 use Rattle.sdf_plan.specs.declared.plan.Plan.{Plan}
 use Rattle.sdf_plan.specs.declared.plan.Region.{Region}
 use Rattle.sdf_plan.specs.declared.plan.Domain.{Domain}

@@ -8,8 +8,15 @@ use Rattle.sdf_plan.specs.declared.place.SdfFault.TheVariants as Fault
 use Rattle.sdf_plan.specs.declared.plan.Plan.{Plan}
 use Rattle.sdf_plan.specs.Elements.{outline_of}
 use Rattle.class_table.specs.Table.{Element, OfElement}
-use Rattle.sdf_check.specs.ClassRules.{UsesNoRegion, UsesNoDomain, LacksRole, GivesWrongRole, NamesDomainAgain, LacksChannel, LacksRight, IsSharedWithStranger, NamesRegionAgain, HasBadCapacity, HasLowCapacity, LacksRoom, HasBadMac, HasBadPartition, IsPastLimit}
-use Rattle.sdf_check.specs.Rules.{TakesName, IsPastLastDomain, HasPriorityTooHigh, HasPeriodTooShort, HasBadSize, HasBadPageSize, HasBadPhysAddr, MeetsGivenRange, NamesNoRegion, HasBadVaddr, MeetsMap, HasBadPerms, NamesNoDomain, HasIdTooHigh, TakesId, JoinsOneDomain}
+use Rattle.sdf_check.specs.ClassRules.{UsesNoRegion, UsesNoDomain, LacksRole, GivesWrongRole}
+use Rattle.sdf_check.specs.ClassRules.{NamesDomainAgain, LacksChannel, LacksRight}
+use Rattle.sdf_check.specs.ClassRules.{IsSharedWithStranger, NamesRegionAgain, HasBadCapacity}
+use Rattle.sdf_check.specs.ClassRules.{HasLowCapacity, LacksRoom, HasBadMac, HasBadPartition}
+use Rattle.sdf_check.specs.ClassRules.{IsPastLimit}
+use Rattle.sdf_check.specs.Rules.{TakesName, IsPastLastDomain, HasPriorityTooHigh}
+use Rattle.sdf_check.specs.Rules.{HasPeriodTooShort, HasBadSize, HasBadPageSize, HasBadPhysAddr}
+use Rattle.sdf_check.specs.Rules.{MeetsGivenRange, NamesNoRegion, HasBadVaddr, MeetsMap}
+use Rattle.sdf_check.specs.Rules.{HasBadPerms, NamesNoDomain, HasIdTooHigh, TakesId, JoinsOneDomain}
 
 -- the number of the first rule that a plan is judged by
 abbrev pub first_rule : ℕ

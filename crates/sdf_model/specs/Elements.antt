@@ -1,6 +1,7 @@
 -- The elements of a document with their tables, in the order of the walk, and the first to break a
 -- rule.
-use Rattle.std.specs.Prelude.{◌≡◌, ◌≤◌, ◌<◌, ℕ, ◌+◌, List, [], ◌∷◌, ◌++◌, find, codes, Option, Some, None, option_map}
+use Rattle.std.specs.Prelude.{◌≡◌, ◌≤◌, ◌<◌, ℕ, ◌+◌, List, [], ◌∷◌, ◌++◌, find, codes, Option, Some}
+use Rattle.std.specs.Prelude.{None, option_map}
 use Rattle.toml.specs.Data.{Members}
 use Rattle.toml.specs.View.{table_view}
 use Rattle.sdf_plan.specs.declared.place.Place.{Place}

@@ -1,8 +1,11 @@
 -- The key table: the keys of each element and what their values have to be, and the rules on them.
-use Rattle.std.specs.Prelude.{if◌then◌else◌, ℕ, ℤ, pos, negsuc, Bool, true, false, not, ◌&&◌, ◌||◌, ◌==◌, nat_le, List, [], ◌∷◌, length, codes, Option, Some, None, is_some}
+use Rattle.std.specs.Prelude.{if◌then◌else◌, ℕ, ℤ, pos, negsuc, Bool, true, false, not, ◌&&◌, ◌||◌}
+use Rattle.std.specs.Prelude.{◌==◌, nat_le, List, [], ◌∷◌, length, codes, Option, Some, None}
+use Rattle.std.specs.Prelude.{is_some}
 use Rattle.std.specs.List.{list_any, list_all}
 use Rattle.std.specs.Str.{bytes_eq}
-use Rattle.toml.specs.Data.{Data, Items, no_items, item, table, Members, no_members, member, get_member, as_str, as_integer, as_bool, as_array, as_table}
+use Rattle.toml.specs.Data.{Data, Items, no_items, item, table, Members, no_members, member}
+use Rattle.toml.specs.Data.{get_member, as_str, as_integer, as_bool, as_array, as_table}
 use Rattle.toml.specs.Text.{are_tables}
 use Rattle.sdf_plan.specs.declared.place.Place.{Place}
 use Rattle.sdf_plan.specs.declared.place.Place.TheVariants as At

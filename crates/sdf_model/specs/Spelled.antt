@@ -1,5 +1,6 @@
 -- The plan that a document spells, part by part, with every default filled in.
-use Rattle.std.specs.Prelude.{ℕ, ℤ, pos, negsuc, Bool, true, List, [], map, codes, Option, Some, None, option_map, option_and_then, unwrap_or}
+use Rattle.std.specs.Prelude.{ℕ, ℤ, pos, negsuc, Bool, true, List, [], map, codes, Option, Some}
+use Rattle.std.specs.Prelude.{None, option_map, option_and_then, unwrap_or}
 use Rattle.toml.specs.Data.{Members, get_member, as_str, as_integer, as_bool}
 use Rattle.sdf_plan.specs.declared.plan.Plan.{Plan}
 use Rattle.sdf_plan.specs.declared.plan.Region.{Region}

@@ -1,5 +1,6 @@
 -- The elements of a document by their places, and the rules that are read on the text.
-use Rattle.std.specs.Prelude.{◌≡◌, ℕ, Bool, true, if◌then◌else◌, ◌⊎◌, List, [], ◌∷◌, length, map, slice_get, codes, Option, Some, None, option_map, option_and_then}
+use Rattle.std.specs.Prelude.{◌≡◌, ℕ, Bool, true, if◌then◌else◌, ◌⊎◌, List, [], ◌∷◌, length, map}
+use Rattle.std.specs.Prelude.{slice_get, codes, Option, Some, None, option_map, option_and_then}
 use Rattle.std.specs.Str.{IsUtf8}
 use Rattle.toml.specs.Data.{Items, Members, get_member, as_array, as_table}
 use Rattle.toml.specs.Text.{are_tables}

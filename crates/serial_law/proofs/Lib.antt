@@ -5,5 +5,5 @@ pub mod Own
 pub mod InputBegins
 pub mod Arrivals
 pub mod Wholes
-pub mod SerialHops
-pub mod SerialPools
+pub mod Hops
+pub mod Pools

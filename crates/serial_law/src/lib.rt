@@ -16,8 +16,8 @@ ghost use Rattle.serial_law.specs.Parts.{SerialPart};
 ghost use Rattle.serial_law.specs.Table.{serial_sheet};
 ghost use Rattle.serial_law.specs.Serial.{SerialClass, IsSerial, ArrivesInPart, ArrivesWhole};
 
-pub mod serial_hops;
-pub mod serial_pools;
+pub mod hops;
+pub mod pools;
 
 /// The table of the serial class: what is said of an actor speaks of its own ends alone, and an
 /// output is owed exactly where the actor's row would still hold after one more put there.

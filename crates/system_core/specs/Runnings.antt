@@ -1,5 +1,6 @@
 -- The numbers of the runnable actors, ascending, with one more or one less.
-use Rattle.std.specs.Prelude.{◌≤◌, ◌+◌, ◌==◌, ℕ, Bool, true, false, Option, Some, None, remove, nat_lt, if◌then◌else◌, List, [], ◌∷◌}
+use Rattle.std.specs.Prelude.{◌≤◌, ◌+◌, ◌==◌, ℕ, Bool, true, false, Option, Some, None, remove}
+use Rattle.std.specs.Prelude.{nat_lt, if◌then◌else◌, List, [], ◌∷◌}
 use Rattle.std.specs.Vec.{vec_capacity}
 use Rattle.system_core.specs.declared.running.Running.TheInside.{Inside}
 

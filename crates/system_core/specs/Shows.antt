@@ -13,7 +13,7 @@ use Rattle.play_core.specs.Sheets.{Sheet, needful, RowsHold}
 use Rattle.play_core.specs.Manners.{Manners}
 use Rattle.play_core.specs.Runs.{runnable}
 use Rattle.actor_set.specs.Parts.{Part}
-use Rattle.actor_set.specs.ActorLaw.Kinds.{sheet, scene_of, manners, hostiles}
+use Rattle.actor_set.specs.Laws.Kinds.{sheet, scene_of, manners, hostiles}
 
 -- which of the actors are the device and the clients of a class, these in their order
 pub record Crew : Type 0 where

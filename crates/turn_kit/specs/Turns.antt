@@ -1,6 +1,8 @@
 -- The turns of an actor: which of its ends is stepped, and what is said of steps without a mark
 -- among them.
-use Rattle.std.specs.Prelude.{◌≡◌, ◌⊎◌, ◌+◌, ◌<◌, ◌≤◌, ◌==◌, ◌&&◌, ◌||◌, ℕ, Bool, true, false, not, cond, nat_lt, Option, Some, None, is_none, List, [], ◌∷◌, length, slice_get, slice_set}
+use Rattle.std.specs.Prelude.{◌≡◌, ◌⊎◌, ◌+◌, ◌<◌, ◌≤◌, ◌==◌, ◌&&◌, ◌||◌, ℕ, Bool, true, false, not}
+use Rattle.std.specs.Prelude.{cond, nat_lt, Option, Some, None, is_none, List, [], ◌∷◌, length}
+use Rattle.std.specs.Prelude.{slice_get, slice_set}
 use Rattle.wire_core.specs.declared.names.Event.{Event}
 use Rattle.wire_core.specs.declared.names.Side.{Side}
 use Rattle.wire_core.specs.declared.names.Op.TheVariants as Do

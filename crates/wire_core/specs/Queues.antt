@@ -1,5 +1,6 @@
 -- A queue with its two bells, and what each of the ten calls does to it.
-use Rattle.std.specs.Prelude.{◌≡◌, ◌==◌, ◌&&◌, ◌||◌, ℕ, Bool, true, false, not, nat_lt, ◌<◌, List, [], ◌∷◌, ◌++◌, length, drop, map, slice_index_or, slice_set}
+use Rattle.std.specs.Prelude.{◌≡◌, ◌==◌, ◌&&◌, ◌||◌, ℕ, Bool, true, false, not, nat_lt, ◌<◌, List}
+use Rattle.std.specs.Prelude.{[], ◌∷◌, ◌++◌, length, drop, map, slice_index_or, slice_set}
 use Rattle.std.specs.Option.{option_to_list}
 use Rattle.std.specs.List.{list_any}
 use Rattle.cargo_core.specs.declared.item.Item.{Item}
@@ -17,7 +18,8 @@ use Rattle.wire_core.specs.declared.names.Answer.TheVariants.{Done, Yes, No}
 use Rattle.wire_core.specs.declared.names.Waiter.TheVariants as Wait
 use Rattle.wire_core.specs.declared.names.Ringer.TheVariants as Rung
 use Rattle.wire_core.specs.Deeds.{Deed, Cargo, cargo_of, answer_of}
-use Rattle.wire_core.specs.Ends.{Role, Consumer, Producer, End, Condition, role_of, is_yes, looked_waiter, wanted_ringer}
+use Rattle.wire_core.specs.Ends.{Role, Consumer, Producer, End, Condition, role_of, is_yes}
+use Rattle.wire_core.specs.Ends.{looked_waiter, wanted_ringer}
 
 -- the two bells of a queue, and whether the last look of each end answered yes and isn't used
 pub record Bells : Type 0 where

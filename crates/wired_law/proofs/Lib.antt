@@ -4,4 +4,4 @@ pub mod Deeds
 pub mod Blocks
 pub mod Wiring
 pub mod BlkReplies
-pub mod WiredQuiet
+pub mod Quiet

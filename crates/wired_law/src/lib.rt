@@ -12,20 +12,20 @@ ghost use Rattle.wire_core.specs.Deeds.{Deed};
 ghost use Rattle.wire_core.specs.Ends.{Role, End};
 ghost use Rattle.wire_core.specs.Lists.{Passed, nothing_passed, with_deed};
 ghost use Rattle.net_expect.specs.Expecting.{Program, frames_for};
-ghost use Rattle.net_law.specs.NetOwners.Names.{ClientPools};
-ghost use Rattle.net_law.specs.NetParts.Numbers.{device_at, client_at};
-ghost use Rattle.net_law.specs.NetTxParts.Numbers.{NetPlace};
-ghost use Rattle.net_quiet.specs.NetTxCast.Casting.{sends_at};
+ghost use Rattle.net_law.specs.Owners.Names.{ClientPools};
+ghost use Rattle.net_law.specs.Parts.Numbers.{device_at, client_at};
+ghost use Rattle.net_law.specs.TxParts.Numbers.{NetPlace};
+ghost use Rattle.net_quiet.specs.TxCast.Casting.{sends_at};
 ghost use Rattle.actor_set.specs.Parts.{Part, NetworkPart};
 ghost use Rattle.actor_set.specs.Actors.{part_of};
 ghost use Rattle.actor_set.specs.declared.actor.Actor.{Actor};
-ghost use Rattle.actor_set.specs.ActorLaw.Kinds.{scene_of};
-ghost use Rattle.actor_set.specs.ActorLaw.Records.{frames_got};
-ghost use Rattle.actor_set.specs.ActorLaw.Turning.{InTurn};
+ghost use Rattle.actor_set.specs.Laws.Kinds.{scene_of};
+ghost use Rattle.actor_set.specs.Laws.Records.{frames_got};
+ghost use Rattle.actor_set.specs.Laws.Turning.{InTurn};
 ghost use Rattle.wired_law.specs.Wiring.{HasWhole, IsWired, ClientsSend, AreAtWork};
 
 pub mod blk_replies;
-pub mod wired_quiet;
+pub mod quiet;
 
 /// Nothing comes out of turn at any actor of a cast that is wired, where its clients put good
 /// descriptors and requests alone; so they did when nothing had passed yet, and after one more call

@@ -1,3 +1,0 @@
--- Counting over all actors and all queues. `KeepTheirs` tells of which moments the law speaks,
--- which is in src/count_law.rt; what it counts is told in Keeping.
-pub mod Keeping
