@@ -1,7 +1,7 @@
 //! The actors of a cast, of all classes, where the network's are the whole network at the layout's
 //! queues, and the block class's the whole class. Nothing comes out of turn at any actor, so what
-//! passed at each is as its sheet says; what devices and clients recorded by then is a beginning of
-//! what they must get, and where nobody is runnable it is all of it.
+//! passed at each is as its sheet says; and what the network's device and clients, and the clients
+//! of the block class, recorded at any moment and where nobody is runnable.
 #![tactic(auto)]
 
 ghost use Rattle.std.specs.Prelude.{◌≡◌, ◌≤◌, ℕ, Some, List, map, slice_get};
