@@ -1,3 +1,4 @@
+-- The proofs of the helpers of these tests.
 pub mod Moved
 pub mod Started
 pub mod Fitting

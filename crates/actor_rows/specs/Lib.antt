@@ -1,4 +1,5 @@
--- What the helpers of these tests say.
+-- What the helpers of these tests say: of calls by hand (Hands), of actors at their queues
+-- (Standings, NetTx, Seats), and of the owner table of two journals (Owners).
 pub mod Hands
 pub mod Standings
 pub mod Seats

@@ -1,4 +1,6 @@
-//! Queues whose other ends are worked by hand, for tests of one actor at a time.
+//! Worked rows of one actor at a time, at queues whose other ends are worked by hand: actors over
+//! lists, among them the network's sending virtualiser, and a driver over rings; the judgements and
+//! replies of the block class; and the owner table of two journals.
 #![tactic(auto)]
 
 pub mod blk;

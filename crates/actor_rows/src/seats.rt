@@ -1,5 +1,5 @@
 //! An actor over rings, in place of lists: the driver, whose other ends are worked by hand. It
-//! stands apart, since no actor names a ring.
+//! stands in a module of its own, since no actor names a ring.
 
 mod driver;
 #[cfg(test)]

@@ -1,4 +1,5 @@
-//! One type for the actors of all kinds.
+//! One type for the actors of all kinds, the laws that tie what an actor keeps and does to what is
+//! said of its part, and what a system takes over from actors that were at work elsewhere.
 #![tactic(auto)]
 
 mod actor;

@@ -1,3 +1,4 @@
+-- The proofs of the laws of the block class.
 pub mod Beside
 pub mod Own
 pub mod Recording

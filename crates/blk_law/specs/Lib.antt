@@ -1,4 +1,6 @@
--- What the laws of the block class say.
+-- What the laws of the block class say: of a run of blocks (Runs) and of replies (Replying,
+-- Records), of the tables of its actors (Sheets), of the owners of buffers (Owners), and of how
+-- often entries are moved (Hops).
 pub mod Runs
 pub mod Replying
 pub mod Records

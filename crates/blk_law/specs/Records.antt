@@ -1,2 +1,2 @@
--- What the law of the block class says.
+-- What the law on a block client's record says.
 pub mod Served

@@ -1,4 +1,7 @@
-//! Laws of the block class, over the definitions of its actors and apart from any system.
+//! Laws of the block class, over the definitions of its actors and apart from any system: a
+//! partition is a disk of its own to its client; at any moment each client recorded a beginning of
+//! what it must get; the table of the actors, and when each is at rest; who has which buffer; and
+//! how often entries are moved.
 #![tactic(auto)]
 
 ghost use Rattle.std.specs.Prelude.{◌≡◌, ℕ, Bool, true, List};

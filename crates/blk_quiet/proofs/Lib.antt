@@ -1,3 +1,4 @@
+-- The proofs on the whole block class, at any moment and where nobody is runnable.
 pub mod Counting
 pub mod Answering
 pub mod CastLemmas

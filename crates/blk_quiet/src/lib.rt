@@ -1,4 +1,6 @@
-//! The block class where nobody is runnable: everything was asked, and everything is answered.
+//! The whole block class at the layout's queues. At any moment nothing comes out of turn there, and
+//! its actors have of each pool what the table of owners says. Where nobody is runnable, everything
+//! was asked, and everything is answered.
 #![tactic(auto)]
 
 ghost use Rattle.std.specs.Prelude.{List};

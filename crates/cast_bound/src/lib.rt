@@ -1,5 +1,5 @@
-//! How long a play of a plan's actors is at most: what the actors that are made of a plan and a
-//! trace put to its queues is what the budget counts for them.
+//! How long a play is at most: what the actors of a plan and a trace put to its queues is what the
+//! budget counts for them, and the calls of a play are fewer than that budget.
 #![tactic(auto)]
 
 ghost use Rattle.std.specs.Prelude.{◌≡◌, ◌<◌, Some, List, [], length};

@@ -1,3 +1,4 @@
+-- The proofs that a plan's actors stand where they belong, and of what holds of them.
 pub mod Numbers
 pub mod Parting
 pub mod Apart

@@ -22,6 +22,7 @@ use Rattle.class_table.specs.Rows.{blk_pools, blk_client_roles, blk_client_queue
 abbrev pub Element : Type 0
 Element = ClassElement Name
 
+-- what the network class uses
 abbrev pub net_element : Net → Element
 net_element net = record {
   place = At.Net;
@@ -31,6 +32,7 @@ net_element net = record {
   pools = net_pools net;
 }
 
+-- what a client of the network class uses, by its number
 abbrev pub net_client_element : Net → ℕ → NetClient → Element
 net_client_element net c client = record {
   place = At.NetClient c;
@@ -40,6 +42,7 @@ net_client_element net c client = record {
   pools = net_client_pools net c client;
 }
 
+-- what the serial class uses
 abbrev pub serial_element : Serial → Element
 serial_element serial = record {
   place = At.Serial;
@@ -49,6 +52,7 @@ serial_element serial = record {
   pools = [];
 }
 
+-- what a client of the serial class uses, by its number
 abbrev pub serial_client_element : Serial → ℕ → SerialClient → Element
 serial_client_element serial c client = record {
   place = At.SerialClient c;
@@ -58,6 +62,7 @@ serial_client_element serial c client = record {
   pools = [];
 }
 
+-- what the block class uses
 abbrev pub blk_element : Blk → Element
 blk_element blk = record {
   place = At.Blk;
@@ -67,6 +72,7 @@ blk_element blk = record {
   pools = blk_pools blk;
 }
 
+-- what a client of the block class uses, by its number
 abbrev pub blk_client_element : Blk → ℕ → BlkClient → Element
 blk_client_element blk c client = record {
   place = At.BlkClient c;
@@ -81,14 +87,16 @@ abbrev pub numbered : {C T : Type 0} → (ℕ → C → T) → ℕ → List C �
 numbered give c [] = []
 numbered give c (client ∷ rest) = give c client ∷ numbered give (c + 1) rest
 
--- a class, and then its clients
+-- the network class, and then its clients
 abbrev pub net_elements : Net → List Element
 net_elements net = net_element net ∷ numbered (net_client_element net) 0 net.client
 
+-- the serial class, and then its clients
 abbrev pub serial_elements : Serial → List Element
 serial_elements serial = serial_element serial
     ∷ numbered (serial_client_element serial) 0 serial.client
 
+-- the block class, and then its clients
 abbrev pub blk_elements : Blk → List Element
 blk_elements blk = blk_element blk ∷ numbered (blk_client_element blk) 0 blk.client
 

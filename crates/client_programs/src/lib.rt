@@ -1,7 +1,8 @@
 //! The programs of the clients. A serial client says its script and records what it gets: a reader
-//! is one whose script is empty, a speaker any other. A network client records frames. A block
-//! client asks for blocks and records what comes back. The programs are this project's own; that a
-//! serial client has one queue each way is sDDF's.
+//! is one whose script is empty, a speaker any other. A network client records the frames that
+//! come; a source sends those of its script too, and an echo answers each. A block client asks for
+//! blocks and records what comes back. The programs are this project's own; which queues a client
+//! has is sDDF's.
 #![tactic(auto)]
 
 ghost use Rattle.std.specs.Prelude.{◌≡◌};

@@ -1,3 +1,4 @@
+-- The proofs on the devices.
 pub mod EthernetLemmas
 pub mod DiskLemmas
 pub mod SerialTerminal

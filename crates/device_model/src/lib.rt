@@ -1,6 +1,7 @@
 //! The devices of the modelled machine. A serial device receives given bytes in order, and sends
-//! what it is given on its line; an Ethernet device does so with frames; a disk does requests on its
-//! image. That a device is an actor at the far ends of its driver's queues is this project's own.
+//! what it is given on its line: it is a terminal, as a serial client is. An Ethernet device does
+//! so with frames, and a disk does requests on its image. That a device is an actor at the far ends
+//! of its driver's queues is this project's own.
 #![tactic(auto)]
 
 ghost use Rattle.std.specs.Prelude.{◌≡◌};

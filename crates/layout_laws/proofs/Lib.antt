@@ -1,3 +1,4 @@
+-- The proofs on the layouts of valid plans.
 pub mod Lists
 pub mod Found
 pub mod Queues

@@ -65,8 +65,7 @@ abbrev pub NoNameTwice : List (List ℕ) → Type 0
 NoNameTwice names = (at : ℕ) (name : List ℕ) → slice_get names at ≡ Some name
     → StandsBefore name names at → ⊥
 
--- the physical addresses that a queue takes, where it stands in a region, and those that a pool
--- takes
+-- the physical addresses that a queue takes, where it stands in a region
 unfoldable pub queue_range : Plan → QueueRow → Option Range
 queue_range plan row =
     option_map (λ r. (
@@ -75,6 +74,7 @@ queue_range plan row =
           + (64 + entry_size row.kind * row.capacity),
     )) row.region
 
+-- the physical addresses that a pool takes
 unfoldable pub pool_range : PoolRow → Option Range
 pool_range row = Some (row.base, row.base + row.size * row.buffers)
 

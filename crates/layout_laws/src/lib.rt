@@ -1,6 +1,6 @@
 //! What holds of the layout of every valid plan: laws that tie the tables of queues, pools and
-//! actors to the rules. They stand apart from the layout, so that they grow without proving it
-//! again.
+//! actors to the rules, what job each actor has, and at which queues it stands. They stand apart
+//! from the layout, so that they grow without proving it again.
 #![tactic(auto)]
 
 ghost use Rattle.std.specs.Prelude.{◌≡◌, ℕ, All, Some};

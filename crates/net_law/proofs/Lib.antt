@@ -1,3 +1,4 @@
+-- The proofs of the laws of the network class.
 pub mod Beginnings
 pub mod Filled
 pub mod Arriving

@@ -1,5 +1,7 @@
-//! The network class apart from any system: what reaches a client, from the rows of the actors on
-//! the way and the law of the queues between them, and what it sends then, at any moment.
+//! What holds of the network class apart from any system, by the rows of its actors and the law of
+//! the queues between them: at any moment what reaches each client and the wire, and what each
+//! client sends; the tables of its actors, and when each is at rest; who has which buffer; and how
+//! often its entries are moved.
 #![tactic(auto)]
 
 ghost use Rattle.std.specs.Prelude.{ℕ, List, map};

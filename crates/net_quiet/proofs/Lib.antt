@@ -1,3 +1,4 @@
+-- The proofs on the whole network, at any moment and where nobody is runnable.
 pub mod Listing
 pub mod Leases
 pub mod Sending

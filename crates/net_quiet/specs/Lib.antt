@@ -1,4 +1,6 @@
--- The whole network where nobody is runnable.
+-- The whole network where nobody is runnable (Still), and at any moment: its receive half (Cast),
+-- the whole of it (TxCast, TxTurns), its pools (Pools), and the sending virtualiser among the
+-- owners of buffers (TxOwners).
 pub mod Still
 pub mod Cast
 pub mod TxTurns

@@ -1,5 +1,8 @@
-//! The whole network where nobody is runnable: every frame came to each client that it is for, and
-//! all that the clients send is on the wire.
+//! The whole network at the layout's queues. At any moment nothing comes out of turn there, each
+//! client's record is a beginning of the frames for it, the wire is a merge of beginnings of what
+//! the clients send, and its actors have of each pool what the table of owners says. Where nobody
+//! is runnable, every frame came to each client that it is for, and all that the clients send is on
+//! the wire.
 #![tactic(auto)]
 
 ghost use Rattle.std.specs.Prelude.{◌≡◌, ℕ, List};

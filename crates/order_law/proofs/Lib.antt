@@ -1,3 +1,4 @@
+-- The proofs that calls over rings stand in one order, and on what the rings leave.
 pub mod Lists
 pub mod Telling
 pub mod Moving

@@ -1,4 +1,5 @@
-//! What actors did over rings, each in a thread of its own, could have been done one call after
+//! What actors do over rings, each in a thread of its own: how they are set apart and brought
+//! together again, and what the rings leave. All that they did could have been done one call after
 //! another: so all that single calls keep holds of what threads leave.
 #![tactic(auto)]
 

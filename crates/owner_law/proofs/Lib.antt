@@ -1,3 +1,4 @@
+-- The proofs on the owners of buffers.
 pub mod Sums
 pub mod Tables
 pub mod Lists

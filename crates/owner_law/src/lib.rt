@@ -1,6 +1,7 @@
 //! The owners of buffers, of whatever class: a journal is replayed on one table, in which each
 //! buffer has its place. What holds of the table at any moment follows from the rows of the actors
-//! and the law of the queues.
+//! and the law of the queues, or from counts over all actors and queues; and the lines of pools in
+//! a report are what the table says.
 #![tactic(auto)]
 
 ghost use Rattle.std.specs.Prelude.{◌≡◌, ◌+◌, ◌<◌, ◌≤◌, ◌++◌, ℕ, Some, List, [], length, slice_get};

@@ -32,6 +32,7 @@ flags_from manner k history rows (ws ∷ actors) journal =
     is_runnable (manner k) k ws history rows journal
     ∷ flags_from manner (k + 1) history rows actors journal
 
+-- a number before some others, where a condition holds
 abbrev pub if_so : Bool → ℕ → List ℕ → List ℕ
 if_so true k ks = k ∷ ks
 if_so false k ks = ks

@@ -1,6 +1,7 @@
 //! The definitions of a played system, low, and what holds of any class of actors: whose turn it
-//! may be after a call, and what rests where nobody may make one. They stand just above the calls,
-//! so that a law on a class waits for no description.
+//! may be after a call, that the picks of seeds leave nobody out, when an actor is at rest, and
+//! what rests where nobody may make a call. They stand just above the calls, so that a law on a
+//! class waits for no description.
 #![tactic(auto)]
 
 ghost use Rattle.std.specs.Prelude.{◌≡◌, ◌≢◌, ◌≤◌, ◌++◌, ℕ, Bool, true, false, List, [], ◌∷◌, Some};

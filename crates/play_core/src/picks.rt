@@ -1,5 +1,5 @@
-//! What holds of the picks of a seed: they leave nobody out. It stands beside the crates of the
-//! system, which do not ask for it.
+//! What holds of the picks of a seed: they leave nobody out. No part of a
+//! system asks for it.
 
 ghost use Rattle.std.specs.Prelude.{◌≡◌, ◌<◌, ◌≤◌, ◌^◌, ℕ};
 ghost use Rattle.wire_core.specs.Picks.{next_seed, place_of};

@@ -1,2 +1,3 @@
+-- The proofs on regions and budgets.
 pub mod AccessLemmas
 pub mod BudgetsLemmas

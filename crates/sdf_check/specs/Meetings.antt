@@ -17,6 +17,7 @@ AreFirstMapsUpTo plan firsts at =
     (d : ℕ) (domain : Domain) → d < at → slice_get plan.protection_domain d ≡ Some domain
     → IsSomeAnd (slice_get firsts d) (IsFirstMeeting (map (map_range plan) domain.map))
 
+-- of each domain, its first map that meets an earlier one
 abbrev pub AreFirstMaps : Plan → List (Option ℕ) → Type 0
 AreFirstMaps plan firsts =
     (d : ℕ) (domain : Domain) → slice_get plan.protection_domain d ≡ Some domain

@@ -18,10 +18,11 @@ use Rattle.sdf_check.specs.Rules.{HasPeriodTooShort, HasBadSize, HasBadPageSize,
 use Rattle.sdf_check.specs.Rules.{MeetsGivenRange, NamesNoRegion, HasBadVaddr, MeetsMap}
 use Rattle.sdf_check.specs.Rules.{HasBadPerms, NamesNoDomain, HasIdTooHigh, TakesId, JoinsOneDomain}
 
--- the first and the last rule that a plan is judged by
+-- the number of the first rule that a plan is judged by
 abbrev pub first_rule : ℕ
 first_rule = 5
 
+-- the number of the last rule
 abbrev pub last_rule : ℕ
 last_rule = 30
 
@@ -46,6 +47,8 @@ BreaksPlanRule plan rule place =
     MatchBool (rule == 19) (TakesId plan place) (
     MatchBool (rule == 20) (JoinsOneDomain plan place) ⊥)))))))))))))))
 
+-- the element at a place breaks the rule of this number, of those on roles, addresses, partitions
+-- and limits of a class
 abbrev pub BreaksClassRule : Plan → ℕ → Place → Type 0
 BreaksClassRule plan rule place =
     MatchBool (rule == 21) (LacksRole plan place) (
@@ -71,6 +74,7 @@ BreaksByRows plan rule e =
     MatchBool (rule == 26) (HasLowCapacity e) (
     MatchBool (rule == 27) (LacksRoom plan e) ⊥))))))))
 
+-- the element at a place breaks the rule of this number
 abbrev pub broken : Plan → ℕ → Place → Type 0
 broken plan rule place = BreaksAtPlace plan rule place
     ⊎ OfElement plan place (BreaksByRows plan rule)

@@ -1,3 +1,4 @@
+-- The proofs of the laws of the serial class.
 pub mod Lists
 pub mod Shares
 pub mod Own

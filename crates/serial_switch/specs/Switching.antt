@@ -13,10 +13,11 @@ pub data Piece : Type 0 where
   Selection : List ℕ → Piece
   Dropped : List ℕ → ℕ → Piece
 
--- the byte that opens a selection, and the one that ends it
+-- the byte that opens a selection
 abbrev pub escape : ℕ
 escape = 28
 
+-- the byte that ends a selection, a carriage return
 abbrev pub confirm : ℕ
 confirm = 13
 

@@ -60,6 +60,7 @@ tx_queues v = v.output.queue ∷ intake_queues v.inputs
 abbrev pub new_intake : QueueId → Intake
 new_intake q = record { queue = q; state = start_state Forward }
 
+-- the sending virtualiser at its start, with its output and its clients' queues
 pub record IsNewTx (to : QueueId) (clients : List QueueId) (v : SerialVirtTx) : Type 0 where
   pub output : v.output.queue ≡ to
   pub output_state : v.output.state ≡ start_state Backward

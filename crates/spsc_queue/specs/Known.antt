@@ -1,5 +1,5 @@
-pub mod Ends
 -- How what a caller sees of an end, a ring and an ended ring lies in their fields.
+pub mod Ends
 use Rattle.std.specs.Prelude.{◌≡◌, ◌≢◌, ℕ, ◌%◌, ◌<◌, ◌≤◌, length, true, false, Option, Some, None}
 use Rattle.std.specs.Prelude.{List, [], ◌∷◌}
 use Rattle.cargo_core.specs.declared.item.QueueKind.TheVariants as Kind

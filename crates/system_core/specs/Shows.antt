@@ -42,15 +42,17 @@ pub record State : Type 0 where
   pub pools : List Census
   pub bad : ℕ
 
+-- what a system shows: what stays the same, the one journal, and what can be seen of it
 pub record Shown : Type 0 where
   pub setting : Setting
   pub journal : List Entry
   pub state : State
 
--- how each of the actors goes about, and which of them are hostile
+-- how each of the actors goes about
 abbrev pub manner_in : Setting → Manners
 manner_in s = manners s.cast
 
+-- which of the actors are hostile
 abbrev pub hostile_in : Setting → Hostiles
 hostile_in s = hostiles s.cast
 

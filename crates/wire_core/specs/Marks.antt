@@ -73,6 +73,7 @@ calls_after false es e = es ++ e ∷ []
 abbrev pub since_after : Drops → ℕ → List Event → Entry → List Event
 since_after drops a es e = cond (e.actor.0 == a) (calls_after (is_marked drops e) es e.event) es
 
+-- an actor's calls since its last mark, from some calls on and over a journal
 abbrev pub since_from : Drops → ℕ → List Event → List Entry → List Event
 since_from drops a es [] = es
 since_from drops a es (e ∷ js) = since_from drops a (since_after drops a es e) js
@@ -81,6 +82,7 @@ since_from drops a es (e ∷ js) = since_from drops a (since_after drops a es e)
 abbrev pub since : Drops → ℕ → List Entry → List Event
 since drops a journal = since_from drops a [] journal
 
+-- the two roles are one
 abbrev pub is_role : Role → Role → Bool
 is_role Consumer Consumer = true
 is_role Producer Producer = true
@@ -112,6 +114,7 @@ abbrev pub AreOwned : List QueueRow → ℕ → Type 0
 AreOwned rows actors = (n : ℕ) (row : QueueRow) → slice_get rows n ≡ Some row → (r : Role)
     → owner_of row r < actors
 
+-- the sum of a function over the numbers below one
 abbrev pub sum_below : (ℕ → ℕ) → ℕ → ℕ
 sum_below f zero = 0
 sum_below f (suc k) = sum_below f k + f k

@@ -1,3 +1,4 @@
+-- The proofs on casts that have the whole network and the whole block class.
 pub mod Acting
 pub mod Deeds
 pub mod Blocks

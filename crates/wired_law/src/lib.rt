@@ -1,6 +1,7 @@
 //! The actors of a cast, of all classes, where the network's are the whole network at the layout's
-//! queues, and the block class's the whole class: nothing comes out of turn at any actor, so what
-//! passed at each is as its sheet says; and what the network's device and clients recorded.
+//! queues, and the block class's the whole class. Nothing comes out of turn at any actor, so what
+//! passed at each is as its sheet says; and what the network's device and clients, and the clients
+//! of the block class, recorded at any moment and where nobody is runnable.
 #![tactic(auto)]
 
 ghost use Rattle.std.specs.Prelude.{◌≡◌, ◌≤◌, ℕ, Some, List, map, slice_get};
@@ -27,10 +28,10 @@ pub mod blk_replies;
 pub mod quiet;
 
 /// Nothing comes out of turn at any actor of a cast that is wired, where its clients put good
-/// descriptors and requests alone; so they did when nothing had passed yet, and after one more
-/// call they still have. A network client with buffers of its own recorded a beginning of the
-/// frames that are for its address; and the device a merge of beginnings of what the clients send
-/// by their programs.
+/// descriptors and requests alone; so they did when nothing had passed yet, and after one more call
+/// they still have. A network client with buffers of its own recorded a beginning of the frames
+/// that are for its address; and the device a merge of beginnings of what the clients send by their
+/// programs.
 pub fn wired_law()
     ensures turns { (ends : Role → ℕ → End) (rows : List QueueRow) (actors : List Actor)
         (passed : Passed) → IsWired rows (map part_of actors) → AreAtWork ends rows actors passed

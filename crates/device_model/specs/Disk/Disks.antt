@@ -110,5 +110,6 @@ abbrev pub taken_if : Bool → DiskDevice → Cargo → DiskDevice
 taken_if true d x = record d { stray = Some x }
 taken_if false d x = record d { image = done d.image x; load = Some (answer_to d.image x) }
 
+-- the disk once this entry was taken, in turn or out of it
 abbrev pub disk_with : DiskDevice → Cargo → DiskDevice
 disk_with d x = taken_if (is_stray d.image x) d x

@@ -34,27 +34,33 @@ pub record Post : Type 0 where
   pub job : Job
   pub name : List ℕ
 
+-- a job and the name of the domain that has it
 abbrev pub post : Job → List ℕ → Post
 post job name = record { job = job; name = name }
 
--- the jobs that class elements give, key by key in the order of the walk
+-- the jobs that a network client gives, key by key in the order of the walk
 abbrev pub net_client_posts : ℕ → NetClientKeys → List Post
 net_client_posts c client = post (NetClient c) client.pd ∷ post (NetCopier c) client.copier ∷ []
 
+-- the jobs of the network class, with the domains that have them
 abbrev pub net_posts : Net → List Post
 net_posts net = post EthDriver net.driver ∷ post NetReceiver net.rx_virt
     ∷ post NetSender net.tx_virt ∷ each_client net_client_posts 0 net.client
 
+-- the job that a serial client gives
 abbrev pub serial_client_posts : ℕ → SerialClientKeys → List Post
 serial_client_posts c client = post (SerialClient c) client.pd ∷ []
 
+-- the jobs of the serial class, with the domains that have them
 abbrev pub serial_posts : Serial → List Post
 serial_posts serial = post UartDriver serial.driver ∷ post SerialReceiver serial.rx_virt
     ∷ post SerialSender serial.tx_virt ∷ each_client serial_client_posts 0 serial.client
 
+-- the job that a block client gives
 abbrev pub blk_client_posts : ℕ → BlkClientKeys → List Post
 blk_client_posts c client = post (BlkClient c) client.pd ∷ []
 
+-- the jobs of the block class, with the domains that have them
 abbrev pub blk_posts : Blk → List Post
 blk_posts blk = post DiskDriver blk.driver ∷ post BlkVirtualiser blk.virt
     ∷ each_client blk_client_posts 0 blk.client

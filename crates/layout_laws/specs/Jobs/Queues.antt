@@ -16,30 +16,33 @@ pub record Owners : Type 0 where
   pub producer : Job
   pub consumer : Job
 
--- a queue from one to another, and two queues there and back
+-- the owners of a queue from one actor to another
 abbrev pub one_way : Job → Job → Owners
 one_way from to = record { producer = from; consumer = to }
 
+-- the owners of two queues between two actors, there and back
 abbrev pub both_ways : Job → Job → List Owners
 both_ways from to = one_way from to ∷ one_way to from ∷ []
 
--- the network's queues, in the order of the layout's table
+-- the owners of a network client's queues
 abbrev pub net_client_owners : ℕ → List Owners
 net_client_owners c =
     both_ways NetReceiver (NetCopier c) ++ both_ways (NetCopier c) (NetClient c)
     ++ both_ways (NetClient c) NetSender
 
+-- the owners of the network's queues, in the order of the layout's table
 abbrev pub net_owners : Net → List Owners
 net_owners net =
     both_ways EthDriver EthDevice ++ both_ways EthDriver EthDevice
     ++ both_ways EthDriver NetReceiver ++ both_ways NetSender EthDriver
     ++ each_client (λ c client. net_client_owners c) 0 net.client
 
--- those of the serial class
+-- the owners of a serial client's queues
 abbrev pub serial_client_owners : ℕ → List Owners
 serial_client_owners c =
     one_way SerialReceiver (SerialClient c) ∷ one_way (SerialClient c) SerialSender ∷ []
 
+-- the owners of the serial class's queues, in the order of the layout's table
 abbrev pub serial_owners : Serial → List Owners
 serial_owners serial =
     both_ways UartDevice UartDriver
