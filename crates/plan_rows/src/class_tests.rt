@@ -2,8 +2,8 @@
 //! pools.
 ghost use Rattle.sdf_plan.specs.Elements.{IsNumbered};
 
-use super::{Ends, QueueUse, classes_of};
 use cargo_core::{QueueKind, Series, Text};
+use class_table::{Ends, QueueUse, classes_of};
 use sdf_plan::{Place, Plan, Serial, SerialClient};
 use std::alloc::Global;
 use std::process::Abort;

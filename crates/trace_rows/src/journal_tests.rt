@@ -77,7 +77,18 @@ fn journal_spells_calls_sides_answers_and_items(rt: HostRuntime) -> Result<(), F
     let text = write_journal(alloc, &layout, &journal)?;
     assert_eq!(rt;
         text.as_str(),
-        "app0 net.0.tx.active room yes\napp0 net.0.tx.active put - 268435456 1514\n@eth net.0.tx.active see no\n@eth net.0.tx.active take - 0a\napp0 net.0.tx.active put - 3 32768 4294967295 8 7\n@eth net.0.tx.active take - 1 0 9\n@eth net.0.tx.active ask -\napp0 net.0.tx.active waive_back -\napp0 net.0.tx.active wanted yes\n@eth net.0.tx.active settle_back -\napp0 net.0.tx.active ring -\napp0 net.0.tx.active wake_back no\n"
+        "app0 net.0.tx.active room yes\n\
+         app0 net.0.tx.active put - 268435456 1514\n\
+         @eth net.0.tx.active see no\n\
+         @eth net.0.tx.active take - 0a\n\
+         app0 net.0.tx.active put - 3 32768 4294967295 8 7\n\
+         @eth net.0.tx.active take - 1 0 9\n\
+         @eth net.0.tx.active ask -\n\
+         app0 net.0.tx.active waive_back -\n\
+         app0 net.0.tx.active wanted yes\n\
+         @eth net.0.tx.active settle_back -\n\
+         app0 net.0.tx.active ring -\n\
+         app0 net.0.tx.active wake_back no\n"
     );
     Ok(())
 }

@@ -1,8 +1,8 @@
 //! The texts of places and reports beside texts that were written down by hand.
 
-use super::{write_place, write_report, write_summary};
 use cargo_core::{BlkResp, BlkStatus, Bytes, Reply, Series, Text};
 use expect_core::{Census, Report};
+use report_text::{write_place, write_report, write_summary};
 use sdf_plan::Place;
 use std::alloc::Global;
 use std::test::Fail;
@@ -101,7 +101,8 @@ fn replies_show_runs_and_pools_their_buffers(rt: HostRuntime) -> Result<(), Fail
     let text = write_report(alloc, &report)?;
     assert_eq!(rt;
         text.as_str(),
-        "quiet\nsteps 12\nblk 0 replies 2\n1 ok 1 2*ab,1*00\n2 no_device 0\npool blk.0 buffers 4 queues 0 hands 3 lent 1\nbad 0\n"
+        "quiet\nsteps 12\nblk 0 replies 2\n1 ok 1 2*ab,1*00\n2 no_device 0\n\
+         pool blk.0 buffers 4 queues 0 hands 3 lent 1\nbad 0\n"
     );
     Ok(())
 }
