@@ -5,3 +5,4 @@ pub mod Driving
 pub mod Merging
 pub mod SeatRows
 pub mod NetTxRows
+pub mod Emptiness
