@@ -8,6 +8,8 @@
 
 mod arrivals;
 mod sddf_tests;
+#[cfg(test)]
+mod word_tests;
 
 use arrivals::Arrivals;
 use sddf_top::{FileShelf, MemSink, Played, serve};

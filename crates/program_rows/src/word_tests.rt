@@ -1,6 +1,6 @@
 //! Words with their commands and their first bad words, and want of memory.
 
-use super::*;
+use command_words::{Command, Options, read_words};
 use std::alloc::Global;
 use std::test::Fail;
 
