@@ -4,13 +4,21 @@
 #![tactic(auto)]
 
 pub mod blk;
+#[cfg(test)]
+mod cargo_tests;
 mod hand;
+#[cfg(test)]
+mod net_rx_tests;
 pub mod net_tx;
 pub mod owners;
 mod rows;
 pub mod seats;
 #[cfg(test)]
-mod tests;
+mod serial_tests;
+#[cfg(test)]
+mod start_tests;
+#[cfg(test)]
+mod wires_tests;
 
 pub use hand::{get, give, put_in};
-pub use rows::{one_or_two, queues, queues_of};
+pub use rows::{one_or_two, queues, queues_of, row};

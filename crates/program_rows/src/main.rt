@@ -9,6 +9,8 @@
 
 mod arrivals;
 mod tests;
+#[cfg(test)]
+mod word_tests;
 
 use arrivals::Arrivals;
 use sddf_top::{FileShelf, MemSink, Played, serve};

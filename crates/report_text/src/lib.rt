@@ -14,6 +14,3 @@ pub use layout::write_layout;
 pub use place::write_place;
 pub use report::write_report;
 pub use summary::write_summary;
-
-#[cfg(test)]
-mod tests;

@@ -11,6 +11,3 @@ mod rules;
 mod tree;
 
 pub use read::{TEXT_MOST, read_description};
-
-#[cfg(test)]
-mod tests;
