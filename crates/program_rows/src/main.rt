@@ -8,7 +8,8 @@
 #![tactic(auto)]
 
 mod arrivals;
-mod tests;
+#[cfg(test)]
+mod serve_tests;
 #[cfg(test)]
 mod word_tests;
 
