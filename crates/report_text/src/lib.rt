@@ -1,4 +1,6 @@
 //! The texts that the program prints.
+//!
+//! An example of its calls: `crates/library_examples/src/report.rt`.
 #![tactic(auto)]
 
 mod answers;
