@@ -1,7 +1,6 @@
 pub mod Serving
 pub mod Judging
 pub mod Moving
-pub mod Fitting
 pub mod Desking
 pub mod Answering
 pub mod Working

@@ -12,10 +12,9 @@ ghost use Rattle.blk_virt.specs.Ends.{FitsEnds};
 ghost use Rattle.blk_virt.specs.Requests.{goes_on, number_of, for_disk, page_named, numbered, brings};
 ghost use Rattle.blk_virt.specs.Clients.{carried, client_cargo, IsClient, IsFresh, Moved, is_idle, is_leaving, is_away, is_held, counted, brought, leaving_as, WentOff};
 
-use crate::ends::{step_output, step_to_client};
 use crate::{Holder, PageName, brings, numbered, page_named, passed_on, request_of};
 use blk_mbr::Part;
-use buffer_kit::VirtEnds;
+use buffer_kit::{BlkCargo, VirtEnds};
 use cargo_core::{Body, Item, PoolId};
 use turn_kit::count_held;
 use wire_core::{Event, Wires};
@@ -201,7 +200,7 @@ impl Client {
             × (option_to_list (put_of result (leaving_as number self.old)) ≡ []) }
     {
         self.number(number);
-        step_output(ends, wires, &mut self.leaving)
+        ends.step_output::<BlkCargo, _>(wires, &mut self.leaving)
     }
 
     /// The next call to the client, for the answer that is held.
@@ -226,6 +225,6 @@ impl Client {
             (option_to_list (put_of result self.old.held)) }
         ensures away { is_away self.new ≡ is_away self.old }
     {
-        step_to_client(ends, wires, place, &mut self.held)
+        ends.step_to_client::<BlkCargo, _>(wires, place, &mut self.held)
     }
 }

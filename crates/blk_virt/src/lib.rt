@@ -6,7 +6,6 @@
 
 mod client;
 mod desk;
-mod ends;
 mod line;
 mod opening;
 mod requests;

@@ -11,9 +11,8 @@ ghost use Rattle.blk_virt.specs.Desks.{bad_count};
 ghost use Rattle.blk_virt.specs.Works.{IsWork, WorkIsStill, wants_at, gives_at, is_owing, work_cargo};
 ghost use Rattle.blk_virt.specs.Virtualising.{FitsBlkVirt, BlkVirtStandsFor, BlkVirtEnd, SameBlkVirt, BlkVirtForgot, BlkVirtRow, BlkVirtBalances, AreClients, IsNewBlkVirt, new_client, blk_virt_round};
 
-use crate::ends::{step_from_client, step_input, step_output, step_to_client};
 use crate::{Client, Desk, Giving, Holder, Line, Opening, Wanting, Work};
-use buffer_kit::{VirtEnd, VirtEnds};
+use buffer_kit::{BlkCargo, VirtEnd, VirtEnds};
 use cargo_core::{Memory, Page, PoolId};
 use std::alloc::Global;
 use wire_core::{Event, QueueId, Wires};
@@ -180,7 +179,9 @@ impl BlkVirt {
             → WorkIsStill self.old.work self.new.work }
         ensures turn { self.new.ends.turn ≡ self.old.ends.turn }
     {
-        let (event, got) = step_input(&mut self.ends, wires, self.work.stray.is_none());
+        let (event, got) = self
+            .ends
+            .step_input::<BlkCargo, _>(wires, self.work.stray.is_none());
         if let Some(entry) = got {
             self.work.receive(entry);
         }
@@ -203,7 +204,9 @@ impl BlkVirt {
         ensures turn { self.new.ends.turn ≡ self.old.ends.turn }
     {
         let wants = self.work.wants(place);
-        let (event, got) = step_from_client(&mut self.ends, wires, place, wants);
+        let (event, got) = self
+            .ends
+            .step_from_client::<BlkCargo, _>(wires, place, wants);
         if let Some(entry) = got {
             self.work.request(place, entry);
         }
@@ -226,7 +229,7 @@ impl BlkVirt {
     {
         if !self.work.is_owing() {
             let mut nothing = None;
-            return step_output(&mut self.ends, wires, &mut nothing);
+            return self.ends.step_output::<BlkCargo, _>(wires, &mut nothing);
         }
         if self.work.opening.is_reading() {
             return self.work.send_first(&mut self.ends, wires);
@@ -255,7 +258,9 @@ impl BlkVirt {
     {
         if !self.work.gives(place) {
             let mut nothing = None;
-            return step_to_client(&mut self.ends, wires, place, &mut nothing);
+            return self
+                .ends
+                .step_to_client::<BlkCargo, _>(wires, place, &mut nothing);
         }
         self.work.give(&mut self.ends, wires, place)
     }

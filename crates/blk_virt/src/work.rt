@@ -17,9 +17,8 @@ ghost use Rattle.blk_virt.specs.Desks.{is_due, held_at, leaving_at, leaving_with
 ghost use Rattle.blk_virt.specs.Openings.{is_open, is_reading};
 ghost use Rattle.blk_virt.specs.Works.{IsWork, SameWork, WorkStands, WorkIsStill, Sent, Gave, Received, wants_at, gives_at, is_owing, work_cargo};
 
-use crate::ends::step_output;
 use crate::{Desk, Opening};
-use buffer_kit::VirtEnds;
+use buffer_kit::{BlkCargo, VirtEnds};
 use cargo_core::{Body, Item, PoolId};
 use turn_kit::{Needs, count_held};
 use wire_core::{Event, Wires};
@@ -164,7 +163,7 @@ impl Work {
         ensures sent { Sent self.old self.new (option_to_list
             (put_of result self.old.opening.first)) }
     {
-        let event = step_output(ends, wires, &mut self.opening.first);
+        let event = ends.step_output::<BlkCargo, _>(wires, &mut self.opening.first);
         if self.opening.first.is_none() {
             self.number = 1;
         }

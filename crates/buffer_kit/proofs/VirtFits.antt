@@ -12,7 +12,7 @@ use Rattle.turn_kit.specs.declared.outlets.Outlets.{Outlets}
 use Rattle.turn_kit.specs.declared.end_state.EndState.{EndState}
 use Rattle.turn_kit.proofs.Offers.{get_map}
 use Rattle.buffer_kit.specs.declared.virt_ends.VirtEnds.{VirtEnds}
-use Rattle.buffer_kit.specs.Virtualising.{FitsVirt, from_queues, to_queues}
+use Rattle.buffer_kit.specs.Virtualising.{EndKinds, FitsKinds, from_queues, to_queues}
 
 module _ (ends ends' : Role → ℕ → End) (e : Event) (moves : Moves ends e ends') where
   still : (r : Role) (n : ℕ) (s : EndState) → (r ≡ role_of e.op → n ≡ e.queue.0 → ⊥) → Agrees (ends r n) s → Agrees (ends' r n) s
@@ -36,9 +36,9 @@ module _ (ends ends' : Role → ℕ → End) (e : Event) (moves : Moves ends e e
   not_consumer : role_of e.op ≡ Producer → Consumer ≡ role_of e.op → ⊥
   not_consumer p c = let no : Consumer ≡ Producer = c ∙ p in cc
 
-  module _ (v : VirtEnds) (h : FitsVirt ends v) where
+  module _ (kinds : EndKinds) (v : VirtEnds) (h : FitsKinds kinds ends v) where
     -- the end from the driver moved
-    pub input_moved : (i : Intake) → i.queue ≡ v.input.queue → role_of e.op ≡ Consumer → e.queue ≡ v.input.queue → Agrees (ends' Consumer v.input.queue.0) i.state → FitsVirt ends' (record v { input = i })
+    pub input_moved : (i : Intake) → i.queue ≡ v.input.queue → role_of e.op ≡ Consumer → e.queue ≡ v.input.queue → Agrees (ends' Consumer v.input.queue.0) i.state → FitsKinds kinds ends' (record v { input = i })
     input_moved i same role on agrees = record {
       input = rw same agrees;
       output = still Producer v.output.queue.0 v.output.state (λ r n. not_producer role r) h.output;
@@ -55,7 +55,7 @@ module _ (ends ends' : Role → ℕ → End) (e : Event) (moves : Moves ends e e
     }
 
     -- the end to the driver moved
-    pub output_moved : (o : Outlet) → o.queue ≡ v.output.queue → role_of e.op ≡ Producer → e.queue ≡ v.output.queue → Agrees (ends' Producer v.output.queue.0) o.state → FitsVirt ends' (record v { output = o })
+    pub output_moved : (o : Outlet) → o.queue ≡ v.output.queue → role_of e.op ≡ Producer → e.queue ≡ v.output.queue → Agrees (ends' Producer v.output.queue.0) o.state → FitsKinds kinds ends' (record v { output = o })
     output_moved o same role on agrees = record {
       input = still Consumer v.input.queue.0 v.input.state (λ r n. not_consumer role r) h.input;
       output = rw same agrees;
@@ -72,7 +72,7 @@ module _ (ends ends' : Role → ℕ → End) (e : Event) (moves : Moves ends e e
     }
 
     -- an end from a client moved
-    pub from_moved : (xs : Intakes) (k : ℕ) → intake_queues xs ≡ from_queues v → role_of e.op ≡ Consumer → slice_get (from_queues v) k ≡ Some e.queue → FitsIntakes ends' xs → FitsVirt ends' (record v { from_clients = xs })
+    pub from_moved : (xs : Intakes) (k : ℕ) → intake_queues xs ≡ from_queues v → role_of e.op ≡ Consumer → slice_get (from_queues v) k ≡ Some e.queue → FitsIntakes ends' xs → FitsKinds kinds ends' (record v { from_clients = xs })
     from_moved xs k same role on fits = record {
       input = still Consumer v.input.queue.0 v.input.state (λ r n. h.inputs_apart k e.queue on n) h.input;
       output = still Producer v.output.queue.0 v.output.state (λ r n. not_producer role r) h.output;
@@ -89,7 +89,7 @@ module _ (ends ends' : Role → ℕ → End) (e : Event) (moves : Moves ends e e
     }
 
     -- an end to a client moved
-    pub to_moved : (xs : Outlets) (k : ℕ) → outlet_queues xs ≡ to_queues v → role_of e.op ≡ Producer → slice_get (to_queues v) k ≡ Some e.queue → FitsOutlets ends' xs → FitsVirt ends' (record v { to_clients = xs })
+    pub to_moved : (xs : Outlets) (k : ℕ) → outlet_queues xs ≡ to_queues v → role_of e.op ≡ Producer → slice_get (to_queues v) k ≡ Some e.queue → FitsOutlets ends' xs → FitsKinds kinds ends' (record v { to_clients = xs })
     to_moved xs k same role on fits = record {
       input = still Consumer v.input.queue.0 v.input.state (λ r n. not_consumer role r) h.input;
       output = still Producer v.output.queue.0 v.output.state (λ r n. h.outputs_apart k e.queue on n) h.output;

@@ -1,5 +1,6 @@
 -- The ends of a virtualiser: one for each way of the driver, and one for each way of each client.
 use Rattle.std.specs.Prelude.{◌≡◌, ◌⊎◌, ◌+◌, ◌<◌, ◌^◌, ℕ, Bool, None, Some, List, ◌∷◌, ◌++◌, length, map, slice_get}
+use Rattle.cargo_core.specs.declared.item.QueueKind.{QueueKind}
 use Rattle.cargo_core.specs.declared.item.QueueKind.TheVariants as Kind
 use Rattle.wire_core.specs.declared.names.QueueId.{QueueId}
 use Rattle.wire_core.specs.declared.names.Side.TheVariants.{Forward, Backward}
@@ -22,24 +23,54 @@ from_queues v = intake_queues v.from_clients
 abbrev pub to_queues : VirtEnds → List QueueId
 to_queues v = outlet_queues v.to_clients
 
--- the ends are its own, and as it keeps them; no two are one, and all are queues of the network
-pub record FitsVirt (ends : Role → ℕ → End) (v : VirtEnds) : Type 0 where
+-- of which kind the queues are that an end of each sort is at
+pub record EndKinds : Type 0 where
+  pub comes : QueueKind
+  pub goes : QueueKind
+  pub come_from : QueueKind
+  pub go_to : QueueKind
+
+-- the ends are its own, and as it keeps them; no two are one, and their queues are of these kinds
+pub record FitsKinds (kinds : EndKinds) (ends : Role → ℕ → End) (v : VirtEnds) : Type 0 where
   pub input : Agrees (ends Consumer v.input.queue.0) v.input.state
   pub output : Agrees (ends Producer v.output.queue.0) v.output.state
   pub from_clients : FitsIntakes ends v.from_clients
   pub to_clients : FitsOutlets ends v.to_clients
-  pub comes : (ends Consumer v.input.queue.0).kind ≡ Kind.Net
-  pub goes : (ends Producer v.output.queue.0).kind ≡ Kind.Net
+  pub comes : (ends Consumer v.input.queue.0).kind ≡ kinds.comes
+  pub goes : (ends Producer v.output.queue.0).kind ≡ kinds.goes
   pub come_from : (k : ℕ) (q : QueueId) → slice_get (from_queues v) k ≡ Some q
-      → (ends Consumer q.0).kind ≡ Kind.Net
+      → (ends Consumer q.0).kind ≡ kinds.come_from
   pub go_to : (k : ℕ) (q : QueueId) → slice_get (to_queues v) k ≡ Some q
-      → (ends Producer q.0).kind ≡ Kind.Net
+      → (ends Producer q.0).kind ≡ kinds.go_to
   pub inputs_apart : (k : ℕ) (q : QueueId) → slice_get (from_queues v) k ≡ Some q
       → v.input.queue.0 ≡ q.0 → ⊥
   pub outputs_apart : (k : ℕ) (q : QueueId) → slice_get (to_queues v) k ≡ Some q
       → v.output.queue.0 ≡ q.0 → ⊥
   pub few_from : length (from_queues v) < 2 ^ 32
   pub few_to : length (to_queues v) < 2 ^ 32
+
+-- all queues are of the network
+abbrev pub net_kinds : EndKinds
+net_kinds = record {
+  comes = Kind.Net;
+  goes = Kind.Net;
+  come_from = Kind.Net;
+  go_to = Kind.Net;
+}
+
+-- requests go to the driver and come from the clients, and responses come from the driver and go to
+-- the clients
+abbrev pub blk_kinds : EndKinds
+blk_kinds = record {
+  comes = Kind.Resp;
+  goes = Kind.Req;
+  come_from = Kind.Req;
+  go_to = Kind.Resp;
+}
+
+-- the same where all are queues of the network
+abbrev pub FitsVirt : (Role → ℕ → End) → VirtEnds → Type 0
+FitsVirt ends v = FitsKinds net_kinds ends v
 
 -- one of its ends
 abbrev pub VirtOwns : VirtEnds → Role → ℕ → Type 0

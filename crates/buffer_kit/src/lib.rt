@@ -13,4 +13,4 @@ pub use entries::{address, fill, frame, told_length};
 pub use pages::pages_of;
 pub use recorder::Recorder;
 pub use stock::Stock;
-pub use virt_ends::{VirtEnd, VirtEnds};
+pub use virt_ends::{BlkCargo, Carry, NetCargo, VirtEnd, VirtEnds};

@@ -3,13 +3,12 @@
 ghost use Rattle.std.specs.Prelude.{◌≡◌, ◌==◌, ◌+◌, ◌<◌, ◌^◌, ◌++◌, ◌&&◌, ℕ, [], IfOk, IfSome, IsSome, length, map, is_some, slice_get, Some, None, true, false};
 ghost use Rattle.std.specs.Option.{ForSome, option_to_list};
 ghost use Rattle.cargo_core.specs.Items.{kind_of};
-ghost use Rattle.cargo_core.specs.declared.item.QueueKind.TheVariants as Kind;
 ghost use Rattle.wire_core.specs.Deeds.{deed_of, put_of};
 ghost use Rattle.wire_core.specs.Lists.{taken_by, put_by, if_there};
 ghost use Rattle.wire_core.specs.Ends.{role_of, Role, Consumer, Producer, End};
 ghost use Rattle.wire_core.specs.Marks.{is_mark};
 ghost use Rattle.turn_kit.specs.Turns.{PostedAt, choice_of, chosen_place, last_after, is_at_rest};
-ghost use Rattle.buffer_kit.specs.Virtualising.{FitsVirt, VirtOwns, SameVirt, IsNewVirt, VirtForgot, new_intake, new_outlet, intake_forgotten, outlet_forgotten, from_queues, to_queues, virt_posts, virt_round, place_of, IsThere};
+ghost use Rattle.buffer_kit.specs.Virtualising.{EndKinds, FitsKinds, VirtOwns, SameVirt, IsNewVirt, VirtForgot, new_intake, new_outlet, intake_forgotten, outlet_forgotten, from_queues, to_queues, virt_posts, virt_round, place_of, IsThere, net_kinds, blk_kinds};
 
 use cargo_core::{Body, Item, Memory};
 use std::alloc::Global;
@@ -24,6 +23,26 @@ pub enum VirtEnd {
     Output,
     FromClient(usize),
     ToClient(usize),
+}
+
+/// What the queues of a class carry, at the ends of its virtualisers.
+pub trait Carry {
+    /// Of which kind they are, at each sort of end.
+    ghost kinds: { EndKinds };
+}
+
+/// The network's: descriptors everywhere.
+pub struct NetCargo;
+
+impl Carry for NetCargo {
+    ghost kinds = { net_kinds };
+}
+
+/// The disk's: requests to the driver, and responses to the clients.
+pub struct BlkCargo;
+
+impl Carry for BlkCargo {
+    ghost kinds = { blk_kinds };
 }
 
 /// The ends of a virtualiser, and whose turn it is.
@@ -179,13 +198,13 @@ impl VirtEnds {
     }
 
     /// The next call where entries come from the driver. An entry is taken only where it is needed.
-    pub fn step_input<W: Wires>(
+    pub fn step_input<K: Carry, W: Wires>(
         &mut self,
         wires: &mut W,
         need: bool,
     ) -> (Event, Option<(Item, Body)>)
-        requires { FitsVirt (W.ends wires.old) self.old }
-        ensures fits { FitsVirt (W.ends wires.new) self.new }
+        requires { FitsKinds K.kinds (W.ends wires.old) self.old }
+        ensures fits { FitsKinds K.kinds (W.ends wires.new) self.new }
         ensures own { VirtOwns self.old (role_of result.0.op) result.0.queue.0 }
         ensures same { SameVirt self.old self.new }
         ensures did { W.did wires.old (deed_of result.0 result.1) wires.new }
@@ -193,7 +212,7 @@ impl VirtEnds {
         ensures takes { (n : ℕ) → taken_by (deed_of result.0 result.1) n
             ≡ if_there (self.old.input.queue.0 == n) (option_to_list result.1) }
         ensures puts { (n : ℕ) → put_by (deed_of result.0 result.1) n ≡ [] }
-        ensures kind { IfSome result.1 (λ c. kind_of c.0 ≡ Kind.Net) }
+        ensures kind { IfSome result.1 (λ c. kind_of c.0 ≡ K.kinds.comes) }
         ensures posted { PostedAt (virt_posts self.old) 0 need result.0 (virt_posts self.new) }
         ensures still { is_mark result.0.op result.0.answer ≡ false → result.1 ≡ None }
         ensures turn { self.new.turn ≡ self.old.turn }
@@ -202,10 +221,14 @@ impl VirtEnds {
     }
 
     /// The next call where entries go to the driver. The load goes exactly at a put.
-    pub fn step_output<W: Wires>(&mut self, wires: &mut W, load: &mut Option<(Item, Body)>) -> Event
-        requires fits { FitsVirt (W.ends wires.old) self.old }
-        requires kind { ForSome load.old (λ c. kind_of c.0 ≡ Kind.Net) }
-        ensures fits { FitsVirt (W.ends wires.new) self.new }
+    pub fn step_output<K: Carry, W: Wires>(
+        &mut self,
+        wires: &mut W,
+        load: &mut Option<(Item, Body)>,
+    ) -> Event
+        requires fits { FitsKinds K.kinds (W.ends wires.old) self.old }
+        requires kind { ForSome load.old (λ c. kind_of c.0 ≡ K.kinds.goes) }
+        ensures fits { FitsKinds K.kinds (W.ends wires.new) self.new }
         ensures own { VirtOwns self.old (role_of result.op) result.queue.0 }
         ensures same { SameVirt self.old self.new }
         ensures did { W.did wires.old (deed_of result (put_of result load.old)) wires.new }
@@ -224,15 +247,15 @@ impl VirtEnds {
 
     /// The next call where entries come from the client at the place `k`. An entry is taken only
     /// where it is needed.
-    pub fn step_from_client<W: Wires>(
+    pub fn step_from_client<K: Carry, W: Wires>(
         &mut self,
         wires: &mut W,
         k: usize,
         need: bool,
     ) -> (Event, Option<(Item, Body)>)
-        requires fits { FitsVirt (W.ends wires.old) self.old }
+        requires fits { FitsKinds K.kinds (W.ends wires.old) self.old }
         requires there { k < length (from_queues self.old) }
-        ensures fits { FitsVirt (W.ends wires.new) self.new }
+        ensures fits { FitsKinds K.kinds (W.ends wires.new) self.new }
         ensures own { VirtOwns self.old (role_of result.0.op) result.0.queue.0 }
         ensures same { SameVirt self.old self.new }
         ensures did { W.did wires.old (deed_of result.0 result.1) wires.new }
@@ -241,7 +264,7 @@ impl VirtEnds {
         ensures takes { (n : ℕ) → taken_by (deed_of result.0 result.1) n
             ≡ if_there (result.0.queue.0 == n) (option_to_list result.1) }
         ensures puts { (n : ℕ) → put_by (deed_of result.0 result.1) n ≡ [] }
-        ensures kind { IfSome result.1 (λ c. kind_of c.0 ≡ Kind.Net) }
+        ensures kind { IfSome result.1 (λ c. kind_of c.0 ≡ K.kinds.come_from) }
         ensures posted { PostedAt (virt_posts self.old) (2 + k) need result.0
             (virt_posts self.new) }
         ensures still { is_mark result.0.op result.0.answer ≡ false → result.1 ≡ None }
@@ -252,16 +275,16 @@ impl VirtEnds {
 
     /// The next call where entries go to the client at the place `k`. The load goes exactly at a
     /// put.
-    pub fn step_to_client<W: Wires>(
+    pub fn step_to_client<K: Carry, W: Wires>(
         &mut self,
         wires: &mut W,
         k: usize,
         load: &mut Option<(Item, Body)>,
     ) -> Event
-        requires fits { FitsVirt (W.ends wires.old) self.old }
+        requires fits { FitsKinds K.kinds (W.ends wires.old) self.old }
         requires there { k < length (to_queues self.old) }
-        requires kind { ForSome load.old (λ c. kind_of c.0 ≡ Kind.Net) }
-        ensures fits { FitsVirt (W.ends wires.new) self.new }
+        requires kind { ForSome load.old (λ c. kind_of c.0 ≡ K.kinds.go_to) }
+        ensures fits { FitsKinds K.kinds (W.ends wires.new) self.new }
         ensures own { VirtOwns self.old (role_of result.op) result.queue.0 }
         ensures same { SameVirt self.old self.new }
         ensures did { W.did wires.old (deed_of result (put_of result load.old)) wires.new }
@@ -283,7 +306,8 @@ impl VirtEnds {
     pub fn forget(&mut self)
         ensures after { VirtForgot self.old self.new }
         ensures same { SameVirt self.old self.new }
-        ensures fits { (ends : Role → ℕ → End) → FitsVirt ends self.old → FitsVirt ends self.new }
+        ensures fits { (kinds : EndKinds) (ends : Role → ℕ → End)
+            → FitsKinds kinds ends self.old → FitsKinds kinds ends self.new }
     {
         self.input.forget();
         self.output.forget();

@@ -19,7 +19,7 @@ ghost use Rattle.net_virt_rx.specs.Sharing.{IsSharer, is_idle, is_owing, sharer_
 ghost use Rattle.net_virt_rx.specs.Receiving.{FitsRx, RxStandsFor, RxRow, RxBalances, RxEnd};
 ghost use Rattle.net_virt_rx.specs.Receiving.{SameRx, IsNewRx, RxForgot, rx_round};
 
-use buffer_kit::{VirtEnd, VirtEnds};
+use buffer_kit::{NetCargo, VirtEnd, VirtEnds};
 use cargo_core::{Memory, Page, PoolId};
 use frame_core::Mac;
 use std::alloc::Global;
@@ -163,7 +163,9 @@ impl NetVirtRx {
         ensures still { is_mark result.op result.answer ≡ false → self.new.work ≡ self.old.work }
         ensures turn { self.new.ends.turn ≡ self.old.ends.turn }
     {
-        let (event, got) = self.ends.step_input(wires, self.work.is_idle());
+        let (event, got) = self
+            .ends
+            .step_input::<NetCargo, _>(wires, self.work.is_idle());
         if let Some(entry) = got {
             self.work.receive(entry);
         }
@@ -184,7 +186,9 @@ impl NetVirtRx {
         ensures turn { self.new.ends.turn ≡ self.old.ends.turn }
     {
         let idle = self.work.is_idle();
-        let (event, got) = self.ends.step_from_client(wires, client, idle);
+        let (event, got) = self
+            .ends
+            .step_from_client::<NetCargo, _>(wires, client, idle);
         if let Some(entry) = got {
             self.work.take_back(client, entry);
         }
@@ -205,9 +209,11 @@ impl NetVirtRx {
     {
         if self.work.stock.next.is_none() {
             let mut nothing = None;
-            return self.ends.step_output(wires, &mut nothing);
+            return self.ends.step_output::<NetCargo, _>(wires, &mut nothing);
         }
-        let event = self.ends.step_output(wires, &mut self.work.stock.next);
+        let event = self
+            .ends
+            .step_output::<NetCargo, _>(wires, &mut self.work.stock.next);
         if self.work.stock.next.is_none() {
             self.work.stock.refill();
         }
@@ -231,11 +237,13 @@ impl NetVirtRx {
     {
         if !self.work.owed.has(client) {
             let mut nothing = None;
-            return self.ends.step_to_client(wires, client, &mut nothing);
+            return self
+                .ends
+                .step_to_client::<NetCargo, _>(wires, client, &mut nothing);
         }
         let event = self
             .ends
-            .step_to_client(wires, client, &mut self.work.ready);
+            .step_to_client::<NetCargo, _>(wires, client, &mut self.work.ready);
         if self.work.ready.is_none() {
             self.work.owed.remove(client);
         }

@@ -17,7 +17,7 @@ ghost use Rattle.net_virt_tx.specs.Serving.{is_good_of};
 ghost use Rattle.net_virt_tx.specs.Clients.{IsClient, IsFresh, Moved, is_idle, is_leaving, is_loaded, load_of, comes_in_turn, is_away, buffer_at, number_of, is_marked, capped, carried, client_cargo};
 
 use crate::{Marks, Returns, Sender, to_client, to_device};
-use buffer_kit::{VirtEnds, address};
+use buffer_kit::{NetCargo, VirtEnds, address};
 use cargo_core::{Body, Item, Memory, PoolId};
 use std::alloc::Global;
 use turn_kit::count_held;
@@ -200,7 +200,7 @@ impl Client {
         ensures moved { Moved self.old self.new []
             (option_to_list (put_of result self.old.leaving)) [] [] }
     {
-        let event = ends.step_output(wires, &mut self.leaving);
+        let event = ends.step_output::<NetCargo, _>(wires, &mut self.leaving);
         if self.leaving.is_none() {
             self.away.set(self.number as usize, true);
         }
@@ -228,7 +228,7 @@ impl Client {
         ensures moved { Moved self.old self.new [] [] []
             (option_to_list (put_of result self.old.bad)) }
     {
-        ends.step_to_client(wires, place, &mut self.bad)
+        ends.step_to_client::<NetCargo, _>(wires, place, &mut self.bad)
     }
 
     // The next call to the client, for the first buffer that came back.
@@ -256,7 +256,7 @@ impl Client {
             (option_to_list (put_of result self.old.returns.next)) }
     {
         let number = returned_number(&self.returns.next);
-        let event = ends.step_to_client(wires, place, &mut self.returns.next);
+        let event = ends.step_to_client::<NetCargo, _>(wires, place, &mut self.returns.next);
         if self.returns.next.is_none() {
             self.inside.set(number, false);
             self.returns.refill();

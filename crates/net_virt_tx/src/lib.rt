@@ -13,7 +13,7 @@ ghost use Rattle.buffer_kit.specs.Virtualising.{from_queues, to_queues, virt_pos
 ghost use Rattle.net_virt_tx.specs.Traffics.{IsTraffic, IsStill, is_free, owes, needs_at, loaded_at, bad_count, traffic_hand};
 ghost use Rattle.net_virt_tx.specs.Sending.{FitsTx, FitsClients, TxStandsFor, TxRow, TxBalances, TxEnd, SameTx, IsNewTx, TxForgot, sender_of, tx_round};
 
-use buffer_kit::{VirtEnd, VirtEnds};
+use buffer_kit::{NetCargo, VirtEnd, VirtEnds};
 use cargo_core::{Memory, PoolId, Ranges};
 use std::alloc::Global;
 use wire_core::{Event, QueueId, Wires};
@@ -172,7 +172,9 @@ impl NetVirtTx {
             → IsStill self.old.work self.new.work }
         ensures turn { self.new.ends.turn ≡ self.old.ends.turn }
     {
-        let (event, got) = self.ends.step_input(wires, self.work.is_free());
+        let (event, got) = self
+            .ends
+            .step_input::<NetCargo, _>(wires, self.work.is_free());
         if let Some(entry) = got {
             self.work.take_back(entry);
         }
@@ -194,7 +196,9 @@ impl NetVirtTx {
         ensures turn { self.new.ends.turn ≡ self.old.ends.turn }
     {
         let needed = self.work.needs(client);
-        let (event, got) = self.ends.step_from_client(wires, client, needed);
+        let (event, got) = self
+            .ends
+            .step_from_client::<NetCargo, _>(wires, client, needed);
         if let Some(entry) = got {
             self.work.receive(client, entry);
         }
@@ -218,7 +222,7 @@ impl NetVirtTx {
             Some(place) => self.work.send(&mut self.ends, wires, place),
             None => {
                 let mut nothing = None;
-                self.ends.step_output(wires, &mut nothing)
+                self.ends.step_output::<NetCargo, _>(wires, &mut nothing)
             }
         }
     }
@@ -242,7 +246,8 @@ impl NetVirtTx {
             self.work.give(&mut self.ends, wires, client)
         } else {
             let mut nothing = None;
-            self.ends.step_to_client(wires, client, &mut nothing)
+            self.ends
+                .step_to_client::<NetCargo, _>(wires, client, &mut nothing)
         }
     }
 

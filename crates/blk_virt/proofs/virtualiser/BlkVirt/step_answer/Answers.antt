@@ -25,6 +25,6 @@ returns-then-not-gives-clause-stepped g c =
     record {
       body = option_map (λ x. x.1) (put_of c.step_to_client.result None);
       happened = c.step_to_client.ensures.did;
-      kept = λ passed h. moved v.ends c.step_to_client.new.ends c.step_to_client.ensures.same v.work (with_deed passed (deed_of c.step_to_client.result (put_of c.step_to_client.result None)))
+      kept = λ passed h. moved v.ends c.step_to_client.new.self c.step_to_client.ensures.same v.work (with_deed passed (deed_of c.step_to_client.result (put_of c.step_to_client.result None)))
           (still v.ends.input.queue.0 v.ends.output.queue.0 (from_queues v.ends) (to_queues v.ends) v.work passed _ _ c.step_to_client.ensures.takes (λ n. c.step_to_client.ensures.puts n ∙ (ap (λ (o : Option Cargo). if_there (c.step_to_client.result.queue.0 == n) (option_to_list o)) (nothing_put c.step_to_client.result) ∙ none_if (c.step_to_client.result.queue.0 == n))) h);
     }

@@ -37,6 +37,6 @@ returns-then-not-is_owing-clause-stepped g c =
     record {
       body = option_map (λ x. x.1) (put_of c.step_output.result None);
       happened = c.step_output.ensures.did;
-      kept = λ passed h. moved v.ends c.step_output.new.ends c.step_output.ensures.same v.work (with_deed passed (deed_of c.step_output.result (put_of c.step_output.result None)))
+      kept = λ passed h. moved v.ends c.step_output.new.self c.step_output.ensures.same v.work (with_deed passed (deed_of c.step_output.result (put_of c.step_output.result None)))
           (still v.ends.input.queue.0 v.ends.output.queue.0 (from_queues v.ends) (to_queues v.ends) v.work passed _ _ c.step_output.ensures.takes (λ n. c.step_output.ensures.puts n ∙ (ap (λ (o : Option Cargo). if_there (v.ends.output.queue.0 == n) (option_to_list o)) (nothing_put c.step_output.result) ∙ none_if (v.ends.output.queue.0 == n))) h);
     }

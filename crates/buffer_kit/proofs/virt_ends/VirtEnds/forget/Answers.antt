@@ -11,7 +11,7 @@ returns-clause-same c = record {
 }
 
 pub returns-clause-fits : goal.returns-clause-fits
-returns-clause-fits c = λ ends h.
+returns-clause-fits c = λ kinds ends h.
     let from = intakes_stay c.args.self.now.from_clients.ends.items c.forget_inputs.new.inputs.ends.items c.forget_inputs.ensures in
     let to = outlets_stay c.args.self.now.to_clients.ends.items c.forget_outputs.new.outputs.ends.items c.forget_outputs.ensures in
     record {

@@ -2,4 +2,4 @@ use Rattle.buffer_kit.proofs.VirtFits.{input_moved}
 use Rattle.buffer_kit.proofs.virt_ends.VirtEnds.step_input.Goals as goal
 
 pub returns-clause-fits : goal.returns-clause-fits
-returns-clause-fits g c = input_moved (g.W.Wires.ends c.args.wires.now) (g.W.Wires.ends c.step.new.wires) c.step.result.0 c.step.ensures.moves c.args.self.now c.requires c.step.new.self c.step.ensures.queue c.step.ensures.role c.step.ensures.on c.step.ensures.agrees
+returns-clause-fits g c = input_moved (g.W.Wires.ends c.args.wires.now) (g.W.Wires.ends c.step.new.wires) c.step.result.0 c.step.ensures.moves g.K.Carry.kinds c.args.self.now c.requires c.step.new.self c.step.ensures.queue c.step.ensures.role c.step.ensures.on c.step.ensures.agrees

@@ -2,4 +2,4 @@ use Rattle.buffer_kit.proofs.VirtFits.{output_moved}
 use Rattle.buffer_kit.proofs.virt_ends.VirtEnds.step_output.Goals as goal
 
 pub returns-clause-fits : goal.returns-clause-fits
-returns-clause-fits g c = output_moved (g.W.Wires.ends c.args.wires.now) (g.W.Wires.ends c.step.new.wires) c.step.result c.step.ensures.moves c.args.self.now c.requires.fits c.step.new.self c.step.ensures.queue c.step.ensures.role c.step.ensures.on c.step.ensures.agrees
+returns-clause-fits g c = output_moved (g.W.Wires.ends c.args.wires.now) (g.W.Wires.ends c.step.new.wires) c.step.result c.step.ensures.moves g.K.Carry.kinds c.args.self.now c.requires.fits c.step.new.self c.step.ensures.queue c.step.ensures.role c.step.ensures.on c.step.ensures.agrees
