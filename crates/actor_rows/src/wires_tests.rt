@@ -1,6 +1,6 @@
-//! All queues of a system, in lists: notifications, want of room, queues that are filled and emptied,
-//! and rings that go on as queues. Each helper makes one call where the discipline allows it, and
-//! answers None where it doesn't.
+//! All queues of a system, in lists: notifications, want of room, queues that are filled and
+//! emptied, and rings that go on as queues. Each helper makes one call where the discipline allows
+//! it, and answers None where it doesn't.
 
 ghost use Rattle.std.specs.Prelude.{◌≡◌, ◌<◌, ◌≤◌, length, All, IfOk};
 ghost use Rattle.cargo_core.specs.Items.{kind_of};

@@ -1,4 +1,5 @@
-//! The pools of a play: what the report of a played plan says of its buffers, whatever classes it has.
+//! The pools of a play: what the report of a played plan says of its buffers, whatever classes it
+//! has.
 
 ghost use Rattle.std.specs.Prelude.{◌≡◌, ℕ};
 ghost use Rattle.owner_law.specs.Owners.{Table};

@@ -3,9 +3,9 @@
 //! the plan in which a domain has another name, also one that no text spells, as `@uart`, the
 //! serial device's own. For each row one line is written: how the play ended, what was sent on the
 //! line, what each serial client recorded, and how many replies each block client got. Bytes are
-//! written as runs, `3*61` for 616161; where several clients speak, the line is written as how often
-//! each byte stands in it, since their bytes come in any order. Where a quiet play left a record or
-//! replies that the trace doesn't give the client, the line says so.
+//! written as runs, `3*61` for 616161; where several clients speak, the line is written as how
+//! often each byte stands in it, since their bytes come in any order. Where a quiet play left a
+//! record or replies that the trace doesn't give the client, the line says so.
 #![tactic(auto)]
 
 ghost use Rattle.std.specs.Prelude.{◌≡◌, ◌<◌, ◌≤◌, IfOk, IfSome, length, None};
