@@ -1,6 +1,8 @@
 //! Queues whose other ends are worked by hand, for tests of one actor at a time.
 #![tactic(auto)]
 
+#[cfg(test)]
+mod alone;
 pub mod blk_rows;
 #[cfg(test)]
 mod cargo_tests;
