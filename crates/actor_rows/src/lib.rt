@@ -3,6 +3,8 @@
 //! replies of the block class; and the owner table of two journals.
 #![tactic(auto)]
 
+#[cfg(test)]
+mod alone;
 pub mod blk;
 #[cfg(test)]
 mod cargo_tests;

@@ -5,6 +5,7 @@ ghost use Rattle.serial_virt.specs.Receiving.{IsNewRx};
 ghost use Rattle.serial_virt.specs.Sending.{IsNewTx};
 ghost use Rattle.actor_rows.specs.Standings.{DriverStands, RxStands, TxStands, eight, queue};
 
+use crate::alone::settle;
 use crate::{get, give, one_or_two, queues};
 use cargo_core::{Item, Memory};
 use plain_wires::World;
@@ -49,9 +50,7 @@ fn say(virt: &mut SerialVirtRx, world: &mut World, byte: u8) -> bool
     ensures { RxStands world.new virt.new }
 {
     let given = give(world, QueueId(0), byte);
-    for _call in 0..60 {
-        virt.step(world);
-    }
+    settle(virt, world);
     given
 }
 
@@ -62,9 +61,7 @@ fn hear(virt: &mut SerialVirtRx, world: &mut World, client: u16) -> Option<Item>
     ensures { RxStands world.new virt.new }
 {
     let got = get(world, QueueId(1 + client));
-    for _call in 0..60 {
-        virt.step(world);
-    }
+    settle(virt, world);
     got
 }
 
@@ -117,9 +114,7 @@ fn offer(virt: &mut SerialVirtTx, world: &mut World, client: u16, byte: u8) -> b
     ensures { TxStands world.new virt.new }
 {
     let given = give(world, QueueId(1 + client), byte);
-    for _call in 0..60 {
-        virt.step(world);
-    }
+    settle(virt, world);
     given
 }
 
@@ -129,9 +124,7 @@ fn collect(virt: &mut SerialVirtTx, world: &mut World) -> Option<Item>
     ensures { TxStands world.new virt.new }
 {
     let got = get(world, QueueId(0));
-    for _call in 0..60 {
-        virt.step(world);
-    }
+    settle(virt, world);
     got
 }
 
@@ -162,9 +155,7 @@ fn feed(driver: &mut UartDriver, world: &mut World, byte: u8) -> bool
     ensures { DriverStands world.new driver.new }
 {
     let given = give(world, QueueId(0), byte);
-    for _call in 0..60 {
-        driver.step(world);
-    }
+    settle(driver, world);
     given
 }
 
@@ -174,9 +165,7 @@ fn drain(driver: &mut UartDriver, world: &mut World) -> Option<Item>
     ensures { DriverStands world.new driver.new }
 {
     let got = get(world, QueueId(2));
-    for _call in 0..60 {
-        driver.step(world);
-    }
+    settle(driver, world);
     got
 }
 

@@ -5,6 +5,7 @@ ghost use Rattle.cargo_core.specs.declared.item.QueueKind.TheVariants as Kind;
 ghost use Rattle.cargo_core.specs.Items.{kind_of};
 ghost use Rattle.actor_rows.specs.NetTx.Standings.{IsNewAlone, Stands};
 
+use crate::alone::settle;
 use crate::{get, one_or_two, put_in, queues_of};
 use cargo_core::{Body, Item, Memory, NetDesc, Page, PoolId, QueueKind, Ranges};
 use net_virt_tx::{NetVirtTx, Sender, TxEnds};
@@ -44,9 +45,7 @@ fn send(virt: &mut NetVirtTx, world: &mut World, item: Item, body: Body) -> bool
     ensures { Stands world.new virt.new }
 {
     let given = put_in(world, QueueId(2), item, body);
-    for _call in 0..60 {
-        virt.step(world);
-    }
+    settle(virt, world);
     given
 }
 
@@ -56,9 +55,7 @@ fn returned(virt: &mut NetVirtTx, world: &mut World) -> Option<Item>
     ensures { Stands world.new virt.new }
 {
     let got = get(world, QueueId(3));
-    for _call in 0..60 {
-        virt.step(world);
-    }
+    settle(virt, world);
     got
 }
 
@@ -68,9 +65,7 @@ fn sent(virt: &mut NetVirtTx, world: &mut World) -> Option<Item>
     ensures { Stands world.new virt.new }
 {
     let got = get(world, QueueId(0));
-    for _call in 0..60 {
-        virt.step(world);
-    }
+    settle(virt, world);
     got
 }
 
