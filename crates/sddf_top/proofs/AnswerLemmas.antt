@@ -12,7 +12,7 @@ use Rattle.sddf_top.specs.declared.played.Played.{Played}
 use Rattle.sddf_top.specs.Decisions.{Decision, Say, Play, Run, asked_on, Decides, TextDecides, PlanDecides, TraceDecides, GeneratedDecides, long_trace, bad_trace, good_trace, checked, laid_out, traced, long_description, refused, accepted, no_command, described, generated}
 use Rattle.sddf_top.specs.Shown.{ending_of}
 use Rattle.sddf_top.specs.Answers.{Answers, Comes, Shows, ShowsRun, IsStatusOf, Serves, WasRead, IsTold, IsFault, no_reading, no_writing, no_memory}
-use Rattle.sddf_top.specs.Outside.{appended}
+use Rattle.shelf_core.specs.Outside.{appended}
 use Rattle.sddf_top.proofs.DecisionLemmas.{Agrees, one-decision, plan-read, text-read}
 
 -- what was read of a told text is its bytes

@@ -8,10 +8,11 @@ use Rattle.sddf_top.specs.declared.showing.Asked.TheVariants as Ask
 use Rattle.sddf_top.specs.declared.status.Status.{Status}
 use Rattle.sddf_top.specs.declared.status.Status.TheVariants as Ended
 use Rattle.sdf_model.specs.Counts.{text_most}
-use Rattle.sddf_top.specs.Outside.{IsRead, read_most}
+use Rattle.shelf_core.specs.Outside.{IsRead, read_most}
 use Rattle.sddf_top.specs.Decisions.{Decision, asked_on, AsksFor, TextDecides, TraceDecides, GeneratedDecides, long_description, refused, accepted, long_trace, bad_trace, good_trace, NamesDescription}
 use Rattle.sddf_top.specs.Answers.{IsStatusOf, IsFault, no_writing}
-use Rattle.sddf_top.specs.Readings.{Behind, IsLong, IsWithinLimit, IsOfText, IsOfPlay, IsUnread, LeavesPlay, LeavesPlan, LeavesText, ReadLast, read_description, read_trace}
+use Rattle.shelf_core.specs.Reading.{Behind}
+use Rattle.sddf_top.specs.Readings.{IsLong, IsWithinLimit, IsOfText, IsOfPlay, IsUnread, LeavesPlay, LeavesPlan, LeavesText, ReadLast, read_description, read_trace}
 use Rattle.sddf_top.proofs.DecisionLemmas.{same-desc}
 
 -- a text is too long, or within the limit, as the bytes are that were read of it

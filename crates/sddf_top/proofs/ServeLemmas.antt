@@ -4,11 +4,11 @@ use Rattle.cargo_core.specs.declared.memory.Memory.{Memory}
 use Rattle.command_words.specs.declared.command.Command.{Command}
 use Rattle.command_words.specs.Words.{Spells, IsGen}
 use Rattle.sddf_top.specs.declared.answering.Outcome.{Outcome}
-use Rattle.sddf_top.specs.declared.reading.ReadStop.{ReadStop}
-use Rattle.sddf_top.specs.declared.reading.ReadStop.TheVariants as Stop
+use Rattle.shelf_core.specs.declared.reading.ReadStop.{ReadStop}
+use Rattle.shelf_core.specs.declared.reading.ReadStop.TheVariants as Stop
 use Rattle.sddf_top.specs.declared.status.Status.{Status}
 use Rattle.sddf_top.specs.declared.played.Played.{Played}
-use Rattle.sddf_top.specs.Outside.{Rose}
+use Rattle.shelf_core.specs.Outside.{Rose}
 use Rattle.sddf_top.specs.Decisions.{Decides}
 use Rattle.sddf_top.specs.Answers.{WasRead, no_reading, no_writing, no_memory}
 use Rattle.sddf_top.specs.Readings.{ReadLast}

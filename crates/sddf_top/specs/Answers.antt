@@ -18,7 +18,7 @@ use Rattle.sddf_top.specs.declared.played.Played.{Played}
 use Rattle.sddf_top.specs.declared.played.Played.TheVariants as Was
 use Rattle.sddf_top.specs.Decisions.{Decision, Say, Play, Run, Decides}
 use Rattle.sddf_top.specs.Shown.{seed_of, limit_of, limit_or_budget, ending_of, shown_text}
-use Rattle.sddf_top.specs.Outside.{IsRead, appended, read_most}
+use Rattle.shelf_core.specs.Outside.{IsRead, appended, read_most}
 
 -- a trace was played on a plan: the system that was built and played, the status by whether it is
 -- quiet, and the text of its report, with its journal where the options ask for it, or its summary.

@@ -1,13 +1,9 @@
 pub mod Answers
 pub mod Codes
 pub mod Decisions
-pub mod FaultPlans
 pub mod Judged
-pub mod Names
 pub mod Outcomes
-pub mod Outside
 pub mod Readings
 pub mod Served
 pub mod Shown
-pub mod Sunk
 pub mod SystemRun

@@ -2,15 +2,15 @@
 use Rattle.std.specs.Prelude.{◌≡◌, ◌⊎◌, ◌<◌, ℕ, Option, Result, Ok, Err, IfOk, OnErr, List, string_bytes}
 use Rattle.trace_text.specs.Traces.{IsReadFor}
 use Rattle.sddf_top.specs.declared.answering.Outcome.{Outcome}
-use Rattle.sddf_top.specs.declared.reading.ReadStop.{ReadStop}
-use Rattle.sddf_top.specs.declared.reading.ReadStop.TheVariants as Stop
+use Rattle.shelf_core.specs.declared.reading.ReadStop.{ReadStop}
+use Rattle.shelf_core.specs.declared.reading.ReadStop.TheVariants as Stop
 use Rattle.sddf_top.specs.declared.played.Played.{Played}
 use Rattle.sddf_top.specs.declared.deciding.Decided.{Decided}
 use Rattle.sddf_top.specs.declared.deciding.Decided.TheVariants as Is
 use Rattle.sddf_top.specs.declared.showing.Asked.TheVariants as Ask
 use Rattle.sddf_top.specs.declared.status.Status.{Status}
 use Rattle.sddf_top.specs.declared.status.Status.TheVariants as Ended
-use Rattle.sddf_top.specs.Outside.{Rose}
+use Rattle.shelf_core.specs.Outside.{Rose}
 use Rattle.sddf_top.specs.Judged.{IsAcceptedPlan}
 use Rattle.sddf_top.specs.Decisions.{Decision, Say, asked_on, Decides}
 use Rattle.sddf_top.specs.Answers.{Comes, ComesBy, IsStatusOf, Serves, WasRead}

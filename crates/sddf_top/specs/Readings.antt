@@ -1,27 +1,12 @@
--- How texts are read: in what pieces, which last, and how far.
-use Rattle.std.specs.Prelude.{◌≡◌, ◌≤◌, ◌<◌, ◌⊎◌, ℕ, Option, List, [], ◌++◌, length, take, drop, IfSome}
-use Rattle.std.specs.Option.{option_map}
+-- Which text is read last, and how far.
+use Rattle.std.specs.Prelude.{◌≡◌, ◌≤◌, ◌<◌, ◌⊎◌, ℕ, Option, List, length, IfSome}
 use Rattle.command_words.specs.Words.{IsCheck, IsLayout, IsGen}
 use Rattle.sddf_top.specs.declared.status.Status.{Status}
 use Rattle.sddf_top.specs.declared.status.Status.TheVariants as Ended
 use Rattle.sdf_model.specs.Counts.{text_most}
-use Rattle.sddf_top.specs.Outside.{read_most}
+use Rattle.shelf_core.specs.Reading.{Behind}
 use Rattle.sddf_top.specs.declared.showing.Asked.{Asked}
 use Rattle.sddf_top.specs.Decisions.{NamesDescription, AsksFor}
-
--- a piece of n bytes was read on: the next bytes of what was left, where it is told, and none only
--- at its end
-pub record ReadsOn (left : Option (List ℕ)) (old : List ℕ) (n : ℕ) (left' : Option (List ℕ))
-    (new : List ℕ) : Type 0 where
-  pub bytes : IfSome left (λ l. new ≡ old ++ take n l)
-  pub within : IfSome left (λ l. n ≤ length l)
-  pub rest : left' ≡ option_map (drop n) left
-  pub none : n ≡ 0 → IfSome left (λ l. l ≡ [])
-
--- what is left of a text of which all that is ever read was read: what stands behind its first
--- 16,777,217 bytes
-unfoldable pub Behind : (List ℕ → Option (List ℕ)) → List ℕ → Option (List ℕ) → Type 0
-Behind told name left = left ≡ option_map (drop read_most) (told name)
 
 -- a text is too long, where it is told
 abbrev pub IsLong : Option (List ℕ) → Type 0

@@ -6,7 +6,7 @@ use Rattle.command_words.specs.Words.{Spells, IsGen}
 use Rattle.sddf_top.specs.declared.status.Status.{Status}
 use Rattle.sddf_top.specs.declared.status.Status.TheVariants as Ended
 use Rattle.sddf_top.specs.declared.played.Played.{Played}
-use Rattle.sddf_top.specs.Outside.{Rose}
+use Rattle.shelf_core.specs.Outside.{Rose}
 use Rattle.sddf_top.specs.Decisions.{Decision, Decides}
 use Rattle.sddf_top.specs.Answers.{Serves, WasRead, IsTold, IsStatusOf, IsFault}
 use Rattle.sddf_top.specs.Readings.{ReadLast}

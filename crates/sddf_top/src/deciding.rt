@@ -8,7 +8,7 @@ ghost use Rattle.report_text.specs.Answers.{usage_text, accepted_text, bad_trace
 ghost use Rattle.report_text.specs.Layouts.{layout_text};
 ghost use Rattle.command_words.specs.Words.{texts_of, IsGen, Spells, last_name};
 ghost use Rattle.command_words.specs.declared.command.Command.{Command};
-ghost use Rattle.sddf_top.specs.Outside.{Rose};
+ghost use Rattle.shelf_core.specs.Outside.{Rose};
 ghost use Rattle.sddf_top.specs.Judged.{IsAcceptedPlan};
 ghost use Rattle.sddf_top.specs.Outcomes.{decision_of, OfEach};
 ghost use Rattle.sddf_top.specs.Decisions.{Say, AsksFor, Decides, TextDecides, PlanDecides, TraceDecides, GeneratedDecides, refuses, too_long};
@@ -16,8 +16,7 @@ ghost use Rattle.sddf_top.specs.Answers.{WasRead};
 ghost use Rattle.sddf_top.specs.Readings.{LeavesPlay, LeavesPlan, LeavesText, ReadLast};
 
 use crate::judging::judge;
-use crate::reading::{ReadStop, read_text};
-use crate::{Asked, Shelf, Showing, Status};
+use crate::{Asked, Showing, Status};
 use cargo_core::Memory;
 use command_words::{Command, read_words};
 use region_layout::lay_out;
@@ -26,6 +25,7 @@ use report_text::{
 };
 use sdf_model::TEXT_MOST;
 use sdf_plan::{Plan, Refusal, SdfFault};
+use shelf_core::{ReadStop, Shelf, read_text};
 use std::alloc::Global;
 use trace_text::{Trace, TraceFault, read_trace};
 use workload::{FULL_EXAMPLE, generate};

@@ -1,6 +1,6 @@
 use Rattle.std.proofs.Common.{sym, subst}
 use Rattle.command_words.specs.Words.{texts_of}
-use Rattle.sddf_top.specs.Outside.{IsRead}
+use Rattle.shelf_core.specs.Outside.{IsRead}
 use Rattle.sddf_top.specs.Answers.{WasRead}
 use Rattle.sddf_top.specs.Outcomes.{decision_of, OfEach}
 use Rattle.sddf_top.specs.Readings.{LeavesText}

@@ -1,5 +1,5 @@
 use Rattle.std.proofs.Common.{sym, subst}
-use Rattle.sddf_top.specs.Outside.{IsRead}
+use Rattle.shelf_core.specs.Outside.{IsRead}
 use Rattle.sddf_top.specs.Outcomes.{decision_of}
 use Rattle.sddf_top.specs.Decisions.{TraceDecides, traced}
 use Rattle.sddf_top.proofs.LastLemmas.{trace-status}

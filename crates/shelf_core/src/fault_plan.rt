@@ -1,7 +1,7 @@
 //! Which calls of a shelf or a sink in memory fail, and how many bytes one moves at most.
 ghost use Rattle.std.specs.Prelude.{◌≡◌, ◌≤◌, ◌∷◌, ◌++◌, [], OnOk, OnErr};
-ghost use Rattle.sddf_top.specs.FaultPlans.{unplanned, next_call, is_due};
-ghost use Rattle.sddf_top.specs.Outside.{Rose};
+ghost use Rattle.shelf_core.specs.FaultPlans.{unplanned, next_call, is_due};
+ghost use Rattle.shelf_core.specs.Outside.{Rose};
 
 use crate::Failed;
 use crate::faults::one_more;
@@ -20,7 +20,7 @@ pub struct FaultPlan {
 }
 
 impl Model for FaultPlan {
-    ghost use Rattle.sddf_top.specs.FaultPlans.{Planned};
+    ghost use Rattle.shelf_core.specs.FaultPlans.{Planned};
 
     ghost Value = { Planned };
 

@@ -1,6 +1,6 @@
 use Rattle.std.proofs.Common.{◌≡◌, ◌≤◌, ◌-◌, ℕ, List, length}
-use Rattle.sddf_top.proofs.ReadLemmas.{HasRead}
-use Rattle.sddf_top.proofs.reading.read_text.Given as goal
+use Rattle.shelf_core.proofs.ReadLemmas.{HasRead}
+use Rattle.shelf_core.proofs.reading.read_text.Given as goal
 
 abbrev pub invariant-loop-text : goal.invariant-loop-text
 invariant-loop-text g l = record {

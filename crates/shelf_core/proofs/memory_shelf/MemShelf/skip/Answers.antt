@@ -1,7 +1,7 @@
 use Rattle.std.proofs.Common.{sym, ap, ◌∙◌, drop}
 use Rattle.std.proofs.lemmas.List.{drop-drop}
-use Rattle.sddf_top.specs.Names.{Shelved, left_of}
-use Rattle.sddf_top.proofs.memory_shelf.MemShelf.skip.Goals as goal
+use Rattle.shelf_core.specs.Names.{Shelved, left_of}
+use Rattle.shelf_core.proofs.memory_shelf.MemShelf.skip.Goals as goal
 
 pub returns-clause-left : goal.returns-clause-left
 returns-clause-left c =

@@ -1,7 +1,7 @@
 //! A text is written to a sink to its end.
 ghost use Rattle.std.specs.Prelude.{◌≡◌, ◌≤◌, ℕ, List, OnOk, OnErr};
 ghost use Rattle.cargo_core.specs.Lists.{IsPrefix};
-ghost use Rattle.sddf_top.specs.Outside.{Rose, appended};
+ghost use Rattle.shelf_core.specs.Outside.{Rose, appended};
 
 use crate::{Failed, Sink};
 

@@ -1,8 +1,8 @@
 //! A text is read from a shelf to its end.
 ghost use Rattle.std.specs.Prelude.{◌≡◌, ◌+◌, ◌<◌, ◌≤◌, ℕ, List, Err, OnOk, IfOk, IfSome, length};
 ghost use Rattle.cargo_core.specs.declared.memory.Memory.{Memory};
-ghost use Rattle.sddf_top.specs.Outside.{Rose, IsRead, read_most};
-ghost use Rattle.sddf_top.specs.Readings.{ReadsOn, Behind};
+ghost use Rattle.shelf_core.specs.Outside.{Rose, IsRead, read_most};
+ghost use Rattle.shelf_core.specs.Reading.{ReadsOn, Behind};
 
 use crate::{Failed, Shelf};
 use cargo_core::{Bytes, Memory};
@@ -23,7 +23,7 @@ pub enum ReadStop {
 
 impl From<Failed> for ReadStop {
     ghost use Rattle.std.specs.Prelude.{◌≡◌};
-    ghost use Rattle.sddf_top.specs.declared.reading.ReadStop.TheVariants as Stop;
+    ghost use Rattle.shelf_core.specs.declared.reading.ReadStop.TheVariants as Stop;
 
     ghost from_gives = { λ _ stop. stop ≡ Stop.Failed };
 
@@ -34,7 +34,7 @@ impl From<Failed> for ReadStop {
 
 impl From<Memory> for ReadStop {
     ghost use Rattle.std.specs.Prelude.{◌≡◌};
-    ghost use Rattle.sddf_top.specs.declared.reading.ReadStop.TheVariants as Stop;
+    ghost use Rattle.shelf_core.specs.declared.reading.ReadStop.TheVariants as Stop;
 
     ghost from_gives = { λ memory stop. stop ≡ Stop.Memory memory };
 

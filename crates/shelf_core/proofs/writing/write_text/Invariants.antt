@@ -1,6 +1,6 @@
 use Rattle.std.proofs.Common.{length, ◌-◌, ◌≡◌, ◌≤◌, take}
-use Rattle.sddf_top.specs.Outside.{appended}
-use Rattle.sddf_top.proofs.writing.write_text.Given as goal
+use Rattle.shelf_core.specs.Outside.{appended}
+use Rattle.shelf_core.proofs.writing.write_text.Given as goal
 
 abbrev pub invariant-loop-done : goal.invariant-loop-done
 invariant-loop-done g l = record {

@@ -1,8 +1,8 @@
 use Rattle.std.proofs.Common.{◌∙◌, arith}
-use Rattle.sddf_top.specs.Readings.{Behind}
-use Rattle.sddf_top.proofs.ReadLemmas.{HasRead-more, read-full, read-ended, left-full, left-ended}
-use Rattle.sddf_top.proofs.reading.read_text.Goals as goal
-use Rattle.sddf_top.proofs.reading.read_text.Goals.{else-loop-text-test, then-loop-text-test+in_ok-read_piece+then-branch-eq0}
+use Rattle.shelf_core.specs.Reading.{Behind}
+use Rattle.shelf_core.proofs.ReadLemmas.{HasRead-more, read-full, read-ended, left-full, left-ended}
+use Rattle.shelf_core.proofs.reading.read_text.Goals as goal
+use Rattle.shelf_core.proofs.reading.read_text.Goals.{else-loop-text-test, then-loop-text-test+in_ok-read_piece+then-branch-eq0}
 
 pub loop-text-preserved : goal.loop-text-preserved
 loop-text-preserved g c = record {

@@ -1,6 +1,6 @@
 -- A sink in memory, and how much a call of it takes.
 use Rattle.std.specs.Prelude.{ℕ, ◌-◌, min, List, length}
-use Rattle.sddf_top.specs.FaultPlans.{Planned}
+use Rattle.shelf_core.specs.FaultPlans.{Planned}
 
 -- a sink in memory: the bytes that were written, for how many there is room, and what the sink was
 -- told

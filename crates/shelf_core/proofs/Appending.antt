@@ -2,7 +2,7 @@ use Rattle.std.proofs.Common.{◌≡◌, ◌+◌, ◌-◌, ℕ, List, length, �
 use Rattle.std.proofs.Math.Seq.{take-add}
 use Rattle.std.proofs.lemmas.List.{take-append-drop, take_all, length-drop}
 use Rattle.cargo_core.specs.Lists.{IsPrefix}
-use Rattle.sddf_top.specs.Outside.{appended}
+use Rattle.shelf_core.specs.Outside.{appended}
 
 -- what is appended in two pieces is appended whole
 pub appended-twice : (before : Option (List ℕ)) (xs ys : List ℕ) → appended (appended before xs) ys ≡ appended before (xs ++ ys)

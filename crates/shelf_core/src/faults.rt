@@ -1,6 +1,6 @@
 //! How a count of faults rises.
 ghost use Rattle.std.specs.Prelude.{◌≤◌};
-ghost use Rattle.sddf_top.specs.Outside.{Rose};
+ghost use Rattle.shelf_core.specs.Outside.{Rose};
 
 /// A count of faults after one more. It stands still at the end of its type.
 pub fn one_more(count: u64) -> u64

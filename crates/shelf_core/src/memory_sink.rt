@@ -1,7 +1,7 @@
 //! A sink in memory, which fails the calls that it is told to, and gets full.
 ghost use Rattle.std.specs.Prelude.{◌≡◌, ◌≤◌, ◌∷◌, ◌++◌, [], length, OnOk, OnErr, IfOk};
-ghost use Rattle.sddf_top.specs.FaultPlans.{unplanned};
-ghost use Rattle.sddf_top.specs.Sunk.{bytes_taken};
+ghost use Rattle.shelf_core.specs.FaultPlans.{unplanned};
+ghost use Rattle.shelf_core.specs.Sunk.{bytes_taken};
 
 use crate::fault_plan::FaultPlan;
 use crate::{Failed, Sink};
@@ -21,7 +21,7 @@ pub struct MemSink {
 
 impl Model for MemSink {
     ghost use Rattle.std.specs.Prelude.{◌≤◌, vec_capacity};
-    ghost use Rattle.sddf_top.specs.Sunk.{Sunk};
+    ghost use Rattle.shelf_core.specs.Sunk.{Sunk};
 
     ghost Value = { Sunk };
 
@@ -85,8 +85,8 @@ impl MemSink {
 
 impl Sink for MemSink {
     ghost use Rattle.std.specs.Prelude.{Some, is_ok, not, ◌&&◌, ◌||◌, ◌==◌, take};
-    ghost use Rattle.sddf_top.specs.FaultPlans.{Counted, is_due};
-    ghost use Rattle.sddf_top.specs.Outside.{Rose, appended};
+    ghost use Rattle.shelf_core.specs.FaultPlans.{Counted, is_due};
+    ghost use Rattle.shelf_core.specs.Outside.{Rose, appended};
 
     ghost written = { λ s. Some s.written };
 

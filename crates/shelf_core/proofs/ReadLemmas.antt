@@ -2,7 +2,7 @@ use Rattle.std.proofs.Common.{◌≡◌, ◌≤◌, ◌+◌, ℕ, List, [], ◌+
 use Rattle.std.proofs.Math.Seq.{take-add}
 use Rattle.std.proofs.lemmas.List.{drop-drop, drop_all, take_all, length-drop, length-append, length-take-le, append-nil}
 use Rattle.std.specs.Option.{option_map, IfSome}
-use Rattle.sddf_top.specs.Readings.{ReadsOn}
+use Rattle.shelf_core.specs.Reading.{ReadsOn}
 
 -- where the text is told, these are its first bytes, and the others are left
 pub record HasRead (told left : Option (List ℕ)) (bytes : List ℕ) : Type 0 where

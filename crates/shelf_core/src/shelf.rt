@@ -1,7 +1,7 @@
 //! Where texts come from.
 ghost use Rattle.std.specs.Prelude.{◌≡◌, ◌≤◌, ℕ, List, Option, length, drop, OnOk, OnErr, IfOk, IfSome};
 ghost use Rattle.std.specs.Option.{option_map};
-ghost use Rattle.sddf_top.specs.Outside.{Rose, GivesNext, IsAtEnd};
+ghost use Rattle.shelf_core.specs.Outside.{Rose, GivesNext, IsAtEnd};
 
 /// The outside failed: a file, a stream.
 #[derive(Clone, Copy, Debug, PartialEq, Eq)]

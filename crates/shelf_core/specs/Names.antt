@@ -2,8 +2,8 @@
 use Rattle.std.specs.Prelude.{ℕ, min, max, Option, Some, None, List, [], length, drop, slice_get, position, nat_eq, unwrap_or}
 use Rattle.std.specs.Option.{option_map}
 use Rattle.std.specs.Cmp.Lexicographic.{pointwise}
-use Rattle.sddf_top.specs.FaultPlans.{Planned}
-use Rattle.sddf_top.specs.declared.memory_shelf.NamedText.{NamedText}
+use Rattle.shelf_core.specs.FaultPlans.{Planned}
+use Rattle.shelf_core.specs.declared.memory_shelf.NamedText.{NamedText}
 
 -- the first text of this name: its place, and its bytes
 abbrev pub place_under : List NamedText → List ℕ → Option ℕ

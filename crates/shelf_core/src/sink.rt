@@ -1,6 +1,6 @@
 //! Where the answer goes.
 ghost use Rattle.std.specs.Prelude.{◌≡◌, ◌≤◌, ℕ, List, [], Option, length, take, OnOk, OnErr, IfOk};
-ghost use Rattle.sddf_top.specs.Outside.{Rose, appended};
+ghost use Rattle.shelf_core.specs.Outside.{Rose, appended};
 
 use crate::Failed;
 

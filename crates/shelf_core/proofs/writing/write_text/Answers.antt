@@ -1,7 +1,7 @@
 use Rattle.std.proofs.Common.{take, ◌∙◌, arith, length-drop}
 use Rattle.std.proofs.lemmas.Result.{err_from_is_err_and}
-use Rattle.sddf_top.proofs.Appending.{appended-piece, take-begins, take-rest}
-use Rattle.sddf_top.proofs.writing.write_text.Goals as goal
+use Rattle.shelf_core.proofs.Appending.{appended-piece, take-begins, take-rest}
+use Rattle.shelf_core.proofs.writing.write_text.Goals as goal
 
 pub returns-in_err-done-clause-begun : goal.returns-in_err-done-clause-begun
 returns-in_err-done-clause-begun g c =

@@ -1,8 +1,8 @@
 //! A shelf of texts in memory, which fails the calls that it is told to.
 ghost use Rattle.std.specs.Prelude.{◌≡◌, ◌≤◌, ◌<◌, ◌∷◌, ◌++◌, [], ℕ, None, length, OnOk, OnErr, ◌+◌, ◌^◌, drop};
-ghost use Rattle.sddf_top.specs.Outside.{Rose};
-ghost use Rattle.sddf_top.specs.Names.{place_under, left_of};
-ghost use Rattle.sddf_top.specs.FaultPlans.{unplanned};
+ghost use Rattle.shelf_core.specs.Outside.{Rose};
+ghost use Rattle.shelf_core.specs.Names.{place_under, left_of};
+ghost use Rattle.shelf_core.specs.FaultPlans.{unplanned};
 
 use crate::fault_plan::FaultPlan;
 use crate::{Failed, Shelf};
@@ -29,7 +29,7 @@ pub struct MemShelf {
 }
 
 impl Model for MemShelf {
-    ghost use Rattle.sddf_top.specs.Names.{Shelved};
+    ghost use Rattle.shelf_core.specs.Names.{Shelved};
 
     ghost Value = { Shelved };
 
@@ -145,10 +145,10 @@ impl MemShelf {
 
 impl Shelf for MemShelf {
     ghost use Rattle.std.specs.Prelude.{Some, List, IfOk, IfSome, is_ok, is_some, not, ◌&&◌};
-    ghost use Rattle.sddf_top.specs.Names.{text_under, left_of, bytes_given};
+    ghost use Rattle.shelf_core.specs.Names.{text_under, left_of, bytes_given};
     ghost use Rattle.std.specs.Option.{option_map};
-    ghost use Rattle.sddf_top.specs.FaultPlans.{Counted, is_due};
-    ghost use Rattle.sddf_top.specs.Outside.{GivesNext, IsAtEnd};
+    ghost use Rattle.shelf_core.specs.FaultPlans.{Counted, is_due};
+    ghost use Rattle.shelf_core.specs.Outside.{GivesNext, IsAtEnd};
 
     ghost text = { λ s name. text_under s.kept name };
 
