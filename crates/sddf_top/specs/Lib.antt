@@ -1,9 +1,5 @@
 pub mod Answers
-pub mod Codes
-pub mod Decisions
-pub mod Judged
 pub mod Outcomes
-pub mod Readings
 pub mod Served
 pub mod Shown
 pub mod SystemRun

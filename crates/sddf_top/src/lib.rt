@@ -2,17 +2,13 @@
 #![tactic(auto)]
 
 mod answering;
-mod deciding;
-mod judging;
 mod played;
 mod playing;
 mod serving;
-mod showing;
-mod status;
 pub mod system_run;
 
 pub use command_words::begins_run;
-pub use judging::judge;
+pub use decision_core::{Asked, Showing, Status, judge};
 pub use pd_runner::{Gate, OpenGate};
 pub use played::Played;
 pub use sdf_model::TEXT_MOST;
@@ -21,6 +17,4 @@ pub use shelf_core::{
     Failed, FileShelf, MemShelf, MemSink, NamedText, OutSink, READ_MOST, ReadStop, Shelf, Sink,
     read_text, write_text,
 };
-pub use showing::{Asked, Showing};
-pub use status::Status;
 pub use system_core::System;

@@ -1,12 +1,12 @@
 -- Which text is read last, and how far.
 use Rattle.std.specs.Prelude.{◌≡◌, ◌≤◌, ◌<◌, ◌⊎◌, ℕ, Option, List, length, IfSome}
 use Rattle.command_words.specs.Words.{IsCheck, IsLayout, IsGen}
-use Rattle.sddf_top.specs.declared.status.Status.{Status}
-use Rattle.sddf_top.specs.declared.status.Status.TheVariants as Ended
+use Rattle.decision_core.specs.declared.status.Status.{Status}
+use Rattle.decision_core.specs.declared.status.Status.TheVariants as Ended
 use Rattle.sdf_model.specs.Counts.{text_most}
 use Rattle.shelf_core.specs.Reading.{Behind}
-use Rattle.sddf_top.specs.declared.showing.Asked.{Asked}
-use Rattle.sddf_top.specs.Decisions.{NamesDescription, AsksFor}
+use Rattle.decision_core.specs.declared.showing.Asked.{Asked}
+use Rattle.decision_core.specs.Decisions.{NamesDescription, AsksFor}
 
 -- a text is too long, where it is told
 abbrev pub IsLong : Option (List ℕ) → Type 0

@@ -9,7 +9,7 @@ use Rattle.sdf_model.specs.Spelled.{plan_of}
 use Rattle.sdf_model.specs.Tree.{places_of, BreaksText}
 use Rattle.sdf_plan.specs.Elements.{outline_of}
 use Rattle.sdf_check.specs.Valid.{IsRefused, broken}
-use Rattle.sddf_top.specs.Judged.{SpellsPlan, IsAccepted, IsRefusedText}
+use Rattle.decision_core.specs.Judged.{SpellsPlan, IsAccepted, IsRefusedText}
 
 module _ (broken : Place → Type 0) (elements : List Place) where
   -- there is one first element that breaks a rule

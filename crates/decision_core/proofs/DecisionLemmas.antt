@@ -1,4 +1,4 @@
-use Rattle.std.proofs.Common.{◌≡◌, inl, inr, ◌<◌, ◌≤◌, ◌+◌, ℕ, List, ◌++◌, ◌∷◌, length, take, drop, refl, sym, ap, ◌∙◌, subst, append_assoc, codes, decimal, arith}
+use Rattle.std.proofs.Common.{◌≡◌, inl, inr, ◌<◌, ◌≤◌, ◌+◌, ℕ, List, ◌++◌, ◌∷◌, length, take, drop, refl, sym, ap, ◌∙◌, subst, append_assoc, codes, decimal, arith, Option, Result, Ok, Err, IfOk}
 use Rattle.std.proofs.lemmas.Bool.{cases_lt}
 use Rattle.std.proofs.lemmas.Fmt.{decimal_injective}
 use Rattle.std.proofs.lemmas.List.{take-append-drop, take-take}
@@ -10,15 +10,16 @@ use Rattle.report_text.specs.Answers.{usage_text, bad_trace_text}
 use Rattle.command_words.specs.declared.command.Command.{Command}
 use Rattle.command_words.specs.declared.command.Command.TheVariants as Do
 use Rattle.command_words.specs.Words.{IsCheck, IsLayout, IsGen, Spells, Begins, IsBadWord}
-use Rattle.sddf_top.specs.declared.status.Status.TheVariants as Ended
-use Rattle.sddf_top.specs.declared.showing.Asked.{Asked}
-use Rattle.sddf_top.specs.declared.showing.Asked.TheVariants as Ask
-use Rattle.sddf_top.specs.declared.showing.Showing.TheVariants as Show
+use Rattle.decision_core.specs.declared.status.Status.TheVariants as Ended
+use Rattle.decision_core.specs.declared.showing.Asked.{Asked}
+use Rattle.decision_core.specs.declared.showing.Asked.TheVariants as Ask
+use Rattle.decision_core.specs.declared.showing.Showing.TheVariants as Show
 use Rattle.workload.specs.Generated.{generated_text}
 use Rattle.workload.specs.declared.description.TheConstants.{FULL_EXAMPLE}
-use Rattle.sddf_top.specs.Decisions.{Decision, Say, Play, Run, asked_on, AsksFor, to_play, to_run, TraceDecides, PlanDecides, TextDecides, GeneratedDecides, Decides, NamesDescription, refuses, long_trace, bad_trace, good_trace, checked, laid_out, traced, long_description, refused, accepted, no_command, described, generated}
+use Rattle.decision_core.specs.Decisions.{Decision, Say, Play, Run, asked_on, AsksFor, to_play, to_run, TraceDecides, PlanDecides, TextDecides, GeneratedDecides, Decides, NamesDescription, refuses, long_trace, bad_trace, good_trace, checked, laid_out, traced, long_description, refused, accepted, no_command, described, generated}
+use Rattle.shelf_core.specs.Reading.{WasRead}
 use Rattle.command_words.proofs.Letters.{run-or-gen}
-use Rattle.sddf_top.proofs.JudgedLemmas.{same-accepted, accepted-or-refused, same-refused}
+use Rattle.decision_core.proofs.JudgedLemmas.{same-accepted, accepted-or-refused, same-refused}
 
 -- fewer words begin a command too
 begins-fewer : (n m : ℕ) (words : List (List ℕ)) → n ≤ m → Begins (take m words) → Begins (take n words)
@@ -219,3 +220,17 @@ pub text-read : (P Q : Plan → Decision → Type 0) → ((plan : Plan) (d : Dec
 text-read P Q m bytes _ (long_description l) = long_description l
 text-read P Q m bytes _ (refused r l h) = refused r l h
 text-read P Q m bytes _ (accepted p d l h q) = accepted p d l h (m p d q)
+
+-- texts that didn't change are read as before
+pub read-before : (told told' : List ℕ → Option (List ℕ)) → ((n : List ℕ) → told' n ≡ told n) → (name bytes : List ℕ) → WasRead told' name bytes → WasRead told name bytes
+read-before told told' same name bytes r = rw (same name) at r
+
+pub text-before : (told told' : List ℕ → Option (List ℕ)) → ((n : List ℕ) → told' n ≡ told n) → (words : List (List ℕ)) (bytes : List ℕ) (d : Decision)
+    → TextDecides (PlanDecides (WasRead told') words) bytes d → TextDecides (PlanDecides (WasRead told) words) bytes d
+text-before told told' same words =
+    text-read (PlanDecides (WasRead told') words) (PlanDecides (WasRead told) words) (plan-read (WasRead told') (WasRead told) (read-before told told' same) words)
+
+-- what holds of what was decided holds in another form
+pub map-ok : {T E : Type 0} (r : Result T E) (P Q : T → Type 0) → ((x : T) → P x → Q x) → IfOk r P → IfOk r Q
+map-ok (Ok x) P Q m h = m x h
+map-ok (Err e) P Q m h = tt

@@ -3,17 +3,16 @@ use Rattle.std.proofs.lemmas.List.{length-take}
 use Rattle.std.specs.Option.{option_map}
 use Rattle.sdf_plan.specs.declared.plan.Plan.{Plan}
 use Rattle.trace_text.specs.declared.trace.Trace.{Trace}
-use Rattle.sddf_top.specs.declared.showing.Asked.{Asked}
-use Rattle.sddf_top.specs.declared.showing.Asked.TheVariants as Ask
-use Rattle.sddf_top.specs.declared.status.Status.{Status}
-use Rattle.sddf_top.specs.declared.status.Status.TheVariants as Ended
+use Rattle.decision_core.specs.declared.showing.Asked.{Asked}
+use Rattle.decision_core.specs.declared.showing.Asked.TheVariants as Ask
+use Rattle.decision_core.specs.declared.status.Status.{Status}
+use Rattle.decision_core.specs.declared.status.Status.TheVariants as Ended
 use Rattle.sdf_model.specs.Counts.{text_most}
 use Rattle.shelf_core.specs.Outside.{IsRead, read_most}
-use Rattle.sddf_top.specs.Decisions.{Decision, asked_on, AsksFor, TextDecides, TraceDecides, GeneratedDecides, long_description, refused, accepted, long_trace, bad_trace, good_trace, NamesDescription}
-use Rattle.sddf_top.specs.Answers.{IsStatusOf, IsFault, no_writing}
+use Rattle.decision_core.specs.Decisions.{Decision, asked_on, AsksFor, TextDecides, TraceDecides, GeneratedDecides, long_description, refused, accepted, long_trace, bad_trace, good_trace, NamesDescription, IsStatusOf}
 use Rattle.shelf_core.specs.Reading.{Behind}
-use Rattle.sddf_top.specs.Readings.{IsLong, IsWithinLimit, IsOfText, IsOfPlay, IsUnread, LeavesPlay, LeavesPlan, LeavesText, ReadLast, read_description, read_trace}
-use Rattle.sddf_top.proofs.DecisionLemmas.{same-desc}
+use Rattle.decision_core.specs.Readings.{IsLong, IsWithinLimit, IsOfText, IsOfPlay, IsUnread, LeavesPlay, LeavesPlan, LeavesText, ReadLast, read_description, read_trace}
+use Rattle.decision_core.proofs.DecisionLemmas.{same-desc}
 
 -- a text is too long, or within the limit, as the bytes are that were read of it
 pub long-read : (told : Option (List ℕ)) (bytes : List ℕ) → IsRead told bytes → text_most < length bytes → IsLong told
@@ -61,12 +60,6 @@ last-read told told' same words desc bytes first old new s named behind r (inl h
     read_description desc named (h.2 ∙ behind) (inl (long-read (told desc) bytes r h.0, h.1))
 last-read told told' same words desc bytes first old new s named behind r (inr h) =
     plan-read-last told told' same words desc first old new s named behind (within-read (told desc) bytes r h.0) h.1
-
--- an answer that was written keeps its status, or is a fault
-pub last-written : (told : List ℕ → Option (List ℕ)) (words : List (List ℕ)) (old new : Option (List ℕ)) (s result : Status) → ReadLast told words old new s
-    → (result ≡ s) ⊎ (result ≡ Ended.WriteFault) → ReadLast told words old new result ⊎ IsFault result
-last-written told words old new s result h (inl e) = inl (subst (λ t. ReadLast told words old new t) (sym e) h)
-last-written told words old new s result h (inr e) = inr (subst (λ t. IsFault t) (sym e) no_writing)
 
 -- what `gen` decides is an answer to a command that reads no text
 asked-unread : (plan : Plan) (t : Trace) (a : Asked) (s : Status) → IsStatusOf (asked_on plan t a) s → IsUnread s

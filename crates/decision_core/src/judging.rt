@@ -2,7 +2,7 @@
 ghost use Rattle.std.specs.Prelude.{◌≡◌, ◌≤◌, Err, IfOk, length};
 ghost use Rattle.sdf_plan.specs.declared.place.Refusal.{Refusal};
 ghost use Rattle.sdf_model.specs.Counts.{text_most};
-ghost use Rattle.sddf_top.specs.Judged.{IsAccepted, IsRefusedText};
+ghost use Rattle.decision_core.specs.Judged.{IsAccepted, IsRefusedText};
 
 use sdf_check::check;
 use sdf_model::read_description;

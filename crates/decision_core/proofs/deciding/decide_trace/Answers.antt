@@ -1,7 +1,7 @@
 use Rattle.std.proofs.Common.{ap, sym, Err, subst}
-use Rattle.sddf_top.specs.Decisions.{TraceDecides, asked_on, long_trace, bad_trace, good_trace}
-use Rattle.sddf_top.proofs.AnswerLemmas.{map-ok}
-use Rattle.sddf_top.proofs.deciding.decide_trace.Goals as goal
+use Rattle.decision_core.specs.Decisions.{TraceDecides, asked_on, long_trace, bad_trace, good_trace}
+use Rattle.decision_core.proofs.DecisionLemmas.{map-ok}
+use Rattle.decision_core.proofs.deciding.decide_trace.Goals as goal
 
 pub returns-then-bytes-gt-TEXT_MOST : goal.returns-then-bytes-gt-TEXT_MOST
 returns-then-bytes-gt-TEXT_MOST c =

@@ -1,10 +1,10 @@
 use Rattle.std.proofs.Common.{ap, sym, subst, Err}
 use Rattle.command_words.specs.Words.{texts_of}
-use Rattle.sddf_top.specs.Answers.{WasRead}
-use Rattle.sddf_top.specs.Outcomes.{decision_of}
-use Rattle.sddf_top.specs.Decisions.{PlanDecides, TextDecides, long_description, refused, accepted}
-use Rattle.sddf_top.proofs.AnswerLemmas.{map-ok}
-use Rattle.sddf_top.proofs.deciding.decide_text.Goals as goal
+use Rattle.shelf_core.specs.Reading.{WasRead}
+use Rattle.decision_core.specs.Decided.{decision_of}
+use Rattle.decision_core.specs.Decisions.{PlanDecides, TextDecides, long_description, refused, accepted}
+use Rattle.decision_core.proofs.DecisionLemmas.{map-ok}
+use Rattle.decision_core.proofs.deciding.decide_text.Goals as goal
 
 pub returns-then-text-gt-TEXT_MOST-clause-decides : goal.returns-then-text-gt-TEXT_MOST-clause-decides
 returns-then-text-gt-TEXT_MOST-clause-decides g c =

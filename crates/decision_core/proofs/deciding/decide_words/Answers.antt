@@ -1,12 +1,12 @@
 use Rattle.std.proofs.Common.{refl, sym, subst}
 use Rattle.command_words.specs.declared.command.Command.TheVariants as Do
 use Rattle.command_words.specs.Words.{texts_of, Spells}
-use Rattle.sddf_top.specs.Answers.{WasRead, IsStatusOf}
-use Rattle.sddf_top.specs.Outcomes.{decision_of}
-use Rattle.sddf_top.specs.Decisions.{TextDecides, GeneratedDecides, Decides, no_command, generated}
-use Rattle.sddf_top.specs.Readings.{read_none, read_no_text}
-use Rattle.sddf_top.proofs.LastLemmas.{gen-unread}
-use Rattle.sddf_top.proofs.deciding.decide_words.Goals as goal
+use Rattle.shelf_core.specs.Reading.{WasRead}
+use Rattle.decision_core.specs.Decisions.{IsStatusOf, TextDecides, GeneratedDecides, Decides, no_command, generated}
+use Rattle.decision_core.specs.Decided.{decision_of}
+use Rattle.decision_core.specs.Readings.{read_none, read_no_text}
+use Rattle.decision_core.proofs.LastLemmas.{gen-unread}
+use Rattle.decision_core.proofs.deciding.decide_words.Goals as goal
 
 pub returns-in_ok-decide_gen-in-Ok-Gen-clause-decides : goal.returns-in_ok-decide_gen-in-Ok-Gen-clause-decides
 returns-in_ok-decide_gen-in-Ok-Gen-clause-decides g c =

@@ -1,6 +1,6 @@
 //! How a call of the program ends, and the status code of each end.
 ghost use Rattle.std.specs.Prelude.{◌≡◌};
-ghost use Rattle.sddf_top.specs.Codes.{code_of};
+ghost use Rattle.decision_core.specs.Codes.{code_of};
 
 use cargo_core::Memory;
 

@@ -1,7 +1,7 @@
 -- The status codes.
 use Rattle.std.specs.Prelude.{ℕ}
-use Rattle.sddf_top.specs.declared.status.Status.{Status}
-use Rattle.sddf_top.specs.declared.status.Status.TheVariants as Ended
+use Rattle.decision_core.specs.declared.status.Status.{Status}
+use Rattle.decision_core.specs.declared.status.Status.TheVariants as Ended
 
 -- the number with which the program ends
 abbrev pub code_of : Status → ℕ

@@ -1,8 +1,8 @@
 use Rattle.std.proofs.Common.{ap, sym, subst, Err}
-use Rattle.sddf_top.specs.Outcomes.{decision_of}
-use Rattle.sddf_top.specs.Decisions.{TextDecides, GeneratedDecides, long_description, refused, accepted}
-use Rattle.sddf_top.proofs.AnswerLemmas.{map-ok}
-use Rattle.sddf_top.proofs.deciding.decide_gen.Goals as goal
+use Rattle.decision_core.specs.Decided.{decision_of}
+use Rattle.decision_core.specs.Decisions.{TextDecides, GeneratedDecides, long_description, refused, accepted}
+use Rattle.decision_core.proofs.DecisionLemmas.{map-ok}
+use Rattle.decision_core.proofs.deciding.decide_gen.Goals as goal
 
 pub returns-then-desc-gt-TEXT_MOST : goal.returns-then-desc-gt-TEXT_MOST
 returns-then-desc-gt-TEXT_MOST c =

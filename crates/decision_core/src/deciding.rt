@@ -9,11 +9,11 @@ ghost use Rattle.report_text.specs.Layouts.{layout_text};
 ghost use Rattle.command_words.specs.Words.{texts_of, IsGen, Spells, last_name};
 ghost use Rattle.command_words.specs.declared.command.Command.{Command};
 ghost use Rattle.shelf_core.specs.Outside.{Rose};
-ghost use Rattle.sddf_top.specs.Judged.{IsAcceptedPlan};
-ghost use Rattle.sddf_top.specs.Outcomes.{decision_of, OfEach};
-ghost use Rattle.sddf_top.specs.Decisions.{Say, AsksFor, Decides, TextDecides, PlanDecides, TraceDecides, GeneratedDecides, refuses, too_long};
-ghost use Rattle.sddf_top.specs.Answers.{WasRead};
-ghost use Rattle.sddf_top.specs.Readings.{LeavesPlay, LeavesPlan, LeavesText, ReadLast};
+ghost use Rattle.decision_core.specs.Judged.{IsAcceptedPlan};
+ghost use Rattle.decision_core.specs.Decided.{decision_of, OfEach};
+ghost use Rattle.decision_core.specs.Decisions.{Say, AsksFor, Decides, TextDecides, PlanDecides, TraceDecides, GeneratedDecides, refuses, too_long};
+ghost use Rattle.shelf_core.specs.Reading.{WasRead};
+ghost use Rattle.decision_core.specs.Readings.{LeavesPlay, LeavesPlan, LeavesText, ReadLast};
 
 use crate::judging::judge;
 use crate::{Asked, Showing, Status};

@@ -7,9 +7,9 @@ use Rattle.command_words.specs.declared.command.Command.TheVariants as Do
 use Rattle.command_words.specs.declared.command.Options.{Options}
 use Rattle.command_words.specs.Words.{texts_of, IsCheck, IsLayout, IsPlay, IsRun, IsGen, Spells}
 use Rattle.command_words.proofs.Letters.{run-or-gen}
-use Rattle.sddf_top.specs.declared.showing.Showing.TheVariants as Show
-use Rattle.sddf_top.specs.declared.showing.Asked.TheVariants as Ask
-use Rattle.sddf_top.specs.Decisions.{NamesDescription, AsksFor, to_play, to_run}
+use Rattle.decision_core.specs.declared.showing.Showing.TheVariants as Show
+use Rattle.decision_core.specs.declared.showing.Asked.TheVariants as Ask
+use Rattle.decision_core.specs.Decisions.{NamesDescription, AsksFor, to_play, to_run}
 
 -- the words of a command are two at least
 none-spelled : (c : Command) → Spells [] c → ⊥

@@ -1,17 +1,17 @@
 use Rattle.std.proofs.Common.{◌≡◌, inl, inr, refl, sym, subst}
 use Rattle.command_words.specs.declared.command.Command.TheVariants as Do
 use Rattle.command_words.specs.Words.{texts_of, Spells}
-use Rattle.sddf_top.specs.declared.status.Status.TheVariants as Ended
-use Rattle.sddf_top.specs.declared.showing.Showing.TheVariants as Show
-use Rattle.sddf_top.specs.declared.showing.Asked.TheVariants as Ask
-use Rattle.sddf_top.specs.Answers.{WasRead, IsStatusOf}
-use Rattle.sddf_top.specs.Outcomes.{OfEach}
-use Rattle.sddf_top.specs.Readings.{LeavesPlay}
-use Rattle.sddf_top.specs.Decisions.{AsksFor, PlanDecides, checked, laid_out}
-use Rattle.sddf_top.proofs.LastLemmas.{play-leaves}
-use Rattle.sddf_top.proofs.WordLemmas.{play-named, run-named}
-use Rattle.sddf_top.proofs.AnswerLemmas.{map-ok}
-use Rattle.sddf_top.proofs.deciding.decide_plan.Goals as goal
+use Rattle.decision_core.specs.declared.status.Status.TheVariants as Ended
+use Rattle.decision_core.specs.declared.showing.Showing.TheVariants as Show
+use Rattle.decision_core.specs.declared.showing.Asked.TheVariants as Ask
+use Rattle.shelf_core.specs.Reading.{WasRead}
+use Rattle.decision_core.specs.Decisions.{IsStatusOf, AsksFor, PlanDecides, checked, laid_out}
+use Rattle.decision_core.specs.Decided.{OfEach}
+use Rattle.decision_core.specs.Readings.{LeavesPlay}
+use Rattle.decision_core.proofs.LastLemmas.{play-leaves}
+use Rattle.decision_core.proofs.WordLemmas.{play-named, run-named}
+use Rattle.decision_core.proofs.DecisionLemmas.{map-ok}
+use Rattle.decision_core.proofs.deciding.decide_plan.Goals as goal
 
 pub returns-in_ok-say_accepted-in-Check-clause-decides : goal.returns-in_ok-say_accepted-in-Check-clause-decides
 returns-in_ok-say_accepted-in-Check-clause-decides g c =

@@ -1,14 +1,14 @@
 use Rattle.std.proofs.Common.{sym, subst}
 use Rattle.command_words.specs.Words.{texts_of}
 use Rattle.shelf_core.specs.Outside.{IsRead}
-use Rattle.sddf_top.specs.Answers.{WasRead}
-use Rattle.sddf_top.specs.Outcomes.{decision_of, OfEach}
-use Rattle.sddf_top.specs.Readings.{LeavesText}
-use Rattle.sddf_top.specs.Decisions.{NamesDescription, PlanDecides, TextDecides, described}
-use Rattle.sddf_top.proofs.LastLemmas.{last-read}
-use Rattle.sddf_top.proofs.WordLemmas.{second-named}
-use Rattle.sddf_top.proofs.AnswerLemmas.{map-ok, text-before}
-use Rattle.sddf_top.proofs.deciding.decide_command.Goals as goal
+use Rattle.shelf_core.specs.Reading.{WasRead}
+use Rattle.decision_core.specs.Decided.{decision_of, OfEach}
+use Rattle.decision_core.specs.Readings.{LeavesText}
+use Rattle.decision_core.specs.Decisions.{NamesDescription, PlanDecides, TextDecides, described}
+use Rattle.decision_core.proofs.LastLemmas.{last-read}
+use Rattle.decision_core.proofs.WordLemmas.{second-named}
+use Rattle.decision_core.proofs.DecisionLemmas.{map-ok, text-before}
+use Rattle.decision_core.proofs.deciding.decide_command.Goals as goal
 
 pub returns-clause-decides : goal.returns-clause-decides
 returns-clause-decides g c =

@@ -1,5 +1,5 @@
 -- What the words and the texts under their names decide, one constructor a cause.
-use Rattle.std.specs.Prelude.{◌⊎◌, ◌<◌, ◌≤◌, ℕ, Option, List, length}
+use Rattle.std.specs.Prelude.{◌≡◌, ◌⊎◌, ◌<◌, ◌≤◌, ℕ, Option, List, length}
 use Rattle.sdf_plan.specs.declared.place.Refusal.{Refusal}
 use Rattle.sdf_plan.specs.declared.plan.Plan.{Plan}
 use Rattle.trace_text.specs.declared.trace.Trace.{Trace}
@@ -11,14 +11,14 @@ use Rattle.command_words.specs.declared.command.Options.{Options}
 use Rattle.command_words.specs.Words.{IsCheck, IsLayout, IsPlay, IsRun, IsGen, IsBadWord}
 use Rattle.workload.specs.declared.description.TheConstants.{FULL_EXAMPLE}
 use Rattle.workload.specs.Generated.{generated_text}
-use Rattle.sddf_top.specs.declared.showing.Showing.{Showing}
-use Rattle.sddf_top.specs.declared.showing.Showing.TheVariants as Show
-use Rattle.sddf_top.specs.declared.showing.Asked.{Asked}
-use Rattle.sddf_top.specs.declared.showing.Asked.TheVariants as Ask
-use Rattle.sddf_top.specs.declared.status.Status.{Status}
-use Rattle.sddf_top.specs.declared.status.Status.TheVariants as Ended
+use Rattle.decision_core.specs.declared.showing.Showing.{Showing}
+use Rattle.decision_core.specs.declared.showing.Showing.TheVariants as Show
+use Rattle.decision_core.specs.declared.showing.Asked.{Asked}
+use Rattle.decision_core.specs.declared.showing.Asked.TheVariants as Ask
+use Rattle.decision_core.specs.declared.status.Status.{Status}
+use Rattle.decision_core.specs.declared.status.Status.TheVariants as Ended
 use Rattle.sdf_model.specs.Counts.{text_most}
-use Rattle.sddf_top.specs.Judged.{IsAccepted, IsRefusedText}
+use Rattle.decision_core.specs.Judged.{IsAccepted, IsRefusedText}
 
 -- what is decided before anything is played: the status and the text of the answer, that a trace is
 -- played on a plan, or that it is run with a thread for each actor, with a limit of steps or none
@@ -102,3 +102,11 @@ pub data Decides (reads : List ℕ → List ℕ → Type 0) (words : List (List 
       → Decides reads words decision
   generated : (n : ℕ) (decision : Decision) → IsGen words n
       → TextDecides (GeneratedDecides n) FULL_EXAMPLE.now decision → Decides reads words decision
+
+-- the status that a decision leads to: a play or a run gets quiet or spends its steps
+abbrev pub IsStatusOf : Decision → Status → Type 0
+IsStatusOf (Say status' text') status = status ≡ status'
+IsStatusOf (Play plan trace showing) status =
+    (status ≡ Ended.Ok) ⊎ ((steps : ℕ) × (status ≡ Ended.Spent steps))
+IsStatusOf (Run plan trace limit) status =
+    (status ≡ Ended.Ok) ⊎ ((steps : ℕ) × (status ≡ Ended.Spent steps))

@@ -1,9 +1,9 @@
 use Rattle.std.proofs.Common.{sym, subst}
 use Rattle.shelf_core.specs.Outside.{IsRead}
-use Rattle.sddf_top.specs.Outcomes.{decision_of}
-use Rattle.sddf_top.specs.Decisions.{TraceDecides, traced}
-use Rattle.sddf_top.proofs.LastLemmas.{trace-status}
-use Rattle.sddf_top.proofs.deciding.decide_named.Goals as goal
+use Rattle.decision_core.specs.Decided.{decision_of}
+use Rattle.decision_core.specs.Decisions.{TraceDecides, traced}
+use Rattle.decision_core.proofs.LastLemmas.{trace-status}
+use Rattle.decision_core.proofs.deciding.decide_named.Goals as goal
 
 pub returns-clause-decides : goal.returns-clause-decides
 returns-clause-decides g c words desc p =
