@@ -5,7 +5,8 @@ use Rattle.sdf_plan.specs.declared.plan.Plan.{Plan}
 use Rattle.trace_text.specs.declared.trace.Trace.{Trace}
 use Rattle.trace_text.specs.Traces.{HasNoBadLine, IsLeastBadLine, trace_of}
 use Rattle.region_layout.specs.Layouts.{layout_of}
-use Rattle.report_text.specs.Answers.{usage_text, refused_text, bad_trace_text, long_text, accepted_text}
+use Rattle.report_text.specs.Answers.{usage_text, refused_text, bad_trace_text, long_text}
+use Rattle.report_text.specs.Answers.{accepted_text}
 use Rattle.report_text.specs.Layouts.{layout_text}
 use Rattle.command_words.specs.declared.command.Options.{Options}
 use Rattle.command_words.specs.Words.{IsCheck, IsLayout, IsPlay, IsRun, IsGen, IsBadWord}
@@ -40,8 +41,8 @@ refuses refusal = Say (Ended.Refused refusal.rule) (refused_text refusal)
 abbrev pub too_long : Decision
 too_long = Say Ended.TooLong long_text
 
--- what the bytes of a trace decide for a plan: it is too long, a line of it is bad, or what is asked
--- of it is done
+-- what the bytes of a trace decide for a plan: it is too long, a line of it is bad, or what is
+-- asked of it is done
 pub data TraceDecides (plan : Plan) (asked : Asked) (bytes : List ℕ) : Decision → Type 0 where
   long_trace : text_most < length bytes → TraceDecides plan asked bytes too_long
   bad_trace : (line : ℕ) → length bytes ≤ text_most → IsLeastBadLine plan bytes line

@@ -11,7 +11,8 @@ ghost use Rattle.command_words.specs.declared.command.Command.{Command};
 ghost use Rattle.shelf_core.specs.Outside.{Rose};
 ghost use Rattle.decision_core.specs.Judged.{IsAcceptedPlan};
 ghost use Rattle.decision_core.specs.Decided.{decision_of, OfEach};
-ghost use Rattle.decision_core.specs.Decisions.{Say, AsksFor, Decides, TextDecides, PlanDecides, TraceDecides, GeneratedDecides, refuses, too_long};
+ghost use Rattle.decision_core.specs.Decisions.{Say, AsksFor, Decides, TextDecides, PlanDecides};
+ghost use Rattle.decision_core.specs.Decisions.{TraceDecides, GeneratedDecides, refuses, too_long};
 ghost use Rattle.shelf_core.specs.Reading.{WasRead};
 ghost use Rattle.decision_core.specs.Readings.{LeavesPlay, LeavesPlan, LeavesText, ReadLast};
 

@@ -53,8 +53,8 @@ fn ends_by_number(
     Ok((producers, consumers))
 }
 
-// Seats an actor at its ends. Here, in `number`, in `begin_all` and in `settle` a call of `drop` lets
-// an actor go: where a block ends, the proof would go through all kinds of actors in place.
+// Seats an actor at its ends. Here, in `number`, in `begin_all` and in `settle` a call of `drop`
+// lets an actor go: where a block ends, the proof would go through all kinds of actors in place.
 fn seat(alloc: Global, rings: &[Ring], part: order_law::actor_parts::Part) -> Result<Part, Memory>
     requires apart { IsApart rings.now part }
     requires few { length rings.now ≤ 65536 }

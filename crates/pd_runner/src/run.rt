@@ -127,7 +127,8 @@ fn join_all<'s, R: Threads>(
     Ok(all)
 }
 
-/// Runs each in a thread of its own until all are idle, one has made `limit` steps or memory runs out.
+/// Runs each in a thread of its own until all are idle, one has made `limit` steps or memory runs
+/// out.
 pub fn in_threads<R: Threads + Wait + Sync, G: Gate + Sync>(
     rt: &R,
     alloc: Global,

@@ -33,9 +33,9 @@ pub record Shows (plan : Plan) (trace : Trace) (showing : Showing) (status : Sta
   pub bounded : budget_of plan trace ≤ limit_of plan trace showing → status ≡ Ended.Ok
   pub text_is : text ≡ shown_text (layout_of plan) showing (report_of system) system.journal
 
--- a trace was run on a plan, with a thread for each actor: the system that took over what the threads
--- left and was played on, the status by whether it is quiet, and the text of its report. Where it
--- isn't quiet all steps were made.
+-- a trace was run on a plan, with a thread for each actor: the system that took over what the
+-- threads left and was played on, the status by whether it is quiet, and the text of its report.
+-- Where it isn't quiet all steps were made.
 pub record ShowsRun (plan : Plan) (trace : Trace) (steps : Option ℕ) (status : Status)
     (text : List ℕ) (played : Played) : Type 0 where
   pub system : System

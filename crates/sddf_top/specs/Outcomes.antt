@@ -1,5 +1,6 @@
 -- Which answer comes of what was decided.
-use Rattle.std.specs.Prelude.{◌≡◌, ◌⊎◌, ◌<◌, ℕ, Option, Result, Ok, Err, IfOk, OnErr, List, string_bytes}
+use Rattle.std.specs.Prelude.{◌≡◌, ◌⊎◌, ◌<◌, ℕ, Option, Result, Ok, Err, IfOk, OnErr, List}
+use Rattle.std.specs.Prelude.{string_bytes}
 use Rattle.sddf_top.specs.declared.answering.Outcome.{Outcome}
 use Rattle.shelf_core.specs.declared.reading.ReadStop.{ReadStop}
 use Rattle.shelf_core.specs.declared.reading.ReadStop.TheVariants as Stop

@@ -1,5 +1,6 @@
 -- Texts in memory under their names, and what a call of a shelf of them does.
-use Rattle.std.specs.Prelude.{ℕ, min, max, Option, Some, None, List, [], length, drop, slice_get, position, nat_eq, unwrap_or}
+use Rattle.std.specs.Prelude.{ℕ, min, max, Option, Some, None, List, [], length, drop, slice_get}
+use Rattle.std.specs.Prelude.{position, nat_eq, unwrap_or}
 use Rattle.std.specs.Option.{option_map}
 use Rattle.std.specs.Cmp.Lexicographic.{pointwise}
 use Rattle.shelf_core.specs.FaultPlans.{Planned}

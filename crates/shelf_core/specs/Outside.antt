@@ -1,5 +1,6 @@
 -- What a call to the outside may do: fail, give the next bytes, take some.
-use Rattle.std.specs.Prelude.{◌≡◌, ◌⊎◌, ◌+◌, ◌-◌, ◌^◌, ◌<◌, ◌≤◌, ℕ, Option, List, [], ◌++◌, length, take, IfSome}
+use Rattle.std.specs.Prelude.{◌≡◌, ◌⊎◌, ◌+◌, ◌-◌, ◌^◌, ◌<◌, ◌≤◌, ℕ, Option, List, [], ◌++◌, length}
+use Rattle.std.specs.Prelude.{take, IfSome}
 use Rattle.std.specs.Option.{option_map}
 use Rattle.sdf_model.specs.Counts.{text_most}
 

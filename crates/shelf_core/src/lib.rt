@@ -1,5 +1,5 @@
-//! Where the program's texts come from and where its answer goes: shelves of texts, sinks for bytes,
-//! and what is read of a text and written of an answer.
+//! Where the program's texts come from and where its answer goes: shelves of texts, sinks for
+//! bytes, and what is read of a text and written of an answer.
 #![tactic(auto)]
 
 mod fault_plan;

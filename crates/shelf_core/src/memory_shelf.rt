@@ -1,5 +1,6 @@
 //! A shelf of texts in memory, which fails the calls that it is told to.
-ghost use Rattle.std.specs.Prelude.{◌≡◌, ◌≤◌, ◌<◌, ◌∷◌, ◌++◌, [], ℕ, None, length, OnOk, OnErr, ◌+◌, ◌^◌, drop};
+ghost use Rattle.std.specs.Prelude.{◌≡◌, ◌≤◌, ◌<◌, ◌∷◌, ◌++◌, [], ℕ, None, length, OnOk, OnErr};
+ghost use Rattle.std.specs.Prelude.{◌+◌, ◌^◌, drop};
 ghost use Rattle.shelf_core.specs.Outside.{Rose};
 ghost use Rattle.shelf_core.specs.Names.{place_under, left_of};
 ghost use Rattle.shelf_core.specs.FaultPlans.{unplanned};
