@@ -5,6 +5,7 @@
 #![tactic(auto)]
 
 mod answering;
+mod hosting;
 mod played;
 mod playing;
 mod serving;
@@ -12,6 +13,7 @@ pub mod system_run;
 
 pub use command_words::begins_run;
 pub use decision_core::{Asked, Showing, Status, judge};
+pub use hosting::serve_host;
 pub use pd_runner::{Gate, OpenGate};
 pub use played::Played;
 pub use sdf_model::TEXT_MOST;
