@@ -44,9 +44,21 @@ fn print_plan(rt: &HostRuntime, plan: &Plan) -> io::Result<()>
 {
     let alloc = rt.alloc();
     print(rt, "region_layout", show_layout(alloc, plan))?;
-    print(rt, "trace_text", show_trace(alloc, plan, "say 0 616263\nin 64\n"))?;
-    print(rt, "trace_text", show_trace(alloc, plan, "say 0 616263\nsay 1 61\n"))?;
-    print(rt, "system_core", show_system(alloc, plan, "say 0 616263\n"))
+    print(
+        rt,
+        "trace_text",
+        show_trace(alloc, plan, "say 0 616263\nin 6465\n"),
+    )?;
+    print(
+        rt,
+        "trace_text",
+        show_trace(alloc, plan, "say 0 616263\nsay 1 61\n"),
+    )?;
+    print(
+        rt,
+        "system_core",
+        show_system(alloc, plan, "say 0 616263\n"),
+    )
 }
 
 fn main(rt: HostRuntime) -> io::Result<()> {
@@ -57,14 +69,30 @@ fn main(rt: HostRuntime) -> io::Result<()> {
     print(&rt, "turn_kit", show_discipline(alloc))?;
     let text = fs::read_to_string(&rt, "serial.toml")?;
     let text = text.as_str();
-    print(&rt, "sdf_model and sdf_check", show_description(alloc, text))?;
-    print(&rt, "sdf_model and sdf_check", show_description(alloc, MISSPELT))?;
+    print(
+        &rt,
+        "sdf_model and sdf_check",
+        show_description(alloc, text),
+    )?;
+    print(
+        &rt,
+        "sdf_model and sdf_check",
+        show_description(alloc, MISSPELT),
+    )?;
     if text.len() <= TEXT_MOST
         && let Ok(plan) = judged(alloc, text)
     {
         print_plan(&rt, &plan)?;
     }
     print(&rt, "report_text", show_report(alloc))?;
-    print(&rt, "sddf_top", show_program(&rt, alloc, "check serial.toml", text))?;
-    print(&rt, "sddf_top", show_program(&rt, alloc, "play serial.toml hello.trace", text))
+    print(
+        &rt,
+        "sddf_top",
+        show_program(&rt, alloc, "check serial.toml", text),
+    )?;
+    print(
+        &rt,
+        "sddf_top",
+        show_program(&rt, alloc, "play serial.toml hello.trace", text),
+    )
 }

@@ -23,9 +23,20 @@ pub fn show_program<R: Threads + Wait + Sync>(
     }
     let mut sink = MemSink::new(alloc, 1000)?;
     let mut played = Played::Nothing;
-    let status = serve(rt, alloc, &list, &mut shelf, &mut sink, &OpenGate, &mut played);
+    let status = serve(
+        rt,
+        alloc,
+        &list,
+        &mut shelf,
+        &mut sink,
+        &OpenGate,
+        &mut played,
+    );
     let mut text = String::new(alloc);
-    for line in std::str::from_utf8(sink.written()).unwrap_or("no text").lines() {
+    for line in std::str::from_utf8(sink.written())
+        .unwrap_or("no text")
+        .lines()
+    {
         if !line.starts_with("steps ") {
             write!(text, "{line}\n")?;
         }

@@ -13,10 +13,10 @@ pub fn show_trace(alloc: Global, plan: &Plan, lines: &str) -> Result<String, Mem
         Err(TraceFault::BadLine(line)) => return write_bad_trace(alloc, line),
         Err(TraceFault::Memory(memory)) => return Err(memory),
     };
-    let mut text = format!(in alloc; "the line receives {} bytes\n", trace.input().len())?;
+    let mut text = format!(in alloc; "bytes for the line {}\n", trace.input().len())?;
     for client in 0..trace.says.len() {
-        let says = trace.says.get(client).len();
-        write!(text, "client {client} says {says} bytes\n")?;
+        let says = trace.says.get(client);
+        write!(text, "bytes of client {client} {}\n", says.len())?;
     }
     Ok(text)
 }
