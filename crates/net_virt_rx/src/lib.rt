@@ -3,17 +3,21 @@
 //! has one is sDDF's; its turns are this project's own.
 #![tactic(auto)]
 
-ghost use Rattle.std.specs.Prelude.{◌≡◌, ◌+◌, ◌<◌, ◌^◌, ◌∷◌, [], ℕ, IfOk, OnErr, is_some, length, map, slice_index_or, true, false};
+ghost use Rattle.std.specs.Prelude.{◌≡◌, ◌+◌, ◌<◌, ◌^◌, ◌∷◌, [], ℕ, IfOk, OnErr, is_some, length};
+ghost use Rattle.std.specs.Prelude.{map, slice_index_or, true, false};
 ghost use Rattle.cargo_core.specs.declared.item.PoolId.{PoolId};
 ghost use Rattle.cargo_core.specs.Bodies.{buffers_of};
 ghost use Rattle.wire_core.specs.Ends.{role_of, Role, End};
 ghost use Rattle.wire_core.specs.Lists.{Passed, Stepped, nothing_passed};
 ghost use Rattle.wire_core.specs.Marks.{is_mark};
-ghost use Rattle.turn_kit.specs.Turns.{Turned, PostedAt, choice_of, chosen_place, last_after, is_at_rest};
+ghost use Rattle.turn_kit.specs.Turns.{Turned, PostedAt, choice_of, chosen_place, last_after};
+ghost use Rattle.turn_kit.specs.Turns.{is_at_rest};
 ghost use Rattle.buffer_kit.specs.Pools.{ArePool};
-ghost use Rattle.buffer_kit.specs.Virtualising.{from_queues, to_queues, virt_posts, place_of, IsThere, need_of};
+ghost use Rattle.buffer_kit.specs.Virtualising.{from_queues, to_queues, virt_posts, place_of};
+ghost use Rattle.buffer_kit.specs.Virtualising.{IsThere, need_of};
 ghost use Rattle.net_virt_rx.specs.Sharing.{IsSharer, is_idle, is_owing, sharer_hand, lent_many};
-ghost use Rattle.net_virt_rx.specs.Receiving.{FitsRx, RxStandsFor, RxRow, RxBalances, RxEnd, SameRx, IsNewRx, RxForgot, rx_round};
+ghost use Rattle.net_virt_rx.specs.Receiving.{FitsRx, RxStandsFor, RxRow, RxBalances, RxEnd};
+ghost use Rattle.net_virt_rx.specs.Receiving.{SameRx, IsNewRx, RxForgot, rx_round};
 
 use buffer_kit::{VirtEnd, VirtEnds};
 use cargo_core::{Memory, Page, PoolId};
@@ -301,44 +305,3 @@ pub fn row_law()
 pub fn hand_law()
     ensures { (v : NetVirtRx) (passed : Passed) → RxStandsFor v passed → RxBalances v passed }
 {}
-
-#[cfg(test)]
-mod tests {
-    use super::*;
-    use std::test::Fail;
-
-    #[test]
-    fn a_broadcast_frame_is_for_each_client(rt: HostRuntime) -> Result<(), Fail> {
-        let macs = [Mac([2, 0, 0, 0, 0, 1]), Mac([2, 0, 0, 0, 0, 2])];
-        let mut receivers = Receivers::new(rt.alloc(), 2)?;
-        receivers.address(
-            &macs,
-            &[255, 255, 255, 255, 255, 255, 2, 0, 0, 0, 0, 0x99, 8, 0],
-        );
-        assert_eq!(rt; receivers.count(), 2);
-        receivers.remove(0);
-        assert!(rt; !receivers.has(0));
-        assert!(rt; receivers.has(1));
-        receivers.address(&macs, &[2, 0, 0, 0, 0, 0x63, 2, 0, 0, 0, 0, 0x99, 8, 0]);
-        assert_eq!(rt; receivers.count(), 0);
-        Ok(())
-    }
-
-    #[test]
-    fn a_new_virtualiser_lends_nothing(rt: HostRuntime) -> Result<(), Fail> {
-        let clients = Vec::new(rt.alloc());
-        let pages = Vec::new(rt.alloc());
-        let mut virtualiser = NetVirtRx::new(
-            rt.alloc(),
-            QueueId(0),
-            QueueId(1),
-            clients,
-            pages,
-            0,
-        )?;
-        assert_eq!(rt; virtualiser.lent(), 0);
-        virtualiser.forget();
-        assert_eq!(rt; virtualiser.ends.input.queue, QueueId(0));
-        Ok(())
-    }
-}

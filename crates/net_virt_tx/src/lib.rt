@@ -303,36 +303,3 @@ pub fn row_law()
 pub fn hand_law()
     ensures { (v : NetVirtTx) (passed : Passed) → TxStandsFor v passed → TxBalances v passed }
 {}
-
-#[cfg(test)]
-mod tests {
-    use super::*;
-    use cargo_core::{Body, Item, NetDesc, Page, PoolId};
-    use std::test::Fail;
-
-    #[test]
-    fn a_short_frame_and_a_wrong_offset_are_bad(rt: HostRuntime) -> Result<(), Fail> {
-        let sender = Sender {
-            pool: PoolId(3),
-            buffers: 2,
-            base: 4096,
-        };
-        let good = Item::Net(NetDesc {
-            addr: 2048,
-            len: 14,
-        });
-        let short = Item::Net(NetDesc {
-            addr: 2048,
-            len: 13,
-        });
-        let wrong = Item::Net(NetDesc { addr: 1, len: 14 });
-        let page = Page::new(rt.alloc(), PoolId(3), 1, 2048)?;
-        let body = Body::Page(page);
-        let entry = (good, body);
-        assert!(rt; sender.is_good(&entry));
-        let entry = (short, entry.1);
-        assert!(rt; !sender.is_good(&entry));
-        assert!(rt; !sender.is_good(&(wrong, Body::Empty)));
-        Ok(())
-    }
-}
