@@ -1,4 +1,5 @@
-//! Short examples of the libraries that are used by themselves, a module for each.
+//! Short examples of the libraries that are taken by themselves: each module makes the main calls of
+//! one library, or of two, and gives what they come to as a text, which is printed here.
 #![tactic(auto)]
 
 ghost use Rattle.sdf_check.specs.Valid.{Valid};

@@ -12,7 +12,8 @@ use std::alloc::Global;
 use std::marker::Brand;
 
 /// Puts a byte where there is room, and notifies the consumer where it wants that: whether it was
-/// notified. Each call may come in the order of the discipline alone, which the clauses keep.
+/// notified. Which call may come next depends on what the end is about, and the clauses tell that:
+/// its waiter looks or is off, its ringer is free, and the ring is its own.
 pub fn put_byte(producer: &mut Producer, ring: &Ring, byte: u8) -> bool
     requires own { producer.old.ring ≡ ring.now.id }
     requires calm { is_busy_or_off producer.old.knows.waiter ≡ true }

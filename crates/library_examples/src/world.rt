@@ -11,7 +11,7 @@ use plain_wires::World;
 use std::alloc::Global;
 use wire_core::{ActorId, QueueId, QueueRow, Side, Wires};
 
-/// The world of one queue in its start state: of four bytes, from actor 0 to actor 1, in no region.
+/// One queue in its start state: of up to four bytes, from actor 0 to actor 1, in no region.
 pub fn one_queue(alloc: Global) -> Result<World, Memory>
     ensures producer { IfOk result (λ w. Agrees (end_at w Producer 0) (start_state Side.Backward)) }
     ensures consumer { IfOk result (λ w. Agrees (end_at w Consumer 0) (start_state Side.Forward)) }
