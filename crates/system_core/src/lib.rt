@@ -7,7 +7,6 @@
 mod crew;
 mod crews;
 mod lines;
-pub mod play_pools;
 mod records;
 mod running;
 mod system;

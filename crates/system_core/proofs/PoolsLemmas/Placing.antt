@@ -1,4 +1,4 @@
--- The classes of a played plan that have pools stand at its place.
+-- The classes of a plan that have pools stand at its place in a system.
 use Rattle.std.proofs.Common.{◌≡◌, ◌+◌, ◌<◌, ℕ, Option, None, Some, List, length, slice_get, refl, sym, ◌∙◌, subst, arith}
 use Rattle.std.specs.Option.{option_map}
 use Rattle.play_core.proofs.Lists.{there_below}
@@ -20,7 +20,7 @@ use Rattle.cast_law.specs.Pools.Places.{HasNetAt, HasBlkAt, IsPlaced}
 use Rattle.cast_law.specs.Places.{pool_place}
 use Rattle.cast_law.proofs.Pooled.{apart_pools}
 use Rattle.system_core.specs.Shows.{Shown}
-use Rattle.system_core.specs.PlanPlays.{IsPlayedOn}
+use Rattle.system_core.specs.Builds.{IsCastOf}
 
 -- a part of a class has a job of the class
 net_job : (plan : Plan) (trace : Trace) (job : Job) (q : NetPart) → job_part plan trace job ≡ Some (NetworkPart q) → IsOf plan job → HasNet plan
@@ -74,7 +74,7 @@ blk_job plan trace DiskDriver q e of = of
 blk_job plan trace BlkVirtualiser q e of = of
 blk_job plan trace (BlkClient c) q e of = of.0
 
-module _ (plan : Plan) (trace : Trace) (seed limit : ℕ) (s : Shown) (valid : Valid plan) (played : IsPlayedOn plan trace seed limit s) where
+module _ (plan : Plan) (trace : Trace) (s : Shown) (valid : Valid plan) (cast_is : IsCastOf plan trace s.setting) where
   abbrev cast : List Part
   cast = s.setting.cast
 
@@ -82,8 +82,8 @@ module _ (plan : Plan) (trace : Trace) (seed limit : ℕ) (s : Shown) (valid : V
   pub job_at : (k : ℕ) (p : Part) → slice_get cast k ≡ Some p → (job : Job) × HasJob plan job k × (job_part plan trace job ≡ Some p)
   job_at k p at =
       let below = there_below cast k p at in
-      let job = some_job plan valid k (omega (arith, below, played.cast.count)) in
-      (job.0, job.1, sym (played.cast.parts job.0 k job.1) ∙ at)
+      let job = some_job plan valid k (omega (arith, below, cast_is.count)) in
+      (job.0, job.1, sym (cast_is.parts job.0 k job.1) ∙ at)
 
   no_net : plan.net ≡ None → HasNet plan → ⊥
   no_net none (net, is) = absurd cc
@@ -99,8 +99,8 @@ module _ (plan : Plan) (trace : Trace) (seed limit : ℕ) (s : Shown) (valid : V
         none = λ k p at. (let job = job_at k (NetworkPart p) at in no_net none (net_job plan trace job.0 p job.2 (job_is_of plan job.0 k job.1)));
         no_sender = λ k p at. (let job = job_at k (SendingPart p) at in no_net none (send_job plan trace job.0 p job.2 (job_is_of plan job.0 k job.1)));
       }
-      first (Some net) is = (played.cast.whole net is, refl)
+      first (Some net) is = (cast_is.whole net is, refl)
 
       behind : (b : Option Blk) → plan.blk ≡ b → HasBlkAt s.setting.rows (option_map (λ blk. blk_place plan trace) b) cast
       behind None none = λ k p at. (let job = job_at k (BlockPart p) at in no_blk none (blk_job plan trace job.0 p job.2 (job_is_of plan job.0 k job.1)))
-      behind (Some blk) is = (played.cast.whole_block blk is, apart_pools plan trace valid blk is)
+      behind (Some blk) is = (cast_is.whole_block blk is, apart_pools plan trace valid blk is)

@@ -1,4 +1,4 @@
--- Each buffer of a played plan has one owner at each moment.
+-- Each buffer of a plan has one owner at each moment.
 use Rattle.std.proofs.Common.{◌≡◌, ◌⊎◌, ◌+◌, ◌*◌, ◌<◌, ◌≤◌, ℕ, Bool, true, false, nat_le, nat_lt, None, Some, Option, List, [], length, slice_get, refl, sym, ap, ◌∙◌, subst, arith, inl, inr}
 use Rattle.std.specs.Option.{option_map, option_map_or}
 use Rattle.std.proofs.lemmas.Bool.{and_parts, leb-true, ltb-true, cases_lt}
@@ -27,21 +27,23 @@ use Rattle.cast_core.specs.Sources.{pool_at, first_blk_pool}
 use Rattle.cast_core.proofs.Listing.{value_is}
 use Rattle.cast_core.proofs.Rooms.{pools_apart, net_size}
 use Rattle.system_core.specs.Shows.{Shown}
-use Rattle.system_core.specs.PlanPlays.{IsPlayedOn}
-use Rattle.system_core.specs.PlayPools.Pools.{IsFirstTable, HasOneOwner}
-use Rattle.wire_core.specs.Journal.{Hostiles}
-use Rattle.owner_law.specs.Owners.{Table}
+use Rattle.system_core.specs.Lawful.{StandsLawful}
+use Rattle.system_core.specs.Builds.{IsCastOf}
+use Rattle.system_core.specs.Pools.{IsFirstTable, HaveOneOwner}
+use Rattle.wire_core.specs.Journal.{Hostiles, EachMoment}
+use Rattle.owner_law.specs.Owners.{Table, OneOwner}
 use Rattle.owner_law.proofs.PoolsLemmas.Casting.{nothing_kept}
 use Rattle.blk_law.specs.Owners.Answering.{PutsItsOwnInOrder}
 use Rattle.wired_law.specs.Wiring.{IsOfNetwork}
 use Rattle.cast_law.specs.Pools.Holders.{NamesAt}
-use Rattle.cast_law.specs.Pools.Places.{PoolPlace, HasNetAt, IsPlaced, cast_naming}
-use Rattle.cast_law.specs.Pools.Pooling.{keepers_at}
+use Rattle.cast_law.specs.Pools.Places.{PoolPlace, HasNetAt, IsPlaced, cast_naming, place_sizes}
+use Rattle.cast_law.specs.Pools.Pooling.{keepers_at, BeginsWith}
 use Rattle.cast_law.proofs.PoolsLemmas.Naming.{names_at, block_own}
 use Rattle.cast_law.proofs.PoolsLemmas.Owning.{owned}
 use Rattle.cast_law.specs.Places.{pool_place}
-use Rattle.system_core.proofs.PlayPools.Ends.{job_apart}
-use Rattle.system_core.proofs.PlayPools.Placing.{placed, job_at}
+use Rattle.system_core.proofs.PoolsLemmas.Ends.{job_apart}
+use Rattle.system_core.proofs.PoolsLemmas.Placing.{placed, job_at}
+use Rattle.system_core.proofs.PoolsLemmas.Staying.{pool_stays, each_follows}
 
 -- an address in a pool's range
 in_bounds : (p : PoolAt) (a : ℕ) → is_at p a ≡ true → (p.base ≤ a) × (a < p.base + p.buffers * 2048)
@@ -117,7 +119,7 @@ module _ (plan : Plan) (valid : Valid plan) where
       let second : y.0.tx ≡ pool (2 + 2 * k) = ap (λ (z : ClientPools). z.tx) u.1 in
       is_false (is_at d.pool a) (λ too. off (2 + 2 * j) (2 + 2 * k) a (sends_below plan.net j v.0) (sends_below plan.net k u.0) (λ e. ne (omega (arith, e))) (subst (λ z. is_at z a ≡ true) (p ∙ first) here) (subst (λ z. is_at z a ≡ true) (q ∙ second) too))
 
-module _ (plan : Plan) (trace : Trace) (seed limit : ℕ) (s : Shown) (valid : Valid plan) (played : IsPlayedOn plan trace seed limit s) where
+module _ (plan : Plan) (trace : Trace) (s : Shown) (valid : Valid plan) (cast_is : IsCastOf plan trace s.setting) (stands : StandsLawful s) where
   abbrev place : PoolPlace
   place = pool_place plan trace
 
@@ -137,11 +139,11 @@ module _ (plan : Plan) (trace : Trace) (seed limit : ℕ) (s : Shown) (valid : V
   hostile = hostiles cast
 
   here : IsPlaced rows place cast
-  here = placed plan trace seed limit s valid played
+  here = placed plan trace s valid cast_is
 
   -- each part is that of a job
   ends_apart : (k : ℕ) (p : Part) → slice_get cast k ≡ Some p → AreApart (sheet scene p).ends
-  ends_apart k p at = let job = job_at plan trace seed limit s valid played k p at in job_apart plan trace scene job.0 p job.2
+  ends_apart k p at = let job = job_at plan trace s valid cast_is k p at in job_apart plan trace scene job.0 p job.2
 
   -- each may put only what was in its hand
   sender_is : (net : NetPlace) → net.first ≡ 0 → (p : SendPart) → IsOfNetwork net scene.frames (SendingPart p) → sender_at 0 net.pools ≡ p
@@ -166,9 +168,15 @@ module _ (plan : Plan) (trace : Trace) (seed limit : ℕ) (s : Shown) (valid : V
   puts_own k (SendingPart p) at names = λ m order. send_own naming p names (send_apart plan.net here.net k p at) m
   puts_own k (BlockPart p) at names = block_own naming scene p names
 
+  -- each move finds its buffer in the place that it leaves
+  moves : (first : Table) → BeginsWith s.setting.history rows place cast first → EachMoment (OneOwner naming s.setting.history first) s.journal
+  moves first is = owners_hold naming is.lender hostile s.setting.history rows (keepers_at cast) first s.journal
+      (owned rows cast stands.fitted.seated place.net place.blk here.net here.blk is.lender is.naming_is s.setting.history first s.journal stands.fitted.ends stands.fitted.peopled ends_apart
+      (λ k p at. puts_own k p at (names_at rows cast stands.fitted.seated place.net place.blk here.net here.blk k p at))
+      stands.lawful.legal stands.lawful.flows stands.lawful.rows_hold stands.lawful.kinds is.counted is.shown)
+
   -- from a table on with which it begins
-  pub one_owner : (first : Table) → IsFirstTable place s first → HasOneOwner place first s
-  one_owner first is = owners_hold naming is.lender hostile s.setting.history rows (keepers_at cast) first s.journal
-      (owned rows cast played.stands.fitted.seated place.net place.blk here.net here.blk is.lender is.naming_is s.setting.history first s.journal played.stands.fitted.ends played.stands.fitted.peopled ends_apart
-      (λ k p at. puts_own k p at (names_at rows cast played.stands.fitted.seated place.net place.blk here.net here.blk k p at))
-      played.stands.lawful.legal played.stands.lawful.flows played.stands.lawful.rows_hold played.stands.lawful.kinds is.counted is.shown)
+  pub one_owner : (first : Table) → IsFirstTable place s first → EachMoment (HaveOneOwner place first s) s.journal
+  one_owner first is =
+      each_follows (OneOwner naming s.setting.history first) (HaveOneOwner place first s)
+      (λ j now. record { pools = λ k. pool_stays naming s.setting.history first k (place_sizes place k) (is.pools k) j; moves = now }) s.journal (moves first is.begins)
