@@ -1,13 +1,10 @@
 //! Worked rows of one actor at a time, at queues whose other ends are worked by hand: actors over
-//! lists, among them the network's sending virtualiser, and a driver over rings; the judgements and
-//! replies of the block class; and the owner table of two journals.
+//! lists, among them the network's sending virtualiser, and a driver over rings; and the owner table
+//! of two journals.
 #![tactic(auto)]
 
 #[cfg(test)]
 mod alone;
-pub mod blk;
-#[cfg(test)]
-mod cargo_tests;
 mod hand;
 #[cfg(test)]
 mod net_rx_tests;
@@ -19,8 +16,6 @@ pub mod seats;
 mod serial_tests;
 #[cfg(test)]
 mod start_tests;
-#[cfg(test)]
-mod wires_tests;
 
 pub use hand::{get, give, put_in};
 pub use rows::{one_or_two, queues, queues_of, row};

@@ -4,11 +4,6 @@
 //! layout, or the rule that a refused one breaks and the place.
 #![tactic(auto)]
 
-#[cfg(test)]
-mod class_tests;
-#[cfg(test)]
-mod description_tests;
-
 ghost use Rattle.std.specs.Prelude.{◌≤◌, IfOk, length};
 ghost use Rattle.sdf_check.specs.Valid.{Valid};
 ghost use Rattle.sdf_model.specs.Counts.{text_most};

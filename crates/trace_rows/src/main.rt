@@ -4,17 +4,6 @@
 //! written: the layout, the bad line, or what the trace gives and its budget.
 #![tactic(auto)]
 
-#[cfg(test)]
-mod expected_tests;
-#[cfg(test)]
-mod frame_tests;
-#[cfg(test)]
-mod journal_tests;
-#[cfg(test)]
-mod report_tests;
-#[cfg(test)]
-mod switch_tests;
-
 ghost use Rattle.std.specs.Prelude.{◌≤◌, IfOk, length};
 ghost use Rattle.sdf_check.specs.Valid.{Valid};
 ghost use Rattle.sdf_model.specs.Counts.{text_most};

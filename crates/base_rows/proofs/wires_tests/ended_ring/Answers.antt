@@ -4,7 +4,7 @@ use Rattle.std.proofs.Math.Seq.{drop-append_seam}
 use Rattle.std.proofs.lemmas.List.Elements.{All-drop}
 use Rattle.cargo_core.specs.declared.item.QueueKind.TheVariants as Kind
 use Rattle.cargo_core.specs.Items.{kind_of}
-use Rattle.actor_rows.proofs.wires_tests.ended_ring.Goals as goal
+use Rattle.base_rows.proofs.wires_tests.ended_ring.Goals as goal
 
 pub open-requires : goal.open-requires
 open-requires c = (2, omega arith, refl)

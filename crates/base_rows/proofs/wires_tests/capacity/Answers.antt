@@ -1,5 +1,5 @@
 use Rattle.std.proofs.Common.{arith, refl}
-use Rattle.actor_rows.proofs.wires_tests.capacity.Goals as goal
+use Rattle.base_rows.proofs.wires_tests.capacity.Goals as goal
 
 pub returns-in-0 : goal.returns-in-0
 returns-in-0 c = (0, omega arith, refl)
