@@ -6,6 +6,30 @@ use std::alloc::Global;
 use std::sync::Wait;
 use std::thread::Threads;
 
+// The status with which `serve` answers words, over a shelf and a sink.
+fn status_of<R: Threads + Wait + Sync>(
+    rt: &R,
+    alloc: Global,
+    words: &[String],
+    shelf: &mut MemShelf,
+    sink: &mut MemSink,
+) -> u8 {
+    let mut played = Played::Nothing;
+    serve(rt, alloc, words, shelf, sink, &OpenGate, &mut played).code()
+}
+
+// What was written, but for how many steps it took, and the status.
+fn told(alloc: Global, written: &[u8], status: u8) -> Result<String, Memory> {
+    let mut text = String::new(alloc);
+    for line in std::str::from_utf8(written).unwrap_or("no text").lines() {
+        if !line.starts_with("steps ") {
+            write!(text, "{line}\n")?;
+        }
+    }
+    write!(text, "status {status}\n")?;
+    Ok(text)
+}
+
 /// Does what the words ask for over a description and a trace, and gives what is written, but for
 /// how many steps it took, and the status.
 pub fn show_program<R: Threads + Wait + Sync>(
@@ -22,25 +46,6 @@ pub fn show_program<R: Threads + Wait + Sync>(
         list.push(String::from_str(alloc, word)?)?;
     }
     let mut sink = MemSink::new(alloc, 1000)?;
-    let mut played = Played::Nothing;
-    let status = serve(
-        rt,
-        alloc,
-        &list,
-        &mut shelf,
-        &mut sink,
-        &OpenGate,
-        &mut played,
-    );
-    let mut text = String::new(alloc);
-    for line in std::str::from_utf8(sink.written())
-        .unwrap_or("no text")
-        .lines()
-    {
-        if !line.starts_with("steps ") {
-            write!(text, "{line}\n")?;
-        }
-    }
-    write!(text, "status {}\n", status.code())?;
-    Ok(text)
+    let status = status_of(rt, alloc, &list, &mut shelf, &mut sink);
+    told(alloc, sink.written(), status)
 }

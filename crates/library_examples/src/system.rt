@@ -3,13 +3,33 @@
 ghost use Rattle.sdf_check.specs.Valid.{Valid};
 
 use cargo_core::Memory;
-use expect_core::budget;
+use expect_core::{Report, budget};
 use region_layout::lay_out;
 use report_text::write_bad_trace;
 use sdf_plan::Plan;
 use std::alloc::Global;
-use system_core::System;
+use system_core::{Ending, System};
 use trace_text::{TraceFault, read_trace};
+
+// Plays a system by seed 0, for so many steps at most.
+fn played(system: &mut System, limit: u64) -> Result<(Ending, Report), Memory> {
+    let ending = system.play(0, limit)?;
+    let report = system.report()?;
+    Ok((ending, report))
+}
+
+// What a play came to.
+fn told(alloc: Global, ending: Ending, report: &Report) -> Result<String, Memory> {
+    let mut text = format!(in alloc; "{ending:?}, bad {}\n", report.bad)?;
+    if let Some(sent) = &report.line {
+        write!(text, "sent on the line {:?}\n", sent.as_slice())?;
+    }
+    for client in 0..report.serial.len() {
+        let got = report.serial.get(client);
+        write!(text, "client {client} got {:?}\n", got.as_slice())?;
+    }
+    Ok(text)
+}
 
 /// Plays a plan by seed 0, for as many steps as are enough for any schedule, and says what it came
 /// to.
@@ -23,15 +43,8 @@ pub fn show_system(alloc: Global, plan: &Plan, lines: &str) -> Result<String, Me
     };
     let layout = lay_out(alloc, plan)?;
     let mut system = System::build(alloc, plan, &layout, &trace)?;
-    let ending = system.play(0, budget(plan, &trace))?;
-    let report = system.report()?;
-    let mut text = format!(in alloc; "{ending:?}, bad {}\n", report.bad)?;
-    if let Some(sent) = &report.line {
-        write!(text, "sent on the line {:?}\n", sent.as_slice())?;
-    }
-    for client in 0..report.serial.len() {
-        let got = report.serial.get(client);
-        write!(text, "client {client} got {:?}\n", got.as_slice())?;
-    }
-    Ok(text)
+    let shown = played(&mut system, budget(plan, &trace));
+    drop(system);
+    let (ending, report) = shown?;
+    told(alloc, ending, &report)
 }

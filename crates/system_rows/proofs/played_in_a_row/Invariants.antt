@@ -6,4 +6,5 @@ use Rattle.system_rows.proofs.played_in_a_row.Given as goal
 
 -- the system stays one of the plan and the trace, and the last ending says whether it is quiet
 abbrev pub invariant-loop-seed : goal.invariant-loop-seed
-invariant-loop-seed l = IsSystemOf l.fn.plan.now l.fn.trace.now l.system × (l.ending ≡ Ends.Quiet → runnable_now l.system ≡ [])
+invariant-loop-seed l =
+    IsSystemOf l.fn.plan l.fn.trace l.system × (l.ending ≡ Ends.Quiet → runnable_now l.system ≡ [])
