@@ -15,10 +15,7 @@ use Rattle.blk_virt.specs.declared.client.Current.{Current}
 use Rattle.blk_virt.specs.declared.requests.Holder.{Holder}
 use Rattle.blk_virt.specs.Requests.{request_of, goes_on, is_bad, for_disk, page_named, brings, numbered, number_of, is_at}
 use Rattle.blk_virt.specs.Serving.{answers_to, AllBring, unnumbered}
-
--- a count of 64 bits, which stands still at its end
-abbrev pub capped : ℕ → ℕ
-capped n = min n (2 ^ 64 - 1)
+pub use Rattle.buffer_kit.specs.Clients.{capped, carried}
 
 -- the count after a request came
 abbrev pub counted : Holder → ℕ → Cargo → ℕ
@@ -52,10 +49,6 @@ is_held c = is_some c.held
 -- the entries that it has
 abbrev pub client_cargo : Client → List Cargo
 client_cargo c = option_to_list c.leaving ++ option_to_list c.held
-
--- how many buffers of a pool entries carry
-abbrev pub carried : PoolId → List Cargo → ℕ
-carried pool cs = buffers_of pool (bodies_of cs)
 
 -- what is kept of a request that was sent on is so
 pub record IsCurrent (h : Holder) (part : Option Part) (current : Current) (x : Cargo) :

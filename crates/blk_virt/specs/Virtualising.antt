@@ -25,10 +25,7 @@ use Rattle.blk_virt.specs.Ends.{FitsEnds}
 use Rattle.blk_virt.specs.Openings.{IsOutOfTurn, KnowsParts, first_read}
 use Rattle.blk_virt.specs.Desks.{IsSomeones, holders}
 use Rattle.blk_virt.specs.Works.{IsWork, SameWork, WorkStands, wants_at, gives_at, is_owing, work_cargo}
-
--- the queue at a place
-abbrev pub queue_at : List QueueId → ℕ → ℕ
-queue_at qs k = (slice_index_or qs k (record { 0 = 0 })).0
+pub use Rattle.buffer_kit.specs.Clients.{queue_at}
 
 -- its ends are its own, and as it keeps them; each client has one each way
 pub record FitsBlkVirt (ends : Role → ℕ → End) (v : BlkVirt) : Type 0 where

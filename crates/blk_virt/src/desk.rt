@@ -18,7 +18,7 @@ ghost use Rattle.blk_virt.specs.Desks.{IsDesk, DeskStands, IsRequestOf, desk_car
 
 use crate::{Client, Line};
 use blk_mbr::Part;
-use buffer_kit::VirtEnds;
+use buffer_kit::{Served, VirtEnds, bad_of_all, leaver};
 use cargo_core::{Body, Item, PoolId};
 use turn_kit::Needs;
 use wire_core::{Event, Wires};
@@ -56,12 +56,7 @@ impl Desk {
         ensures { MatchOption result (owes self.now ≡ false)
             (λ k. (owes self.now ≡ true) × (is_some (leaving_at self.now k) ≡ true)) }
     {
-        for (place, client) in self.clients.iter().enumerate() {
-            if client.is_leaving() {
-                return Some(place);
-            }
-        }
-        None
+        leaver(&self.clients)
     }
 
     /// Whether a response is in turn: some request is at the driver, and it brings the buffer of
@@ -218,11 +213,7 @@ impl Desk {
     pub fn bad(&self) -> u64
         ensures { result ≡ bad_count self.now }
     {
-        let mut bad: u64 = 0;
-        for client in &self.clients {
-            bad = bad.saturating_add(client.bad);
-        }
-        bad
+        bad_of_all(&self.clients)
     }
 }
 

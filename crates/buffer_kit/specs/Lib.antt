@@ -4,3 +4,4 @@ pub mod Pools
 pub mod Stocks
 pub mod Recorders
 pub mod Virtualising
+pub mod Clients

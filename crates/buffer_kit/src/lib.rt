@@ -2,12 +2,14 @@
 //! buffers that are given at the start, pipes that record, and the ends of virtualisers.
 #![tactic(auto)]
 
+mod clients;
 mod entries;
 mod pages;
 mod recorder;
 mod stock;
 mod virt_ends;
 
+pub use clients::{Served, bad_of_all, leaver};
 pub use entries::{address, fill, frame, told_length};
 pub use pages::pages_of;
 pub use recorder::Recorder;

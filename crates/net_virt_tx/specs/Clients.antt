@@ -19,10 +19,7 @@ use Rattle.net_virt_tx.specs.declared.descriptors.Sender.{Sender}
 use Rattle.net_virt_tx.specs.Descriptors.{to_client}
 use Rattle.net_virt_tx.specs.Queued.{returns_list, IsReady}
 use Rattle.net_virt_tx.specs.Serving.{is_good_of, bad_ones}
-
--- a count of 64 bits, which stands still at its end
-abbrev pub capped : ℕ → ℕ
-capped n = min n (2 ^ 64 - 1)
+pub use Rattle.buffer_kit.specs.Clients.{capped, carried}
 
 -- how many of these are so
 abbrev pub how_many : List Bool → ℕ
@@ -89,10 +86,6 @@ is_away c a = nat_le c.sender.base a && ((c.sender.base + buffer_at c a * 2048 =
 -- all entries that it has
 abbrev pub client_cargo : Client → List Cargo
 client_cargo c = option_to_list c.leaving ++ (option_to_list c.bad ++ returns_list c.returns)
-
--- how many buffers of a pool entries carry
-abbrev pub carried : PoolId → List Cargo → ℕ
-carried pool cs = buffers_of pool (bodies_of cs)
 
 -- an entry goes to the client at one of its buffers
 abbrev pub IsReturn : ℕ → Cargo → Type 0

@@ -22,10 +22,7 @@ use Rattle.net_virt_tx.specs.Descriptors.{to_device}
 use Rattle.net_virt_tx.specs.Serving.{IsServed, is_good_of, bad_ones}
 use Rattle.net_virt_tx.specs.Clients.{IsFresh, IsOf, at_address, capped, range_of}
 use Rattle.net_virt_tx.specs.Traffics.{IsTraffic, TrafficStands, bad_count, is_free, loaded_at, needs_at, owes, senders, traffic_hand}
-
--- the queue at a place
-abbrev pub queue_at : List QueueId → ℕ → ℕ
-queue_at qs k = (slice_index_or qs k (record { 0 = 0 })).0
+pub use Rattle.buffer_kit.specs.Clients.{queue_at}
 
 -- its ends are its own, and as it keeps them; each client has one each way
 pub record FitsTx (ends : Role → ℕ → End) (v : NetVirtTx) : Type 0 where

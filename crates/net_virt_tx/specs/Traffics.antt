@@ -13,11 +13,8 @@ use Rattle.net_virt_tx.specs.declared.descriptors.Sender.{Sender}
 use Rattle.net_virt_tx.specs.declared.traffic.Traffic.{Traffic}
 use Rattle.net_virt_tx.specs.Serving.{is_good_of, own_of}
 use Rattle.net_virt_tx.specs.Clients.{IsClient, ClientStands, Moved, IsOf, is_idle, is_leaving, is_loaded, is_away, load_of, client_cargo, capped, range_of, is_marked, number_of}
-
--- a client is there, and so
-abbrev pub is_so : (Client → Bool) → Option Client → Bool
-is_so p None = false
-is_so p (Some c) = p c
+use Rattle.buffer_kit.specs.Clients.{entry_in}
+pub use Rattle.buffer_kit.specs.Clients.{is_so, with_more}
 
 -- no entry came out of turn
 abbrev pub is_free : Traffic → Bool
@@ -37,13 +34,11 @@ owes w = is_none w.stray && list_any is_leaving w.clients.items
 
 -- what a client has for the driver
 abbrev pub leaving_in : Option Client → Option Cargo
-leaving_in None = None
-leaving_in (Some c) = c.leaving
+leaving_in o = entry_in (λ (c : Client). c.leaving) o
 
 -- what a client is given next
 abbrev pub load_in : Option Client → Option Cargo
-load_in None = None
-load_in (Some c) = load_of c
+load_in o = entry_in (λ (c : Client). load_of c) o
 
 -- what the client at a place has for the driver
 abbrev pub leaving_at : Traffic → ℕ → Option Cargo
@@ -75,10 +70,6 @@ pub record IsTraffic (w : Traffic) : Type 0 where
 -- the entry is at a buffer of one of these clients
 abbrev pub IsSomeones : List Client → Cargo → Type 0
 IsSomeones cs x = (k : ℕ) × (c : Client) × (slice_get cs k ≡ Some c) × IsOf c.sender x
-
--- the same lists, with these more at place k
-abbrev pub with_more : (ℕ → List Cargo) → ℕ → List Cargo → ℕ → List Cargo
-with_more lists k more j = lists j ++ if_there (k == j) more
 
 -- how it stands for what came from each client by its place, what it sent to the driver, what
 -- returned from there and what went back to each client
