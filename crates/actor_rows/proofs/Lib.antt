@@ -1,7 +1,8 @@
+-- The proofs of the helpers of these tests.
 pub mod Moved
 pub mod Started
 pub mod Fitting
 pub mod Driving
 pub mod Merging
-pub mod SeatRows
-pub mod NetTxRows
+pub mod SeatsLemmas
+pub mod NetTx

@@ -1,6 +1,7 @@
--- What the helpers of these tests say.
+-- What the helpers of these tests say: of calls by hand (Hands), of actors at their queues
+-- (Standings, NetTx, Seats), and of the owner table of two journals (Owners).
 pub mod Hands
 pub mod Standings
-pub mod SeatRows
-pub mod NetTxRows
-pub mod OwnerRows
+pub mod Seats
+pub mod NetTx
+pub mod Owners

@@ -1,12 +1,14 @@
-//! Queues whose other ends are worked by hand, for tests of one actor at a time.
+//! Worked rows of one actor at a time, at queues whose other ends are worked by hand: actors over
+//! lists, among them the network's sending virtualiser, and a driver over rings; the judgements and
+//! replies of the block class; and the owner table of two journals.
 #![tactic(auto)]
 
-pub mod blk_rows;
+pub mod blk;
 mod hand;
-pub mod net_tx_rows;
-pub mod owner_rows;
+pub mod net_tx;
+pub mod owners;
 mod rows;
-pub mod seat_rows;
+pub mod seats;
 #[cfg(test)]
 mod tests;
 

@@ -14,25 +14,25 @@ use Rattle.serial_virt.specs.declared.rx.SerialVirtRx.{SerialVirtRx}
 use Rattle.serial_virt.specs.Sending.{TxStandsFor, TxRow, TxBalances}
 use Rattle.serial_virt.specs.declared.tx.SerialVirtTx.{SerialVirtTx}
 use Rattle.eth_driver.specs.Four.{four_pipes}
-use Rattle.device_model.specs.EthDevices.Devices.{DeviceStandsFor, DeviceRow, DeviceBalances}
-use Rattle.device_model.specs.declared.eth_device.EthDevice.{EthDevice}
+use Rattle.device_model.specs.Ethernet.Devices.{DeviceStandsFor, DeviceRow, DeviceBalances}
+use Rattle.device_model.specs.declared.ethernet.EthDevice.{EthDevice}
 use Rattle.net_virt_rx.specs.Receiving.{RxStandsFor as NetRxStandsFor, RxRow as NetRxRow, RxBalances as NetRxBalances}
 use Rattle.net_virt_rx.specs.declared.NetVirtRx.{NetVirtRx}
 use Rattle.net_copier.specs.Copying.{CopierStandsFor, CopierRow, CopierBalances}
 use Rattle.net_copier.specs.declared.NetCopier.{NetCopier}
-use Rattle.client_programs.specs.NetClients.Clients.{ClientStandsFor, ClientRow, ClientBalances}
-use Rattle.client_programs.specs.declared.net_client.NetClient.{NetClient}
+use Rattle.client_programs.specs.Net.Clients.{ClientStandsFor, ClientRow, ClientBalances}
+use Rattle.client_programs.specs.declared.net.NetClient.{NetClient}
 use Rattle.net_virt_tx.specs.Sending.{TxStandsFor as NetTxStandsFor, TxRow as NetTxRow, TxBalances as NetTxBalances}
 use Rattle.net_virt_tx.specs.declared.NetVirtTx.{NetVirtTx}
-use Rattle.device_model.specs.DiskDevices.Disks.{DiskStandsFor, DiskRow, DiskBalances}
-use Rattle.device_model.specs.declared.disk_device.DiskDevice.{DiskDevice}
+use Rattle.device_model.specs.Disk.Disks.{DiskStandsFor, DiskRow, DiskBalances}
+use Rattle.device_model.specs.declared.disk.DiskDevice.{DiskDevice}
 use Rattle.blk_virt.specs.Virtualising.{BlkVirtStandsFor, BlkVirtRow, BlkVirtBalances, SameBlkVirt}
 use Rattle.blk_virt.specs.declared.client.Client.{Client}
 use Rattle.blk_virt.specs.declared.virtualiser.BlkVirt.{BlkVirt}
-use Rattle.client_programs.specs.BlkClients.Asking.{IsAsking, and_one}
-use Rattle.client_programs.specs.declared.blk_client.asking.Asking.{Asking}
-use Rattle.client_programs.specs.BlkClients.Clients.{BlkClientStandsFor, BlkClientRow, BlkClientBalances}
-use Rattle.client_programs.specs.declared.blk_client.BlkClient.{BlkClient}
+use Rattle.client_programs.specs.Blk.Asking.{IsAsking, and_one}
+use Rattle.client_programs.specs.declared.blk.asking.Asking.{Asking}
+use Rattle.client_programs.specs.Blk.Clients.{BlkClientStandsFor, BlkClientRow, BlkClientBalances}
+use Rattle.client_programs.specs.declared.blk.BlkClient.{BlkClient}
 use Rattle.actor_set.specs.Actors.{ActorStandsFor, ActorRow, ActorBalances, HasFewClients, HasFirst}
 use Rattle.actor_set.specs.declared.actor.Actor.{Actor}
 use Rattle.actor_set.specs.declared.actor.Actor.TheVariants as Kinds

@@ -1,40 +1,65 @@
 -- What is said of an actor of any kind: one case for each kind.
-use Rattle.std.specs.Prelude.{◌≡◌, ◌+◌, ◌-◌, ◌<◌, ◌^◌, ◌==◌, if◌then◌else◌, ℕ, Bool, List, length, map}
+use Rattle.std.specs.Prelude.{◌≡◌, ◌+◌, ◌-◌, ◌<◌, ◌^◌, ◌==◌, if◌then◌else◌, ℕ, Bool, List, length}
+use Rattle.std.specs.Prelude.{map}
 use Rattle.cargo_core.specs.declared.item.Body.{Body}
 use Rattle.wire_core.specs.Lists.{Passed}
 use Rattle.wire_core.specs.Ends.{Role, End}
 use Rattle.wire_core.specs.declared.names.Event.{Event}
 use Rattle.turn_kit.specs.Turns.{Round, Turned, is_at_rest}
 use Rattle.turn_kit.specs.Hands.{bodies_of}
-use Rattle.device_model.specs.SerialTerminal.Terminals.{FitsTerminal, TerminalStandsFor, TerminalRow, TerminalBalances, TerminalEnd, terminal_round, terminal_hand, terminal_forgotten}
-use Rattle.serial_virt.specs.Receiving.{FitsRx, RxStandsFor, RxRow, RxBalances, RxEnd, RxForgot, rx_round, rx_hand}
-use Rattle.serial_virt.specs.Sending.{FitsTx, TxStandsFor, TxRow, TxBalances, TxEnd, TxForgot, tx_round, tx_hand}
+use Rattle.device_model.specs.SerialTerminal.Terminals.{FitsTerminal, TerminalStandsFor}
+use Rattle.device_model.specs.SerialTerminal.Terminals.{TerminalRow, TerminalBalances, TerminalEnd}
+use Rattle.device_model.specs.SerialTerminal.Terminals.{terminal_round, terminal_hand}
+use Rattle.device_model.specs.SerialTerminal.Terminals.{terminal_forgotten}
+use Rattle.serial_virt.specs.Receiving.{FitsRx, RxStandsFor, RxRow, RxBalances, RxEnd, RxForgot}
+use Rattle.serial_virt.specs.Receiving.{rx_round, rx_hand}
+use Rattle.serial_virt.specs.Sending.{FitsTx, TxStandsFor, TxRow, TxBalances, TxEnd, TxForgot}
+use Rattle.serial_virt.specs.Sending.{tx_round, tx_hand}
 use Rattle.turn_kit.specs.ManyEnds.{intake_queues, outlet_queues}
 use Rattle.wire_core.specs.declared.names.QueueId.{QueueId}
-use Rattle.pipe_driver.specs.Drivers.{FitsPipes, PipesStandFor, PipesRow, PipesBalance, PipesEnd, pipes_round, pipes_hand, pipe_forgotten}
+use Rattle.pipe_driver.specs.Drivers.{FitsPipes, PipesStandFor, PipesRow, PipesBalance, PipesEnd}
+use Rattle.pipe_driver.specs.Drivers.{pipes_round, pipes_hand, pipe_forgotten}
 use Rattle.pipe_driver.specs.Lengths.{two_pipes}
 use Rattle.eth_driver.specs.Four.{four_pipes}
-use Rattle.device_model.specs.EthDevices.Devices.{FitsDevice, DeviceStandsFor, DeviceRow, DeviceBalances, DeviceEnd, device_round, device_hand, device_forgotten}
-use Rattle.net_virt_rx.specs.Receiving.{FitsRx as FitsNetRx, RxStandsFor as NetRxStandsFor, RxRow as NetRxRow, RxBalances as NetRxBalances, RxEnd as NetRxEnd, RxForgot as NetRxForgot, rx_round as net_rx_round}
+use Rattle.device_model.specs.Ethernet.Devices.{FitsDevice, DeviceStandsFor, DeviceRow}
+use Rattle.device_model.specs.Ethernet.Devices.{DeviceBalances, DeviceEnd, device_round}
+use Rattle.device_model.specs.Ethernet.Devices.{device_hand, device_forgotten}
+use Rattle.net_virt_rx.specs.Receiving.{FitsRx as FitsNetRx, RxStandsFor as NetRxStandsFor}
+use Rattle.net_virt_rx.specs.Receiving.{RxRow as NetRxRow, RxBalances as NetRxBalances}
+use Rattle.net_virt_rx.specs.Receiving.{RxEnd as NetRxEnd, RxForgot as NetRxForgot}
+use Rattle.net_virt_rx.specs.Receiving.{rx_round as net_rx_round}
 use Rattle.net_virt_rx.specs.Sharing.{IsSharer, lent_many, sharer_hand}
 use Rattle.net_virt_rx.specs.declared.NetVirtRx.{NetVirtRx}
-use Rattle.net_virt_tx.specs.Sending.{FitsTx as FitsNetTx, TxStandsFor as NetTxStandsFor, TxRow as NetTxRow, TxBalances as NetTxBalances, TxEnd as NetTxEnd, TxForgot as NetTxForgot, tx_round as net_tx_round}
+use Rattle.net_virt_tx.specs.Sending.{FitsTx as FitsNetTx, TxStandsFor as NetTxStandsFor}
+use Rattle.net_virt_tx.specs.Sending.{TxRow as NetTxRow, TxBalances as NetTxBalances}
+use Rattle.net_virt_tx.specs.Sending.{TxEnd as NetTxEnd, TxForgot as NetTxForgot}
+use Rattle.net_virt_tx.specs.Sending.{tx_round as net_tx_round}
 use Rattle.net_virt_tx.specs.Traffics.{IsTraffic, bad_count, traffic_hand}
 use Rattle.net_virt_tx.specs.declared.NetVirtTx.{NetVirtTx}
 use Rattle.buffer_kit.specs.Virtualising.{from_queues, to_queues}
-use Rattle.net_copier.specs.Copying.{FitsCopier, CopierStandsFor, CopierRow, CopierBalances, CopierEnd, copier_round, copier_hand, copier_forgotten}
-use Rattle.client_programs.specs.NetClients.Clients.{FitsClient, ClientStandsFor, ClientRow, ClientBalances, ClientEnd, client_round, client_hand, client_forgotten}
-use Rattle.net_law.specs.NetParts.Playing.{HasBuffers, device_part, driver_part, receiver_part, copier_part, client_part}
-use Rattle.net_law.specs.NetTxParts.Playing.{send_part}
-use Rattle.device_model.specs.DiskDevices.Disks.{FitsDisk, DiskStandsFor, DiskRow, DiskBalances, DiskEnd, disk_round, disk_hand, disk_forgotten}
-use Rattle.client_programs.specs.BlkClients.Asking.{IsAsking}
-use Rattle.client_programs.specs.BlkClients.Clients.{FitsBlkClient, BlkClientStandsFor, BlkClientRow, BlkClientBalances, BlkClientEnd, blk_client_round, blk_client_hand, blk_client_forgotten}
+use Rattle.net_copier.specs.Copying.{FitsCopier, CopierStandsFor, CopierRow, CopierBalances}
+use Rattle.net_copier.specs.Copying.{CopierEnd, copier_round, copier_hand, copier_forgotten}
+use Rattle.client_programs.specs.Net.Clients.{FitsClient, ClientStandsFor, ClientRow}
+use Rattle.client_programs.specs.Net.Clients.{ClientBalances, ClientEnd, client_round}
+use Rattle.client_programs.specs.Net.Clients.{client_hand, client_forgotten}
+use Rattle.net_law.specs.Parts.Playing.{HasBuffers, device_part, driver_part, receiver_part}
+use Rattle.net_law.specs.Parts.Playing.{copier_part, client_part}
+use Rattle.net_law.specs.TxParts.Playing.{send_part}
+use Rattle.device_model.specs.Disk.Disks.{FitsDisk, DiskStandsFor, DiskRow, DiskBalances}
+use Rattle.device_model.specs.Disk.Disks.{DiskEnd, disk_round, disk_hand, disk_forgotten}
+use Rattle.client_programs.specs.Blk.Asking.{IsAsking}
+use Rattle.client_programs.specs.Blk.Clients.{FitsBlkClient, BlkClientStandsFor}
+use Rattle.client_programs.specs.Blk.Clients.{BlkClientRow, BlkClientBalances, BlkClientEnd}
+use Rattle.client_programs.specs.Blk.Clients.{blk_client_round, blk_client_hand}
+use Rattle.client_programs.specs.Blk.Clients.{blk_client_forgotten}
 use Rattle.blk_virt.specs.Desks.{holders, bad_count as blk_bad_count}
 use Rattle.blk_virt.specs.Works.{work_cargo}
-use Rattle.blk_virt.specs.Virtualising.{FitsBlkVirt, BlkVirtStandsFor, BlkVirtRow, BlkVirtBalances, BlkVirtEnd, BlkVirtForgot, blk_virt_round}
+use Rattle.blk_virt.specs.Virtualising.{FitsBlkVirt, BlkVirtStandsFor, BlkVirtRow, BlkVirtBalances}
+use Rattle.blk_virt.specs.Virtualising.{BlkVirtEnd, BlkVirtForgot, blk_virt_round}
 use Rattle.blk_virt.specs.declared.virtualiser.BlkVirt.{BlkVirt}
-use Rattle.blk_law.specs.BlkParts.Playing.{disk_part, blk_driver_part, virt_part, blk_client_part}
-use Rattle.actor_set.specs.Parts.{Part, UartPart, DriverPart, RxPart, TxPart, ClientPart, NetworkPart, SendingPart, BlockPart}
+use Rattle.blk_law.specs.Sheets.Playing.{disk_part, blk_driver_part, virt_part, blk_client_part}
+use Rattle.actor_set.specs.Parts.{Part, UartPart, DriverPart, RxPart, TxPart, ClientPart}
+use Rattle.actor_set.specs.Parts.{NetworkPart, SendingPart, BlockPart}
 use Rattle.actor_set.specs.declared.actor.Actor.{Actor}
 use Rattle.actor_set.specs.declared.actor.Actor.TheVariants as Kinds
 

@@ -1,5 +1,6 @@
 -- Actors in their start state, and the ends that rows give them.
-use Rattle.std.specs.Prelude.{◌≡◌, ◌+◌, ◌-◌, ◌<◌, ◌^◌, ◌==◌, if◌then◌else◌, ℕ, Some, List, All, length, slice_get}
+use Rattle.std.specs.Prelude.{◌≡◌, ◌+◌, ◌-◌, ◌<◌, ◌^◌, ◌==◌, if◌then◌else◌, ℕ, Some, List, All}
+use Rattle.std.specs.Prelude.{length, slice_get}
 use Rattle.cargo_core.specs.declared.item.QueueKind.{QueueKind}
 use Rattle.cargo_core.specs.declared.item.QueueKind.TheVariants as Kind
 use Rattle.cargo_core.specs.Pages.{Paged}
@@ -15,8 +16,9 @@ use Rattle.serial_virt.specs.Receiving.{IsNewRx}
 use Rattle.serial_virt.specs.Sending.{IsNewTx}
 use Rattle.pipe_driver.specs.Drivers.{EachPipe, AreDistinct, inputs_of, outputs_of}
 use Rattle.eth_driver.specs.Four.{four_pipes}
-use Rattle.device_model.specs.EthDevices.Devices.{IsNewDevice, rx_free, rx_active, tx_active, tx_free}
-use Rattle.device_model.specs.declared.eth_device.EthDevice.{EthDevice}
+use Rattle.device_model.specs.Ethernet.Devices.{IsNewDevice, rx_free, rx_active, tx_active}
+use Rattle.device_model.specs.Ethernet.Devices.{tx_free}
+use Rattle.device_model.specs.declared.ethernet.EthDevice.{EthDevice}
 use Rattle.buffer_kit.specs.Virtualising.{from_queues, to_queues}
 use Rattle.buffer_kit.specs.declared.virt_ends.VirtEnds.{VirtEnds}
 use Rattle.net_virt_rx.specs.Receiving.{IsNewRx as IsNewNetRx, RxStandsFor as NetRxStandsFor}
@@ -26,13 +28,13 @@ use Rattle.net_virt_tx.specs.Sending.{IsNewTx as IsNewNetTx, TxStandsFor as NetT
 use Rattle.net_virt_tx.specs.declared.TxEnds.{TxEnds}
 use Rattle.net_virt_tx.specs.declared.NetVirtTx.{NetVirtTx}
 use Rattle.net_copier.specs.Copying.{IsNewCopier}
-use Rattle.client_programs.specs.NetClients.Clients.{IsNewClient}
-use Rattle.client_programs.specs.NetClients.Clients as client
-use Rattle.client_programs.specs.declared.net_client.NetClient.{NetClient}
-use Rattle.device_model.specs.DiskDevices.Disks.{IsNewDisk}
-use Rattle.client_programs.specs.BlkClients.Asking.{IsAsking}
-use Rattle.client_programs.specs.BlkClients.Clients.{IsNewBlkClient, BlkClientStandsFor}
-use Rattle.client_programs.specs.declared.blk_client.BlkClient.{BlkClient}
+use Rattle.client_programs.specs.Net.Clients.{IsNewClient}
+use Rattle.client_programs.specs.Net.Clients as client
+use Rattle.client_programs.specs.declared.net.NetClient.{NetClient}
+use Rattle.device_model.specs.Disk.Disks.{IsNewDisk}
+use Rattle.client_programs.specs.Blk.Asking.{IsAsking}
+use Rattle.client_programs.specs.Blk.Clients.{IsNewBlkClient, BlkClientStandsFor}
+use Rattle.client_programs.specs.declared.blk.BlkClient.{BlkClient}
 use Rattle.blk_driver.specs.declared.BlkDriver.{BlkDriver}
 use Rattle.blk_virt.specs.Works.{IsWork}
 use Rattle.blk_virt.specs.Virtualising.{IsNewBlkVirt, BlkVirtStandsFor}

@@ -4,13 +4,15 @@ ghost use Rattle.std.specs.Prelude.{◌≡◌, ℕ, IfOk, OnErr};
 ghost use Rattle.wire_core.specs.Ends.{role_of, Role, End};
 ghost use Rattle.wire_core.specs.Lists.{Passed, Stepped};
 ghost use Rattle.cargo_core.specs.Bodies.{buffers_of};
-ghost use Rattle.actor_set.specs.Actors.{FitsActor, ActorStandsFor, ActorRow, ActorBalances, ActorEnd, ActorTurned, IsWhole, Forgot, actor_rests, actor_hand, part_of, record_length, bad_of, actor_lent};
+ghost use Rattle.actor_set.specs.Actors.{FitsActor, ActorStandsFor, ActorRow, ActorBalances};
+ghost use Rattle.actor_set.specs.Actors.{ActorEnd, ActorTurned, IsWhole, Forgot, actor_rests};
+ghost use Rattle.actor_set.specs.Actors.{actor_hand, part_of, record_length, bad_of, actor_lent};
 
 use crate::Disk;
 use blk_driver::BlkDriver;
 use blk_virt::BlkVirt;
 use cargo_core::{Memory, PoolId};
-use client_programs::blk_client::BlkClient;
+use client_programs::blk::BlkClient;
 use client_programs::{NetClient, SerialClient};
 use device_model::{EthDevice, UartDevice};
 use eth_driver::EthDriver;
@@ -196,14 +198,14 @@ pub fn row_law()
     pipe_driver::row_law();
     serial_virt::rx_row_law();
     serial_virt::tx_row_law();
-    device_model::eth_device::row_law();
+    device_model::ethernet::row_law();
     net_virt_rx::row_law();
     net_copier::row_law();
-    client_programs::net_client::row_law();
+    client_programs::net::row_law();
     net_virt_tx::row_law();
-    device_model::disk_device::row_law();
+    device_model::disk::row_law();
     blk_virt::row_law();
-    client_programs::blk_client::row_law();
+    client_programs::blk::row_law();
 }
 
 /// For each pool, what an actor had at the start and what came is what went, what is in its hand,
@@ -215,12 +217,12 @@ pub fn hand_law()
     pipe_driver::hand_law();
     serial_virt::rx_hand_law();
     serial_virt::tx_hand_law();
-    device_model::eth_device::hand_law();
+    device_model::ethernet::hand_law();
     net_virt_rx::hand_law();
     net_copier::hand_law();
-    client_programs::net_client::hand_law();
+    client_programs::net::hand_law();
     net_virt_tx::hand_law();
-    device_model::disk_device::hand_law();
+    device_model::disk::hand_law();
     blk_virt::hand_law();
-    client_programs::blk_client::hand_law();
+    client_programs::blk::hand_law();
 }

@@ -2,10 +2,10 @@
 
 ghost use Rattle.std.specs.Prelude.{◌≡◌};
 ghost use Rattle.wire_core.specs.Lists.{nothing_passed};
-ghost use Rattle.device_model.specs.DiskDevices.Disks.{IsNewDisk, DiskStandsFor};
+ghost use Rattle.device_model.specs.Disk.Disks.{IsNewDisk, DiskStandsFor};
 
 use cargo_core::Bytes;
-use device_model::disk_device::DiskDevice;
+use device_model::disk::DiskDevice;
 use std::snapshot::Snapshot;
 use wire_core::QueueId;
 

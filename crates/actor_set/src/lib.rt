@@ -1,10 +1,11 @@
-//! One type for the actors of all kinds.
+//! One type for the actors of all kinds, the laws that tie what an actor keeps and does to what is
+//! said of its part, and what a system takes over from actors that were at work elsewhere.
 #![tactic(auto)]
 
 mod actor;
-pub mod actor_law;
-pub mod adopt_law;
+pub mod adopting;
 mod disk;
+pub mod laws;
 
 pub use actor::{Actor, hand_law, row_law};
 pub use disk::Disk;

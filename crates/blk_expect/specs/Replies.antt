@@ -1,5 +1,6 @@
 -- What a block client must get: a replay of its requests on its own partition alone.
-use Rattle.std.specs.Prelude.{◌≡◌, ℕ, ◌+◌, ◌*◌, ◌/◌, Bool, true, Option, Some, None, List, [], ◌∷◌, length, take}
+use Rattle.std.specs.Prelude.{◌≡◌, ℕ, ◌+◌, ◌*◌, ◌/◌, Bool, true, Option, Some, None, List, [], ◌∷◌}
+use Rattle.std.specs.Prelude.{length, take}
 use Rattle.cargo_core.specs.declared.item.Ask.{Ask}
 use Rattle.cargo_core.specs.declared.item.Reply.{Reply}
 use Rattle.cargo_core.specs.declared.item.Code.{Code}
@@ -76,4 +77,5 @@ partition_in image entry = part_of (take 512 image) (length image / 512) entry
 -- at the start: whatever others ask for doesn't matter
 abbrev pub replies_of : List ℕ → ℕ → List Ask → List Reply
 replies_of image entry asks =
-    replies_from (partition_in image entry) (partition_bytes (partition_in image entry) image) 0 asks
+    replies_from (partition_in image entry)
+    (partition_bytes (partition_in image entry) image) 0 asks

@@ -1,6 +1,7 @@
 //! What a block client must get for its requests: a plain program for tests.
 ghost use Rattle.std.specs.Prelude.{◌≡◌, ◌<◌, ◌≤◌, ◌/◌, ◌^◌, true, length, IfOk};
-ghost use Rattle.blk_expect.specs.Replies.{HasBytes, has_partition, partition_in, partition_bytes, status_to, reply_of, left_by, replies_from, replies_of};
+ghost use Rattle.blk_expect.specs.Replies.{HasBytes, has_partition, partition_in, partition_bytes};
+ghost use Rattle.blk_expect.specs.Replies.{status_to, reply_of, left_by, replies_from, replies_of};
 
 use crate::judge;
 use blk_kit::{BLOCK_BYTES, blocks_at, moved_blocks};

@@ -13,7 +13,7 @@ use Rattle.wire_core.specs.Deeds.{Cargo}
 use Rattle.blk_kit.specs.Blocks.{has_blocks, blocks_at, with_blocks}
 use Rattle.blk_kit.specs.Pages.{carried_blocks}
 use Rattle.blk_kit.proofs.Runs.{write_above, write_below}
-use Rattle.device_model.specs.DiskDevices.Serving.{done, stored}
+use Rattle.device_model.specs.Disk.Serving.{done, stored}
 use Rattle.blk_law.specs.Runs.{IsBeside, TouchesNone}
 
 -- a body carries at most so many blocks

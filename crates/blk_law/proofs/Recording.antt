@@ -20,8 +20,8 @@ use Rattle.blk_mbr.specs.declared.part.Part.{Part}
 use Rattle.blk_expect.specs.Judging.{can_move, status_of}
 use Rattle.blk_expect.specs.Replies.{HasBytes, bytes_left, bytes_read, left_by, replies_from, reply_of, status_to}
 use Rattle.buffer_kit.specs.Entries.{first_bytes}
-use Rattle.client_programs.specs.BlkClients.Asking.{replies_to, reply_to, read_blocks}
-use Rattle.device_model.specs.DiskDevices.Serving.{body_back, stored}
+use Rattle.client_programs.specs.Blk.Asking.{replies_to, reply_to, read_blocks}
+use Rattle.device_model.specs.Disk.Serving.{body_back, stored}
 use Rattle.blk_law.specs.Replying.{AreAsked, Carries, IsAskedBy, answer_as, client_answers, judged, left_as}
 
 -- blocks that can be moved are in the partition

@@ -12,7 +12,7 @@ use Rattle.wire_core.specs.Deeds.{Cargo}
 use Rattle.blk_kit.specs.Pages.{carried_blocks}
 use Rattle.blk_mbr.specs.declared.part.Part.{Part}
 use Rattle.blk_expect.specs.Replies.{HasBytes, has_partition, partition_bytes, partition_in, replies_of}
-use Rattle.client_programs.specs.BlkClients.Asking.{asked_bare, asked_from, asked_in, needs_buffer, page_for, replies_to, reply_to, written}
+use Rattle.client_programs.specs.Blk.Asking.{asked_bare, asked_from, asked_in, needs_buffer, page_for, replies_to, reply_to, written}
 use Rattle.blk_law.specs.Replying.{AreAsked, AreSized, Carries, HaveRoom, IsAsked, IsSized, RecordsReplies, client_answers}
 use Rattle.blk_law.proofs.Recording.{blocks_long, recorded}
 

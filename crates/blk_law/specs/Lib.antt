@@ -1,7 +1,9 @@
--- What the laws of the block class say.
+-- What the laws of the block class say: of a run of blocks (Runs) and of replies (Replying,
+-- Records), of the tables of its actors (Sheets), of the owners of buffers (Owners), and of how
+-- often entries are moved (Hops).
 pub mod Runs
 pub mod Replying
-pub mod BlkRecordLaw
-pub mod BlkParts
-pub mod BlkHops
-pub mod BlkOwners
+pub mod Records
+pub mod Sheets
+pub mod Hops
+pub mod Owners

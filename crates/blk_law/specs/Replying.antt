@@ -17,8 +17,8 @@ use Rattle.blk_kit.specs.Pages.{has_room, carried_blocks}
 use Rattle.blk_mbr.specs.declared.part.Part.{Part}
 use Rattle.blk_expect.specs.Judging.{status_of}
 use Rattle.blk_expect.specs.Replies.{partition_bytes, partition_in, replies_of}
-use Rattle.client_programs.specs.BlkClients.Asking.{asked_from, replies_to}
-use Rattle.device_model.specs.DiskDevices.Serving.{answer_to, done}
+use Rattle.client_programs.specs.Blk.Asking.{asked_from, replies_to}
+use Rattle.device_model.specs.Disk.Serving.{answer_to, done}
 use Rattle.blk_law.specs.Runs.{id_of}
 
 -- how a client's own request is judged; an entry that is no request is invalid
@@ -67,6 +67,7 @@ pub record IsAskedBy (id : ℕ) (a : Ask) (q : BlkReq) (body : Body) : Type 0 wh
   pub count : q.count ≡ a.count
   pub carries : Carries a.code a body
 
+-- the entry asks this under this id; one that is no request asks nothing
 abbrev pub IsAsked : ℕ → Ask → Cargo → Type 0
 IsAsked id a (ItemOf.Req q, body) = IsAskedBy id a q body
 IsAsked id a (ItemOf.Net d, body) = ⊥
@@ -87,6 +88,7 @@ IsSized Asked.Write a = (a.count ≤ 8) × (length a.fill ≡ a.count * 4096)
 IsSized Asked.Flush a = Unit {0}
 IsSized Asked.Barrier a = Unit {0}
 
+-- each thing that is asked has a size that a buffer takes
 abbrev pub AreSized : List Ask → Type 0
 AreSized asks = All (λ (a : Ask). IsSized a.code a) asks
 

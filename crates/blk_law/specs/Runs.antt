@@ -1,6 +1,7 @@
 -- A run of a disk's blocks, such as a partition, that the requests of one client alone touch: to
 -- that client it is a disk of its own.
-use Rattle.std.specs.Prelude.{◌≡◌, ◌+◌, ◌≤◌, ◌<◌, ℕ, Bool, false, Some, if◌then◌else◌, List, [], ◌∷◌, All}
+use Rattle.std.specs.Prelude.{◌≡◌, ◌+◌, ◌≤◌, ◌<◌, ℕ, Bool, false, Some, if◌then◌else◌, List, []}
+use Rattle.std.specs.Prelude.{◌∷◌, All}
 use Rattle.std.specs.List.{AllZip, filter}
 use Rattle.cargo_core.specs.declared.item.BlkReq.{BlkReq}
 use Rattle.cargo_core.specs.declared.item.Code.{Code}
@@ -11,7 +12,7 @@ use Rattle.wire_core.specs.Deeds.{Cargo}
 use Rattle.blk_kit.specs.Blocks.{blocks_at}
 use Rattle.blk_mbr.specs.declared.part.Part.{Part}
 use Rattle.blk_mbr.specs.Partitions.{part_of}
-use Rattle.device_model.specs.DiskDevices.Serving.{answer_to, answers_to, done}
+use Rattle.device_model.specs.Disk.Serving.{answer_to, answers_to, done}
 
 -- of a disk's answers to the entries that it takes, those to the entries that pass a test
 abbrev pub answers_for : (Cargo → Bool) → List ℕ → List Cargo → List Cargo
@@ -73,8 +74,8 @@ IsInside first count (ItemOf.Resp r, body) = Unit {0}
 abbrev pub OthersBeside : (Cargo → Bool) → ℕ → ℕ → List Cargo → Type 0
 OthersBeside own first count xs = All (λ (x : Cargo). own x ≡ false → IsBeside first count x) xs
 
--- a request of the disk asks for the blocks that another asks of the run: a read or a write is all in
--- the run
+-- a request of the disk asks for the blocks that another asks of the run: a read or a write is all
+-- in the run
 abbrev pub IsMoved : Code → ℕ → ℕ → BlkReq → BlkReq → Type 0
 IsMoved Asked.Read first count r q =
     (r.block ≡ first + q.block) × (r.count ≡ q.count) × (q.block + q.count ≤ count)

@@ -1,4 +1,7 @@
-//! Laws of the block class, over the definitions of its actors and apart from any system.
+//! Laws of the block class, over the definitions of its actors and apart from any system: a
+//! partition is a disk of its own to its client; at any moment each client recorded a beginning of
+//! what it must get; the table of the actors, and when each is at rest; who has which buffer; and
+//! how often entries are moved.
 #![tactic(auto)]
 
 ghost use Rattle.std.specs.Prelude.{◌≡◌, ℕ, Bool, true, List};
@@ -9,11 +12,11 @@ ghost use Rattle.blk_law.specs.Replying.{AreSized, RecordsReplies};
 ghost use Rattle.blk_law.specs.Runs.{ArePartsApart, IsItsOwnDisk};
 ghost use Rattle.cargo_core.specs.declared.item.Ask.{Ask};
 
-pub mod blk_hops;
-pub mod blk_owners;
-pub mod blk_parts;
-pub mod blk_record_law;
-pub mod blk_rests;
+pub mod hops;
+pub mod owners;
+pub mod records;
+pub mod rests;
+pub mod sheets;
 
 /// A run of blocks that a disk has is a disk of its own to those whose requests alone touch it.
 pub fn own_disk_law()

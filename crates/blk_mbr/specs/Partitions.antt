@@ -1,10 +1,13 @@
 -- Which partitions a table gives: all are refused where the table can't be trusted, and one where
 -- its own entry can't be used.
-use Rattle.std.specs.Prelude.{◌≡◌, ℕ, ◌+◌, ◌*◌, ◌/◌, ◌%◌, ◌<◌, ◌≤◌, ◌==◌, ◌&&◌, not, max, min, nat_le, nat_lt, Bool, true, Option, Some, None, if◌then◌else◌, List, [], ◌∷◌, map}
+use Rattle.std.specs.Prelude.{◌≡◌, ℕ, ◌+◌, ◌*◌, ◌/◌, ◌%◌, ◌<◌, ◌≤◌, ◌==◌, ◌&&◌, not, max, min}
+use Rattle.std.specs.Prelude.{nat_le, nat_lt, Bool, true, Option, Some, None, if◌then◌else◌, List}
+use Rattle.std.specs.Prelude.{[], ◌∷◌, map}
 use Rattle.std.specs.List.{list_all, list_any}
 use Rattle.blk_mbr.specs.declared.entry.Entry.{Entry}
 use Rattle.blk_mbr.specs.declared.part.Part.{Part}
-use Rattle.blk_mbr.specs.Sectors.{entry_of, entries_of, is_signed, is_used, is_protective, is_extended}
+use Rattle.blk_mbr.specs.Sectors.{entry_of, entries_of, is_signed, is_used, is_protective}
+use Rattle.blk_mbr.specs.Sectors.{is_extended}
 
 -- the sectors of an entry begin at its first one, and end before this one
 abbrev pub end_of : Entry → ℕ

@@ -1,6 +1,7 @@
 -- The first sector of a disk: its signature, and the four entries of its partition table. From the
 -- master boot record as disks have it.
-use Rattle.std.specs.Prelude.{ℕ, ◌+◌, ◌*◌, ◌==◌, ◌&&◌, ◌||◌, not, Bool, List, [], ◌∷◌, map, slice_index}
+use Rattle.std.specs.Prelude.{ℕ, ◌+◌, ◌*◌, ◌==◌, ◌&&◌, ◌||◌, not, Bool, List, [], ◌∷◌, map}
+use Rattle.std.specs.Prelude.{slice_index}
 use Rattle.std.specs.Int.{w32, from_le_bytes}
 use Rattle.blk_mbr.specs.declared.entry.Entry.{Entry}
 

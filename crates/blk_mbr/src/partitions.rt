@@ -2,7 +2,8 @@
 ghost use Rattle.std.specs.Prelude.{◌≡◌, ◌↔◌, ◌<◌, ℕ, Some, List, not, slice_get};
 ghost use Rattle.std.specs.List.{list_all, list_any};
 ghost use Rattle.blk_mbr.specs.Sectors.{is_signed, is_protective};
-ghost use Rattle.blk_mbr.specs.Partitions.{do_clash, are_apart, is_trusted, given_part, part_of, partitions_of, IsPartition};
+ghost use Rattle.blk_mbr.specs.Partitions.{do_clash, are_apart, is_trusted, given_part, part_of};
+ghost use Rattle.blk_mbr.specs.Partitions.{partitions_of, IsPartition};
 ghost use Rattle.blk_mbr.specs.declared.part.Part.{Part};
 
 use crate::entry::SECTOR_BYTES;

@@ -21,19 +21,19 @@ use Rattle.play_core.proofs.Merges.{merge_total, prefix_merge_whole}
 use Rattle.play_core.proofs.Walks.{begins_few, needs_as, drained, paid}
 use Rattle.blk_expect.specs.Replies.{partition_in}
 use Rattle.blk_virt.specs.Requests.{request_of}
-use Rattle.net_law.specs.NetOwners.Names.{PoolAt}
-use Rattle.net_law.specs.NetParts.Parts.{Way}
-use Rattle.net_law.specs.NetParts.Rows.{AllCopy}
-use Rattle.net_law.specs.NetParts.Table.{is_short}
-use Rattle.net_law.proofs.NetParts.Pairs.{twice, pair_first, pair_second}
-use Rattle.owner_law.proofs.PoolLaw.Merging.{kept_is}
-use Rattle.net_law.specs.NetTxParts.Numbers.{own_pool}
+use Rattle.net_law.specs.Owners.Names.{PoolAt}
+use Rattle.net_law.specs.Parts.Parts.{Way}
+use Rattle.net_law.specs.Parts.Rows.{AllCopy}
+use Rattle.net_law.specs.Parts.Table.{is_short}
+use Rattle.net_law.proofs.PartsLemmas.Pairs.{twice, pair_first, pair_second}
+use Rattle.owner_law.proofs.PoolsLemmas.Merging.{kept_is}
+use Rattle.net_law.specs.TxParts.Numbers.{own_pool}
 use Rattle.net_quiet.proofs.Listing.{keeps}
-use Rattle.blk_law.specs.BlkParts.Parts.{Sharer}
-use Rattle.blk_law.specs.BlkParts.Numbers.{BlkPlace, IsBlkClientOf, disk_at, blk_driver_at, virt_at, blk_client_at}
-use Rattle.blk_law.specs.BlkParts.Rows.{AsksInOrder, ServesRequests, all_requests, answer_item, answers_due, buffers_for, client_requests, goes_on_item, is_item_at, item_for_disk, items_back, numbered_item, requests_due, requests_on}
-use Rattle.blk_law.specs.BlkParts.Table.{blk_sheet}
-use Rattle.blk_law.proofs.BlkHops.Sharers.{clients_of, sharer, sharer_is, sharer_there, sharers_long}
+use Rattle.blk_law.specs.Sheets.Parts.{Sharer}
+use Rattle.blk_law.specs.Sheets.Numbers.{BlkPlace, IsBlkClientOf, disk_at, blk_driver_at, virt_at, blk_client_at}
+use Rattle.blk_law.specs.Sheets.Rows.{AsksInOrder, ServesRequests, all_requests, answer_item, answers_due, buffers_for, client_requests, goes_on_item, is_item_at, item_for_disk, items_back, numbered_item, requests_due, requests_on}
+use Rattle.blk_law.specs.Sheets.Table.{blk_sheet}
+use Rattle.blk_law.proofs.HopsLemmas.Sharers.{clients_of, sharer, sharer_is, sharer_there, sharers_long}
 use Rattle.blk_quiet.specs.Still.{IsBlock, AnswersAll}
 use Rattle.blk_quiet.proofs.Counting.{drop_same, drop_most, drop_less, back_long, answers_long, request_at, numbered_long, asked_few, asked_more}
 

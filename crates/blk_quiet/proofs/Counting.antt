@@ -10,10 +10,10 @@ use Rattle.cargo_core.specs.declared.item.Code.TheVariants as Asked
 use Rattle.cargo_core.specs.declared.item.Item.{Item}
 use Rattle.cargo_core.specs.Ranges.{is_within}
 use Rattle.blk_mbr.specs.declared.part.Part.{Part}
-use Rattle.client_programs.specs.BlkClients.Asking.{needs_buffer, request_for}
+use Rattle.client_programs.specs.Blk.Asking.{needs_buffer, request_for}
 use Rattle.blk_virt.specs.Requests.{request_of, asked_of_disk, first_block, moves_blocks}
-use Rattle.net_law.specs.NetOwners.Names.{PoolAt}
-use Rattle.blk_law.specs.BlkParts.Rows.{answer_items, asked_items, buffers_for, goes_on_item, is_item_at, item_for_disk, items_back, numbered_item, passed_item, refusal_item, IsRequestIn}
+use Rattle.net_law.specs.Owners.Names.{PoolAt}
+use Rattle.blk_law.specs.Sheets.Rows.{answer_items, asked_items, buffers_for, goes_on_item, is_item_at, item_for_disk, items_back, numbered_item, passed_item, refusal_item, IsRequestIn}
 use Rattle.blk_quiet.specs.Still.{range_of}
 
 pub drop_same : (xs ys : List Item) → length xs ≡ length ys → length (drop 1 xs) ≡ length (drop 1 ys)

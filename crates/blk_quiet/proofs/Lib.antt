@@ -1,4 +1,5 @@
+-- The proofs on the whole block class, at any moment and where nobody is runnable.
 pub mod Counting
 pub mod Answering
-pub mod BlkCast
-pub mod BlkPools
+pub mod CastLemmas
+pub mod PoolsLemmas

@@ -1,4 +1,5 @@
--- The block class where nobody is runnable.
+-- The whole block class where nobody is runnable (Still), and at any moment: at the layout's queues
+-- (Cast), and its pools (Pools).
 pub mod Still
-pub mod BlkCast
-pub mod BlkPools
+pub mod Cast
+pub mod Pools

@@ -11,10 +11,11 @@ use Rattle.play_core.specs.Sheets.{Scene}
 use Rattle.play_core.specs.Still.{Plays, Holds}
 use Rattle.play_core.specs.Totals.{total}
 use Rattle.play_core.specs.Wants.{Needful}
-use Rattle.net_law.specs.NetOwners.Names.{PoolAt}
-use Rattle.blk_law.specs.BlkParts.Numbers.{BlkPlace, IsBlkClientOf, disk_at, blk_driver_at, virt_at, blk_client_at, sharers_from}
-use Rattle.blk_law.specs.BlkParts.Rows.{all_requests}
-use Rattle.blk_law.specs.BlkParts.Table.{blk_sheet}
+use Rattle.net_law.specs.Owners.Names.{PoolAt}
+use Rattle.blk_law.specs.Sheets.Numbers.{BlkPlace, IsBlkClientOf, disk_at, blk_driver_at, virt_at}
+use Rattle.blk_law.specs.Sheets.Numbers.{blk_client_at, sharers_from}
+use Rattle.blk_law.specs.Sheets.Rows.{all_requests}
+use Rattle.blk_law.specs.Sheets.Table.{blk_sheet}
 
 -- the device addresses of a pool's buffers, of 32,768 bytes each
 abbrev pub range_of : PoolAt → Range

@@ -1,4 +1,6 @@
-//! The block class where nobody is runnable: everything was asked, and everything is answered.
+//! The whole block class at the layout's queues. At any moment nothing comes out of turn there, and
+//! its actors have of each pool what the table of owners says. Where nobody is runnable, everything
+//! was asked, and everything is answered.
 #![tactic(auto)]
 
 ghost use Rattle.std.specs.Prelude.{List};
@@ -9,11 +11,11 @@ ghost use Rattle.play_core.specs.Moved.{moved};
 ghost use Rattle.play_core.specs.Sheets.{Scene};
 ghost use Rattle.play_core.specs.Still.{IsStill};
 ghost use Rattle.play_core.specs.Wants.{Needful};
-ghost use Rattle.blk_law.specs.BlkParts.Numbers.{BlkPlace};
+ghost use Rattle.blk_law.specs.Sheets.Numbers.{BlkPlace};
 ghost use Rattle.blk_quiet.specs.Still.{IsBlock, AnswersAll};
 
-pub mod blk_cast;
-pub mod blk_pools;
+pub mod cast;
+pub mod pools;
 
 /// Where nobody is runnable, each client put all its requests and took a response to each.
 pub fn still_law()

@@ -1,3 +1,4 @@
+-- The proofs on what actors with buffers share.
 pub mod Addresses
 pub mod Filling
 pub mod Counts

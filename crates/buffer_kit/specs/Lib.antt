@@ -1,4 +1,6 @@
--- What the contracts that the actors of the network class share say.
+-- What the contracts that actors with buffers share say: of entries (Entries), pools and the
+-- buffers that are still to be given (Pools, Stocks), pipes that record (Recorders), and the ends
+-- of virtualisers (Virtualising).
 pub mod Entries
 pub mod Pools
 pub mod Stocks

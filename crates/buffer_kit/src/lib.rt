@@ -1,5 +1,6 @@
-//! What the actors of the network class share: the frame of an entry, buffers that are filled,
-//! buffers that are given at the start, pipes that record, and the ends of virtualisers.
+//! What the actors that hand on buffers share: what an entry of a network queue says and how its
+//! buffer is filled, buffers that are given at the start and how many of some are of a pool, pipes
+//! that record, and the ends of virtualisers.
 #![tactic(auto)]
 
 mod clients;

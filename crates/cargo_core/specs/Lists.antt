@@ -1,5 +1,6 @@
 -- Beginnings of lists, merges of several lists, and a list with some bytes replaced.
-use Rattle.std.specs.Prelude.{◌≡◌, ℕ, ◌+◌, List, [], ◌∷◌, ◌++◌, length, take, drop, slice_get, slice_set, Some}
+use Rattle.std.specs.Prelude.{◌≡◌, ℕ, ◌+◌, List, [], ◌∷◌, ◌++◌, length, take, drop, slice_get}
+use Rattle.std.specs.Prelude.{slice_set, Some}
 
 -- the first list is a beginning of the second
 abbrev pub IsPrefix : {T : Type 0} → List T → List T → Type 0

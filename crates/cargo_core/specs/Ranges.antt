@@ -1,5 +1,6 @@
 -- Ranges of addresses, one for each client, of which no two meet.
-use Rattle.std.specs.Prelude.{◌≡◌, ◌+◌, ◌≤◌, ◌^◌, ◌&&◌, ℕ, Bool, true, false, nat_le, nat_lt, Some, List, All, length, slice_get}
+use Rattle.std.specs.Prelude.{◌≡◌, ◌+◌, ◌≤◌, ◌^◌, ◌&&◌, ℕ, Bool, true, false, nat_le, nat_lt, Some}
+use Rattle.std.specs.Prelude.{List, All, length, slice_get}
 use Rattle.cargo_core.specs.declared.ranges.Range.{Range}
 
 -- an address is in a range

@@ -1,5 +1,6 @@
 //! Pages that are lent to several receivers, until the last of them returns them.
-ghost use Rattle.std.specs.Prelude.{◌≡◌, ◌<◌, ◌≤◌, IfOk, None, Some, length, replicate, slice_get, slice_set};
+ghost use Rattle.std.specs.Prelude.{◌≡◌, ◌<◌, ◌≤◌, IfOk, None, Some, length, replicate, slice_get};
+ghost use Rattle.std.specs.Prelude.{slice_set};
 ghost use Rattle.cargo_core.specs.Pages.{Paged};
 ghost use Rattle.cargo_core.specs.Loans.{Loan, receivers_at, after_return, page_back, page_at};
 

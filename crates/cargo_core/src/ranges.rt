@@ -1,5 +1,6 @@
 //! The ranges of device addresses that the clients have, by which an address tells its client.
-ghost use Rattle.std.specs.Prelude.{◌≡◌, ◌+◌, ◌<◌, ◌≤◌, ◌^◌, ◌++◌, ◌∷◌, [], All, length, slice_get, OnOk, OnErr, MatchOption, Some};
+ghost use Rattle.std.specs.Prelude.{◌≡◌, ◌+◌, ◌<◌, ◌≤◌, ◌^◌, ◌++◌, ◌∷◌, [], All, length, slice_get};
+ghost use Rattle.std.specs.Prelude.{OnOk, OnErr, MatchOption, Some};
 ghost use Rattle.cargo_core.specs.Ranges.{IsApart, IsOwner, IsNobodys, is_within};
 
 use crate::Memory;

@@ -17,12 +17,12 @@ use Rattle.trace_text.specs.declared.trace.Trace.{Trace}
 use Rattle.trace_text.specs.Events.{blk_clients}
 use Rattle.trace_text.specs.Traces.{per_client}
 use Rattle.region_layout.specs.Rows.{queues_of}
-use Rattle.blk_law.specs.BlkParts.Numbers.{BlkPlace}
-use Rattle.blk_law.specs.BlkHops.Hops.{blk_put, blk_moves, IsBlock}
-use Rattle.blk_law.proofs.BlkHops.Moves.{blk_moved}
+use Rattle.blk_law.specs.Sheets.Numbers.{BlkPlace}
+use Rattle.blk_law.specs.Hops.Hops.{blk_put, blk_moves, IsBlock}
+use Rattle.blk_law.proofs.HopsLemmas.Moves.{blk_moved}
 use Rattle.actor_set.specs.Parts.{Part}
-use Rattle.actor_set.specs.ActorLaw.Kinds.{sheet, scene_of, hostiles}
-use Rattle.actor_set.proofs.ActorLaw.Calm.{calm_actor, calm_row}
+use Rattle.actor_set.specs.Laws.Kinds.{sheet, scene_of, hostiles}
+use Rattle.actor_set.proofs.LawsLemmas.Calm.{calm_actor, calm_row}
 use Rattle.wired_law.specs.Wiring.{HasPart, HasBlk}
 use Rattle.expect_core.specs.Expected.{client_entry}
 use Rattle.cast_core.specs.Sources.{first_blk}

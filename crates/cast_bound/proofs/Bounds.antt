@@ -13,10 +13,10 @@ use Rattle.region_layout.specs.Rows.{queues_of, actors_of}
 use Rattle.expect_core.specs.Budgets.{budget_of}
 use Rattle.serial_law.specs.Serial.{SerialClass, IsSerial}
 use Rattle.serial_law.specs.Table.{serial_sheet}
-use Rattle.serial_law.proofs.SerialHops.Moves.{serial_moves}
+use Rattle.serial_law.proofs.HopsLemmas.Moves.{serial_moves}
 use Rattle.actor_set.specs.Parts.{Part}
-use Rattle.actor_set.specs.ActorLaw.Kinds.{hostiles}
-use Rattle.actor_set.proofs.ActorLaw.Calm.{calm_row}
+use Rattle.actor_set.specs.Laws.Kinds.{hostiles}
+use Rattle.actor_set.proofs.LawsLemmas.Calm.{calm_row}
 use Rattle.cast_bound.specs.PlayBound.Standing.{StandsFrom, Carries, serial_first, NetMoves, SerialMoves, without_serial, with_serial, BlkMoves}
 use Rattle.cast_bound.proofs.PlayBound.Bounding.{within_budget}
 use Rattle.cast_bound.proofs.PlayBound.Classes.{classes_within}

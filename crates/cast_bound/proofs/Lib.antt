@@ -1,3 +1,4 @@
+-- The proofs on the length of a play.
 pub mod Sources
 pub mod Networks
 pub mod Blocks

@@ -15,19 +15,19 @@ use Rattle.trace_text.specs.declared.trace.Trace.{Trace}
 use Rattle.trace_text.specs.Events.{net_clients}
 use Rattle.region_layout.specs.Rows.{queues_of, pools_of}
 use Rattle.buffer_kit.specs.Entries.{addr_of}
-use Rattle.net_law.specs.NetOwners.Names.{PoolAt, ClientPools}
-use Rattle.net_law.specs.NetTxParts.Numbers.{NetPlace}
-use Rattle.net_law.specs.NetTxParts.Rows.{in_range}
+use Rattle.net_law.specs.Owners.Names.{PoolAt, ClientPools}
+use Rattle.net_law.specs.TxParts.Numbers.{NetPlace}
+use Rattle.net_law.specs.TxParts.Rows.{in_range}
 use Rattle.actor_set.specs.Parts.{Part}
-use Rattle.actor_set.specs.ActorLaw.Kinds.{sheet, scene_of, hostiles}
-use Rattle.actor_set.proofs.ActorLaw.Calm.{calm_actor, calm_row}
+use Rattle.actor_set.specs.Laws.Kinds.{sheet, scene_of, hostiles}
+use Rattle.actor_set.proofs.LawsLemmas.Calm.{calm_actor, calm_row}
 use Rattle.wired_law.specs.Wiring.{HasPart, HasWhole}
 use Rattle.cast_core.specs.Sources.{pool_at, first_blk_pool}
 use Rattle.cast_core.specs.Casts.{client_pools, net_place, scene_for}
 use Rattle.cast_core.proofs.Listing.{value_is}
 use Rattle.cast_core.proofs.Rooms.{pools_apart, net_size}
-use Rattle.net_law.specs.NetHops.Hops.{net_put, net_moves, AreApart, IsNetwork}
-use Rattle.net_law.proofs.NetHops.Moves.{net_moved}
+use Rattle.net_law.specs.Hops.Hops.{net_put, net_moves, AreApart, IsNetwork}
+use Rattle.net_law.proofs.HopsLemmas.Moves.{net_moved}
 use Rattle.cast_bound.specs.PlayBound.Standing.{NetMoves, without_net, with_net}
 use Rattle.cast_bound.proofs.Sources.{place_is}
 

@@ -11,14 +11,14 @@ use Rattle.trace_text.specs.Events.{net_clients}
 use Rattle.trace_text.specs.Traces.{per_client}
 use Rattle.region_layout.specs.Rows.{pools_of, net_pools, blk_pools, net_client_pools, pool_in, each_client}
 use Rattle.region_layout.proofs.SameLemmas.{pools_same}
-use Rattle.client_programs.specs.NetClients.Programs.{program_with}
-use Rattle.client_programs.specs.declared.net_client.program.NetProgram.{NetProgram}
-use Rattle.client_programs.specs.declared.net_client.program.NetProgram.TheVariants as Programs
-use Rattle.net_law.specs.NetOwners.Names.{ClientPools}
+use Rattle.client_programs.specs.Net.Programs.{program_with}
+use Rattle.client_programs.specs.declared.net.program.NetProgram.{NetProgram}
+use Rattle.client_programs.specs.declared.net.program.NetProgram.TheVariants as Programs
+use Rattle.net_law.specs.Owners.Names.{ClientPools}
 use Rattle.cast_core.specs.Sources.{pool_at, client_kind}
 use Rattle.cast_core.specs.Casts.{client_pools, net_place}
 use Rattle.cast_core.proofs.Listing.{value_count}
-use Rattle.net_law.specs.NetHops.Hops.{script_frames}
+use Rattle.net_law.specs.Hops.Hops.{script_frames}
 use Rattle.cast_bound.specs.PlayBound.Standing.{IsPlaceOf}
 
 -- a value for each of a list is no more than what each element gives

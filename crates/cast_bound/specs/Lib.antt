@@ -1,2 +1,2 @@
--- This crate has no definitions of its own: its law speaks of those below it.
+-- What the laws on the length of a play say (PlayBound).
 pub mod PlayBound

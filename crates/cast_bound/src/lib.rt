@@ -1,5 +1,5 @@
-//! How long a play of a plan's actors is at most: what the actors that are made of a plan and a
-//! trace put to its queues is what the budget counts for them.
+//! How long a play is at most: what the actors of a plan and a trace put to its queues is what the
+//! budget counts for them, and the calls of a play are fewer than that budget.
 #![tactic(auto)]
 
 ghost use Rattle.std.specs.Prelude.{◌≡◌, ◌<◌, Some, List, [], length};
@@ -20,10 +20,11 @@ ghost use Rattle.expect_core.specs.Budgets.{budget_of};
 ghost use Rattle.serial_law.specs.Serial.{SerialClass, IsSerial};
 ghost use Rattle.serial_law.specs.Table.{serial_sheet};
 ghost use Rattle.actor_set.specs.Parts.{Part};
-ghost use Rattle.actor_set.specs.ActorLaw.Kinds.{sheet, scene_of, hostiles};
+ghost use Rattle.actor_set.specs.Laws.Kinds.{sheet, scene_of, hostiles};
 ghost use Rattle.wired_law.specs.Wiring.{HasWhole, HasBlk};
 ghost use Rattle.cast_core.specs.Casts.{net_place, blk_place, scene_for};
-ghost use Rattle.cast_bound.specs.PlayBound.Standing.{StandsFrom, Carries, serial_first, NetMoves, SerialMoves, BlkMoves};
+ghost use Rattle.cast_bound.specs.PlayBound.Standing.{StandsFrom, Carries, serial_first, NetMoves};
+ghost use Rattle.cast_bound.specs.PlayBound.Standing.{SerialMoves, BlkMoves};
 
 pub mod play_bound;
 

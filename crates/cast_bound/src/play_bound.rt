@@ -15,8 +15,8 @@ ghost use Rattle.expect_core.specs.Budgets.{counts_of, hops_of, budget_of};
 ghost use Rattle.cast_bound.specs.PlayBound.Standing.{NetMoves, SerialMoves, BlkMoves};
 
 /// Where no more was put to the queues of a plan than the hops that its budget counts, a journal
-/// that is legal and brisk is shorter than the budget. No more is put where each class that the plan
-/// has puts no more than its entries have to be moved.
+/// that is legal and brisk is shorter than the budget. No more is put where each class that the
+/// plan has puts no more than its entries have to be moved.
 pub fn bound_law()
     ensures bounded { (plan : Plan) (trace : Trace) (hostile : Hostiles) (history : History)
         (journal : List Entry) → Valid plan → AreCalm hostile (queues_of plan)

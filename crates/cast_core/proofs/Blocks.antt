@@ -25,13 +25,13 @@ use Rattle.blk_virt.specs.declared.client.Client.{Client}
 use Rattle.blk_virt.specs.declared.requests.Holder.{Holder}
 use Rattle.blk_virt.specs.declared.virtualiser.BlkEnds.{BlkEnds}
 use Rattle.blk_virt.specs.declared.virtualiser.BlkVirt.{BlkVirt}
-use Rattle.client_programs.specs.BlkClients.Asking.{IsAsking}
-use Rattle.client_programs.specs.BlkClients.Clients.{IsNewBlkClient, BlkClientStandsFor}
-use Rattle.client_programs.specs.declared.blk_client.BlkClient.{BlkClient}
-use Rattle.net_law.specs.NetOwners.Names.{PoolAt}
-use Rattle.blk_law.specs.BlkParts.Parts.{BlkVirt as VirtPart, BlkClient as ClientPart, Sharer}
-use Rattle.blk_law.specs.BlkParts.Numbers.{sharers_from, blk_client_at}
-use Rattle.blk_law.specs.BlkParts.Playing.{sharers, holder_pool, virt_part, blk_client_part}
+use Rattle.client_programs.specs.Blk.Asking.{IsAsking}
+use Rattle.client_programs.specs.Blk.Clients.{IsNewBlkClient, BlkClientStandsFor}
+use Rattle.client_programs.specs.declared.blk.BlkClient.{BlkClient}
+use Rattle.net_law.specs.Owners.Names.{PoolAt}
+use Rattle.blk_law.specs.Sheets.Parts.{BlkVirt as VirtPart, BlkClient as ClientPart, Sharer}
+use Rattle.blk_law.specs.Sheets.Numbers.{sharers_from, blk_client_at}
+use Rattle.blk_law.specs.Sheets.Playing.{sharers, holder_pool, virt_part, blk_client_part}
 use Rattle.actor_set.specs.StartStates.{IsNewServer, IsNewAsker}
 use Rattle.trace_text.specs.Traces.{per_client}
 use Rattle.sdf_plan.specs.declared.plan.Plan.{Plan}

@@ -30,7 +30,7 @@ use Rattle.trace_text.specs.Traces.{IsReadFor}
 use Rattle.trace_text.specs.Shapes.{IsFrame, IsDisk}
 use Rattle.trace_text.proofs.Limits.{limits_kept}
 use Rattle.trace_text.proofs.Shapes.{shapes-read}
-use Rattle.layout_laws.specs.JobLaw.Jobs.{Job, HasJob}
+use Rattle.layout_laws.specs.Jobs.Jobs.{Job, HasJob}
 use Rattle.actor_set.specs.Actors.{part_of}
 use Rattle.actor_set.specs.StartStates.{IsNew}
 use Rattle.actor_set.specs.declared.actor.Actor.{Actor}

@@ -32,18 +32,18 @@ use Rattle.net_virt_tx.specs.Sending.{IsNewTx, TxStandsFor, FitsClients, sender_
 use Rattle.net_virt_tx.specs.Traffics.{senders}
 use Rattle.net_virt_tx.specs.declared.TxEnds.{TxEnds}
 use Rattle.net_virt_tx.specs.declared.NetVirtTx.{NetVirtTx}
-use Rattle.client_programs.specs.NetClients.Clients.{IsNewClient}
-use Rattle.client_programs.specs.NetClients.Programs.{program_with}
-use Rattle.client_programs.specs.declared.net_client.program.NetProgram.{NetProgram}
-use Rattle.client_programs.specs.declared.net_client.program.ClientProgram.{ClientProgram}
-use Rattle.client_programs.specs.declared.net_client.NetClient.{NetClient}
-use Rattle.net_law.specs.NetOwners.Names.{ClientPools}
-use Rattle.net_law.specs.NetParts.Parts.{NetDriver, NetReceiver, NetClient as ClientPart, Lessee, Way}
-use Rattle.net_law.specs.NetParts.Numbers.{client_first, lessees_from, receiver_at, client_at}
-use Rattle.net_law.specs.NetParts.Playing.{stock_pool, way_of, lessees, lessees_of, receiver_part, client_part}
-use Rattle.net_law.specs.NetTxParts.Parts.{SendPart, Shipper}
-use Rattle.net_law.specs.NetTxParts.Numbers.{own_pool, own_pools, shippers_from, sender_at}
-use Rattle.net_law.specs.NetTxParts.Playing.{sender_pool, shippers, send_part}
+use Rattle.client_programs.specs.Net.Clients.{IsNewClient}
+use Rattle.client_programs.specs.Net.Programs.{program_with}
+use Rattle.client_programs.specs.declared.net.program.NetProgram.{NetProgram}
+use Rattle.client_programs.specs.declared.net.program.ClientProgram.{ClientProgram}
+use Rattle.client_programs.specs.declared.net.NetClient.{NetClient}
+use Rattle.net_law.specs.Owners.Names.{ClientPools}
+use Rattle.net_law.specs.Parts.Parts.{NetDriver, NetReceiver, NetClient as ClientPart, Lessee, Way}
+use Rattle.net_law.specs.Parts.Numbers.{client_first, lessees_from, receiver_at, client_at}
+use Rattle.net_law.specs.Parts.Playing.{stock_pool, way_of, lessees, lessees_of, receiver_part, client_part}
+use Rattle.net_law.specs.TxParts.Parts.{SendPart, Shipper}
+use Rattle.net_law.specs.TxParts.Numbers.{own_pool, own_pools, shippers_from, sender_at}
+use Rattle.net_law.specs.TxParts.Playing.{sender_pool, shippers, send_part}
 use Rattle.trace_text.specs.Traces.{per_client}
 use Rattle.actor_set.specs.StartStates.{IsNewLender, IsNewSender, IsNewClientOf}
 use Rattle.sdf_plan.specs.declared.plan.Plan.{Plan}

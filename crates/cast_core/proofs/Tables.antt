@@ -17,11 +17,11 @@ use Rattle.region_layout.specs.Rows.{actors_of, queues_of, each_client}
 use Rattle.region_layout.proofs.ValidLemmas.{net_counts, serial_counts, blk_counts}
 use Rattle.layout_laws.proofs.Lists.{there_is, get-below, each-at, all-at, all-clients, all-class}
 use Rattle.play_core.proofs.Lists.{some_is}
-use Rattle.layout_laws.specs.JobLaw.Jobs as jobs
-use Rattle.layout_laws.specs.JobLaw.Jobs.{Post, post, HasJob, net_posts, net_client_posts, serial_posts, serial_client_posts, blk_posts, blk_client_posts, posts_of, job_if, device_jobs}
-use Rattle.layout_laws.specs.JobLaw.Queues.{Owners, one_way, both_ways, net_client_owners, net_owners, serial_client_owners, serial_owners, blk_owners, owners_of}
-use Rattle.layout_laws.proofs.JobLaw.Having.{one_actor, some_job}
-use Rattle.layout_laws.proofs.JobLaw.Owning.{owners_long, owners_there}
+use Rattle.layout_laws.specs.Jobs.Jobs as jobs
+use Rattle.layout_laws.specs.Jobs.Jobs.{Post, post, HasJob, net_posts, net_client_posts, serial_posts, serial_client_posts, blk_posts, blk_client_posts, posts_of, job_if, device_jobs}
+use Rattle.layout_laws.specs.Jobs.Queues.{Owners, one_way, both_ways, net_client_owners, net_owners, serial_client_owners, serial_owners, blk_owners, owners_of}
+use Rattle.layout_laws.proofs.JobsLemmas.Having.{one_actor, some_job}
+use Rattle.layout_laws.proofs.JobsLemmas.Owning.{owners_long, owners_there}
 use Rattle.cast_core.specs.declared.jobs.NetJob.{NetJob}
 use Rattle.cast_core.specs.declared.jobs.NetJob.TheVariants as OfNet
 use Rattle.cast_core.specs.declared.jobs.SerialJob.{SerialJob}

@@ -1,23 +1,29 @@
 -- What each actor of a plan is made of, by its job, and actors that are so made.
-use Rattle.std.specs.Prelude.{◌≡◌, ◌+◌, ◌*◌, ℕ, Option, Some, List, [], length, slice_get, unwrap_or}
+use Rattle.std.specs.Prelude.{◌≡◌, ◌+◌, ◌*◌, ℕ, Option, Some, List, [], length, slice_get}
+use Rattle.std.specs.Prelude.{unwrap_or}
 use Rattle.std.specs.Option.{option_map_or}
 use Rattle.sdf_plan.specs.declared.plan.Plan.{Plan}
 use Rattle.trace_text.specs.declared.trace.Trace.{Trace}
 use Rattle.trace_text.specs.Events.{net_clients, serial_clients, blk_clients}
 use Rattle.trace_text.specs.Traces.{per_client}
 use Rattle.region_layout.specs.Rows.{actors_of, pools_of}
-use Rattle.net_law.specs.NetOwners.Names.{PoolAt, ClientPools}
-use Rattle.net_law.specs.NetParts.Numbers.{device_at, driver_at, receiver_at, copier_at, client_at}
-use Rattle.net_law.specs.NetTxParts.Numbers.{NetPlace, own_pools, sender_at}
-use Rattle.blk_law.specs.BlkParts.Numbers.{BlkPlace, disk_at, blk_driver_at, virt_at, blk_client_at}
-use Rattle.actor_set.specs.Parts.{Part, UartPart, DriverPart, RxPart, TxPart, ClientPart, NetworkPart, SendingPart, BlockPart}
+use Rattle.net_law.specs.Owners.Names.{PoolAt, ClientPools}
+use Rattle.net_law.specs.Parts.Numbers.{device_at, driver_at, receiver_at, copier_at, client_at}
+use Rattle.net_law.specs.TxParts.Numbers.{NetPlace, own_pools, sender_at}
+use Rattle.blk_law.specs.Sheets.Numbers.{BlkPlace, disk_at, blk_driver_at, virt_at, blk_client_at}
+use Rattle.actor_set.specs.Parts.{Part, UartPart, DriverPart, RxPart, TxPart, ClientPart}
+use Rattle.actor_set.specs.Parts.{NetworkPart, SendingPart, BlockPart}
 use Rattle.actor_set.specs.Actors.{part_of}
 use Rattle.actor_set.specs.StartStates.{IsNew}
 use Rattle.actor_set.specs.declared.actor.Actor.{Actor}
 use Rattle.play_core.specs.Sheets.{Scene}
 use Rattle.expect_core.specs.Expected.{client_asks, client_entry}
-use Rattle.cast_core.specs.Sources.{every_second, first_serial, pool_at, pools_at, client_mac, client_program, first_blk, first_blk_pool}
-use Rattle.layout_laws.specs.JobLaw.Jobs.{Job, EthDevice, EthDriver, NetReceiver, NetSender, NetCopier, NetClient, UartDevice, UartDriver, SerialReceiver, SerialSender, SerialClient, DiskDevice, DiskDriver, BlkVirtualiser, BlkClient, HasJob}
+use Rattle.cast_core.specs.Sources.{every_second, first_serial, pool_at, pools_at, client_mac}
+use Rattle.cast_core.specs.Sources.{client_program, first_blk, first_blk_pool}
+use Rattle.layout_laws.specs.Jobs.Jobs.{Job, EthDevice, EthDriver, NetReceiver, NetSender}
+use Rattle.layout_laws.specs.Jobs.Jobs.{NetCopier, NetClient, UartDevice, UartDriver}
+use Rattle.layout_laws.specs.Jobs.Jobs.{SerialReceiver, SerialSender, SerialClient, DiskDevice}
+use Rattle.layout_laws.specs.Jobs.Jobs.{DiskDriver, BlkVirtualiser, BlkClient, HasJob}
 
 -- the pools of the network client of a number
 abbrev pub client_pools : Plan → ℕ → ClientPools

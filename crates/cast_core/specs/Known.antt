@@ -7,7 +7,7 @@ use Rattle.sdf_plan.specs.declared.plan.Plan.{Plan}
 use Rattle.sdf_plan.specs.declared.plan.Net.{Net as NetClass}
 use Rattle.sdf_plan.specs.declared.plan.Serial.{Serial as SerialClass}
 use Rattle.sdf_plan.specs.declared.plan.Blk.{Blk as BlkClass}
-use Rattle.layout_laws.specs.JobLaw.Jobs as jobs
+use Rattle.layout_laws.specs.Jobs.Jobs as jobs
 use Rattle.cast_core.specs.declared.jobs.NetJob.{NetJob}
 use Rattle.cast_core.specs.declared.jobs.NetJob.TheVariants as Net
 use Rattle.cast_core.specs.declared.jobs.SerialJob.{SerialJob}

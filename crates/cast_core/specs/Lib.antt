@@ -1,5 +1,6 @@
 -- The actors of a plan: what each is made of (Casts) and what it gets from the plan and a trace
--- (Sources), and inside, by which queue its job is known (Known), and what it is made from (Making).
+-- (Sources), and inside, by which queue its job is known (Known), and what it is made from
+-- (Making).
 pub mod Sources
 pub mod Casts
 pub mod Known

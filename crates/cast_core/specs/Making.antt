@@ -1,5 +1,6 @@
 -- What the network's actors are made from: pools, the queues of clients, and frames.
-use Rattle.std.specs.Prelude.{◌≡◌, ◌+◌, ◌*◌, ◌<◌, ◌≤◌, ◌^◌, ℕ, Some, List, All, length, replicate, slice_get}
+use Rattle.std.specs.Prelude.{◌≡◌, ◌+◌, ◌*◌, ◌<◌, ◌≤◌, ◌^◌, ℕ, Some, List, All, length, replicate}
+use Rattle.std.specs.Prelude.{slice_get}
 use Rattle.cargo_core.specs.declared.item.Ask.{Ask}
 use Rattle.cargo_core.specs.declared.ranges.Range.{Range}
 use Rattle.cargo_core.specs.Pages.{Paged}
@@ -7,7 +8,7 @@ use Rattle.cargo_core.specs.Ranges.{IsApart}
 use Rattle.wire_core.specs.declared.names.PoolRow.{PoolRow}
 use Rattle.sdf_plan.specs.declared.plan.Plan.{Plan}
 use Rattle.trace_text.specs.declared.trace.Trace.{Trace}
-use Rattle.net_law.specs.NetParts.Numbers.{client_first}
+use Rattle.net_law.specs.Parts.Numbers.{client_first}
 use Rattle.net_virt_rx.specs.declared.LeaseEnds.{LeaseEnds}
 use Rattle.net_virt_tx.specs.declared.TxEnds.{TxEnds}
 use Rattle.blk_virt.specs.declared.virtualiser.BlkEnds.{BlkEnds}

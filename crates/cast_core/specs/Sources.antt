@@ -1,6 +1,7 @@
 -- What a plan, the rows of its pools and a trace give each client of a class, by its number, and
 -- where the classes begin.
-use Rattle.std.specs.Prelude.{◌+◌, ◌*◌, ℕ, zero, suc, Bool, false, if◌then◌else◌, List, [], ◌∷◌, length, codes, slice_get, unwrap_or}
+use Rattle.std.specs.Prelude.{◌+◌, ◌*◌, ℕ, zero, suc, Bool, false, if◌then◌else◌, List, [], ◌∷◌}
+use Rattle.std.specs.Prelude.{length, codes, slice_get, unwrap_or}
 use Rattle.std.specs.Option.{option_map_or}
 use Rattle.cargo_core.specs.declared.item.Ask.{Ask}
 use Rattle.frame_core.specs.declared.mac.Mac.{Mac}
@@ -14,10 +15,10 @@ use Rattle.sdf_plan.specs.declared.plan.BlkClient.{BlkClient}
 use Rattle.trace_text.specs.declared.trace.Trace.{Trace}
 use Rattle.trace_text.specs.Events.{net_clients, blk_clients, is_source, runs}
 use Rattle.net_expect.specs.Expecting.{Program}
-use Rattle.client_programs.specs.NetClients.Programs.{program_with}
-use Rattle.client_programs.specs.declared.net_client.program.NetProgram.{NetProgram}
-use Rattle.client_programs.specs.declared.net_client.program.NetProgram.TheVariants as Programs
-use Rattle.net_law.specs.NetOwners.Names.{PoolAt, ClientPools}
+use Rattle.client_programs.specs.Net.Programs.{program_with}
+use Rattle.client_programs.specs.declared.net.program.NetProgram.{NetProgram}
+use Rattle.client_programs.specs.declared.net.program.NetProgram.TheVariants as Programs
+use Rattle.net_law.specs.Owners.Names.{PoolAt, ClientPools}
 
 -- so many queues, every second one from a number on
 abbrev pub every_second : ℕ → ℕ → List ℕ

@@ -1,7 +1,9 @@
 //! Which job an actor has, by the queues at which it stands.
 ghost use Rattle.std.specs.Prelude.{◌≡◌, ◌<◌, ◌≤◌, ◌+◌, ◌*◌, ℕ, length, MatchOption};
 ghost use Rattle.cast_core.specs.Sources.{first_serial, first_blk};
-ghost use Rattle.cast_core.specs.Known.{HasNetJob, HasNoNetJob, IsNoNetClient, HasSerialJob, HasNoSerialJob, IsNoSerialClient, HasBlkJob, HasRows, IsKnown};
+ghost use Rattle.cast_core.specs.Known.{HasNetJob, HasNoNetJob, IsNoNetClient, HasSerialJob};
+ghost use Rattle.cast_core.specs.Known.{HasNoSerialJob, IsNoSerialClient, HasBlkJob, HasRows};
+ghost use Rattle.cast_core.specs.Known.{IsKnown};
 
 use crate::shared::{first_blk, first_serial};
 use sdf_plan::Plan;

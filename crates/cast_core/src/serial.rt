@@ -1,5 +1,6 @@
 //! The actors of the serial class.
-ghost use Rattle.std.specs.Prelude.{◌≡◌, ◌<◌, ◌≤◌, ◌+◌, ◌*◌, [], Some, length, slice_get, unwrap_or, IfOk};
+ghost use Rattle.std.specs.Prelude.{◌≡◌, ◌<◌, ◌≤◌, ◌+◌, ◌*◌, [], Some, length, slice_get};
+ghost use Rattle.std.specs.Prelude.{unwrap_or, IfOk};
 ghost use Rattle.trace_text.specs.Events.{serial_clients};
 ghost use Rattle.actor_set.specs.Actors.{part_of, numbers};
 ghost use Rattle.actor_set.specs.Parts.{UartPart, DriverPart, RxPart, TxPart, ClientPart};

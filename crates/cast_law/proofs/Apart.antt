@@ -15,26 +15,26 @@ use Rattle.net_virt_tx.specs.declared.NetVirtTx.{NetVirtTx}
 use Rattle.net_virt_tx.specs.declared.client.Client.{Client as TxClient}
 use Rattle.net_virt_tx.specs.declared.descriptors.Sender.{Sender}
 use Rattle.net_virt_tx.specs.Traffics.{senders}
-use Rattle.net_law.specs.NetParts.Parts.{NetPart, NetDevice, NetDriver, NetReceiver, NetCopier as CopierPart, NetClient as NetClientPart, Way, Lessee}
-use Rattle.net_law.specs.NetOwners.Names.{PoolAt, ClientPools}
-use Rattle.net_law.specs.NetParts.Numbers.{driver_at, receiver_at}
-use Rattle.net_law.specs.NetParts.Playing.{lessees}
-use Rattle.net_law.specs.NetTxParts.Parts.{SendPart, Shipper}
-use Rattle.net_law.specs.NetTxParts.Playing.{shippers}
-use Rattle.net_law.specs.NetTxParts.Numbers.{sender_at}
+use Rattle.net_law.specs.Parts.Parts.{NetPart, NetDevice, NetDriver, NetReceiver, NetCopier as CopierPart, NetClient as NetClientPart, Way, Lessee}
+use Rattle.net_law.specs.Owners.Names.{PoolAt, ClientPools}
+use Rattle.net_law.specs.Parts.Numbers.{driver_at, receiver_at}
+use Rattle.net_law.specs.Parts.Playing.{lessees}
+use Rattle.net_law.specs.TxParts.Parts.{SendPart, Shipper}
+use Rattle.net_law.specs.TxParts.Playing.{shippers}
+use Rattle.net_law.specs.TxParts.Numbers.{sender_at}
 use Rattle.blk_virt.specs.declared.requests.Holder.{Holder}
 use Rattle.blk_virt.specs.declared.virtualiser.BlkVirt.{BlkVirt}
 use Rattle.blk_virt.specs.Desks.{holders}
-use Rattle.blk_law.specs.BlkParts.Parts.{BlkPart, DiskDevice as DiskPart, BlkDriver as BlkDriverPart, BlkVirt as VirtPart, BlkClient as BlkClientPart, Sharer}
-use Rattle.blk_law.specs.BlkParts.Numbers.{blk_driver_at, sharers_from}
-use Rattle.blk_law.specs.BlkParts.Playing.{sharers}
+use Rattle.blk_law.specs.Sheets.Parts.{BlkPart, DiskDevice as DiskPart, BlkDriver as BlkDriverPart, BlkVirt as VirtPart, BlkClient as BlkClientPart, Sharer}
+use Rattle.blk_law.specs.Sheets.Numbers.{blk_driver_at, sharers_from}
+use Rattle.blk_law.specs.Sheets.Playing.{sharers}
 use Rattle.actor_set.specs.Parts.{Part, UartPart, DriverPart, RxPart, TxPart, ClientPart, NetworkPart, SendingPart, BlockPart}
 use Rattle.actor_set.specs.Actors.{IsWhole, part_of}
 use Rattle.actor_set.specs.StartStates.{HasApartEnds, HasApartQueues}
 use Rattle.actor_set.specs.declared.actor.Actor.{Actor}
 use Rattle.actor_set.specs.declared.actor.Actor.TheVariants as Kinds
-use Rattle.actor_set.proofs.ActorLaw.PartEnds.{number_there}
-use Rattle.layout_laws.specs.JobLaw.Jobs.{Job, EthDevice, EthDriver, NetReceiver, NetSender, NetCopier, NetClient, UartDevice, UartDriver, SerialReceiver, SerialSender, SerialClient, DiskDevice, DiskDriver, BlkVirtualiser, BlkClient}
+use Rattle.actor_set.proofs.LawsLemmas.PartEnds.{number_there}
+use Rattle.layout_laws.specs.Jobs.Jobs.{Job, EthDevice, EthDriver, NetReceiver, NetSender, NetCopier, NetClient, UartDevice, UartDriver, SerialReceiver, SerialSender, SerialClient, DiskDevice, DiskDriver, BlkVirtualiser, BlkClient}
 use Rattle.cast_core.specs.Casts.{net_place, blk_place, job_part}
 use Rattle.cast_core.specs.Sources.{first_serial, first_blk}
 use Rattle.cast_law.proofs.Numbers.{lessee_numbers, shipper_numbers, sharer_numbers, second_apart}

@@ -33,24 +33,24 @@ use Rattle.layout_laws.proofs.Lists.{all-at, each-at}
 use Rattle.layout_laws.proofs.Pools.{pools_sound}
 use Rattle.play_core.specs.Wants.{outlet}
 use Rattle.play_core.proofs.Lists.{map_get, there_is, there_below}
-use Rattle.net_law.specs.NetOwners.Names.{PoolAt}
+use Rattle.net_law.specs.Owners.Names.{PoolAt}
 use Rattle.blk_law.specs.Replying.{IsSized, AreSized}
-use Rattle.blk_law.specs.BlkParts.Parts.{BlkPart}
-use Rattle.blk_law.specs.BlkParts.Numbers.{BlkPlace, IsBlkClientOf, disk_at, blk_driver_at, virt_at, blk_client_at}
+use Rattle.blk_law.specs.Sheets.Parts.{BlkPart}
+use Rattle.blk_law.specs.Sheets.Numbers.{BlkPlace, IsBlkClientOf, disk_at, blk_driver_at, virt_at, blk_client_at}
 use Rattle.actor_set.specs.Parts.{Part, BlockPart}
 use Rattle.actor_set.specs.Actors.{part_of}
 use Rattle.actor_set.specs.declared.actor.Actor.{Actor}
-use Rattle.layout_laws.specs.JobLaw.Jobs.{Job, EthDevice, EthDriver, NetReceiver, NetSender, NetCopier, NetClient, UartDevice, UartDriver, SerialReceiver, SerialSender, SerialClient, DiskDevice, DiskDriver, BlkVirtualiser, BlkClient, HasJob}
+use Rattle.layout_laws.specs.Jobs.Jobs.{Job, EthDevice, EthDriver, NetReceiver, NetSender, NetCopier, NetClient, UartDevice, UartDriver, SerialReceiver, SerialSender, SerialClient, DiskDevice, DiskDriver, BlkVirtualiser, BlkClient, HasJob}
 use Rattle.cast_core.specs.Casts.{client_pool, blk_place, job_part, AreCast}
 use Rattle.expect_core.specs.Expected.{client_asks, client_entry}
 use Rattle.cast_core.specs.Sources.{pool_at, first_blk_pool}
 use Rattle.cast_core.proofs.Listing.{value_count, value_at, value_is}
-use Rattle.layout_laws.specs.SeatLaw.Ends.{HasBlk, IsOf}
-use Rattle.layout_laws.specs.SeatLaw.Named.{AreBlkNamed}
-use Rattle.layout_laws.proofs.SeatLaw.Having.{job_is_of}
-use Rattle.layout_laws.proofs.SeatLaw.Counts.{each_count}
-use Rattle.layout_laws.proofs.SeatLaw.Naming.{blk_named}
-use Rattle.layout_laws.proofs.SeatLaw.Seats.{has_seat}
+use Rattle.layout_laws.specs.Seats.Ends.{HasBlk, IsOf}
+use Rattle.layout_laws.specs.Seats.Named.{AreBlkNamed}
+use Rattle.layout_laws.proofs.SeatsLemmas.Having.{job_is_of}
+use Rattle.layout_laws.proofs.SeatsLemmas.Counts.{each_count}
+use Rattle.layout_laws.proofs.SeatsLemmas.Naming.{blk_named}
+use Rattle.layout_laws.proofs.SeatsLemmas.Seats.{has_seat}
 use Rattle.wired_law.specs.Wiring.{HasPart, IsOfBlock, HasBlk as HasBlock, HasNoBlock}
 use Rattle.cast_law.proofs.Numbers.{askers_counted}
 use Rattle.cast_law.proofs.Wired.{part_at, job_of, image_there}

@@ -7,12 +7,12 @@ use Rattle.sdf_check.specs.Valid.{Valid}
 use Rattle.trace_text.specs.declared.trace.Trace.{Trace}
 use Rattle.trace_text.specs.Traces.{IsReadFor}
 use Rattle.region_layout.specs.Rows.{queues_of}
-use Rattle.blk_law.specs.BlkParts.Numbers.{BlkPlace}
+use Rattle.blk_law.specs.Sheets.Numbers.{BlkPlace}
 use Rattle.actor_set.specs.Actors.{part_of}
 use Rattle.actor_set.specs.declared.actor.Actor.{Actor}
-use Rattle.actor_set.specs.ActorLaw.Kinds.{scene_of}
+use Rattle.actor_set.specs.Laws.Kinds.{scene_of}
 use Rattle.cast_core.specs.Casts.{net_place, blk_place, scene_for, AreCast}
-use Rattle.layout_laws.proofs.SeatLaw.Counts.{few_queues, few_numbers}
+use Rattle.layout_laws.proofs.SeatsLemmas.Counts.{few_queues, few_numbers}
 use Rattle.wired_law.specs.Wiring.{HasWhole, HasBlk, HasNoBlock, IsWired}
 use Rattle.cast_law.specs.Seats.{AreSeated}
 use Rattle.cast_law.proofs.Seated.{seated}

@@ -1,3 +1,4 @@
+-- The proofs that a plan's actors stand where they belong, and of what holds of them.
 pub mod Numbers
 pub mod Parting
 pub mod Apart
@@ -6,9 +7,9 @@ pub mod Wired
 pub mod Pooled
 pub mod Blocks
 pub mod Joined
-pub mod CastQuiet
-pub mod CastPools
+pub mod QuietLemmas
+pub mod PoolsLemmas
 pub mod PastOwners
 pub mod PoolLines
-pub mod RunLaw
-pub mod GoneLaw
+pub mod RunsLemmas
+pub mod GoneLemmas

@@ -9,18 +9,18 @@ use Rattle.sdf_plan.specs.declared.plan.Blk.{Blk}
 use Rattle.trace_text.specs.Events.{net_clients, serial_clients, blk_clients}
 use Rattle.play_core.specs.Wants.{intake, outlet}
 use Rattle.play_core.proofs.Lists.{some_is}
-use Rattle.net_law.specs.NetOwners.Names.{PoolAt, ClientPools}
-use Rattle.net_law.specs.NetParts.Parts.{Lessee}
-use Rattle.net_law.specs.NetParts.Numbers.{client_first, lessees_from}
-use Rattle.net_law.specs.NetParts.Table.{lessee_ends}
-use Rattle.net_law.specs.NetTxParts.Parts.{Shipper}
-use Rattle.net_law.specs.NetTxParts.Table.{shipper_ends}
-use Rattle.net_law.specs.NetTxParts.Numbers.{shippers_from}
+use Rattle.net_law.specs.Owners.Names.{PoolAt, ClientPools}
+use Rattle.net_law.specs.Parts.Parts.{Lessee}
+use Rattle.net_law.specs.Parts.Numbers.{client_first, lessees_from}
+use Rattle.net_law.specs.Parts.Table.{lessee_ends}
+use Rattle.net_law.specs.TxParts.Parts.{Shipper}
+use Rattle.net_law.specs.TxParts.Table.{shipper_ends}
+use Rattle.net_law.specs.TxParts.Numbers.{shippers_from}
 use Rattle.cast_core.specs.Sources.{every_second}
-use Rattle.blk_law.specs.BlkParts.Parts.{Sharer}
-use Rattle.blk_law.specs.BlkParts.Numbers.{sharers_from}
-use Rattle.blk_law.specs.BlkParts.Table.{sharer_ends}
-use Rattle.layout_laws.specs.SeatLaw.Ends.{net_count, serial_count, ends_from, lease_ends, send_ends, given_end, said_end, blk_count, ask_ends}
+use Rattle.blk_law.specs.Sheets.Parts.{Sharer}
+use Rattle.blk_law.specs.Sheets.Numbers.{sharers_from}
+use Rattle.blk_law.specs.Sheets.Table.{sharer_ends}
+use Rattle.layout_laws.specs.Seats.Ends.{net_count, serial_count, ends_from, lease_ends, send_ends, given_end, said_end, blk_count, ask_ends}
 
 pub clients_counted : (plan : Plan) → length (net_clients plan) ≡ net_count plan
 clients_counted plan = go plan.net

@@ -12,15 +12,15 @@ use Rattle.actor_set.specs.Parts.{Part}
 use Rattle.actor_set.specs.Actors.{ActorEnd, IsWhole, part_of}
 use Rattle.actor_set.specs.StartStates.{kind_at}
 use Rattle.actor_set.specs.declared.actor.Actor.{Actor}
-use Rattle.actor_set.specs.ActorLaw.Kinds.{part_kind, sheet}
-use Rattle.actor_set.proofs.ActorLaw.Seating.{kind_is as kind_of_actor}
-use Rattle.actor_set.proofs.ActorLaw.PartEnds.{to_part, from_part, end_seat, seat_end}
-use Rattle.layout_laws.specs.JobLaw.Jobs.{Job, EthDevice, EthDriver, NetReceiver, NetSender, NetCopier, NetClient, UartDevice, UartDriver, SerialReceiver, SerialSender, SerialClient, DiskDevice, DiskDriver, BlkVirtualiser, BlkClient}
+use Rattle.actor_set.specs.Laws.Kinds.{part_kind, sheet}
+use Rattle.actor_set.proofs.LawsLemmas.Seating.{kind_is as kind_of_actor}
+use Rattle.actor_set.proofs.LawsLemmas.PartEnds.{to_part, from_part, end_seat, seat_end}
+use Rattle.layout_laws.specs.Jobs.Jobs.{Job, EthDevice, EthDriver, NetReceiver, NetSender, NetCopier, NetClient, UartDevice, UartDriver, SerialReceiver, SerialSender, SerialClient, DiskDevice, DiskDriver, BlkVirtualiser, BlkClient}
 use Rattle.cast_core.specs.Casts.{client_pools, net_place, client_pool, blk_place, job_part}
 use Rattle.expect_core.specs.Expected.{client_entry}
 use Rattle.cast_core.specs.Sources.{first_serial, first_blk, client_mac}
 use Rattle.cast_core.proofs.Listing.{value_count}
-use Rattle.layout_laws.specs.SeatLaw.Ends.{net_count, blk_count, ask_ends, ends_from, lease_ends, send_ends, given_end, said_end, job_ends, job_kind}
+use Rattle.layout_laws.specs.Seats.Ends.{net_count, blk_count, ask_ends, ends_from, lease_ends, send_ends, given_end, said_end, job_ends, job_kind}
 use Rattle.cast_law.proofs.Numbers.{clients_counted, speakers_counted, askers_counted, asks_end, leases_end, sends_end, given_ends, said_ends}
 
 -- a sheet's ends hang on no scene

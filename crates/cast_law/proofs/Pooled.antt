@@ -15,14 +15,14 @@ use Rattle.trace_text.specs.Events.{net_clients, blk_clients}
 use Rattle.trace_text.specs.Traces.{IsReadFor, per_client}
 use Rattle.region_layout.specs.Rows.{net_pools as net_pool_rows, blk_pools as blk_pool_rows, blk_client_pools, each_client, pools_of, queues_of}
 use Rattle.region_layout.proofs.SameLemmas.{pools_same}
-use Rattle.net_law.specs.NetOwners.Names.{PoolAt, ClientPools}
-use Rattle.net_quiet.specs.NetPools.Sizes.{sizes_of}
-use Rattle.blk_law.specs.BlkParts.Parts.{Sharer}
-use Rattle.blk_law.specs.BlkParts.Numbers.{BlkPlace, sharers_from}
-use Rattle.blk_law.specs.BlkOwners.Answering.{block_range}
-use Rattle.blk_quiet.specs.BlkPools.Naming.{HasApartPools}
-use Rattle.blk_quiet.proofs.BlkPools.Naming.{sharer_from}
-use Rattle.layout_laws.proofs.SeatLaw.Counts.{each_count}
+use Rattle.net_law.specs.Owners.Names.{PoolAt, ClientPools}
+use Rattle.net_quiet.specs.Pools.Sizes.{sizes_of}
+use Rattle.blk_law.specs.Sheets.Parts.{Sharer}
+use Rattle.blk_law.specs.Sheets.Numbers.{BlkPlace, sharers_from}
+use Rattle.blk_law.specs.Owners.Answering.{block_range}
+use Rattle.blk_quiet.specs.Pools.Naming.{HasApartPools}
+use Rattle.blk_quiet.proofs.PoolsLemmas.Naming.{sharer_from}
+use Rattle.layout_laws.proofs.SeatsLemmas.Counts.{each_count}
 use Rattle.actor_set.specs.Actors.{part_of}
 use Rattle.actor_set.specs.declared.actor.Actor.{Actor}
 use Rattle.cast_core.specs.Casts.{client_pools, client_pool, net_place, blk_place, AreCast}
@@ -30,7 +30,7 @@ use Rattle.cast_core.specs.Making.{HasPool}
 use Rattle.cast_core.specs.Sources.{pool_at, first_blk_pool}
 use Rattle.cast_core.proofs.Listing.{value_is, value_count}
 use Rattle.cast_core.proofs.Rooms.{pools_apart, blk_size, has_blk_pools}
-use Rattle.cast_law.specs.CastPools.Places.{HasNetAt, HasBlkAt, IsPlaced, HasPools, ArePooled, pools_first, pools_behind, place_pools}
+use Rattle.cast_law.specs.Pools.Places.{HasNetAt, HasBlkAt, IsPlaced, HasPools, ArePooled, pools_first, pools_behind, place_pools}
 use Rattle.cast_law.specs.Places.{pool_place}
 use Rattle.cast_law.proofs.Blocks.{pools_before, no_block}
 use Rattle.cast_law.proofs.Joined.{whole_network, whole_block}

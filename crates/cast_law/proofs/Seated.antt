@@ -15,12 +15,12 @@ use Rattle.play_core.proofs.Lists.{map_get, there_is}
 use Rattle.actor_set.specs.Actors.{ActorEnd, IsWhole, part_of}
 use Rattle.actor_set.specs.StartStates.{HasApartEnds, HasSeat, kind_at}
 use Rattle.actor_set.specs.declared.actor.Actor.{Actor}
-use Rattle.actor_set.proofs.ActorLaw.Starts.{new_whole}
-use Rattle.layout_laws.specs.JobLaw.Jobs.{Job, HasJob}
-use Rattle.layout_laws.proofs.JobLaw.Having.{same_job, job_below}
+use Rattle.actor_set.proofs.LawsLemmas.Starts.{new_whole}
+use Rattle.layout_laws.specs.Jobs.Jobs.{Job, HasJob}
+use Rattle.layout_laws.proofs.JobsLemmas.Having.{same_job, job_below}
 use Rattle.cast_core.specs.Casts.{job_part, IsCast, AreCast}
-use Rattle.layout_laws.proofs.SeatLaw.Having.{job_is_of}
-use Rattle.layout_laws.proofs.SeatLaw.Seats.{has_seat, has_end, not_both}
+use Rattle.layout_laws.proofs.SeatsLemmas.Having.{job_is_of}
+use Rattle.layout_laws.proofs.SeatsLemmas.Seats.{has_seat, has_end, not_both}
 use Rattle.wired_law.specs.Wiring.{IsWired}
 use Rattle.cast_law.specs.Seats.{AreSeated}
 use Rattle.cast_law.proofs.Parting.{end_is, is_end, kind_is}

@@ -24,29 +24,29 @@ use Rattle.layout_laws.specs.Sound.{IsSoundPool}
 use Rattle.layout_laws.proofs.Pools.{pools_sound}
 use Rattle.layout_laws.proofs.Rooms.{has_rooms}
 use Rattle.net_expect.specs.Expecting.{Program, Source}
-use Rattle.client_programs.specs.NetClients.Programs.{program_with}
-use Rattle.client_programs.specs.declared.net_client.program.NetProgram.{NetProgram}
-use Rattle.client_programs.specs.declared.net_client.program.NetProgram.TheVariants as Programs
-use Rattle.net_law.specs.NetOwners.Names.{ClientPools}
-use Rattle.net_law.specs.NetParts.Parts.{NetPart}
-use Rattle.net_law.specs.NetParts.Numbers.{device_at, client_at}
-use Rattle.net_law.proofs.NetParts.Items.{all_at}
-use Rattle.net_law.specs.NetTxParts.Parts.{SendPart}
-use Rattle.net_law.specs.NetTxParts.Numbers.{NetPlace, own_pools}
-use Rattle.net_quiet.specs.NetTxCast.Casting.{AreFrames, IsClientOf}
-use Rattle.blk_law.specs.BlkParts.Numbers.{disk_at}
+use Rattle.client_programs.specs.Net.Programs.{program_with}
+use Rattle.client_programs.specs.declared.net.program.NetProgram.{NetProgram}
+use Rattle.client_programs.specs.declared.net.program.NetProgram.TheVariants as Programs
+use Rattle.net_law.specs.Owners.Names.{ClientPools}
+use Rattle.net_law.specs.Parts.Parts.{NetPart}
+use Rattle.net_law.specs.Parts.Numbers.{device_at, client_at}
+use Rattle.net_law.proofs.PartsLemmas.Items.{all_at}
+use Rattle.net_law.specs.TxParts.Parts.{SendPart}
+use Rattle.net_law.specs.TxParts.Numbers.{NetPlace, own_pools}
+use Rattle.net_quiet.specs.TxCast.Casting.{AreFrames, IsClientOf}
+use Rattle.blk_law.specs.Sheets.Numbers.{disk_at}
 use Rattle.actor_set.specs.Parts.{Part, NetworkPart, SendingPart, BlockPart}
 use Rattle.actor_set.specs.Actors.{part_of}
 use Rattle.actor_set.specs.declared.actor.Actor.{Actor}
-use Rattle.actor_set.specs.ActorLaw.Kinds.{frames_of, image_of, scene_of}
+use Rattle.actor_set.specs.Laws.Kinds.{frames_of, image_of, scene_of}
 use Rattle.wired_law.specs.Wiring.{HasWhole, HasNoNetwork, IsOfNetwork}
-use Rattle.layout_laws.specs.JobLaw.Jobs.{Job, EthDevice, EthDriver, NetReceiver, NetSender, NetCopier, NetClient, UartDevice, UartDriver, SerialReceiver, SerialSender, SerialClient, DiskDevice, DiskDriver, BlkVirtualiser, BlkClient, HasJob}
-use Rattle.layout_laws.proofs.JobLaw.Having.{one_actor, same_job, job_below}
-use Rattle.layout_laws.specs.SeatLaw.Ends.{HasNet, HasBlk as HasBlkClass, IsOf, net_count}
-use Rattle.layout_laws.specs.SeatLaw.Named.{AreNetNamed}
-use Rattle.layout_laws.proofs.SeatLaw.Having.{job_is_of}
-use Rattle.layout_laws.proofs.SeatLaw.Carrying.{net_kinds}
-use Rattle.layout_laws.proofs.SeatLaw.Naming.{net_named, blk_named}
+use Rattle.layout_laws.specs.Jobs.Jobs.{Job, EthDevice, EthDriver, NetReceiver, NetSender, NetCopier, NetClient, UartDevice, UartDriver, SerialReceiver, SerialSender, SerialClient, DiskDevice, DiskDriver, BlkVirtualiser, BlkClient, HasJob}
+use Rattle.layout_laws.proofs.JobsLemmas.Having.{one_actor, same_job, job_below}
+use Rattle.layout_laws.specs.Seats.Ends.{HasNet, HasBlk as HasBlkClass, IsOf, net_count}
+use Rattle.layout_laws.specs.Seats.Named.{AreNetNamed}
+use Rattle.layout_laws.proofs.SeatsLemmas.Having.{job_is_of}
+use Rattle.layout_laws.proofs.SeatsLemmas.Carrying.{net_kinds}
+use Rattle.layout_laws.proofs.SeatsLemmas.Naming.{net_named, blk_named}
 use Rattle.cast_core.specs.Casts.{client_pools, net_place, blk_place, job_part, scene_for, AreCast}
 use Rattle.cast_core.specs.Sources.{no_mac, client_mac, client_kind, client_program}
 use Rattle.cast_core.proofs.Listing.{value_count, value_at, value_is}

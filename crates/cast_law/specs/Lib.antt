@@ -1,7 +1,9 @@
--- Where the actors of a plan are seated (Seats), and where its classes with pools stand (Places).
+-- Where the actors of a plan are seated (Seats), where its classes with pools stand (Places), their
+-- pools (Pools) with the lines of a report (PoolLines), and what runs over rings begin with (Runs)
+-- and leave (Gone).
 pub mod Seats
 pub mod Places
-pub mod CastPools
+pub mod Pools
 pub mod PoolLines
-pub mod RunLaw
-pub mod GoneLaw
+pub mod Runs
+pub mod Gone

@@ -3,7 +3,7 @@ use Rattle.std.specs.Option.{option_map}
 use Rattle.sdf_plan.specs.declared.plan.Plan.{Plan}
 use Rattle.trace_text.specs.declared.trace.Trace.{Trace}
 use Rattle.cast_core.specs.Casts.{net_place, blk_place}
-use Rattle.cast_law.specs.CastPools.Places.{PoolPlace}
+use Rattle.cast_law.specs.Pools.Places.{PoolPlace}
 
 -- the network where the layout places it, if the plan has one, and so the block class
 abbrev pub pool_place : Plan → Trace → PoolPlace

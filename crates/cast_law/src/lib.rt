@@ -1,5 +1,7 @@
-//! The actors of a plan, made as the plan and a trace say, stand where the layout seats them: a
-//! system can start with them.
+//! The actors of a plan, made as the plan and a trace say. They stand where the layout seats them,
+//! so a system can start with them. What holds of them then: of the network and the block class
+//! where nobody is runnable, of their pools and of the lines that a report has of these, and of
+//! what they leave after they were at work over rings, each in a thread of its own.
 #![tactic(auto)]
 
 ghost use Rattle.std.specs.Prelude.{◌≡◌, ℕ, Some, None, List, map, slice_get};
@@ -12,26 +14,26 @@ ghost use Rattle.trace_text.specs.Traces.{IsReadFor};
 ghost use Rattle.region_layout.specs.Rows.{pools_of, queues_of};
 ghost use Rattle.actor_set.specs.Actors.{part_of};
 ghost use Rattle.actor_set.specs.declared.actor.Actor.{Actor};
-ghost use Rattle.actor_set.specs.ActorLaw.Kinds.{scene_of};
-ghost use Rattle.layout_laws.specs.JobLaw.Jobs.{Job, HasJob};
+ghost use Rattle.actor_set.specs.Laws.Kinds.{scene_of};
+ghost use Rattle.layout_laws.specs.Jobs.Jobs.{Job, HasJob};
 ghost use Rattle.cast_core.specs.Casts.{blk_place, net_place, job_part, scene_for, AreCast};
 ghost use Rattle.wired_law.specs.Wiring.{HasBlk, HasNoBlock, HasNoNetwork, HasWhole};
-ghost use Rattle.cast_law.specs.CastPools.Places.{IsPlaced, HasPools};
+ghost use Rattle.cast_law.specs.Pools.Places.{IsPlaced, HasPools};
 ghost use Rattle.cast_law.specs.Places.{pool_place};
 ghost use Rattle.cast_law.specs.Seats.{AreSeated};
 
-pub mod cast_pools;
-pub mod cast_quiet;
-pub mod gone_law;
+pub mod gone;
 pub mod past_owners;
 pub mod pool_lines;
-pub mod run_law;
+pub mod pools;
+pub mod quiet;
+pub mod runs;
 
-/// The actors of a valid plan are seated at its layout's queues, each number
-/// has the part of its job, and with a network class or a block class the cast has the whole class
-/// where the layout places it. The scene is what the trace gives the plan's classes. The classes with
-/// pools stand where the plan has them, no two pools of the block class have an address in common, and
-/// their pools are those of the layout, by their numbers and with their sizes.
+/// The actors of a valid plan are seated at its layout's queues, each number has the part of its
+/// job, and with a network class or a block class the cast has the whole class where the layout
+/// places it. The scene is what the trace gives the plan's classes. The classes with pools stand
+/// where the plan has them, no two pools of the block class have an address in common, and their
+/// pools are those of the layout, by their numbers and with their sizes.
 pub fn cast_law()
     ensures seated { (plan : Plan) (trace : Trace) (actors : List Actor) → Valid plan
         → IsReadFor plan trace → AreCast plan trace actors → AreSeated (queues_of plan) actors }

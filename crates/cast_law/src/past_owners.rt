@@ -9,8 +9,8 @@ ghost use Rattle.wire_core.specs.Lists.{Passed};
 ghost use Rattle.wire_core.specs.Queues.{Queue};
 ghost use Rattle.actor_set.specs.Actors.{part_of};
 ghost use Rattle.actor_set.specs.declared.actor.Actor.{Actor};
-ghost use Rattle.cast_law.specs.CastPools.Places.{PoolPlace, IsPlaced, HasPools};
-ghost use Rattle.cast_law.specs.CastPools.Pooling.{AreAtPlay, HasOwners};
+ghost use Rattle.cast_law.specs.Pools.Places.{PoolPlace, IsPlaced, HasPools};
+ghost use Rattle.cast_law.specs.Pools.Pooling.{AreAtPlay, HasOwners};
 
 /// A cast whose actors stand for what passed before its journal begins has a table of owners, in
 /// which each buffer of its pools has its place.

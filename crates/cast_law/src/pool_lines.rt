@@ -9,7 +9,7 @@ ghost use Rattle.wire_core.specs.Lists.{Passed};
 ghost use Rattle.wire_core.specs.Queues.{Queue};
 ghost use Rattle.owner_law.specs.Things.{Naming};
 ghost use Rattle.owner_law.specs.Owners.{Table, replay};
-ghost use Rattle.owner_law.specs.PoolLaw.Lines.{Holder, AreLines};
+ghost use Rattle.owner_law.specs.Pools.Lines.{Holder, AreLines};
 ghost use Rattle.cast_law.specs.PoolLines.PoolLines.{table_lines, counted_lines, AreSized};
 
 /// The lines that a program counts, of all pools by their numbers, are those of the table after the

@@ -20,9 +20,11 @@ abbrev pub first_region : Option QueueKind → Ends Name → List Name
 first_region None (Way.Across link) = link.region ∷ []
 first_region _ _ = []
 
+-- the region of a queue, where it stands first in one
 abbrev pub queue_region : QueueUse Name → List Name
 queue_region q = first_region q.behind q.ends
 
+-- the region that a pool lies in
 abbrev pub pool_region : PoolUse Name → Name
 pool_region p = p.region
 

@@ -6,10 +6,11 @@ use Rattle.sdf_plan.specs.declared.place.Place.TheVariants as At
 use Rattle.sdf_plan.specs.declared.plan.Plan.{Plan}
 use Rattle.class_table.specs.Table.{Element, net_elements, serial_elements, table_of}
 
--- how many elements the network class has, and the serial class
+-- how many elements the network class has
 abbrev pub net_count : Plan → ℕ
 net_count plan = length (option_map_or net_elements plan.net [])
 
+-- how many elements the serial class has
 abbrev pub serial_count : Plan → ℕ
 serial_count plan = length (option_map_or serial_elements plan.serial [])
 

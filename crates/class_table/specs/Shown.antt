@@ -20,23 +20,29 @@ use Rattle.class_table.specs.Table.{Element, net_elements, serial_elements, blk_
 abbrev pub Shelved : Type 0
 Shelved = Bor (List ℕ)
 
+-- the text that stands behind a reference
 abbrev pub name_shown : Shelved → Name
 name_shown text = text.now
 
+-- a name of the program, as a name of the table
 abbrev pub use_name_shown : UseName Shelved → UseName Name
 use_name_shown n = record { first = n.first.now; client = n.client; rest = n.rest.now }
 
+-- a role of the program, as one of the table
 abbrev pub role_shown : RoleUse Shelved → RoleUse Name
 role_shown r = record { domain = r.domain.now; role = r.role }
 
+-- a link of the program, as one of the table
 abbrev pub link_shown : Link Shelved → Link Name
 link_shown l = record { region = l.region.now; from = l.from.now; to = l.to.now }
 
+-- the ends of a queue of the program, as those of the table
 abbrev pub ends_shown : Ends Shelved → Ends Name
 ends_shown (Way.FromDevice driver) = Way.FromDevice driver.now
 ends_shown (Way.ToDevice driver) = Way.ToDevice driver.now
 ends_shown (Way.Across link) = Way.Across (link_shown link)
 
+-- a queue of the program, as a row of the table
 abbrev pub queue_shown : QueueUse Shelved → QueueUse Name
 queue_shown q = record {
   name = use_name_shown q.name;
@@ -47,9 +53,11 @@ queue_shown q = record {
   holds = q.holds;
 }
 
+-- which domain must map, as the table says it
 abbrev pub grant_shown : Grant Shelved → Grant Name
 grant_shown g = record { domain = g.domain.now; writes = g.writes }
 
+-- a pool of the program, as a row of the table
 abbrev pub pool_shown : PoolUse Shelved → PoolUse Name
 pool_shown p = record {
   name = use_name_shown p.name;
@@ -60,6 +68,7 @@ pool_shown p = record {
   size = p.size;
 }
 
+-- an element of the program, as one of the table
 abbrev pub element_shown : ClassElement Shelved → Element
 element_shown e = record {
   place = e.place;

@@ -1,5 +1,6 @@
 -- The table: the element of each class and of each of its clients, in the order of the walk.
-use Rattle.std.specs.Prelude.{◌≡◌, ℕ, ◌+◌, List, [], ◌∷◌, ◌++◌, length, Some, None, slice_get, IsSomeAnd}
+use Rattle.std.specs.Prelude.{◌≡◌, ℕ, ◌+◌, List, [], ◌∷◌, ◌++◌, length, Some, None, slice_get}
+use Rattle.std.specs.Prelude.{IsSomeAnd}
 use Rattle.std.specs.Option.{option_map, option_map_or}
 use Rattle.sdf_plan.specs.declared.place.Place.{Place}
 use Rattle.sdf_plan.specs.declared.place.Place.TheVariants as At
@@ -12,12 +13,16 @@ use Rattle.sdf_plan.specs.declared.plan.Blk.{Blk}
 use Rattle.sdf_plan.specs.declared.plan.BlkClient.{BlkClient}
 use Rattle.sdf_plan.specs.Places.{class_places}
 use Rattle.class_table.specs.declared.uses.ClassElement.{ClassElement}
-use Rattle.class_table.specs.Rows.{Name, net_roles, net_queues, net_pools, net_client_roles, net_client_queues, net_client_pools, serial_roles, serial_queues, serial_client_roles, serial_client_queues, blk_roles, blk_queues, blk_pools, blk_client_roles, blk_client_queues, blk_client_pools}
+use Rattle.class_table.specs.Rows.{Name, net_roles, net_queues, net_pools, net_client_roles}
+use Rattle.class_table.specs.Rows.{net_client_queues, net_client_pools, serial_roles, serial_queues}
+use Rattle.class_table.specs.Rows.{serial_client_roles, serial_client_queues, blk_roles, blk_queues}
+use Rattle.class_table.specs.Rows.{blk_pools, blk_client_roles, blk_client_queues, blk_client_pools}
 
 -- an element, with its texts as names
 abbrev pub Element : Type 0
 Element = ClassElement Name
 
+-- what the network class uses
 abbrev pub net_element : Net → Element
 net_element net = record {
   place = At.Net;
@@ -27,6 +32,7 @@ net_element net = record {
   pools = net_pools net;
 }
 
+-- what a client of the network class uses, by its number
 abbrev pub net_client_element : Net → ℕ → NetClient → Element
 net_client_element net c client = record {
   place = At.NetClient c;
@@ -36,6 +42,7 @@ net_client_element net c client = record {
   pools = net_client_pools net c client;
 }
 
+-- what the serial class uses
 abbrev pub serial_element : Serial → Element
 serial_element serial = record {
   place = At.Serial;
@@ -45,6 +52,7 @@ serial_element serial = record {
   pools = [];
 }
 
+-- what a client of the serial class uses, by its number
 abbrev pub serial_client_element : Serial → ℕ → SerialClient → Element
 serial_client_element serial c client = record {
   place = At.SerialClient c;
@@ -54,6 +62,7 @@ serial_client_element serial c client = record {
   pools = [];
 }
 
+-- what the block class uses
 abbrev pub blk_element : Blk → Element
 blk_element blk = record {
   place = At.Blk;
@@ -63,6 +72,7 @@ blk_element blk = record {
   pools = blk_pools blk;
 }
 
+-- what a client of the block class uses, by its number
 abbrev pub blk_client_element : Blk → ℕ → BlkClient → Element
 blk_client_element blk c client = record {
   place = At.BlkClient c;
@@ -77,14 +87,16 @@ abbrev pub numbered : {C T : Type 0} → (ℕ → C → T) → ℕ → List C �
 numbered give c [] = []
 numbered give c (client ∷ rest) = give c client ∷ numbered give (c + 1) rest
 
--- a class, and then its clients
+-- the network class, and then its clients
 abbrev pub net_elements : Net → List Element
 net_elements net = net_element net ∷ numbered (net_client_element net) 0 net.client
 
+-- the serial class, and then its clients
 abbrev pub serial_elements : Serial → List Element
 serial_elements serial = serial_element serial
     ∷ numbered (serial_client_element serial) 0 serial.client
 
+-- the block class, and then its clients
 abbrev pub blk_elements : Blk → List Element
 blk_elements blk = blk_element blk ∷ numbered (blk_client_element blk) 0 blk.client
 

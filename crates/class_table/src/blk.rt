@@ -1,6 +1,7 @@
 //! The rows of the block class and of its clients.
 ghost use Rattle.std.specs.Prelude.{◌≡◌, map, length, IfOk};
-ghost use Rattle.class_table.specs.Rows.{blk_roles, blk_queues, blk_pools, blk_client_roles, blk_client_queues, blk_client_pools};
+ghost use Rattle.class_table.specs.Rows.{blk_roles, blk_queues, blk_pools, blk_client_roles};
+ghost use Rattle.class_table.specs.Rows.{blk_client_queues, blk_client_pools};
 ghost use Rattle.class_table.specs.Shown.{role_shown, queue_shown, pool_shown, element_shown};
 ghost use Rattle.class_table.specs.Table.{blk_element, blk_client_element};
 

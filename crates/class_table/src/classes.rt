@@ -1,5 +1,6 @@
 //! The elements of the classes of a plan, and which of them stands at a place.
-ghost use Rattle.std.specs.Prelude.{◌≡◌, ◌++◌, ⊤, Some, None, map, slice_get, IfOk, OnOk, MatchOption};
+ghost use Rattle.std.specs.Prelude.{◌≡◌, ◌++◌, ⊤, Some, None, map, slice_get, IfOk, OnOk};
+ghost use Rattle.std.specs.Prelude.{MatchOption};
 ghost use Rattle.class_table.specs.Numbers.{seen};
 ghost use Rattle.sdf_plan.specs.declared.plan.Plan.{Plan};
 ghost use Rattle.class_table.specs.Shown.{element_shown, AreClasses};

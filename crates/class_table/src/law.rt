@@ -11,7 +11,9 @@ ghost use Rattle.sdf_plan.specs.declared.plan.Blk.{Blk};
 ghost use Rattle.sdf_plan.specs.declared.plan.BlkClient.{BlkClient};
 ghost use Rattle.sdf_plan.specs.Places.{walk};
 ghost use Rattle.sdf_plan.specs.Elements.{outline_of};
-ghost use Rattle.class_table.specs.Table.{Element, table_of, class_part, HasRows, net_element, net_client_element, serial_element, serial_client_element, blk_element, blk_client_element};
+ghost use Rattle.class_table.specs.Table.{Element, table_of, class_part, HasRows, net_element};
+ghost use Rattle.class_table.specs.Table.{net_client_element, serial_element};
+ghost use Rattle.class_table.specs.Table.{serial_client_element, blk_element, blk_client_element};
 
 /// The places of the table of a plan are the class part of the walk over it, with which the walk
 /// ends. The network class has 3 roles, 8 queues and 1 pool, and each of its clients 2, 6 and 2;

@@ -1,8 +1,11 @@
 //! The rows of the network class and of its clients.
 ghost use Rattle.std.specs.Prelude.{◌≡◌, ◌∷◌, map, sum_by, IfOk};
 ghost use Rattle.sdf_plan.specs.declared.plan.NetClient.{NetClient};
-ghost use Rattle.class_table.specs.Rows.{net_roles, net_queues, net_pools, net_client_roles, net_client_queues, net_client_pools, reads, rx_pool, tx_pool};
-ghost use Rattle.class_table.specs.Shown.{role_shown, queue_shown, grant_shown, pool_shown, element_shown};
+ghost use Rattle.class_table.specs.Rows.{net_roles, net_queues, net_pools, net_client_roles};
+ghost use Rattle.class_table.specs.Rows.{net_client_queues, net_client_pools, reads, rx_pool};
+ghost use Rattle.class_table.specs.Rows.{tx_pool};
+ghost use Rattle.class_table.specs.Shown.{role_shown, queue_shown, grant_shown, pool_shown};
+ghost use Rattle.class_table.specs.Shown.{element_shown};
 ghost use Rattle.class_table.specs.Table.{net_element, net_client_element};
 
 use crate::role::Role;

@@ -1,7 +1,9 @@
 //! How one row is made from the columns of its table.
 ghost use Rattle.std.specs.Prelude.{◌≡◌, [], Some, None};
-ghost use Rattle.class_table.specs.Rows.{whole, of_client, across, queue, queue_behind, reads, writes, plays};
-ghost use Rattle.class_table.specs.Shown.{use_name_shown, ends_shown, queue_shown, grant_shown, role_shown};
+ghost use Rattle.class_table.specs.Rows.{whole, of_client, across, queue, queue_behind, reads};
+ghost use Rattle.class_table.specs.Rows.{writes, plays};
+ghost use Rattle.class_table.specs.Shown.{use_name_shown, ends_shown, queue_shown, grant_shown};
+ghost use Rattle.class_table.specs.Shown.{role_shown};
 
 use crate::role::Role;
 use crate::uses::{Ends, Grant, Link, QueueUse, RoleUse, UseName};

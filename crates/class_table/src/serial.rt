@@ -1,6 +1,7 @@
 //! The rows of the serial class and of its clients.
 ghost use Rattle.std.specs.Prelude.{◌≡◌, map, IfOk};
-ghost use Rattle.class_table.specs.Rows.{serial_roles, serial_queues, serial_client_roles, serial_client_queues};
+ghost use Rattle.class_table.specs.Rows.{serial_roles, serial_queues, serial_client_roles};
+ghost use Rattle.class_table.specs.Rows.{serial_client_queues};
 ghost use Rattle.class_table.specs.Shown.{role_shown, queue_shown, element_shown};
 ghost use Rattle.class_table.specs.Table.{serial_element, serial_client_element};
 

@@ -1,7 +1,8 @@
 //! What the queues and the pools of the table take of their regions.
 ghost use Rattle.std.specs.Prelude.{◌≡◌, ◌+◌, ◌*◌, ◌≤◌, ◌^◌, ◌<◌};
 ghost use Rattle.class_table.specs.Shown.{queue_shown, pool_shown};
-ghost use Rattle.class_table.specs.Sizes.{entry_size, queue_size, second_offset, offset_behind, queue_end, pool_bytes};
+ghost use Rattle.class_table.specs.Sizes.{entry_size, queue_size, second_offset, offset_behind};
+ghost use Rattle.class_table.specs.Sizes.{queue_end, pool_bytes};
 
 use crate::uses::{PoolUse, QueueUse};
 use cargo_core::QueueKind;

@@ -4,7 +4,9 @@ ghost use Rattle.std.specs.Option.{option_map_or};
 ghost use Rattle.sdf_plan.specs.Elements.{IsNumbered};
 ghost use Rattle.class_table.specs.Shown.{element_shown, AreClasses};
 ghost use Rattle.class_table.specs.Numbers.{AreNumbered};
-ghost use Rattle.class_table.specs.Table.{net_elements, serial_elements, blk_elements, numbered, net_client_element, serial_client_element, blk_client_element};
+ghost use Rattle.class_table.specs.Table.{net_elements, serial_elements, blk_elements, numbered};
+ghost use Rattle.class_table.specs.Table.{net_client_element, serial_client_element};
+ghost use Rattle.class_table.specs.Table.{blk_client_element};
 
 use crate::blk::{blk_client_element, blk_element};
 use crate::classes::Classes;

@@ -1,2 +1,3 @@
-pub mod NetClients
-pub mod BlkClients
+-- The proofs on the programs of network clients and block clients.
+pub mod NetLemmas
+pub mod BlkLemmas

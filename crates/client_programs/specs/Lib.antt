@@ -1,3 +1,3 @@
--- What the contracts of this crate say, by its modules.
-pub mod NetClients
-pub mod BlkClients
+-- What the contracts of the programs of network clients (Net) and block clients (Blk) say.
+pub mod Net
+pub mod Blk

@@ -1,7 +1,8 @@
 //! The programs of the clients. A serial client says its script and records what it gets: a reader
-//! is one whose script is empty, a speaker any other. A network client records frames. A block
-//! client asks for blocks and records what comes back. The programs are this project's own; that a
-//! serial client has one queue each way is sDDF's.
+//! is one whose script is empty, a speaker any other. A network client records the frames that
+//! come; a source sends those of its script too, and an echo answers each. A block client asks for
+//! blocks and records what comes back. The programs are this project's own; which queues a client
+//! has is sDDF's.
 #![tactic(auto)]
 
 ghost use Rattle.std.specs.Prelude.{◌≡◌};
@@ -11,14 +12,14 @@ ghost use Rattle.device_model.specs.SerialTerminal.Terminals.{IsNewTerminal, Ter
 ghost use Rattle.device_model.specs.contracts.serial_terminal.Terminal.{the_row as terminal_row};
 ghost use Rattle.client_programs.specs.contracts.SerialClient.{the_row};
 
-pub mod blk_client;
-pub mod net_client;
+pub mod blk;
+pub mod net;
 
-pub use crate::blk_client::BlkClient;
-pub use crate::net_client::NetClient;
+pub use crate::blk::BlkClient;
+pub use crate::net::NetClient;
 use cargo_core::Bytes;
 use device_model::serial_terminal::Terminal;
-pub use net_client::NetProgram;
+pub use net::NetProgram;
 use std::alloc::Global;
 use std::ops::{Deref, DerefMut};
 use wire_core::QueueId;

@@ -1,5 +1,6 @@
 -- The options of `play` and `run`: which words they are, and what they set.
-use Rattle.std.specs.Prelude.{ℕ, ◌^◌, ◌<◌, ◌≤◌, true, false, Bool, Option, Some, None, List, [], ◌∷◌, codes, decimal}
+use Rattle.std.specs.Prelude.{ℕ, ◌^◌, ◌<◌, ◌≤◌, true, false, Bool, Option, Some, None, List, []}
+use Rattle.std.specs.Prelude.{◌∷◌, codes, decimal}
 
 -- options in any order, each at most once, and what they set: a seed, a limit of steps, and whether
 -- the journal is asked for; a number is decimal without leading zeros, a seed is below 2 ^ 64, and
@@ -16,8 +17,8 @@ pub data AreOptions : List (List ℕ) → Option ℕ → Option ℕ → Bool →
   journal_set : (words : List (List ℕ)) (seed steps : Option ℕ)
       → AreOptions words seed steps false → AreOptions (codes "--journal" ∷ words) seed steps true
 
--- the one option of `run`, or none: a limit of steps, from 1 to 268,435,456, decimal without leading
--- zeros
+-- the one option of `run`, or none: a limit of steps, from 1 to 268,435,456, decimal without
+-- leading zeros
 pub data IsLimit : List (List ℕ) → Option ℕ → Type 0 where
   unlimited : IsLimit [] None
   limited : (n : ℕ) → 1 ≤ n → n ≤ 268435456

@@ -1,5 +1,7 @@
 -- What the private functions say of the words that they read; no public clause cites it.
-use Rattle.std.specs.Prelude.{◌≡◌, ◌⊎◌, ◌↔◌, ◌+◌, ◌^◌, ◌<◌, ◌≤◌, ℕ, true, false, Bool, Option, Some, None, unwrap_or, List, [], ◌∷◌, ◌++◌, length, take, drop, slice_get, codes, decimal}
+use Rattle.std.specs.Prelude.{◌≡◌, ◌⊎◌, ◌↔◌, ◌+◌, ◌^◌, ◌<◌, ◌≤◌, ℕ, true, false, Bool, Option, Some}
+use Rattle.std.specs.Prelude.{None, unwrap_or, List, [], ◌∷◌, ◌++◌, length, take, drop, slice_get}
+use Rattle.std.specs.Prelude.{codes, decimal}
 use Rattle.command_words.specs.declared.command.Options.{Options}
 use Rattle.command_words.specs.declared.chosen.Name.{Name}
 use Rattle.command_words.specs.declared.chosen.Name.TheVariants as An

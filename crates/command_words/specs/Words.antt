@@ -1,5 +1,6 @@
 -- The grammar of the program's words, and the first bad word of those that have none of its forms.
-use Rattle.std.specs.Prelude.{◌≡◌, ◌+◌, ◌^◌, ◌<◌, ◌≤◌, ℕ, Option, Some, unwrap_or, List, [], ◌∷◌, ◌++◌, length, take, slice_get, map, string_bytes, codes, decimal}
+use Rattle.std.specs.Prelude.{◌≡◌, ◌+◌, ◌^◌, ◌<◌, ◌≤◌, ℕ, Option, Some, unwrap_or, List, [], ◌∷◌}
+use Rattle.std.specs.Prelude.{◌++◌, length, take, slice_get, map, string_bytes, codes, decimal}
 use Rattle.std.specs.Global.{Global}
 use Rattle.std.specs.declared.string.String.{String}
 use Rattle.cargo_core.specs.Lists.{IsPrefix}

@@ -1,8 +1,10 @@
 //! The options of `play` as they are read: each at most once, in any order.
 
-ghost use Rattle.std.specs.Prelude.{◌≡◌, ◌≢◌, ◌↔◌, ◌<◌, ◌≤◌, ℕ, Option, List, Some, None, true, false, length, IfOk, IfErr, IfSome, IfNone, unwrap_or};
+ghost use Rattle.std.specs.Prelude.{◌≡◌, ◌≢◌, ◌↔◌, ◌<◌, ◌≤◌, ℕ, Option, List, Some, None, true};
+ghost use Rattle.std.specs.Prelude.{false, length, IfOk, IfErr, IfSome, IfNone, unwrap_or};
 ghost use Rattle.command_words.specs.Words.{texts_of};
-ghost use Rattle.command_words.specs.Reading.{text_of, IsUnset, IsNumberAt, IsBadFrom, MayFollow, HasRead};
+ghost use Rattle.command_words.specs.Reading.{text_of, IsUnset, IsNumberAt, IsBadFrom, MayFollow};
+ghost use Rattle.command_words.specs.Reading.{HasRead};
 
 use crate::command::{MOST_STEPS, Options};
 use crate::name::word_at;

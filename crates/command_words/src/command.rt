@@ -13,8 +13,8 @@ pub enum Command {
     Layout,
     /// `play DESC TRACE`, with options: to play a trace on a description.
     Play(Options),
-    /// `run DESC TRACE`, with a limit of steps, from 1 to `MOST_STEPS`, or `None`: to run each actor
-    /// of a description in a thread.
+    /// `run DESC TRACE`, with a limit of steps, from 1 to `MOST_STEPS`, or `None`: to run each
+    /// actor of a description in a thread.
     Run(Option<u64>),
     /// `gen N`: to play the full example on the trace that a number below 2^64 generates.
     Gen(u64),

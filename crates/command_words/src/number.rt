@@ -1,6 +1,7 @@
 //! The words that are a number: decimal text without a sign or leading zeros.
 
-ghost use Rattle.std.specs.Prelude.{◌≡◌, ◌≢◌, ◌↔◌, ◌<◌, ◌^◌, ℕ, length, slice_index, IsTrue, IfSome, IfNone, decimal};
+ghost use Rattle.std.specs.Prelude.{◌≡◌, ◌≢◌, ◌↔◌, ◌<◌, ◌^◌, ℕ, length, slice_index, IsTrue};
+ghost use Rattle.std.specs.Prelude.{IfSome, IfNone, decimal};
 
 // The number below 2^64 that a word spells in decimal, without leading zeros.
 pub fn read_number(word: &str) -> Option<u64>

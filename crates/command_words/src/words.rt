@@ -1,9 +1,13 @@
 //! The reading of all words, command by command.
 
-ghost use Rattle.std.specs.Prelude.{◌≡◌, ◌↔◌, ◌<◌, ◌≤◌, ℕ, List, Ok, Err, length, drop, OnOk, IfOk, IfErr, IsTrue};
+ghost use Rattle.std.specs.Prelude.{◌≡◌, ◌↔◌, ◌<◌, ◌≤◌, ℕ, List, Ok, Err, length, drop, OnOk, IfOk};
+ghost use Rattle.std.specs.Prelude.{IfErr, IsTrue};
 ghost use Rattle.command_words.specs.Options.{IsLimit};
 ghost use Rattle.command_words.specs.Words.{texts_of, Spells, IsBadWord, BeginsRun, last_name};
-ghost use Rattle.command_words.specs.Reading.{IsBadFrom, IsOneName, IsTheNumber, IsOneNumber, AreNamed, IsBadName, AsksToPlay, MayAskToPlay, AsksToRun, MayAskToRun, OptionsAre, MayBeOptions, MayBeLimit};
+ghost use Rattle.command_words.specs.Reading.{IsBadFrom, IsOneName, IsTheNumber, IsOneNumber};
+ghost use Rattle.command_words.specs.Reading.{AreNamed, IsBadName, AsksToPlay, MayAskToPlay};
+ghost use Rattle.command_words.specs.Reading.{AsksToRun, MayAskToRun, OptionsAre, MayBeOptions};
+ghost use Rattle.command_words.specs.Reading.{MayBeLimit};
 
 use crate::chosen::{Chosen, number_at};
 use crate::command::{Command, MOST_STEPS, Options};

@@ -1,3 +1,4 @@
-pub mod EthDevices
-pub mod DiskDevices
+-- The proofs on the devices.
+pub mod EthernetLemmas
+pub mod DiskLemmas
 pub mod SerialTerminal

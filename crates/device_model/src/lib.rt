@@ -1,6 +1,7 @@
 //! The devices of the modelled machine. A serial device receives given bytes in order, and sends
-//! what it is given on its line; an Ethernet device does so with frames; a disk does requests on its
-//! image. That a device is an actor at the far ends of its driver's queues is this project's own.
+//! what it is given on its line: it is a terminal, as a serial client is. An Ethernet device does
+//! so with frames, and a disk does requests on its image. That a device is an actor at the far ends
+//! of its driver's queues is this project's own.
 #![tactic(auto)]
 
 ghost use Rattle.std.specs.Prelude.{◌≡◌};
@@ -10,12 +11,12 @@ ghost use Rattle.device_model.specs.SerialTerminal.Terminals.{IsNewTerminal, Ter
 ghost use Rattle.device_model.specs.contracts.serial_terminal.Terminal.{the_row as terminal_row};
 ghost use Rattle.device_model.specs.contracts.UartDevice.{the_row};
 
-pub mod disk_device;
-pub mod eth_device;
+pub mod disk;
+pub mod ethernet;
 pub mod serial_terminal;
 
-pub use crate::disk_device::DiskDevice;
-pub use crate::eth_device::EthDevice;
+pub use crate::disk::DiskDevice;
+pub use crate::ethernet::EthDevice;
 use crate::serial_terminal::Terminal;
 use cargo_core::Bytes;
 use std::alloc::Global;

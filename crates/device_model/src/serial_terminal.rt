@@ -1,17 +1,23 @@
 //! An actor that puts given bytes in order and records the bytes that come: what a serial device
 //! and a serial client have in common.
 
-ghost use Rattle.std.specs.Prelude.{◌≡◌, ◌<◌, ◌≤◌, ◌+◌, ◌^◌, ℕ, [], ◌++◌, OnErr, IfOk, OnOk, slice_get, length, nat_lt, is_some, true, false};
+ghost use Rattle.std.specs.Prelude.{◌≡◌, ◌<◌, ◌≤◌, ◌+◌, ◌^◌, ℕ, [], ◌++◌, OnErr, IfOk, OnOk};
+ghost use Rattle.std.specs.Prelude.{slice_get, length, nat_lt, is_some, true, false};
 ghost use Rattle.std.specs.Option.{option_map, option_to_list};
 ghost use Rattle.wire_core.specs.Ends.{role_of, Role, End};
 ghost use Rattle.wire_core.specs.Lists.{Passed, Stepped, nothing_passed};
 ghost use Rattle.turn_kit.specs.Table.{start_state};
 ghost use Rattle.wire_core.specs.Marks.{is_mark};
-ghost use Rattle.turn_kit.specs.Turns.{Turned, Posted, choice_of, chosen_place, last_after, is_at_rest};
+ghost use Rattle.turn_kit.specs.Turns.{Turned, Posted, choice_of, chosen_place, last_after};
+ghost use Rattle.turn_kit.specs.Turns.{is_at_rest};
 ghost use Rattle.cargo_core.specs.Bodies.{buffers_of};
 ghost use Rattle.turn_kit.specs.Posts.{intake_post, outlet_post};
 ghost use Rattle.serial_switch.specs.Carried.{byte_cargo, bytes_carried};
-ghost use Rattle.device_model.specs.SerialTerminal.Terminals.{FitsTerminal, TerminalStandsFor, TerminalRow, TerminalBalances, TerminalEnd, SameTerminal, terminal_round, terminal_hand, terminal_forgotten, IsNewTerminal};
+ghost use Rattle.device_model.specs.SerialTerminal.Terminals.{FitsTerminal, TerminalStandsFor};
+ghost use Rattle.device_model.specs.SerialTerminal.Terminals.{TerminalRow, TerminalBalances};
+ghost use Rattle.device_model.specs.SerialTerminal.Terminals.{TerminalEnd, SameTerminal};
+ghost use Rattle.device_model.specs.SerialTerminal.Terminals.{terminal_round, terminal_hand};
+ghost use Rattle.device_model.specs.SerialTerminal.Terminals.{terminal_forgotten, IsNewTerminal};
 
 use cargo_core::{Body, Bytes, Item, Memory, PoolId, Tape};
 use std::alloc::Global;

@@ -4,5 +4,6 @@ use Rattle.turn_kit.specs.contracts.pipe.Pipe as pipe
 use Rattle.pipe_driver.specs.contracts.pipes.Pipes as pipes
 use Rattle.pipe_driver.specs.contracts.driver.PipeDriver as driver
 
+-- a driver of four pipes, as the logic holds it
 abbrev pub four_pipes_row : RattleType
 four_pipes_row = driver.the_row (pipes.the_row (pipes.the_row (pipes.the_row pipe.the_row)))

@@ -28,30 +28,34 @@ hops_of c =
     (4 + 10 * clients_or_none c.net) * c.frames + 6 * c.sends + 3 * c.bytes + 6 * c.asks
     + 2 * c.device_buffers + c.client_buffers + first_read_hops c.blk
 
--- the actors of a class with so many clients: its device, its driver and virtualisers, and each
--- client, with its copier in the network class
+-- the actors of a network class with so many clients: its device, its driver and virtualisers, and
+-- each client with its copier
 abbrev pub net_actors : Option ℕ → ℕ
 net_actors None = 0
 net_actors (Some n) = 4 + 2 * n
 
+-- the actors of a serial class with so many clients
 abbrev pub serial_actors : Option ℕ → ℕ
 serial_actors None = 0
 serial_actors (Some n) = 4 + n
 
+-- the actors of a block class with so many clients
 abbrev pub blk_actors : Option ℕ → ℕ
 blk_actors None = 0
 blk_actors (Some n) = 3 + n
 
--- the greatest number of queue ends that one actor of the class has: the driver's, or a
+-- the greatest number of queue ends that one actor of the network class has: the driver's, or a
 -- virtualiser's
 abbrev pub net_ends : Option ℕ → ℕ
 net_ends None = 0
 net_ends (Some n) = max (2 + 2 * n) 8
 
+-- the greatest number of queue ends that one actor of the serial class has
 abbrev pub serial_ends : Option ℕ → ℕ
 serial_ends None = 0
 serial_ends (Some n) = max (1 + n) 4
 
+-- the greatest number of queue ends that one actor of the block class has
 abbrev pub blk_ends : Option ℕ → ℕ
 blk_ends None = 0
 blk_ends (Some n) = max (2 + 2 * n) 4

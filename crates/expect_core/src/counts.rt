@@ -5,7 +5,9 @@ ghost use Rattle.cargo_core.specs.declared.item.Ask.{Ask};
 ghost use Rattle.sdf_plan.specs.declared.plan.NetClient.{NetClient as NetClientOf};
 ghost use Rattle.trace_text.specs.Traces.{IsReadFor};
 ghost use Rattle.sdf_check.specs.Valid.{Valid};
-ghost use Rattle.expect_core.specs.Budgets.{counts_of, no_trace, budget_of, budget_from, clients_or_none, IsWithinLimits, hops_of, most_ends, actors_of};
+ghost use Rattle.expect_core.specs.Budgets.{counts_of, no_trace, budget_of, budget_from};
+ghost use Rattle.expect_core.specs.Budgets.{clients_or_none, IsWithinLimits, hops_of, most_ends};
+ghost use Rattle.expect_core.specs.Budgets.{actors_of};
 
 use cargo_core::{Ask, Bytes, FrameLog, Series};
 use sdf_plan::{NetClient, Plan};

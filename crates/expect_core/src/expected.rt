@@ -49,10 +49,10 @@ pub fn client_entry(plan: &Plan, client: u32) -> u8
     }
 }
 
-/// The replies that a block client must get of a trace: those to its own requests, judged and played
-/// on its own partition of the disk as it was at the start, whatever others ask for. The plan is
-/// valid, the trace was read for it, and the client is one of its class. A plain and slow function,
-/// for tests.
+/// The replies that a block client must get of a trace: those to its own requests, judged and
+/// played on its own partition of the disk as it was at the start, whatever others ask for. The
+/// plan is valid, the trace was read for it, and the client is one of its class. A plain and slow
+/// function, for tests.
 pub fn replies_of(
     alloc: Global,
     trace: &Trace,

@@ -1,5 +1,6 @@
 -- What the functions on a frame's header mean, as functions of lists of bytes.
-use Rattle.std.specs.Prelude.{ℕ, ◌&&◌, ◌||◌, nat_eq, nat_le, Bool, List, [], ◌∷◌, ◌++◌, length, take, drop}
+use Rattle.std.specs.Prelude.{ℕ, ◌&&◌, ◌||◌, nat_eq, nat_le, Bool, List, [], ◌∷◌, ◌++◌, length}
+use Rattle.std.specs.Prelude.{take, drop}
 use Rattle.std.specs.List.{starts_with}
 use Rattle.frame_core.specs.declared.mac.Mac.{Mac}
 

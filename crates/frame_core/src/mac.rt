@@ -2,7 +2,8 @@
 //! rest on the same reading.
 
 ghost use Rattle.std.specs.Prelude.{◌≡◌, ◌+◌, ◌<◌, ◌≤◌, length, slice_index, IsTrue};
-ghost use Rattle.frame_core.specs.Macs.{is_digit, digit_value, has_pair, has_colon, byte_at, is_mac_text, mac_bytes, mac_of};
+ghost use Rattle.frame_core.specs.Macs.{is_digit, digit_value, has_pair, has_colon, byte_at};
+ghost use Rattle.frame_core.specs.Macs.{is_mac_text, mac_bytes, mac_of};
 
 /// The address of a station: six bytes, in the order in which they stand in a frame.
 #[derive(Clone, Copy, Debug, PartialEq, Eq)]

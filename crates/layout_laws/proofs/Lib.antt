@@ -1,3 +1,4 @@
+-- The proofs on the layouts of valid plans.
 pub mod Lists
 pub mod Found
 pub mod Queues
@@ -10,5 +11,5 @@ pub mod Spreads
 pub mod Owners
 pub mod Rooms
 pub mod Tables
-pub mod JobLaw
-pub mod SeatLaw
+pub mod JobsLemmas
+pub mod SeatsLemmas

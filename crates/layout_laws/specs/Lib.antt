@@ -1,4 +1,5 @@
--- What the laws on the layouts of valid plans say.
+-- What the laws on the layouts of valid plans say: of its queues, pools and actors (Sound), of the
+-- jobs of actors (Jobs), and of the queues at which these stand (Seats).
 pub mod Sound
-pub mod JobLaw
-pub mod SeatLaw
+pub mod Jobs
+pub mod Seats

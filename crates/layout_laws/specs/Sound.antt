@@ -1,6 +1,7 @@
 -- What the laws say of a layout: its queues and pools lie in their regions, apart from each other,
 -- and its actors are those that the plan names.
-use Rattle.std.specs.Prelude.{◌≡◌, ◌≢◌, ℕ, ◌+◌, ◌*◌, ◌<◌, ◌≤◌, List, ◌++◌, length, map, Option, Some, slice_get, slice_index, IsSomeAnd}
+use Rattle.std.specs.Prelude.{◌≡◌, ◌≢◌, ℕ, ◌+◌, ◌*◌, ◌<◌, ◌≤◌, List, ◌++◌, length, map, Option}
+use Rattle.std.specs.Prelude.{Some, slice_get, slice_index, IsSomeAnd}
 use Rattle.std.specs.Option.{option_map}
 use Rattle.wire_core.specs.declared.names.QueueRow.{QueueRow}
 use Rattle.wire_core.specs.declared.names.PoolRow.{PoolRow}
@@ -17,7 +18,8 @@ use Rattle.region_layout.specs.Rows.{acting_count, actors_of, actor_named, queue
 -- a queue begins at a multiple of 64, and its header and its entries end inside the region
 abbrev pub LiesIn : Plan → QueueRow → ℕ → Type 0
 LiesIn plan row r =
-    IsSomeAnd (slice_get plan.memory_region r) (λ region. IsMultiple row.offset 64 × (row.offset + (64 + entry_size row.kind * row.capacity) ≤ region.size))
+    IsSomeAnd (slice_get plan.memory_region r) (λ region. IsMultiple row.offset 64
+    × (row.offset + (64 + entry_size row.kind * row.capacity) ≤ region.size))
 
 -- what holds of a queue
 pub record IsSoundQueue (plan : Plan) (row : QueueRow) : Type 0 where
@@ -63,8 +65,7 @@ abbrev pub NoNameTwice : List (List ℕ) → Type 0
 NoNameTwice names = (at : ℕ) (name : List ℕ) → slice_get names at ≡ Some name
     → StandsBefore name names at → ⊥
 
--- the physical addresses that a queue takes, where it stands in a region, and those that a pool
--- takes
+-- the physical addresses that a queue takes, where it stands in a region
 unfoldable pub queue_range : Plan → QueueRow → Option Range
 queue_range plan row =
     option_map (λ r. (
@@ -73,6 +74,7 @@ queue_range plan row =
           + (64 + entry_size row.kind * row.capacity),
     )) row.region
 
+-- the physical addresses that a pool takes
 unfoldable pub pool_range : PoolRow → Option Range
 pool_range row = Some (row.base, row.base + row.size * row.buffers)
 

@@ -1,6 +1,6 @@
 //! What holds of the layout of every valid plan: laws that tie the tables of queues, pools and
-//! actors to the rules. They stand apart from the layout, so that they grow without proving it
-//! again.
+//! actors to the rules, what job each actor has, and at which queues it stands. They stand apart
+//! from the layout, so that they grow without proving it again.
 #![tactic(auto)]
 
 ghost use Rattle.std.specs.Prelude.{◌≡◌, ℕ, All, Some};
@@ -10,10 +10,11 @@ ghost use Rattle.sdf_check.specs.ClassRules.{class_domains, class_regions};
 ghost use Rattle.sdf_check.specs.Rules.{MeetsEarlier};
 ghost use Rattle.sdf_check.specs.Valid.{Valid};
 ghost use Rattle.region_layout.specs.Rows.{queues_of, pools_of};
-ghost use Rattle.layout_laws.specs.Sound.{IsSoundQueue, IsSoundPool, IsOwned, IsActor, HasRooms, NoNameTwice, ranges_of};
+ghost use Rattle.layout_laws.specs.Sound.{IsSoundQueue, IsSoundPool, IsOwned, IsActor, HasRooms};
+ghost use Rattle.layout_laws.specs.Sound.{NoNameTwice, ranges_of};
 
-pub mod job_law;
-pub mod seat_law;
+pub mod jobs;
+pub mod seats;
 
 /// In the layout of a valid plan each queue has a capacity that is a power of two from 1 to 32,768
 /// and lies inside its region, each pool has 1 to 512 buffers and lies inside its region, from the

@@ -1,5 +1,7 @@
 -- The copier: what it must fit, what it stands for, and its row.
-use Rattle.std.specs.Prelude.{◌≡◌, ◌⊎◌, ◌+◌, ◌≤◌, ◌&&◌, ℕ, nat_le, Bool, true, false, Option, Some, None, is_some, is_none, List, [], ◌∷◌, ◌++◌, All, length, map, option_to_list}
+use Rattle.std.specs.Prelude.{◌≡◌, ◌⊎◌, ◌+◌, ◌≤◌, ◌&&◌, ℕ, nat_le, Bool, true, false, Option, Some}
+use Rattle.std.specs.Prelude.{None, is_some, is_none, List, [], ◌∷◌, ◌++◌, All, length, map}
+use Rattle.std.specs.Prelude.{option_to_list}
 use Rattle.std.specs.Option.{ForSome}
 use Rattle.cargo_core.specs.declared.item.Body.{Body}
 use Rattle.cargo_core.specs.declared.item.Body.TheVariants as Carried

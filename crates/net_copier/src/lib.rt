@@ -8,9 +8,14 @@ ghost use Rattle.wire_core.specs.Deeds.{Cargo};
 ghost use Rattle.wire_core.specs.Ends.{role_of, Role, End};
 ghost use Rattle.wire_core.specs.Lists.{Passed, Stepped, nothing_passed};
 ghost use Rattle.wire_core.specs.Marks.{is_mark};
-ghost use Rattle.turn_kit.specs.Turns.{Turned, Posted, choice_of, chosen_place, last_after, is_at_rest};
+ghost use Rattle.turn_kit.specs.Turns.{Turned, Posted, choice_of, chosen_place, last_after};
+ghost use Rattle.turn_kit.specs.Turns.{is_at_rest};
 ghost use Rattle.turn_kit.specs.Posts.{intake_post, outlet_post};
-ghost use Rattle.net_copier.specs.Copying.{FitsCopier, CopierStandsFor, CopierRow, CopierBalances, CopierEnd, SameCopier, IsNewCopier, SameWork, IsAt, IsWork, is_copied, leased_bytes, is_stray, is_wanting, is_returning, copier_round, copier_hand, copier_forgotten};
+ghost use Rattle.net_copier.specs.Copying.{FitsCopier, CopierStandsFor, CopierRow, CopierBalances};
+ghost use Rattle.net_copier.specs.Copying.{CopierEnd, SameCopier, IsNewCopier, SameWork, IsAt};
+ghost use Rattle.net_copier.specs.Copying.{IsWork, is_copied, leased_bytes, is_stray, is_wanting};
+ghost use Rattle.net_copier.specs.Copying.{is_returning, copier_round, copier_hand};
+ghost use Rattle.net_copier.specs.Copying.{copier_forgotten};
 
 use buffer_kit::fill;
 use cargo_core::{Body, Item, PoolId};

@@ -9,11 +9,11 @@ use Rattle.wire_core.specs.Lists.{Passed}
 use Rattle.net_expect.specs.Expecting.{frames_for, answers_for, is_for_client, sends_of}
 use Rattle.buffer_kit.specs.Entries.{frame_of, all_filled}
 use Rattle.buffer_kit.specs.Pools.{given_entry}
-use Rattle.client_programs.specs.declared.net_client.program.NetProgram.{NetProgram}
-use Rattle.client_programs.specs.declared.net_client.program.NetProgram.TheVariants as Kind
-use Rattle.client_programs.specs.declared.net_client.NetClient.{NetClient}
-use Rattle.client_programs.specs.NetClients.Programs.{program_with, program_of, sent_for, frames_out, answer_to}
-use Rattle.client_programs.specs.NetClients.Clients.{rx_active, tx_active, tx_free}
+use Rattle.client_programs.specs.declared.net.program.NetProgram.{NetProgram}
+use Rattle.client_programs.specs.declared.net.program.NetProgram.TheVariants as Kind
+use Rattle.client_programs.specs.declared.net.NetClient.{NetClient}
+use Rattle.client_programs.specs.Net.Programs.{program_with, program_of, sent_for, frames_out, answer_to}
+use Rattle.client_programs.specs.Net.Clients.{rx_active, tx_active, tx_free}
 use Rattle.net_law.specs.Receiving.{AreRoomy}
 use Rattle.net_law.specs.Sending.{IsSending}
 use Rattle.net_law.proofs.Beginnings.{begins_on, begins_map}

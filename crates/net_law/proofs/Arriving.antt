@@ -9,12 +9,12 @@ use Rattle.turn_kit.specs.declared.pipe.Pipe.{Pipe}
 use Rattle.pipe_driver.specs.declared.pipes.Pipes.{Pipes}
 use Rattle.buffer_kit.specs.Entries.{frame_of, all_filled}
 use Rattle.net_expect.specs.Expecting.{frames_for, is_for_client}
-use Rattle.device_model.specs.declared.eth_device.EthDevice.{EthDevice}
+use Rattle.device_model.specs.declared.ethernet.EthDevice.{EthDevice}
 use Rattle.net_copier.specs.Copying.{leased_bytes}
 use Rattle.net_copier.specs.declared.NetCopier.{NetCopier}
 use Rattle.net_virt_rx.specs.declared.NetVirtRx.{NetVirtRx}
 use Rattle.net_virt_rx.specs.Sharing.{leases_for, lease_of}
-use Rattle.client_programs.specs.declared.net_client.NetClient.{NetClient}
+use Rattle.client_programs.specs.declared.net.NetClient.{NetClient}
 use Rattle.net_law.specs.Receiving.{IsReceiving, AreRoomy}
 use Rattle.net_law.proofs.Beginnings.{begins_on, begins_map, begins_filter}
 use Rattle.net_law.proofs.Filled.{frames_are, roomy_front}

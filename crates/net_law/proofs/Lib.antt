@@ -1,12 +1,13 @@
+-- The proofs of the laws of the network class.
 pub mod Beginnings
 pub mod Filled
 pub mod Arriving
 pub mod Answering
-pub mod NetWireLaw
-pub mod NetOwners
-pub mod NetRxOwners
-pub mod NetParts
-pub mod NetTxParts
-pub mod NetRests
-pub mod NetTxRests
-pub mod NetHops
+pub mod WireLemmas
+pub mod OwnersLemmas
+pub mod RxOwners
+pub mod PartsLemmas
+pub mod TxParts
+pub mod RestsLemmas
+pub mod TxRests
+pub mod HopsLemmas

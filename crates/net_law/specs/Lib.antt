@@ -1,9 +1,11 @@
--- What the contracts of the law of the network class say.
+-- What the laws of the network class say: of what a client gets (Receiving) and sends (Sending), of
+-- the wire (Wire), of the owners of buffers (Owners, RxOwners), of the tables of its actors (Parts,
+-- TxParts), and of how often entries are moved (Hops).
 pub mod Receiving
 pub mod Sending
-pub mod NetWireLaw
-pub mod NetOwners
-pub mod NetRxOwners
-pub mod NetParts
-pub mod NetTxParts
-pub mod NetHops
+pub mod Wire
+pub mod Owners
+pub mod RxOwners
+pub mod Parts
+pub mod TxParts
+pub mod Hops

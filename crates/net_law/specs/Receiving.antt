@@ -13,15 +13,15 @@ use Rattle.turn_kit.specs.declared.pipe.Pipe.{Pipe}
 use Rattle.pipe_driver.specs.Drivers.{PipesRow}
 use Rattle.pipe_driver.specs.declared.pipes.Pipes.{Pipes}
 use Rattle.eth_driver.specs.Four.{four_pipes}
-use Rattle.device_model.specs.EthDevices.Devices.{DeviceRow}
-use Rattle.device_model.specs.declared.eth_device.EthDevice.{EthDevice}
+use Rattle.device_model.specs.Ethernet.Devices.{DeviceRow}
+use Rattle.device_model.specs.declared.ethernet.EthDevice.{EthDevice}
 use Rattle.net_copier.specs.Copying.{CopierRow, leased_bytes}
 use Rattle.net_copier.specs.declared.NetCopier.{NetCopier}
 use Rattle.buffer_kit.specs.Virtualising.{from_queues, to_queues}
 use Rattle.net_virt_rx.specs.Receiving.{RxRow}
 use Rattle.net_virt_rx.specs.declared.NetVirtRx.{NetVirtRx}
-use Rattle.client_programs.specs.NetClients.Clients.{ClientRow}
-use Rattle.client_programs.specs.declared.net_client.NetClient.{NetClient}
+use Rattle.client_programs.specs.Net.Clients.{ClientRow}
+use Rattle.client_programs.specs.declared.net.NetClient.{NetClient}
 
 -- what was taken from each queue is a beginning of what was put there
 abbrev pub HandsOver : Passed → Type 0

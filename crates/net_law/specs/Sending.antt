@@ -6,9 +6,9 @@ use Rattle.wire_core.specs.Lists.{Passed}
 use Rattle.net_expect.specs.Expecting.{frames_for}
 use Rattle.buffer_kit.specs.Entries.{frame_of}
 use Rattle.buffer_kit.specs.Pools.{given_entry}
-use Rattle.client_programs.specs.NetClients.Programs.{frames_out}
-use Rattle.client_programs.specs.NetClients.Clients.{ClientRow, rx_active, tx_free}
-use Rattle.client_programs.specs.declared.net_client.NetClient.{NetClient}
+use Rattle.client_programs.specs.Net.Programs.{frames_out}
+use Rattle.client_programs.specs.Net.Clients.{ClientRow, rx_active, tx_free}
+use Rattle.client_programs.specs.declared.net.NetClient.{NetClient}
 use Rattle.net_law.specs.Receiving.{AreRoomy}
 
 -- a client of an address whose row holds; what it recorded is a beginning of those of some frames

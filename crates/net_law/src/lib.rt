@@ -1,5 +1,7 @@
-//! The network class apart from any system: what reaches a client, from the rows of the actors on
-//! the way and the law of the queues between them, and what it sends then, at any moment.
+//! What holds of the network class apart from any system, by the rows of its actors and the law of
+//! the queues between them: at any moment what reaches each client and the wire, and what each
+//! client sends; the tables of its actors, and when each is at rest; who has which buffer; and how
+//! often its entries are moved.
 #![tactic(auto)]
 
 ghost use Rattle.std.specs.Prelude.{ℕ, List, map};
@@ -9,24 +11,24 @@ ghost use Rattle.wire_core.specs.Lists.{Passed};
 ghost use Rattle.turn_kit.specs.declared.pipe.Pipe.{Pipe};
 ghost use Rattle.pipe_driver.specs.declared.pipes.Pipes.{Pipes};
 ghost use Rattle.net_expect.specs.Expecting.{frames_for, sends_of};
-ghost use Rattle.device_model.specs.declared.eth_device.EthDevice.{EthDevice};
+ghost use Rattle.device_model.specs.declared.ethernet.EthDevice.{EthDevice};
 ghost use Rattle.net_copier.specs.declared.NetCopier.{NetCopier};
 ghost use Rattle.net_virt_rx.specs.declared.NetVirtRx.{NetVirtRx};
 ghost use Rattle.buffer_kit.specs.Entries.{frame_of};
-ghost use Rattle.client_programs.specs.declared.net_client.NetClient.{NetClient};
-ghost use Rattle.client_programs.specs.NetClients.Programs.{program_of};
-ghost use Rattle.client_programs.specs.NetClients.Clients.{tx_active};
+ghost use Rattle.client_programs.specs.declared.net.NetClient.{NetClient};
+ghost use Rattle.client_programs.specs.Net.Programs.{program_of};
+ghost use Rattle.client_programs.specs.Net.Clients.{tx_active};
 ghost use Rattle.net_law.specs.Receiving.{IsReceiving};
 ghost use Rattle.net_law.specs.Sending.{IsSending};
 
-pub mod net_hops;
-pub mod net_owners;
-pub mod net_parts;
-pub mod net_rests;
-pub mod net_rx_owners;
-pub mod net_tx_parts;
-pub mod net_tx_rests;
-pub mod net_wire_law;
+pub mod hops;
+pub mod owners;
+pub mod parts;
+pub mod rests;
+pub mod rx_owners;
+pub mod tx_parts;
+pub mod tx_rests;
+pub mod wire;
 
 /// A client's record is a beginning of the device's frames that are for it.
 pub fn receive_law()

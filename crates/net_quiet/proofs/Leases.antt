@@ -13,13 +13,13 @@ use Rattle.play_core.proofs.Lists.{some_is}
 use Rattle.owner_law.specs.Things.{Buffer, Window, buffer_of, names_in, times}
 use Rattle.owner_law.proofs.Counting.{below_none}
 use Rattle.net_expect.specs.Expecting.{is_for_client, frames_for}
-use Rattle.net_law.specs.NetOwners.Names.{PoolAt, by_address, by_offset}
-use Rattle.net_law.specs.NetOwners.Lending.{names_where, leases_due, leases_back}
-use Rattle.net_law.specs.NetParts.Parts.{Lessee}
-use Rattle.net_law.specs.NetParts.Rows.{IsIn, AreIn, frame_at, lease_item, leases_from, borrower_of, lender_of, is_lent}
-use Rattle.net_law.specs.NetParts.Table.{home_count, some_owed, leases_of, is_short}
-use Rattle.net_law.proofs.NetParts.Counting.{numbered, buffer_is, count_in, below_few, below_more, below_rest}
-use Rattle.net_law.proofs.NetParts.Leasing.{prefix_get}
+use Rattle.net_law.specs.Owners.Names.{PoolAt, by_address, by_offset}
+use Rattle.net_law.specs.Owners.Lending.{names_where, leases_due, leases_back}
+use Rattle.net_law.specs.Parts.Parts.{Lessee}
+use Rattle.net_law.specs.Parts.Rows.{IsIn, AreIn, frame_at, lease_item, leases_from, borrower_of, lender_of, is_lent}
+use Rattle.net_law.specs.Parts.Table.{home_count, some_owed, leases_of, is_short}
+use Rattle.net_law.proofs.PartsLemmas.Counting.{numbered, buffer_is, count_in, below_few, below_more, below_rest}
+use Rattle.net_law.proofs.PartsLemmas.Leasing.{prefix_get}
 
 -- a lease begins where its buffer does
 abbrev lease_in : (pool : PoolAt) (frame : List ℕ) (x : Item) → IsIn (by_address pool) x → IsIn (by_offset pool) (lease_item pool.base frame x)

@@ -10,12 +10,12 @@ use Rattle.wire_core.proofs.Places.{slice_get_written, slice_get_beside}
 use Rattle.play_core.specs.Totals.{total}
 use Rattle.play_core.proofs.Lists.{some_is}
 use Rattle.play_core.proofs.Walks.{begins_few}
-use Rattle.net_law.specs.NetOwners.Names.{ClientPools}
-use Rattle.net_law.specs.NetParts.Parts.{Lessee}
-use Rattle.net_law.specs.NetParts.Numbers.{client_first, lessees_from}
-use Rattle.net_law.specs.NetParts.Rows.{sized_items}
-use Rattle.net_law.specs.NetTxParts.Parts.{Shipper}
-use Rattle.net_law.specs.NetTxParts.Numbers.{shippers_from}
+use Rattle.net_law.specs.Owners.Names.{ClientPools}
+use Rattle.net_law.specs.Parts.Parts.{Lessee}
+use Rattle.net_law.specs.Parts.Numbers.{client_first, lessees_from}
+use Rattle.net_law.specs.Parts.Rows.{sized_items}
+use Rattle.net_law.specs.TxParts.Parts.{Shipper}
+use Rattle.net_law.specs.TxParts.Numbers.{shippers_from}
 
 -- a merge, of which one list passes a test and the others don't, keeps that list
 abbrev Passes : {T : Type 0} → (T → Bool) → Bool → List T → Type 0

@@ -20,17 +20,17 @@ use Rattle.play_core.proofs.Lists.{map_from, prefix_trans, there_is, there_below
 use Rattle.play_core.proofs.Merges.{merge_total}
 use Rattle.play_core.proofs.Walks.{begins_few, needs_as, flow, drained, roomy}
 use Rattle.net_expect.specs.Expecting.{Program, Sink, Source, Echo, frames_for, answers_for, sends_of}
-use Rattle.net_law.specs.NetOwners.Names.{ClientPools}
-use Rattle.net_law.specs.NetParts.Parts.{Lessee}
-use Rattle.net_law.specs.NetParts.Numbers.{client_first, device_at, driver_at, receiver_at, copier_at, client_at, lessees_from}
-use Rattle.net_law.specs.NetParts.Rows.{FillsFrames, CopiesLeases, SharesFrames, AllCopy, leases_from, lender_of, sent_where, is_answering}
+use Rattle.net_law.specs.Owners.Names.{ClientPools}
+use Rattle.net_law.specs.Parts.Parts.{Lessee}
+use Rattle.net_law.specs.Parts.Numbers.{client_first, device_at, driver_at, receiver_at, copier_at, client_at, lessees_from}
+use Rattle.net_law.specs.Parts.Rows.{FillsFrames, CopiesLeases, SharesFrames, AllCopy, leases_from, lender_of, sent_where, is_answering}
 use Rattle.buffer_kit.specs.Entries.{len_of}
-use Rattle.net_law.specs.NetParts.Table.{net_sheet, is_short, is_busy, some_owed, leases_of, frees_due, home_count}
-use Rattle.net_law.proofs.NetParts.Pairs.{twice, pair_first, pair_second}
-use Rattle.net_law.specs.NetTxParts.Parts.{Shipper}
-use Rattle.net_law.specs.NetTxParts.Numbers.{NetPlace, own_pools, shippers_from}
-use Rattle.net_law.specs.NetTxParts.Rows.{all_sends, at_device}
-use Rattle.net_quiet.specs.NetTxCast.Casting.{IsClientOf, sends_at}
+use Rattle.net_law.specs.Parts.Table.{net_sheet, is_short, is_busy, some_owed, leases_of, frees_due, home_count}
+use Rattle.net_law.proofs.PartsLemmas.Pairs.{twice, pair_first, pair_second}
+use Rattle.net_law.specs.TxParts.Parts.{Shipper}
+use Rattle.net_law.specs.TxParts.Numbers.{NetPlace, own_pools, shippers_from}
+use Rattle.net_law.specs.TxParts.Rows.{all_sends, at_device}
+use Rattle.net_quiet.specs.TxCast.Casting.{IsClientOf, sends_at}
 use Rattle.net_virt_tx.specs.Descriptors.{with_addr}
 use Rattle.buffer_kit.specs.Entries.{addr_of}
 use Rattle.net_quiet.specs.Still.{IsNetwork, ArrivesAll, SendsAll}

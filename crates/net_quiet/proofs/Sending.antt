@@ -22,19 +22,19 @@ use Rattle.play_core.proofs.Walks.{needs_as, drained, paid, roomy}
 use Rattle.net_expect.specs.Expecting.{Program}
 use Rattle.buffer_kit.specs.Entries.{addr_of}
 use Rattle.net_virt_tx.specs.Descriptors.{with_addr}
-use Rattle.net_law.specs.NetOwners.Names.{PoolAt, ClientPools, by_offset}
-use Rattle.net_law.specs.NetOwners.Ends.{numbers_from}
-use Rattle.net_law.specs.NetParts.Parts.{Way}
-use Rattle.net_law.specs.NetParts.Numbers.{client_first, device_at, driver_at, client_at}
-use Rattle.net_law.specs.NetParts.Rows.{AllCopy, FillsFrames, ServesClient, given_item, given_items, sent_where}
-use Rattle.net_law.specs.NetParts.Table.{net_sheet, is_short, client_items}
-use Rattle.net_law.proofs.NetParts.Pairs.{twice, pair_first, pair_second}
-use Rattle.net_law.proofs.NetParts.Plain.{numbers_length}
-use Rattle.net_law.specs.NetTxParts.Parts.{Shipper}
-use Rattle.net_law.specs.NetTxParts.Numbers.{NetPlace, own_pools, sender_at, shippers_from}
-use Rattle.net_law.specs.NetTxParts.Rows.{MergesSends, IsOffset, all_sends, sends_due, at_device, at_home, in_range}
-use Rattle.net_law.specs.NetTxParts.Table.{send_sheet}
-use Rattle.net_quiet.specs.NetTxCast.Casting.{IsClientOf}
+use Rattle.net_law.specs.Owners.Names.{PoolAt, ClientPools, by_offset}
+use Rattle.net_law.specs.Owners.Ends.{numbers_from}
+use Rattle.net_law.specs.Parts.Parts.{Way}
+use Rattle.net_law.specs.Parts.Numbers.{client_first, device_at, driver_at, client_at}
+use Rattle.net_law.specs.Parts.Rows.{AllCopy, FillsFrames, ServesClient, given_item, given_items, sent_where}
+use Rattle.net_law.specs.Parts.Table.{net_sheet, is_short, client_items}
+use Rattle.net_law.proofs.PartsLemmas.Pairs.{twice, pair_first, pair_second}
+use Rattle.net_law.proofs.PartsLemmas.Plain.{numbers_length}
+use Rattle.net_law.specs.TxParts.Parts.{Shipper}
+use Rattle.net_law.specs.TxParts.Numbers.{NetPlace, own_pools, sender_at, shippers_from}
+use Rattle.net_law.specs.TxParts.Rows.{MergesSends, IsOffset, all_sends, sends_due, at_device, at_home, in_range}
+use Rattle.net_law.specs.TxParts.Table.{send_sheet}
+use Rattle.net_quiet.specs.TxCast.Casting.{IsClientOf}
 use Rattle.net_quiet.specs.Still.{IsNetwork}
 use Rattle.net_quiet.proofs.Listing.{keeps, sized_as, sized_few, ship_of, shipper_at, shipper_from}
 

@@ -15,18 +15,18 @@ use Rattle.play_core.specs.Still.{IsStill}
 use Rattle.play_core.specs.Wants.{Needful}
 use Rattle.play_core.proofs.OneQueue.{whole_prefix}
 use Rattle.play_core.proofs.Merges.{prefix_merge_whole}
-use Rattle.play_core.specs.RestLaw.Showing.{HaveItems}
+use Rattle.play_core.specs.Rests.Showing.{HaveItems}
 use Rattle.net_expect.specs.Expecting.{Program, frames_for}
 use Rattle.buffer_kit.specs.Entries.{frame_of}
-use Rattle.client_programs.specs.declared.net_client.NetClient.{NetClient}
-use Rattle.net_law.specs.NetOwners.Names.{ClientPools}
-use Rattle.net_law.specs.NetParts.Numbers.{client_first}
-use Rattle.net_law.specs.NetTxParts.Numbers.{NetPlace}
-use Rattle.net_quiet.specs.NetCast.Casting.{IsClientAt}
-use Rattle.net_quiet.proofs.NetCast.Casting.{cast_records}
-use Rattle.net_quiet.specs.NetTxCast.Casting.{AllSend, IsClientOf, IsSendingClient, IsWholeCast, sends_at}
-use Rattle.net_quiet.proofs.NetTxCast.Numbers.{client_queues, device_sends}
-use Rattle.net_quiet.proofs.NetTxCast.Wholes.{wire_is}
+use Rattle.client_programs.specs.declared.net.NetClient.{NetClient}
+use Rattle.net_law.specs.Owners.Names.{ClientPools}
+use Rattle.net_law.specs.Parts.Numbers.{client_first}
+use Rattle.net_law.specs.TxParts.Numbers.{NetPlace}
+use Rattle.net_quiet.specs.Cast.Casting.{IsClientAt}
+use Rattle.net_quiet.proofs.CastLemmas.Casting.{cast_records}
+use Rattle.net_quiet.specs.TxCast.Casting.{AllSend, IsClientOf, IsSendingClient, IsWholeCast, sends_at}
+use Rattle.net_quiet.proofs.TxCast.Numbers.{client_queues, device_sends}
+use Rattle.net_quiet.proofs.TxCast.Wholes.{wire_is}
 use Rattle.net_quiet.specs.Still.{IsNetwork}
 use Rattle.net_quiet.proofs.Receiving.{arrives_all, sends_all}
 

@@ -1,7 +1,9 @@
--- The whole network where nobody is runnable.
+-- The whole network where nobody is runnable (Still), and at any moment: its receive half (Cast),
+-- the whole of it (TxCast, TxTurns), its pools (Pools), and the sending virtualiser among the
+-- owners of buffers (TxOwners).
 pub mod Still
-pub mod NetCast
-pub mod NetTxTurns
-pub mod NetTxCast
-pub mod NetPools
-pub mod NetTxOwners
+pub mod Cast
+pub mod TxTurns
+pub mod TxCast
+pub mod Pools
+pub mod TxOwners

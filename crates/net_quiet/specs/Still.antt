@@ -12,13 +12,14 @@ use Rattle.play_core.specs.Still.{Plays, Holds}
 use Rattle.play_core.specs.Totals.{total}
 use Rattle.play_core.specs.Wants.{Needful}
 use Rattle.net_expect.specs.Expecting.{Program, frames_for, sends_of}
-use Rattle.net_law.specs.NetOwners.Names.{PoolAt, ClientPools}
-use Rattle.net_law.specs.NetParts.Numbers.{client_first, device_at, driver_at, receiver_at, copier_at, client_at}
-use Rattle.net_law.specs.NetParts.Rows.{leases_from}
-use Rattle.net_law.specs.NetParts.Table.{net_sheet}
-use Rattle.net_law.specs.NetTxParts.Numbers.{NetPlace, own_pools, sender_at}
-use Rattle.net_law.specs.NetTxParts.Table.{send_sheet}
-use Rattle.net_quiet.specs.NetTxCast.Casting.{IsClientOf, sends_at}
+use Rattle.net_law.specs.Owners.Names.{PoolAt, ClientPools}
+use Rattle.net_law.specs.Parts.Numbers.{client_first, device_at, driver_at, receiver_at}
+use Rattle.net_law.specs.Parts.Numbers.{copier_at, client_at}
+use Rattle.net_law.specs.Parts.Rows.{leases_from}
+use Rattle.net_law.specs.Parts.Table.{net_sheet}
+use Rattle.net_law.specs.TxParts.Numbers.{NetPlace, own_pools, sender_at}
+use Rattle.net_law.specs.TxParts.Table.{send_sheet}
+use Rattle.net_quiet.specs.TxCast.Casting.{IsClientOf, sends_at}
 
 -- the device addresses of a pool's buffers
 abbrev pub range_of : PoolAt → Range

@@ -1,5 +1,8 @@
-//! The whole network where nobody is runnable: every frame came to each client that it is for, and
-//! all that the clients send is on the wire.
+//! The whole network at the layout's queues. At any moment nothing comes out of turn there, each
+//! client's record is a beginning of the frames for it, the wire is a merge of beginnings of what
+//! the clients send, and its actors have of each pool what the table of owners says. Where nobody
+//! is runnable, every frame came to each client that it is for, and all that the clients send is on
+//! the wire.
 #![tactic(auto)]
 
 ghost use Rattle.std.specs.Prelude.{◌≡◌, ℕ, List};
@@ -13,19 +16,20 @@ ghost use Rattle.play_core.specs.Moved.{moved};
 ghost use Rattle.play_core.specs.Sheets.{Scene};
 ghost use Rattle.play_core.specs.Still.{IsStill};
 ghost use Rattle.play_core.specs.Wants.{Needful};
-ghost use Rattle.play_core.specs.RestLaw.Showing.{HaveItems};
+ghost use Rattle.play_core.specs.Rests.Showing.{HaveItems};
 ghost use Rattle.net_expect.specs.Expecting.{Program, frames_for};
-ghost use Rattle.client_programs.specs.declared.net_client.NetClient.{NetClient};
-ghost use Rattle.net_law.specs.NetOwners.Names.{ClientPools};
-ghost use Rattle.net_law.specs.NetTxParts.Numbers.{NetPlace};
-ghost use Rattle.net_quiet.specs.NetTxCast.Casting.{AllSend, IsClientOf, IsSendingClient, IsWholeCast, sends_at};
+ghost use Rattle.client_programs.specs.declared.net.NetClient.{NetClient};
+ghost use Rattle.net_law.specs.Owners.Names.{ClientPools};
+ghost use Rattle.net_law.specs.TxParts.Numbers.{NetPlace};
+ghost use Rattle.net_quiet.specs.TxCast.Casting.{AllSend, IsClientOf, IsSendingClient};
+ghost use Rattle.net_quiet.specs.TxCast.Casting.{IsWholeCast, sends_at};
 ghost use Rattle.net_quiet.specs.Still.{IsNetwork, ArrivesAll, SendsAll};
 
-pub mod net_cast;
-pub mod net_pools;
-pub mod net_tx_cast;
-pub mod net_tx_owners;
-pub mod net_tx_turns;
+pub mod cast;
+pub mod pools;
+pub mod tx_cast;
+pub mod tx_owners;
+pub mod tx_turns;
 
 /// Where nobody is runnable, all frames went through to the clients that they are for, each as
 /// often as it should; and all that the clients send by their programs went through to the device.

@@ -1,5 +1,6 @@
 -- The receiving virtualiser: what it must fit, what it stands for, and its row.
-use Rattle.std.specs.Prelude.{◌≡◌, ◌⊎◌, ◌+◌, ◌==◌, ◌<◌, ◌≤◌, ℕ, is_some, Some, List, [], ◌∷◌, ◌++◌, All, length, map, slice_get, slice_index_or, false}
+use Rattle.std.specs.Prelude.{◌≡◌, ◌⊎◌, ◌+◌, ◌==◌, ◌<◌, ◌≤◌, ℕ, is_some, Some, List, [], ◌∷◌, ◌++◌}
+use Rattle.std.specs.Prelude.{All, length, map, slice_get, slice_index_or, false}
 use Rattle.std.specs.Option.{option_to_list}
 use Rattle.cargo_core.specs.Lists.{IsPrefix}
 use Rattle.cargo_core.specs.Pages.{Paged}
@@ -12,12 +13,15 @@ use Rattle.turn_kit.specs.Turns.{Round}
 use Rattle.turn_kit.specs.Hands.{Balances, bodies_at}
 use Rattle.buffer_kit.specs.Pools.{given_entry, page_bodies}
 use Rattle.buffer_kit.specs.Stocks.{IsStart}
-use Rattle.buffer_kit.specs.Virtualising.{FitsVirt, SameVirt, IsNewVirt, VirtForgot, VirtOwns, virt_round, virt_came, virt_went, from_queues, to_queues}
+use Rattle.buffer_kit.specs.Virtualising.{FitsVirt, SameVirt, IsNewVirt, VirtForgot, VirtOwns}
+use Rattle.buffer_kit.specs.Virtualising.{virt_round, virt_came, virt_went, from_queues, to_queues}
 use Rattle.buffer_kit.specs.declared.stock.Stock.{Stock}
 use Rattle.net_virt_rx.specs.declared.LeaseEnds.{LeaseEnds}
 use Rattle.net_virt_rx.specs.declared.NetVirtRx.{NetVirtRx}
 use Rattle.net_virt_rx.specs.declared.sharer.Sharer.{Sharer}
-use Rattle.net_virt_rx.specs.Sharing.{IsSharer, SameSharer, IsNewSharer, SharerStands, IsBuffer, IsFrameInTurn, IsLeaseInTurn, is_idle, sharer_hand, lent_bodies, leases_for, named}
+use Rattle.net_virt_rx.specs.Sharing.{IsSharer, SameSharer, IsNewSharer, SharerStands, IsBuffer}
+use Rattle.net_virt_rx.specs.Sharing.{IsFrameInTurn, IsLeaseInTurn, is_idle, sharer_hand}
+use Rattle.net_virt_rx.specs.Sharing.{lent_bodies, leases_for, named}
 
 -- the queue at a place
 abbrev pub queue_at : List QueueId → ℕ → ℕ

@@ -1,6 +1,9 @@
 -- What a receiving virtualiser has in its hand and has lent, and how it stands for the frames that
 -- came, the buffers that it gave and the leases that went to each client and came back.
-use Rattle.std.specs.Prelude.{◌≡◌, ◌+◌, ◌-◌, ◌*◌, ◌<◌, ◌≤◌, ◌^◌, ◌==◌, ◌&&◌, ℕ, zero, suc, Bool, true, false, not, nat_lt, is_some, is_none, Option, Some, None, List, [], ◌∷◌, ◌++◌, All, length, map, flat_map, take, slice_get, slice_index_or}
+use Rattle.std.specs.Prelude.{◌≡◌, ◌+◌, ◌-◌, ◌*◌, ◌<◌, ◌≤◌, ◌^◌, ◌==◌, ◌&&◌, ℕ, zero, suc, Bool}
+use Rattle.std.specs.Prelude.{true, false, not, nat_lt, is_some, is_none, Option, Some, None, List}
+use Rattle.std.specs.Prelude.{[], ◌∷◌, ◌++◌, All, length, map, flat_map, take, slice_get}
+use Rattle.std.specs.Prelude.{slice_index_or}
 use Rattle.std.specs.List.{filter}
 use Rattle.std.specs.Option.{option_to_list}
 use Rattle.cargo_core.specs.declared.item.Item.TheVariants as ItemOf

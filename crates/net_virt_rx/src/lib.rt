@@ -3,17 +3,21 @@
 //! has one is sDDF's; its turns are this project's own.
 #![tactic(auto)]
 
-ghost use Rattle.std.specs.Prelude.{◌≡◌, ◌+◌, ◌<◌, ◌^◌, ◌∷◌, [], ℕ, IfOk, OnErr, is_some, length, map, slice_index_or, true, false};
+ghost use Rattle.std.specs.Prelude.{◌≡◌, ◌+◌, ◌<◌, ◌^◌, ◌∷◌, [], ℕ, IfOk, OnErr, is_some, length};
+ghost use Rattle.std.specs.Prelude.{map, slice_index_or, true, false};
 ghost use Rattle.cargo_core.specs.declared.item.PoolId.{PoolId};
 ghost use Rattle.cargo_core.specs.Bodies.{buffers_of};
 ghost use Rattle.wire_core.specs.Ends.{role_of, Role, End};
 ghost use Rattle.wire_core.specs.Lists.{Passed, Stepped, nothing_passed};
 ghost use Rattle.wire_core.specs.Marks.{is_mark};
-ghost use Rattle.turn_kit.specs.Turns.{Turned, PostedAt, choice_of, chosen_place, last_after, is_at_rest};
+ghost use Rattle.turn_kit.specs.Turns.{Turned, PostedAt, choice_of, chosen_place, last_after};
+ghost use Rattle.turn_kit.specs.Turns.{is_at_rest};
 ghost use Rattle.buffer_kit.specs.Pools.{ArePool};
-ghost use Rattle.buffer_kit.specs.Virtualising.{from_queues, to_queues, virt_posts, place_of, IsThere, need_of};
+ghost use Rattle.buffer_kit.specs.Virtualising.{from_queues, to_queues, virt_posts, place_of};
+ghost use Rattle.buffer_kit.specs.Virtualising.{IsThere, need_of};
 ghost use Rattle.net_virt_rx.specs.Sharing.{IsSharer, is_idle, is_owing, sharer_hand, lent_many};
-ghost use Rattle.net_virt_rx.specs.Receiving.{FitsRx, RxStandsFor, RxRow, RxBalances, RxEnd, SameRx, IsNewRx, RxForgot, rx_round};
+ghost use Rattle.net_virt_rx.specs.Receiving.{FitsRx, RxStandsFor, RxRow, RxBalances, RxEnd};
+ghost use Rattle.net_virt_rx.specs.Receiving.{SameRx, IsNewRx, RxForgot, rx_round};
 
 use buffer_kit::{NetCargo, VirtEnd, VirtEnds};
 use cargo_core::{Memory, Page, PoolId};

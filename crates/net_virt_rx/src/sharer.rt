@@ -1,5 +1,7 @@
 //! What a receiving virtualiser has in its hand, and what it has lent.
-ghost use Rattle.std.specs.Prelude.{◌≡◌, ◌+◌, ◌*◌, ◌<◌, ◌≤◌, ◌^◌, ◌++◌, ◌∷◌, [], ℕ, None, Some, true, false, List, IfOk, OnOk, OnErr, IsSome, is_some, length, map, replicate, slice_get, slice_index_or, slice_set};
+ghost use Rattle.std.specs.Prelude.{◌≡◌, ◌+◌, ◌*◌, ◌<◌, ◌≤◌, ◌^◌, ◌++◌, ◌∷◌, [], ℕ, None, Some};
+ghost use Rattle.std.specs.Prelude.{true, false, List, IfOk, OnOk, OnErr, IsSome, is_some, length};
+ghost use Rattle.std.specs.Prelude.{map, replicate, slice_get, slice_index_or, slice_set};
 ghost use Rattle.std.specs.Option.{ForSome, option_map};
 ghost use Rattle.cargo_core.specs.declared.item.PoolId.{PoolId};
 ghost use Rattle.cargo_core.specs.Bodies.{buffers_of, buffers_in};
@@ -8,7 +10,10 @@ ghost use Rattle.frame_core.specs.declared.mac.Mac.{Mac};
 ghost use Rattle.wire_core.specs.Deeds.{Cargo};
 ghost use Rattle.buffer_kit.specs.Entries.{addr_of};
 ghost use Rattle.buffer_kit.specs.Pools.{ArePool, given_entry};
-ghost use Rattle.net_virt_rx.specs.Sharing.{IsSharer, IsNewSharer, SameSharer, SharerStands, how_many, is_owing, is_idle, is_back, is_returned, is_out, owed_lease, sharer_hand, sharer_bodies, with_more, lent_many};
+ghost use Rattle.net_virt_rx.specs.Sharing.{IsSharer, IsNewSharer, SameSharer, SharerStands};
+ghost use Rattle.net_virt_rx.specs.Sharing.{how_many, is_owing, is_idle, is_back, is_returned};
+ghost use Rattle.net_virt_rx.specs.Sharing.{is_out, owed_lease, sharer_hand, sharer_bodies};
+ghost use Rattle.net_virt_rx.specs.Sharing.{with_more, lent_many};
 
 use crate::Receivers;
 use buffer_kit::{Stock, address, frame, told_length};

@@ -1,5 +1,6 @@
--- What actors did at their ends over rings, and one order of all their calls.
+-- What actors did at their ends over rings (Tales), one order of all their calls (Orders), how
+-- actors begin apart (ActorParts), and what rings that ended leave (Ended).
 pub mod Tales
 pub mod Orders
 pub mod ActorParts
-pub mod EndedLaw
+pub mod Ended

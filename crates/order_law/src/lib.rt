@@ -1,4 +1,5 @@
-//! What actors did over rings, each in a thread of its own, could have been done one call after
+//! What actors do over rings, each in a thread of its own: how they are set apart and brought
+//! together again, and what the rings leave. All that they did could have been done one call after
 //! another: so all that single calls keep holds of what threads leave.
 #![tactic(auto)]
 
@@ -10,14 +11,14 @@ ghost use Rattle.actor_set.specs.declared.actor.Actor.{Actor};
 ghost use Rattle.order_law.specs.Orders.{Seated, Turn, HaveRun, InOrder, actors_of, passed_by};
 
 pub mod actor_parts;
-pub mod ended_law;
+pub mod ended;
 
 pub use actor_parts::{Part, Parts, by_number, by_place, finish_apart, open_apart, opened_law};
 
-/// Where actors began with nothing, each made its calls at its own ends, each put after all that had
-/// passed at its ends, and rings handed over entries with the times at which they were put, the
-/// calls stand in one order: each actor makes its own in turn, and after each call what was taken at
-/// a queue is a beginning of what was put there. What was put stays there.
+/// Where actors began with nothing, each made its calls at its own ends, each put after all that
+/// had passed at its ends, and rings handed over entries with the times at which they were put, the
+/// calls stand in one order: each actor makes its own in turn, and after each call what was taken
+/// at a queue is a beginning of what was put there. What was put stays there.
 pub fn order_law()
     ensures ordered { (rows : List QueueRow) (olds news : List Seated) → HaveRun rows olds news
         → (turns : List Turn)

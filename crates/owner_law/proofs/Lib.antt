@@ -1,3 +1,4 @@
+-- The proofs on the owners of buffers.
 pub mod Sums
 pub mod Tables
 pub mod Lists
@@ -12,5 +13,5 @@ pub mod Casts
 pub mod Showing
 pub mod Adopted
 pub mod Carrying
-pub mod CountLaw
-pub mod PoolLaw
+pub mod CountsLemmas
+pub mod PoolsLemmas

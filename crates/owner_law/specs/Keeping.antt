@@ -1,16 +1,22 @@
 -- What an actor may put for what it had at the start and what it took, and what the lists of all
 -- actors show of the table.
-use Rattle.std.specs.Prelude.{◌≡◌, ◌⊎◌, ◌==◌, ◌+◌, ◌<◌, ◌≤◌, ℕ, Bool, true, false, nat_lt, if◌then◌else◌, Some, List, [], ◌∷◌, length, slice_get, sum_by, count_by, flat_map}
+use Rattle.std.specs.Prelude.{◌≡◌, ◌⊎◌, ◌==◌, ◌+◌, ◌<◌, ◌≤◌, ℕ, Bool, true, false, nat_lt}
+use Rattle.std.specs.Prelude.{if◌then◌else◌, Some, List, [], ◌∷◌, length, slice_get, sum_by}
+use Rattle.std.specs.Prelude.{count_by, flat_map}
 use Rattle.wire_core.specs.declared.names.QueueRow.{QueueRow}
 use Rattle.wire_core.specs.declared.names.Entry.{Entry}
 use Rattle.wire_core.specs.Bells.{bit}
 use Rattle.wire_core.specs.Ends.{Role, Consumer, Producer}
-use Rattle.wire_core.specs.Journal.{History, Hostiles, QueuesFlow, LegalJournal, EachMoment, owner_of}
+use Rattle.wire_core.specs.Journal.{History, Hostiles, QueuesFlow, LegalJournal, EachMoment}
+use Rattle.wire_core.specs.Journal.{owner_of}
 use Rattle.play_core.specs.Moved.{Moved, Seat, moved, sent}
 use Rattle.play_core.specs.Sheets.{Sheet, AreApart, IsSeat}
 use Rattle.play_core.specs.Still.{Holds, IsPeopled}
-use Rattle.owner_law.specs.Things.{Buffer, Window, Names, NoBuffers, Buffers, Frames, Leases, Returns, Answers, Naming, Thing, things_sent, things_taken, as_buffer, as_lease, lends, gives_back, brings_leases}
-use Rattle.owner_law.specs.Owners.{InQueue, InHand, Place, Nowhere, At, Lent, Table, leases_at, receivers, AreCounted}
+use Rattle.owner_law.specs.Things.{Buffer, Window, Names, NoBuffers, Buffers, Frames, Leases}
+use Rattle.owner_law.specs.Things.{Returns, Answers, Naming, Thing, things_sent, things_taken}
+use Rattle.owner_law.specs.Things.{as_buffer, as_lease, lends, gives_back, brings_leases}
+use Rattle.owner_law.specs.Owners.{InQueue, InHand, Place, Nowhere, At, Lent, Table, leases_at}
+use Rattle.owner_law.specs.Owners.{receivers, AreCounted}
 
 -- an actor: its ends, and of each pool, by its number, the buffers that it has at the start
 pub record Keeper : Type 0 where

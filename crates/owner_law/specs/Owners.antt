@@ -1,13 +1,15 @@
 -- The table of owners, which a journal is replayed on: it gives each buffer its one place, and each
 -- lease its own.
-use Rattle.std.specs.Prelude.{◌≡◌, ◌==◌, ◌-◌, ◌≤◌, ℕ, zero, suc, Bool, false, if◌then◌else◌, Option, Some, None, List, [], ◌∷◌, ◌++◌, length, replicate, count_by}
+use Rattle.std.specs.Prelude.{◌≡◌, ◌==◌, ◌-◌, ◌≤◌, ℕ, zero, suc, Bool, false, if◌then◌else◌, Option}
+use Rattle.std.specs.Prelude.{Some, None, List, [], ◌∷◌, ◌++◌, length, replicate, count_by}
 use Rattle.cargo_core.specs.declared.item.Item.{Item}
 use Rattle.wire_core.specs.declared.names.Entry.{Entry}
 use Rattle.wire_core.specs.declared.names.Op.{Op}
 use Rattle.wire_core.specs.declared.names.Op.TheVariants as Do
 use Rattle.wire_core.specs.Journal.{History, EachEntry}
 use Rattle.play_core.specs.Moved.{Moved, moved}
-use Rattle.owner_law.specs.Things.{Buffer, is_same, Naming, Thing, Nothing, Whole, Frame, Lease, Return, thing_at, requests_of}
+use Rattle.owner_law.specs.Things.{Buffer, is_same, Naming, Thing, Nothing, Whole, Frame, Lease}
+use Rattle.owner_law.specs.Things.{Return, thing_at, requests_of}
 
 -- where things stand: in a queue, or in the hand of an actor
 pub data Spot : Type 0 where

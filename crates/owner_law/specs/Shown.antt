@@ -1,8 +1,10 @@
 -- The table that the lists of a history show: a system that takes a history over begins with it.
-use Rattle.std.specs.Prelude.{◌≡◌, ◌+◌, ◌-◌, ◌≤◌, ℕ, zero, suc, Bool, true, false, nat_lt, Option, Some, None, List, [], ◌++◌, length, replicate, slice_get, sum_by}
+use Rattle.std.specs.Prelude.{◌≡◌, ◌+◌, ◌-◌, ◌≤◌, ℕ, zero, suc, Bool, true, false, nat_lt, Option}
+use Rattle.std.specs.Prelude.{Some, None, List, [], ◌++◌, length, replicate, slice_get, sum_by}
 use Rattle.wire_core.specs.Marks.{sum_below}
 use Rattle.play_core.specs.Moved.{Moved}
-use Rattle.owner_law.specs.Things.{Buffer, Naming, things_sent, things_taken, as_buffer, as_lease, lends, gives_back, brings_leases}
+use Rattle.owner_law.specs.Things.{Buffer, Naming, things_sent, things_taken, as_buffer, as_lease}
+use Rattle.owner_law.specs.Things.{lends, gives_back, brings_leases}
 use Rattle.owner_law.specs.Owners.{Spot, InQueue, InHand, Place, Nowhere, At, Lent, Table}
 use Rattle.owner_law.specs.Keeping.{Keeper, at_start, all_taken, all_put}
 

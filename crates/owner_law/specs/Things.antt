@@ -1,5 +1,7 @@
 -- What items carry from owner to owner: buffers, and leave to read a buffer.
-use Rattle.std.specs.Prelude.{◌==◌, ◌&&◌, ◌+◌, ◌-◌, ◌*◌, ◌/◌, ℕ, Bool, nat_lt, if◌then◌else◌, Option, Some, None, List, [], ◌∷◌, slice_get, slice_index_or, option_and_then, map, sum_by}
+use Rattle.std.specs.Prelude.{◌==◌, ◌&&◌, ◌+◌, ◌-◌, ◌*◌, ◌/◌, ℕ, Bool, nat_lt, if◌then◌else◌}
+use Rattle.std.specs.Prelude.{Option, Some, None, List, [], ◌∷◌, slice_get, slice_index_or}
+use Rattle.std.specs.Prelude.{option_and_then, map, sum_by}
 use Rattle.cargo_core.specs.declared.item.Item.{Item}
 use Rattle.cargo_core.specs.declared.item.Item.TheVariants as ItemOf
 use Rattle.cargo_core.specs.declared.item.Code.{Code}

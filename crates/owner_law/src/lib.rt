@@ -1,9 +1,11 @@
 //! The owners of buffers, of whatever class: a journal is replayed on one table, in which each
 //! buffer has its place. What holds of the table at any moment follows from the rows of the actors
-//! and the law of the queues.
+//! and the law of the queues, or from counts over all actors and queues; and the lines of pools in
+//! a report are what the table says.
 #![tactic(auto)]
 
-ghost use Rattle.std.specs.Prelude.{◌≡◌, ◌+◌, ◌<◌, ◌≤◌, ◌++◌, ℕ, Some, List, [], length, slice_get, sum_by};
+ghost use Rattle.std.specs.Prelude.{◌≡◌, ◌+◌, ◌<◌, ◌≤◌, ◌++◌, ℕ, Some, List, [], length, slice_get};
+ghost use Rattle.std.specs.Prelude.{sum_by};
 ghost use Rattle.wire_core.specs.declared.names.QueueRow.{QueueRow};
 ghost use Rattle.wire_core.specs.declared.names.Entry.{Entry};
 ghost use Rattle.wire_core.specs.Journal.{History, Hostiles, EachMoment, QueuesFlow, start_history};
@@ -13,13 +15,16 @@ ghost use Rattle.wire_core.specs.Marks.{sum_below};
 ghost use Rattle.play_core.specs.Moved.{Moved, moved};
 ghost use Rattle.owner_law.specs.Things.{Buffer, Naming, things_sent, things_taken};
 ghost use Rattle.owner_law.specs.Owners.{Table, AreCounted, OneOwner, replay, replay_from};
-ghost use Rattle.owner_law.specs.Keeping.{Keeper, at_start, Keeps, all_taken, all_put, stands_in, is_with, IsShownBy, start_table, AreDealt, IsNaming, IsOwned};
-ghost use Rattle.owner_law.specs.Shown.{buffers_left, buffers_with, of_actor, shown_table, HaveOnePlace};
+ghost use Rattle.owner_law.specs.Keeping.{Keeper, at_start, Keeps, all_taken, all_put, stands_in};
+ghost use Rattle.owner_law.specs.Keeping.{is_with, IsShownBy, start_table, AreDealt, IsNaming};
+ghost use Rattle.owner_law.specs.Keeping.{IsOwned};
+ghost use Rattle.owner_law.specs.Shown.{buffers_left, buffers_with, of_actor, shown_table};
+ghost use Rattle.owner_law.specs.Shown.{HaveOnePlace};
 ghost use Rattle.owner_law.specs.Pages.{as_page, CarryPages};
 ghost use Rattle.owner_law.specs.Census.{census, IsPool, buffers_among, buffers_at_start};
 
-pub mod count_law;
-pub mod pool_law;
+pub mod counts;
+pub mod pools;
 
 /// The replay of a journal is that of its beginning and then of its rest.
 pub fn replay_law()

@@ -14,16 +14,16 @@ use Rattle.uart_driver.proofs.UartDriver.TheSendSync as UartDriver
 use Rattle.serial_virt.proofs.rx.SerialVirtRx.TheSendSync as SerialVirtRx
 use Rattle.serial_virt.proofs.tx.SerialVirtTx.TheSendSync as SerialVirtTx
 use Rattle.client_programs.proofs.SerialClient.TheSendSync as SerialClient
-use Rattle.device_model.proofs.eth_device.EthDevice.TheSendSync as EthDevice
+use Rattle.device_model.proofs.ethernet.EthDevice.TheSendSync as EthDevice
 use Rattle.eth_driver.proofs.EthDriver.TheSendSync as EthDriver
 use Rattle.net_virt_rx.proofs.NetVirtRx.TheSendSync as NetVirtRx
 use Rattle.net_copier.proofs.NetCopier.TheSendSync as NetCopier
-use Rattle.client_programs.proofs.net_client.NetClient.TheSendSync as NetClient
+use Rattle.client_programs.proofs.net.NetClient.TheSendSync as NetClient
 use Rattle.net_virt_tx.proofs.NetVirtTx.TheSendSync as NetVirtTx
 use Rattle.blk_driver.proofs.BlkDriver.TheSendSync as BlkDriver
 use Rattle.blk_virt.proofs.virtualiser.BlkVirt.TheSendSync as BlkVirt
-use Rattle.client_programs.proofs.blk_client.BlkClient.TheSendSync as BlkClient
-use Rattle.device_model.proofs.disk_device.DiskDevice.TheSendSync as DiskDevice
+use Rattle.client_programs.proofs.blk.BlkClient.TheSendSync as BlkClient
+use Rattle.device_model.proofs.disk.DiskDevice.TheSendSync as DiskDevice
 
 disk_field_send : IsSend Disk.the_field.row
 disk_field_send = let a = DiskDevice.the_field_send in search sendable depth 20

@@ -6,7 +6,7 @@ ghost use Rattle.pd_runner.specs.Running.{Stands, Came};
 use crate::floor::Floor;
 use crate::gate::Gate;
 use crate::part::{Part, Ran};
-use actor_set::actor_law::actor_law;
+use actor_set::laws::actor_law;
 use actor_set::row_law;
 use cargo_core::Memory;
 use crossbeam_utils::sync::Parker;

@@ -1,5 +1,6 @@
 -- What stands in a queue's slots, between two indices of 16 bits.
-use Rattle.std.specs.Prelude.{◌≡◌, ◌+◌, ◌-◌, ◌%◌, ◌≤◌, ℕ, zero, suc, List, [], ◌++◌, length, slice_index_or, Option, None, option_to_list}
+use Rattle.std.specs.Prelude.{◌≡◌, ◌+◌, ◌-◌, ◌%◌, ◌≤◌, ℕ, zero, suc, List, [], ◌++◌, length}
+use Rattle.std.specs.Prelude.{slice_index_or, Option, None, option_to_list}
 use Rattle.wire_core.specs.Deeds.{Cargo}
 use Rattle.cargo_core.specs.Capacities.{IsCapacity}
 use Rattle.plain_wires.specs.declared.slots.Slots.TheInside.{Inside}

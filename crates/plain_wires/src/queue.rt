@@ -1,10 +1,12 @@
 //! One queue: what stands in it, its two bells, and the looks that answered yes and aren't used.
 
-ghost use Rattle.std.specs.Prelude.{◌≡◌, ◌<◌, ◌≤◌, not, true, false, length, IfOk, Some, None, [], ◌∷◌};
+ghost use Rattle.std.specs.Prelude.{◌≡◌, ◌<◌, ◌≤◌, not, true, false, length, IfOk, Some, None, []};
+ghost use Rattle.std.specs.Prelude.{◌∷◌};
 ghost use Rattle.cargo_core.specs.Items.{kind_of};
 ghost use Rattle.wire_core.specs.Deeds.{answer_of};
 ghost use Rattle.wire_core.specs.Ends.{Condition, Consumer, Producer};
-ghost use Rattle.wire_core.specs.Queues.{Queue, queue_after, start_queue, end_of, bell_of, with_bell, is_filled, has_room};
+ghost use Rattle.wire_core.specs.Queues.{Queue, queue_after, start_queue, end_of, bell_of};
+ghost use Rattle.wire_core.specs.Queues.{with_bell, is_filled, has_room};
 ghost use Rattle.cargo_core.specs.Capacities.{IsCapacity};
 ghost use Rattle.plain_wires.specs.Adopted.{IsEndedOf, adopted};
 ghost use Rattle.plain_wires.specs.Pages.{pages_at};

@@ -1,6 +1,7 @@
 //! The entries of one queue, in slots that are made once, between two indices of 16 bits.
 
-ghost use Rattle.std.specs.Prelude.{◌≡◌, ◌<◌, ◌≤◌, not, nat_lt, [], ◌∷◌, ◌++◌, length, option_to_list, IfOk};
+ghost use Rattle.std.specs.Prelude.{◌≡◌, ◌<◌, ◌≤◌, not, nat_lt, [], ◌∷◌, ◌++◌, length};
+ghost use Rattle.std.specs.Prelude.{option_to_list, IfOk};
 ghost use Rattle.cargo_core.specs.Capacities.{IsCapacity};
 ghost use Rattle.plain_wires.specs.Contents.{standing};
 ghost use Rattle.plain_wires.specs.Pages.{pages_among};

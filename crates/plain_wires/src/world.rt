@@ -1,6 +1,7 @@
 //! All queues of a system, and how many notifications are pending for each actor.
 
-ghost use Rattle.std.specs.Prelude.{◌≡◌, ◌<◌, ◌≤◌, ◌^◌, ◌+◌, length, map, All, IfOk, IfSome, OnOk, slice_get, slice_index_or, slice_set, Some, []};
+ghost use Rattle.std.specs.Prelude.{◌≡◌, ◌<◌, ◌≤◌, ◌^◌, ◌+◌, length, map, All, IfOk, IfSome, OnOk};
+ghost use Rattle.std.specs.Prelude.{slice_get, slice_index_or, slice_set, Some, []};
 ghost use Rattle.std.specs.List.{AllZip};
 ghost use Rattle.wire_core.specs.Bells.{bit};
 ghost use Rattle.wire_core.specs.Sizes.{AreSized};

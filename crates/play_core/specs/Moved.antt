@@ -6,10 +6,11 @@ use Rattle.wire_core.specs.declared.names.Entry.{Entry}
 use Rattle.wire_core.specs.Ends.{Role, Consumer, Producer}
 use Rattle.wire_core.specs.Journal.{History, track}
 
--- what was put to a queue, and what was taken there
+-- the items that were put to a queue
 abbrev pub sent : History → ℕ → List Entry → List Item
 sent history n journal = (track history n journal).sent
 
+-- the items that were taken from a queue
 abbrev pub taken : History → ℕ → List Entry → List Item
 taken history n journal = (track history n journal).taken
 

@@ -1,5 +1,6 @@
 -- Which actors may be picked to make the next call, by what each of them wants.
-use Rattle.std.specs.Prelude.{◌+◌, ◌==◌, ◌||◌, ℕ, Bool, true, false, not, if◌then◌else◌, Option, Some, None, List, [], ◌∷◌}
+use Rattle.std.specs.Prelude.{◌+◌, ◌==◌, ◌||◌, ℕ, Bool, true, false, not, if◌then◌else◌, Option}
+use Rattle.std.specs.Prelude.{Some, None, List, [], ◌∷◌}
 use Rattle.wire_core.specs.declared.names.QueueRow.{QueueRow}
 use Rattle.wire_core.specs.declared.names.Entry.{Entry}
 use Rattle.wire_core.specs.declared.names.Op.{Op}
@@ -31,6 +32,7 @@ flags_from manner k history rows (ws ∷ actors) journal =
     is_runnable (manner k) k ws history rows journal
     ∷ flags_from manner (k + 1) history rows actors journal
 
+-- a number before some others, where a condition holds
 abbrev pub if_so : Bool → ℕ → List ℕ → List ℕ
 if_so true k ks = k ∷ ks
 if_so false k ks = ks

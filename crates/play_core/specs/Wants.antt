@@ -16,20 +16,23 @@ pub record Want : Type 0 where
   pub role : Role
   pub need : Bool
 
+-- the end that a want is about
 abbrev pub seat_of : Want → Seat
 seat_of w = record { queue = w.queue; role = w.role }
 
--- an end from which an actor takes, and one to which it puts
+-- the consuming end of a queue
 abbrev pub intake : ℕ → Seat
 intake n = record { queue = n; role = Consumer }
 
+-- the producing end of a queue
 abbrev pub outlet : ℕ → Seat
 outlet n = record { queue = n; role = Producer }
 
--- an entry is needed at an intake, or not; room is needed at an outlet, since an entry is owed
+-- a consuming end, with whether its owner needs an entry there
 abbrev pub intake_want : ℕ → Bool → Want
 intake_want n need = record { queue = n; role = Consumer; need = need }
 
+-- a producing end, with whether its owner needs room there, since it owes an entry
 abbrev pub outlet_want : ℕ → Bool → Want
 outlet_want n owed = record { queue = n; role = Producer; need = owed }
 
@@ -46,6 +49,7 @@ abbrev pub bells_settled : Bells → Role → Bool → Bool
 bells_settled b Consumer need = end_settled b.forward.waiter b.backward.ringer need
 bells_settled b Producer need = end_settled b.backward.waiter b.forward.ringer need
 
+-- the end of a want is settled, by its bells
 abbrev pub want_settled : History → List Entry → Want → Bool
 want_settled history journal w = bells_settled (track history w.queue journal).bells w.role w.need
 

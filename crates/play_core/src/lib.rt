@@ -1,9 +1,11 @@
 //! The definitions of a played system, low, and what holds of any class of actors: whose turn it
-//! may be after a call, and what rests where nobody may make one. They stand just above the calls,
-//! so that a law on a class waits for no description.
+//! may be after a call, that the picks of seeds leave nobody out, when an actor is at rest, and
+//! what rests where nobody may make a call. They stand just above the calls, so that a law on a
+//! class waits for no description.
 #![tactic(auto)]
 
-ghost use Rattle.std.specs.Prelude.{◌≡◌, ◌≢◌, ◌≤◌, ◌++◌, ℕ, Bool, true, false, List, [], ◌∷◌, Some, length, slice_get};
+ghost use Rattle.std.specs.Prelude.{◌≡◌, ◌≢◌, ◌≤◌, ◌++◌, ℕ, Bool, true, false, List, [], ◌∷◌, Some};
+ghost use Rattle.std.specs.Prelude.{length, slice_get};
 ghost use Rattle.cargo_core.specs.Lists.{Merge, PrefixMerge};
 ghost use Rattle.wire_core.specs.declared.names.QueueRow.{QueueRow};
 ghost use Rattle.wire_core.specs.declared.names.Entry.{Entry};
@@ -18,8 +20,8 @@ ghost use Rattle.play_core.specs.Resting.{QueueRests, QueuePays, is_due};
 ghost use Rattle.play_core.specs.Totals.{total};
 ghost use Rattle.play_core.specs.Still.{IsQuiet, IsStill, Needs, Owes};
 
-pub mod pick_laws;
-pub mod rest_law;
+pub mod picks;
+pub mod rests;
 
 /// Where no actor is runnable, all ends are settled and nobody is called; and then of each queue
 /// with no hostile end: no entry stands in it where its consumer needs one, and an entry is owed to

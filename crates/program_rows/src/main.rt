@@ -1,13 +1,14 @@
-//! The worked rows of the program. Each line of standard input is the name of a row, behind `#`; the
-//! words of one, whose texts are the files beside it; `COUNT | WORDS`, a play for each seed below a
-//! count; or `COUNT at ACTORS | WORDS`, so many runs in threads behind a gate that holds each actor's
-//! first step until so many have arrived there. Standard output has each name, what `serve` writes
-//! to these words, and the status code; of many seeds or runs what the first one gives, and how many
-//! give the same; and of runs how many actors waited in vain.
+//! The worked rows of the program. Each line of standard input is the name of a row, behind `#`;
+//! the words of one, whose texts are the files beside it; `COUNT | WORDS`, a play for each seed
+//! below a count; or `COUNT at ACTORS | WORDS`, so many runs in threads behind a gate that holds
+//! each actor's first step until so many have arrived there. Standard output has each name, what
+//! `serve` writes to these words, and the status code; of many seeds or runs what the first one
+//! gives, and how many give the same; and of runs how many actors waited in vain. The tests beside
+//! them call the program where the outside fails, and with texts as long as they may be.
 #![tactic(auto)]
 
 mod arrivals;
-mod sddf_tests;
+mod tests;
 
 use arrivals::Arrivals;
 use sddf_top::{FileShelf, MemSink, Played, serve};
@@ -67,8 +68,8 @@ fn add_line(
     Ok(())
 }
 
-// Writes the lines of an answer. Of a journal behind a quiet report only the actor of the first step
-// is written.
+// Writes the lines of an answer. Of a journal behind a quiet report only the actor of the first
+// step is written.
 fn add_lines(to: &mut String, text: &str, is_run: bool) -> io::Result<()> {
     let is_quiet = text.starts_with("quiet\n");
     let is_spent = text.starts_with("spent\n");

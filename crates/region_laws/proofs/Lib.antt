@@ -1,2 +1,3 @@
-pub mod AccessLaws
-pub mod BudgetLaws
+-- The proofs on regions and budgets.
+pub mod AccessLemmas
+pub mod BudgetsLemmas

@@ -1,3 +1,4 @@
--- What the contracts of this crate say, by its modules.
-pub mod AccessLaws
-pub mod BudgetLaws
+-- What the laws on regions and budgets say: who reaches regions and where they lie (Access), and
+-- what the step budget counts (Budgets).
+pub mod Access
+pub mod Budgets

@@ -1,5 +1,6 @@
 -- Where the regions of a plan lie: at their given bases, or in file order behind all given ranges.
-use Rattle.std.specs.Prelude.{◌≡◌, ℕ, ◌+◌, ◌-◌, ◌*◌, ◌/◌, ◌<◌, ◌≤◌, ◌⊎◌, max, if◌then◌else◌, List, [], ◌∷◌, fold, slice_get, Some, is_some, unwrap_or}
+use Rattle.std.specs.Prelude.{◌≡◌, ℕ, ◌+◌, ◌-◌, ◌*◌, ◌/◌, ◌<◌, ◌≤◌, ◌⊎◌, max, if◌then◌else◌, List}
+use Rattle.std.specs.Prelude.{[], ◌∷◌, fold, slice_get, Some, is_some, unwrap_or}
 use Rattle.std.specs.Option.{option_map_or}
 use Rattle.sdf_plan.specs.declared.plan.Region.{Region}
 

@@ -1,5 +1,7 @@
 -- The tables of actors, queues and pools that a plan gives.
-use Rattle.std.specs.Prelude.{ℕ, ◌+◌, ◌*◌, not, Bool, if◌then◌else◌, List, [], ◌∷◌, ◌++◌, length, map, filter, codes, bytes_eq, slice_index, Option, None, is_some, unwrap_or}
+use Rattle.std.specs.Prelude.{ℕ, ◌+◌, ◌*◌, not, Bool, if◌then◌else◌, List, [], ◌∷◌, ◌++◌, length}
+use Rattle.std.specs.Prelude.{map, filter, codes, bytes_eq, slice_index, Option, None, is_some}
+use Rattle.std.specs.Prelude.{unwrap_or}
 use Rattle.std.specs.List.{flat_map}
 use Rattle.std.specs.Option.{option_map_or}
 use Rattle.std.specs.Fmt.{decimal}
@@ -108,12 +110,13 @@ device_at plan At.Net = eth_number plan
 device_at plan At.Serial = uart_number plan
 device_at plan _ = disk_number plan
 
--- the producer of a queue of the element at a place, and its consumer
+-- the producer of a queue of the element at a place
 abbrev pub producer_of : Plan → Place → Ends Name → ActorId
 producer_of plan place (Way.FromDevice driver) = device_at plan place
 producer_of plan place (Way.ToDevice driver) = actor_named plan driver
 producer_of plan place (Way.Across link) = actor_named plan link.from
 
+-- the consumer of a queue of the element at a place
 abbrev pub consumer_of : Plan → Place → Ends Name → ActorId
 consumer_of plan place (Way.FromDevice driver) = actor_named plan driver
 consumer_of plan place (Way.ToDevice driver) = device_at plan place
@@ -124,27 +127,30 @@ abbrev pub region_of : Plan → Ends Name → Option ℕ
 region_of plan (Way.Across link) = region_named plan link.region
 region_of plan _ = None
 
--- the row of the layout that a queue of the element at a place is, and that a pool is
+-- the row of the layout that a queue of the element at a place is
 abbrev pub queue_row : Plan → Place → QueueUse Name → QueueRow
 queue_row plan place q =
     queue_in plan (region_of plan q.ends) (offset_behind q.behind q.capacity)
     (text_of q.name) q.kind
     (producer_of plan place q.ends) (consumer_of plan place q.ends) q.capacity
 
+-- the row of the layout that a pool is
 abbrev pub pool_row : Plan → PoolUse Name → PoolRow
 pool_row plan p = pool_in plan p.region (text_of p.name) p.buffers p.size
 
--- the rows of an element
+-- the rows of the queues of an element
 abbrev pub queue_rows : Plan → Element → List QueueRow
 queue_rows plan e = map (queue_row plan e.place) e.queues
 
+-- the rows of the pools of an element
 abbrev pub pool_rows : Plan → Element → List PoolRow
 pool_rows plan e = map (pool_row plan) e.pools
 
--- all queues and all pools: the rows of the table of classes, element by element
+-- all queues: the rows of the table of classes, element by element
 unfoldable pub queues_of : Plan → List QueueRow
 queues_of plan = flat_map (queue_rows plan) (table_of plan)
 
+-- all pools of a plan, element by element
 unfoldable pub pools_of : Plan → List PoolRow
 pools_of plan = flat_map (pool_rows plan) (table_of plan)
 
@@ -179,7 +185,7 @@ abbrev pub each_client : {C T : Type 0} → (ℕ → C → List T) → ℕ → L
 each_client rows c [] = []
 each_client rows c (client ∷ rest) = rows c client ++ each_client rows (c + 1) rest
 
--- the queues between the Ethernet device and its driver
+-- the queues between the Ethernet driver and its device, of what is received
 unfoldable pub eth_rx_queues : Plan → Net → List QueueRow
 eth_rx_queues plan net =
     device_queue plan (codes "eth.rx.free") Kind.Net (actor_named plan net.driver)
@@ -187,6 +193,7 @@ eth_rx_queues plan net =
     ∷ device_queue plan (codes "eth.rx.active") Kind.Net (eth_number plan)
     (actor_named plan net.driver) net.rx_capacity ∷ []
 
+-- the queues between the Ethernet driver and its device, of what is sent
 unfoldable pub eth_tx_queues : Plan → Net → List QueueRow
 eth_tx_queues plan net =
     device_queue plan (codes "eth.tx.active") Kind.Net (actor_named plan net.driver)
@@ -194,18 +201,19 @@ eth_tx_queues plan net =
     ∷ device_queue plan (codes "eth.tx.free") Kind.Net (eth_number plan)
     (actor_named plan net.driver) net.tx_capacity ∷ []
 
--- the queues between the driver and each virtualiser of the network class
+-- the queues between the Ethernet driver and the receiving virtualiser
 unfoldable pub net_rx_queues : Plan → Net → List QueueRow
 net_rx_queues plan net = queue_pair plan net.rx_queues (codes "net.rx.active") Kind.Net
     (codes "net.rx.free") Kind.Net (actor_named plan net.driver)
     (actor_named plan net.rx_virt) net.rx_capacity
 
+-- the queues between the sending virtualiser and the Ethernet driver
 unfoldable pub net_tx_queues : Plan → Net → List QueueRow
 net_tx_queues plan net = queue_pair plan net.tx_queues (codes "net.tx.active") Kind.Net
     (codes "net.tx.free") Kind.Net (actor_named plan net.tx_virt)
     (actor_named plan net.driver) net.tx_capacity
 
--- the queues of a network client: of its leases, of what it receives, and of what it sends
+-- the queues of a network client's leases
 unfoldable pub lease_queues : Plan → Net → ℕ → NetClient → List QueueRow
 lease_queues plan net c client =
     queue_pair plan client.lease_queues
@@ -213,18 +221,21 @@ lease_queues plan net c client =
     (client_name (codes "net.") c (codes ".lease.free")) Kind.Net
     (actor_named plan net.rx_virt) (actor_named plan client.copier) net.rx_capacity
 
+-- the queues of what a network client receives
 unfoldable pub client_rx_queues : Plan → ℕ → NetClient → List QueueRow
 client_rx_queues plan c client =
     queue_pair plan client.rx_queues (client_name (codes "net.") c (codes ".rx.active")) Kind.Net
     (client_name (codes "net.") c (codes ".rx.free")) Kind.Net (actor_named plan client.copier)
     (actor_named plan client.pd) client.rx_capacity
 
+-- the queues of what a network client sends
 unfoldable pub client_tx_queues : Plan → Net → ℕ → NetClient → List QueueRow
 client_tx_queues plan net c client =
     queue_pair plan client.tx_queues (client_name (codes "net.") c (codes ".tx.active")) Kind.Net
     (client_name (codes "net.") c (codes ".tx.free")) Kind.Net (actor_named plan client.pd)
     (actor_named plan net.tx_virt) client.tx_capacity
 
+-- all queues of a network client
 unfoldable pub net_client_queues : Plan → Net → ℕ → NetClient → List QueueRow
 net_client_queues plan net c client =
     lease_queues plan net c client ++ client_rx_queues plan c client
@@ -291,13 +302,15 @@ unfoldable pub blk_queues : Plan → Blk → List QueueRow
 blk_queues plan blk = disk_queues plan blk ++ shared_blk_queues plan blk
     ++ each_client (blk_client_queues plan blk) 0 blk.client
 
--- the bytes of a network buffer, and of a block buffer
+-- the bytes of a network buffer
 abbrev pub net_buffer : ℕ
 net_buffer = 2048
 
+-- the bytes of a block buffer
 abbrev pub blk_buffer : ℕ
 blk_buffer = 32768
 
+-- the pools of a network client
 unfoldable pub net_client_pools : Plan → ℕ → NetClient → List PoolRow
 net_client_pools plan c client =
     pool_in plan client.rx_region (client_name (codes "net.") c
@@ -305,14 +318,17 @@ net_client_pools plan c client =
     ∷ pool_in plan client.tx_region (client_name (codes "net.") c
     (codes ".tx")) client.tx_buffers net_buffer ∷ []
 
+-- the pools of the network class and of its clients
 unfoldable pub net_pools : Plan → Net → List PoolRow
 net_pools plan net = pool_in plan net.rx_region (codes "net.rx") net.rx_buffers net_buffer
     ∷ each_client (net_client_pools plan) 0 net.client
 
+-- the pool of a block client
 unfoldable pub blk_client_pools : Plan → ℕ → BlkClient → List PoolRow
 blk_client_pools plan c client = pool_in plan client.region
     (client_name (codes "blk.") c []) client.buffers blk_buffer ∷ []
 
+-- the pools of the block class and of its clients
 unfoldable pub blk_pools : Plan → Blk → List PoolRow
 blk_pools plan blk = pool_in plan blk.region (codes "blk") 1 blk_buffer
     ∷ each_client (blk_client_pools plan) 0 blk.client

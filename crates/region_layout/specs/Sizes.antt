@@ -22,13 +22,14 @@ pub record AreSmallRegions (regions : List Region) : Type 0 where
   pub few : length regions ≤ 256
   pub each : (k : ℕ) (region : Region) → slice_get regions k ≡ Some region → IsSmallRegion region
 
--- capacities and numbers of buffers have 32 bits
+-- the numbers of a network client have 32 bits
 pub record IsSmallNetClient (client : NetClient) : Type 0 where
   pub rx_capacity : client.rx_capacity < 2 ^ 32
   pub tx_capacity : client.tx_capacity < 2 ^ 32
   pub rx_buffers : client.rx_buffers < 2 ^ 32
   pub tx_buffers : client.tx_buffers < 2 ^ 32
 
+-- the numbers of the network class, and of its clients, have 32 bits
 pub record IsSmallNet (net : Net) : Type 0 where
   pub rx_capacity : net.rx_capacity < 2 ^ 32
   pub tx_capacity : net.tx_capacity < 2 ^ 32
@@ -36,20 +37,24 @@ pub record IsSmallNet (net : Net) : Type 0 where
   pub clients : (k : ℕ) (client : NetClient) → slice_get net.client k ≡ Some client
       → IsSmallNetClient client
 
+-- the numbers of a serial client have 32 bits
 pub record IsSmallSerialClient (client : SerialClient) : Type 0 where
   pub rx_capacity : client.rx_capacity < 2 ^ 32
   pub tx_capacity : client.tx_capacity < 2 ^ 32
 
+-- the numbers of the serial class, and of its clients, have 32 bits
 pub record IsSmallSerial (serial : Serial) : Type 0 where
   pub rx_capacity : serial.rx_capacity < 2 ^ 32
   pub tx_capacity : serial.tx_capacity < 2 ^ 32
   pub clients : (k : ℕ) (client : SerialClient) → slice_get serial.client k ≡ Some client
       → IsSmallSerialClient client
 
+-- the numbers of a block client have 32 bits
 pub record IsSmallBlkClient (client : BlkClient) : Type 0 where
   pub capacity : client.capacity < 2 ^ 32
   pub buffers : client.buffers < 2 ^ 32
 
+-- the numbers of the block class, and of its clients, have 32 bits
 pub record IsSmallBlk (blk : Blk) : Type 0 where
   pub capacity : blk.capacity < 2 ^ 32
   pub clients : (k : ℕ) (client : BlkClient) → slice_get blk.client k ≡ Some client

@@ -1,8 +1,11 @@
 //! Who acts: the actors of a plan by their numbers, and its regions by their names.
-ghost use Rattle.std.specs.Prelude.{◌≡◌, ◌+◌, ◌<◌, ◌≤◌, ◌++◌, length, map, filter, codes, IfOk, OnOk, IfSome, slice_index};
+ghost use Rattle.std.specs.Prelude.{◌≡◌, ◌+◌, ◌<◌, ◌≤◌, ◌++◌, length, map, filter, codes, IfOk};
+ghost use Rattle.std.specs.Prelude.{OnOk, IfSome, slice_index};
 ghost use Rattle.sdf_check.specs.Names.{place_of, region_named, region_names_of};
 ghost use Rattle.region_layout.specs.Bases.{bases_of};
-ghost use Rattle.region_layout.specs.Rows.{acts, actors_of, devices_of, name_if, actor_named, acting_count, one_if, eth_number, uart_number, disk_number, device_at};
+ghost use Rattle.region_layout.specs.Rows.{acts, actors_of, devices_of, name_if, actor_named};
+ghost use Rattle.region_layout.specs.Rows.{acting_count, one_if, eth_number, uart_number};
+ghost use Rattle.region_layout.specs.Rows.{disk_number, device_at};
 
 use cargo_core::{Memory, Series, Text};
 use sdf_plan::{Domain, Place, Plan, Region};

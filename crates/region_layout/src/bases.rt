@@ -1,6 +1,7 @@
 //! Where each region lies: at its given base, or in file order behind all given ranges.
 ghost use Rattle.std.specs.Prelude.{◌≡◌, ◌+◌, ◌*◌, ◌^◌, ◌≤◌, IfOk};
-ghost use Rattle.region_layout.specs.Bases.{base_at, free_after, bases_of, floor_of, given_end, round_up};
+ghost use Rattle.region_layout.specs.Bases.{base_at, free_after, bases_of, floor_of, given_end};
+ghost use Rattle.region_layout.specs.Bases.{round_up};
 ghost use Rattle.region_layout.specs.Sizes.{AreSmallRegions, IsSmallRegion};
 
 use cargo_core::{Memory, Series};

@@ -3,7 +3,8 @@
 ghost use Rattle.std.specs.Prelude.{◌≡◌, ◌++◌, All, IfOk, OnOk};
 ghost use Rattle.class_table.specs.Shown.{AreClasses, element_shown, ends_shown, queue_shown};
 ghost use Rattle.class_table.specs.Table.{table_of};
-ghost use Rattle.region_layout.specs.Rows.{consumer_of, producer_of, queue_in, queue_row, queue_rows, queues_of, region_of};
+ghost use Rattle.region_layout.specs.Rows.{consumer_of, producer_of, queue_in, queue_row};
+ghost use Rattle.region_layout.specs.Rows.{queue_rows, queues_of, region_of};
 ghost use Rattle.region_layout.specs.Uses.{IsSmallElement, IsSmallQueue};
 
 use crate::actors::Names;

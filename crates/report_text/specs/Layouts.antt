@@ -1,5 +1,6 @@
 -- The lines of a layout, field by field.
-use Rattle.std.specs.Prelude.{ℕ, false, Option, Some, None, unwrap_or, List, [], ◌∷◌, ◌++◌, map, slice_get, codes}
+use Rattle.std.specs.Prelude.{ℕ, false, Option, Some, None, unwrap_or, List, [], ◌∷◌, ◌++◌, map}
+use Rattle.std.specs.Prelude.{slice_get, codes}
 use Rattle.std.specs.Option.{option_map_or}
 use Rattle.std.specs.Fmt.{decimal, digits}
 use Rattle.sdf_plan.specs.declared.plan.Plan.{Plan}

@@ -3,7 +3,8 @@
 ghost use Rattle.std.specs.Prelude.{◌≡◌, ◌<◌, ◌^◌, [], length, IfOk, string_bytes};
 ghost use Rattle.std.specs.Option.{option_map_or};
 ghost use Rattle.region_layout.specs.Rows.{queues_of, net_queues, serial_queues, blk_queues};
-ghost use Rattle.report_text.specs.Answers.{usage_text, accepted_text, refused_text, bad_trace_text, long_text};
+ghost use Rattle.report_text.specs.Answers.{usage_text, accepted_text, refused_text};
+ghost use Rattle.report_text.specs.Answers.{bad_trace_text, long_text};
 
 use crate::write_place;
 use cargo_core::Memory;

@@ -3,7 +3,8 @@
 ghost use Rattle.std.specs.Prelude.{◌≡◌, [], ◌∷◌, ◌++◌, map, IfOk, OnOk, string_bytes};
 ghost use Rattle.hex.specs.Hex.{encode_lower};
 ghost use Rattle.report_text.specs.Lines.{text_of};
-ghost use Rattle.report_text.specs.Journals.{side_text, op_text, answer_text, item_text, carried_text, queue_name, entry_line, journal_text};
+ghost use Rattle.report_text.specs.Journals.{side_text, op_text, answer_text, item_text};
+ghost use Rattle.report_text.specs.Journals.{carried_text, queue_name, entry_line, journal_text};
 
 use crate::layout::name_at;
 use cargo_core::{BlkReq, BlkResp, Item, Memory};

@@ -3,7 +3,9 @@
 ghost use Rattle.std.specs.Prelude.{◌≡◌, [], ◌∷◌, ◌++◌, map, IfOk, OnOk, string_bytes};
 ghost use Rattle.report_text.specs.Lines.{text_of};
 ghost use Rattle.report_text.specs.Reports.{each_numbered};
-ghost use Rattle.report_text.specs.Layouts.{name_at, region_name, region_line, region_lines, layout_pool_line, queue_region, queue_line, layout_text};
+ghost use Rattle.report_text.specs.Layouts.{name_at, region_name, region_line, region_lines};
+ghost use Rattle.report_text.specs.Layouts.{layout_pool_line, queue_region, queue_line};
+ghost use Rattle.report_text.specs.Layouts.{layout_text};
 
 use cargo_core::{Memory, Text};
 use region_layout::{Layout, PoolRow, QueueRow};

@@ -1,10 +1,15 @@
 //! The text of a report, which `play` prints.
 
-ghost use Rattle.std.specs.Prelude.{◌≡◌, ◌<◌, ◌≤◌, ◌∷◌, [], ◌++◌, map, drop, length, slice_index, IfOk, OnOk, string_bytes};
+ghost use Rattle.std.specs.Prelude.{◌≡◌, ◌<◌, ◌≤◌, ◌∷◌, [], ◌++◌, map, drop, length, slice_index};
+ghost use Rattle.std.specs.Prelude.{IfOk, OnOk, string_bytes};
 ghost use Rattle.hex.specs.Hex.{encode_lower};
 ghost use Rattle.report_text.specs.Lines.{text_of};
 ghost use Rattle.report_text.specs.Runs.{runs_of, run_text, more_runs_text};
-ghost use Rattle.report_text.specs.Reports.{report_text, byte_lines, wire_line, wire_lines, net_line, net_lines, uart_line, uart_lines, serial_line, serial_lines, blk_line, blk_lines, each_numbered, pool_line, reply_line, given_text, status_text, ending_line, steps_line, bad_line};
+ghost use Rattle.report_text.specs.Reports.{report_text, byte_lines, wire_line, wire_lines};
+ghost use Rattle.report_text.specs.Reports.{net_line, net_lines, uart_line, uart_lines};
+ghost use Rattle.report_text.specs.Reports.{serial_line, serial_lines, blk_line, blk_lines};
+ghost use Rattle.report_text.specs.Reports.{each_numbered, pool_line, reply_line, given_text};
+ghost use Rattle.report_text.specs.Reports.{status_text, ending_line, steps_line, bad_line};
 
 use cargo_core::{BlkStatus, Bytes, FrameLog, Memory, Reply, Series};
 use expect_core::{Census, Report};

@@ -2,7 +2,8 @@
 
 ghost use Rattle.std.specs.Prelude.{◌≡◌, ◌++◌, IfOk, OnOk, string_bytes};
 ghost use Rattle.report_text.specs.Lines.{text_of};
-ghost use Rattle.report_text.specs.Reports.{summary_text, line_or_none, one_numbered, wire_line, net_line, uart_line, serial_line, blk_line};
+ghost use Rattle.report_text.specs.Reports.{summary_text, line_or_none, one_numbered, wire_line};
+ghost use Rattle.report_text.specs.Reports.{net_line, uart_line, serial_line, blk_line};
 
 use crate::report::{
     add_bad, add_blk_line, add_head, add_net_line, add_pools, add_serial_line, add_uart_line,

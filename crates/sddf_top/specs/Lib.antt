@@ -1,3 +1,7 @@
+-- What `serve` does (Served), by what the words and the texts decide and what comes of it
+-- (Decisions, Outcomes, Judged, Answers, Codes), how texts are read (Readings, Names, Outside,
+-- FaultPlans), how the answer is written (Sunk), and what is shown of a play or a run (Shown,
+-- SystemRun).
 pub mod Answers
 pub mod Codes
 pub mod Decisions

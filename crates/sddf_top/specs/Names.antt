@@ -5,14 +5,16 @@ use Rattle.std.specs.Cmp.Lexicographic.{pointwise}
 use Rattle.sddf_top.specs.FaultPlans.{Planned}
 use Rattle.sddf_top.specs.declared.memory_shelf.NamedText.{NamedText}
 
--- the first text of this name: its place, and its bytes
+-- the place of the first text of a name
 abbrev pub place_under : List NamedText → List ℕ → Option ℕ
 place_under kept name = position (λ k. pointwise nat_eq k.name name) kept
 
+-- the text that is kept at a place, if there is one
 abbrev pub text_at : List NamedText → Option ℕ → Option (List ℕ)
 text_at kept (Some place) = option_map (λ k. k.text) (slice_get kept place)
 text_at kept None = None
 
+-- the text that is kept under a name
 abbrev pub text_under : List NamedText → List ℕ → Option (List ℕ)
 text_under kept name = text_at kept (place_under kept name)
 

@@ -1,4 +1,5 @@
-//! The program as one call, over a shelf of texts and a sink for the answer.
+//! The program as one call, over a shelf of texts and a sink for the answer, with a run of its own
+//! for a trace that is run in threads.
 #![tactic(auto)]
 
 mod answering;

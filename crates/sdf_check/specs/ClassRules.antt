@@ -1,5 +1,7 @@
 -- The rules on the classes of a plan: roles, channels, maps, capacities, sizes, ids and counts.
-use Rattle.std.specs.Prelude.{◌≡◌, ◌≢◌, ℕ, ◌+◌, ◌*◌, ◌^◌, ◌<◌, ◌≤◌, ◌⊎◌, Bool, true, List, [], ◌∷◌, ◌++◌, length, map, take, Option, slice_get, codes, IsNone, IsSomeAnd, MatchBool}
+use Rattle.std.specs.Prelude.{◌≡◌, ◌≢◌, ℕ, ◌+◌, ◌*◌, ◌^◌, ◌<◌, ◌≤◌, ◌⊎◌, Bool, true, List, [], ◌∷◌}
+use Rattle.std.specs.Prelude.{◌++◌, length, map, take, Option, slice_get, codes, IsNone, IsSomeAnd}
+use Rattle.std.specs.Prelude.{MatchBool}
 use Rattle.cargo_core.specs.Capacities.{IsCapacity}
 use Rattle.std.specs.List.{flat_map}
 use Rattle.std.specs.Option.{option_map_or, option_and_then}
@@ -44,43 +46,48 @@ OfLink P (Way.Across link) = P link
 OfLink P (Way.FromDevice driver) = ⊥
 OfLink P (Way.ToDevice driver) = ⊥
 
--- rule 13: the region of a queue or of a pool isn't there
+-- the region of a queue isn't there
 abbrev pub QueueHasNoRegion : Plan → QueueUse Name → Type 0
 QueueHasNoRegion plan q = OfLink (λ link. IsNone (region_named plan link.region)) q.ends
 
+-- the region of a pool isn't there
 abbrev pub PoolHasNoRegion : Plan → PoolUse Name → Type 0
 PoolHasNoRegion plan p = IsNone (region_named plan p.region)
 
+-- rule 13 of an element of a class: one of its queues or pools has no region
 abbrev pub UsesNoRegion : Plan → Element → Type 0
 UsesNoRegion plan e = SomeOf (QueueHasNoRegion plan) e.queues
     ⊎ SomeOf (PoolHasNoRegion plan) e.pools
 
--- rule 17: a domain that has a role isn't there
+-- the domain that has a role isn't there
 abbrev pub RoleHasNoDomain : Plan → RoleUse Name → Type 0
 RoleHasNoDomain plan r = IsNone (domain_named plan r.domain)
 
+-- rule 17 of an element of a class: one of its roles has no domain
 abbrev pub UsesNoDomain : Plan → Element → Type 0
 UsesNoDomain plan e = SomeOf (RoleHasNoDomain plan) e.roles
 
--- what the elements of a class name, the class itself and then its clients
+-- the names that the network class and its clients use, read in these two ways
 abbrev pub net_names : (Net → List (List ℕ)) → (NetClient → List (List ℕ)) → Plan → List (List ℕ)
 net_names class client plan = option_map_or
     (λ net. class net ++ flat_map client net.client) plan.net []
 
+-- the names that the serial class and its clients use, read in these two ways
 abbrev pub serial_names : (Serial → List (List ℕ)) → (SerialClient → List (List ℕ)) → Plan
     → List (List ℕ)
 serial_names class client plan = option_map_or
     (λ serial. class serial ++ flat_map client serial.client) plan.serial []
 
+-- the names that the block class and its clients use, read in these two ways
 abbrev pub blk_names : (Blk → List (List ℕ)) → (BlkClient → List (List ℕ)) → Plan → List (List ℕ)
 blk_names class client plan = option_map_or
     (λ blk. class blk ++ flat_map client blk.client) plan.blk []
 
--- the domains, and the regions, that class elements name, element by element in the order of the
--- table
+-- the domains that class elements name, element by element in the order of the table
 abbrev pub class_domains : Plan → List (List ℕ)
 class_domains plan = flat_map domains_of (table_of plan)
 
+-- the regions that class elements name
 abbrev pub class_regions : Plan → List (List ℕ)
 class_regions plan = flat_map regions_of (table_of plan)
 
@@ -120,6 +127,7 @@ Joins link channel =
     IsSomeAnd (slice_get channel.end 0) (λ first. IsSomeAnd (slice_get channel.end 1) (λ second.
     ((first.pd ≡ link.0) × (second.pd ≡ link.1)) ⊎ ((first.pd ≡ link.1) × (second.pd ≡ link.0))))
 
+-- a channel joins the two domains of a link
 abbrev pub AreJoined : Plan → List ℕ × List ℕ → Type 0
 AreJoined plan link = SomeOf (Joins link) plan.channel
 
@@ -127,10 +135,11 @@ AreJoined plan link = SomeOf (Joins link) plan.channel
 abbrev pub HasInterrupt : Plan → List ℕ → Type 0
 HasInterrupt plan name = IsSomeAnd (the_domain plan name) (λ domain. 0 < length domain.irq)
 
--- rule 22: the two domains of a queue have no channel between them, or a driver has no interrupt
+-- the two domains of a queue have no channel between them
 abbrev pub QueueHasNoChannel : Plan → QueueUse Name → Type 0
 QueueHasNoChannel plan q = OfLink (λ link. ¬ AreJoined plan (link.from, link.to)) q.ends
 
+-- rule 22: one of an element's queues has no channel, or its driver no interrupt
 abbrev pub LacksChannel : Plan → Element → Type 0
 LacksChannel plan e = SomeOf (QueueHasNoChannel plan) e.queues
     ⊎ IsSomeAnd e.driver (λ name. ¬ HasInterrupt plan name)
@@ -148,17 +157,18 @@ abbrev pub IsGranted : Plan → List ℕ × List ℕ × Bool → Type 0
 IsGranted plan right = IsSomeAnd (the_domain plan right.0)
     (λ domain. SomeOf (Grants right.1 right.2) domain.map)
 
--- rule 23: one of the two domains of a queue can't read and write its region, or one that must map
--- the region of a pool doesn't do so with the permissions asked
+-- one of the two domains of a queue can't read and write its region
 abbrev pub QueueLacksRight : Plan → QueueUse Name → Type 0
 QueueLacksRight plan q =
     OfLink (λ link. (¬ IsGranted plan (link.from, link.region, true))
     ⊎ (¬ IsGranted plan (link.to, link.region, true))) q.ends
 
+-- a domain that must map a pool's region lacks the rights asked of it
 abbrev pub PoolLacksRight : Plan → PoolUse Name → Type 0
 PoolLacksRight plan p = SomeOf (λ (g : Grant Name).
     ¬ IsGranted plan (g.domain, p.region, g.writes)) p.must
 
+-- rule 23: a domain of one of an element's queues or pools lacks a map
 abbrev pub LacksRight : Plan → Element → Type 0
 LacksRight plan e = SomeOf (QueueLacksRight plan) e.queues ⊎ SomeOf (PoolLacksRight plan) e.pools
 
@@ -167,6 +177,7 @@ abbrev pub IsStranger : List ℕ → List (List ℕ) → Domain → Type 0
 IsStranger region allowed domain = (¬ SomeOf (λ name. name ≡ domain.name) allowed)
     × SomeOf (λ (m : Map). m.mr ≡ region) domain.map
 
+-- a domain that isn't allowed to maps the region of this name
 abbrev pub HasStranger : Plan → List ℕ → List (List ℕ) → Type 0
 HasStranger plan region allowed = SomeOf (IsStranger region allowed) plan.protection_domain
 
@@ -180,9 +191,11 @@ QueueHasStranger plan q = OfLink (λ link.
 abbrev pub allowed : PoolUse Name → List (List ℕ)
 allowed p = map (λ (g : Grant Name). g.domain) p.must ++ p.may
 
+-- a domain that neither must nor may map the region of a pool does so
 abbrev pub PoolHasStranger : Plan → PoolUse Name → Type 0
 PoolHasStranger plan p = HasStranger plan p.region (allowed p)
 
+-- rule 24 of the rows of an element: one of its queues or pools has a stranger
 abbrev pub IsSharedWithStranger : Plan → Element → Type 0
 IsSharedWithStranger plan e = SomeOf (QueueHasStranger plan) e.queues
     ⊎ SomeOf (PoolHasStranger plan) e.pools
@@ -204,13 +217,15 @@ HasLowCapacity e = SomeOf (λ (q : QueueUse Name). q.capacity < q.holds) e.queue
 abbrev pub IsSmaller : Plan → List ℕ × ℕ → Type 0
 IsSmaller plan need = IsSomeAnd (the_region plan need.0) (λ region. region.size < need.1)
 
--- rule 27: a region ends before the queue or the pool that stands there
+-- a region ends before the queue that stands there
 abbrev pub QueueLacksRoom : Plan → QueueUse Name → Type 0
 QueueLacksRoom plan q = OfLink (λ link. IsSmaller plan (link.region, queue_end q)) q.ends
 
+-- a region ends before the pool that stands there
 abbrev pub PoolLacksRoom : Plan → PoolUse Name → Type 0
 PoolLacksRoom plan p = IsSmaller plan (p.region, pool_bytes p)
 
+-- rule 27: a region ends before one of the queues or pools of an element
 abbrev pub LacksRoom : Plan → Element → Type 0
 LacksRoom plan e = SomeOf (QueueLacksRoom plan) e.queues ⊎ SomeOf (PoolLacksRoom plan) e.pools
 
@@ -230,10 +245,11 @@ HasBadPartition plan (At.BlkClient c) =
     (map (λ (other : BlkClient). other.partition) blk.client) c))
 HasBadPartition plan _ = ⊥
 
--- a count of clients, and of the buffers of a pool
+-- a number of clients that is allowed: from 1 to 8
 abbrev pub IsClientCount : ℕ → Type 0
 IsClientCount n = (1 ≤ n) × (n ≤ 8)
 
+-- a number of buffers that is allowed: from 1 to 512
 abbrev pub IsBufferCount : ℕ → Type 0
 IsBufferCount n = (1 ≤ n) × (n ≤ 512)
 

@@ -21,7 +21,8 @@ abbrev pub Tells : (Element → List Name) → List Element → ℕ → Element 
 Tells give elements n e flag = IsTrue flag ↔ RepeatsName (flat_map give (take n elements)) (give e)
 
 -- there is a flag for each of the first elements
-pub record AreFlags (give : Element → List Name) (elements : List Element) (many : ℕ) (flags : List Bool) : Type 0 where
+pub record AreFlags (give : Element → List Name) (elements : List Element) (many : ℕ)
+    (flags : List Bool) : Type 0 where
   pub count : length flags ≡ many
   pub each : (n : ℕ) (e : Element) → n < many → slice_get elements n ≡ Some e
       → (flag : Bool) × (slice_get flags n ≡ Some flag) × Tells give elements n e flag

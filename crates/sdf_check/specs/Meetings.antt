@@ -1,5 +1,6 @@
 -- The first range that meets an earlier one: of some ranges, and of the maps of each domain.
-use Rattle.std.specs.Prelude.{◌≡◌, ℕ, ◌<◌, List, Option, Some, map, slice_get, MatchOption, IsSomeAnd}
+use Rattle.std.specs.Prelude.{◌≡◌, ℕ, ◌<◌, List, Option, Some, map, slice_get, MatchOption}
+use Rattle.std.specs.Prelude.{IsSomeAnd}
 use Rattle.sdf_plan.specs.declared.plan.Plan.{Plan}
 use Rattle.sdf_plan.specs.declared.plan.Domain.{Domain}
 use Rattle.sdf_check.specs.Rules.{Range, MeetsEarlier, map_range}
@@ -16,6 +17,7 @@ AreFirstMapsUpTo plan firsts at =
     (d : ℕ) (domain : Domain) → d < at → slice_get plan.protection_domain d ≡ Some domain
     → IsSomeAnd (slice_get firsts d) (IsFirstMeeting (map (map_range plan) domain.map))
 
+-- of each domain, its first map that meets an earlier one
 abbrev pub AreFirstMaps : Plan → List (Option ℕ) → Type 0
 AreFirstMaps plan firsts =
     (d : ℕ) (domain : Domain) → slice_get plan.protection_domain d ≡ Some domain

@@ -1,5 +1,6 @@
 -- The rules on any system: names, numbers, ranges, permissions, ids and ends of channels.
-use Rattle.std.specs.Prelude.{◌≡◌, ◌≢◌, ℕ, ◌+◌, ◌*◌, ◌^◌, ◌<◌, ◌≤◌, ◌==◌, ◌⊎◌, List, [], length, map, count_by, Option, Some, slice_get, codes, IsNone, IsSomeAnd}
+use Rattle.std.specs.Prelude.{◌≡◌, ◌≢◌, ℕ, ◌+◌, ◌*◌, ◌^◌, ◌<◌, ◌≤◌, ◌==◌, ◌⊎◌, List, [], length}
+use Rattle.std.specs.Prelude.{map, count_by, Option, Some, slice_get, codes, IsNone, IsSomeAnd}
 use Rattle.std.specs.Option.{option_map, option_and_then}
 use Rattle.sdf_plan.specs.declared.place.Place.{Place}
 use Rattle.sdf_plan.specs.declared.place.Place.TheVariants as At
@@ -8,7 +9,8 @@ use Rattle.sdf_plan.specs.declared.plan.Region.{Region}
 use Rattle.sdf_plan.specs.declared.plan.Map.{Map}
 use Rattle.sdf_plan.specs.declared.plan.Irq.{Irq}
 use Rattle.sdf_plan.specs.Elements.{OfRegion, OfDomain, OfMap, OfIrq, OfEnd}
-use Rattle.sdf_check.specs.Names.{StandsBefore, region_names, domain_names, region_named, domain_named}
+use Rattle.sdf_check.specs.Names.{StandsBefore, region_names, domain_names, region_named}
+use Rattle.sdf_check.specs.Names.{domain_named}
 
 -- rule 5: a region has the name of an earlier region, or a domain that of an earlier domain
 abbrev pub TakesName : Plan → Place → Type 0

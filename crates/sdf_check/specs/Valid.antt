@@ -8,13 +8,21 @@ use Rattle.sdf_plan.specs.declared.place.SdfFault.TheVariants as Fault
 use Rattle.sdf_plan.specs.declared.plan.Plan.{Plan}
 use Rattle.sdf_plan.specs.Elements.{outline_of}
 use Rattle.class_table.specs.Table.{Element, OfElement}
-use Rattle.sdf_check.specs.ClassRules.{UsesNoRegion, UsesNoDomain, LacksRole, GivesWrongRole, NamesDomainAgain, LacksChannel, LacksRight, IsSharedWithStranger, NamesRegionAgain, HasBadCapacity, HasLowCapacity, LacksRoom, HasBadMac, HasBadPartition, IsPastLimit}
-use Rattle.sdf_check.specs.Rules.{TakesName, IsPastLastDomain, HasPriorityTooHigh, HasPeriodTooShort, HasBadSize, HasBadPageSize, HasBadPhysAddr, MeetsGivenRange, NamesNoRegion, HasBadVaddr, MeetsMap, HasBadPerms, NamesNoDomain, HasIdTooHigh, TakesId, JoinsOneDomain}
+use Rattle.sdf_check.specs.ClassRules.{UsesNoRegion, UsesNoDomain, LacksRole, GivesWrongRole}
+use Rattle.sdf_check.specs.ClassRules.{NamesDomainAgain, LacksChannel, LacksRight}
+use Rattle.sdf_check.specs.ClassRules.{IsSharedWithStranger, NamesRegionAgain, HasBadCapacity}
+use Rattle.sdf_check.specs.ClassRules.{HasLowCapacity, LacksRoom, HasBadMac, HasBadPartition}
+use Rattle.sdf_check.specs.ClassRules.{IsPastLimit}
+use Rattle.sdf_check.specs.Rules.{TakesName, IsPastLastDomain, HasPriorityTooHigh}
+use Rattle.sdf_check.specs.Rules.{HasPeriodTooShort, HasBadSize, HasBadPageSize, HasBadPhysAddr}
+use Rattle.sdf_check.specs.Rules.{MeetsGivenRange, NamesNoRegion, HasBadVaddr, MeetsMap}
+use Rattle.sdf_check.specs.Rules.{HasBadPerms, NamesNoDomain, HasIdTooHigh, TakesId, JoinsOneDomain}
 
--- the first and the last rule that a plan is judged by
+-- the number of the first rule that a plan is judged by
 abbrev pub first_rule : ℕ
 first_rule = 5
 
+-- the number of the last rule
 abbrev pub last_rule : ℕ
 last_rule = 30
 
@@ -39,6 +47,8 @@ BreaksPlanRule plan rule place =
     MatchBool (rule == 19) (TakesId plan place) (
     MatchBool (rule == 20) (JoinsOneDomain plan place) ⊥)))))))))))))))
 
+-- the element at a place breaks the rule of this number, of those on roles, addresses, partitions
+-- and limits of a class
 abbrev pub BreaksClassRule : Plan → ℕ → Place → Type 0
 BreaksClassRule plan rule place =
     MatchBool (rule == 21) (LacksRole plan place) (
@@ -64,6 +74,7 @@ BreaksByRows plan rule e =
     MatchBool (rule == 26) (HasLowCapacity e) (
     MatchBool (rule == 27) (LacksRoom plan e) ⊥))))))))
 
+-- the element at a place breaks the rule of this number
 abbrev pub broken : Plan → ℕ → Place → Type 0
 broken plan rule place = BreaksAtPlace plan rule place
     ⊎ OfElement plan place (BreaksByRows plan rule)

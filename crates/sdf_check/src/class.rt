@@ -1,8 +1,10 @@
 //! The questions that the rules on classes share: of domains, channels, maps and strangers.
-ghost use Rattle.std.specs.Prelude.{◌≡◌, ◌↔◌, ◌<◌, ℕ, List, length, IsTrue, IsSomeAnd, Some, None, MatchOption};
+ghost use Rattle.std.specs.Prelude.{◌≡◌, ◌↔◌, ◌<◌, ℕ, List, length, IsTrue, IsSomeAnd, Some, None};
+ghost use Rattle.std.specs.Prelude.{MatchOption};
 ghost use Rattle.sdf_plan.specs.declared.plan.Map.{Map};
 ghost use Rattle.sdf_check.specs.Lookups.{FindsPlaces, names_shown};
-ghost use Rattle.sdf_check.specs.ClassRules.{SomeOf, the_domain, Joins, AreJoined, HasInterrupt, Grants, IsGranted, IsStranger, HasStranger, IsSmaller};
+ghost use Rattle.sdf_check.specs.ClassRules.{SomeOf, the_domain, Joins, AreJoined, HasInterrupt};
+ghost use Rattle.sdf_check.specs.ClassRules.{Grants, IsGranted, IsStranger, HasStranger, IsSmaller};
 ghost use Rattle.class_table.specs.Roles.{IsProgramOf};
 
 use crate::judge::{Judge, at, is_same};

@@ -1,9 +1,14 @@
 //! The judge, a plan with its names looked up, its tables, and the rules on any system that need no
 //! table.
-ghost use Rattle.std.specs.Prelude.{◌≡◌, ◌↔◌, ◌^◌, ℕ, List, length, IsTrue, IsNone, Some, None, MatchOption, slice_get};
+ghost use Rattle.std.specs.Prelude.{◌≡◌, ◌↔◌, ◌^◌, ℕ, List, length, IsTrue, IsNone, Some, None};
+ghost use Rattle.std.specs.Prelude.{MatchOption, slice_get};
 ghost use Rattle.sdf_check.specs.Lookups.{FindsPlaces};
-ghost use Rattle.sdf_check.specs.Names.{region_names, domain_names, region_named, domain_named, StandsBefore};
-ghost use Rattle.sdf_check.specs.Rules.{TakesName, IsPastLastDomain, HasPriorityTooHigh, HasPeriodTooShort, HasBadSize, HasBadPageSize, HasBadPhysAddr, NamesNoRegion, HasBadVaddr, HasBadPerms, NamesNoDomain, HasIdTooHigh, JoinsOneDomain, the_region};
+ghost use Rattle.sdf_check.specs.Names.{region_names, domain_names, region_named, domain_named};
+ghost use Rattle.sdf_check.specs.Names.{StandsBefore};
+ghost use Rattle.sdf_check.specs.Rules.{TakesName, IsPastLastDomain, HasPriorityTooHigh};
+ghost use Rattle.sdf_check.specs.Rules.{HasPeriodTooShort, HasBadSize, HasBadPageSize};
+ghost use Rattle.sdf_check.specs.Rules.{HasBadPhysAddr, NamesNoRegion, HasBadVaddr, HasBadPerms};
+ghost use Rattle.sdf_check.specs.Rules.{NamesNoDomain, HasIdTooHigh, JoinsOneDomain, the_region};
 
 use crate::keys::Keys;
 use crate::names::{Places, place_of};

@@ -1,5 +1,6 @@
 //! Judging a plan: the least rule that is broken, and the first element that breaks it.
-ghost use Rattle.std.specs.Prelude.{◌≡◌, ◌↔◌, ℕ, MatchOption, MatchResult, IsTrue, Ok, Some, IfOk, OnOk, slice_get};
+ghost use Rattle.std.specs.Prelude.{◌≡◌, ◌↔◌, ℕ, MatchOption, MatchResult, IsTrue, Ok, Some, IfOk};
+ghost use Rattle.std.specs.Prelude.{OnOk, slice_get};
 ghost use Rattle.std.specs.BTreeMap.{get};
 ghost use Rattle.sdf_plan.specs.Places.{walk, IsKept, IsFirstBroken};
 ghost use Rattle.class_table.specs.Order.{number_of};
@@ -7,7 +8,8 @@ ghost use Rattle.class_table.specs.Shown.{element_shown};
 ghost use Rattle.class_table.specs.Table.{OfElement, table_of};
 ghost use Rattle.sdf_plan.specs.Elements.{outline_of, IsNumbered};
 ghost use Rattle.sdf_check.specs.Priors.{OrPrior, AreTables};
-ghost use Rattle.sdf_check.specs.Valid.{Valid, IsRefused, IfRefused, broken, BreaksAtPlace, BreaksPlanRule, BreaksClassRule, BreaksByRows};
+ghost use Rattle.sdf_check.specs.Valid.{Valid, IsRefused, IfRefused, broken, BreaksAtPlace};
+ghost use Rattle.sdf_check.specs.Valid.{BreaksPlanRule, BreaksClassRule, BreaksByRows};
 
 use crate::class_ids::{has_bad_mac, has_bad_partition};
 use crate::counts::is_past_limit;

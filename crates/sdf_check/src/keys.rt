@@ -1,6 +1,7 @@
 //! The domains and the regions that class elements name, element by element in the order of the
 //! table: where each name stands first, and which elements name one again.
-ghost use Rattle.std.specs.Prelude.{◌≡◌, ◌↔◌, ◌⊎◌, ◌++◌, ◌∷◌, [], List, ℕ, true, Some, map, slice_get, IsTrue, IfOk, OnOk};
+ghost use Rattle.std.specs.Prelude.{◌≡◌, ◌↔◌, ◌⊎◌, ◌++◌, ◌∷◌, [], List, ℕ, true, Some, map};
+ghost use Rattle.std.specs.Prelude.{slice_get, IsTrue, IfOk, OnOk};
 ghost use Rattle.sdf_plan.specs.declared.plan.Plan.{Plan};
 ghost use Rattle.class_table.specs.Names.{domains_of, regions_of, queue_region, pool_region};
 ghost use Rattle.class_table.specs.Order.{number_of};

@@ -5,7 +5,9 @@ ghost use Rattle.class_table.specs.Order.{number_of};
 ghost use Rattle.class_table.specs.Shown.{element_shown};
 ghost use Rattle.class_table.specs.Table.{table_of};
 ghost use Rattle.sdf_check.specs.Priors.{AreTables};
-ghost use Rattle.sdf_check.specs.ClassRules.{LacksRole, NamesDomainAgain, NamesRegionAgain, GivesWrongRole, IsSharedWithStranger, SomeOf, class_domains};
+ghost use Rattle.sdf_check.specs.ClassRules.{LacksRole, NamesDomainAgain, NamesRegionAgain};
+ghost use Rattle.sdf_check.specs.ClassRules.{GivesWrongRole, IsSharedWithStranger, SomeOf};
+ghost use Rattle.sdf_check.specs.ClassRules.{class_domains};
 
 use crate::class::is_named;
 use crate::judge::{Judge, Tables, at};

@@ -3,7 +3,14 @@
 ghost use Rattle.std.specs.Prelude.{◌≡◌, ◌↔◌, ◌<◌, IsTrue, IsSomeAnd};
 ghost use Rattle.class_table.specs.Shown.{element_shown, pool_shown, queue_shown, role_shown};
 ghost use Rattle.cargo_core.specs.Capacities.{IsCapacity};
-ghost use Rattle.sdf_check.specs.ClassRules.{SomeOf, IsGranted, HasInterrupt, QueueHasNoRegion, PoolHasNoRegion, UsesNoRegion, RoleHasNoDomain, UsesNoDomain, Plays, GivesWrongRole, QueueHasNoChannel, LacksChannel, QueueLacksRight, PoolLacksRight, LacksRight, IsStranger, allowed, QueueHasStranger, PoolHasStranger, IsSharedWithStranger, HasBadCapacity, HasLowCapacity, QueueLacksRoom, PoolLacksRoom, LacksRoom};
+ghost use Rattle.sdf_check.specs.ClassRules.{SomeOf, IsGranted, HasInterrupt, QueueHasNoRegion};
+ghost use Rattle.sdf_check.specs.ClassRules.{PoolHasNoRegion, UsesNoRegion, RoleHasNoDomain};
+ghost use Rattle.sdf_check.specs.ClassRules.{UsesNoDomain, Plays, GivesWrongRole};
+ghost use Rattle.sdf_check.specs.ClassRules.{QueueHasNoChannel, LacksChannel, QueueLacksRight};
+ghost use Rattle.sdf_check.specs.ClassRules.{PoolLacksRight, LacksRight, IsStranger, allowed};
+ghost use Rattle.sdf_check.specs.ClassRules.{QueueHasStranger, PoolHasStranger};
+ghost use Rattle.sdf_check.specs.ClassRules.{IsSharedWithStranger, HasBadCapacity, HasLowCapacity};
+ghost use Rattle.sdf_check.specs.ClassRules.{QueueLacksRoom, PoolLacksRoom, LacksRoom};
 
 use crate::class::{
     are_joined, has_interrupt, has_stranger, is_among, is_granted, is_smaller, maps_region, plays,

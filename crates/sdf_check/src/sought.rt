@@ -1,6 +1,7 @@
 //! The rules on ranges and ids, answered from tables, so that no range and no end is held against
 //! all before it.
-ghost use Rattle.std.specs.Prelude.{◌≡◌, ◌↔◌, ℕ, List, map, length, ◌≤◌, IsTrue, Some, None, IsSomeAnd};
+ghost use Rattle.std.specs.Prelude.{◌≡◌, ◌↔◌, ℕ, List, map, length, ◌≤◌, IsTrue, Some, None};
+ghost use Rattle.std.specs.Prelude.{IsSomeAnd};
 ghost use Rattle.sdf_plan.specs.declared.plan.Irq.{Irq};
 ghost use Rattle.std.specs.BTreeMap.{get};
 ghost use Rattle.sdf_check.specs.Uses.{use_cmp, UsesUpTo};

@@ -1,5 +1,6 @@
 //! The first of some ranges that meets an earlier one, found in one sweep.
-ghost use Rattle.std.specs.Prelude.{◌≡◌, ◌+◌, ◌<◌, ◌≤◌, ℕ, Bool, List, Some, None, Option, MatchOption, MatchBool, IfOk, OnErr, slice_get, length};
+ghost use Rattle.std.specs.Prelude.{◌≡◌, ◌+◌, ◌<◌, ◌≤◌, ℕ, Bool, List, Some, None, Option};
+ghost use Rattle.std.specs.Prelude.{MatchOption, MatchBool, IfOk, OnErr, slice_get, length};
 ghost use Rattle.std.specs.Ordering.{nat_cmp};
 ghost use Rattle.std.specs.BTreeMap.{get};
 ghost use Rattle.sdf_check.specs.Rules.{Range, MeetsEarlier};

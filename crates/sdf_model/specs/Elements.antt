@@ -1,6 +1,7 @@
 -- The elements of a document with their tables, in the order of the walk, and the first to break a
 -- rule.
-use Rattle.std.specs.Prelude.{◌≡◌, ◌≤◌, ◌<◌, ℕ, ◌+◌, List, [], ◌∷◌, ◌++◌, find, codes, Option, Some, None, option_map}
+use Rattle.std.specs.Prelude.{◌≡◌, ◌≤◌, ◌<◌, ℕ, ◌+◌, List, [], ◌∷◌, ◌++◌, find, codes, Option, Some}
+use Rattle.std.specs.Prelude.{None, option_map}
 use Rattle.toml.specs.Data.{Members}
 use Rattle.toml.specs.View.{table_view}
 use Rattle.sdf_plan.specs.declared.place.Place.{Place}
@@ -33,18 +34,21 @@ abbrev pub parts : Place → ℕ → List Members → List Seen
 parts first n [] = []
 parts first n (t ∷ ts) = (nth first n, t) ∷ parts first (n + 1) ts
 
+-- domains, each with its maps and its interrupts, from a number on
 abbrev pub domain_parts : ℕ → List Members → List Seen
 domain_parts d [] = []
 domain_parts d (t ∷ ts) =
     ((At.Domain d, t) ∷ parts (At.Map d 0) 0 (tables_at (codes "map") t)
     ++ parts (At.Irq d 0) 0 (tables_at (codes "irq") t)) ++ domain_parts (d + 1) ts
 
+-- channels, each with its ends, from a number on
 abbrev pub channel_parts : ℕ → List Members → List Seen
 channel_parts c [] = []
 channel_parts c (t ∷ ts) =
     ((At.Channel c, t) ∷ parts (At.End c 0) 0 (tables_at (codes "end") t))
     ++ channel_parts (c + 1) ts
 
+-- a class and its clients, if it is there
 abbrev pub class_parts : Place → Place → Option Members → List Seen
 class_parts class client None = []
 class_parts class client (Some t) = (class, t) ∷ parts client 0 (tables_at (codes "client") t)

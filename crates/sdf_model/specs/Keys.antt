@@ -1,8 +1,11 @@
 -- The key table: the keys of each element and what their values have to be, and the rules on them.
-use Rattle.std.specs.Prelude.{if◌then◌else◌, ℕ, ℤ, pos, negsuc, Bool, true, false, not, ◌&&◌, ◌||◌, ◌==◌, nat_le, List, [], ◌∷◌, length, codes, Option, Some, None, is_some}
+use Rattle.std.specs.Prelude.{if◌then◌else◌, ℕ, ℤ, pos, negsuc, Bool, true, false, not, ◌&&◌, ◌||◌}
+use Rattle.std.specs.Prelude.{◌==◌, nat_le, List, [], ◌∷◌, length, codes, Option, Some, None}
+use Rattle.std.specs.Prelude.{is_some}
 use Rattle.std.specs.List.{list_any, list_all}
 use Rattle.std.specs.Str.{bytes_eq}
-use Rattle.toml.specs.Data.{Data, Items, no_items, item, table, Members, no_members, member, get_member, as_str, as_integer, as_bool, as_array, as_table}
+use Rattle.toml.specs.Data.{Data, Items, no_items, item, table, Members, no_members, member}
+use Rattle.toml.specs.Data.{get_member, as_str, as_integer, as_bool, as_array, as_table}
 use Rattle.toml.specs.Text.{are_tables}
 use Rattle.sdf_plan.specs.declared.place.Place.{Place}
 use Rattle.sdf_plan.specs.declared.place.Place.TheVariants as At
@@ -18,6 +21,7 @@ pub record Row : Type 0 where
   pub kind : Kind
   pub absent : Absent
 
+-- the row of a key: its name, its kind, and what its absence means
 abbrev pub row : List ℕ → Kind → Absent → Row
 row name kind absent = record { name = name; kind = kind; absent = absent }
 
@@ -25,7 +29,7 @@ row name kind absent = record { name = name; kind = kind; absent = absent }
 abbrev pub row_of : Key → Row
 row_of key = record { name = key.name.now; kind = key.kind; absent = key.absent }
 
--- the keys of each element
+-- the keys of the system
 abbrev pub system_keys : List Row
 system_keys =
     row (codes "version") A.Version (If.Number 1)
@@ -36,6 +40,7 @@ system_keys =
     ∷ row (codes "serial") A.Table If.Nothing
     ∷ row (codes "blk") A.Table If.Nothing ∷ []
 
+-- the keys of a region
 abbrev pub region_keys : List Row
 region_keys =
     row (codes "name") A.Name If.Refused
@@ -43,6 +48,7 @@ region_keys =
     ∷ row (codes "page_size") A.Number (If.Number 4096)
     ∷ row (codes "phys_addr") A.Number If.Nothing ∷ []
 
+-- the keys of a domain
 abbrev pub domain_keys : List Row
 domain_keys =
     row (codes "name") A.Name If.Refused
@@ -53,6 +59,7 @@ domain_keys =
     ∷ row (codes "map") A.List If.Empty
     ∷ row (codes "irq") A.List If.Empty ∷ []
 
+-- the keys of a map
 abbrev pub map_keys : List Row
 map_keys =
     row (codes "mr") A.Name If.Refused
@@ -61,15 +68,18 @@ map_keys =
     ∷ row (codes "cached") A.Truth If.True
     ∷ row (codes "setvar_vaddr") A.Text If.Nothing ∷ []
 
+-- the keys of an interrupt
 abbrev pub irq_keys : List Row
 irq_keys =
     row (codes "irq") A.Number If.Refused
     ∷ row (codes "id") A.Number If.Refused
     ∷ row (codes "trigger") A.Trigger If.Level ∷ []
 
+-- the keys of a channel
 abbrev pub channel_keys : List Row
 channel_keys = row (codes "end") A.Pair If.Refused ∷ []
 
+-- the keys of a channel's end
 abbrev pub end_keys : List Row
 end_keys = row (codes "pd") A.Name If.Refused ∷ row (codes "id") A.Number If.Refused ∷ []
 
@@ -78,6 +88,7 @@ abbrev pub all_of : Kind → List (List ℕ) → List Row → List Row
 all_of kind [] more = more
 all_of kind (name ∷ names) more = row name kind If.Refused ∷ all_of kind names more
 
+-- the keys of the network class
 abbrev pub net_keys : List Row
 net_keys =
     all_of A.Name
@@ -86,6 +97,7 @@ net_keys =
     (all_of A.Number (codes "rx_buffers" ∷ codes "rx_capacity" ∷ codes "tx_capacity" ∷ [])
     (all_of A.List (codes "client" ∷ []) []))
 
+-- the keys of a network client
 abbrev pub net_client_keys : List Row
 net_client_keys =
     all_of A.Name (codes "pd" ∷ codes "copier" ∷ [])
@@ -96,6 +108,7 @@ net_client_keys =
     (all_of A.Number
     (codes "rx_buffers" ∷ codes "rx_capacity" ∷ codes "tx_buffers" ∷ codes "tx_capacity" ∷ []) [])))
 
+-- the keys of the serial class
 abbrev pub serial_keys : List Row
 serial_keys =
     all_of A.Name
@@ -104,21 +117,25 @@ serial_keys =
     (all_of A.Number (codes "rx_capacity" ∷ codes "tx_capacity" ∷ [])
     (all_of A.List (codes "client" ∷ []) []))
 
+-- the keys of a serial client
 abbrev pub serial_client_keys : List Row
 serial_client_keys =
     all_of A.Name (codes "pd" ∷ codes "rx_queues" ∷ codes "tx_queues" ∷ [])
     (all_of A.Number (codes "rx_capacity" ∷ codes "tx_capacity" ∷ []) [])
 
+-- the keys of the block class
 abbrev pub blk_keys : List Row
 blk_keys =
     all_of A.Name (codes "driver" ∷ codes "virt" ∷ codes "queues" ∷ codes "region" ∷ [])
     (all_of A.Number (codes "capacity" ∷ []) (all_of A.List (codes "client" ∷ []) []))
 
+-- the keys of a block client
 abbrev pub blk_client_keys : List Row
 blk_client_keys =
     all_of A.Name (codes "pd" ∷ codes "region" ∷ codes "queues" ∷ [])
     (all_of A.Number (codes "partition" ∷ codes "buffers" ∷ codes "capacity" ∷ []) [])
 
+-- the keys of the element at a place
 abbrev pub keys_at : Place → List Row
 keys_at At.System = system_keys
 keys_at (At.Region r) = region_keys
@@ -167,6 +184,7 @@ abbrev pub is_natural : ℤ → Bool
 is_natural (pos n) = true
 is_natural (negsuc n) = false
 
+-- the integer is 1
 abbrev pub is_one : ℤ → Bool
 is_one (pos n) = n == 1
 is_one (negsuc n) = false
@@ -207,6 +225,7 @@ is_known keys name = list_any (λ key. bytes_eq key.name name) keys
 abbrev pub has_unknown_key : List Row → Members → Bool
 has_unknown_key keys t = list_any (λ name. not (is_known keys name)) (names t)
 
+-- the key must be there
 abbrev pub is_required : Absent → Bool
 is_required If.Refused = true
 is_required _ = false

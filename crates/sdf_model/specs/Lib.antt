@@ -1,3 +1,6 @@
+-- How a text is read into a plan: its elements and their places (Tree, Elements), the table of keys
+-- (Keys), what fields hold (Fields), the plan that is spelled (Spelled), and how many elements
+-- there may be (Counts).
 pub mod Counts
 pub mod Elements
 pub mod Fields

@@ -1,5 +1,6 @@
 -- The plan that a document spells, part by part, with every default filled in.
-use Rattle.std.specs.Prelude.{ℕ, ℤ, pos, negsuc, Bool, true, List, [], map, codes, Option, Some, None, option_map, option_and_then, unwrap_or}
+use Rattle.std.specs.Prelude.{ℕ, ℤ, pos, negsuc, Bool, true, List, [], map, codes, Option, Some}
+use Rattle.std.specs.Prelude.{None, option_map, option_and_then, unwrap_or}
 use Rattle.toml.specs.Data.{Members, get_member, as_str, as_integer, as_bool}
 use Rattle.sdf_plan.specs.declared.plan.Plan.{Plan}
 use Rattle.sdf_plan.specs.declared.plan.Region.{Region}
@@ -21,13 +22,15 @@ abbrev pub natural : ℤ → Option ℕ
 natural (pos n) = Some n
 natural (negsuc n) = None
 
--- the number at a key, if it is there; the text; the truth value
+-- the number at a key, if there is one
 abbrev pub number_if : List ℕ → Members → Option ℕ
 number_if key t = option_and_then natural (option_and_then as_integer (get_member key t))
 
+-- the text at a key, if there is one
 abbrev pub text_if : List ℕ → Members → Option (List ℕ)
 text_if key t = option_and_then as_str (get_member key t)
 
+-- the truth value at a key, if there is one
 abbrev pub truth_if : List ℕ → Members → Option Bool
 truth_if key t = option_and_then as_bool (get_member key t)
 
@@ -36,16 +39,19 @@ truth_if key t = option_and_then as_bool (get_member key t)
 abbrev pub number_or : ℕ → List ℕ → Members → ℕ
 number_or absent key t = unwrap_or (number_if key t) absent
 
+-- the text at a key, or another where there is none
 abbrev pub text_or : List ℕ → List ℕ → Members → List ℕ
 text_or absent key t = unwrap_or (text_if key t) absent
 
+-- the number at a required key
 abbrev pub number_at : List ℕ → Members → ℕ
 number_at key t = number_or 0 key t
 
+-- the text at a required key
 abbrev pub text_at : List ℕ → Members → List ℕ
 text_at key t = text_or [] key t
 
--- the parts of a plan that a table spells
+-- the region that a table spells
 abbrev pub region_of : Members → Region
 region_of t = record {
   name = text_at (codes "name") t;
@@ -54,6 +60,7 @@ region_of t = record {
   phys_addr = number_if (codes "phys_addr") t;
 }
 
+-- the map that a table spells
 abbrev pub map_of : Members → Map
 map_of t = record {
   mr = text_at (codes "mr") t;
@@ -63,6 +70,7 @@ map_of t = record {
   setvar_vaddr = text_if (codes "setvar_vaddr") t;
 }
 
+-- the interrupt that a table spells
 abbrev pub irq_of : Members → Irq
 irq_of t = record {
   irq = number_at (codes "irq") t;
@@ -70,6 +78,7 @@ irq_of t = record {
   trigger = text_or (codes "level") (codes "trigger") t;
 }
 
+-- the domain that a table spells
 abbrev pub domain_of : Members → Domain
 domain_of t = record {
   name = text_at (codes "name") t;
@@ -81,12 +90,15 @@ domain_of t = record {
   irq = map irq_of (tables_at (codes "irq") t);
 }
 
+-- the end of a channel that a table spells
 abbrev pub end_of : Members → End
 end_of t = record { pd = text_at (codes "pd") t; id = number_at (codes "id") t }
 
+-- the channel that a table spells
 abbrev pub channel_of : Members → Channel
 channel_of t = record { end = map end_of (tables_at (codes "end") t) }
 
+-- the network client that a table spells
 abbrev pub net_client_of : Members → NetClient
 net_client_of t = record {
   pd = text_at (codes "pd") t;
@@ -103,6 +115,7 @@ net_client_of t = record {
   tx_capacity = number_at (codes "tx_capacity") t;
 }
 
+-- the network class that a table spells
 abbrev pub net_of : Members → Net
 net_of t = record {
   driver = text_at (codes "driver") t;
@@ -117,6 +130,7 @@ net_of t = record {
   client = map net_client_of (tables_at (codes "client") t);
 }
 
+-- the serial client that a table spells
 abbrev pub serial_client_of : Members → SerialClient
 serial_client_of t = record {
   pd = text_at (codes "pd") t;
@@ -126,6 +140,7 @@ serial_client_of t = record {
   tx_capacity = number_at (codes "tx_capacity") t;
 }
 
+-- the serial class that a table spells
 abbrev pub serial_of : Members → Serial
 serial_of t = record {
   driver = text_at (codes "driver") t;
@@ -138,6 +153,7 @@ serial_of t = record {
   client = map serial_client_of (tables_at (codes "client") t);
 }
 
+-- the block client that a table spells
 abbrev pub blk_client_of : Members → BlkClient
 blk_client_of t = record {
   pd = text_at (codes "pd") t;
@@ -148,6 +164,7 @@ blk_client_of t = record {
   capacity = number_at (codes "capacity") t;
 }
 
+-- the block class that a table spells
 abbrev pub blk_of : Members → Blk
 blk_of t = record {
   driver = text_at (codes "driver") t;

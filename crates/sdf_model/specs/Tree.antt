@@ -1,5 +1,6 @@
 -- The elements of a document by their places, and the rules that are read on the text.
-use Rattle.std.specs.Prelude.{◌≡◌, ℕ, Bool, true, if◌then◌else◌, ◌⊎◌, List, [], ◌∷◌, length, map, slice_get, codes, Option, Some, None, option_map, option_and_then}
+use Rattle.std.specs.Prelude.{◌≡◌, ℕ, Bool, true, if◌then◌else◌, ◌⊎◌, List, [], ◌∷◌, length, map}
+use Rattle.std.specs.Prelude.{slice_get, codes, Option, Some, None, option_map, option_and_then}
 use Rattle.std.specs.Str.{IsUtf8}
 use Rattle.toml.specs.Data.{Items, Members, get_member, as_array, as_table}
 use Rattle.toml.specs.Text.{are_tables}
@@ -17,10 +18,11 @@ abbrev pub tables_in : Option Items → List Members
 tables_in None = []
 tables_in (Some items) = if are_tables items then tables_of items else []
 
--- the elements of the list at a key, and the table at a key
+-- the elements of the list at a key
 abbrev pub tables_at : List ℕ → Members → List Members
 tables_at key t = tables_in (option_and_then as_array (get_member key t))
 
+-- the table at a key, if there is one
 abbrev pub table_at : List ℕ → Members → Option Members
 table_at key t = option_and_then as_table (get_member key t)
 
@@ -70,6 +72,7 @@ abbrev pub places_in : Option Members → List Place
 places_in None = At.System ∷ []
 places_in (Some root) = walk (outline_of root)
 
+-- the elements of a text, by their places, in their order
 abbrev pub places_of : List ℕ → List Place
 places_of text = places_in (parse_document text)
 

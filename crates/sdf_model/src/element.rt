@@ -1,9 +1,11 @@
 //! The elements of a description in their order, each with its number and its table.
-ghost use Rattle.std.specs.Prelude.{◌≡◌, ◌<◌, ◌≤◌, ◌^◌, ◌++◌, length, map, option_map, IfOk, IfSome, OnOk};
+ghost use Rattle.std.specs.Prelude.{◌≡◌, ◌<◌, ◌≤◌, ◌^◌, ◌++◌, length, map, option_map, IfOk};
+ghost use Rattle.std.specs.Prelude.{IfSome, OnOk};
 ghost use Rattle.toml.specs.View.{table_view};
 ghost use Rattle.sdf_model.specs.Tree.{tables_at};
 ghost use Rattle.sdf_model.specs.Counts.{elements_of_members, elements_of_tables};
-ghost use Rattle.sdf_model.specs.Elements.{place_and_members, nth, parts, domain_parts, channel_parts, class_parts, elements_of};
+ghost use Rattle.sdf_model.specs.Elements.{place_and_members, nth, parts, domain_parts};
+ghost use Rattle.sdf_model.specs.Elements.{channel_parts, class_parts, elements_of};
 
 use crate::tree::{table_at, tables_at};
 use cargo_core::Memory;

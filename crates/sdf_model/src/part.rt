@@ -1,5 +1,7 @@
 //! How each part of a plan is read from the table of its element.
-ghost use Rattle.sdf_model.specs.Spelled.{plan_of, region_of, domain_of, map_of, irq_of, channel_of, end_of, net_of, net_client_of, serial_of, serial_client_of, blk_of, blk_client_of};
+ghost use Rattle.sdf_model.specs.Spelled.{plan_of, region_of, domain_of, map_of, irq_of};
+ghost use Rattle.sdf_model.specs.Spelled.{channel_of, end_of, net_of, net_client_of, serial_of};
+ghost use Rattle.sdf_model.specs.Spelled.{serial_client_of, blk_of, blk_client_of};
 
 use crate::field::{Field, Part, four, three, two};
 use crate::key;

@@ -1,7 +1,9 @@
 //! All elements of a plan, in the order in which a rule is read.
-ghost use Rattle.std.specs.Prelude.{◌≡◌, ◌<◌, ◌^◌, ◌++◌, ◌∷◌, List, length, map, All, IfOk, IfSome, OnOk, Option};
+ghost use Rattle.std.specs.Prelude.{◌≡◌, ◌<◌, ◌^◌, ◌++◌, ◌∷◌, List, length, map, All, IfOk, IfSome};
+ghost use Rattle.std.specs.Prelude.{OnOk, Option};
 ghost use Rattle.std.specs.Option.{option_map};
-ghost use Rattle.sdf_plan.specs.Places.{walk, places_from, domain_places, channel_places, class_places};
+ghost use Rattle.sdf_plan.specs.Places.{walk, places_from, domain_places, channel_places};
+ghost use Rattle.sdf_plan.specs.Places.{class_places};
 ghost use Rattle.sdf_plan.specs.declared.place.Place.{Place};
 ghost use Rattle.sdf_plan.specs.Elements.{outline_of, domain_parts, channel_parts, IsNumbered};
 ghost use Rattle.sdf_plan.specs.declared.plan.Domain.{Domain};

@@ -1,7 +1,8 @@
-pub mod Are
 -- The ends of one actor: which stands where, what the actor knows of each, what it took and sent
 -- there, and what one call changes.
-use Rattle.std.specs.Prelude.{◌≡◌, ◌≢◌, ◌<◌, ℕ, Bool, true, false, List, [], ◌∷◌, length, slice_get, slice_set, Option, Some, None, is_some, nat_eq}
+pub mod Are
+use Rattle.std.specs.Prelude.{◌≡◌, ◌≢◌, ◌<◌, ℕ, Bool, true, false, List, [], ◌∷◌, length, slice_get}
+use Rattle.std.specs.Prelude.{slice_set, Option, Some, None, is_some, nat_eq}
 use Rattle.cargo_core.specs.declared.item.QueueKind.{QueueKind}
 use Rattle.cargo_core.specs.declared.item.QueueKind.TheVariants as Kind
 use Rattle.wire_core.specs.declared.names.Op.{Op}

@@ -1,8 +1,9 @@
+-- The proofs of the laws of the serial class.
 pub mod Lists
 pub mod Shares
 pub mod Own
 pub mod InputBegins
 pub mod Arrivals
 pub mod Wholes
-pub mod SerialHops
-pub mod SerialPools
+pub mod HopsLemmas
+pub mod PoolsLemmas

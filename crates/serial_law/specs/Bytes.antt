@@ -8,6 +8,7 @@ use Rattle.serial_switch.specs.Carried.{byte_of}
 abbrev pub bytes_in : List Item → List ℕ
 bytes_in items = flat_map byte_of items
 
+-- the items that carry some bytes, one each
 abbrev pub byte_items : List ℕ → List Item
 byte_items bs = map (λ b. ItemOf.Byte b) bs
 

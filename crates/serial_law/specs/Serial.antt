@@ -7,7 +7,8 @@ use Rattle.wire_core.specs.Journal.{Hostiles}
 use Rattle.serial_switch.specs.Switching.{input_of}
 use Rattle.play_core.specs.Moved.{Moved}
 use Rattle.play_core.specs.Still.{Holds}
-use Rattle.serial_law.specs.Parts.{SerialPart, SerialDevice, SerialDriver, SerialReceiver, SerialSender, SerialClient}
+use Rattle.serial_law.specs.Parts.{SerialPart, SerialDevice, SerialDriver, SerialReceiver}
+use Rattle.serial_law.specs.Parts.{SerialSender, SerialClient}
 use Rattle.serial_law.specs.Bytes.{bytes_in}
 
 -- the queues of the class, what its device receives, and what its clients say

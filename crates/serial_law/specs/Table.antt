@@ -1,12 +1,14 @@
 -- The table of the serial class: all that is said of one of its actors, one case for each kind.
-use Rattle.std.specs.Prelude.{◌≡◌, ◌==◌, ◌+◌, ◌≤◌, ◌||◌, ℕ, Bool, true, false, not, nat_lt, if◌then◌else◌, Some, List, [], ◌∷◌, ◌++◌, length, map, slice_get}
+use Rattle.std.specs.Prelude.{◌≡◌, ◌==◌, ◌+◌, ◌≤◌, ◌||◌, ℕ, Bool, true, false, not, nat_lt}
+use Rattle.std.specs.Prelude.{if◌then◌else◌, Some, List, [], ◌∷◌, ◌++◌, length, map, slice_get}
 use Rattle.cargo_core.specs.Lists.{IsPrefix, Merge}
 use Rattle.cargo_core.specs.declared.item.Item.{Item}
 use Rattle.serial_switch.specs.Switching.{input_of}
 use Rattle.play_core.specs.Moved.{Moved}
 use Rattle.play_core.specs.Wants.{Want, intake, outlet, intake_want, outlet_want}
 use Rattle.play_core.specs.Sheets.{Sheet, Due}
-use Rattle.serial_law.specs.Parts.{SerialPart, SerialDevice, SerialDriver, SerialReceiver, SerialSender, SerialClient}
+use Rattle.serial_law.specs.Parts.{SerialPart, SerialDevice, SerialDriver, SerialReceiver}
+use Rattle.serial_law.specs.Parts.{SerialSender, SerialClient}
 use Rattle.serial_law.specs.Bytes.{bytes_in, byte_items, is_owed}
 
 -- each client was given its part of what was taken, but that over all clients at most one byte is

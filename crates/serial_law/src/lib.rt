@@ -1,6 +1,7 @@
 //! The serial class as a law of its own, apart from any system: what is said of each kind of its
 //! actors, that their needs follow from it, and what the class brings at any moment and where
-//! nobody may make a call.
+//! nobody may make a call; how often its entries are moved; and that its actors hand on entries
+//! without pages.
 #![tactic(auto)]
 
 ghost use Rattle.std.specs.Prelude.{List};
@@ -15,8 +16,8 @@ ghost use Rattle.serial_law.specs.Parts.{SerialPart};
 ghost use Rattle.serial_law.specs.Table.{serial_sheet};
 ghost use Rattle.serial_law.specs.Serial.{SerialClass, IsSerial, ArrivesInPart, ArrivesWhole};
 
-pub mod serial_hops;
-pub mod serial_pools;
+pub mod hops;
+pub mod pools;
 
 /// The table of the serial class: what is said of an actor speaks of its own ends alone, and an
 /// output is owed exactly where the actor's row would still hold after one more put there.

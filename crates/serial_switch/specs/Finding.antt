@@ -1,8 +1,10 @@
 -- What the private functions of the plain program say; no public clause cites it.
-use Rattle.std.specs.Prelude.{◌≡◌, ◌<◌, ◌≤◌, ℕ, false, Some, List, ◌++◌, length, option_to_list, slice_get, drop, flat_map}
+use Rattle.std.specs.Prelude.{◌≡◌, ◌<◌, ◌≤◌, ℕ, false, Some, List, ◌++◌, length, option_to_list}
+use Rattle.std.specs.Prelude.{slice_get, drop, flat_map}
 use Rattle.std.specs.Char.{is_ascii_digit}
 use Rattle.serial_switch.specs.declared.plain.Found.{Found}
-use Rattle.serial_switch.specs.Switching.{Piece, IsPiece, ArePieces, bytes_of, byte_in, number_in, selected, given_of}
+use Rattle.serial_switch.specs.Switching.{Piece, IsPiece, ArePieces, bytes_of, byte_in, number_in}
+use Rattle.serial_switch.specs.Switching.{selected, given_of}
 
 -- after fewer than four digits stands no digit
 abbrev pub StopsAt : ℕ → List ℕ → Type 0

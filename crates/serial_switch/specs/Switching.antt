@@ -1,6 +1,8 @@
 -- The grammar of switched input, and which client gets which byte of it. A list of bytes is pieces,
 -- and a rest that is cut off.
-use Rattle.std.specs.Prelude.{◌≡◌, ◌≢◌, ℕ, ◌+◌, ◌-◌, ◌*◌, ◌<◌, ◌≤◌, true, false, ◌==◌, ◌&&◌, nat_lt, if◌then◌else◌, List, [], ◌∷◌, ◌++◌, length, filter, fold, flat_map, Option, Some, None}
+use Rattle.std.specs.Prelude.{◌≡◌, ◌≢◌, ℕ, ◌+◌, ◌-◌, ◌*◌, ◌<◌, ◌≤◌, true, false, ◌==◌, ◌&&◌, nat_lt}
+use Rattle.std.specs.Prelude.{if◌then◌else◌, List, [], ◌∷◌, ◌++◌, length, filter, fold, flat_map}
+use Rattle.std.specs.Prelude.{Option, Some, None}
 use Rattle.std.specs.Char.{is_ascii_digit}
 
 -- a piece: a plain byte, the escape byte twice, a selection by its digits, or a dropped selection
@@ -11,10 +13,11 @@ pub data Piece : Type 0 where
   Selection : List ℕ → Piece
   Dropped : List ℕ → ℕ → Piece
 
--- the byte that opens a selection, and the one that ends it
+-- the byte that opens a selection
 abbrev pub escape : ℕ
 escape = 28
 
+-- the byte that ends a selection, a carriage return
 abbrev pub confirm : ℕ
 confirm = 13
 

@@ -1,8 +1,11 @@
 //! A client's part of an input, by a plain and slow program: tests compare the switch with it.
 
-ghost use Rattle.std.specs.Prelude.{◌≡◌, ◌<◌, ◌≤◌, IfOk, OnOk, if◌then◌else◌, [], ◌++◌, ◌+◌, option_to_list, MatchOption, length, take, drop, Some, false, slice_get};
+ghost use Rattle.std.specs.Prelude.{◌≡◌, ◌<◌, ◌≤◌, IfOk, OnOk, if◌then◌else◌, [], ◌++◌, ◌+◌};
+ghost use Rattle.std.specs.Prelude.{option_to_list, MatchOption, length, take, drop, Some, false};
+ghost use Rattle.std.specs.Prelude.{slice_get};
 ghost use Rattle.std.specs.Char.{is_ascii_digit};
-ghost use Rattle.serial_switch.specs.Switching.{AreDigits, IsRest, number_of, number_in, byte_in, ended, last_client, input_of};
+ghost use Rattle.serial_switch.specs.Switching.{AreDigits, IsRest, number_of, number_in, byte_in};
+ghost use Rattle.serial_switch.specs.Switching.{ended, last_client, input_of};
 ghost use Rattle.serial_switch.specs.Finding.{Finds, StopsAt};
 
 use cargo_core::{Bytes, Memory};

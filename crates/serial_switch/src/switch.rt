@@ -1,9 +1,11 @@
 //! The switch of the receiving virtualiser: it reads the input byte by byte, and tells whose each
 //! byte is.
 
-ghost use Rattle.std.specs.Prelude.{◌≡◌, ◌<◌, ◌≤◌, ◌^◌, ◌&&◌, nat_lt, ℕ, List, [], ◌∷◌, ◌++◌, length, IfSome};
+ghost use Rattle.std.specs.Prelude.{◌≡◌, ◌<◌, ◌≤◌, ◌^◌, ◌&&◌, nat_lt, ℕ, List, [], ◌∷◌, ◌++◌};
+ghost use Rattle.std.specs.Prelude.{length, IfSome};
 ghost use Rattle.std.specs.Char.{is_ascii_digit};
-ghost use Rattle.serial_switch.specs.Switching.{input_of, given_to, given_by, selected_next, number_of, ended};
+ghost use Rattle.serial_switch.specs.Switching.{input_of, given_to, given_by, selected_next};
+ghost use Rattle.serial_switch.specs.Switching.{number_of, ended};
 
 /// The byte that opens a selection.
 const ESCAPE: u8 = 28;

@@ -1,5 +1,7 @@
 -- The receiving virtualiser: what it must fit, what it stands for, and its row.
-use Rattle.std.specs.Prelude.{◌≡◌, ◌==◌, ◌<◌, ◌≤◌, ℕ, Bool, true, ◌&&◌, Option, Some, None, is_some, is_none, List, [], ◌∷◌, ◌++◌, map, length, option_to_list, slice_get, if◌then◌else◌}
+use Rattle.std.specs.Prelude.{◌≡◌, ◌==◌, ◌<◌, ◌≤◌, ℕ, Bool, true, ◌&&◌, Option, Some, None, is_some}
+use Rattle.std.specs.Prelude.{is_none, List, [], ◌∷◌, ◌++◌, map, length, option_to_list, slice_get}
+use Rattle.std.specs.Prelude.{if◌then◌else◌}
 use Rattle.std.specs.Option.{ForSome, option_map}
 use Rattle.cargo_core.specs.declared.item.Body.{Body}
 use Rattle.cargo_core.specs.Items.{kind_of}
@@ -34,6 +36,7 @@ pub record FitsRx (ends : Role → ℕ → End) (v : SerialVirtRx) : Type 0 wher
 abbrev pub owed_to : Option Cargo → (owner k : ℕ) → List Cargo
 owed_to load owner k = if owner == k then option_to_list load else []
 
+-- how many clients the virtualiser has
 abbrev pub clients_of : SerialVirtRx → ℕ
 clients_of v = length (outlet_queues v.outputs)
 
@@ -70,6 +73,7 @@ rx_queues v = v.input.queue ∷ outlet_queues v.outputs
 abbrev pub new_outlet : QueueId → Outlet
 new_outlet q = record { queue = q; state = start_state Backward }
 
+-- the receiving virtualiser at its start, with its input and its clients' queues
 pub record IsNewRx (from : QueueId) (clients : List QueueId) (v : SerialVirtRx) : Type 0 where
   pub input : v.input.queue ≡ from
   pub input_state : v.input.state ≡ start_state Forward
@@ -82,6 +86,7 @@ pub record IsNewRx (from : QueueId) (clients : List QueueId) (v : SerialVirtRx) 
 abbrev pub place_loaded : SerialVirtRx → Option ℕ
 place_loaded v = option_map (λ c. v.to) v.load
 
+-- a byte is owed to the client at a place
 abbrev pub is_owed_at : SerialVirtRx → ℕ → Bool
 is_owed_at v k = (k == v.to) && is_some v.load
 
@@ -109,6 +114,7 @@ abbrev pub loaded_with : Option Cargo → Option (ℕ × ℕ) → Option Cargo
 loaded_with load None = load
 loaded_with load (Some g) = Some (byte_cargo g.1)
 
+-- the client that is owed a byte, or that was last
 abbrev pub loaded_for : ℕ → Option (ℕ × ℕ) → ℕ
 loaded_for to None = to
 loaded_for to (Some g) = g.0

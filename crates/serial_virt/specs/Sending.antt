@@ -1,5 +1,6 @@
 -- The sending virtualiser: what it must fit, what it stands for, and its row.
-use Rattle.std.specs.Prelude.{◌≡◌, ◌≤◌, ℕ, Some, None, is_some, is_none, List, [], ◌∷◌, ◌++◌, map, length, option_to_list, slice_get}
+use Rattle.std.specs.Prelude.{◌≡◌, ◌≤◌, ℕ, Some, None, is_some, is_none, List, [], ◌∷◌, ◌++◌, map}
+use Rattle.std.specs.Prelude.{length, option_to_list, slice_get}
 use Rattle.std.specs.Option.{ForSome}
 use Rattle.cargo_core.specs.declared.item.Body.{Body}
 use Rattle.cargo_core.specs.Items.{kind_of}
@@ -59,6 +60,7 @@ tx_queues v = v.output.queue ∷ intake_queues v.inputs
 abbrev pub new_intake : QueueId → Intake
 new_intake q = record { queue = q; state = start_state Forward }
 
+-- the sending virtualiser at its start, with its output and its clients' queues
 pub record IsNewTx (to : QueueId) (clients : List QueueId) (v : SerialVirtTx) : Type 0 where
   pub output : v.output.queue ≡ to
   pub output_state : v.output.state ≡ start_state Backward

@@ -1,12 +1,14 @@
 //! The virtualiser that shares out what was received.
 
-ghost use Rattle.std.specs.Prelude.{◌≡◌, ◌==◌, ◌<◌, ◌+◌, ◌^◌, ℕ, List, [], ◌++◌, None, IfOk, IfSome, length, map, is_none, is_some, false, if◌then◌else◌};
+ghost use Rattle.std.specs.Prelude.{◌≡◌, ◌==◌, ◌<◌, ◌+◌, ◌^◌, ℕ, List, [], ◌++◌, None, IfOk};
+ghost use Rattle.std.specs.Prelude.{IfSome, length, map, is_none, is_some, false, if◌then◌else◌};
 ghost use Rattle.std.specs.Option.{ForSome, option_to_list};
 ghost use Rattle.cargo_core.specs.Items.{kind_of};
 ghost use Rattle.wire_core.specs.Ends.{role_of, Role, End, Producer, Consumer};
 ghost use Rattle.wire_core.specs.Lists.{Passed, Stepped, nothing_passed};
 ghost use Rattle.wire_core.specs.Marks.{is_mark};
-ghost use Rattle.turn_kit.specs.Turns.{Turned, Posted, PostedAt, choice_of, chosen_place, last_after, is_at_rest};
+ghost use Rattle.turn_kit.specs.Turns.{Turned, Posted, PostedAt, choice_of, chosen_place};
+ghost use Rattle.turn_kit.specs.Turns.{last_after, is_at_rest};
 ghost use Rattle.turn_kit.specs.Posts.{intake_post};
 ghost use Rattle.cargo_core.specs.Bodies.{buffers_of};
 ghost use Rattle.turn_kit.specs.ManyEnds.{outlet_queues, outlet_posts};
@@ -14,7 +16,10 @@ ghost use Rattle.serial_switch.specs.Carried.{bytes_carried, byte_cargo};
 ghost use Rattle.serial_switch.specs.Standing.{StandsAfter};
 ghost use Rattle.serial_switch.specs.Switching.{input_of, given_to};
 ghost use Rattle.serial_virt.specs.Forgetting.{outlet_forgotten};
-ghost use Rattle.serial_virt.specs.Receiving.{FitsRx, RxStandsFor, RxRow, RxBalances, RxEnd, IsNewRx, RxForgot, new_outlet, rx_queues, rx_round, rx_hand, loaded_with, loaded_for, is_owed_at, place_loaded};
+ghost use Rattle.serial_virt.specs.Receiving.{FitsRx, RxStandsFor, RxRow, RxBalances, RxEnd};
+ghost use Rattle.serial_virt.specs.Receiving.{IsNewRx, RxForgot, new_outlet, rx_queues, rx_round};
+ghost use Rattle.serial_virt.specs.Receiving.{rx_hand, loaded_with, loaded_for, is_owed_at};
+ghost use Rattle.serial_virt.specs.Receiving.{place_loaded};
 
 use cargo_core::{Body, Item, Memory, PoolId};
 use serial_switch::Switch;

@@ -1,15 +1,18 @@
 //! The virtualiser that merges what the clients send.
 
-ghost use Rattle.std.specs.Prelude.{◌≡◌, ◌<◌, ◌+◌, ℕ, [], None, IfOk, length, is_none, is_some, false, map};
+ghost use Rattle.std.specs.Prelude.{◌≡◌, ◌<◌, ◌+◌, ℕ, [], None, IfOk, length, is_none, is_some};
+ghost use Rattle.std.specs.Prelude.{false, map};
 ghost use Rattle.wire_core.specs.Ends.{role_of, Role, End, Producer, Consumer};
 ghost use Rattle.wire_core.specs.Lists.{Passed, Stepped, nothing_passed};
 ghost use Rattle.wire_core.specs.Marks.{is_mark};
-ghost use Rattle.turn_kit.specs.Turns.{Turned, Posted, PostedAt, choice_of, chosen_place, last_after, is_at_rest};
+ghost use Rattle.turn_kit.specs.Turns.{Turned, Posted, PostedAt, choice_of, chosen_place};
+ghost use Rattle.turn_kit.specs.Turns.{last_after, is_at_rest};
 ghost use Rattle.turn_kit.specs.Posts.{outlet_post};
 ghost use Rattle.cargo_core.specs.Bodies.{buffers_of};
 ghost use Rattle.turn_kit.specs.ManyEnds.{intake_queues, intake_posts};
 ghost use Rattle.serial_virt.specs.Forgetting.{intake_forgotten};
-ghost use Rattle.serial_virt.specs.Sending.{FitsTx, TxStandsFor, TxRow, TxBalances, TxEnd, IsNewTx, TxForgot, new_intake, tx_queues, tx_round, tx_hand};
+ghost use Rattle.serial_virt.specs.Sending.{FitsTx, TxStandsFor, TxRow, TxBalances, TxEnd, IsNewTx};
+ghost use Rattle.serial_virt.specs.Sending.{TxForgot, new_intake, tx_queues, tx_round, tx_hand};
 
 use cargo_core::{Body, Item, Memory, PoolId};
 use std::alloc::Global;

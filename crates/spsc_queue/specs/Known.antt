@@ -1,6 +1,7 @@
-pub mod Ends
 -- How what a caller sees of an end, a ring and an ended ring lies in their fields.
-use Rattle.std.specs.Prelude.{◌≡◌, ◌≢◌, ℕ, ◌%◌, ◌<◌, ◌≤◌, length, true, false, Option, Some, None, List, [], ◌∷◌}
+pub mod Ends
+use Rattle.std.specs.Prelude.{◌≡◌, ◌≢◌, ℕ, ◌%◌, ◌<◌, ◌≤◌, length, true, false, Option, Some, None}
+use Rattle.std.specs.Prelude.{List, [], ◌∷◌}
 use Rattle.cargo_core.specs.declared.item.QueueKind.TheVariants as Kind
 use Rattle.wire_core.specs.declared.names.BellState.{BellState}
 use Rattle.wire_core.specs.declared.names.Side.{Side}

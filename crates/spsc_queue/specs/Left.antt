@@ -1,5 +1,6 @@
 -- What is left in the slots of a ring whose ends were given up.
-use Rattle.std.specs.Prelude.{ℕ, zero, suc, ◌+◌, ◌%◌, List, [], ◌∷◌, ◌++◌, slice_index_or, Some, None}
+use Rattle.std.specs.Prelude.{ℕ, zero, suc, ◌+◌, ◌%◌, List, [], ◌∷◌, ◌++◌, slice_index_or, Some}
+use Rattle.std.specs.Prelude.{None}
 use Rattle.wire_core.specs.Deeds.{Cargo}
 use Rattle.spsc_queue.specs.Rule.{Slot}
 

@@ -1,5 +1,6 @@
 -- The queue that the words and the two ends show at a moment, and how a call goes on from there.
-use Rattle.std.specs.Prelude.{◌≡◌, ℕ, ◌+◌, Bool, List, length, drop, nat_eq, slice_index, slice_set, is_some}
+use Rattle.std.specs.Prelude.{◌≡◌, ℕ, ◌+◌, Bool, List, length, drop, nat_eq, slice_index, slice_set}
+use Rattle.std.specs.Prelude.{is_some}
 use Rattle.cargo_core.specs.declared.item.QueueKind.{QueueKind}
 use Rattle.wire_core.specs.declared.names.Op.{Op}
 use Rattle.wire_core.specs.declared.names.Op.TheVariants as Do

@@ -1,6 +1,7 @@
 //! How a ring comes to its end: both ends are given up, and what was sent, taken and left is known,
 //! with both bells.
-ghost use Rattle.std.specs.Prelude.{◌≡◌, ◌<◌, ◌≤◌, ◌++◌, length, drop, nat_lt, slice_get, All, IfOk, List, ℕ};
+ghost use Rattle.std.specs.Prelude.{◌≡◌, ◌<◌, ◌≤◌, ◌++◌, length, drop, nat_lt, slice_get, All};
+ghost use Rattle.std.specs.Prelude.{IfOk, List, ℕ};
 ghost use Rattle.std.specs.Slots.{slots_len, slots_items, IsFull};
 ghost use Rattle.cargo_core.specs.Items.{kind_of};
 ghost use Rattle.wire_core.specs.Bells.{BellHolds};
@@ -124,7 +125,11 @@ pub fn finish(ring: Ring, producer: Producer, consumer: Consumer) -> Result<Ende
     ensures forward { IfOk result (λ e.
         (e.forward ≡ forward_bell e.forward.flag e.forward.pending producer.knows consumer.knows)
         × BellHolds e.forward (nat_lt 0 (length e.left)) (length producer.knows.entries)) }
-    ensures backward { IfOk result (λ e. (e.backward ≡ backward_bell e.backward.flag e.backward.pending producer.knows consumer.knows) × BellHolds e.backward (nat_lt (length e.left) ring.id.slots) (length consumer.knows.entries)) }
+    ensures backward { IfOk result (λ e.
+        (e.backward
+        ≡ backward_bell e.backward.flag e.backward.pending producer.knows consumer.knows)
+        × BellHolds e.backward (nat_lt (length e.left) ring.id.slots)
+        (length consumer.knows.entries)) }
 {
     let Ring {
         table,

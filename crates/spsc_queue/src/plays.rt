@@ -1,6 +1,9 @@
 //! What each kind of step on a ring tells the end that makes it, and how the first seat is split
 //! and the last is joined.
-ghost use Rattle.spsc_queue.specs.Steps.{room_done, put_done, see_done, take_done, producer_turned, consumer_turned, asked, waived, after_wake, after_wanted, after_settle, after_ring, producer_home, consumer_home, producing_part, consuming_part, whole, memory_of, spent};
+ghost use Rattle.spsc_queue.specs.Steps.{room_done, put_done, see_done, take_done, producer_turned};
+ghost use Rattle.spsc_queue.specs.Steps.{consumer_turned, asked, waived, after_wake, after_wanted};
+ghost use Rattle.spsc_queue.specs.Steps.{after_settle, after_ring, producer_home, consumer_home};
+ghost use Rattle.spsc_queue.specs.Steps.{producing_part, consuming_part, whole, memory_of, spent};
 
 use crate::clock::Clock;
 use crate::rule::Slot;

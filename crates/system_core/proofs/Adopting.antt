@@ -21,38 +21,38 @@ use Rattle.play_core.specs.Sheets.{Scene, RowsHold, AreSeated, AreFilled}
 use Rattle.play_core.specs.Still.{IsPeopled}
 use Rattle.play_core.proofs.Lists.{some_is, map_get, map_from, there_is, there_below}
 use Rattle.owner_law.specs.Pages.{CarryPages}
-use Rattle.play_core.specs.RestLaw.Showing.{HaveItems, HaveBells}
+use Rattle.play_core.specs.Rests.Showing.{HaveItems, HaveBells}
 use Rattle.actor_set.specs.Parts.{Part}
 use Rattle.actor_set.specs.Actors.{FitsActor, ActorStandsFor, ActorEnd, Forgot, IsWhole, part_of, actor_round, actor_rests}
 use Rattle.actor_set.specs.declared.actor.Actor.{Actor}
-use Rattle.actor_set.specs.ActorLaw.Kinds.{sheet, scene_of, hostiles}
-use Rattle.actor_set.specs.ActorLaw.Turning.{InTurn}
-use Rattle.actor_set.proofs.ActorLaw.PartEnds.{to_part, end_seat}
-use Rattle.actor_set.proofs.ActorLaw.Starts.{fits_whole}
+use Rattle.actor_set.specs.Laws.Kinds.{sheet, scene_of, hostiles}
+use Rattle.actor_set.specs.Laws.Turning.{InTurn}
+use Rattle.actor_set.proofs.LawsLemmas.PartEnds.{to_part, end_seat}
+use Rattle.actor_set.proofs.LawsLemmas.Starts.{fits_whole}
 use Rattle.wired_law.specs.Wiring.{IsWired, AreAtWork, AreOfKind, ClientsSend}
 use Rattle.wired_law.proofs.Wiring.{in_turn}
-use Rattle.cast_law.specs.CastPools.Places.{PoolPlace, IsPlaced, HasPools, cast_naming}
-use Rattle.cast_law.specs.CastPools.Pooling.{AreAtPlay, HasOwners}
-use Rattle.cast_law.proofs.CastPools.Playing.{rows_at}
+use Rattle.cast_law.specs.Pools.Places.{PoolPlace, IsPlaced, HasPools, cast_naming}
+use Rattle.cast_law.specs.Pools.Pooling.{AreAtPlay, HasOwners}
+use Rattle.cast_law.proofs.PoolsLemmas.Playing.{rows_at}
 use Rattle.plain_wires.specs.Adopted.{IsEndedOf, adopted, all_adopted}
 use Rattle.order_law.specs.ActorParts.Opening.{IsForgotten}
 use Rattle.order_law.specs.ActorParts.Parting.{Apart, AreApart, IsRingOf, apart_end}
 use Rattle.order_law.specs.ActorParts.Finished.{OwnEnd, AreFinished}
-use Rattle.order_law.specs.EndedLaw.Tracks.{track_of, TellsEnds}
-use Rattle.order_law.specs.EndedLaw.Leaving.{history_left, AreLeft}
-use Rattle.order_law.proofs.EndedLaw.Lists.{all_at, all_long}
-use Rattle.order_law.proofs.EndedLaw.Leaving.{are_left, same_end, queue_is, world_long}
-use Rattle.order_law.proofs.EndedLaw.Resting.{rests_left}
-use Rattle.order_law.proofs.EndedLaw.Rounds.{fits_round}
-use Rattle.cast_law.specs.RunLaw.Running.{HaveHeld}
-use Rattle.cast_law.specs.GoneLaw.Gone.{HaveGone, passed_of, left_at, actors_apart}
-use Rattle.cast_law.proofs.GoneLaw.Gone.{have_gone as went_on, hand_over}
+use Rattle.order_law.specs.Ended.Tracks.{track_of, TellsEnds}
+use Rattle.order_law.specs.Ended.Leaving.{history_left, AreLeft}
+use Rattle.order_law.proofs.EndedLemmas.Lists.{all_at, all_long}
+use Rattle.order_law.proofs.EndedLemmas.Leaving.{are_left, same_end, queue_is, world_long}
+use Rattle.order_law.proofs.EndedLemmas.Resting.{rests_left}
+use Rattle.order_law.proofs.EndedLemmas.Rounds.{fits_round}
+use Rattle.cast_law.specs.Runs.Running.{HaveHeld}
+use Rattle.cast_law.specs.Gone.Gone.{HaveGone, passed_of, left_at, actors_apart}
+use Rattle.cast_law.proofs.GoneLemmas.Gone.{have_gone as went_on, hand_over}
 use Rattle.cast_law.proofs.PastOwners.Past.{past_owned}
 use Rattle.sdf_plan.specs.declared.plan.Plan.{Plan}
 use Rattle.sdf_check.specs.Valid.{Valid}
 use Rattle.trace_text.specs.declared.trace.Trace.{Trace}
 use Rattle.region_layout.specs.Rows.{queues_of, pools_of}
-use Rattle.layout_laws.proofs.SeatLaw.Counts.{few_numbers}
+use Rattle.layout_laws.proofs.SeatsLemmas.Counts.{few_numbers}
 use Rattle.system_core.specs.Builds.{IsCastOf}
 use Rattle.system_core.specs.Crews.{net_crew, serial_crew, blk_crew}
 use Rattle.system_core.proofs.Fitting.{are_sized}

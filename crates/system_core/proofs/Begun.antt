@@ -17,15 +17,15 @@ use Rattle.serial_law.specs.Parts.{SerialPart}
 use Rattle.serial_law.specs.Bytes.{bytes_in}
 use Rattle.serial_law.specs.Serial.{SerialClass, IsSerial, ArrivesInPart, ArrivesWhole}
 use Rattle.actor_set.specs.Parts.{Part, ClientPart}
-use Rattle.actor_set.specs.ActorLaw.Kinds.{serial_part}
+use Rattle.actor_set.specs.Laws.Kinds.{serial_part}
 use Rattle.system_core.specs.Shows.{Setting, Shown, hostile_in, sheet_in, moved_in}
-use Rattle.actor_set.specs.ActorLaw.Records.{record_by}
+use Rattle.actor_set.specs.Laws.Records.{record_by}
 use Rattle.system_core.specs.Lawful.{record_at, IsFitted, IsTold}
 use Rattle.system_core.specs.Crews.{number_named}
 use Rattle.system_core.specs.Builds.{serial_class}
 use Rattle.system_core.proofs.Casting.{HasSerial}
 use Rattle.system_core.specs.PlanPlays.{ShowsInPart, ShowsWhole}
-use Rattle.actor_set.proofs.ActorLaw.Calm.{calm_row}
+use Rattle.actor_set.proofs.LawsLemmas.Calm.{calm_row}
 use Rattle.cast_core.proofs.Seconds.{second_get, second_there, second_length}
 
 -- an actor of the serial class is one of a cast

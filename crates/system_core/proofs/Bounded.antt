@@ -17,8 +17,8 @@ use Rattle.play_core.proofs.Moments.{last_moment}
 use Rattle.serial_law.specs.Parts.{SerialPart}
 use Rattle.serial_law.specs.Serial.{SerialClass, IsSerial}
 use Rattle.serial_law.proofs.Arrivals.{as_there, RowAt}
-use Rattle.actor_set.specs.ActorLaw.Kinds.{serial_part, scene_of}
-use Rattle.actor_set.proofs.ActorLaw.Calm.{calm_actor, sheet_is}
+use Rattle.actor_set.specs.Laws.Kinds.{serial_part, scene_of}
+use Rattle.actor_set.proofs.LawsLemmas.Calm.{calm_actor, sheet_is}
 use Rattle.wired_law.specs.Wiring.{HasWhole, HasBlk}
 use Rattle.cast_core.specs.Sources.{first_serial}
 use Rattle.cast_core.specs.Casts.{net_place, blk_place}

@@ -19,7 +19,7 @@ use Rattle.cast_law.specs.Seats.{AreSeated}
 use Rattle.cast_law.proofs.Joined.{all_seated, whole_network, whole_block, scene_of_plan}
 use Rattle.cast_law.proofs.Seated.{part_there}
 use Rattle.cast_law.proofs.Pooled.{are_pooled as plan_pooled}
-use Rattle.cast_law.specs.CastPools.Places.{ArePooled}
+use Rattle.cast_law.specs.Pools.Places.{ArePooled}
 use Rattle.system_core.specs.Shows.{Crew}
 use Rattle.system_core.specs.States.{started}
 use Rattle.system_core.specs.Crews.{net_crew, serial_crew, blk_crew}

@@ -6,11 +6,11 @@ use Rattle.sdf_plan.specs.declared.plan.SerialClient.{SerialClient as Client}
 use Rattle.trace_text.specs.declared.trace.Trace.{Trace}
 use Rattle.region_layout.specs.Rows.{uart_number}
 use Rattle.serial_law.specs.Parts.{SerialPart, SerialDevice, SerialDriver, SerialReceiver, SerialSender, SerialClient}
-use Rattle.layout_laws.specs.JobLaw.Jobs as jobs
+use Rattle.layout_laws.specs.Jobs.Jobs as jobs
 use Rattle.actor_set.specs.Parts.{RxPart, TxPart, ClientPart}
-use Rattle.actor_set.specs.ActorLaw.Kinds.{serial_part}
+use Rattle.actor_set.specs.Laws.Kinds.{serial_part}
 use Rattle.cast_core.specs.Sources.{every_second, first_serial}
-use Rattle.layout_laws.proofs.SeatLaw.Naming.{serial_named}
+use Rattle.layout_laws.proofs.SeatsLemmas.Naming.{serial_named}
 use Rattle.system_core.specs.Shows.{Crew, Setting}
 use Rattle.system_core.specs.States.{crew_of, nobody}
 use Rattle.system_core.specs.Crews.{number_named}

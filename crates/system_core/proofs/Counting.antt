@@ -8,12 +8,12 @@ use Rattle.wire_core.specs.Queues.{Queue}
 use Rattle.expect_core.specs.declared.report.Census.{Census as Line}
 use Rattle.play_core.specs.Sheets.{Scene}
 use Rattle.play_core.proofs.Lists.{some_is}
-use Rattle.owner_law.specs.PoolLaw.Lines.{Holder}
+use Rattle.owner_law.specs.Pools.Lines.{Holder}
 use Rattle.cast_law.specs.PoolLines.PoolLines.{line_of, counted, counted_lines}
 use Rattle.actor_set.specs.Actors.{part_of}
 use Rattle.actor_set.specs.declared.actor.Actor.{Actor}
-use Rattle.actor_set.specs.ActorLaw.Kinds.{scene_of}
-use Rattle.cast_law.specs.CastPools.Holders.{actor_holder, holders_of}
+use Rattle.actor_set.specs.Laws.Kinds.{scene_of}
+use Rattle.cast_law.specs.Pools.Holders.{actor_holder, holders_of}
 use Rattle.system_core.specs.States.{held_by, lent_by}
 
 sum_mapped : (scene : Scene) (f : Holder → ℕ) (xs : List Actor) → sum_by f (map (actor_holder scene) xs) ≡ sum_by (λ x. f (actor_holder scene x)) xs

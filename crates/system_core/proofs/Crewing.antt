@@ -12,16 +12,16 @@ use Rattle.sdf_plan.specs.declared.plan.BlkClient.{BlkClient}
 use Rattle.region_layout.specs.Rows.{queues_of, eth_number, uart_number, disk_number}
 use Rattle.play_core.specs.Wants.{intake}
 use Rattle.play_core.proofs.Lists.{some_is, map_from}
-use Rattle.layout_laws.specs.JobLaw.Jobs.{Job, HasJob}
-use Rattle.layout_laws.specs.JobLaw.Jobs as jobs
+use Rattle.layout_laws.specs.Jobs.Jobs.{Job, HasJob}
+use Rattle.layout_laws.specs.Jobs.Jobs as jobs
 use Rattle.sdf_check.specs.Valid.{Valid}
 use Rattle.region_layout.proofs.ValidLemmas.{net_counts, serial_counts, blk_counts}
-use Rattle.layout_laws.specs.SeatLaw.Ends.{job_ends}
+use Rattle.layout_laws.specs.Seats.Ends.{job_ends}
 use Rattle.cast_core.specs.Known.{HasRows}
 use Rattle.cast_core.proofs.Tables.{has_rows}
-use Rattle.layout_laws.proofs.SeatLaw.Seats.{has_seat}
+use Rattle.layout_laws.proofs.SeatsLemmas.Seats.{has_seat}
 use Rattle.cast_core.specs.Sources.{first_serial, first_blk}
-use Rattle.layout_laws.proofs.SeatLaw.Naming.{net_named, serial_named, blk_named}
+use Rattle.layout_laws.proofs.SeatsLemmas.Naming.{net_named, serial_named, blk_named}
 use Rattle.system_core.specs.States.{crew_of, nobody}
 use Rattle.system_core.specs.Crews.{number_named, net_crew, serial_crew, blk_crew, IsTaker, AreTakers}
 

@@ -15,10 +15,10 @@ use Rattle.play_core.proofs.Lists.{map_from, there_is}
 use Rattle.actor_set.specs.Parts.{Part}
 use Rattle.actor_set.specs.Actors.{part_of}
 use Rattle.actor_set.specs.declared.actor.Actor.{Actor}
-use Rattle.actor_set.specs.ActorLaw.Kinds.{sheet, scene_of, hostiles}
-use Rattle.cast_law.specs.CastPools.Places.{PoolPlace, IsPlaced, HasPools, ArePooled}
-use Rattle.cast_law.specs.CastPools.Pooling.{HasOwners}
-use Rattle.cast_law.proofs.CastPools.Playing.{owners_anew}
+use Rattle.actor_set.specs.Laws.Kinds.{sheet, scene_of, hostiles}
+use Rattle.cast_law.specs.Pools.Places.{PoolPlace, IsPlaced, HasPools, ArePooled}
+use Rattle.cast_law.specs.Pools.Pooling.{HasOwners}
+use Rattle.cast_law.proofs.PoolsLemmas.Playing.{owners_anew}
 use Rattle.system_core.specs.Shows.{Crew}
 use Rattle.system_core.specs.States.{begun}
 use Rattle.cast_law.specs.Seats.{AreSeated}
@@ -26,8 +26,8 @@ use Rattle.system_core.specs.Lawful.{IsFitted}
 use Rattle.system_core.specs.Systems.{GoesOn}
 use Rattle.system_core.proofs.Starting.{start_holds}
 use Rattle.system_core.proofs.Seating.{seated_start}
-use Rattle.actor_set.proofs.ActorLaw.Starts.{new_whole}
-use Rattle.actor_set.proofs.ActorLaw.PartEnds.{PartEnd, to_part, from_part, end_seat, seat_end}
+use Rattle.actor_set.proofs.LawsLemmas.Starts.{new_whole}
+use Rattle.actor_set.proofs.LawsLemmas.PartEnds.{PartEnd, to_part, from_part, end_seat, seat_end}
 
 -- the queues have sizes that wires take
 capacities : (rows : List QueueRow) → ((n : ℕ) (row : QueueRow) → slice_get rows n ≡ Some row → IsCapacity row.capacity) → All (λ row. IsCapacity row.capacity) rows

@@ -10,7 +10,7 @@ use Rattle.play_core.specs.Moved.{moved}
 use Rattle.play_core.proofs.Lists.{map_alike}
 use Rattle.actor_set.specs.Actors.{part_of}
 use Rattle.actor_set.specs.declared.actor.Actor.{Actor}
-use Rattle.actor_set.specs.ActorLaw.Records.{record_of, record_by}
+use Rattle.actor_set.specs.Laws.Records.{record_of, record_by}
 use Rattle.system_core.specs.Shows.{hostile_in}
 use Rattle.system_core.specs.States.{record_from, frames_from, replies_from}
 use Rattle.system_core.specs.Lawful.{record_at, IsTold, StandsLawful}
@@ -19,7 +19,7 @@ use Rattle.system_core.specs.Inside.{shown_of, setting_of, IsSystem}
 use Rattle.system_core.specs.declared.system.System.TheInside.{Inside}
 use Rattle.std.proofs.lemmas.List.{length-map}
 use Rattle.system_core.proofs.Stepping.{runs_below}
-use Rattle.actor_set.proofs.ActorLaw.Rows.{heard_here}
+use Rattle.actor_set.proofs.LawsLemmas.Rows.{heard_here}
 use Rattle.system_core.proofs.RunsNow.{items_here}
 use Rattle.system_core.proofs.Recording.{records_at, wire_at, replies_at}
 use Rattle.system_core.proofs.Lining.{kinds_hold, pool_lines, pool_lines_anew, without_pools, nothing_bad}

@@ -1,3 +1,4 @@
+-- The proofs on a system at play.
 pub mod Rising
 pub mod Places
 pub mod SystemStep

@@ -9,13 +9,13 @@ use Rattle.cast_law.specs.PoolLines.PoolLines.{table_lines, counted_lines}
 use Rattle.actor_set.specs.Parts.{Part}
 use Rattle.actor_set.specs.Actors.{part_of, bad_of}
 use Rattle.actor_set.specs.declared.actor.Actor.{Actor}
-use Rattle.actor_set.specs.ActorLaw.Kinds.{scene_of}
+use Rattle.actor_set.specs.Laws.Kinds.{scene_of}
 use Rattle.wired_law.specs.Wiring.{HasNoNetwork, HasNoBlock}
-use Rattle.cast_law.specs.CastPools.Holders.{holders_of}
-use Rattle.cast_law.specs.CastPools.Places.{PoolPlace, IsPlaced, HasPools, ArePooled, cast_naming}
-use Rattle.cast_law.specs.CastPools.Pooling.{keepers_at, AddUp, AreAtPlay, BeginsWith, AreKindly}
-use Rattle.cast_law.proofs.CastPools.Goodness.{none_bad}
-use Rattle.cast_law.proofs.CastPools.Playing.{bare, begins_anew, play_kinds, play_lines, play_whole, pools_few}
+use Rattle.cast_law.specs.Pools.Holders.{holders_of}
+use Rattle.cast_law.specs.Pools.Places.{PoolPlace, IsPlaced, HasPools, ArePooled, cast_naming}
+use Rattle.cast_law.specs.Pools.Pooling.{keepers_at, AddUp, AreAtPlay, BeginsWith, AreKindly}
+use Rattle.cast_law.proofs.PoolsLemmas.Goodness.{none_bad}
+use Rattle.cast_law.proofs.PoolsLemmas.Playing.{bare, begins_anew, play_kinds, play_lines, play_whole, pools_few}
 use Rattle.system_core.specs.Shows.{hostile_in}
 use Rattle.system_core.specs.States.{bad_in}
 use Rattle.system_core.specs.Inside.{setting_of, IsSystem}

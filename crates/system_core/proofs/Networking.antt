@@ -10,10 +10,10 @@ use Rattle.trace_text.specs.declared.trace.Trace.{Trace}
 use Rattle.trace_text.specs.Events.{net_clients}
 use Rattle.region_layout.specs.Rows.{eth_number}
 use Rattle.net_expect.specs.Expecting.{frames_for}
-use Rattle.net_law.specs.NetParts.Numbers.{client_first, device_at}
-use Rattle.net_law.specs.NetTxParts.Numbers.{NetPlace, own_pools}
-use Rattle.net_quiet.specs.NetTxCast.Casting.{sends_at}
-use Rattle.layout_laws.specs.JobLaw.Jobs as jobs
+use Rattle.net_law.specs.Parts.Numbers.{client_first, device_at}
+use Rattle.net_law.specs.TxParts.Numbers.{NetPlace, own_pools}
+use Rattle.net_quiet.specs.TxCast.Casting.{sends_at}
+use Rattle.layout_laws.specs.Jobs.Jobs as jobs
 use Rattle.play_core.specs.Sheets.{Scene}
 use Rattle.play_core.specs.Totals.{total}
 use Rattle.play_core.proofs.Lists.{map_get, there_is}
@@ -21,13 +21,13 @@ use Rattle.play_core.proofs.Merges.{prefix_merge_whole}
 use Rattle.play_core.proofs.OneQueue.{whole_prefix}
 use Rattle.net_quiet.specs.Still.{ArrivesAll, SendsAll}
 use Rattle.actor_set.specs.Parts.{NetworkPart}
-use Rattle.actor_set.specs.ActorLaw.Kinds.{scene_of}
+use Rattle.actor_set.specs.Laws.Kinds.{scene_of}
 use Rattle.wired_law.specs.Wiring.{HasWhole}
 use Rattle.cast_core.specs.Casts.{net_place, client_pools}
 use Rattle.cast_core.specs.Sources.{client_mac, client_program}
 use Rattle.cast_core.proofs.Listing.{value_count, value_at, value_is}
-use Rattle.layout_laws.specs.SeatLaw.Named.{AreNetNamed}
-use Rattle.layout_laws.proofs.SeatLaw.Naming.{net_named}
+use Rattle.layout_laws.specs.Seats.Named.{AreNetNamed}
+use Rattle.layout_laws.proofs.SeatsLemmas.Naming.{net_named}
 use Rattle.system_core.specs.Shows.{Crew, Shown, moved_in}
 use Rattle.system_core.specs.States.{crew_of, nobody}
 use Rattle.system_core.specs.Lawful.{IsTold, TellsFrames}

@@ -11,10 +11,10 @@ use Rattle.wire_core.proofs.BellTheorem.{start_is}
 use Rattle.play_core.proofs.Lists.{map_get}
 use Rattle.actor_set.specs.Actors.{FitsActor, IsWhole, part_of}
 use Rattle.actor_set.specs.declared.actor.Actor.{Actor}
-use Rattle.actor_set.specs.ActorLaw.Kinds.{scene_of}
-use Rattle.actor_set.proofs.ActorLaw.Beside.{stands_beside}
-use Rattle.actor_set.proofs.ActorLaw.Starts.{fits_whole}
-use Rattle.actor_set.proofs.ActorLaw.PartEnds.{to_part, end_seat}
+use Rattle.actor_set.specs.Laws.Kinds.{scene_of}
+use Rattle.actor_set.proofs.LawsLemmas.Beside.{stands_beside}
+use Rattle.actor_set.proofs.LawsLemmas.Starts.{fits_whole}
+use Rattle.actor_set.proofs.LawsLemmas.PartEnds.{to_part, end_seat}
 use Rattle.order_law.specs.ActorParts.Ready.{AreReady}
 use Rattle.system_core.specs.Systems.{Holds}
 use Rattle.system_core.specs.Inside.{setting_of, IsSystem}

@@ -12,19 +12,19 @@ use Rattle.play_core.specs.Sheets.{needful}
 use Rattle.play_core.specs.Still.{IsStill}
 use Rattle.play_core.proofs.Moments.{last_moment}
 use Rattle.play_core.proofs.Quieting.{quiet_still}
-use Rattle.net_law.specs.NetTxParts.Numbers.{NetPlace}
+use Rattle.net_law.specs.TxParts.Numbers.{NetPlace}
 use Rattle.net_quiet.specs.Still.{HasRooms, IsNetwork}
 use Rattle.net_quiet.proofs.Receiving.{arrives_all, sends_all}
-use Rattle.blk_law.specs.BlkParts.Numbers.{BlkPlace}
+use Rattle.blk_law.specs.Sheets.Numbers.{BlkPlace}
 use Rattle.blk_quiet.specs.Still.{HasBlkRooms, IsBlock, AnswersAll}
 use Rattle.blk_quiet.proofs.Answering.{answers_all}
-use Rattle.actor_set.specs.ActorLaw.Kinds.{scene_of}
+use Rattle.actor_set.specs.Laws.Kinds.{scene_of}
 use Rattle.wired_law.specs.Wiring.{HasWhole, HasBlk}
-use Rattle.wired_law.proofs.WiredQuiet.Quieting.{network_there}
-use Rattle.wired_law.proofs.WiredQuiet.Answering.{block_there}
+use Rattle.wired_law.proofs.QuietLemmas.Quieting.{network_there}
+use Rattle.wired_law.proofs.QuietLemmas.Answering.{block_there}
 use Rattle.cast_core.specs.Casts.{net_place, blk_place}
-use Rattle.cast_law.proofs.CastQuiet.Rooms.{pools_are, rooms_are}
-use Rattle.cast_law.proofs.CastQuiet.Blocks.{blk_pools_are, blk_rooms_are}
+use Rattle.cast_law.proofs.QuietLemmas.Rooms.{pools_are, rooms_are}
+use Rattle.cast_law.proofs.QuietLemmas.Blocks.{blk_pools_are, blk_rooms_are}
 use Rattle.system_core.specs.Shows.{Shown, manner_in, hostile_in, sheet_in, moved_in, RowsStand}
 use Rattle.system_core.specs.Plays.{runnable_now}
 use Rattle.system_core.specs.Lawful.{StandsLawful}

@@ -5,7 +5,7 @@ use Rattle.cargo_core.specs.Lists.{IsPrefix, PrefixMerge}
 use Rattle.cargo_core.specs.declared.item.Ask.{Ask}
 use Rattle.cargo_core.specs.declared.item.Reply.{Reply}
 use Rattle.blk_expect.specs.Replies.{replies_of}
-use Rattle.blk_law.specs.BlkParts.Numbers.{BlkPlace, blk_client_at}
+use Rattle.blk_law.specs.Sheets.Numbers.{BlkPlace, blk_client_at}
 use Rattle.frame_core.specs.declared.mac.Mac.{Mac}
 use Rattle.wire_core.specs.declared.names.QueueRow.{QueueRow}
 use Rattle.wire_core.specs.declared.names.Entry.{Entry}
@@ -14,17 +14,17 @@ use Rattle.wire_core.specs.Queues.{Queue, queue_at, end_at}
 use Rattle.wire_core.specs.Journal.{History}
 use Rattle.net_expect.specs.Expecting.{Program, frames_for}
 use Rattle.buffer_kit.specs.Entries.{frame_of}
-use Rattle.net_law.specs.NetOwners.Names.{PoolAt, ClientPools}
-use Rattle.net_law.specs.NetParts.Numbers.{client_first, device_at, client_at}
-use Rattle.net_law.specs.NetTxParts.Numbers.{NetPlace}
-use Rattle.net_quiet.specs.NetTxCast.Casting.{sends_at}
+use Rattle.net_law.specs.Owners.Names.{PoolAt, ClientPools}
+use Rattle.net_law.specs.Parts.Numbers.{client_first, device_at, client_at}
+use Rattle.net_law.specs.TxParts.Numbers.{NetPlace}
+use Rattle.net_quiet.specs.TxCast.Casting.{sends_at}
 use Rattle.actor_set.specs.Parts.{NetworkPart, BlockPart}
 use Rattle.actor_set.specs.Actors.{part_of}
 use Rattle.actor_set.specs.declared.actor.Actor.{Actor}
-use Rattle.actor_set.specs.ActorLaw.Kinds.{scene_of}
-use Rattle.actor_set.specs.ActorLaw.Records.{frames_got, frames_by, replies_got, replies_by}
-use Rattle.actor_set.proofs.ActorLaw.Rows.{frames_here, replies_here}
-use Rattle.client_programs.proofs.BlkClients.Asks.{replies_long}
+use Rattle.actor_set.specs.Laws.Kinds.{scene_of}
+use Rattle.actor_set.specs.Laws.Records.{frames_got, frames_by, replies_got, replies_by}
+use Rattle.actor_set.proofs.LawsLemmas.Rows.{frames_here, replies_here}
+use Rattle.client_programs.proofs.BlkLemmas.Asks.{replies_long}
 use Rattle.wired_law.specs.Wiring.{HasWhole, HasBlk, AreAtWork}
 use Rattle.wired_law.proofs.Wiring.{recorded, sent_on}
 use Rattle.wired_law.proofs.BlkReplies.Casts.{replied}

@@ -11,16 +11,16 @@ use Rattle.trace_text.specs.declared.trace.Trace.{Trace}
 use Rattle.trace_text.specs.Events.{blk_clients}
 use Rattle.region_layout.specs.Rows.{disk_number}
 use Rattle.blk_expect.specs.Replies.{replies_of}
-use Rattle.blk_law.specs.BlkParts.Numbers.{BlkPlace, blk_client_at}
-use Rattle.layout_laws.specs.JobLaw.Jobs as jobs
+use Rattle.blk_law.specs.Sheets.Numbers.{BlkPlace, blk_client_at}
+use Rattle.layout_laws.specs.Jobs.Jobs as jobs
 use Rattle.play_core.proofs.Lists.{map_get, there_is}
 use Rattle.actor_set.specs.Parts.{BlockPart}
 use Rattle.cast_core.specs.Casts.{blk_place, client_pool}
 use Rattle.expect_core.specs.Expected.{client_asks, client_entry}
 use Rattle.cast_core.proofs.Listing.{value_count, value_is}
-use Rattle.wired_law.proofs.WiredQuiet.Answering.{replies_whole}
-use Rattle.layout_laws.specs.SeatLaw.Named.{AreBlkNamed}
-use Rattle.layout_laws.proofs.SeatLaw.Naming.{blk_named}
+use Rattle.wired_law.proofs.QuietLemmas.Answering.{replies_whole}
+use Rattle.layout_laws.specs.Seats.Named.{AreBlkNamed}
+use Rattle.layout_laws.proofs.SeatsLemmas.Naming.{blk_named}
 use Rattle.system_core.specs.Shows.{Crew, Shown, moved_in}
 use Rattle.system_core.specs.States.{crew_of, nobody}
 use Rattle.system_core.specs.Lawful.{IsTold, TellsReplies}

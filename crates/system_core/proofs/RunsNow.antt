@@ -13,12 +13,12 @@ use Rattle.play_core.specs.Sheets.{Scene, RowsHold}
 use Rattle.play_core.proofs.Lists.{map_from}
 use Rattle.actor_set.specs.Actors.{part_of, actor_rests}
 use Rattle.actor_set.specs.declared.actor.Actor.{Actor}
-use Rattle.actor_set.specs.ActorLaw.Kinds.{sheet, scene_of, manner_of, idles}
-use Rattle.actor_set.specs.ActorLaw.Turning.{InTurn}
-use Rattle.play_core.specs.RestLaw.Showing.{HaveItems, HaveBells}
-use Rattle.actor_set.proofs.ActorLaw.Calm.{calm_part}
-use Rattle.actor_set.proofs.ActorLaw.Rows.{actor_row}
-use Rattle.actor_set.proofs.ActorLaw.Rests.{rests}
+use Rattle.actor_set.specs.Laws.Kinds.{sheet, scene_of, manner_of, idles}
+use Rattle.actor_set.specs.Laws.Turning.{InTurn}
+use Rattle.play_core.specs.Rests.Showing.{HaveItems, HaveBells}
+use Rattle.actor_set.proofs.LawsLemmas.Calm.{calm_part}
+use Rattle.actor_set.proofs.LawsLemmas.Rows.{actor_row}
+use Rattle.actor_set.proofs.LawsLemmas.Rests.{rests}
 use Rattle.system_core.specs.Systems.{Holds}
 use Rattle.system_core.proofs.SystemStep.{no_row}
 

@@ -3,8 +3,8 @@ use Rattle.wire_core.specs.declared.names.QueueRow.{QueueRow}
 use Rattle.wire_core.specs.Journal.{owner_of}
 use Rattle.actor_set.specs.declared.actor.Actor.{Actor}
 use Rattle.play_core.proofs.Lists.{some_is}
-use Rattle.actor_set.proofs.ActorLaw.Paces.{start_round}
-use Rattle.actor_set.proofs.ActorLaw.Starts.{new_stands, new_fits}
+use Rattle.actor_set.proofs.LawsLemmas.Paces.{start_round}
+use Rattle.actor_set.proofs.LawsLemmas.Starts.{new_stands, new_fits}
 use Rattle.cast_law.specs.Seats.{AreSeated}
 use Rattle.system_core.specs.Starts.{AreStarting}
 

@@ -16,11 +16,11 @@ use Rattle.play_core.specs.Wants.{Needful}
 use Rattle.play_core.specs.Sheets.{Scene, needful}
 use Rattle.actor_set.specs.Parts.{Part}
 use Rattle.play_core.specs.Manners.{Manner}
-use Rattle.actor_set.specs.ActorLaw.Kinds.{sheet, scene_of, manner_of, manners, idles}
-use Rattle.actor_set.proofs.ActorLaw.Calm.{manner_at}
+use Rattle.actor_set.specs.Laws.Kinds.{sheet, scene_of, manner_of, manners, idles}
+use Rattle.actor_set.proofs.LawsLemmas.Calm.{manner_at}
 use Rattle.wired_law.proofs.Wiring.{in_turn, nothing_sent}
-use Rattle.owner_law.proofs.PoolLaw.Handing.{carry_start}
-use Rattle.cast_law.specs.CastPools.Places.{cast_naming}
+use Rattle.owner_law.proofs.PoolsLemmas.Handing.{carry_start}
+use Rattle.cast_law.specs.Pools.Places.{cast_naming}
 use Rattle.system_core.specs.Runnings.{with_number}
 use Rattle.system_core.specs.Starts.{AreStarting}
 use Rattle.system_core.specs.Systems.{Holds}

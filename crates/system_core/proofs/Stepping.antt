@@ -28,20 +28,20 @@ use Rattle.actor_set.specs.Parts.{Part}
 use Rattle.actor_set.specs.Actors.{FitsActor, ActorStandsFor, ActorEnd, ActorTurned, IsWhole, actor_round, actor_rests, part_of}
 use Rattle.actor_set.specs.declared.actor.Actor.{Actor}
 use Rattle.play_core.specs.Manners.{Manner, Manners, Calm}
-use Rattle.actor_set.specs.ActorLaw.Kinds.{scene_of, sheet, manner_of, manners, hostiles, idles}
+use Rattle.actor_set.specs.Laws.Kinds.{scene_of, sheet, manner_of, manners, hostiles, idles}
 use Rattle.system_core.specs.Shows.{Crew, Setting, hostile_in, runs, RowsStand}
 use Rattle.system_core.specs.Lawful.{IsFitted}
 use Rattle.system_core.specs.Runnings.{removed_if, with_option, with_if}
 use Rattle.system_core.specs.Asking.{IsAsked}
 use Rattle.system_core.specs.Systems.{Holds}
-use Rattle.actor_set.proofs.ActorLaw.Calm.{calm_manner, manner_at, sheet_own}
+use Rattle.actor_set.proofs.LawsLemmas.Calm.{calm_manner, manner_at, sheet_own}
 use Rattle.system_core.proofs.RunsNow.{rows_now}
 use Rattle.system_core.proofs.SystemStep.{step_holds, map_same, entry_of}
 use Rattle.system_core.proofs.RunsNow.{idle_here, not_not, rests_here}
-use Rattle.actor_set.proofs.ActorLaw.PartEnds.{from_part, seat_end}
-use Rattle.actor_set.proofs.ActorLaw.Paces.{called_end}
-use Rattle.actor_set.proofs.ActorLaw.Rounds.{rests_is}
-use Rattle.actor_set.proofs.ActorLaw.Starts.{fits_whole}
+use Rattle.actor_set.proofs.LawsLemmas.PartEnds.{from_part, seat_end}
+use Rattle.actor_set.proofs.LawsLemmas.Paces.{called_end}
+use Rattle.actor_set.proofs.LawsLemmas.Rounds.{rests_is}
+use Rattle.actor_set.proofs.LawsLemmas.Starts.{fits_whole}
 use Rattle.wired_law.specs.Wiring.{IsWired}
 use Rattle.wire_core.proofs.Sinces.{eqb_apart}
 use Rattle.system_core.proofs.Places.{places_kept, places_clear, places_so, places_below, places_few}

@@ -26,25 +26,25 @@ use Rattle.wire_core.specs.Marks.{no_drops, since}
 use Rattle.turn_kit.specs.Turns.{Turned, is_at_rest}
 use Rattle.turn_kit.specs.Pace.{Paced, pendings, IsCalled}
 use Rattle.turn_kit.proofs.Playing.{pace_own, pace_beside}
-use Rattle.actor_set.proofs.ActorLaw.Calm.{calm_row}
-use Rattle.actor_set.proofs.ActorLaw.Paces.{post_end, post_waits}
+use Rattle.actor_set.proofs.LawsLemmas.Calm.{calm_row}
+use Rattle.actor_set.proofs.LawsLemmas.Paces.{post_end, post_waits}
 use Rattle.actor_set.specs.Actors.{FitsActor, ActorStandsFor, ActorEnd, ActorTurned, IsWhole, part_of, actor_round}
-use Rattle.actor_set.proofs.ActorLaw.Rounds.{turned_is}
+use Rattle.actor_set.proofs.LawsLemmas.Rounds.{turned_is}
 use Rattle.actor_set.specs.Parts.{Part}
 use Rattle.play_core.specs.Moved.{moved}
 use Rattle.play_core.specs.Sheets.{AreSeated, RowsHold}
 use Rattle.owner_law.specs.Pages.{CarryPages}
-use Rattle.actor_set.specs.ActorLaw.Kinds.{sheet, scene_of, hostiles}
-use Rattle.actor_set.specs.ActorLaw.Turning.{InTurn}
+use Rattle.actor_set.specs.Laws.Kinds.{sheet, scene_of, hostiles}
+use Rattle.actor_set.specs.Laws.Turning.{InTurn}
 use Rattle.system_core.specs.Systems.{Holds}
 use Rattle.actor_set.specs.declared.actor.Actor.{Actor}
-use Rattle.actor_set.proofs.ActorLaw.Beside.{fits_beside, stands_beside}
-use Rattle.actor_set.proofs.ActorLaw.PartEnds.{same_part}
-use Rattle.actor_set.proofs.ActorLaw.Starts.{fits_whole}
-use Rattle.play_core.specs.RestLaw.Showing.{HaveItems}
+use Rattle.actor_set.proofs.LawsLemmas.Beside.{fits_beside, stands_beside}
+use Rattle.actor_set.proofs.LawsLemmas.PartEnds.{same_part}
+use Rattle.actor_set.proofs.LawsLemmas.Starts.{fits_whole}
+use Rattle.play_core.specs.Rests.Showing.{HaveItems}
 use Rattle.wired_law.specs.Wiring.{IsWired, AreAtWork, ClientsSend}
-use Rattle.cast_law.specs.CastPools.Places.{PoolPlace, IsPlaced, cast_naming}
-use Rattle.cast_law.proofs.CastPools.Playing.{carry_call, rows_at}
+use Rattle.cast_law.specs.Pools.Places.{PoolPlace, IsPlaced, cast_naming}
+use Rattle.cast_law.proofs.PoolsLemmas.Playing.{carry_call, rows_at}
 use Rattle.wired_law.proofs.Wiring.{in_turn, sends_on}
 use Rattle.play_core.proofs.Lists.{some_is, map_get}
 

@@ -18,7 +18,7 @@ use Rattle.serial_law.specs.Parts.{SerialPart}
 use Rattle.serial_law.specs.Table.{serial_sheet}
 use Rattle.serial_law.specs.Serial.{SerialClass, IsSerial, ArrivesInPart, ArrivesWhole}
 use Rattle.serial_law.proofs.Arrivals.{as_there, RowAt}
-use Rattle.actor_set.specs.ActorLaw.Kinds.{serial_part, scene_of}
+use Rattle.actor_set.specs.Laws.Kinds.{serial_part, scene_of}
 use Rattle.system_core.specs.Shows.{Setting, Shown, hostile_in, sheet_in, moved_in, runs, RowsStand}
 use Rattle.system_core.specs.Plays.{Played, IsSpent, runnable_now}
 use Rattle.system_core.specs.declared.system.Ending.{Ending}
@@ -26,7 +26,7 @@ use Rattle.system_core.specs.declared.system.Ending.TheVariants as Ends
 use Rattle.system_core.specs.Lawful.{StandsLawful}
 use Rattle.system_core.specs.Builds.{IsBuilt, IsCastOf, BeginsAnew, serial_class}
 use Rattle.system_core.specs.PlanPlays.{IsPlayed, IsPlayedOn, HasEnded}
-use Rattle.actor_set.proofs.ActorLaw.Calm.{calm_actor, sheet_is}
+use Rattle.actor_set.proofs.LawsLemmas.Calm.{calm_actor, sheet_is}
 use Rattle.system_core.proofs.Scripts.{scripts_length}
 use Rattle.cast_core.specs.Sources.{first_serial}
 use Rattle.system_core.proofs.Casting.{HasSerial, has_serial}

@@ -1,6 +1,7 @@
 -- A system that takes over what actors left which were at work in threads: what it came from, what
 -- it keeps of that, and what is said of the moment at which its journal begins.
-use Rattle.std.specs.Prelude.{◌≡◌, ◌==◌, ◌+◌, ◌<◌, ◌≤◌, ◌⊎◌, if◌then◌else◌, ℕ, Bool, true, Option, Some, None, List, [], length, map, slice_get}
+use Rattle.std.specs.Prelude.{◌≡◌, ◌==◌, ◌+◌, ◌<◌, ◌≤◌, ◌⊎◌, if◌then◌else◌, ℕ, Bool, true, Option}
+use Rattle.std.specs.Prelude.{Some, None, List, [], length, map, slice_get}
 use Rattle.wire_core.specs.declared.names.QueueRow.{QueueRow}
 use Rattle.wire_core.specs.Ends.{Role, Consumer, Producer}
 use Rattle.wire_core.specs.Journal.{Track, history_at}
@@ -13,7 +14,7 @@ use Rattle.order_law.specs.ActorParts.Parting.{Apart, AreApart}
 use Rattle.order_law.specs.ActorParts.Opened.{HaveNothing}
 use Rattle.order_law.specs.ActorParts.Going.{HasGone}
 use Rattle.order_law.specs.ActorParts.Finished.{OwnEnd}
-use Rattle.order_law.specs.EndedLaw.Tracks.{TellsEnds}
+use Rattle.order_law.specs.Ended.Tracks.{TellsEnds}
 use Rattle.system_core.specs.Shows.{Setting, Shown, sheet_in, moved_in}
 use Rattle.system_core.specs.Lawful.{IsFitted}
 use Rattle.system_core.specs.Builds.{BeginsAnew}

@@ -3,7 +3,7 @@ use Rattle.std.specs.Prelude.{◌≡◌, ℕ, Bool, not, Option, Some, List, sli
 use Rattle.wire_core.specs.Queues.{Queue, is_pending}
 use Rattle.actor_set.specs.Actors.{IsWhole, actor_rests, part_of}
 use Rattle.actor_set.specs.declared.actor.Actor.{Actor}
-use Rattle.actor_set.specs.ActorLaw.Kinds.{manner_of, idles}
+use Rattle.actor_set.specs.Laws.Kinds.{manner_of, idles}
 
 -- whether the actor that is reached, if one is, is runnable now is asked of that actor
 abbrev pub IsAsked : List Actor → List Queue → Option ℕ → Bool → Type 0

@@ -7,8 +7,8 @@ use Rattle.sdf_plan.specs.declared.plan.Blk.{Blk}
 use Rattle.trace_text.specs.declared.trace.Trace.{Trace}
 use Rattle.region_layout.specs.Rows.{queues_of, actors_of, pools_of}
 use Rattle.serial_law.specs.Serial.{SerialClass}
-use Rattle.layout_laws.specs.JobLaw.Jobs.{Job, HasJob}
-use Rattle.actor_set.specs.ActorLaw.Kinds.{scene_of}
+use Rattle.layout_laws.specs.Jobs.Jobs.{Job, HasJob}
+use Rattle.actor_set.specs.Laws.Kinds.{scene_of}
 use Rattle.wired_law.specs.Wiring.{HasWhole, HasBlk}
 use Rattle.cast_core.specs.Casts.{job_part, net_place, blk_place, scene_for}
 use Rattle.cast_core.specs.Sources.{every_second}

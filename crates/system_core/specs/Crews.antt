@@ -38,6 +38,7 @@ IsTaker rows queue actor = (row : QueueRow) × (slice_get rows queue ≡ Some ro
     × (row.consumer.0 ≡ actor)
 
 -- the actors that take from so many queues, which stand so far apart from a number on
-pub record AreTakers (rows : List QueueRow) (first apart count : ℕ) (numbers : List ℕ) : Type 0 where
+pub record AreTakers (rows : List QueueRow) (first apart count : ℕ) (numbers : List ℕ)
+    : Type 0 where
   pub many : length numbers ≡ count
   pub each : (c k : ℕ) → slice_get numbers c ≡ Some k → IsTaker rows (first + apart * c) k

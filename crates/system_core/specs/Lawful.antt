@@ -1,6 +1,7 @@
 -- What holds of every system, however it was built and played: its seats, its journal at each
 -- moment, and what is seen of it.
-use Rattle.std.specs.Prelude.{◌≡◌, ◌+◌, ◌*◌, ◌≤◌, ℕ, Some, is_some, List, [], length, map, slice_get}
+use Rattle.std.specs.Prelude.{◌≡◌, ◌+◌, ◌*◌, ◌≤◌, ℕ, Some, is_some, List, [], length, map}
+use Rattle.std.specs.Prelude.{slice_get}
 use Rattle.std.specs.Option.{option_map, option_map_or}
 use Rattle.wire_core.specs.declared.names.QueueRow.{QueueRow}
 use Rattle.wire_core.specs.declared.names.Entry.{Entry}
@@ -11,13 +12,13 @@ use Rattle.cargo_core.specs.Lists.{IsPrefix, PrefixMerge}
 use Rattle.cargo_core.specs.declared.item.Ask.{Ask}
 use Rattle.cargo_core.specs.declared.item.Reply.{Reply}
 use Rattle.blk_expect.specs.Replies.{replies_of}
-use Rattle.blk_law.specs.BlkParts.Numbers.{BlkPlace, blk_client_at}
+use Rattle.blk_law.specs.Sheets.Numbers.{BlkPlace, blk_client_at}
 use Rattle.frame_core.specs.declared.mac.Mac.{Mac}
 use Rattle.net_expect.specs.Expecting.{Program, frames_for}
-use Rattle.net_law.specs.NetOwners.Names.{PoolAt, ClientPools}
-use Rattle.net_law.specs.NetParts.Numbers.{client_first, device_at, client_at}
-use Rattle.net_law.specs.NetTxParts.Numbers.{NetPlace}
-use Rattle.net_quiet.specs.NetTxCast.Casting.{sends_at}
+use Rattle.net_law.specs.Owners.Names.{PoolAt, ClientPools}
+use Rattle.net_law.specs.Parts.Numbers.{client_first, device_at, client_at}
+use Rattle.net_law.specs.TxParts.Numbers.{NetPlace}
+use Rattle.net_quiet.specs.TxCast.Casting.{sends_at}
 use Rattle.play_core.specs.Moved.{Seat}
 use Rattle.play_core.specs.Sheets.{AreSeated, IsSeat}
 use Rattle.play_core.specs.Still.{IsPeopled}
@@ -25,11 +26,11 @@ use Rattle.owner_law.specs.Owners.{Table, replay}
 use Rattle.owner_law.specs.Keeping.{start_table}
 use Rattle.cast_law.specs.PoolLines.PoolLines.{table_lines}
 use Rattle.actor_set.specs.Parts.{Part, NetworkPart, BlockPart}
-use Rattle.actor_set.specs.ActorLaw.Kinds.{scene_of}
-use Rattle.actor_set.specs.ActorLaw.Records.{record_by}
+use Rattle.actor_set.specs.Laws.Kinds.{scene_of}
+use Rattle.actor_set.specs.Laws.Records.{record_by}
 use Rattle.wired_law.specs.Wiring.{HasWhole, HasNoNetwork, HasBlk, HasNoBlock, IsWired}
-use Rattle.cast_law.specs.CastPools.Places.{PoolPlace, IsPlaced, HasPools, ArePooled, cast_naming}
-use Rattle.cast_law.specs.CastPools.Pooling.{keepers_at, BeginsWith, HasOwners, AreKindly}
+use Rattle.cast_law.specs.Pools.Places.{PoolPlace, IsPlaced, HasPools, ArePooled, cast_naming}
+use Rattle.cast_law.specs.Pools.Pooling.{keepers_at, BeginsWith, HasOwners, AreKindly}
 use Rattle.system_core.specs.Shows.{Setting, Shown, hostile_in, sheet_in, moved_in, RowsStand}
 
 -- the rows and the actors fit one another
@@ -74,8 +75,8 @@ abbrev pub record_at : Shown → ℕ → List ℕ
 record_at s k = option_map_or (record_by (moved_in s.setting s.journal))
     (slice_get s.setting.cast k) []
 
--- at a place of the network the record of a client that has buffers is a beginning of the frames for
--- its address, a frame for each entry that it took; and what was sent on the device's wire is a
+-- at a place of the network the record of a client that has buffers is a beginning of the frames
+-- for its address, a frame for each entry that it took; and what was sent on the device's wire is a
 -- merge of beginnings of what the clients send, likewise a frame for each entry that it took
 pub record TellsFrames (s : Shown) (net : NetPlace) : Type 0 where
   pub records : (c k j : ℕ) (program : Program) (mac : Mac) (pools : ClientPools)

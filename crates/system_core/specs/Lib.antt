@@ -1,6 +1,7 @@
--- The definitions of a system at play: what it shows (Shows), what holds of it (Lawful), how it is
--- built and played (Builds, Plays, PlanPlays), how it takes over what threads left (Adopting), and inside, what it keeps (Runnings, Asking, Starts,
--- Systems, Inside).
+-- The definitions of a system at play: what it shows (Shows, Reports, Crews, PlayPools), what holds
+-- of it (Lawful), how it is built and played (Builds, Plays, PlanPlays), how it takes over what
+-- threads left (Adopting), and inside, what it keeps (Runnings, Asking, States, Starts, Systems,
+-- Inside).
 pub mod Shows
 pub mod Plays
 pub mod Reports

@@ -6,8 +6,8 @@ use Rattle.wire_core.specs.Journal.{EachMoment}
 use Rattle.serial_switch.specs.Switching.{input_of}
 use Rattle.frame_core.specs.declared.mac.Mac.{Mac}
 use Rattle.net_expect.specs.Expecting.{frames_for}
-use Rattle.net_law.specs.NetTxParts.Numbers.{NetPlace}
-use Rattle.net_quiet.specs.NetTxCast.Casting.{sends_at}
+use Rattle.net_law.specs.TxParts.Numbers.{NetPlace}
+use Rattle.net_quiet.specs.TxCast.Casting.{sends_at}
 use Rattle.cast_core.specs.Casts.{net_place, blk_place}
 use Rattle.cast_core.specs.Sources.{first_serial}
 use Rattle.serial_law.specs.Serial.{ArrivesInPart}
@@ -17,7 +17,7 @@ use Rattle.sdf_plan.specs.declared.plan.Blk.{Blk}
 use Rattle.cargo_core.specs.declared.item.Ask.{Ask}
 use Rattle.cargo_core.specs.declared.item.Reply.{Reply}
 use Rattle.blk_expect.specs.Replies.{replies_of}
-use Rattle.blk_law.specs.BlkParts.Numbers.{BlkPlace}
+use Rattle.blk_law.specs.Sheets.Numbers.{BlkPlace}
 use Rattle.sdf_plan.specs.declared.plan.Serial.{Serial}
 use Rattle.trace_text.specs.declared.trace.Trace.{Trace}
 use Rattle.expect_core.specs.Budgets.{budget_of}

@@ -13,7 +13,7 @@ use Rattle.play_core.specs.Sheets.{Sheet, needful, RowsHold}
 use Rattle.play_core.specs.Manners.{Manners}
 use Rattle.play_core.specs.Runs.{runnable}
 use Rattle.actor_set.specs.Parts.{Part}
-use Rattle.actor_set.specs.ActorLaw.Kinds.{sheet, scene_of, manners, hostiles}
+use Rattle.actor_set.specs.Laws.Kinds.{sheet, scene_of, manners, hostiles}
 
 -- which of the actors are the device and the clients of a class, these in their order
 pub record Crew : Type 0 where
@@ -42,15 +42,17 @@ pub record State : Type 0 where
   pub pools : List Census
   pub bad : ℕ
 
+-- what a system shows: what stays the same, the one journal, and what can be seen of it
 pub record Shown : Type 0 where
   pub setting : Setting
   pub journal : List Entry
   pub state : State
 
--- how each of the actors goes about, and which of them are hostile
+-- how each of the actors goes about
 abbrev pub manner_in : Setting → Manners
 manner_in s = manners s.cast
 
+-- which of the actors are hostile
 abbrev pub hostile_in : Setting → Hostiles
 hostile_in s = hostiles s.cast
 

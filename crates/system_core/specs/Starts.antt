@@ -11,8 +11,8 @@ use Rattle.actor_set.specs.declared.actor.Actor.{Actor}
 use Rattle.wired_law.specs.Wiring.{IsWired}
 
 -- actors in their start state at queues in theirs: each fits its ends, took and put nothing, and
--- owns its ends by the rows, which are a round; and each queue's owners are there. The network's actors
--- are wired
+-- owns its ends by the rows, which are a round; and each queue's owners are there. The network's
+-- actors are wired
 pub record AreStarting (rows : List QueueRow) (actors : List Actor) : Type 0 where
   pub fits : (k : ℕ) (x : Actor) → slice_get actors k ≡ Some x → FitsActor (end_at (starts rows)) x
   pub stands : (k : ℕ) (x : Actor) → slice_get actors k ≡ Some x → ActorStandsFor x nothing_passed

@@ -12,9 +12,9 @@ use Rattle.spsc_queue.specs.Known.Ends.{EndedIs}
 use Rattle.cast_law.specs.PoolLines.PoolLines.{counted_lines}
 use Rattle.actor_set.specs.Actors.{part_of, bad_of, actor_hand, actor_lent}
 use Rattle.actor_set.specs.declared.actor.Actor.{Actor}
-use Rattle.order_law.specs.EndedLaw.Tracks.{track_of}
-use Rattle.actor_set.specs.ActorLaw.Records.{record_of, frames_got, replies_got}
-use Rattle.cast_law.specs.CastPools.Holders.{holders_of}
+use Rattle.order_law.specs.Ended.Tracks.{track_of}
+use Rattle.actor_set.specs.Laws.Records.{record_of, frames_got, replies_got}
+use Rattle.cast_law.specs.Pools.Holders.{holders_of}
 use Rattle.system_core.specs.Shows.{Crew, Setting, State, Shown}
 
 -- what the actor at a place recorded

@@ -5,16 +5,17 @@ use Rattle.wire_core.specs.declared.names.Entry.{Entry}
 use Rattle.wire_core.specs.Ends.{Role}
 use Rattle.wire_core.specs.Lists.{Passed}
 use Rattle.wire_core.specs.Queues.{Queue, queue_at, end_at, items_of}
-use Rattle.wire_core.specs.Journal.{History, track, IsShown, LegalJournal, BellsHold, QueuesFlow, owner_of}
+use Rattle.wire_core.specs.Journal.{History, track, IsShown, LegalJournal, BellsHold, QueuesFlow}
+use Rattle.wire_core.specs.Journal.{owner_of}
 use Rattle.wire_core.specs.Marks.{no_drops, since}
 use Rattle.play_core.specs.Moved.{moved}
 use Rattle.owner_law.specs.Pages.{CarryPages}
 use Rattle.turn_kit.specs.Pace.{Paced, pendings}
 use Rattle.actor_set.specs.Actors.{FitsActor, ActorStandsFor, ActorEnd, part_of, actor_round}
-use Rattle.actor_set.specs.ActorLaw.Kinds.{hostiles, scene_of}
-use Rattle.actor_set.specs.ActorLaw.Turning.{InTurn}
+use Rattle.actor_set.specs.Laws.Kinds.{hostiles, scene_of}
+use Rattle.actor_set.specs.Laws.Turning.{InTurn}
 use Rattle.wired_law.specs.Wiring.{AreOfKind, ClientsSend}
-use Rattle.cast_law.specs.CastPools.Places.{PoolPlace, IsPlaced, cast_naming}
+use Rattle.cast_law.specs.Pools.Places.{PoolPlace, IsPlaced, cast_naming}
 use Rattle.system_core.specs.Shows.{Setting, hostile_in}
 use Rattle.system_core.specs.Lawful.{IsFitted}
 use Rattle.actor_set.specs.declared.actor.Actor.{Actor}

@@ -1,4 +1,5 @@
-//! The actors with the queues between them, and the one journal.
+//! The system at play: the actors of a plan with the queues between them, and the one journal. How
+//! it is built, stepped, taken apart and taken over, and what is seen of it, its pools among it.
 #![tactic(auto)]
 
 mod crew;

@@ -1,8 +1,8 @@
 //! Where the buffers of each pool are, and what the actors counted as bad.
 ghost use Rattle.std.specs.Prelude.{◌≡◌, ◌+◌, ◌<◌, ◌≤◌, ◌^◌, length, IfOk};
 ghost use Rattle.cast_law.specs.PoolLines.PoolLines.{line_of, counted, counted_lines};
-ghost use Rattle.cast_law.specs.CastPools.Holders.{holders_of};
-ghost use Rattle.cast_law.specs.CastPools.Pooling.{AddUp};
+ghost use Rattle.cast_law.specs.Pools.Holders.{holders_of};
+ghost use Rattle.cast_law.specs.Pools.Pooling.{AddUp};
 ghost use Rattle.system_core.specs.States.{held_by, lent_by, bad_in};
 ghost use Rattle.system_core.specs.Asking.{AreWhole};
 

@@ -1,7 +1,7 @@
 //! What the actors of a class recorded: its device for its line or its wire, and each client.
 ghost use Rattle.std.specs.Prelude.{◌≡◌, List, map, IfOk, slice_get, Some, []};
 ghost use Rattle.std.specs.Option.{option_map};
-ghost use Rattle.actor_set.specs.ActorLaw.Records.{record_of, frames_got, replies_got};
+ghost use Rattle.actor_set.specs.Laws.Records.{record_of, frames_got, replies_got};
 ghost use Rattle.system_core.specs.States.{record_from, frames_from, replies_from};
 
 use actor_set::Actor;

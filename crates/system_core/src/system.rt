@@ -1,6 +1,7 @@
 //! The system at play: the queues of a layout with the actors at them, its steps, and what is seen
 //! of it. It stands here, above actors and descriptions, since a plan and a trace say who acts.
-ghost use Rattle.std.specs.Prelude.{◌≡◌, ◌<◌, ◌≤◌, ℕ, List, length, map, OnOk, OnErr, IfOk, slice_get, Some, None, []};
+ghost use Rattle.std.specs.Prelude.{◌≡◌, ◌<◌, ◌≤◌, ℕ, List, length, map, OnOk, OnErr, IfOk};
+ghost use Rattle.std.specs.Prelude.{slice_get, Some, None, []};
 ghost use Rattle.wire_core.specs.Queues.{is_pending, starts};
 ghost use Rattle.wire_core.specs.Ends.{role_of};
 ghost use Rattle.wire_core.specs.Journal.{start_history, owner_of};
@@ -9,8 +10,8 @@ ghost use Rattle.actor_set.specs.Actors.{IsWhole, actor_rests, part_of};
 ghost use Rattle.trace_text.specs.Traces.{IsReadFor};
 ghost use Rattle.region_layout.specs.Layouts.{layout_of};
 ghost use Rattle.sdf_check.specs.Valid.{Valid};
-ghost use Rattle.actor_set.specs.ActorLaw.Kinds.{manner_of, idles};
-ghost use Rattle.cast_law.specs.CastPools.Places.{ArePooled};
+ghost use Rattle.actor_set.specs.Laws.Kinds.{manner_of, idles};
+ghost use Rattle.cast_law.specs.Pools.Places.{ArePooled};
 ghost use Rattle.system_core.specs.Shows.{runs};
 ghost use Rattle.system_core.specs.States.{history_of, begun, nobody, started};
 ghost use Rattle.system_core.specs.Systems.{Holds, GoesOn};

@@ -1,5 +1,7 @@
 -- What each line of a trace says.
-use Rattle.std.specs.Prelude.{ℕ, ◌*◌, ◌%◌, ◌==◌, ◌&&◌, nat_eq, nat_le, Bool, true, false, if◌then◌else◌, List, [], ◌∷◌, length, slice_index, slice_get, codes, Option, Some, None, is_some}
+use Rattle.std.specs.Prelude.{ℕ, ◌*◌, ◌%◌, ◌==◌, ◌&&◌, nat_eq, nat_le, Bool, true, false}
+use Rattle.std.specs.Prelude.{if◌then◌else◌, List, [], ◌∷◌, length, slice_index, slice_get, codes}
+use Rattle.std.specs.Prelude.{Option, Some, None, is_some}
 use Rattle.std.specs.Option.{option_and_then, option_map_or}
 use Rattle.std.specs.List.{find}
 use Rattle.std.specs.Cmp.Lexicographic.{pointwise}
@@ -43,13 +45,15 @@ runs domains name program =
     option_map_or (λ d. same_text d.program program) (find (λ d. same_text d.name name) domains)
     false
 
--- the clients of each class: none where the plan doesn't have the class
+-- the clients of the network class, if there is one
 abbrev pub net_clients : Plan → List NetClient
 net_clients plan = option_map_or (λ net. net.client) plan.net []
 
+-- the clients of the serial class, if there is one
 abbrev pub serial_clients : Plan → List SerialClient
 serial_clients plan = option_map_or (λ serial. serial.client) plan.serial []
 
+-- the clients of the block class, if there is one
 abbrev pub blk_clients : Plan → List BlkClient
 blk_clients plan = option_map_or (λ blk. blk.client) plan.blk []
 
@@ -73,10 +77,11 @@ is_blk_client plan c = is_some (slice_get (blk_clients plan) c)
 abbrev pub kept_if : Bool → Option Event → Option Event
 kept_if holds event = if holds then event else None
 
--- the event of a number, and that of bytes
+-- the event of the number that a word stands for
 abbrev pub with_number : List ℕ → (ℕ → Option Event) → Option Event
 with_number word event = option_and_then event (number_of word)
 
+-- the event of the bytes that a word stands for
 abbrev pub with_data : List ℕ → (List ℕ → Option Event) → Option Event
 with_data word event = option_and_then event (data_of word)
 

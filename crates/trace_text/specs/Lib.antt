@@ -1,3 +1,6 @@
+-- Traces as texts: lines and words (Texts), what each line says (Events), how much there may be
+-- (Limits), which lines are bad and what the others give (Traces), and what the reader keeps
+-- (Reading) and hands out (Shapes).
 pub mod Texts
 pub mod Events
 pub mod Limits

@@ -1,10 +1,13 @@
 -- What the reader of lines keeps, for its own contracts alone.
-use Rattle.std.specs.Prelude.{◌≡◌, ℕ, zero, suc, ◌+◌, ◌*◌, ◌^◌, ◌<◌, ◌≤◌, ◌==◌, ◌||◌, nat_le, nat_lt, Bool, false, if◌then◌else◌, List, [], ◌∷◌, ◌++◌, length, count_by, sum_by, replicate, Option, Some, None, MatchBool}
+use Rattle.std.specs.Prelude.{◌≡◌, ℕ, zero, suc, ◌+◌, ◌*◌, ◌^◌, ◌<◌, ◌≤◌, ◌==◌, ◌||◌, nat_le}
+use Rattle.std.specs.Prelude.{nat_lt, Bool, false, if◌then◌else◌, List, [], ◌∷◌, ◌++◌, length}
+use Rattle.std.specs.Prelude.{count_by, sum_by, replicate, Option, Some, None, MatchBool}
 use Rattle.cargo_core.specs.Lists.{replaced}
 use Rattle.sdf_plan.specs.declared.plan.Plan.{Plan}
 use Rattle.trace_text.specs.declared.reader.Reader.{Reader}
 use Rattle.trace_text.specs.Events.{Event, net_clients, serial_clients, blk_clients}
-use Rattle.trace_text.specs.Traces.{trace_from, is_frame_line, is_request_line, is_disk_line, stream_bytes_in}
+use Rattle.trace_text.specs.Traces.{trace_from, is_frame_line, is_request_line, is_disk_line}
+use Rattle.trace_text.specs.Traces.{stream_bytes_in}
 use Rattle.trace_text.specs.Limits.{lines_most, stream_most}
 
 -- the lists, with more at the end of the one of a number

@@ -1,5 +1,8 @@
 -- Which lines are bad, and the trace that the others give.
-use Rattle.std.specs.Prelude.{◌≡◌, ℕ, zero, suc, ◌+◌, ◌*◌, ◌<◌, ◌≤◌, ◌==◌, ◌&&◌, ◌||◌, nat_le, nat_lt, Bool, true, false, if◌then◌else◌, List, [], ◌∷◌, length, take, fold, sum_by, count_by, replicate, slice_get, Option, Some, None, is_some}
+use Rattle.std.specs.Prelude.{◌≡◌, ℕ, zero, suc, ◌+◌, ◌*◌, ◌<◌, ◌≤◌, ◌==◌, ◌&&◌, ◌||◌, nat_le}
+use Rattle.std.specs.Prelude.{nat_lt, Bool, true, false, if◌then◌else◌, List, [], ◌∷◌, length, take}
+use Rattle.std.specs.Prelude.{fold, sum_by, count_by, replicate, slice_get, Option, Some, None}
+use Rattle.std.specs.Prelude.{is_some}
 use Rattle.std.specs.List.{flat_map, filter_map}
 use Rattle.cargo_core.specs.Lists.{replaced}
 use Rattle.cargo_core.specs.declared.item.Ask.{Ask}
@@ -9,23 +12,27 @@ use Rattle.trace_text.specs.Texts.{lines_of}
 use Rattle.trace_text.specs.Events.{Event, meaning, net_clients, serial_clients, blk_clients}
 use Rattle.trace_text.specs.Limits.{lines_most, stream_most}
 
--- what one event gives to each list of a trace
+-- what an event gives to the frames from outside
 abbrev pub frames_in : Event → List (List ℕ)
 frames_in (Event.Rx frame) = frame ∷ []
 frames_in _ = []
 
+-- what an event gives to the input
 abbrev pub input_in : Event → List ℕ
 input_in (Event.In bytes) = bytes
 input_in _ = []
 
+-- what an event gives to the frames of a network client
 abbrev pub sends_in : ℕ → Event → List (List ℕ)
 sends_in client (Event.Send c frame) = if c == client then frame ∷ [] else []
 sends_in client _ = []
 
+-- what an event gives to the bytes of a serial client
 abbrev pub says_in : ℕ → Event → List ℕ
 says_in client (Event.Say c bytes) = if c == client then bytes else []
 says_in client _ = []
 
+-- what an event gives to the requests of a block client
 abbrev pub asks_in : ℕ → Event → List Ask
 asks_in client (Event.Request c ask) = if c == client then ask ∷ [] else []
 asks_in client _ = []
@@ -56,22 +63,24 @@ trace_from plan events = record {
   image = image_of events;
 }
 
--- what counts towards the limits: a line that gives a frame, the bytes of a line, a line that gives
--- a request, a `disk` line
+-- the line counts towards the limit of frames: it gives one
 abbrev pub is_frame_line : Event → Bool
 is_frame_line (Event.Rx frame) = true
 is_frame_line (Event.Send c frame) = true
 is_frame_line _ = false
 
+-- the bytes of a line that count towards the limit of bytes
 abbrev pub stream_bytes_in : Event → ℕ
 stream_bytes_in (Event.In bytes) = length bytes
 stream_bytes_in (Event.Say c bytes) = length bytes
 stream_bytes_in _ = 0
 
+-- the line counts towards the limit of requests: it gives one
 abbrev pub is_request_line : Event → Bool
 is_request_line (Event.Request c ask) = true
 is_request_line _ = false
 
+-- the line is a `disk` line
 abbrev pub is_disk_line : Event → Bool
 is_disk_line (Event.Disk sectors) = true
 is_disk_line _ = false
@@ -108,6 +117,7 @@ place_is_bad plan text k None =
     k == length (lines_of text)
     && (is_some plan.blk && count_by is_disk_line (events_before plan text k) == 0)
 
+-- the line at a place, counted from 0, is bad
 unfoldable pub is_bad : Plan → List ℕ → ℕ → Bool
 is_bad plan text k = place_is_bad plan text k (slice_get (lines_of text) k)
 

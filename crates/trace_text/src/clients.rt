@@ -1,6 +1,7 @@
 //! The clients of each class of a plan, as the lines of a trace name them.
 ghost use Rattle.std.specs.Prelude.{◌≡◌, length};
-ghost use Rattle.trace_text.specs.Events.{net_clients, serial_clients, blk_clients, runs, is_source, is_speaker, is_blk_client};
+ghost use Rattle.trace_text.specs.Events.{net_clients, serial_clients, blk_clients, runs};
+ghost use Rattle.trace_text.specs.Events.{is_source, is_speaker, is_blk_client};
 
 use crate::text::same_text;
 use cargo_core::Text;

@@ -1,6 +1,7 @@
 //! DATA of a line: pieces of hexadecimal digits.
 ghost use Rattle.std.specs.Prelude.{◌≡◌, ◌≤◌, ◌==◌, ◌∷◌, length, IfOk, None, if◌then◌else◌};
-ghost use Rattle.trace_text.specs.Texts.{data_of, piece_of, piece_meaning, digits_meaning, repeated, parts_of};
+ghost use Rattle.trace_text.specs.Texts.{data_of, piece_of, piece_meaning, digits_meaning};
+ghost use Rattle.trace_text.specs.Texts.{repeated, parts_of};
 ghost use Rattle.trace_text.specs.Reading.{IsData, IsTaken};
 
 use crate::number::read_number;

@@ -1,5 +1,6 @@
 //! Numbers of a line: decimal digits without leading zeros.
-ghost use Rattle.std.specs.Prelude.{◌≡◌, IfSome, IfNone, Some, nat_le, ◌+◌, ◌-◌, ◌*◌, ◌<◌, ◌^◌, ◌&&◌};
+ghost use Rattle.std.specs.Prelude.{◌≡◌, IfSome, IfNone, Some, nat_le, ◌+◌, ◌-◌, ◌*◌, ◌<◌, ◌^◌};
+ghost use Rattle.std.specs.Prelude.{◌&&◌};
 ghost use Rattle.std.specs.Option.{SomeIff};
 ghost use Rattle.std.specs.List.{list_all};
 ghost use Rattle.trace_text.specs.Texts.{is_number, number_of};

@@ -1,6 +1,7 @@
 //! The lines of requests: `blk`, of a block client.
 ghost use Rattle.std.specs.Prelude.{◌≡◌, IfOk};
-ghost use Rattle.trace_text.specs.Events.{order_code, blk_order_line, blk_read_line, blk_write_line};
+ghost use Rattle.trace_text.specs.Events.{order_code, blk_order_line, blk_read_line};
+ghost use Rattle.trace_text.specs.Events.{blk_write_line};
 ghost use Rattle.trace_text.specs.Reading.{IsRead, HasLists};
 
 use crate::clients::{blk_client_count, is_blk_client};

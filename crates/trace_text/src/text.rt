@@ -1,5 +1,6 @@
 //! How a text is cut and compared.
-ghost use Rattle.std.specs.Prelude.{position, ◌==◌, ◌≡◌, ◌+◌, ◌<◌, [], ◌∷◌, length, MatchOption, IfSome};
+ghost use Rattle.std.specs.Prelude.{position, ◌==◌, ◌≡◌, ◌+◌, ◌<◌, [], ◌∷◌, length, MatchOption};
+ghost use Rattle.std.specs.Prelude.{IfSome};
 ghost use Rattle.trace_text.specs.Texts.{parts_of, lines_of};
 ghost use Rattle.trace_text.specs.Events.{same_text, is_skipped};
 

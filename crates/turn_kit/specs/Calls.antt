@@ -13,6 +13,7 @@ use Rattle.wire_core.specs.Ends.{is_clear}
 use Rattle.turn_kit.specs.declared.end_state.EndState.{EndState}
 use Rattle.turn_kit.specs.Table.{is_settled}
 
+-- the answer says yes or no
 abbrev pub is_told : Answer → Bool
 is_told Yes = true
 is_told No = true
@@ -67,6 +68,7 @@ clear_left w true None = 3
 abbrev pub settling_left : EndState → Bool → ℕ
 settling_left k need = ring_left k.ringer + clear_left k.waiter need k.look
 
+-- the last look can be used, and answered yes
 abbrev pub saw_yes : Option Bool → Bool
 saw_yes (Some b) = b
 saw_yes None = false
@@ -75,6 +77,7 @@ saw_yes None = false
 abbrev pub is_moving : EndState → Bool → Bool
 is_moving k need = need && (saw_yes k.look && not (is_clear k.waiter))
 
+-- the waiter is off, or has asked and saw nothing
 abbrev pub is_off_or_clear : Waiter → Bool
 is_off_or_clear Wait.Off = true
 is_off_or_clear Wait.Clear = true

@@ -3,6 +3,7 @@ use Rattle.std.specs.Prelude.{◌<◌, ◌^◌}
 use Rattle.turn_kit.specs.declared.turns.Choice.TheInside.{Inside}
 use Rattle.turn_kit.specs.Turns.{Choosing, IsWithin}
 
+-- a choosing among ends, as contracts see it
 abbrev pub choosing_of : Inside → Choosing
 choosing_of c = record {
   count = c.count;

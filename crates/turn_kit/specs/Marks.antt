@@ -2,7 +2,8 @@
 -- keeps these claims.
 use Rattle.std.specs.Prelude.{◌≡◌, ◌⊎◌, ◌+◌, ◌≤◌, ℕ, true, Some, List, [], ◌++◌, length, slice_get}
 use Rattle.wire_core.specs.declared.names.Event.{Event}
-use Rattle.turn_kit.specs.Turns.{Post, Round, IsRound, is_at_rest, Unmarked, Unsettled, calls_on, WokenInVain}
+use Rattle.turn_kit.specs.Turns.{Post, Round, IsRound, is_at_rest, Unmarked, Unsettled, calls_on}
+use Rattle.turn_kit.specs.Turns.{WokenInVain}
 
 -- these are the calls that an actor at this round made since its last mark
 pub record StandsSince (now : Round) (calls : List Event) : Type 0 where

@@ -16,6 +16,7 @@ use Rattle.turn_kit.specs.Turns.{Post, Round, IsRound, is_at_rest, Unmarked, Uns
 abbrev pub Pendings : Type 0
 Pendings = ℕ → Side → Bool
 
+-- the pending words of all queues after a journal
 abbrev pub pendings : History → List Entry → Pendings
 pendings history journal n s = (bell_of (track history n journal).bells s).pending
 

@@ -15,14 +15,17 @@ use Rattle.wire_core.specs.Bells.{is_free}
 use Rattle.wire_core.specs.Ends.{End, is_clear, is_yes, looked_waiter, woken_waiter, wanted_ringer}
 use Rattle.turn_kit.specs.declared.end_state.EndState.{EndState}
 
+-- the other of the two bells
 abbrev pub other_side : Side → Side
 other_side Forward = Backward
 other_side Backward = Forward
 
+-- the look at an end: for an entry or for room
 abbrev pub look_op : Side → Op
 look_op Forward = Do.See
 look_op Backward = Do.Room
 
+-- the call that moves an entry at an end
 abbrev pub act_op : Side → Op
 act_op Forward = Do.Take
 act_op Backward = Do.Put
@@ -50,14 +53,17 @@ next_of Rung.Hot w need look s = Do.Settle (other_side s)
 next_of Rung.Ringing w need look s = Do.Ring (other_side s)
 next_of Rung.Free w need look s = waiting_op w need look s
 
+-- the decision table: the next call at an end, by ringer, waiter, need and last look
 abbrev pub next_op : EndState → Side → Bool → Op
 next_op k s need = next_of k.ringer k.waiter need k.look s
 
+-- what is left of a look after a waive: a yes alone
 abbrev pub waived_look : Option Bool → Option Bool
 waived_look (Some true) = Some true
 waived_look (Some false) = None
 waived_look None = None
 
+-- what a wake leaves of the last look
 abbrev pub woken_look : Answer → Option Bool → Option Bool
 woken_look Yes l = None
 woken_look No l = l
@@ -77,6 +83,7 @@ state_after k (Do.Wanted s) a = record k { ringer = wanted_ringer a }
 state_after k (Do.Settle s) a = record k { ringer = Rung.Ringing }
 state_after k (Do.Ring s) a = record k { ringer = Rung.Free }
 
+-- the ringer is free and, where the end is needed, the waiter is clear
 abbrev pub is_settled : EndState → Bool → Bool
 is_settled k need = is_free k.ringer && (not need || is_clear k.waiter)
 
@@ -92,6 +99,7 @@ abbrev pub start_state : Side → EndState
 start_state Forward = record { waiter = Wait.Busy; ringer = Rung.Free; look = None }
 start_state Backward = record { waiter = Wait.Off; ringer = Rung.Free; look = None }
 
+-- the call is a take or a put
 abbrev pub moves_entry : Op → Bool
 moves_entry Do.Take = true
 moves_entry Do.Put = true

@@ -1,6 +1,8 @@
 -- The turns of an actor: which of its ends is stepped, and what is said of steps without a mark
 -- among them.
-use Rattle.std.specs.Prelude.{◌≡◌, ◌⊎◌, ◌+◌, ◌<◌, ◌≤◌, ◌==◌, ◌&&◌, ◌||◌, ℕ, Bool, true, false, not, cond, nat_lt, Option, Some, None, is_none, List, [], ◌∷◌, length, slice_get, slice_set}
+use Rattle.std.specs.Prelude.{◌≡◌, ◌⊎◌, ◌+◌, ◌<◌, ◌≤◌, ◌==◌, ◌&&◌, ◌||◌, ℕ, Bool, true, false, not}
+use Rattle.std.specs.Prelude.{cond, nat_lt, Option, Some, None, is_none, List, [], ◌∷◌, length}
+use Rattle.std.specs.Prelude.{slice_get, slice_set}
 use Rattle.wire_core.specs.declared.names.Event.{Event}
 use Rattle.wire_core.specs.declared.names.Side.{Side}
 use Rattle.wire_core.specs.declared.names.Op.TheVariants as Do
@@ -59,6 +61,7 @@ pub record Choosing : Type 0 where
   pub after : Option Stand
   pub first : Option Stand
 
+-- the choosing among so many ends, before the first was looked at
 abbrev pub choosing : ℕ → ℕ → Choosing
 choosing n last = record { count = n; last = last; unsettled = None; after = None; first = None }
 
@@ -67,6 +70,7 @@ abbrev pub lower : Option Stand → Stand → Option Stand
 lower None y = Some y
 lower (Some x) y = Some (cond (nat_lt y.queue x.queue) y x)
 
+-- the lower of two ends, where the second counts
 abbrev pub lower_if : Bool → Option Stand → Stand → Option Stand
 lower_if true x y = lower x y
 lower_if false x y = x
@@ -88,13 +92,16 @@ offered_from c place (p ∷ ps) (need ∷ needs) =
     (is_settled p.state need))
     (place + 1) ps needs
 
+-- what is known once all ends were looked at
 abbrev pub choice_of : Round → Choosing
 choice_of r = offered_from (choosing (length r.posts) r.last) 0 r.posts r.needs
 
+-- the place of the chosen end, or another
 abbrev pub place_or : Option Stand → ℕ → ℕ
 place_or (Some x) n = x.place
 place_or None n = n
 
+-- the queue of the chosen end, or another
 abbrev pub queue_or : Option Stand → ℕ → ℕ
 queue_or (Some x) n = x.queue
 queue_or None n = n
@@ -136,6 +143,7 @@ pub record IsRound (r : Round) : Type 0 where
   pub apart : (k j : ℕ) (p q : Post) → slice_get r.posts k ≡ Some p → slice_get r.posts j ≡ Some q
       → p.queue ≡ q.queue → k ≡ j
 
+-- all ends are settled
 abbrev pub settled_all : List Post → List Bool → Bool
 settled_all [] needs = true
 settled_all (p ∷ ps) [] = true

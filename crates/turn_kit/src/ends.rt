@@ -1,7 +1,8 @@
 //! The discipline of one end of a queue, consuming or producing: it makes the next call of the
 //! table.
 
-ghost use Rattle.std.specs.Prelude.{◌≡◌, ◌==◌, ◌↔◌, ℕ, true, false, Some, None, IsSome, IfSome, option_to_list, is_some, [], ◌++◌};
+ghost use Rattle.std.specs.Prelude.{◌≡◌, ◌==◌, ◌↔◌, ℕ, true, false, Some, None, IsSome, IfSome};
+ghost use Rattle.std.specs.Prelude.{option_to_list, is_some, [], ◌++◌};
 ghost use Rattle.std.specs.Option.{ForSome, option_map};
 ghost use Rattle.cargo_core.specs.Items.{kind_of};
 ghost use Rattle.wire_core.specs.Deeds.{Deed, answer_of, cargo_of, deed_of, put_of};
@@ -11,7 +12,8 @@ ghost use Rattle.wire_core.specs.Marks.{is_mark};
 ghost use Rattle.turn_kit.specs.Calls.{may_answer};
 ghost use Rattle.turn_kit.specs.Turns.{Posted};
 ghost use Rattle.turn_kit.specs.Posts.{intake_post, outlet_post};
-ghost use Rattle.turn_kit.specs.Table.{next_op, state_after, start_state, is_settled, Agrees, moves_entry};
+ghost use Rattle.turn_kit.specs.Table.{next_op, state_after, start_state, is_settled, Agrees};
+ghost use Rattle.turn_kit.specs.Table.{moves_entry};
 
 use crate::EndState;
 use crate::each::Listed;

@@ -1,10 +1,13 @@
 //! Laws on the ends of an actor and their order, which no call has to show: they follow from the
 //! definitions alone.
 
-ghost use Rattle.std.specs.Prelude.{◌≡◌, ◌+◌, ◌<◌, ◌≤◌, ℕ, Bool, true, false, Some, List, [], ◌∷◌, ◌++◌, length, slice_get};
+ghost use Rattle.std.specs.Prelude.{◌≡◌, ◌+◌, ◌<◌, ◌≤◌, ℕ, Bool, true, false, Some, List, [], ◌∷◌};
+ghost use Rattle.std.specs.Prelude.{◌++◌, length, slice_get};
 ghost use Rattle.turn_kit.specs.Table.{is_settled};
 ghost use Rattle.turn_kit.specs.Calls.{calls_left, settling_left, is_moving};
-ghost use Rattle.turn_kit.specs.Turns.{Post, Posted, is_drop, is_mark_at, Round, Turned, IsRound, IsNext, is_at_rest, Unmarked, Unsettled, calls_on, WokenInVain};
+ghost use Rattle.turn_kit.specs.Turns.{Post, Posted, is_drop, is_mark_at, Round, Turned, IsRound};
+ghost use Rattle.turn_kit.specs.Turns.{IsNext, is_at_rest, Unmarked, Unsettled, calls_on};
+ghost use Rattle.turn_kit.specs.Turns.{WokenInVain};
 ghost use Rattle.turn_kit.specs.Marks.{StandsSince, SinceClaims};
 ghost use Rattle.turn_kit.specs.Pace.{Pendings, pendings, IsCalled, Paced, AreOwnPosts};
 ghost use Rattle.wire_core.specs.Ends.{Role};

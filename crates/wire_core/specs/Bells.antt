@@ -5,16 +5,19 @@ use Rattle.wire_core.specs.declared.names.Waiter.TheVariants as Wait
 use Rattle.wire_core.specs.declared.names.Ringer.{Ringer}
 use Rattle.wire_core.specs.declared.names.Ringer.TheVariants as Rung
 
+-- the ringer owes nothing
 abbrev pub is_free : Ringer → Bool
 is_free Rung.Free = true
 is_free Rung.Put = false
 is_free Rung.Hot = false
 is_free Rung.Ringing = false
 
+-- 1 where it is so, else 0
 abbrev pub bit : Bool → ℕ
 bit true = 1
 bit false = 0
 
+-- 1 where the ringer owes something, else 0
 abbrev pub at_work : Ringer → ℕ
 at_work Rung.Free = 0
 at_work Rung.Put = 1

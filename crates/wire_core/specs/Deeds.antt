@@ -17,6 +17,7 @@ pub record Deed : Type 0 where
 abbrev pub Cargo : Type 0
 Cargo = Item × Body
 
+-- a look's answer: yes where it saw something
 abbrev pub answer_of : Bool → Answer
 answer_of true = Yes
 answer_of false = No
@@ -42,6 +43,7 @@ move_deed q o c = record {
   body = Some c.1;
 }
 
+-- an item with its body, where both are there
 abbrev pub joined : Option Item → Option Body → List Cargo
 joined (Some item) (Some body) = (item, body) ∷ []
 joined (Some item) None = []
@@ -55,6 +57,7 @@ cargo_of d = joined d.event.item d.body
 abbrev pub deed_of : Event → Option Cargo → Deed
 deed_of e c = record { event = e; body = option_map (λ x. x.1) c }
 
+-- the entry of an event that carries one
 abbrev pub given : Option Item → Option Cargo → Option Cargo
 given None load = None
 given (Some item) load = load

@@ -27,10 +27,12 @@ pub record End : Type 0 where
   -- the last look answered yes, and nothing was moved since
   pub looked : Bool
 
+-- which end waits on a side: forward the consumer, backward the producer
 abbrev pub waiting_role : Side → Role
 waiting_role Forward = Consumer
 waiting_role Backward = Producer
 
+-- which end rings on a side: forward the producer, backward the consumer
 abbrev pub ringing_role : Side → Role
 ringing_role Forward = Producer
 ringing_role Backward = Consumer
@@ -48,18 +50,21 @@ role_of (Do.Wanted s) = ringing_role s
 role_of (Do.Settle s) = ringing_role s
 role_of (Do.Ring s) = ringing_role s
 
+-- the waiter hasn't asked
 abbrev pub is_busy_or_off : Waiter → Bool
 is_busy_or_off Wait.Busy = true
 is_busy_or_off Wait.Off = true
 is_busy_or_off Wait.Asked = false
 is_busy_or_off Wait.Clear = false
 
+-- the waiter asked, looked and saw nothing
 abbrev pub is_clear : Waiter → Bool
 is_clear Wait.Clear = true
 is_clear Wait.Busy = false
 is_clear Wait.Off = false
 is_clear Wait.Asked = false
 
+-- the ringer has found no wish for a notification yet
 abbrev pub is_free_or_put : Ringer → Bool
 is_free_or_put Rung.Free = true
 is_free_or_put Rung.Put = true
@@ -86,6 +91,7 @@ pub record Allows (e : End) (o : Op) : Type 0 where
   pub owned : e.owned ≡ true
   pub condition : Condition e o
 
+-- the answer is yes
 abbrev pub is_yes : Answer → Bool
 is_yes Yes = true
 is_yes No = false
@@ -100,11 +106,13 @@ looked_waiter Wait.Busy a = Wait.Busy
 looked_waiter Wait.Clear a = Wait.Clear
 looked_waiter Wait.Off a = Wait.Off
 
+-- the waiter after a wake with this answer
 abbrev pub woken_waiter : Waiter → Answer → Waiter
 woken_waiter w Yes = Wait.Busy
 woken_waiter w No = w
 woken_waiter w Done = w
 
+-- the ringer after it asked whether a notification is wanted
 abbrev pub wanted_ringer : Answer → Ringer
 wanted_ringer Yes = Rung.Hot
 wanted_ringer No = Rung.Free

@@ -1,5 +1,7 @@
 -- Histories, journals and moments, and the laws of a legal journal.
-use Rattle.std.specs.Prelude.{◌≡◌, ◌==◌, ◌&&◌, ◌+◌, ◌≤◌, ℕ, Bool, true, false, not, nat_lt, Option, Some, None, List, [], ◌∷◌, ◌++◌, length, map, slice_get, slice_index_or}
+use Rattle.std.specs.Prelude.{◌≡◌, ◌==◌, ◌&&◌, ◌+◌, ◌≤◌, ℕ, Bool, true, false, not, nat_lt, Option}
+use Rattle.std.specs.Prelude.{Some, None, List, [], ◌∷◌, ◌++◌, length, map, slice_get}
+use Rattle.std.specs.Prelude.{slice_index_or}
 use Rattle.std.specs.Option.{option_to_list}
 use Rattle.cargo_core.specs.declared.item.Item.{Item}
 use Rattle.cargo_core.specs.declared.item.QueueKind.{QueueKind}
@@ -30,6 +32,7 @@ pub record Track : Type 0 where
   pub consumer : Tally
   pub producer : Tally
 
+-- nothing was counted
 abbrev pub no_tally : Tally
 no_tally = record { noes = 0; steps = 0 }
 
@@ -48,12 +51,15 @@ start_track = record {
 abbrev pub History : Type 0
 History = List Track
 
+-- the history of a table of queues in which nothing happened yet
 abbrev pub start_history : List QueueRow → History
 start_history rows = map (λ row. start_track) rows
 
+-- what a history has of a queue
 abbrev pub history_at : History → ℕ → Track
 history_at history n = slice_index_or history n start_track
 
+-- what was put, after one more call
 abbrev pub sent_after : List Item → Op → List Item → List Item
 sent_after xs Do.Put c = xs ++ c
 sent_after xs Do.Take c = xs
@@ -66,6 +72,7 @@ sent_after xs (Do.Wanted s) c = xs
 sent_after xs (Do.Settle s) c = xs
 sent_after xs (Do.Ring s) c = xs
 
+-- what was taken, after one more call
 abbrev pub taken_after : List Item → Op → List Item → List Item
 taken_after xs Do.Take c = xs ++ c
 taken_after xs Do.Put c = xs
@@ -102,6 +109,7 @@ tally_after y Producer Producer o a = record { noes = noes_after y.noes o a; ste
 tally_after y Consumer Producer o a = y
 tally_after y Producer Consumer o a = y
 
+-- what is shown of a queue after one more event there
 abbrev pub track_after : Track → Event → Track
 track_after t e = record {
   sent = sent_after t.sent e.op (option_to_list e.item);
@@ -111,6 +119,7 @@ track_after t e = record {
   producer = tally_after t.producer Producer (role_of e.op) e.op e.answer;
 }
 
+-- the new track where the event was on this queue, else the old one
 abbrev pub if_on : Bool → Track → Track → Track
 if_on true new old = new
 if_on false new old = old
@@ -147,24 +156,28 @@ CarriesItem k t (Do.Wanted s) item = item ≡ None
 CarriesItem k t (Do.Settle s) item = item ≡ None
 CarriesItem k t (Do.Ring s) item = item ≡ None
 
+-- the actor at an end of a queue
 abbrev pub owner_of : QueueRow → Role → ℕ
 owner_of row Consumer = row.consumer.0
 owner_of row Producer = row.producer.0
 
--- which actors are hostile; a queue has a hostile end where one of its owners is
+-- which actors are hostile
 abbrev pub Hostiles : Type 0
 Hostiles = ℕ → Bool
 
+-- no actor is hostile
 abbrev pub nobody : Hostiles
 nobody actor = false
 
+-- neither owner of a queue is hostile
 abbrev pub is_calm : Hostiles → QueueRow → Bool
 is_calm hostile row = not (hostile row.producer.0) && not (hostile row.consumer.0)
 
--- whether an entry stands in the queue, and whether it has room, by what was put and taken
+-- an entry stands in the queue, by its track
 abbrev pub is_sent : Track → Bool
 is_sent t = nat_lt (length t.taken) (length t.sent)
 
+-- the queue has room, by its track
 abbrev pub is_open : QueueRow → Track → Bool
 is_open row t = nat_lt (length t.sent) (length t.taken + row.capacity)
 
@@ -199,6 +212,7 @@ abbrev pub EachFrom : (List Entry → Entry → Type 0) → List Entry → List 
 EachFrom P before [] = Unit {0}
 EachFrom P before (e ∷ es) = P before e × EachFrom P (before ++ e ∷ []) es
 
+-- the fact holds of each entry of a journal and the journal before it
 abbrev pub EachEntry : (List Entry → Entry → Type 0) → List Entry → Type 0
 EachEntry P journal = EachFrom P [] journal
 
@@ -227,6 +241,8 @@ pub record Flows (row : QueueRow) (t : Track) : Type 0 where
   pub begins : IsPrefix t.taken t.sent
   pub within : length t.sent ≤ length t.taken + row.capacity
 
+-- at each queue with no hostile end, what was taken is a beginning of what was put, and at most the
+-- capacity behind it
 abbrev pub QueuesFlow : Hostiles → History → List QueueRow → List Entry → Type 0
 QueuesFlow hostile history rows journal =
     (n : ℕ) (row : QueueRow) → slice_get rows n ≡ Some row → is_calm hostile row ≡ true

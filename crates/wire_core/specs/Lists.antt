@@ -11,10 +11,12 @@ use Rattle.wire_core.specs.Deeds.{Deed, Cargo, cargo_of}
 abbrev pub Lists : Type 0
 Lists = ℕ → List Cargo
 
+-- some entries, where a condition holds
 abbrev pub if_there : Bool → List Cargo → List Cargo
 if_there true c = c
 if_there false c = []
 
+-- the entry of a take
 abbrev pub if_taken : Op → List Cargo → List Cargo
 if_taken Do.Take c = c
 if_taken Do.Put c = []
@@ -27,6 +29,7 @@ if_taken (Do.Wanted s) c = []
 if_taken (Do.Settle s) c = []
 if_taken (Do.Ring s) c = []
 
+-- the entry of a put
 abbrev pub if_put : Op → List Cargo → List Cargo
 if_put Do.Put c = c
 if_put Do.Take c = []
@@ -39,13 +42,15 @@ if_put (Do.Wanted s) c = []
 if_put (Do.Settle s) c = []
 if_put (Do.Ring s) c = []
 
--- what a deed takes from queue n, and puts there
+-- what a deed takes from each queue
 abbrev pub taken_by : Deed → Lists
 taken_by d n = if_there (d.event.queue.0 == n) (if_taken d.event.op (cargo_of d))
 
+-- what a deed puts at each queue
 abbrev pub put_by : Deed → Lists
 put_by d n = if_there (d.event.queue.0 == n) (if_put d.event.op (cargo_of d))
 
+-- lists with what was added to each
 abbrev pub with : Lists → Lists → Lists
 with old more n = old n ++ more n
 

@@ -1,7 +1,8 @@
 -- Marks: where an actor gets somewhere, and how many calls it makes between two of them. They stand
 -- here, below all actors, since a bound on the length of a journal follows from them and from what
 -- the queues show alone.
-use Rattle.std.specs.Prelude.{◌≡◌, ◌==◌, ◌&&◌, ◌||◌, ◌+◌, ◌≤◌, ◌<◌, ℕ, zero, suc, Bool, true, false, cond, Some, List, [], ◌∷◌, ◌++◌, length, slice_get}
+use Rattle.std.specs.Prelude.{◌≡◌, ◌==◌, ◌&&◌, ◌||◌, ◌+◌, ◌≤◌, ◌<◌, ℕ, zero, suc, Bool, true, false}
+use Rattle.std.specs.Prelude.{cond, Some, List, [], ◌∷◌, ◌++◌, length, slice_get}
 use Rattle.wire_core.specs.declared.names.Event.{Event}
 use Rattle.wire_core.specs.declared.names.Entry.{Entry}
 use Rattle.wire_core.specs.declared.names.QueueRow.{QueueRow}
@@ -72,6 +73,7 @@ calls_after false es e = es ++ e ∷ []
 abbrev pub since_after : Drops → ℕ → List Event → Entry → List Event
 since_after drops a es e = cond (e.actor.0 == a) (calls_after (is_marked drops e) es e.event) es
 
+-- an actor's calls since its last mark, from some calls on and over a journal
 abbrev pub since_from : Drops → ℕ → List Event → List Entry → List Event
 since_from drops a es [] = es
 since_from drops a es (e ∷ js) = since_from drops a (since_after drops a es e) js
@@ -80,6 +82,7 @@ since_from drops a es (e ∷ js) = since_from drops a (since_after drops a es e)
 abbrev pub since : Drops → ℕ → List Entry → List Event
 since drops a journal = since_from drops a [] journal
 
+-- the two roles are one
 abbrev pub is_role : Role → Role → Bool
 is_role Consumer Consumer = true
 is_role Producer Producer = true
@@ -111,6 +114,7 @@ abbrev pub AreOwned : List QueueRow → ℕ → Type 0
 AreOwned rows actors = (n : ℕ) (row : QueueRow) → slice_get rows n ≡ Some row → (r : Role)
     → owner_of row r < actors
 
+-- the sum of a function over the numbers below one
 abbrev pub sum_below : (ℕ → ℕ) → ℕ → ℕ
 sum_below f zero = 0
 sum_below f (suc k) = sum_below f k + f k

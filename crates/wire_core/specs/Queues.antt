@@ -1,5 +1,6 @@
 -- A queue with its two bells, and what each of the ten calls does to it.
-use Rattle.std.specs.Prelude.{◌≡◌, ◌==◌, ◌&&◌, ◌||◌, ℕ, Bool, true, false, not, nat_lt, ◌<◌, List, [], ◌∷◌, ◌++◌, length, drop, map, slice_index_or, slice_set}
+use Rattle.std.specs.Prelude.{◌≡◌, ◌==◌, ◌&&◌, ◌||◌, ℕ, Bool, true, false, not, nat_lt, ◌<◌, List}
+use Rattle.std.specs.Prelude.{[], ◌∷◌, ◌++◌, length, drop, map, slice_index_or, slice_set}
 use Rattle.std.specs.Option.{option_to_list}
 use Rattle.std.specs.List.{list_any}
 use Rattle.cargo_core.specs.declared.item.Item.{Item}
@@ -17,7 +18,8 @@ use Rattle.wire_core.specs.declared.names.Answer.TheVariants.{Done, Yes, No}
 use Rattle.wire_core.specs.declared.names.Waiter.TheVariants as Wait
 use Rattle.wire_core.specs.declared.names.Ringer.TheVariants as Rung
 use Rattle.wire_core.specs.Deeds.{Deed, Cargo, cargo_of, answer_of}
-use Rattle.wire_core.specs.Ends.{Role, Consumer, Producer, End, Condition, role_of, is_yes, looked_waiter, wanted_ringer}
+use Rattle.wire_core.specs.Ends.{Role, Consumer, Producer, End, Condition, role_of, is_yes}
+use Rattle.wire_core.specs.Ends.{looked_waiter, wanted_ringer}
 
 -- the two bells of a queue, and whether the last look of each end answered yes and isn't used
 pub record Bells : Type 0 where
@@ -36,14 +38,15 @@ pub record Queue : Type 0 where
   pub entries : List Cargo
   pub bells : Bells
 
--- a bell at the start: forward the consumer is busy and would be notified, backward the producer
--- wants no notification
+-- the forward bell at the start: the consumer is busy and would be notified
 abbrev pub start_forward : BellState
 start_forward = record { flag = false; pending = false; waiter = Wait.Busy; ringer = Rung.Free }
 
+-- the backward bell at the start: the producer is off and wants no notification
 abbrev pub start_backward : BellState
 start_backward = record { flag = true; pending = false; waiter = Wait.Off; ringer = Rung.Free }
 
+-- both bells at the start, and no look
 abbrev pub start_bells : Bells
 start_bells = record {
   forward = start_forward;
@@ -80,14 +83,17 @@ end_of mine k b Producer = record {
   looked = b.roomed;
 }
 
+-- the bell of a side
 abbrev pub bell_of : Bells → Side → BellState
 bell_of b Forward = b.forward
 bell_of b Backward = b.backward
 
+-- the bells, with another one on a side
 abbrev pub with_bell : Bells → Side → BellState → Bells
 with_bell b Forward x = record b { forward = x }
 with_bell b Backward x = record b { backward = x }
 
+-- a bell after a wake with this answer
 abbrev pub waked : BellState → Answer → BellState
 waked b Yes = record b { pending = false; waiter = Wait.Busy }
 waked b No = b
@@ -146,6 +152,7 @@ queue_after q o a c = record {
   bells = bells_after q.bells o a;
 }
 
+-- a queue after one call
 abbrev pub after : Queue → Deed → Queue
 after q d = queue_after q d.event.op d.event.answer (cargo_of d)
 
@@ -162,9 +169,11 @@ Tells filled room b (Do.Wanted s) a = a ≡ answer_of (not (bell_of b s).flag)
 Tells filled room b (Do.Settle s) a = a ≡ Done
 Tells filled room b (Do.Ring s) a = a ≡ Done
 
+-- an entry stands in the queue
 abbrev pub is_filled : Queue → Bool
 is_filled q = nat_lt 0 (length q.entries)
 
+-- fewer entries stand in the queue than its capacity
 abbrev pub has_room : Queue → Bool
 has_room q = nat_lt (length q.entries) q.capacity
 
@@ -203,6 +212,7 @@ no_queue = record {
   bells = start_bells;
 }
 
+-- the queue at a place of the table
 abbrev pub queue_at : List Queue → ℕ → Queue
 queue_at w n = slice_index_or w n no_queue
 
@@ -225,6 +235,7 @@ abbrev pub calls : ℕ → ℕ → ℕ → Bells → Bool
 calls actor producer consumer b = (consumer == actor && b.forward.pending)
     || (producer == actor && b.backward.pending)
 
+-- a waiter of this actor at the queue has a notification pending
 abbrev pub is_called : ℕ → Queue → Bool
 is_called actor q = calls actor q.producer q.consumer q.bells
 

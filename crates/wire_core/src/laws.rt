@@ -2,7 +2,9 @@
 ghost use Rattle.std.specs.Prelude.{◌≡◌, ℕ, true, List, []};
 ghost use Rattle.wire_core.specs.Ends.{Condition, role_of};
 ghost use Rattle.wire_core.specs.Queues.{end_of, Tells};
-ghost use Rattle.wire_core.specs.Journal.{Track, History, Hostiles, start_track, track_after, start_history, is_sent, is_open, CarriesItem, TrackHolds, Flows, BellsHold, QueuesFlow, LegalJournal, EachMoment};
+ghost use Rattle.wire_core.specs.Journal.{Track, History, Hostiles, start_track, track_after};
+ghost use Rattle.wire_core.specs.Journal.{start_history, is_sent, is_open, CarriesItem, TrackHolds};
+ghost use Rattle.wire_core.specs.Journal.{Flows, BellsHold, QueuesFlow, LegalJournal, EachMoment};
 
 use crate::{Entry, Event, QueueRow};
 

@@ -1,7 +1,8 @@
 //! The ten calls on the ends of queues, over which every actor is written.
 ghost use Rattle.std.specs.Prelude.{◌≡◌, ℕ};
 ghost use Rattle.cargo_core.specs.Items.{kind_of};
-ghost use Rattle.wire_core.specs.Ends.{Role, Consumer, Producer, End, Allows, Moves, waiting_role, ringing_role};
+ghost use Rattle.wire_core.specs.Ends.{Role, Consumer, Producer, End, Allows, Moves, waiting_role};
+ghost use Rattle.wire_core.specs.Ends.{ringing_role};
 ghost use Rattle.wire_core.specs.Deeds.{Deed, look_deed, plain_deed, move_deed};
 
 use crate::{Op, QueueId, Side};

@@ -1,26 +1,26 @@
 -- Which kind of actor plays a part of the network.
 use Rattle.std.proofs.Common.{◌≡◌, ℕ, List, refl}
 use Rattle.frame_core.specs.declared.mac.Mac.{Mac}
-use Rattle.device_model.specs.declared.eth_device.EthDevice.{EthDevice}
+use Rattle.device_model.specs.declared.ethernet.EthDevice.{EthDevice}
 use Rattle.eth_driver.specs.Four.{four_pipes}
 use Rattle.eth_driver.specs.declared.EthDriver.{EthDriver}
-use Rattle.client_programs.specs.declared.net_client.NetClient.{NetClient}
+use Rattle.client_programs.specs.declared.net.NetClient.{NetClient}
 use Rattle.net_copier.specs.declared.NetCopier.{NetCopier}
 use Rattle.net_virt_rx.specs.declared.NetVirtRx.{NetVirtRx}
 use Rattle.net_virt_tx.specs.declared.NetVirtTx.{NetVirtTx}
 use Rattle.net_expect.specs.Expecting.{Program}
-use Rattle.net_law.specs.NetOwners.Names.{PoolAt, ClientPools}
-use Rattle.net_law.specs.NetParts.Numbers.{device_at, driver_at, receiver_at, copier_at, client_at}
-use Rattle.net_law.specs.NetParts.Playing.{device_part, driver_part, receiver_part, copier_part, client_part}
-use Rattle.net_law.specs.NetTxParts.Numbers.{sender_at}
-use Rattle.net_law.specs.NetTxParts.Playing.{send_part}
+use Rattle.net_law.specs.Owners.Names.{PoolAt, ClientPools}
+use Rattle.net_law.specs.Parts.Numbers.{device_at, driver_at, receiver_at, copier_at, client_at}
+use Rattle.net_law.specs.Parts.Playing.{device_part, driver_part, receiver_part, copier_part, client_part}
+use Rattle.net_law.specs.TxParts.Numbers.{sender_at}
+use Rattle.net_law.specs.TxParts.Playing.{send_part}
 use Rattle.cargo_core.specs.declared.item.Ask.{Ask}
 use Rattle.pipe_driver.specs.Lengths.{two_pipes}
-use Rattle.client_programs.specs.declared.blk_client.BlkClient.{BlkClient}
+use Rattle.client_programs.specs.declared.blk.BlkClient.{BlkClient}
 use Rattle.blk_driver.specs.declared.BlkDriver.{BlkDriver}
 use Rattle.blk_virt.specs.declared.virtualiser.BlkVirt.{BlkVirt}
-use Rattle.blk_law.specs.BlkParts.Numbers.{BlkPlace, disk_at, blk_driver_at, virt_at, blk_client_at}
-use Rattle.blk_law.specs.BlkParts.Playing.{disk_part, blk_driver_part, virt_part, blk_client_part}
+use Rattle.blk_law.specs.Sheets.Numbers.{BlkPlace, disk_at, blk_driver_at, virt_at, blk_client_at}
+use Rattle.blk_law.specs.Sheets.Playing.{disk_part, blk_driver_part, virt_part, blk_client_part}
 use Rattle.actor_set.specs.declared.disk.Disk.{Disk}
 use Rattle.actor_set.specs.Parts.{NetworkPart, SendingPart, BlockPart}
 use Rattle.actor_set.specs.Actors.{part_of}

@@ -1,6 +1,7 @@
+-- The proofs on casts that have the whole network and the whole block class.
 pub mod Acting
 pub mod Deeds
 pub mod Blocks
 pub mod Wiring
 pub mod BlkReplies
-pub mod WiredQuiet
+pub mod QuietLemmas

@@ -7,8 +7,8 @@ use Rattle.wire_core.specs.Deeds.{Deed}
 use Rattle.wire_core.specs.Ends.{Role, End}
 use Rattle.wire_core.specs.Lists.{Passed, nothing_passed, with_deed}
 use Rattle.play_core.proofs.Lists.{map_get, map_from, there_is, there_below}
-use Rattle.device_model.specs.declared.eth_device.EthDevice.{EthDevice}
-use Rattle.device_model.specs.EthDevices.Devices.{DeviceRow}
+use Rattle.device_model.specs.declared.ethernet.EthDevice.{EthDevice}
+use Rattle.device_model.specs.Ethernet.Devices.{DeviceRow}
 use Rattle.eth_driver.specs.Four.{four_pipes}
 use Rattle.pipe_driver.proofs.Holding.{row_of as driver_row}
 use Rattle.net_expect.specs.Expecting.{Program, frames_for}
@@ -18,28 +18,28 @@ use Rattle.net_virt_rx.specs.declared.NetVirtRx.{NetVirtRx}
 use Rattle.net_virt_tx.proofs.Rounds.{row_of as sender_row}
 use Rattle.net_virt_tx.specs.declared.NetVirtTx.{NetVirtTx}
 use Rattle.net_copier.specs.declared.NetCopier.{NetCopier}
-use Rattle.client_programs.specs.declared.net_client.NetClient.{NetClient}
-use Rattle.client_programs.proofs.NetClients.Standing.{row_of as client_row}
-use Rattle.net_law.specs.NetOwners.Names.{PoolAt, ClientPools}
-use Rattle.net_law.specs.NetParts.Parts.{NetClient as ClientPart}
-use Rattle.net_law.specs.NetParts.Numbers.{device_at, driver_at, client_first, receiver_at, copier_at, client_at}
-use Rattle.net_law.specs.NetParts.Playing.{device_part, receiver_part, copier_part, client_part, stock_pool, AreLeases, ReceivesInTurn}
-use Rattle.net_law.specs.NetTxParts.Numbers.{NetPlace, own_pool, own_pools, sender_at}
-use Rattle.net_law.specs.NetTxParts.Playing.{send_part}
-use Rattle.net_quiet.specs.NetCast.Casting.{IsCast, IsReceiverAt, IsCopierAt, IsClientAt}
-use Rattle.net_quiet.proofs.NetCast.Numbers.{copier_queues}
-use Rattle.net_quiet.proofs.NetCast.Casting.{cast_in_turn, cast_takes, cast_leases, cast_records}
-use Rattle.net_quiet.specs.NetTxCast.Casting.{AreSends, AllSend, IsClientOf, IsSenderAt, IsSendingClient, IsWholeCast, sends_at}
-use Rattle.net_quiet.proofs.NetTxCast.Wholes.{none_out, good_taken, back_is, client_puts, wire_is}
-use Rattle.blk_law.specs.BlkParts.Numbers.{BlkPlace}
+use Rattle.client_programs.specs.declared.net.NetClient.{NetClient}
+use Rattle.client_programs.proofs.NetLemmas.Standing.{row_of as client_row}
+use Rattle.net_law.specs.Owners.Names.{PoolAt, ClientPools}
+use Rattle.net_law.specs.Parts.Parts.{NetClient as ClientPart}
+use Rattle.net_law.specs.Parts.Numbers.{device_at, driver_at, client_first, receiver_at, copier_at, client_at}
+use Rattle.net_law.specs.Parts.Playing.{device_part, receiver_part, copier_part, client_part, stock_pool, AreLeases, ReceivesInTurn}
+use Rattle.net_law.specs.TxParts.Numbers.{NetPlace, own_pool, own_pools, sender_at}
+use Rattle.net_law.specs.TxParts.Playing.{send_part}
+use Rattle.net_quiet.specs.Cast.Casting.{IsCast, IsReceiverAt, IsCopierAt, IsClientAt}
+use Rattle.net_quiet.proofs.CastLemmas.Numbers.{copier_queues}
+use Rattle.net_quiet.proofs.CastLemmas.Casting.{cast_in_turn, cast_takes, cast_leases, cast_records}
+use Rattle.net_quiet.specs.TxCast.Casting.{AreSends, AllSend, IsClientOf, IsSenderAt, IsSendingClient, IsWholeCast, sends_at}
+use Rattle.net_quiet.proofs.TxCast.Wholes.{none_out, good_taken, back_is, client_puts, wire_is}
+use Rattle.blk_law.specs.Sheets.Numbers.{BlkPlace}
 use Rattle.actor_set.specs.Parts.{Part, NetworkPart, SendingPart}
 use Rattle.actor_set.specs.Actors.{FitsActor, ActorStandsFor, part_of}
 use Rattle.actor_set.specs.declared.actor.Actor.{Actor}
 use Rattle.actor_set.specs.declared.actor.Actor.TheVariants as Kinds
-use Rattle.actor_set.specs.ActorLaw.Kinds.{scene_of}
-use Rattle.actor_set.specs.ActorLaw.Records.{frames_got}
-use Rattle.actor_set.specs.ActorLaw.Turning.{InTurn, SendsInTurn}
-use Rattle.actor_set.proofs.ActorLaw.NetRows.{device_row_of}
+use Rattle.actor_set.specs.Laws.Kinds.{scene_of}
+use Rattle.actor_set.specs.Laws.Records.{frames_got}
+use Rattle.actor_set.specs.Laws.Turning.{InTurn, SendsInTurn}
+use Rattle.actor_set.proofs.LawsLemmas.NetRows.{device_row_of}
 use Rattle.wired_law.specs.Wiring.{IsOfNetwork, HasWhole, HasNoNetwork, HasBlk, HasNoBlock, HasPart, IsWired, NetClientsSend, ClientsAsk, ClientsSend, AreAtWork}
 use Rattle.wired_law.proofs.Acting.{device_actor, driver_actor, receiver_actor, sender_actor, copier_actor, client_actor}
 use Rattle.wired_law.proofs.Deeds.{puts_or_takes}

@@ -1,3 +1,3 @@
--- How the network's actors of a cast are wired (Wiring), so that nothing comes out of turn at any
--- actor.
+-- How the actors of the network and the block class in a cast are wired (Wiring), so that nothing
+-- comes out of turn at any actor.
 pub mod Wiring

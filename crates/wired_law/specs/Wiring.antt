@@ -11,20 +11,21 @@ use Rattle.wire_core.specs.Ends.{Role, End}
 use Rattle.wire_core.specs.Lists.{Passed}
 use Rattle.net_law.specs.Receiving.{HandsOver}
 use Rattle.net_expect.specs.Expecting.{Program, Source}
-use Rattle.net_law.specs.NetOwners.Names.{PoolAt, ClientPools}
-use Rattle.net_law.specs.NetParts.Parts.{NetPart, NetClient}
-use Rattle.net_law.specs.NetParts.Numbers.{device_at, driver_at, receiver_at, copier_at, client_at}
-use Rattle.net_law.specs.NetTxParts.Parts.{SendPart}
-use Rattle.net_law.specs.NetTxParts.Numbers.{NetPlace, own_pools, sender_at}
-use Rattle.net_quiet.specs.NetTxCast.Casting.{AreFrames, AreSends, IsClientOf}
-use Rattle.blk_law.specs.BlkParts.Parts.{BlkPart, BlkClient}
-use Rattle.blk_law.specs.BlkParts.Numbers.{BlkPlace, IsBlkClientOf, disk_at, blk_driver_at, virt_at, blk_client_at}
-use Rattle.blk_quiet.specs.BlkCast.Casting.{AreRequests}
+use Rattle.net_law.specs.Owners.Names.{PoolAt, ClientPools}
+use Rattle.net_law.specs.Parts.Parts.{NetPart, NetClient}
+use Rattle.net_law.specs.Parts.Numbers.{device_at, driver_at, receiver_at, copier_at, client_at}
+use Rattle.net_law.specs.TxParts.Parts.{SendPart}
+use Rattle.net_law.specs.TxParts.Numbers.{NetPlace, own_pools, sender_at}
+use Rattle.net_quiet.specs.TxCast.Casting.{AreFrames, AreSends, IsClientOf}
+use Rattle.blk_law.specs.Sheets.Parts.{BlkPart, BlkClient}
+use Rattle.blk_law.specs.Sheets.Numbers.{BlkPlace, IsBlkClientOf, disk_at, blk_driver_at, virt_at}
+use Rattle.blk_law.specs.Sheets.Numbers.{blk_client_at}
+use Rattle.blk_quiet.specs.Cast.Casting.{AreRequests}
 use Rattle.blk_law.specs.Replying.{AreSized}
 use Rattle.actor_set.specs.Parts.{Part, NetworkPart, SendingPart, BlockPart}
 use Rattle.actor_set.specs.Actors.{FitsActor, ActorStandsFor}
 use Rattle.actor_set.specs.declared.actor.Actor.{Actor}
-use Rattle.actor_set.specs.ActorLaw.Kinds.{scene_of}
+use Rattle.actor_set.specs.Laws.Kinds.{scene_of}
 
 -- some actor of a cast plays this part
 abbrev pub HasPart : List Part → Part → Type 0
@@ -73,16 +74,17 @@ pub record HasNoNetwork (cast : List Part) : Type 0 where
   pub none : (k : ℕ) (p : NetPart) → slice_get cast k ≡ Some (NetworkPart p) → ⊥
   pub no_sender : (k : ℕ) (p : SendPart) → slice_get cast k ≡ Some (SendingPart p) → ⊥
 
--- a part is one of the block class's at its place: that of the disk, the driver, the virtualiser or a
--- client
+-- a part is one of the block class's at its place: that of the disk, the driver, the virtualiser
+-- or a client
 abbrev pub IsOfBlock : BlkPlace → BlkPart → Type 0
 IsOfBlock place p = (p ≡ disk_at place) ⊎ (p ≡ blk_driver_at place.first) ⊎ (p ≡ virt_at place)
     ⊎ ((k entry : ℕ) × (asks : List Ask) × (pool : PoolAt) × IsBlkClientOf place k entry asks pool
     × (p ≡ blk_client_at place.first k asks pool))
 
 -- a cast has the whole block class and no other actor of it; each client has a buffer; requests go
--- to the driver; the disk has some blocks of 4,096 bytes, which the cast's scene tells; what a client
--- writes has the size that it says; and no two clients have the same entry of the table of partitions
+-- to the driver; the disk has some blocks of 4,096 bytes, which the cast's scene tells; what a
+-- client writes has the size that it says; and no two clients have the same entry of the table of
+-- partitions
 pub record HasBlk (rows : List QueueRow) (place : BlkPlace) (cast : List Part) : Type 0 where
   pub asks_many : length place.asks ≡ length place.entries
   pub pools_many : length place.pools ≡ length place.entries

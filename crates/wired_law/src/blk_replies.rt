@@ -7,13 +7,13 @@ ghost use Rattle.cargo_core.specs.declared.item.Ask.{Ask};
 ghost use Rattle.wire_core.specs.declared.names.QueueRow.{QueueRow};
 ghost use Rattle.wire_core.specs.Ends.{Role, End};
 ghost use Rattle.wire_core.specs.Lists.{Passed};
-ghost use Rattle.net_law.specs.NetOwners.Names.{PoolAt};
+ghost use Rattle.net_law.specs.Owners.Names.{PoolAt};
 ghost use Rattle.blk_expect.specs.Replies.{replies_of};
-ghost use Rattle.blk_law.specs.BlkParts.Numbers.{BlkPlace, blk_client_at};
+ghost use Rattle.blk_law.specs.Sheets.Numbers.{BlkPlace, blk_client_at};
 ghost use Rattle.actor_set.specs.Parts.{Part, BlockPart};
 ghost use Rattle.actor_set.specs.Actors.{part_of};
 ghost use Rattle.actor_set.specs.declared.actor.Actor.{Actor};
-ghost use Rattle.actor_set.specs.ActorLaw.Records.{replies_got};
+ghost use Rattle.actor_set.specs.Laws.Records.{replies_got};
 ghost use Rattle.wired_law.specs.Wiring.{HasBlk, ClientsSend, AreAtWork};
 
 /// In a cast with the whole block class, whose clients put good requests alone, what a client

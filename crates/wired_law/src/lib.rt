@@ -1,6 +1,7 @@
 //! The actors of a cast, of all classes, where the network's are the whole network at the layout's
-//! queues, and the block class's the whole class: nothing comes out of turn at any actor, so what
-//! passed at each is as its sheet says; and what the network's device and clients recorded.
+//! queues, and the block class's the whole class. Nothing comes out of turn at any actor, so what
+//! passed at each is as its sheet says; and what the network's device and clients, and the clients
+//! of the block class, recorded at any moment and where nobody is runnable.
 #![tactic(auto)]
 
 ghost use Rattle.std.specs.Prelude.{◌≡◌, ◌≤◌, ℕ, Some, List, map, slice_get};
@@ -11,25 +12,26 @@ ghost use Rattle.wire_core.specs.Deeds.{Deed};
 ghost use Rattle.wire_core.specs.Ends.{Role, End};
 ghost use Rattle.wire_core.specs.Lists.{Passed, nothing_passed, with_deed};
 ghost use Rattle.net_expect.specs.Expecting.{Program, frames_for};
-ghost use Rattle.net_law.specs.NetOwners.Names.{ClientPools};
-ghost use Rattle.net_law.specs.NetParts.Numbers.{device_at, client_at};
-ghost use Rattle.net_law.specs.NetTxParts.Numbers.{NetPlace};
-ghost use Rattle.net_quiet.specs.NetTxCast.Casting.{sends_at};
+ghost use Rattle.net_law.specs.Owners.Names.{ClientPools};
+ghost use Rattle.net_law.specs.Parts.Numbers.{device_at, client_at};
+ghost use Rattle.net_law.specs.TxParts.Numbers.{NetPlace};
+ghost use Rattle.net_quiet.specs.TxCast.Casting.{sends_at};
 ghost use Rattle.actor_set.specs.Parts.{Part, NetworkPart};
 ghost use Rattle.actor_set.specs.Actors.{part_of};
 ghost use Rattle.actor_set.specs.declared.actor.Actor.{Actor};
-ghost use Rattle.actor_set.specs.ActorLaw.Kinds.{scene_of};
-ghost use Rattle.actor_set.specs.ActorLaw.Records.{frames_got};
-ghost use Rattle.actor_set.specs.ActorLaw.Turning.{InTurn};
+ghost use Rattle.actor_set.specs.Laws.Kinds.{scene_of};
+ghost use Rattle.actor_set.specs.Laws.Records.{frames_got};
+ghost use Rattle.actor_set.specs.Laws.Turning.{InTurn};
 ghost use Rattle.wired_law.specs.Wiring.{HasWhole, IsWired, ClientsSend, AreAtWork};
 
 pub mod blk_replies;
-pub mod wired_quiet;
+pub mod quiet;
 
 /// Nothing comes out of turn at any actor of a cast that is wired, where its clients put good
-/// descriptors and requests alone; so they did when nothing had passed yet, and after one more call they still
-/// have. A network client with buffers of its own recorded a beginning of the frames that are for
-/// its address; and the device a merge of beginnings of what the clients send by their programs.
+/// descriptors and requests alone; so they did when nothing had passed yet, and after one more call
+/// they still have. A network client with buffers of its own recorded a beginning of the frames
+/// that are for its address; and the device a merge of beginnings of what the clients send by their
+/// programs.
 pub fn wired_law()
     ensures turns { (ends : Role → ℕ → End) (rows : List QueueRow) (actors : List Actor)
         (passed : Passed) → IsWired rows (map part_of actors) → AreAtWork ends rows actors passed

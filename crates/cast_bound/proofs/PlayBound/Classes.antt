@@ -19,11 +19,11 @@ use Rattle.region_layout.specs.Rows.{queues_of, net_queues, eth_rx_queues, eth_t
 use Rattle.region_layout.proofs.SameLemmas.{queues_same}
 use Rattle.expect_core.specs.Budgets.{counts_of, hops_of, clients_or_none, first_read_hops}
 use Rattle.serial_law.specs.Serial.{SerialClass}
-use Rattle.serial_law.specs.SerialHops.Hops.{put_to, serial_put}
-use Rattle.net_law.specs.NetHops.Hops.{net_put}
+use Rattle.serial_law.specs.Hops.Hops.{put_to, serial_put}
+use Rattle.net_law.specs.Hops.Hops.{net_put}
 use Rattle.cast_bound.specs.PlayBound.Standing.{StandsFrom, serial_first, serial_many, blk_first, NetMoves, without_net, with_net, SerialMoves, without_serial, with_serial, BlkMoves, without_blk, with_blk}
 use Rattle.cast_bound.proofs.PlayBound.Sums.{sum_pairs, put_sum}
-use Rattle.net_law.proofs.NetHops.Sums.{sum_parts}
+use Rattle.net_law.proofs.HopsLemmas.Sums.{sum_parts}
 
 clients_rows : (plan : Plan) (serial : Serial) (n : ℕ) (clients : List SerialClient) → length (each_client (serial_client_queues plan serial) n clients) ≡ 2 * length clients
 unfolding serial_client_queues

@@ -1,7 +1,7 @@
 use Rattle.std.proofs.Common.{◌≡◌, ◌≤◌, ◌+◌, ◌*◌, ℕ, zero, suc, Some, List, [], ◌∷◌, length, slice_get, refl, ap, subst, arith}
 use Rattle.wire_core.specs.Marks.{sum_below}
 use Rattle.play_core.specs.Moved.{Moved}
-use Rattle.serial_law.specs.SerialHops.Hops.{put_to}
+use Rattle.serial_law.specs.Hops.Hops.{put_to}
 
 -- a sum by pairs
 pub sum_pairs : (f : ℕ → ℕ) (k : ℕ) → sum_below f (2 * k) ≡ sum_below (λ n. f (2 * n)) k + sum_below (λ n. f (1 + 2 * n)) k

@@ -8,11 +8,11 @@ use Rattle.sdf_plan.specs.declared.plan.Blk.{Blk}
 use Rattle.trace_text.specs.declared.trace.Trace.{Trace}
 use Rattle.play_core.specs.Moved.{Moved}
 use Rattle.serial_law.specs.Serial.{SerialClass}
-use Rattle.serial_law.specs.SerialHops.Hops.{serial_put, serial_bytes}
-use Rattle.net_law.specs.NetOwners.Names.{ClientPools}
-use Rattle.net_law.specs.NetTxParts.Numbers.{NetPlace}
-use Rattle.net_law.specs.NetHops.Hops.{net_put, net_moves, script_frames}
-use Rattle.blk_law.specs.BlkHops.Hops.{blk_put, blk_moves}
+use Rattle.serial_law.specs.Hops.Hops.{serial_put, serial_bytes}
+use Rattle.net_law.specs.Owners.Names.{ClientPools}
+use Rattle.net_law.specs.TxParts.Numbers.{NetPlace}
+use Rattle.net_law.specs.Hops.Hops.{net_put, net_moves, script_frames}
+use Rattle.blk_law.specs.Hops.Hops.{blk_put, blk_moves}
 
 -- the queues of the class stand one behind the other from a number on: two at its device, two at
 -- the driver's other side, and then two for each of so many clients

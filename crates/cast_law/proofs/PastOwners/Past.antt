@@ -17,25 +17,25 @@ use Rattle.owner_law.specs.Keeping.{Keeper, keeper_of, Keeps, all_taken, all_put
 use Rattle.owner_law.specs.Shown.{shown_table}
 use Rattle.owner_law.proofs.Casts.{cast_keepers}
 use Rattle.owner_law.proofs.Starts.{start_counted}
-use Rattle.owner_law.specs.CountLaw.Keeping.{KeepTheirs}
-use Rattle.owner_law.proofs.CountLaw.Tables.{pools_stay, nobody_shown, table_past}
-use Rattle.net_law.specs.NetTxParts.Numbers.{NetPlace}
-use Rattle.net_quiet.proofs.NetPools.Sizing.{spread_dealt}
-use Rattle.blk_law.specs.BlkOwners.Answering.{IsInOrder, PutsItsOwnInOrder}
+use Rattle.owner_law.specs.Counts.Keeping.{KeepTheirs}
+use Rattle.owner_law.proofs.CountsLemmas.Tables.{pools_stay, nobody_shown, table_past}
+use Rattle.net_law.specs.TxParts.Numbers.{NetPlace}
+use Rattle.net_quiet.proofs.PoolsLemmas.Sizing.{spread_dealt}
+use Rattle.blk_law.specs.Owners.Answering.{IsInOrder, PutsItsOwnInOrder}
 use Rattle.actor_set.specs.Parts.{Part}
 use Rattle.actor_set.specs.Actors.{part_of}
 use Rattle.actor_set.specs.declared.actor.Actor.{Actor}
-use Rattle.actor_set.specs.ActorLaw.Kinds.{sheet, scene_of, hostiles}
-use Rattle.actor_set.proofs.ActorLaw.Calm.{calm_actor, calm_row}
-use Rattle.cast_law.specs.CastPools.Places.{PoolPlace, HasNetAt, IsPlaced, HasPools, cast_naming, place_sizes}
-use Rattle.cast_law.specs.CastPools.Pooling.{keepers_at, AreAtPlay, HasOwners, IsKindly, AreKindly}
-use Rattle.cast_law.proofs.CastPools.Table.{at_receiver}
-use Rattle.cast_law.proofs.CastPools.Apart.{ends_apart}
-use Rattle.cast_law.proofs.CastPools.Naming.{names_at, own_at}
-use Rattle.cast_law.proofs.CastPools.Ordering.{in_order}
-use Rattle.cast_law.proofs.CastPools.Dealing.{owner, are_spread}
-use Rattle.cast_law.proofs.CastPools.Owning.{lender_at, naming_is}
-use Rattle.cast_law.proofs.CastPools.Playing.{play_kinds, all_there}
+use Rattle.actor_set.specs.Laws.Kinds.{sheet, scene_of, hostiles}
+use Rattle.actor_set.proofs.LawsLemmas.Calm.{calm_actor, calm_row}
+use Rattle.cast_law.specs.Pools.Places.{PoolPlace, HasNetAt, IsPlaced, HasPools, cast_naming, place_sizes}
+use Rattle.cast_law.specs.Pools.Pooling.{keepers_at, AreAtPlay, HasOwners, IsKindly, AreKindly}
+use Rattle.cast_law.proofs.PoolsLemmas.Table.{at_receiver}
+use Rattle.cast_law.proofs.PoolsLemmas.Apart.{ends_apart}
+use Rattle.cast_law.proofs.PoolsLemmas.Naming.{names_at, own_at}
+use Rattle.cast_law.proofs.PoolsLemmas.Ordering.{in_order}
+use Rattle.cast_law.proofs.PoolsLemmas.Dealing.{owner, are_spread}
+use Rattle.cast_law.proofs.PoolsLemmas.Owning.{lender_at, naming_is}
+use Rattle.cast_law.proofs.PoolsLemmas.Playing.{play_kinds, all_there}
 
 no_more : {X : Type 0} (xs : List X) → length xs ≡ 0 → xs ≡ []
 no_more [] none = refl

@@ -9,8 +9,8 @@ use Rattle.wire_core.specs.Queues.{Queue}
 use Rattle.owner_law.specs.Things.{Naming}
 use Rattle.owner_law.specs.Owners.{Table, replay}
 use Rattle.owner_law.specs.Census.{Census, census}
-use Rattle.owner_law.specs.PoolLaw.Lines.{Holder, AreLines}
-use Rattle.owner_law.proofs.PoolLaw.Lasting.{last_queues, last_hands, last_lent}
+use Rattle.owner_law.specs.Pools.Lines.{Holder, AreLines}
+use Rattle.owner_law.proofs.PoolsLemmas.Lasting.{last_queues, last_hands, last_lent}
 use Rattle.cast_law.specs.PoolLines.PoolLines.{line_of, table_lines, counted, counted_lines, AreSized}
 
 module _ (naming : Naming) (lender : ℕ) (hostile : Hostiles) (history : History) (rows : List QueueRow) (sizes : ℕ → ℕ) (holders : List Holder) (start : Table) (journal : List Entry) (passed : Passed) (world : List Queue) (x : AreLines naming lender hostile history rows sizes holders start journal passed world) where

@@ -43,6 +43,7 @@ pub record SameTerminal (old new : Terminal) : Type 0 where
   pub output : new.output.queue ≡ old.output.queue
   pub script : new.script ≡ old.script
 
+-- a terminal at its start, between two queues and with a text to put
 pub record IsNewTerminal (from to : QueueId) (text : List ℕ) (t : Terminal) : Type 0 where
   pub input : t.input.queue ≡ from
   pub output : t.output.queue ≡ to

@@ -16,11 +16,11 @@ use Rattle.seat_wires.specs.Times.{times_known}
 use Rattle.actor_set.specs.Actors.{ActorEnd, IsWhole, part_of}
 use Rattle.actor_set.specs.Parts.{Part}
 use Rattle.actor_set.specs.declared.actor.Actor.{Actor}
-use Rattle.actor_set.proofs.ActorLaw.Beside.{stands_beside}
-use Rattle.actor_set.proofs.ActorLaw.Starts.{fits_whole}
-use Rattle.actor_set.proofs.ActorLaw.PartEnds.{PartEnd, to_part, from_part}
-use Rattle.actor_set.specs.AdoptLaw.Looks.{SameButLook}
-use Rattle.actor_set.proofs.AdoptLaw.Looks.{fits_anew}
+use Rattle.actor_set.proofs.LawsLemmas.Beside.{stands_beside}
+use Rattle.actor_set.proofs.LawsLemmas.Starts.{fits_whole}
+use Rattle.actor_set.proofs.LawsLemmas.PartEnds.{PartEnd, to_part, from_part}
+use Rattle.actor_set.specs.Adopting.Looks.{SameButLook}
+use Rattle.actor_set.proofs.AdoptingLemmas.Looks.{fits_anew}
 use Rattle.order_law.specs.ActorParts.Parting.{Apart, ends_at, end_in, apart_end, apart_passed, StandsApart, HasItsEnds, AreApart}
 use Rattle.order_law.specs.ActorParts.Opening.{opened_from, IsForgotten}
 use Rattle.order_law.specs.ActorParts.Given.{Kept, apart_of}

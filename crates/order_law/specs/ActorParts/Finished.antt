@@ -28,10 +28,12 @@ pub record HasEnded (ring : RingIs) (p c : EndIs) (e : EndedIs) : Type 0 where
   pub forward_is : e.forward ≡ forward_bell e.forward.flag e.forward.pending p.knows c.knows
   pub forward : BellHolds e.forward (nat_lt 0 (length e.left)) (length p.knows.entries)
   pub backward_is : e.backward ≡ backward_bell e.backward.flag e.backward.pending p.knows c.knows
-  pub backward : BellHolds e.backward (nat_lt (length e.left) ring.id.slots) (length c.knows.entries)
+  pub backward : BellHolds e.backward (nat_lt (length e.left) ring.id.slots)
+      (length c.knows.entries)
 
 -- the end of a queue that its owner by the row had
-pub record OwnEnd (parts : List Apart) (row : QueueRow) (r : Role) (n : ℕ) (e : EndIs) : Type 0 where
+pub record OwnEnd (parts : List Apart) (row : QueueRow) (r : Role) (n : ℕ) (e : EndIs)
+    : Type 0 where
   pub owner : Apart
   pub there : slice_get parts (owner_of row r) ≡ Some owner
   pub end : end_in (ends_at owner r) n ≡ Some e

@@ -1,5 +1,6 @@
 -- Lists of actors apart, one of which is given an end more.
-use Rattle.std.specs.Prelude.{◌≡◌, ◌==◌, ◌++◌, if◌then◌else◌, ℕ, Some, List, [], ◌∷◌, Vec, length, slice_get}
+use Rattle.std.specs.Prelude.{◌≡◌, ◌==◌, ◌++◌, if◌then◌else◌, ℕ, Some, List, [], ◌∷◌, Vec, length}
+use Rattle.std.specs.Prelude.{slice_get}
 use Rattle.std.specs.Global.{Global}
 use Rattle.wire_core.specs.declared.names.QueueId.{QueueId}
 use Rattle.spsc_queue.specs.Known.Ends.{EndIs}

@@ -1,5 +1,6 @@
 //! How actors that were at work apart are brought together again: each ring comes to its end.
-ghost use Rattle.std.specs.Prelude.{◌≡◌, ◌<◌, ℕ, IfOk, Some, None, List, length, map, slice_get, slice_set};
+ghost use Rattle.std.specs.Prelude.{◌≡◌, ◌<◌, ℕ, IfOk, Some, None, List, length, map, slice_get};
+ghost use Rattle.std.specs.Prelude.{slice_set};
 ghost use Rattle.wire_core.specs.Ends.{Role};
 ghost use Rattle.wire_core.specs.Journal.{owner_of};
 ghost use Rattle.wire_core.specs.declared.names.QueueRow.{QueueRow as Row};

@@ -1,6 +1,7 @@
 //! How actors in their start state are set apart: a ring for each queue, and each end with its
 //! owner.
-ghost use Rattle.std.specs.Prelude.{◌≡◌, ◌<◌, ◌++◌, ◌==◌, ℕ, if◌then◌else◌, IfOk, OnOk, Some, List, [], ◌∷◌, length, slice_get};
+ghost use Rattle.std.specs.Prelude.{◌≡◌, ◌<◌, ◌++◌, ◌==◌, ℕ, if◌then◌else◌, IfOk, OnOk, Some, List};
+ghost use Rattle.std.specs.Prelude.{[], ◌∷◌, length, slice_get};
 ghost use Rattle.std.specs.List.{zip, AllZip};
 ghost use Rattle.wire_core.specs.Ends.{Role};
 ghost use Rattle.wire_core.specs.Sizes.{AreSized};

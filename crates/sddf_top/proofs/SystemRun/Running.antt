@@ -21,7 +21,7 @@ use Rattle.order_law.specs.ActorParts.Parting.{Apart, AreApart, HasItsEnds, ends
 use Rattle.order_law.specs.ActorParts.Finished.{OwnEnd}
 use Rattle.order_law.specs.ActorParts.Going.{AreSeatsOf, HasGone}
 use Rattle.order_law.proofs.ActorParts.Standing.{found}
-use Rattle.order_law.specs.EndedLaw.Tracks.{TellsEnds}
+use Rattle.order_law.specs.Ended.Tracks.{TellsEnds}
 use Rattle.pd_runner.specs.Facing.{CameApart, CameWithin, HasSpent, IsResting}
 use Rattle.sdf_plan.specs.declared.plan.Plan.{Plan}
 use Rattle.trace_text.specs.declared.trace.Trace.{Trace}

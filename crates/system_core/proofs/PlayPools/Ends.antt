@@ -6,20 +6,20 @@ use Rattle.play_core.specs.Moved.{Seat}
 use Rattle.play_core.specs.Sheets.{Scene, AreApart}
 use Rattle.play_core.specs.Wants.{intake, outlet}
 use Rattle.play_core.proofs.Lists.{some_is}
-use Rattle.net_law.specs.NetOwners.Names.{ClientPools}
-use Rattle.net_law.specs.NetParts.Numbers.{driver_at, client_first, lessees_from}
-use Rattle.net_law.specs.NetParts.Table.{net_sheet, lessee_ends}
-use Rattle.net_law.specs.NetTxParts.Numbers.{shippers_from}
-use Rattle.net_law.specs.NetTxParts.Table.{shipper_ends}
+use Rattle.net_law.specs.Owners.Names.{ClientPools}
+use Rattle.net_law.specs.Parts.Numbers.{driver_at, client_first, lessees_from}
+use Rattle.net_law.specs.Parts.Table.{net_sheet, lessee_ends}
+use Rattle.net_law.specs.TxParts.Numbers.{shippers_from}
+use Rattle.net_law.specs.TxParts.Table.{shipper_ends}
 use Rattle.sdf_plan.specs.declared.plan.Plan.{Plan}
 use Rattle.trace_text.specs.declared.trace.Trace.{Trace}
 use Rattle.trace_text.specs.Events.{serial_clients}
-use Rattle.blk_law.specs.BlkParts.Numbers.{sharers_from}
-use Rattle.blk_law.specs.BlkParts.Table.{sharer_ends}
-use Rattle.net_law.specs.NetOwners.Names.{PoolAt}
+use Rattle.blk_law.specs.Sheets.Numbers.{sharers_from}
+use Rattle.blk_law.specs.Sheets.Table.{sharer_ends}
+use Rattle.net_law.specs.Owners.Names.{PoolAt}
 use Rattle.actor_set.specs.Parts.{Part}
-use Rattle.actor_set.specs.ActorLaw.Kinds.{sheet}
-use Rattle.layout_laws.specs.JobLaw.Jobs.{Job, EthDevice, EthDriver, NetReceiver, NetSender, NetCopier, NetClient, UartDevice, UartDriver, SerialReceiver, SerialSender, SerialClient, DiskDevice, DiskDriver, BlkVirtualiser, BlkClient}
+use Rattle.actor_set.specs.Laws.Kinds.{sheet}
+use Rattle.layout_laws.specs.Jobs.Jobs.{Job, EthDevice, EthDriver, NetReceiver, NetSender, NetCopier, NetClient, UartDevice, UartDriver, SerialReceiver, SerialSender, SerialClient, DiskDevice, DiskDriver, BlkVirtualiser, BlkClient}
 use Rattle.cast_core.specs.Casts.{net_place, blk_place, job_part}
 use Rattle.cast_core.specs.Sources.{every_second, first_serial, first_blk}
 

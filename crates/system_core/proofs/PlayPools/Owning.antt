@@ -7,12 +7,12 @@ use Rattle.wire_core.specs.declared.names.QueueRow.{QueueRow}
 use Rattle.play_core.specs.Sheets.{Scene, AreApart}
 use Rattle.owner_law.specs.Things.{Naming}
 use Rattle.owner_law.proofs.Replays.{owners_hold}
-use Rattle.net_law.specs.NetOwners.Names.{PoolAt, ClientPools}
-use Rattle.net_law.proofs.NetParts.Owning.{net_puts}
-use Rattle.net_law.specs.NetTxParts.Parts.{SendPart, Shipper}
-use Rattle.net_law.specs.NetTxParts.Numbers.{NetPlace, shippers_from, sender_at}
-use Rattle.net_quiet.specs.NetTxOwners.Shipping.{is_at, ArePoolsApart}
-use Rattle.net_quiet.proofs.NetTxOwners.Owning.{send_own}
+use Rattle.net_law.specs.Owners.Names.{PoolAt, ClientPools}
+use Rattle.net_law.proofs.PartsLemmas.Owning.{net_puts}
+use Rattle.net_law.specs.TxParts.Parts.{SendPart, Shipper}
+use Rattle.net_law.specs.TxParts.Numbers.{NetPlace, shippers_from, sender_at}
+use Rattle.net_quiet.specs.TxOwners.Shipping.{is_at, ArePoolsApart}
+use Rattle.net_quiet.proofs.TxOwners.Owning.{send_own}
 use Rattle.net_quiet.proofs.Listing.{shipper_from}
 use Rattle.sdf_plan.specs.declared.plan.Net.{Net}
 use Rattle.sdf_plan.specs.declared.plan.Plan.{Plan}
@@ -21,7 +21,7 @@ use Rattle.region_layout.specs.Rows.{pools_of}
 use Rattle.trace_text.specs.declared.trace.Trace.{Trace}
 use Rattle.trace_text.specs.Events.{net_clients}
 use Rattle.actor_set.specs.Parts.{Part, UartPart, DriverPart, RxPart, TxPart, ClientPart, NetworkPart, SendingPart, BlockPart}
-use Rattle.actor_set.specs.ActorLaw.Kinds.{sheet, scene_of, hostiles}
+use Rattle.actor_set.specs.Laws.Kinds.{sheet, scene_of, hostiles}
 use Rattle.cast_core.specs.Casts.{client_pools, net_place}
 use Rattle.cast_core.specs.Sources.{pool_at, first_blk_pool}
 use Rattle.cast_core.proofs.Listing.{value_is}
@@ -31,14 +31,14 @@ use Rattle.system_core.specs.PlanPlays.{IsPlayedOn}
 use Rattle.system_core.specs.PlayPools.Pools.{IsFirstTable, HasOneOwner}
 use Rattle.wire_core.specs.Journal.{Hostiles}
 use Rattle.owner_law.specs.Owners.{Table}
-use Rattle.owner_law.proofs.PoolLaw.Casting.{nothing_kept}
-use Rattle.blk_law.specs.BlkOwners.Answering.{PutsItsOwnInOrder}
+use Rattle.owner_law.proofs.PoolsLemmas.Casting.{nothing_kept}
+use Rattle.blk_law.specs.Owners.Answering.{PutsItsOwnInOrder}
 use Rattle.wired_law.specs.Wiring.{IsOfNetwork}
-use Rattle.cast_law.specs.CastPools.Holders.{NamesAt}
-use Rattle.cast_law.specs.CastPools.Places.{PoolPlace, HasNetAt, IsPlaced, cast_naming}
-use Rattle.cast_law.specs.CastPools.Pooling.{keepers_at}
-use Rattle.cast_law.proofs.CastPools.Naming.{names_at, block_own}
-use Rattle.cast_law.proofs.CastPools.Owning.{owned}
+use Rattle.cast_law.specs.Pools.Holders.{NamesAt}
+use Rattle.cast_law.specs.Pools.Places.{PoolPlace, HasNetAt, IsPlaced, cast_naming}
+use Rattle.cast_law.specs.Pools.Pooling.{keepers_at}
+use Rattle.cast_law.proofs.PoolsLemmas.Naming.{names_at, block_own}
+use Rattle.cast_law.proofs.PoolsLemmas.Owning.{owned}
 use Rattle.cast_law.specs.Places.{pool_place}
 use Rattle.system_core.proofs.PlayPools.Ends.{job_apart}
 use Rattle.system_core.proofs.PlayPools.Placing.{placed, job_at}

@@ -7,16 +7,16 @@ use Rattle.sdf_plan.specs.declared.plan.Net.{Net}
 use Rattle.sdf_plan.specs.declared.plan.Blk.{Blk}
 use Rattle.sdf_check.specs.Valid.{Valid}
 use Rattle.trace_text.specs.declared.trace.Trace.{Trace}
-use Rattle.net_law.specs.NetParts.Parts.{NetPart}
-use Rattle.net_law.specs.NetTxParts.Parts.{SendPart}
-use Rattle.blk_law.specs.BlkParts.Parts.{BlkPart}
+use Rattle.net_law.specs.Parts.Parts.{NetPart}
+use Rattle.net_law.specs.TxParts.Parts.{SendPart}
+use Rattle.blk_law.specs.Sheets.Parts.{BlkPart}
 use Rattle.actor_set.specs.Parts.{Part, NetworkPart, SendingPart, BlockPart}
-use Rattle.layout_laws.specs.JobLaw.Jobs.{Job, EthDevice, EthDriver, NetReceiver, NetSender, NetCopier, NetClient, UartDevice, UartDriver, SerialReceiver, SerialSender, SerialClient, DiskDevice, DiskDriver, BlkVirtualiser, BlkClient, HasJob}
-use Rattle.layout_laws.proofs.JobLaw.Having.{some_job}
-use Rattle.layout_laws.specs.SeatLaw.Ends.{HasNet, HasBlk, IsOf}
-use Rattle.layout_laws.proofs.SeatLaw.Having.{job_is_of}
+use Rattle.layout_laws.specs.Jobs.Jobs.{Job, EthDevice, EthDriver, NetReceiver, NetSender, NetCopier, NetClient, UartDevice, UartDriver, SerialReceiver, SerialSender, SerialClient, DiskDevice, DiskDriver, BlkVirtualiser, BlkClient, HasJob}
+use Rattle.layout_laws.proofs.JobsLemmas.Having.{some_job}
+use Rattle.layout_laws.specs.Seats.Ends.{HasNet, HasBlk, IsOf}
+use Rattle.layout_laws.proofs.SeatsLemmas.Having.{job_is_of}
 use Rattle.cast_core.specs.Casts.{net_place, blk_place, job_part}
-use Rattle.cast_law.specs.CastPools.Places.{HasNetAt, HasBlkAt, IsPlaced}
+use Rattle.cast_law.specs.Pools.Places.{HasNetAt, HasBlkAt, IsPlaced}
 use Rattle.cast_law.specs.Places.{pool_place}
 use Rattle.cast_law.proofs.Pooled.{apart_pools}
 use Rattle.system_core.specs.Shows.{Shown}

@@ -11,10 +11,10 @@ use Rattle.sdf_plan.specs.declared.plan.Plan.{Plan}
 use Rattle.sdf_check.specs.Valid.{Valid}
 use Rattle.region_layout.specs.Rows.{pools_of}
 use Rattle.trace_text.specs.declared.trace.Trace.{Trace}
-use Rattle.actor_set.specs.ActorLaw.Kinds.{scene_of}
-use Rattle.cast_law.specs.CastPools.Places.{PoolPlace, IsPlaced, HasPools, cast_naming, place_sizes}
-use Rattle.cast_law.specs.CastPools.Pooling.{BeginsWith}
-use Rattle.cast_law.proofs.CastPools.Playing.{begins_anew}
+use Rattle.actor_set.specs.Laws.Kinds.{scene_of}
+use Rattle.cast_law.specs.Pools.Places.{PoolPlace, IsPlaced, HasPools, cast_naming, place_sizes}
+use Rattle.cast_law.specs.Pools.Pooling.{BeginsWith}
+use Rattle.cast_law.proofs.PoolsLemmas.Playing.{begins_anew}
 use Rattle.cast_law.specs.Places.{pool_place}
 use Rattle.cast_law.proofs.Pooled.{pooled}
 use Rattle.system_core.specs.Shows.{Shown}

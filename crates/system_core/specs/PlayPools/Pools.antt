@@ -7,9 +7,9 @@ use Rattle.owner_law.specs.Keeping.{start_table}
 use Rattle.cast_law.specs.PoolLines.PoolLines.{table_lines}
 use Rattle.sdf_plan.specs.declared.plan.Plan.{Plan}
 use Rattle.region_layout.specs.Rows.{pools_of}
-use Rattle.actor_set.specs.ActorLaw.Kinds.{scene_of}
-use Rattle.cast_law.specs.CastPools.Places.{PoolPlace, cast_naming}
-use Rattle.cast_law.specs.CastPools.Pooling.{keepers_at, BeginsWith, HasOwners}
+use Rattle.actor_set.specs.Laws.Kinds.{scene_of}
+use Rattle.cast_law.specs.Pools.Places.{PoolPlace, cast_naming}
+use Rattle.cast_law.specs.Pools.Pooling.{keepers_at, BeginsWith, HasOwners}
 use Rattle.system_core.specs.Shows.{Shown}
 
 -- a table of owners with which a system begins whose classes with pools stand at this place: what
@@ -40,8 +40,8 @@ abbrev pub AllAdd : List Census → Type 0
 AllAdd lines = (k : ℕ) (l : Census) → slice_get lines k ≡ Some l
     → l.queues + l.hands + l.lent ≡ l.buffers
 
--- from this table on each move of the journal finds its buffer or lease in the place that it leaves,
--- and a lent buffer has as many receivers as there are leases of it
+-- from this table on each move of the journal finds its buffer or lease in the place that it
+-- leaves, and a lent buffer has as many receivers as there are leases of it
 abbrev pub HasOneOwner : PoolPlace → (first : Table) → Shown → Type 0
 HasOneOwner place first s = EachMoment (OneOwner (cast_naming (scene_of s.setting.cast) place)
     s.setting.history first) s.journal

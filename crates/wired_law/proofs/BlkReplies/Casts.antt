@@ -9,29 +9,29 @@ use Rattle.play_core.proofs.Lists.{some_is, map_get, map_from, there_is, there_b
 use Rattle.pipe_driver.proofs.Holding.{row_of as driver_row}
 use Rattle.pipe_driver.specs.Drivers.{PipesRow}
 use Rattle.pipe_driver.specs.Lengths.{two_pipes}
-use Rattle.net_law.specs.NetOwners.Names.{PoolAt}
-use Rattle.net_law.specs.NetTxParts.Numbers.{own_pool}
-use Rattle.device_model.specs.DiskDevices.Disks.{DiskRow}
-use Rattle.client_programs.specs.BlkClients.Clients.{req_queue, resp_queue}
-use Rattle.client_programs.specs.declared.blk_client.BlkClient.{BlkClient}
-use Rattle.client_programs.proofs.BlkClients.Standing.{row_of as asker_row}
+use Rattle.net_law.specs.Owners.Names.{PoolAt}
+use Rattle.net_law.specs.TxParts.Numbers.{own_pool}
+use Rattle.device_model.specs.Disk.Disks.{DiskRow}
+use Rattle.client_programs.specs.Blk.Clients.{req_queue, resp_queue}
+use Rattle.client_programs.specs.declared.blk.BlkClient.{BlkClient}
+use Rattle.client_programs.proofs.BlkLemmas.Standing.{row_of as asker_row}
 use Rattle.blk_driver.specs.declared.BlkDriver.{BlkDriver}
 use Rattle.blk_expect.specs.Replies.{replies_of}
 use Rattle.blk_virt.specs.Virtualising.{BlkVirtRow, FitsBlkVirt}
 use Rattle.blk_virt.specs.declared.virtualiser.BlkVirt.{BlkVirt}
 use Rattle.blk_virt.proofs.Rows.{row_of as server_row}
-use Rattle.blk_law.specs.BlkParts.Parts.{BlkClient as ClientPart}
-use Rattle.blk_law.specs.BlkParts.Numbers.{BlkPlace, IsBlkClientOf, disk_at, blk_driver_at, virt_at, blk_client_at}
-use Rattle.blk_law.specs.BlkParts.Playing.{disk_part, blk_driver_part, virt_part, blk_client_part}
-use Rattle.blk_quiet.specs.BlkCast.Casting.{AllAsk, IsAskingClient, IsBlkCast}
-use Rattle.blk_quiet.proofs.BlkCast.Numbers.{client_queues}
+use Rattle.blk_law.specs.Sheets.Parts.{BlkClient as ClientPart}
+use Rattle.blk_law.specs.Sheets.Numbers.{BlkPlace, IsBlkClientOf, disk_at, blk_driver_at, virt_at, blk_client_at}
+use Rattle.blk_law.specs.Sheets.Playing.{disk_part, blk_driver_part, virt_part, blk_client_part}
+use Rattle.blk_quiet.specs.Cast.Casting.{AllAsk, IsAskingClient, IsBlkCast}
+use Rattle.blk_quiet.proofs.CastLemmas.Numbers.{client_queues}
 use Rattle.actor_set.specs.Parts.{Part, BlockPart}
 use Rattle.actor_set.specs.Actors.{FitsActor, ActorStandsFor, part_of}
 use Rattle.actor_set.specs.declared.disk.Disk.{Disk}
 use Rattle.actor_set.specs.declared.actor.Actor.{Actor}
 use Rattle.actor_set.specs.declared.actor.Actor.TheVariants as Kinds
-use Rattle.actor_set.specs.ActorLaw.Records.{replies_got}
-use Rattle.actor_set.proofs.ActorLaw.BlkRows.{disk_row_of}
+use Rattle.actor_set.specs.Laws.Records.{replies_got}
+use Rattle.actor_set.proofs.LawsLemmas.BlkRows.{disk_row_of}
 use Rattle.wired_law.specs.Wiring.{IsOfBlock, HasBlk, HasPart, ClientsAsk, ClientsSend, AreAtWork}
 use Rattle.wired_law.proofs.Acting.{disk_actor, blk_driver_actor, virt_actor, blk_client_actor}
 use Rattle.wired_law.proofs.Blocks.{requests_own}

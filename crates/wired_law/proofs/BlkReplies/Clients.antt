@@ -11,23 +11,23 @@ use Rattle.wire_core.specs.Deeds.{Cargo}
 use Rattle.wire_core.specs.Lists.{Passed}
 use Rattle.play_core.proofs.Lists.{some_is, prefix_trans, there_is, there_below}
 use Rattle.buffer_kit.specs.Virtualising.{from_queues, to_queues}
-use Rattle.net_law.specs.NetOwners.Names.{PoolAt}
-use Rattle.net_law.proofs.NetParts.Leasing.{prefix_get}
+use Rattle.net_law.specs.Owners.Names.{PoolAt}
+use Rattle.net_law.proofs.PartsLemmas.Leasing.{prefix_get}
 use Rattle.blk_expect.specs.Replies.{partition_in, replies_of}
-use Rattle.client_programs.specs.BlkClients.Asking.{asked_from, pages_in, replies_to}
-use Rattle.client_programs.specs.BlkClients.Clients.{req_queue, resp_queue}
-use Rattle.client_programs.specs.declared.blk_client.BlkClient.{BlkClient}
+use Rattle.client_programs.specs.Blk.Asking.{asked_from, pages_in, replies_to}
+use Rattle.client_programs.specs.Blk.Clients.{req_queue, resp_queue}
+use Rattle.client_programs.specs.declared.blk.BlkClient.{BlkClient}
 use Rattle.blk_virt.specs.Desks.{holders}
 use Rattle.blk_virt.specs.Requests.{is_bad}
 use Rattle.blk_virt.specs.Serving.{IsServed}
 use Rattle.blk_virt.specs.declared.requests.Holder.{Holder}
 use Rattle.blk_law.specs.Replying.{AreSized, HaveRoom}
-use Rattle.blk_law.proofs.BlkRecordLaw.Whole.{records_now}
-use Rattle.blk_law.specs.BlkParts.Numbers.{BlkPlace, IsBlkClientOf}
-use Rattle.blk_quiet.specs.BlkCast.Casting.{AllAsk, IsAskingClient, IsBlkCast, IsWhole}
-use Rattle.blk_quiet.proofs.BlkCast.Numbers.{client_queues, virt_queues}
-use Rattle.blk_quiet.proofs.BlkCast.Turning.{drop_get, good_is, served, shared, shares_at}
-use Rattle.blk_quiet.proofs.BlkCast.Clients.{back_own}
+use Rattle.blk_law.proofs.RecordsLemmas.Whole.{records_now}
+use Rattle.blk_law.specs.Sheets.Numbers.{BlkPlace, IsBlkClientOf}
+use Rattle.blk_quiet.specs.Cast.Casting.{AllAsk, IsAskingClient, IsBlkCast, IsWhole}
+use Rattle.blk_quiet.proofs.CastLemmas.Numbers.{client_queues, virt_queues}
+use Rattle.blk_quiet.proofs.CastLemmas.Turning.{drop_get, good_is, served, shared, shares_at}
+use Rattle.blk_quiet.proofs.CastLemmas.Clients.{back_own}
 use Rattle.wired_law.proofs.BlkReplies.Inside.{partition_fits}
 use Rattle.wired_law.proofs.BlkReplies.Disks.{all_from, behind, leaves}
 

@@ -5,13 +5,13 @@ use Rattle.cargo_core.specs.Lists.{IsPrefix}
 use Rattle.wire_core.specs.Deeds.{Cargo}
 use Rattle.wire_core.specs.Lists.{Passed}
 use Rattle.play_core.proofs.Lists.{some_is, map_get, map_from, prefix_trans, there_is, there_below}
-use Rattle.owner_law.proofs.PoolLaw.Merging.{kept_at, kept_is}
+use Rattle.owner_law.proofs.PoolsLemmas.Merging.{kept_at, kept_is}
 use Rattle.buffer_kit.specs.Virtualising.{from_queues, to_queues}
-use Rattle.net_law.proofs.NetParts.Leasing.{prefix_get}
+use Rattle.net_law.proofs.PartsLemmas.Leasing.{prefix_get}
 use Rattle.blk_mbr.specs.declared.part.Part.{Part}
 use Rattle.blk_expect.specs.Replies.{partition_in}
-use Rattle.device_model.specs.DiskDevices.Disks as disk
-use Rattle.device_model.specs.DiskDevices.Serving.{answer_to, answers_to, done}
+use Rattle.device_model.specs.Disk.Disks as disk
+use Rattle.device_model.specs.Disk.Serving.{answer_to, answers_to, done}
 use Rattle.blk_virt.specs.Desks.{holders}
 use Rattle.blk_virt.specs.Openings.{first_read}
 use Rattle.blk_virt.specs.Requests.{for_disk, goes_on, is_at, numbered}
@@ -20,11 +20,11 @@ use Rattle.blk_virt.specs.declared.requests.Holder.{Holder}
 use Rattle.blk_virt.specs.declared.virtualiser.BlkVirt.{BlkVirt}
 use Rattle.blk_law.specs.Runs.{IsBeside, IsInside}
 use Rattle.blk_law.proofs.Parts.{parts_apart}
-use Rattle.blk_law.specs.BlkRecordLaw.Served.{LeavesPart}
-use Rattle.blk_law.specs.BlkParts.Numbers.{BlkPlace}
-use Rattle.blk_quiet.specs.BlkCast.Casting.{IsBlkCast}
-use Rattle.blk_quiet.proofs.BlkCast.Numbers.{disk_queues, driver_queues, virt_queues}
-use Rattle.blk_quiet.proofs.BlkCast.Turning.{served, shares_at}
+use Rattle.blk_law.specs.Records.Served.{LeavesPart}
+use Rattle.blk_law.specs.Sheets.Numbers.{BlkPlace}
+use Rattle.blk_quiet.specs.Cast.Casting.{IsBlkCast}
+use Rattle.blk_quiet.proofs.CastLemmas.Numbers.{disk_queues, driver_queues, virt_queues}
+use Rattle.blk_quiet.proofs.CastLemmas.Turning.{served, shares_at}
 use Rattle.wired_law.proofs.BlkReplies.Inside.{entry_few, goes_has, goes_inside}
 
 -- each of a list has what each entry of it has

@@ -17,7 +17,7 @@ use Rattle.blk_expect.specs.Replies.{has_partition, partition_in}
 use Rattle.blk_virt.specs.Requests.{asked_of_disk, first_block, for_disk, goes_on, is_ok, is_own, numbered, request_of}
 use Rattle.blk_virt.specs.declared.requests.Holder.{Holder}
 use Rattle.blk_law.specs.Runs.{IsInside, StaysIn}
-use Rattle.blk_quiet.proofs.BlkCast.Judging.{part_fits}
+use Rattle.blk_quiet.proofs.CastLemmas.Judging.{part_fits}
 
 take_few : (n : ℕ) (xs : List ℕ) → length (take n xs) ≤ n
 take_few zero xs = omega arith

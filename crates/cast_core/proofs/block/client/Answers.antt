@@ -1,5 +1,5 @@
 use Rattle.std.proofs.Common.{◌≡◌, ◌+◌, [], length, refl, sym, ap, ap₂, ◌∙◌, subst, arith, unwrap_or}
-use Rattle.blk_law.specs.BlkParts.Numbers.{blk_client_at}
+use Rattle.blk_law.specs.Sheets.Numbers.{blk_client_at}
 use Rattle.cast_core.specs.Sources.{first_blk, first_blk_pool, pool_at}
 use Rattle.cast_core.specs.Making.{new_page, HasPool}
 use Rattle.cast_core.proofs.Listing.{value_count}

@@ -1,7 +1,7 @@
 use Rattle.std.proofs.Common.{◌+◌, ◌/◌, ℕ, List, length, refl, ap, ◌∙◌}
 use Rattle.trace_text.specs.Traces.{per_client}
-use Rattle.blk_law.specs.BlkParts.Parts.{BlkVirt as VirtPart}
-use Rattle.blk_law.specs.BlkParts.Numbers.{sharers_from}
+use Rattle.blk_law.specs.Sheets.Parts.{BlkVirt as VirtPart}
+use Rattle.blk_law.specs.Sheets.Numbers.{sharers_from}
 use Rattle.expect_core.specs.Expected.{client_entry}
 use Rattle.cast_core.specs.Sources.{first_blk, first_blk_pool, pool_at}
 use Rattle.cast_core.specs.Making.{new_page}

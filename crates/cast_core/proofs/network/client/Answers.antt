@@ -1,7 +1,7 @@
 use Rattle.std.proofs.Common.{◌+◌, ◌*◌, [], refl, sym, ap, ap₂, ◌∙◌, arith, unwrap_or}
-use Rattle.client_programs.specs.NetClients.Programs.{program_with}
-use Rattle.net_law.specs.NetParts.Numbers.{client_at}
-use Rattle.net_law.specs.NetTxParts.Numbers.{own_pools}
+use Rattle.client_programs.specs.Net.Programs.{program_with}
+use Rattle.net_law.specs.Parts.Numbers.{client_at}
+use Rattle.net_law.specs.TxParts.Numbers.{own_pools}
 use Rattle.cast_core.specs.Sources.{pools_at}
 use Rattle.cast_core.specs.Making.{AreShort}
 use Rattle.cast_core.proofs.Making.{pages_are, pool_fits, client_new, client_is}

@@ -1,7 +1,7 @@
 use Rattle.std.proofs.Common.{◌+◌, ap}
 use Rattle.frame_core.specs.declared.mac.Mac.{Mac}
 use Rattle.net_virt_rx.specs.declared.LeaseEnds.{LeaseEnds}
-use Rattle.net_law.specs.NetParts.Numbers.{client_first}
+use Rattle.net_law.specs.Parts.Numbers.{client_first}
 use Rattle.cast_core.specs.Making.{lease_ends}
 use Rattle.cast_core.proofs.Listing.{one_more}
 use Rattle.cast_core.proofs.network.lease_ends.Goals as goal

@@ -1,6 +1,6 @@
 use Rattle.std.proofs.Common.{◌+◌, ◌*◌, ℕ, ap₂}
 use Rattle.net_virt_tx.specs.declared.TxEnds.{TxEnds}
-use Rattle.net_law.specs.NetParts.Numbers.{client_first}
+use Rattle.net_law.specs.Parts.Numbers.{client_first}
 use Rattle.cast_core.specs.Making.{tx_ends}
 use Rattle.cast_core.proofs.Listing.{one_more}
 use Rattle.cast_core.proofs.pools.tx_ends.Goals as goal

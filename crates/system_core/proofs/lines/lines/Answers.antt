@@ -1,6 +1,6 @@
 use Rattle.std.proofs.Common.{◌≡◌, Some, slice_get, refl, sym}
 use Rattle.std.proofs.lemmas.Option.{slice_get_read}
-use Rattle.cast_law.specs.CastPools.Holders.{holders_of}
+use Rattle.cast_law.specs.Pools.Holders.{holders_of}
 use Rattle.system_core.proofs.Counting.{lines_next}
 use Rattle.system_core.proofs.lines.lines.Goals as goal
 

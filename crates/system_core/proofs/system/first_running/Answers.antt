@@ -2,8 +2,8 @@ use Rattle.std.proofs.Common.{arith, map, refl}
 use Rattle.std.proofs.lemmas.Option.{slice_get_read}
 use Rattle.wire_core.specs.Queues.{end_at}
 use Rattle.actor_set.specs.Actors.{part_of}
-use Rattle.actor_set.proofs.ActorLaw.Starts.{fits_whole}
-use Rattle.actor_set.specs.ActorLaw.Kinds.{scene_of}
+use Rattle.actor_set.proofs.LawsLemmas.Starts.{fits_whole}
+use Rattle.actor_set.specs.Laws.Kinds.{scene_of}
 use Rattle.system_core.specs.States.{history_of}
 use Rattle.system_core.proofs.Starting.{flag_start, flags_many, list_added, list_skipped, list_room, list_whole}
 use Rattle.system_core.proofs.system.first_running.Goals as goal

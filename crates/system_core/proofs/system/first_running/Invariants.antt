@@ -1,7 +1,7 @@
 use Rattle.std.proofs.Common.{◌≡◌, ◌≤◌, length, map, take}
 use Rattle.actor_set.specs.Actors.{part_of}
 use Rattle.play_core.specs.Runs.{places_from}
-use Rattle.actor_set.specs.ActorLaw.Kinds.{scene_of}
+use Rattle.actor_set.specs.Laws.Kinds.{scene_of}
 use Rattle.system_core.specs.States.{history_of}
 use Rattle.system_core.proofs.Starting.{flags}
 use Rattle.system_core.proofs.system.first_running.Given as goal

@@ -4,13 +4,13 @@ use Rattle.pipe_driver.specs.Drivers.{PipesStandFor}
 use Rattle.pipe_driver.specs.Lengths.{two_pipes}
 use Rattle.serial_virt.specs.Receiving.{RxStandsFor}
 use Rattle.serial_virt.specs.Sending.{TxStandsFor}
-use Rattle.client_programs.specs.NetClients.Clients.{ClientStandsFor}
+use Rattle.client_programs.specs.Net.Clients.{ClientStandsFor}
 use Rattle.net_virt_rx.specs.Receiving.{RxStandsFor as NetRxStandsFor}
 use Rattle.net_virt_tx.specs.Sending.{TxStandsFor as NetTxStandsFor}
 use Rattle.actor_set.specs.Actors.{FitsActor, ActorStandsFor}
-use Rattle.device_model.specs.DiskDevices.Disks.{DiskStandsFor}
+use Rattle.device_model.specs.Disk.Disks.{DiskStandsFor}
 use Rattle.blk_virt.specs.Virtualising.{BlkVirtStandsFor}
-use Rattle.client_programs.specs.BlkClients.Clients.{BlkClientStandsFor}
+use Rattle.client_programs.specs.Blk.Clients.{BlkClientStandsFor}
 use Rattle.actor_set.proofs.Casting.{ok_actor, as_actor, few_still, first_still}
 use Rattle.actor_set.proofs.actor.Actor.step.Goals as goal
 

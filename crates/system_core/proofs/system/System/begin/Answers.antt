@@ -1,6 +1,6 @@
 use Rattle.std.proofs.Common.{◌∙◌, ap, refl, [], map, arith}
 use Rattle.actor_set.specs.Actors.{part_of}
-use Rattle.actor_set.specs.ActorLaw.Kinds.{scene_of, hostiles}
+use Rattle.actor_set.specs.Laws.Kinds.{scene_of, hostiles}
 use Rattle.system_core.specs.States.{history_of, begun, nobody}
 use Rattle.system_core.specs.Shows.{runs}
 use Rattle.system_core.proofs.RunsNow.{rows_now}

@@ -1,6 +1,6 @@
 use Rattle.std.proofs.Common.{ap, sym, ◌∙◌, slice_get}
 use Rattle.wire_core.specs.Queues.{end_at}
-use Rattle.actor_set.proofs.ActorLaw.Starts.{fits_whole}
+use Rattle.actor_set.proofs.LawsLemmas.Starts.{fits_whole}
 use Rattle.system_core.proofs.Lining.{add_up, few_pools}
 use Rattle.system_core.proofs.system.System.report.Goals as goal
 

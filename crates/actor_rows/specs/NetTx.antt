@@ -1,0 +1,2 @@
+-- What the helpers of the tests of the sending virtualiser say.
+pub mod Standings

@@ -1,2 +1,0 @@
--- What the helpers of these tests say.
-pub mod Standings

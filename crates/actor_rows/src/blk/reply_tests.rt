@@ -1,0 +1,118 @@
+//! What block clients must get for their requests.
+ghost use Rattle.std.specs.Prelude.{◌≡◌, ◌<◌, ◌+◌, IfOk, length};
+
+use crate::blk::{entry, sector};
+use blk_expect::replies_of;
+use cargo_core::{Ask, BlkStatus, Bytes, Code, Memory, Reply};
+use std::alloc::Global;
+use std::test::Fail;
+
+/// What a reply says, and how many bytes of the one value that all of them have it brings.
+#[derive(Clone, Copy, Debug, PartialEq, Eq)]
+struct Summary {
+    status: BlkStatus,
+    count: u16,
+    id: u32,
+    bytes: usize,
+    value: u8,
+}
+
+// The image of a disk with this table in its first sector, and so many zeros behind that.
+fn image(alloc: Global, second_first: u32, zeros: usize) -> Result<Bytes, Memory>
+    requires { zeros < 65536 }
+    ensures { IfOk result (λ bytes. length bytes ≡ 512 + zeros) }
+{
+    let table = sector(entry(0x83, 8, 16), entry(0x83, second_first, 8));
+    let mut bytes = Bytes::from_slice(alloc, &table)?;
+    let rest = vec![in alloc; 0; zeros]?;
+    bytes.extend_from_slice(&rest)?;
+    Ok(bytes)
+}
+
+// A request for blocks, with bytes that are to be written.
+fn ask(alloc: Global, code: Code, block: u32, count: u16, fill: usize) -> Result<Ask, Memory> {
+    let fill = vec![in alloc; 0xAB; fill]?;
+    Ok(Ask {
+        code,
+        block,
+        count,
+        fill: Bytes::from_vec(fill),
+    })
+}
+
+// What the reply at a place says; None where it brings bytes of several values.
+fn told(replies: &[Reply], k: usize) -> Option<Summary> {
+    let reply = replies.get(k)?;
+    let bytes = reply.bytes.as_slice();
+    let value = bytes.first().copied().unwrap_or(0);
+    if bytes.iter().any(|byte| *byte != value) {
+        return None;
+    }
+    Some(Summary {
+        status: reply.resp.status,
+        count: reply.resp.count,
+        id: reply.resp.id,
+        bytes: bytes.len(),
+        value,
+    })
+}
+
+// A reply that went well.
+fn went_well(id: u32, count: u16, bytes: usize, value: u8) -> Option<Summary> {
+    Some(Summary {
+        status: BlkStatus::Ok,
+        count,
+        id,
+        bytes,
+        value,
+    })
+}
+
+// A reply that was refused.
+fn refused(id: u32, status: BlkStatus) -> Option<Summary> {
+    Some(Summary {
+        status,
+        count: 0,
+        id,
+        bytes: 0,
+        value: 0,
+    })
+}
+
+#[test]
+fn a_client_reads_what_it_wrote(rt: HostRuntime) -> Result<(), Fail> {
+    let alloc = rt.alloc();
+    let image = image(alloc, 24, 31 * 512)?;
+    let asks = vec![in alloc;
+        ask(alloc, Code::Write, 1, 1, 4096)?,
+        ask(alloc, Code::Read, 1, 1, 0)?,
+        ask(alloc, Code::Read, 2, 1, 0)?,
+        ask(alloc, Code::Flush, 0, 0, 0)?,
+    ]?;
+    let replies = replies_of(alloc, image.as_slice(), 0, &asks)?;
+    assert_eq!(rt; replies.len(), 4);
+    assert_eq!(rt; told(&replies, 0), went_well(0, 1, 0, 0));
+    assert_eq!(rt; told(&replies, 1), went_well(1, 1, 4096, 0xAB));
+    assert_eq!(rt; told(&replies, 2), refused(2, BlkStatus::Invalid));
+    assert_eq!(rt; told(&replies, 3), went_well(3, 0, 0, 0));
+    let others = vec![in alloc; ask(alloc, Code::Read, 0, 1, 0)?]?;
+    let replies = replies_of(alloc, image.as_slice(), 1, &others)?;
+    assert_eq!(rt; told(&replies, 0), went_well(0, 1, 4096, 0));
+    Ok(())
+}
+
+#[test]
+fn a_client_without_a_partition_is_told_so(rt: HostRuntime) -> Result<(), Fail> {
+    let alloc = rt.alloc();
+    let image = image(alloc, 25, 63 * 512)?;
+    let asks = vec![in alloc;
+        ask(alloc, Code::Read, 0, 1, 0)?,
+        ask(alloc, Code::Flush, 0, 0, 0)?,
+    ]?;
+    let replies = replies_of(alloc, image.as_slice(), 0, &asks)?;
+    assert_eq!(rt; told(&replies, 0), went_well(0, 1, 4096, 0));
+    let replies = replies_of(alloc, image.as_slice(), 1, &asks)?;
+    assert_eq!(rt; told(&replies, 0), refused(0, BlkStatus::NoDevice));
+    assert_eq!(rt; told(&replies, 1), refused(1, BlkStatus::NoDevice));
+    Ok(())
+}

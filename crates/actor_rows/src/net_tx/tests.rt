@@ -1,0 +1,104 @@
+//! What a client gets back, and what goes to the driver.
+
+ghost use Rattle.std.specs.Prelude.{◌≡◌, IfOk};
+ghost use Rattle.cargo_core.specs.declared.item.QueueKind.TheVariants as Kind;
+ghost use Rattle.cargo_core.specs.Items.{kind_of};
+ghost use Rattle.actor_rows.specs.NetTx.Standings.{IsNewAlone, Stands};
+
+use crate::{get, one_or_two, put_in, queues_of};
+use cargo_core::{Body, Item, Memory, NetDesc, Page, PoolId, QueueKind, Ranges};
+use net_virt_tx::{NetVirtTx, TxEnds};
+use plain_wires::World;
+use std::alloc::Global;
+use wire_core::QueueId;
+
+// Between the queues 0 and 1 of the driver and the queues 2 and 3 of a client with two buffers.
+fn virtualiser(alloc: Global) -> Result<NetVirtTx, Memory>
+    ensures { IfOk result (λ v. IsNewAlone v) }
+{
+    let client = TxEnds {
+        active: QueueId(2),
+        free: QueueId(3),
+        pool: PoolId(7),
+        buffers: 2,
+        base: 8192,
+    };
+    let mut ranges = Ranges::new(alloc);
+    ranges.add(8192, 4096)?;
+    let clients = vec![in alloc; client]?;
+    NetVirtTx::new(alloc, QueueId(0), QueueId(1), clients, ranges)
+}
+
+fn descriptor(addr: u64, len: u16) -> Item
+    ensures { kind_of result ≡ Kind.Net }
+{
+    Item::Net(NetDesc { addr, len })
+}
+
+// The client puts a descriptor; then the virtualiser has time to be at rest; false where there is
+// no room.
+fn send(virt: &mut NetVirtTx, world: &mut World, item: Item, body: Body) -> bool
+    requires stands { Stands world.old virt.old }
+    requires kind { kind_of item ≡ Kind.Net }
+    ensures { Stands world.new virt.new }
+{
+    let given = put_in(world, QueueId(2), item, body);
+    for _call in 0..60 {
+        virt.step(world);
+    }
+    given
+}
+
+// What the client gets back, if anything; then the virtualiser has time to be at rest.
+fn returned(virt: &mut NetVirtTx, world: &mut World) -> Option<Item>
+    requires { Stands world.old virt.old }
+    ensures { Stands world.new virt.new }
+{
+    let got = get(world, QueueId(3));
+    for _call in 0..60 {
+        virt.step(world);
+    }
+    got
+}
+
+// What the driver gets, if anything; then the virtualiser has time to be at rest.
+fn sent(virt: &mut NetVirtTx, world: &mut World) -> Option<Item>
+    requires { Stands world.old virt.old }
+    ensures { Stands world.new virt.new }
+{
+    let got = get(world, QueueId(0));
+    for _call in 0..60 {
+        virt.step(world);
+    }
+    got
+}
+
+// The third bad one waits for room, and the good one behind it.
+#[test]
+fn bad_descriptors_go_back_and_a_good_one_goes_on(rt: HostRuntime) -> Result<(), Memory> {
+    let alloc = rt.alloc();
+    let mut wires = queues_of(alloc, QueueKind::Net, 4, one_or_two(true))?;
+    let mut virt = virtualiser(alloc)?;
+    let first = Page::new(alloc, PoolId(7), 0, 2048)?;
+    let second = Page::new(alloc, PoolId(7), 1, 2048)?;
+    assert!(rt; send(&mut virt, &mut wires, descriptor(1, 14), Body::Empty));
+    assert!(rt; send(&mut virt, &mut wires, descriptor(0, 14), Body::Empty));
+    assert!(rt;
+        send(
+            &mut virt,
+            &mut wires,
+            descriptor(2048, 13),
+            Body::Page(second)
+        )
+    );
+    assert!(rt; send(&mut virt, &mut wires, descriptor(0, 14), Body::Page(first)));
+    assert!(rt; sent(&mut virt, &mut wires).is_none());
+    assert!(rt; returned(&mut virt, &mut wires) == Some(descriptor(1, 14)));
+    assert!(rt; sent(&mut virt, &mut wires) == Some(descriptor(8192, 14)));
+    assert!(rt; returned(&mut virt, &mut wires) == Some(descriptor(0, 14)));
+    assert!(rt; returned(&mut virt, &mut wires) == Some(descriptor(2048, 13)));
+    assert!(rt; returned(&mut virt, &mut wires).is_none());
+    assert!(rt; virt.bad() == 3);
+    assert!(rt; virt.at_rest());
+    Ok(())
+}

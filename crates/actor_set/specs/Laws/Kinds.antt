@@ -1,0 +1,133 @@
+-- The table of the kinds of actor, of all classes: what is said of each of them, how it goes about,
+-- and what a trace gives them beside what they say.
+use Rattle.std.specs.Prelude.{ℕ, Bool, not, ◌&&◌, List, [], ◌∷◌, flat_map, slice_get}
+use Rattle.std.specs.Option.{option_map_or}
+use Rattle.cargo_core.specs.declared.item.QueueKind.{QueueKind}
+use Rattle.cargo_core.specs.declared.item.QueueKind.TheVariants as Kind
+use Rattle.wire_core.specs.Ends.{Role, Consumer, Producer}
+use Rattle.wire_core.specs.Journal.{Hostiles}
+use Rattle.play_core.specs.Manners.{Manner, Calm, Hostile, Manners, hostile_by}
+use Rattle.play_core.specs.Sheets.{Scene, Sheet}
+use Rattle.serial_law.specs.Parts.{SerialPart, SerialDevice, SerialDriver, SerialReceiver}
+use Rattle.serial_law.specs.Parts.{SerialSender, SerialClient}
+use Rattle.serial_law.specs.Table.{serial_sheet}
+use Rattle.net_law.specs.Parts.Parts.{NetPart, NetDevice, NetDriver, NetReceiver, NetCopier}
+use Rattle.net_law.specs.Parts.Parts.{NetClient, Way}
+use Rattle.net_law.specs.Parts.Table.{net_sheet}
+use Rattle.net_law.specs.TxParts.Table.{send_sheet}
+use Rattle.blk_law.specs.Sheets.Parts.{BlkPart, DiskDevice, BlkDriver, BlkVirt, BlkClient}
+use Rattle.blk_law.specs.Sheets.Table.{blk_sheet}
+use Rattle.actor_set.specs.Parts.{Part, UartPart, DriverPart, RxPart, TxPart, ClientPart}
+use Rattle.actor_set.specs.Parts.{NetworkPart, SendingPart, BlockPart}
+use Rattle.actor_set.specs.StartStates.{kind_by, kind_of_two}
+
+-- an actor of the serial class as one of all
+abbrev pub serial_part : SerialPart → Part
+serial_part (SerialDevice rx tx input) = UartPart rx tx input
+serial_part (SerialDriver device_rx device_tx rx tx) = DriverPart device_rx device_tx rx tx
+serial_part (SerialReceiver rx clients) = RxPart rx clients
+serial_part (SerialSender tx clients) = TxPart tx clients
+serial_part (SerialClient rx tx script) = ClientPart rx tx script
+
+-- the frames that a trace gives an actor of the network class: those that its device receives
+abbrev pub net_frames_of : NetPart → List (List ℕ)
+net_frames_of (NetDevice rx_free rx_active tx_active tx_free frames) = frames
+net_frames_of (NetDriver ways) = []
+net_frames_of (NetReceiver active free pool clients) = []
+net_frames_of (NetCopier lease_active lease_free rx_active rx_free) = []
+net_frames_of (NetClient program mac rx_active rx_free tx_active tx_free rx tx) = []
+
+-- the frames that a trace gives a part
+abbrev pub frames_of : Part → List (List ℕ)
+frames_of (UartPart rx tx input) = []
+frames_of (DriverPart device_rx device_tx rx tx) = []
+frames_of (RxPart rx clients) = []
+frames_of (TxPart tx clients) = []
+frames_of (ClientPart rx tx script) = []
+frames_of (NetworkPart p) = net_frames_of p
+frames_of (SendingPart p) = []
+frames_of (BlockPart p) = []
+
+-- the image that a trace gives an actor of the block class: that of its disk at the start
+abbrev pub blk_image_of : BlkPart → List ℕ
+blk_image_of (DiskDevice req resp image) = image
+blk_image_of (BlkDriver ways) = []
+blk_image_of (BlkVirt req resp sectors pool clients) = []
+blk_image_of (BlkClient req resp asks pool) = []
+
+-- the image that a trace gives a part
+abbrev pub image_of : Part → List ℕ
+image_of (UartPart rx tx input) = []
+image_of (DriverPart device_rx device_tx rx tx) = []
+image_of (RxPart rx clients) = []
+image_of (TxPart tx clients) = []
+image_of (ClientPart rx tx script) = []
+image_of (NetworkPart p) = []
+image_of (SendingPart p) = []
+image_of (BlockPart p) = blk_image_of p
+
+-- what a trace gives a cast beside its parts
+abbrev pub scene_of : List Part → Scene
+scene_of cast = record { frames = flat_map frames_of cast; image = flat_map image_of cast }
+
+-- what is said of a part, in a scene
+abbrev pub sheet : Scene → Part → Sheet
+sheet scene (UartPart rx tx input) = serial_sheet (SerialDevice rx tx input)
+sheet scene (DriverPart device_rx device_tx rx tx) =
+    serial_sheet (SerialDriver device_rx device_tx rx tx)
+sheet scene (RxPart rx clients) = serial_sheet (SerialReceiver rx clients)
+sheet scene (TxPart tx clients) = serial_sheet (SerialSender tx clients)
+sheet scene (ClientPart rx tx script) = serial_sheet (SerialClient rx tx script)
+sheet scene (NetworkPart p) = net_sheet scene p
+sheet scene (SendingPart p) = send_sheet p
+sheet scene (BlockPart p) = blk_sheet scene p
+
+-- how a part goes about: all of these are calm
+abbrev pub manner_of : Part → Manner
+manner_of (UartPart rx tx input) = Calm
+manner_of (DriverPart device_rx device_tx rx tx) = Calm
+manner_of (RxPart rx clients) = Calm
+manner_of (TxPart tx clients) = Calm
+manner_of (ClientPart rx tx script) = Calm
+manner_of (NetworkPart p) = Calm
+manner_of (SendingPart p) = Calm
+manner_of (BlockPart p) = Calm
+
+-- how each actor of a cast goes about
+abbrev pub manners : List Part → Manners
+manners cast k = option_map_or manner_of (slice_get cast k) Calm
+
+-- what the queue of a number carries, where it is the input or the output of these ways, of which
+-- the first moves requests and the others responses
+abbrev pub ways_kind : List Way → Role → ℕ → QueueKind
+ways_kind [] r n = Kind.Resp
+ways_kind (w ∷ ways) Consumer n = kind_of_two w.input Kind.Req Kind.Resp n
+ways_kind (w ∷ ways) Producer n = kind_of_two w.output Kind.Req Kind.Resp n
+
+-- what the queue at an end of a part of the block class carries
+abbrev pub blk_kind : BlkPart → Role → ℕ → QueueKind
+blk_kind (DiskDevice req resp image) r n = kind_by Kind.Req Kind.Resp r
+blk_kind (BlkDriver ways) r n = ways_kind ways r n
+blk_kind (BlkVirt req resp sectors pool clients) Consumer n = kind_of_two resp Kind.Resp Kind.Req n
+blk_kind (BlkVirt req resp sectors pool clients) Producer n = kind_of_two req Kind.Req Kind.Resp n
+blk_kind (BlkClient req resp asks pool) r n = kind_by Kind.Resp Kind.Req r
+
+-- what the queue at an end of a part carries
+abbrev pub part_kind : Part → Role → ℕ → QueueKind
+part_kind (UartPart rx tx input) r n = Kind.Byte
+part_kind (DriverPart device_rx device_tx rx tx) r n = Kind.Byte
+part_kind (RxPart rx clients) r n = Kind.Byte
+part_kind (TxPart tx clients) r n = Kind.Byte
+part_kind (ClientPart rx tx script) r n = Kind.Byte
+part_kind (NetworkPart p) r n = Kind.Net
+part_kind (SendingPart p) r n = Kind.Net
+part_kind (BlockPart p) r n = blk_kind p r n
+
+-- which of them are hostile
+abbrev pub hostiles : List Part → Hostiles
+hostiles cast = hostile_by (manners cast)
+
+-- an actor isn't runnable: a calm one rests and isn't called, a hostile one rests
+abbrev pub idles : Manner → Bool → Bool → Bool
+idles Calm rests called = rests && not called
+idles (Hostile done) rests called = rests

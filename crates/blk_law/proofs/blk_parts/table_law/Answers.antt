@@ -1,8 +1,0 @@
-use Rattle.blk_law.proofs.BlkParts.Following.{blk_own, blk_follows}
-use Rattle.blk_law.proofs.blk_parts.table_law.Goals as goal
-
-pub returns-clause-own : goal.returns-clause-own
-returns-clause-own c = blk_own
-
-pub returns-clause-follow : goal.returns-clause-follow
-returns-clause-follow c = blk_follows

@@ -1,2 +1,0 @@
--- What the law of the block class says.
-pub mod Served

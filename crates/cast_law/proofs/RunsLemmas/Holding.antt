@@ -1,0 +1,220 @@
+-- All that holds of a wired cast goes on to hold, turn by turn.
+use Rattle.std.proofs.Common.{◌≡◌, ◌≢◌, ◌∙◌, ℕ, zero, suc, List, [], ◌∷◌, ◌++◌, map, refl, sym, ap, subst, append-nil, Option, Some, slice_get, slice_set, Bool, if◌then◌else◌, ⊎_elim}
+use Rattle.std.specs.Option.{option_map_or}
+use mathlib.Core.Logic.{dite}
+use native.Mathlib.Decide.{ℕ_discrete}
+use Rattle.std.proofs.Math.Dec.{eqb}
+use Rattle.std.proofs.lemmas.Bool.Decides.{eqb_tells}
+use Rattle.cargo_core.specs.Lists.{IsPrefix}
+use Rattle.wire_core.specs.declared.names.QueueRow.{QueueRow}
+use Rattle.wire_core.specs.Deeds.{Cargo}
+use Rattle.wire_core.specs.Ends.{Role, Consumer, Producer, End, role_of}
+use Rattle.wire_core.specs.Journal.{owner_of}
+use Rattle.wire_core.specs.Lists.{Passed, nothing_passed, with_deed}
+use Rattle.wire_core.specs.Queues.{items_of}
+use Rattle.play_core.specs.Moved.{Moved}
+use Rattle.play_core.specs.Sheets.{AreSeated, RowsHold}
+use Rattle.play_core.proofs.Lists.{map_get}
+use Rattle.play_core.specs.Rests.Showing.{HaveItems}
+use Rattle.owner_law.specs.Pages.{CarryPages}
+use Rattle.actor_set.specs.Parts.{Part}
+use Rattle.actor_set.specs.Actors.{FitsActor, ActorStandsFor, ActorEnd, part_of}
+use Rattle.actor_set.specs.declared.actor.Actor.{Actor}
+use Rattle.actor_set.specs.Laws.Kinds.{sheet, scene_of, hostiles}
+use Rattle.actor_set.specs.Laws.Turning.{InTurn}
+use Rattle.actor_set.proofs.LawsLemmas.Beside.{fits_beside, stands_beside}
+use Rattle.actor_set.proofs.LawsLemmas.PartEnds.{to_part, end_seat, same_part}
+use Rattle.actor_set.proofs.LawsLemmas.Starts.{fits_whole}
+use Rattle.wired_law.specs.Wiring.{IsWired, AreAtWork, AreOfKind, ClientsSend}
+use Rattle.wired_law.proofs.Wiring.{in_turn, sends_on, nothing_sent}
+use Rattle.cast_law.specs.Pools.Places.{PoolPlace, IsPlaced, cast_naming}
+use Rattle.cast_law.proofs.PoolsLemmas.Playing.{carry_call, rows_at}
+use Rattle.order_law.specs.Orders.{Turn, IsTurn, InOrder}
+use Rattle.order_law.proofs.Lists.{same_some, set_there, set_beside, get_front}
+use Rattle.order_law.proofs.Moving.{moved_by, moved_else}
+use Rattle.order_law.proofs.Ordering.{grows}
+use Rattle.cast_law.specs.Runs.Running.{AreReady, HaveHeld}
+
+-- the items of what passed
+abbrev moved_of : Passed → Moved
+moved_of passed = record { sent = λ n. items_of (passed.sent n); taken = λ n. items_of (passed.taken n) }
+
+have_items : (passed : Passed) → HaveItems passed (moved_of passed)
+have_items passed = record { taken = λ n. refl; sent = λ n. refl }
+
+-- where one actor's part stays, all parts stay
+map_same : (xs : List Actor) (k : ℕ) (x y : Actor) → slice_get xs k ≡ Some x → part_of y ≡ part_of x → map part_of (slice_set xs k y) ≡ map part_of xs
+map_same [] k x y at same = refl
+map_same (a ∷ xs) zero x y at same = ap (λ b. b ∷ map part_of xs) (same ∙ ap part_of (sym (same_some a x at)))
+map_same (a ∷ xs) (suc k) x y at same = ap (λ bs. part_of a ∷ bs) (map_same xs k x y at same)
+
+-- of what was put so far, all is of its queue's kind, where all that is put at the end is
+kinds_before : (rows : List QueueRow) (passed last : Passed) → ((n : ℕ) → IsPrefix (passed.sent n) (last.sent n)) → AreOfKind rows last → AreOfKind rows passed
+kinds_before rows passed last begins kinds n row is k c at = kinds n row is k c (ap (λ (z : List Cargo). slice_get z k) (sym (begins n).1) ∙ get_front (passed.sent n) (begins n).0 k c at)
+
+-- what holds of a cast at a moment
+record Stands (rows : List QueueRow) (cast : List Part) (actors : List Actor) (passed : Passed) : Type 0 where
+  pub parts : map part_of actors ≡ cast
+  pub each : ℕ → Role → ℕ → End
+  pub fits : (k : ℕ) (x : Actor) → slice_get actors k ≡ Some x → FitsActor (each k) x
+  pub stands : (k : ℕ) (x : Actor) → slice_get actors k ≡ Some x → ActorStandsFor x passed
+  pub over : (n : ℕ) → IsPrefix (passed.taken n) (passed.sent n)
+  pub sends : ClientsSend cast passed
+  pub carry : (place : PoolPlace) → IsPlaced rows place cast → CarryPages (cast_naming (scene_of cast) place) (moved_of passed) passed
+
+module _ (rows : List QueueRow) (cast : List Part) (wired : IsWired rows cast) (seated : AreSeated (sheet (scene_of cast)) rows cast) (split : (n : ℕ) (row : QueueRow) → slice_get rows n ≡ Some row → row.producer.0 ≡ row.consumer.0 → ⊥) where
+  module _ (actors : List Actor) (passed : Passed) (st : Stands rows cast actors passed) where
+    -- an end of an actor is its own by the rows
+    own_row : (k : ℕ) (x : Actor) → slice_get actors k ≡ Some x → (r : Role) (n : ℕ) → ActorEnd x r n → (row : QueueRow) × (slice_get rows n ≡ Some row) × (owner_of row r ≡ k)
+    own_row k x at r n own = let s = end_seat (scene_of cast) (part_of x) r n (to_part x r n (fits_whole (st.each k) x (st.fits k x at)) own) in
+        seated k (part_of x) (ap (λ (c : List Part). slice_get c k) (sym st.parts) ∙ map_get part_of actors k x at) s.0 (record { queue = n; role = r }) s.1
+
+    -- two actors have no end together
+    apart : (j k : ℕ) (y x : Actor) → slice_get actors j ≡ Some y → slice_get actors k ≡ Some x → j ≢ k → (r : Role) (n : ℕ) → ActorEnd y r n → ActorEnd x r n → ⊥
+    apart j k y x at_y at_x ne r n own other = let a = own_row j y at_y r n own in let b = own_row k x at_x r n other in
+        ne (sym a.2 ∙ (ap (λ (w : QueueRow). owner_of w r) (same_some a.0 b.0 (sym a.1 ∙ b.1)) ∙ b.2))
+
+    -- the ends of all: of each queue those of its owner
+    abbrev ends : Role → ℕ → End
+    ends r n = st.each (option_map_or (λ (row : QueueRow). owner_of row r) (slice_get rows n) 0) r n
+
+    work : AreOfKind rows passed → AreAtWork ends rows actors passed
+    work kinds = record {
+      fits = λ k x at. fits_beside (st.each k) ends x (λ r n own. (
+          let row = own_row k x at r n own in
+          ap (λ (j : ℕ). st.each j r n) (ap (λ (o : Option QueueRow). option_map_or (λ (w : QueueRow). owner_of w r) o 0) row.1 ∙ row.2)
+          )) (st.fits k x at);
+      stands = st.stands;
+      hands_over = st.over;
+      kinds = kinds;
+    }
+
+    turns_of : AreOfKind rows passed → (k : ℕ) (x : Actor) → slice_get actors k ≡ Some x → InTurn (scene_of (map part_of actors)) x passed
+    turns_of kinds k x at = in_turn ends rows actors passed (subst (IsWired rows) (sym st.parts) wired) (work kinds) (subst (λ (c : List Part). ClientsSend c passed) (sym st.parts) st.sends) k x at
+
+    rows_of : AreOfKind rows passed → RowsHold (sheet (scene_of cast)) (hostiles cast) cast (moved_of passed)
+    rows_of kinds = subst (λ (c : List Part). RowsHold (sheet (scene_of c)) (hostiles c) c (moved_of passed)) st.parts (rows_at rows actors passed (moved_of passed) (have_items passed) (turns_of kinds) st.stands)
+
+  module _ (actors : List Actor) (passed : Passed) (st : Stands rows cast actors passed) (t : Turn) (turn : IsTurn actors passed t) (kinds : AreOfKind rows passed) (kinds' : AreOfKind rows (with_deed passed t.deed)) where
+    abbrev k : ℕ
+    k = t.number
+
+    abbrev x : Actor
+    x = turn.old
+
+    abbrev actors' : List Actor
+    actors' = slice_set actors k t.actor
+
+    abbrev passed' : Passed
+    passed' = with_deed passed t.deed
+
+    here : (j : ℕ) (y : Actor) → j ≡ k → slice_get actors' j ≡ Some y → y ≡ t.actor
+    here j y same at = same_some y t.actor (sym at ∙ (ap (λ (m : ℕ). slice_get actors' m) same ∙ set_there actors k x t.actor turn.there))
+
+    was : (j : ℕ) (y : Actor) → j ≢ k → slice_get actors' j ≡ Some y → slice_get actors j ≡ Some y
+    was j y ne at = sym (set_beside actors k j t.actor ne) ∙ at
+
+    parts' : map part_of actors' ≡ map part_of actors
+    parts' = map_same actors k x t.actor turn.there turn.part
+
+    abbrev each' : ℕ → Role → ℕ → End
+    each' j = if eqb j k then turn.ends else st.each j
+
+    fits' : (j : ℕ) (y : Actor) → slice_get actors' j ≡ Some y → FitsActor (each' j) y
+    fits' j y at = ⊎_elim
+        (λ same. subst (λ (b : Bool). FitsActor (if b then turn.ends else st.each j) y) (sym same.0) (subst (FitsActor turn.ends) (sym (here j y same.1 at)) turn.fits))
+        (λ away. subst (λ (b : Bool). FitsActor (if b then turn.ends else st.each j) y) (sym away.0) (st.fits j y (was j y away.1 at)))
+        (eqb_tells j k)
+
+    beside : (j : ℕ) (y : Actor) → j ≢ k → slice_get actors j ≡ Some y → (r : Role) (n : ℕ) → ActorEnd y r n → moved_by t.deed r n ≡ []
+    beside j y ne at r n own = moved_else t.deed r n (λ same there. apart actors passed st j k y x at turn.there ne r n own (subst (λ (z : Role × ℕ). ActorEnd x z.0 z.1) (λ i. (sym same i, sym there i)) turn.own))
+
+    stands' : (j : ℕ) (y : Actor) → slice_get actors' j ≡ Some y → ActorStandsFor y passed'
+    stands' j y at = dite (ℕ_discrete j k)
+        (λ same. subst (λ (a : Actor). ActorStandsFor a passed') (sym (here j y same at)) (turn.kept passed (st.stands k x turn.there)))
+        (λ ne. let at' = was j y ne at in stands_beside passed passed' y (fits_whole (st.each j) y (st.fits j y at'))
+        (λ n own. ap (λ (c : List Cargo). passed.taken n ++ c) (beside j y ne at' Consumer n own) ∙ append-nil (passed.taken n))
+        (λ n own. ap (λ (c : List Cargo). passed.sent n ++ c) (beside j y ne at' Producer n own) ∙ append-nil (passed.sent n))
+        (st.stands j y at'))
+
+    abbrev ends' : Role → ℕ → End
+    ends' r n = each' (option_map_or (λ (row : QueueRow). owner_of row r) (slice_get rows n) 0) r n
+
+    own_row' : (j : ℕ) (y : Actor) → slice_get actors' j ≡ Some y → (r : Role) (n : ℕ) → ActorEnd y r n → (row : QueueRow) × (slice_get rows n ≡ Some row) × (owner_of row r ≡ j)
+    own_row' j y at r n own = let s = end_seat (scene_of cast) (part_of y) r n (to_part y r n (fits_whole (each' j) y (fits' j y at)) own) in
+        seated j (part_of y) (ap (λ (c : List Part). slice_get c j) (sym (parts' ∙ st.parts)) ∙ map_get part_of actors' j y at) s.0 (record { queue = n; role = r }) s.1
+
+    work' : AreAtWork ends' rows actors' passed'
+    work' = record {
+      fits = λ j y at. fits_beside (each' j) ends' y (λ r n own. (
+          let row = own_row' j y at r n own in
+          ap (λ (m : ℕ). each' m r n) (ap (λ (o : Option QueueRow). option_map_or (λ (w : QueueRow). owner_of w r) o 0) row.1 ∙ row.2)
+          )) (fits' j y at);
+      stands = stands';
+      hands_over = turn.hands_over;
+      kinds = kinds';
+    }
+
+    sends' : ClientsSend cast passed'
+    sends' = subst (λ (c : List Part). ClientsSend c passed') (parts' ∙ st.parts) (sends_on (ends actors passed st) ends' rows actors actors' passed t.deed (subst (IsWired rows) (sym st.parts) wired) parts' (work actors passed st kinds) (subst (λ (c : List Part). ClientsSend c passed) (sym st.parts) st.sends) work')
+
+    turns' : (j : ℕ) (y : Actor) → slice_get actors' j ≡ Some y → InTurn (scene_of cast) y passed'
+    turns' j y at = subst (λ (c : List Part). InTurn (scene_of c) y passed') (parts' ∙ st.parts) (in_turn ends' rows actors' passed' (subst (IsWired rows) (sym (parts' ∙ st.parts)) wired) work' (subst (λ (c : List Part). ClientsSend c passed') (sym (parts' ∙ st.parts)) sends') j y at)
+
+    rows' : RowsHold (sheet (scene_of cast)) (hostiles cast) cast (moved_of passed')
+    rows' = subst (λ (c : List Part). RowsHold (sheet (scene_of c)) (hostiles c) c (moved_of passed')) (parts' ∙ st.parts) (rows_at rows actors' passed' (moved_of passed') (have_items passed') (λ j y at. subst (λ (c : List Part). InTurn (scene_of c) y passed') (sym (parts' ∙ st.parts)) (turns' j y at)) stands')
+
+    carry' : (place : PoolPlace) → IsPlaced rows place cast → CarryPages (cast_naming (scene_of cast) place) (moved_of passed') passed'
+    carry' place placed = carry_call rows place cast (moved_of passed) (moved_of passed') passed t.deed k t.actor (record {
+      placed = placed;
+      seated = seated;
+      split = split;
+      carried = st.carry place placed;
+      rows_before = rows_of actors passed st kinds;
+      rows_after = rows';
+      began = st.over;
+      items = have_items passed';
+      begins = turn.hands_over;
+      kinds = kinds';
+      here = ap (λ (c : List Part). slice_get c k) (sym (parts' ∙ st.parts)) ∙ map_get part_of actors' k t.actor (set_there actors k x t.actor turn.there);
+      in_turn = turns' k t.actor (set_there actors k x t.actor turn.there);
+      stands = stands' k t.actor (set_there actors k x t.actor turn.there);
+      fits = fits_whole turn.ends t.actor turn.fits;
+      own = same_part t.actor x (role_of t.deed.event.op) t.deed.event.queue.0 (sym turn.part) (fits_whole (st.each k) x (st.fits k x turn.there)) turn.own;
+    })
+
+    -- all goes on to hold after the turn
+    next : Stands rows cast actors' passed'
+    next = record { parts = parts' ∙ st.parts; each = each'; fits = fits'; stands = stands'; over = turn.hands_over; sends = sends'; carry = carry' }
+
+  -- turn by turn
+  held : (turns : List Turn) (actors news : List Actor) (passed last : Passed) → Stands rows cast actors passed → InOrder actors passed turns news last → AreOfKind rows last → Stands rows cast news last
+  held [] actors news passed last st order kinds = subst (λ (z : List Actor × Passed). Stands rows cast z.0 z.1) (λ i. (sym order.0 i, sym order.1 i)) st
+  held (t ∷ ts) actors news passed last st order kinds =
+      let before : AreOfKind rows passed = kinds_before rows passed last (grows actors news passed last (t ∷ ts) order) kinds in
+      let after : AreOfKind rows (with_deed passed t.deed) = kinds_before rows (with_deed passed t.deed) last (grows (slice_set actors t.number t.actor) news (with_deed passed t.deed) last ts order.1) kinds in
+      held ts (slice_set actors t.number t.actor) news (with_deed passed t.deed) last (next actors passed st t order.0 before after) order.1 kinds
+
+pub have_held : (rows : List QueueRow) (olds news : List Actor) (turns : List Turn) (passed : Passed) → AreReady rows olds → InOrder olds nothing_passed turns news passed → AreOfKind rows passed → HaveHeld rows olds news passed
+have_held rows olds news turns passed ready order kinds =
+    let cast : List Part = map part_of olds in
+    let begin : Stands rows cast olds nothing_passed = record {
+      parts = refl;
+      each = ready.ends;
+      fits = ready.fits;
+      stands = ready.stands;
+      over = λ n. ([], refl);
+      sends = nothing_sent cast;
+      carry = λ place placed. record { sent = λ n. refl; taken = λ n. refl; bodies = λ n k c at. cc };
+    } in
+    let st = held rows cast ready.wired ready.seated ready.split turns olds news nothing_passed passed begin order kinds in record {
+      parts = st.parts;
+      stands = st.stands;
+      in_turn = turns_of rows cast ready.wired ready.seated ready.split news passed st kinds;
+      sends = subst (λ (c : List Part). ClientsSend c passed) (sym st.parts) st.sends;
+      carry = λ place placed m items. (
+          let has = st.carry place (subst (IsPlaced rows place) st.parts placed) in
+          let same : moved_of passed ≡ m = (λ i. record { sent = λ n. items.sent n i; taken = λ n. items.taken n i }) in
+          subst (λ (z : List Part × Moved). CarryPages (cast_naming (scene_of z.0) place) z.1 passed) (λ i. (sym st.parts i, same i)) has
+          );
+    }

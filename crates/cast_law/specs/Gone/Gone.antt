@@ -1,0 +1,50 @@
+-- Actors that have gone apart, and what passed at rings that came to their end.
+use Rattle.std.specs.Prelude.{◌≡◌, ℕ, Some, List, [], length, map, slice_get}
+use Rattle.std.specs.Option.{option_map_or}
+use Rattle.wire_core.specs.declared.names.QueueRow.{QueueRow}
+use Rattle.wire_core.specs.Deeds.{Cargo}
+use Rattle.wire_core.specs.Lists.{Passed}
+use Rattle.spsc_queue.specs.Known.Ends.{RingIs, EndedIs}
+use Rattle.play_core.specs.Sheets.{AreSeated}
+use Rattle.play_core.specs.Still.{IsPeopled}
+use Rattle.actor_set.specs.Actors.{part_of}
+use Rattle.actor_set.specs.declared.actor.Actor.{Actor}
+use Rattle.actor_set.specs.Laws.Kinds.{sheet, scene_of}
+use Rattle.wired_law.specs.Wiring.{IsWired}
+use Rattle.order_law.specs.ActorParts.Parting.{Apart, AreApart}
+use Rattle.order_law.specs.ActorParts.Opened.{HaveNothing}
+use Rattle.order_law.specs.ActorParts.Going.{HasGone}
+
+-- what was put to a queue and not taken, by what is kept of its ended ring
+abbrev pub left_at : List EndedIs → ℕ → List Cargo
+left_at ended n = option_map_or (λ (e : EndedIs). e.left) (slice_get ended n) []
+
+-- what passed at all queues, by what is kept of their ended rings: over rings nothing is dropped
+abbrev pub passed_of : List EndedIs → Passed
+passed_of ended = record {
+  taken = λ n. option_map_or (λ (e : EndedIs). e.consumer.entries) (slice_get ended n) [];
+  sent = λ n. option_map_or (λ (e : EndedIs). e.producer.entries) (slice_get ended n) [];
+  dropped = λ n. [];
+}
+
+-- the actors without their ends
+abbrev pub actors_apart : List Apart → List Actor
+actors_apart parts = map (λ (p : Apart). p.actor) parts
+
+-- the actors of a wired cast stood apart over rings, each with just the ends that the rows give it,
+-- and nothing passed there; each is now what it became by the calls that it made at its ends
+pub record HaveGone (rows : List QueueRow) (rings : List RingIs) (olds news : List Apart)
+    : Type 0 where
+  pub wired : IsWired rows (map part_of (actors_apart olds))
+  pub seated : AreSeated (sheet (scene_of (map part_of (actors_apart olds)))) rows
+      (map part_of (actors_apart olds))
+  -- no actor has both ends of a queue
+  pub split : (n : ℕ) (row : QueueRow) → slice_get rows n ≡ Some row
+      → row.producer.0 ≡ row.consumer.0 → ⊥
+  pub peopled : IsPeopled rows (length olds)
+  pub stood : AreApart rows rings olds
+  pub nothing : HaveNothing olds
+  pub many : length news ≡ length olds
+  pub stand : AreApart rows rings news
+  pub gone : (k : ℕ) (p q : Apart) → slice_get olds k ≡ Some p → slice_get news k ≡ Some q
+      → HasGone rings p q

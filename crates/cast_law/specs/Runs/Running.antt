@@ -1,0 +1,41 @@
+-- Actors before they were at work over rings, and after.
+use Rattle.std.specs.Prelude.{◌≡◌, ℕ, Some, List, map, slice_get}
+use Rattle.wire_core.specs.declared.names.QueueRow.{QueueRow}
+use Rattle.wire_core.specs.Ends.{Role, End}
+use Rattle.wire_core.specs.Lists.{Passed, nothing_passed}
+use Rattle.play_core.specs.Moved.{Moved}
+use Rattle.play_core.specs.Sheets.{AreSeated}
+use Rattle.play_core.specs.Rests.Showing.{HaveItems}
+use Rattle.owner_law.specs.Pages.{CarryPages}
+use Rattle.actor_set.specs.Actors.{FitsActor, ActorStandsFor, part_of}
+use Rattle.actor_set.specs.declared.actor.Actor.{Actor}
+use Rattle.actor_set.specs.Laws.Kinds.{sheet, scene_of}
+use Rattle.actor_set.specs.Laws.Turning.{InTurn}
+use Rattle.wired_law.specs.Wiring.{IsWired, ClientsSend}
+use Rattle.cast_law.specs.Pools.Places.{PoolPlace, IsPlaced, cast_naming}
+
+-- the actors of a wired cast, each with just the ends that the rows give it, fit their ends, and
+-- nothing passed there
+pub record AreReady (rows : List QueueRow) (actors : List Actor) : Type 0 where
+  pub wired : IsWired rows (map part_of actors)
+  pub seated : AreSeated (sheet (scene_of (map part_of actors))) rows (map part_of actors)
+  -- no actor has both ends of a queue
+  pub split : (n : ℕ) (row : QueueRow) → slice_get rows n ≡ Some row
+      → row.producer.0 ≡ row.consumer.0 → ⊥
+  -- the ends of each actor, by its number
+  pub ends : ℕ → Role → ℕ → End
+  pub fits : (k : ℕ) (x : Actor) → slice_get actors k ≡ Some x → FitsActor (ends k) x
+  pub stands : (k : ℕ) (x : Actor) → slice_get actors k ≡ Some x
+      → ActorStandsFor x nothing_passed
+
+-- actors of the same parts stand for what passed, of which nothing came out of turn at any; their
+-- clients put good descriptors and requests alone; and entries carry the pages that items name
+pub record HaveHeld (rows : List QueueRow) (olds news : List Actor) (passed : Passed) : Type 0 where
+  pub parts : map part_of news ≡ map part_of olds
+  pub stands : (k : ℕ) (x : Actor) → slice_get news k ≡ Some x → ActorStandsFor x passed
+  pub in_turn : (k : ℕ) (x : Actor) → slice_get news k ≡ Some x
+      → InTurn (scene_of (map part_of news)) x passed
+  pub sends : ClientsSend (map part_of news) passed
+  pub carry : (place : PoolPlace) → IsPlaced rows place (map part_of news) → (m : Moved)
+      → HaveItems passed m
+      → CarryPages (cast_naming (scene_of (map part_of news)) place) m passed

@@ -1,5 +1,0 @@
-use Rattle.net_law.proofs.NetTxRests.Resting.{sender_rest}
-use Rattle.net_law.proofs.net_tx_rests.sender_rests_law.Goals as goal
-
-pub returns : goal.returns
-returns c = sender_rest

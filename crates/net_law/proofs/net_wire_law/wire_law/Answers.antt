@@ -1,8 +1,0 @@
-use Rattle.net_law.proofs.NetWireLaw.Wires.{wire_good, wire_sends}
-use Rattle.net_law.proofs.net_wire_law.wire_law.Goals as goal
-
-pub returns-clause-good : goal.returns-clause-good
-returns-clause-good c = wire_good
-
-pub returns-clause-sends : goal.returns-clause-sends
-returns-clause-sends c d p v passed sends h all = wire_sends d p v passed h sends all

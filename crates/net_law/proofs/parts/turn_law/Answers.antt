@@ -1,0 +1,17 @@
+use Rattle.net_law.proofs.PartsLemmas.Turning.{all_in_turn, frames_of_places, copiers_take, copiers_read, records_begin}
+use Rattle.net_law.proofs.parts.turn_law.Goals as goal
+
+pub returns-clause-turn : goal.returns-clause-turn
+returns-clause-turn c = all_in_turn
+
+pub returns-clause-frames : goal.returns-clause-frames
+returns-clause-frames c = frames_of_places
+
+pub returns-clause-leases : goal.returns-clause-leases
+returns-clause-leases c = copiers_take
+
+pub returns-clause-bytes : goal.returns-clause-bytes
+returns-clause-bytes c = copiers_read
+
+pub returns-clause-records : goal.returns-clause-records
+returns-clause-records c = records_begin

@@ -1,0 +1,165 @@
+-- What each actor of the network's receive half may have put for what it took, of items alone.
+use Rattle.std.specs.Prelude.{◌≡◌, ◌==◌, ◌+◌, ◌-◌, ◌*◌, ◌<◌, ◌≤◌, ℕ, Bool, true, false, nat_lt}
+use Rattle.std.specs.Prelude.{if◌then◌else◌, Some, List, [], ◌∷◌, ◌++◌, length, map, take}
+use Rattle.std.specs.Prelude.{slice_get, slice_index_or}
+use Rattle.cargo_core.specs.Items.{kind_of}
+use Rattle.cargo_core.specs.Lists.{IsPrefix}
+use Rattle.cargo_core.specs.declared.item.Item.{Item}
+use Rattle.cargo_core.specs.declared.item.Item.TheVariants as ItemOf
+use Rattle.cargo_core.specs.declared.item.QueueKind.TheVariants as Kind
+use Rattle.frame_core.specs.declared.mac.Mac.{Mac}
+use Rattle.wire_core.specs.Bells.{bit}
+use Rattle.play_core.specs.Moved.{Moved}
+use Rattle.owner_law.specs.Things.{Buffer, Window, names_in, times}
+use Rattle.owner_law.specs.Keeping.{at_start}
+use Rattle.net_expect.specs.Expecting.{Program, Sink, Source, Echo, is_for_client, answers_for}
+use Rattle.buffer_kit.specs.Entries.{addr_of, len_of, with_len}
+use Rattle.net_law.specs.Owners.Names.{PoolAt, by_address, by_offset}
+use Rattle.net_law.specs.Owners.Ends.{numbers_from}
+use Rattle.net_law.specs.Owners.Lending.{Borrower, Lender, leases_due, leases_back, names_where}
+use Rattle.net_law.specs.Parts.Parts.{Way, Lessee}
+
+-- items with these lengths, one by one, as far as both go
+abbrev pub sized_items : List ℕ → List Item → List Item
+sized_items [] items = []
+sized_items (n ∷ ns) [] = []
+sized_items (n ∷ ns) (item ∷ items) = with_len n item ∷ sized_items ns items
+
+-- what a device may have put: the buffers that it took, in their order and each with the length of
+-- the frame of its place, of which it took no more than there are frames; and what was sent, as it
+-- came
+pub record FillsFrames (frames : List (List ℕ)) (buffers gave came back : List Item) : Type 0 where
+  pub filled : IsPrefix gave (sized_items (map (λ frame. length frame) frames) buffers)
+  pub takes : length buffers ≤ length frames
+  pub returns : IsPrefix back came
+
+-- each way's output copies its input
+abbrev pub AllCopy : List Way → Moved → Type 0
+AllCopy ways m = (k : ℕ) (w : Way) → slice_get ways k ≡ Some w
+    → IsPrefix (m.sent w.output) (m.taken w.input)
+
+-- what a copier may have put: the buffers that it took, in their order and each with the length of
+-- the lease of its place, of which it took no more than leases; and the leases as they came, no
+-- more of them than buffers
+pub record CopiesLeases (leases buffers gave back : List Item) : Type 0 where
+  pub copies : IsPrefix gave (sized_items (map len_of leases) buffers)
+  pub takes_for : length buffers ≤ length leases
+  pub gives_back : IsPrefix back leases
+  pub after_copy : length back ≤ length gave
+
+-- the item by which the buffer of a number is given
+abbrev pub given_item : Window → ℕ → Item
+given_item w k = ItemOf.Net (record { addr = w.base + k * w.size; len = 0 })
+
+-- those of all buffers, in rising number
+abbrev pub given_items : Window → List Item
+given_items w = map (given_item w) (numbers_from 0 w.buffers)
+
+-- the frames that the client of an address sends by its program where so many came, of those that
+-- the device receives
+abbrev pub sent_where : Program → Mac → List (List ℕ) → (came : ℕ) → List (List ℕ)
+sent_where Sink mac frames came = []
+sent_where (Source script) mac frames came = script
+sent_where Echo mac frames came = take came (answers_for mac frames)
+
+-- it answers each frame before it takes the next
+abbrev pub is_answering : Program → Bool
+is_answering Sink = false
+is_answering (Source script) = false
+is_answering Echo = true
+
+-- the items by which it sends these frames: its own buffers in rising number and then those that
+-- came back, each with the length of the frame of its place
+abbrev pub sent_items : List (List ℕ) → Window → List Item → List Item
+sent_items frames own back =
+    sized_items (map (λ frame. length frame) frames) (given_items own ++ back)
+
+-- what a client may have put to be sent: the first of those items; and it takes a buffer only where
+-- it has a frame to send and no buffer in its hand
+pub record SendsItems (frames : List (List ℕ)) (own : Window) (back put : List Item) : Type 0 where
+  pub filled : IsPrefix put (sent_items frames own back)
+  pub needed : 0 < length back → own.buffers + length back ≤ length frames
+  pub none_in_hand : 0 < length back → own.buffers + length back ≤ length put + 1
+
+-- what a client may have put: its own buffers in rising number and then those that it took, as they
+-- came; and the frames of its program, where an echo takes a frame only after its answer to the one
+-- before
+pub record ServesClient (program : Program) (mac : Mac) (frames : List (List ℕ)) (rx tx : Window)
+    (came gave back put : List Item) : Type 0 where
+  pub given : IsPrefix gave (given_items rx ++ came)
+  pub sends : SendsItems (sent_where program mac frames (length came)) tx back put
+  pub answered : is_answering program ≡ true → length came ≤ length put + 1
+
+-- an item of the network names a buffer of a window, by the address at which it begins
+pub record IsIn (w : Window) (item : Item) : Type 0 where
+  pub number : ℕ
+  pub few : number < w.buffers
+  pub net : kind_of item ≡ Kind.Net
+  pub begins : addr_of item ≡ w.base + number * w.size
+
+-- each of these does
+abbrev pub AreIn : Window → List Item → Type 0
+AreIn w items = (k : ℕ) (item : Item) → slice_get items k ≡ Some item → IsIn w item
+
+-- the frame of a place
+abbrev pub frame_at : List (List ℕ) → ℕ → List ℕ
+frame_at frames k = slice_index_or frames k []
+
+-- the lease of a frame that came in a buffer: the offset of the buffer, and the frame's length
+abbrev pub lease_item : (base : ℕ) → List ℕ → Item → Item
+lease_item base frame item = ItemOf.Net (record { addr = addr_of item - base; len = length frame })
+
+-- of the frames that came in these buffers at places from one on, the leases of those that are for
+-- the client of an address
+abbrev pub leases_from : List (List ℕ) → (base : ℕ) → Mac → (place : ℕ) → List Item → List Item
+leases_from frames base mac place [] = []
+leases_from frames base mac place (item ∷ items) =
+    if is_for_client mac (frame_at frames place) then lease_item base (frame_at frames place) item
+    ∷ leases_from frames base mac (place + 1) items else
+    leases_from frames base mac (place + 1) items
+
+-- of a pool, by its number, the buffers of this one
+abbrev pub pool_hand : PoolAt → ℕ → List ℕ
+pool_hand p pool = if p.number == pool then numbers_from 0 p.buffers else []
+
+-- a client as one to whom buffers are lent
+abbrev pub borrower_of : List (List ℕ) → Lessee → Borrower
+borrower_of frames c = record {
+  active = c.active;
+  free = c.free;
+  is_for = λ k. is_for_client c.mac (frame_at frames k);
+}
+
+-- the receiving virtualiser as the actor that lends
+abbrev pub lender_of : List (List ℕ) → (active free : ℕ) → PoolAt → List Lessee → Lender
+lender_of frames active free pool clients = record {
+  frames = active;
+  free = free;
+  clients = map (borrower_of frames) clients;
+  hand = pool_hand pool;
+}
+
+-- more leases of a buffer were due than came back
+abbrev pub is_lent : PoolAt → Lender → Moved → Buffer → Bool
+is_lent pool l m b = nat_lt (leases_back (by_offset pool ∷ []) l m b)
+    (leases_due (by_address pool ∷ []) l m b)
+
+-- what the receiving virtualiser may have put: to each client the leases of those frames that are
+-- for it, in their order; and buffers of its own, the first in rising number, each of which was in
+-- its hand, where a buffer isn't while it is lent. Each frame came in one of its buffers, and of a
+-- buffer at most one lease is out to a client
+pub record SharesFrames (frames : List (List ℕ)) (active free : ℕ) (pool : PoolAt)
+    (clients : List Lessee) (m : Moved) : Type 0 where
+  pub within : AreIn (by_address pool) (m.taken active)
+  pub lends : (k : ℕ) (c : Lessee) → slice_get clients k ≡ Some c
+      → IsPrefix (m.sent c.active) (leases_from frames pool.base c.mac 0 (m.taken active))
+  pub gives : AreIn (by_address pool) (m.sent free)
+  pub rising : (k : ℕ) (item : Item) → k < pool.buffers → slice_get (m.sent free) k ≡ Some item
+      → addr_of item ≡ pool.base + k * 2048
+  pub in_hand : (b : Buffer) → times b (names_in (by_address pool ∷ []) (m.sent free))
+      + bit (is_lent pool (lender_of frames active free pool clients) m b)
+      ≤ at_start (pool_hand pool) b + times b (names_in (by_address pool ∷ []) (m.taken active))
+  pub single : (k : ℕ) (c : Lessee) → slice_get clients k ≡ Some c → (b : Buffer)
+      → times b (names_where (λ n. is_for_client c.mac (frame_at frames n)) 0
+      (names_in (by_address pool ∷ []) (m.taken active)))
+      ≤ times b (names_in (by_offset pool ∷ []) (m.taken c.free)) + 1

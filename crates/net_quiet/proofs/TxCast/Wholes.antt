@@ -1,0 +1,252 @@
+-- The actors of a whole cast are a sending half, so nothing comes out of turn at the sending
+-- virtualiser.
+use Rattle.std.proofs.Common.{◌≡◌, ◌==◌, ◌+◌, ◌*◌, ◌++◌, ◌≤◌, ℕ, zero, suc, Bool, true, false, Some, List, [], ◌∷◌, All, length, map, slice_get, refl, sym, ap, ◌∙◌, subst, arith}
+use Rattle.std.specs.List.{filter}
+use Rattle.std.proofs.lemmas.List.{append-nil}
+use Rattle.std.proofs.lemmas.List.Elements.{All-cons}
+use Rattle.cargo_core.specs.Lists.{IsPrefix, PrefixMerge}
+use Rattle.frame_core.specs.declared.mac.Mac.{Mac}
+use Rattle.wire_core.specs.declared.names.QueueId.{QueueId}
+use Rattle.wire_core.specs.Deeds.{Cargo}
+use Rattle.wire_core.specs.Lists.{Passed, if_there}
+use Rattle.play_core.proofs.Lists.{some_is, there_is, there_below}
+use Rattle.net_expect.specs.Expecting.{Program, Source, frames_for, sends_of}
+use Rattle.buffer_kit.specs.Entries.{frame_of}
+use Rattle.buffer_kit.specs.Virtualising.{from_queues, to_queues}
+use Rattle.client_programs.specs.declared.net.NetClient.{NetClient}
+use Rattle.net_virt_tx.specs.declared.NetVirtTx.{NetVirtTx}
+use Rattle.net_virt_tx.specs.declared.descriptors.Sender.{Sender}
+use Rattle.net_virt_tx.specs.Descriptors.{to_client}
+use Rattle.net_virt_tx.specs.Clients.{at_address}
+use Rattle.net_virt_tx.specs.Serving.{IsServed, bad_ones, is_good_of, is_own, own_of}
+use Rattle.net_virt_tx.specs.Sending.{TxRow}
+use Rattle.net_virt_tx.specs.Traffics.{senders}
+use Rattle.net_law.proofs.Beginnings.{begins_map, begins_filter}
+use Rattle.net_law.specs.Wire.Sending.{AllSendGood}
+use Rattle.net_law.proofs.WireLemmas.Wires.{wire_sends}
+use Rattle.net_law.specs.Owners.Names.{ClientPools}
+use Rattle.net_law.specs.Parts.Numbers.{client_first}
+use Rattle.net_law.proofs.PartsLemmas.Leasing.{prefix_get}
+use Rattle.owner_law.proofs.PoolsLemmas.Merging.{Each, each_begun, kept_is}
+use Rattle.net_law.specs.TxParts.Numbers.{NetPlace, shippers_from}
+use Rattle.net_law.specs.TxParts.Playing.{TakesGood, shippers}
+use Rattle.net_law.proofs.TxParts.Items.{none_bad}
+use Rattle.net_quiet.specs.Cast.Casting.{IsClientAt}
+use Rattle.net_quiet.proofs.CastLemmas.Casting.{cast_records}
+use Rattle.net_quiet.specs.TxTurns.Turning.{IsSendHalf, SendsFromHand}
+use Rattle.net_quiet.proofs.TxTurns.Turning.{comes_back, none_stray, takes_good}
+use Rattle.net_quiet.specs.TxCast.Casting.{AreSends, AreFrames, AllSend, IsSend, IsClientOf, IsSendingClient, IsWholeCast, sends_at}
+use Rattle.net_quiet.proofs.TxCast.Numbers.{Ships, device_sends, driver_sends, client_queues, sender_queues, shippers_are}
+use Rattle.net_quiet.proofs.TxCast.Entries.{send_good}
+use Rattle.net_quiet.proofs.TxCast.Sends as one
+
+all_from : {X : Type 0} (P : X → Type 0) (xs : List X) → ((k : ℕ) (x : X) → slice_get xs k ≡ Some x → P x) → All P xs
+all_from P [] each = λ k d l. absurd (omega (arith, l))
+all_from P (x ∷ xs) each = All-cons P x xs (each 0 x refl) (all_from P xs (λ k y at. each (suc k) y at))
+
+-- what the client of a number sends
+sends_there : (programs : List Program) (macs : List Mac) (frames : List (List ℕ)) (k : ℕ) (l : List (List ℕ)) → slice_get (sends_at programs macs frames) k ≡ Some l → (program : Program) × (mac : Mac) × (slice_get programs k ≡ Some program) × (slice_get macs k ≡ Some mac) × (sends_of program mac frames ≡ l)
+sends_there [] macs frames k l at = cc
+sends_there (p ∷ ps) [] frames k l at = cc
+sends_there (p ∷ ps) (m ∷ ms) frames zero l at = (p, m, refl, refl, some_is at)
+sends_there (p ∷ ps) (m ∷ ms) frames (suc k) l at = sends_there ps ms frames k l at
+
+sends_many : (programs : List Program) (macs : List Mac) (frames : List (List ℕ)) → length programs ≡ length macs → length (sends_at programs macs frames) ≡ length macs
+sends_many [] [] frames e = refl
+sends_many [] (m ∷ ms) frames e = absurd (omega (arith, e))
+sends_many (p ∷ ps) [] frames e = absurd (omega (arith, e))
+sends_many (p ∷ ps) (m ∷ ms) frames e = let rest = sends_many ps ms frames (omega (arith, e)) in omega (arith, rest)
+
+module _ (net : NetPlace) (frames : List (List ℕ)) (passed : Passed) (h : IsWholeCast net frames passed) where
+  -- what the client of a number recorded
+  recorded : (k : ℕ) (program : Program) (mac : Mac) (q : ClientPools) → IsClientOf net k program mac q → (c : NetClient) → IsSendingClient net k program mac q c passed → IsPrefix c.frames.tape.shown (frames_for mac frames)
+  recorded k program mac q of c is =
+      let own = client_queues net.first k program mac q c is.part in
+      let at : IsClientAt net.first k c passed = record { active = own.0; free = own.1; size = is.size; some = is.some; row = is.row } in
+      cast_records net.first frames net.pool net.macs passed h.half k mac of.address c at
+
+  scripts_of : (k : ℕ) (program : Program) (mac : Mac) (q : ClientPools) → IsClientOf net k program mac q → (script : List (List ℕ)) → program ≡ Source script → AreFrames script
+  scripts_of k program mac q of script is = h.scripts k script (of.plays ∙ ap (λ (p : Program). Some p) is)
+
+  pub client_puts : (k : ℕ) (program : Program) (mac : Mac) (q : ClientPools) → IsClientOf net k program mac q → AreSends q.tx (passed.taken (client_first net.first k + 5)) → AreSends q.tx (passed.sent (client_first net.first k + 4))
+  client_puts k program mac q of back =
+      let c = h.clients k program mac q of in
+      let own = client_queues net.first k program mac q c.0 c.1.part in
+      subst (λ n. AreSends q.tx (passed.sent n)) own.2
+      (one.puts net k program mac q frames c.0 passed c.1 (h.addresses k mac of.address) h.received (scripts_of k program mac q of) (recorded k program mac q of c.0 c.1) (subst (λ n. AreSends q.tx (passed.taken n)) (sym own.3) back))
+
+  client_hand : (k : ℕ) (program : Program) (mac : Mac) (q : ClientPools) → IsClientOf net k program mac q → (b : ℕ) → at_address (b * 2048) (passed.sent (client_first net.first k + 4)) ≤ at_address (b * 2048) (passed.taken (client_first net.first k + 5)) + 1
+  client_hand k program mac q of b =
+      let c = h.clients k program mac q of in
+      let own = client_queues net.first k program mac q c.0 c.1.part in
+      let hand = one.in_hand net k program mac q frames c.0 passed c.1 (h.addresses k mac of.address) h.received (scripts_of k program mac q of) (recorded k program mac q of c.0 c.1) b in
+      let put = ap (λ n. at_address (b * 2048) (passed.sent n)) own.2 in
+      let back = ap (λ n. at_address (b * 2048) (passed.taken n)) own.3 in
+      omega (arith, hand, put, back)
+
+  client_begins : (k : ℕ) (program : Program) (mac : Mac) (q : ClientPools) → IsClientOf net k program mac q → AreSends q.tx (passed.taken (client_first net.first k + 5)) → IsPrefix (map frame_of (passed.sent (client_first net.first k + 4))) (sends_of program mac frames)
+  client_begins k program mac q of back =
+      let c = h.clients k program mac q of in
+      let own = client_queues net.first k program mac q c.0 c.1.part in
+      subst (λ n. IsPrefix (map frame_of (passed.sent n)) (sends_of program mac frames)) own.2
+      (one.begins net k program mac q frames c.0 passed c.1 (h.addresses k mac of.address) h.received (scripts_of k program mac q of) (recorded k program mac q of c.0 c.1) (subst (λ n. AreSends q.tx (passed.taken n)) (sym own.3) back))
+
+  -- the client of a number is there
+  client_there : (k : ℕ) (q : ClientPools) → slice_get net.pools k ≡ Some q → (program : Program) × (mac : Mac) × IsClientOf net k program mac q
+  client_there k q at =
+      let below = there_below net.pools k q at in
+      let pools_many = h.pools_many in
+      let programs_many = h.programs_many in
+      let mac = there_is net.macs k (omega (arith, below, pools_many)) in
+      let program = there_is net.programs k (omega (arith, below, pools_many, programs_many)) in
+      (program.0, mac.0, record { address = mac.1; pools = at; plays = program.1 })
+
+  -- with a row of the sending virtualiser
+  module _ (row : TxRow h.sender passed) where
+    abbrev v : NetVirtTx
+    v = h.sender
+
+    virtualised : (v.ends.output.queue.0 ≡ net.first + 6) × (v.ends.input.queue.0 ≡ net.first + 7) × (shippers (senders v.work) (from_queues v.ends) (to_queues v.ends) ≡ shippers_from net.first 0 net.pools)
+    virtualised = sender_queues net.first net.pools v h.sender_at.part
+
+    shipped : (length (senders v.work) ≡ length net.pools) × ((k : ℕ) (s : Sender) (q r : QueueId) → slice_get (senders v.work) k ≡ Some s → slice_get (from_queues v.ends) k ≡ Some q → slice_get (to_queues v.ends) k ≡ Some r → (p : ClientPools) × (slice_get net.pools k ≡ Some p) × Ships net.first (0 + k) s q r p)
+    shipped = shippers_are net.first 0 (senders v.work) net.pools (from_queues v.ends) (to_queues v.ends) row.from_each row.to_each virtualised.2
+
+    -- a client's place among the virtualiser's
+    ships_at : (k : ℕ) (s : Sender) (q r : QueueId) → slice_get (senders v.work) k ≡ Some s → slice_get (from_queues v.ends) k ≡ Some q → slice_get (to_queues v.ends) k ≡ Some r → (p : ClientPools) × (slice_get net.pools k ≡ Some p) × Ships net.first k s q r p
+    ships_at k s q r at fat tat =
+        let x = shipped.1 k s q r at fat tat in
+        let plus : 0 + k ≡ k = omega arith in
+        (x.0, x.1, subst (λ n. Ships net.first n s q r x.0) plus x.2)
+
+    -- the virtualiser's client of a number
+    place_of : (k : ℕ) (p : ClientPools) → slice_get net.pools k ≡ Some p → (s : Sender) × (q : QueueId) × (r : QueueId) × (slice_get (senders v.work) k ≡ Some s) × (slice_get (from_queues v.ends) k ≡ Some q) × (slice_get (to_queues v.ends) k ≡ Some r) × Ships net.first k s q r p
+    place_of k p at =
+        let below = there_below net.pools k p at in
+        let many = shipped.0 in
+        let from_each = row.from_each in
+        let to_each = row.to_each in
+        let s = there_is (senders v.work) k (omega (arith, below, many)) in
+        let q = there_is (from_queues v.ends) k (omega (arith, below, many, from_each)) in
+        let r = there_is (to_queues v.ends) k (omega (arith, below, many, to_each)) in
+        let x = ships_at k s.0 q.0 r.0 s.1 q.1 r.1 in
+        let same : x.0 ≡ p = some_is (sym x.1 ∙ at) in
+        (s.0, q.0, r.0, s.1, q.1, r.1, subst (Ships net.first k s.0 q.0 r.0) same x.2)
+
+    module _ (send : AllSend net passed) where
+      goods : (k : ℕ) (p : ClientPools) → slice_get net.pools k ≡ Some p → (s : Sender) (q r : QueueId) → Ships net.first k s q r p → All (λ (c : Cargo). is_good_of s c ≡ true) (passed.sent q.0)
+      goods k p at s q r ships = all_from (λ (c : Cargo). is_good_of s c ≡ true) (passed.sent q.0) (λ j c c_at. send_good s p.tx c ships.0 (send k p at j c (ap (λ n. slice_get (passed.sent n) j) (sym ships.1) ∙ c_at)))
+
+      from_hand : (k : ℕ) (s : Sender) (q r : QueueId) → slice_get (senders v.work) k ≡ Some s → slice_get (from_queues v.ends) k ≡ Some q → slice_get (to_queues v.ends) k ≡ Some r → SendsFromHand s (passed.sent q.0) (passed.taken r.0)
+      from_hand k s q r at fat tat =
+          let x = ships_at k s q r at fat tat in
+          let of = client_there k x.0 x.1 in
+          record {
+            good = goods k x.0 x.1 s q r x.2;
+            in_hand = λ b lt.
+                let hand = client_hand k of.0 of.1 x.0 of.2 b in
+                let put = ap (λ n. at_address (b * 2048) (passed.sent n)) x.2.1 in
+                let back = ap (λ n. at_address (b * 2048) (passed.taken n)) x.2.2 in
+                omega (arith, hand, put, back);
+          }
+
+      half_with : IsSendHalf h.half.device h.half.driver v passed
+      half_with =
+          let wire = device_sends net.first frames h.half.device h.device_at in
+          let driven = driver_sends net.first h.half.driver h.half.driver_at.part in
+          record {
+            sending = record {
+              hands_over = h.half.hands_over;
+              virtualiser = row;
+              driver = h.half.driver_at.row;
+              device = h.half.device_at.row;
+              to_driver = driven.0 ∙ sym virtualised.0;
+              to_device = wire.0 ∙ sym driven.1;
+            };
+            from_device = driven.2 ∙ sym wire.1;
+            from_driver = virtualised.1 ∙ sym driven.3;
+            clients = from_hand;
+          }
+
+      pub none_out : row.stray ≡ []
+      unfolding half_with
+      none_out = none_stray h.half.device h.half.driver v passed half_with
+
+      pub good_taken : TakesGood v passed
+      good_taken = takes_good h.half.device h.half.driver v passed half_with
+
+      turn_is : (n : ℕ) → row.turn n ≡ passed.taken n
+      turn_is n = sym (row.taken n ∙ (ap (λ l. row.turn n ++ if_there (row.place == n) l) none_out ∙ nothing (row.place == n)))
+        where
+          nothing : (b : Bool) → row.turn n ++ if_there b [] ≡ row.turn n
+          nothing true = append-nil (row.turn n)
+          nothing false = append-nil (row.turn n)
+
+      -- what went back to a client it had put before
+      went_back : (k : ℕ) (p : ClientPools) → slice_get net.pools k ≡ Some p → (s : Sender) (q r : QueueId) → slice_get (senders v.work) k ≡ Some s → slice_get (from_queues v.ends) k ≡ Some q → slice_get (to_queues v.ends) k ≡ Some r → Ships net.first k s q r p → Each (IsSend p.tx) (passed.sent r.0)
+      went_back k p at s q r s_at q_at r_at ships = each_begun (IsSend p.tx) (bad_ones s (row.turn q.0) ∷ own_of s (row.turn v.ends.input.queue.0) ∷ []) (passed.sent r.0) served.gives_back both
+        where
+          input : ℕ
+          input = v.ends.input.queue.0
+
+          output : ℕ
+          output = v.ends.output.queue.0
+
+          served : IsServed s (row.turn q.0) (passed.sent output) (row.turn input) (passed.sent r.0)
+          served = row.serves k s q r s_at q_at r_at
+
+          bads : bad_ones s (row.turn q.0) ≡ []
+          bads = ap (bad_ones s) (turn_is q.0) ∙ none_bad s (passed.taken q.0) (good_taken k s q s_at q_at)
+
+          begun : IsPrefix (own_of s (row.turn input)) (own_of s (passed.sent output))
+          begun =
+              let returned = subst (λ l. IsPrefix l (passed.sent output)) (sym (turn_is input)) (comes_back h.half.device h.half.driver v passed half_with) in
+              begins_map (to_client s.base) (filter (is_own s) (row.turn input)) (filter (is_own s) (passed.sent output)) (begins_filter (is_own s) (row.turn input) (passed.sent output) returned)
+
+          owned : Each (IsSend p.tx) (own_of s (row.turn input))
+          owned j c c_at =
+              let went = prefix_get (own_of s (row.turn input)) (own_of s (passed.sent output)) begun j c c_at in
+              let came = prefix_get (own_of s (passed.sent output)) (filter (is_good_of s) (row.turn q.0)) served.sends j c went in
+              let kept = (kept_is (is_good_of s) (row.turn q.0) j c came).1 in
+              let taken : slice_get (passed.taken q.0) kept.0 ≡ Some c = ap (λ l. slice_get l kept.0) (sym (turn_is q.0)) ∙ kept.1 in
+              let sent = prefix_get (passed.taken q.0) (passed.sent q.0) (h.half.hands_over q.0) kept.0 c taken in
+              send k p at kept.0 c (ap (λ n. slice_get (passed.sent n) kept.0) (sym ships.1) ∙ sent)
+
+          both : Each (Each (IsSend p.tx)) (bad_ones s (row.turn q.0) ∷ own_of s (row.turn input) ∷ [])
+          both zero l l_at = subst (Each (IsSend p.tx)) (sym bads ∙ some_is l_at) (λ j c c_at. cc)
+          both (suc zero) l l_at = subst (Each (IsSend p.tx)) (some_is l_at) owned
+          both (suc (suc j)) l l_at = cc
+
+      pub back_is : (k : ℕ) (program : Program) (mac : Mac) (q : ClientPools) → IsClientOf net k program mac q → AreSends q.tx (passed.taken (client_first net.first k + 5))
+      back_is k program mac q of j c at =
+          let x = place_of k q of.pools in
+          let n = client_first net.first k + 5 in
+          let put = prefix_get (passed.taken n) (passed.sent n) (h.half.hands_over n) j c at in
+          went_back k q of.pools x.0 x.1 x.2 x.3 x.4 x.5 x.6 j c (ap (λ i. slice_get (passed.sent i) j) x.6.2 ∙ put)
+
+      pub begun_is : (k : ℕ) (program : Program) (mac : Mac) (q : ClientPools) → IsClientOf net k program mac q → IsPrefix (map frame_of (passed.sent (client_first net.first k + 4))) (sends_of program mac frames)
+      begun_is k program mac q of = client_begins k program mac q of (back_is k program mac q of)
+
+      all_good : AllSendGood v passed (sends_at net.programs net.macs frames)
+      all_good = record {
+        as_many =
+            let a = shipped.0 in
+            let b = sends_many net.programs net.macs frames h.programs_many in
+            let c = h.pools_many in
+            omega (arith, a, b, c);
+        each = λ k s q l at fat lat.
+            let to_each = row.to_each in
+            let below = there_below (senders v.work) k s at in
+            let r = there_is (to_queues v.ends) k (omega (arith, below, to_each)) in
+            let x = ships_at k s q r.0 at fat r.1 in
+            let f = sends_there net.programs net.macs frames k l lat in
+            let of : IsClientOf net k f.0 f.1 x.0 = record { address = f.3; pools = x.1; plays = f.2 } in
+            let begun = begun_is k f.0 f.1 x.0 of in
+            record {
+              good = goods k x.0 x.1 s q r.0 x.2;
+              begun = subst (IsPrefix (map frame_of (passed.sent q.0))) f.4 (subst (λ n. IsPrefix (map frame_of (passed.sent n)) (sends_of f.0 f.1 frames)) (sym x.2.1) begun);
+            };
+      }
+
+      pub wire_is : PrefixMerge (sends_at net.programs net.macs frames) h.half.device.wire.tape.shown
+      wire_is = wire_sends h.half.device h.half.driver v passed half_with.sending (sends_at net.programs net.macs frames) all_good

@@ -1,0 +1,14 @@
+use Rattle.net_quiet.proofs.CastLemmas.Casting.{cast_in_turn, cast_takes, cast_leases, cast_records}
+use Rattle.net_quiet.proofs.cast.cast_law.Goals as goal
+
+pub returns-clause-turn : goal.returns-clause-turn
+returns-clause-turn c = cast_in_turn
+
+pub returns-clause-takes : goal.returns-clause-takes
+returns-clause-takes c = cast_takes
+
+pub returns-clause-leases : goal.returns-clause-leases
+returns-clause-leases c = cast_leases
+
+pub returns-clause-records : goal.returns-clause-records
+returns-clause-records c = cast_records

@@ -1,5 +1,0 @@
-use Rattle.net_quiet.proofs.NetTxOwners.Owning.{send_own}
-use Rattle.net_quiet.proofs.net_tx_owners.send_own_law.Goals as goal
-
-pub returns : goal.returns
-returns c = send_own

@@ -1,0 +1,34 @@
+-- The sending half on its way round, of entries with their bodies: the rows of its actors, and the
+-- queues between.
+use Rattle.std.specs.Prelude.{◌≡◌, ◌+◌, ◌*◌, ◌<◌, ◌≤◌, ℕ, true, Some, List, All, slice_get}
+use Rattle.wire_core.specs.declared.names.QueueId.{QueueId}
+use Rattle.wire_core.specs.Deeds.{Cargo}
+use Rattle.wire_core.specs.Lists.{Passed}
+use Rattle.turn_kit.specs.declared.pipe.Pipe.{Pipe}
+use Rattle.pipe_driver.specs.declared.pipes.Pipes.{Pipes}
+use Rattle.device_model.specs.Ethernet.Devices.{tx_free}
+use Rattle.device_model.specs.declared.ethernet.EthDevice.{EthDevice}
+use Rattle.buffer_kit.specs.Virtualising.{from_queues, to_queues}
+use Rattle.net_virt_tx.specs.declared.NetVirtTx.{NetVirtTx}
+use Rattle.net_virt_tx.specs.declared.descriptors.Sender.{Sender}
+use Rattle.net_virt_tx.specs.Serving.{is_good_of}
+use Rattle.net_virt_tx.specs.Clients.{at_address}
+use Rattle.net_virt_tx.specs.Traffics.{senders}
+use Rattle.net_law.specs.Wire.Sending.{IsSending}
+
+-- a client put good descriptors alone, and each buffer only while it was in its hand: at the start,
+-- and as often as it came back
+pub record SendsFromHand (s : Sender) (put back : List Cargo) : Type 0 where
+  pub good : All (λ (c : Cargo). is_good_of s c ≡ true) put
+  pub in_hand : (b : ℕ) → b < s.buffers → at_address (b * 2048) put ≤ at_address (b * 2048) back + 1
+
+-- the sending virtualiser, the driver and the device, whose rows hold, both ways between them; and
+-- each client puts what was in its hand
+pub record IsSendHalf (d : EthDevice) (p : Pipes (Pipes (Pipes Pipe))) (v : NetVirtTx)
+    (passed : Passed) : Type 0 where
+  pub sending : IsSending d p v passed
+  pub from_device : p.rest.rest.rest.input.queue.0 ≡ tx_free d
+  pub from_driver : v.ends.input.queue.0 ≡ p.rest.rest.rest.output.queue.0
+  pub clients : (k : ℕ) (s : Sender) (q r : QueueId) → slice_get (senders v.work) k ≡ Some s
+      → slice_get (from_queues v.ends) k ≡ Some q → slice_get (to_queues v.ends) k ≡ Some r
+      → SendsFromHand s (passed.sent q.0) (passed.taken r.0)

@@ -1,0 +1,37 @@
+//! The network's receive half in a system: from the rows of its actors at the layout's queues
+//! nothing comes out of turn at any of them, and each client's record is a beginning of the frames
+//! for it. What is asked of a buffer's room follows from the buffers that the actors had at the
+//! start.
+
+ghost use Rattle.std.specs.Prelude.{◌≡◌, ◌<◌, ℕ, Some, List, [], length, slice_get};
+ghost use Rattle.cargo_core.specs.Lists.{IsPrefix};
+ghost use Rattle.frame_core.specs.declared.mac.Mac.{Mac};
+ghost use Rattle.wire_core.specs.Lists.{Passed};
+ghost use Rattle.net_expect.specs.Expecting.{frames_for};
+ghost use Rattle.client_programs.specs.declared.net.NetClient.{NetClient};
+ghost use Rattle.net_virt_rx.specs.Receiving.{RxRow};
+ghost use Rattle.net_law.specs.Owners.Names.{PoolAt};
+ghost use Rattle.net_law.specs.RxOwners.Virtualiser.{TakesFrames};
+ghost use Rattle.net_law.specs.Parts.Rows.{frame_at};
+ghost use Rattle.net_law.specs.Parts.Numbers.{client_first};
+ghost use Rattle.net_law.specs.Parts.Playing.{AreLeases};
+ghost use Rattle.net_quiet.specs.Cast.Casting.{IsCast, IsClientAt};
+
+/// Nothing comes out of turn at the receiving virtualiser, which takes the frames of their places,
+/// nor at a copier, which takes leases alone, each as long as its item says. Each client's record
+/// is a beginning of the frames that are for its address.
+pub fn cast_law()
+    ensures turn { (first : ℕ) (frames : List (List ℕ)) (pool : PoolAt) (macs : List Mac)
+        (passed : Passed) → (h : IsCast first frames pool macs passed)
+        → (row : RxRow h.receiver passed) → row.stray ≡ [] }
+    ensures takes { (first : ℕ) (frames : List (List ℕ)) (pool : PoolAt) (macs : List Mac)
+        (passed : Passed) → (h : IsCast first frames pool macs passed)
+        → TakesFrames (frame_at frames) h.receiver passed }
+    ensures leases { (first : ℕ) (frames : List (List ℕ)) (pool : PoolAt) (macs : List Mac)
+        (passed : Passed) → IsCast first frames pool macs passed → (k : ℕ) → k < length macs
+        → AreLeases (passed.taken (client_first first k)) }
+    ensures records { (first : ℕ) (frames : List (List ℕ)) (pool : PoolAt) (macs : List Mac)
+        (passed : Passed) → IsCast first frames pool macs passed → (k : ℕ) (mac : Mac)
+        → slice_get macs k ≡ Some mac → (c : NetClient) → IsClientAt first k c passed
+        → IsPrefix c.frames.tape.shown (frames_for mac frames) }
+{}

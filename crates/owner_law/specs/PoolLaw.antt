@@ -1,7 +1,0 @@
--- The lines of pools as a program counts them, of whatever class: entries that carry the pages
--- that their items name, and actors that hand them on so (Handing), and an actor's part in the
--- lines, and what they ask of a journal and its last moment (Lines). The laws are in src/lib.rt;
--- for proofs above: Casting (a cast that is told by its sheets, whose journal has one owner of each
--- buffer), Plain (entries without pages) and Lining (actors that lend nothing).
-pub mod Handing
-pub mod Lines

@@ -1,0 +1,77 @@
+-- A cast that has the whole network has it among its actors; and where nobody is runnable these
+-- recorded all.
+use Rattle.std.proofs.Common.{◌≡◌, ◌+◌, ℕ, Some, List, map, slice_get, refl, ap, ◌∙◌}
+use Rattle.cargo_core.specs.Lists.{Merge}
+use Rattle.frame_core.specs.declared.mac.Mac.{Mac}
+use Rattle.wire_core.specs.declared.names.QueueRow.{QueueRow}
+use Rattle.wire_core.specs.declared.names.Entry.{Entry}
+use Rattle.wire_core.specs.Ends.{Role, End}
+use Rattle.wire_core.specs.Journal.{History}
+use Rattle.wire_core.specs.Lists.{Passed}
+use Rattle.play_core.specs.Moved.{Moved, moved}
+use Rattle.play_core.specs.Sheets.{RowsHold, needful}
+use Rattle.play_core.specs.Still.{IsStill, Plays}
+use Rattle.play_core.specs.Wants.{Needful}
+use Rattle.play_core.proofs.Tables.{plays_there}
+use Rattle.play_core.specs.Rests.Showing.{HaveItems}
+use Rattle.net_expect.specs.Expecting.{Program, frames_for}
+use Rattle.net_law.specs.Owners.Names.{ClientPools}
+use Rattle.net_law.specs.Parts.Numbers.{client_first, device_at, driver_at, receiver_at, copier_at, client_at}
+use Rattle.net_law.specs.TxParts.Numbers.{NetPlace, own_pools, sender_at}
+use Rattle.net_quiet.specs.TxCast.Casting.{IsClientOf, sends_at}
+use Rattle.net_quiet.specs.Still.{HasPools, HasRooms, IsNetwork}
+use Rattle.net_quiet.proofs.Wholes.{record_whole, wire_whole}
+use Rattle.actor_set.specs.Parts.{Part, NetworkPart, SendingPart}
+use Rattle.actor_set.specs.Actors.{part_of}
+use Rattle.actor_set.specs.declared.actor.Actor.{Actor}
+use Rattle.actor_set.specs.Laws.Kinds.{sheet, scene_of, hostiles}
+use Rattle.actor_set.specs.Laws.Records.{frames_got, frames_by}
+use Rattle.actor_set.proofs.LawsLemmas.Calm.{calm_actor}
+use Rattle.actor_set.proofs.LawsLemmas.Rows.{frames_here}
+use Rattle.wired_law.specs.Wiring.{HasPart, HasWhole, IsWired, ClientsSend, AreAtWork}
+use Rattle.wired_law.proofs.Wiring.{recorded, sent_on}
+use Rattle.wired_law.proofs.QuietLemmas.Rows.{rows_hold}
+
+-- the network among a cast's actors
+module _ (rows : List QueueRow) (cast : List Part) (m : Moved) (net : NetPlace) (whole : HasWhole rows net cast) (pools : HasPools net) (rooms : HasRooms (hostiles cast) rows net) (holds : RowsHold (sheet (scene_of cast)) (hostiles cast) cast m) where
+  abbrev all : Needful
+  all = needful (sheet (scene_of cast)) cast m
+
+  plays : (p : Part) → HasPart cast p → Plays (hostiles cast) all m (sheet (scene_of cast) p)
+  plays p has = plays_there (sheet (scene_of cast)) (hostiles cast) cast m holds has.0 p (calm_actor cast has.0) has.1
+
+  pub network_there : IsNetwork (hostiles cast) (scene_of cast) rows all net m
+  network_there = record {
+    pools = pools;
+    rooms = rooms;
+    device = plays (NetworkPart (device_at net.first (scene_of cast).frames)) whole.device;
+    driver = plays (NetworkPart (driver_at net.first)) whole.driver;
+    receiver = plays (NetworkPart (receiver_at net.first net.pool net.macs)) whole.receiver;
+    sender = plays (SendingPart (sender_at net.first net.pools)) whole.sender;
+    copier = λ k lt. plays (NetworkPart (copier_at net.first k)) (whole.copier k lt);
+    client = λ k program mac q of. plays (NetworkPart (client_at net.first k program mac (own_pools q))) (whole.client k program mac q of);
+  }
+
+-- actors that stand for what passed
+module _ (ends : Role → ℕ → End) (history : History) (rows : List QueueRow) (actors : List Actor) (journal : List Entry) (passed : Passed) (net : NetPlace) (whole : HasWhole rows net (map part_of actors)) (wired : IsWired rows (map part_of actors)) (pools : HasPools net) (rooms : HasRooms (hostiles (map part_of actors)) rows net) (work : AreAtWork ends rows actors passed) (send : ClientsSend (map part_of actors) passed) (items : HaveItems passed (moved history journal)) where
+  abbrev cast : List Part
+  cast = map part_of actors
+
+  abbrev frames : List (List ℕ)
+  frames = (scene_of cast).frames
+
+  there : IsNetwork (hostiles cast) (scene_of cast) rows (needful (sheet (scene_of cast)) cast (moved history journal)) net (moved history journal)
+  there = network_there rows cast (moved history journal) net whole pools rooms (rows_hold ends history rows actors journal passed wired work send items)
+
+  module _ (still : IsStill (hostiles cast) history rows (needful (sheet (scene_of cast)) cast (moved history journal)) journal) where
+    pub recorded_whole : (k c : ℕ) (x : Actor) (program : Program) (mac : Mac) (q : ClientPools) → slice_get actors k ≡ Some x → IsClientOf net c program mac q → part_of x ≡ NetworkPart (client_at net.first c program mac (own_pools q)) → frames_got x ≡ frames_for mac frames
+    recorded_whole k c x program mac q at of part =
+        let begun = recorded ends rows actors passed net whole work k c x program mac (own_pools q) at part (whole.some c q of.pools) of.address in
+        let got = frames_here passed x (work.stands k x at) ∙ ap (frames_by passed) part in
+        record_whole (hostiles cast) history rows (needful (sheet (scene_of cast)) cast (moved history journal)) journal (scene_of cast) net still there passed items c mac of.address (frames_got x) (client_first net.first c + 2) refl got begun
+
+    pub sent_whole : (k : ℕ) (x : Actor) → slice_get actors k ≡ Some x → part_of x ≡ NetworkPart (device_at net.first frames) → Merge (sends_at net.programs net.macs frames) (frames_got x)
+    sent_whole k x at part =
+        let begun = sent_on ends rows actors passed net whole work send k x at part in
+        let got = frames_here passed x (work.stands k x at) ∙ ap (frames_by passed) part in
+        wire_whole (hostiles cast) history rows (needful (sheet (scene_of cast)) cast (moved history journal)) journal (scene_of cast) net still there passed items (frames_got x) (net.first + 2) refl got begun
