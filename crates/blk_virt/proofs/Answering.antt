@@ -8,12 +8,10 @@ use Rattle.cargo_core.specs.declared.item.PoolId.{PoolId}
 use Rattle.cargo_core.specs.Ranges.{AreRanges}
 use Rattle.wire_core.specs.Bells.{bit}
 use Rattle.wire_core.specs.Deeds.{Cargo}
-use Rattle.wire_core.specs.Lists.{if_there}
 use Rattle.wire_core.proofs.Places.{slice_get_written, slice_get_beside}
-use Rattle.turn_kit.proofs.Holding.{cargo-append}
 use Rattle.turn_kit.proofs.Offers.{get_map}
 use Rattle.blk_mbr.specs.declared.part.Part.{Part}
-use Rattle.buffer_kit.proofs.Clients.{some_eq, cargo_set, now_or_was, now_there, there_more, other_more}
+use Rattle.buffer_kit.proofs.ManyClients.{some_eq, cargo_set, now_or_was, now_there, there_more, other_more}
 use Rattle.blk_virt.specs.declared.client.Client.{Client}
 use Rattle.blk_virt.specs.declared.desk.Desk.{Desk}
 use Rattle.blk_virt.specs.declared.requests.Holder.{Holder}

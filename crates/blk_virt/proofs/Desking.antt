@@ -7,7 +7,7 @@ use Rattle.wire_core.specs.Bells.{bit}
 use Rattle.wire_core.specs.Deeds.{Cargo}
 use Rattle.wire_core.proofs.Places.{slice_get_written, slice_get_beside}
 use Rattle.blk_mbr.specs.declared.part.Part.{Part}
-use Rattle.buffer_kit.proofs.Clients.{some_eq, entry_there}
+use Rattle.buffer_kit.proofs.ManyClients.{some_eq, entry_there}
 use Rattle.blk_virt.specs.declared.client.Client.{Client}
 use Rattle.blk_virt.specs.declared.desk.Desk.{Desk}
 use Rattle.blk_virt.specs.declared.requests.Holder.{Holder}

@@ -1,18 +1,16 @@
 -- Whatever the virtualiser stands for meets its row.
-use Rattle.std.proofs.Common.{◌≡◌, ◌+◌, ◌≤◌, ℕ, Option, Some, None, List, [], ◌∷◌, ◌++◌, All, length, drop, slice_get, is_some, true, append_assoc, refl, sym, ap, ◌∙◌, subst, length-append, arith}
+use Rattle.std.proofs.Common.{◌≡◌, ◌+◌, ◌≤◌, ℕ, Option, Some, None, List, [], ◌∷◌, ◌++◌, length, drop, is_some, true, append_assoc, refl, sym, ap, ◌∙◌, subst, length-append, arith}
 use Rattle.std.specs.List.{filter}
 use Rattle.std.specs.Option.{option_to_list}
 use Rattle.std.proofs.lemmas.List.{append-nil, map-append, length-map}
-use Rattle.std.proofs.lemmas.List.Elements.{All-nil, All-cons}
-use Rattle.std.proofs.lemmas.Option.{slice_get_within, get_or_from_slice_get}
+use Rattle.std.proofs.lemmas.Option.{slice_get_within}
 use Rattle.cargo_core.specs.Lists.{IsPrefix}
-use Rattle.wire_core.specs.declared.names.QueueId.{QueueId}
 use Rattle.wire_core.specs.Deeds.{Cargo}
 use Rattle.wire_core.specs.Lists.{Passed}
 use Rattle.buffer_kit.specs.Virtualising.{from_queues, to_queues}
 use Rattle.blk_mbr.specs.declared.part.Part.{Part}
 use Rattle.blk_mbr.specs.Partitions.{part_of}
-use Rattle.buffer_kit.proofs.Clients.{queue_is, all_option, few_option}
+use Rattle.buffer_kit.proofs.ManyClients.{queue_is, all_option, few_option}
 use Rattle.blk_virt.specs.declared.client.Client.{Client}
 use Rattle.blk_virt.specs.declared.client.Current.{Current}
 use Rattle.blk_virt.specs.declared.opening.Block.{Block}

@@ -8,7 +8,7 @@ use Rattle.wire_core.specs.declared.names.Event.{Event}
 use Rattle.wire_core.specs.Deeds.{Cargo, put_of}
 use Rattle.wire_core.proofs.Places.{slice_get_written}
 use Rattle.blk_mbr.specs.declared.part.Part.{Part}
-use Rattle.buffer_kit.proofs.Clients.{some_eq}
+use Rattle.buffer_kit.proofs.ManyClients.{some_eq}
 use Rattle.blk_virt.specs.declared.client.Client.{Client}
 use Rattle.blk_virt.specs.declared.desk.Desk.{Desk}
 use Rattle.blk_virt.specs.declared.opening.Block.{Block}

@@ -1,8 +1,8 @@
 -- What the virtualiser stands for after each call.
-use Rattle.std.proofs.Common.{◌≡◌, ◌⊎◌, ◌+◌, ◌<◌, ◌==◌, ℕ, Bool, true, false, not, ◌&&◌, is_some, is_none, inl, inr, Option, Some, None, List, [], ◌∷◌, ◌++◌, length, map, drop, slice_get, slice_index_or, refl, sym, ap, ◌∙◌, subst, eq-eqb, ne_eqb, arith}
+use Rattle.std.proofs.Common.{◌≡◌, ◌+◌, ◌<◌, ◌==◌, ℕ, Bool, true, false, not, ◌&&◌, is_some, is_none, inl, inr, Option, Some, None, List, [], ◌∷◌, ◌++◌, length, map, drop, slice_get, slice_index_or, refl, sym, ap, ◌∙◌, subst, arith}
 use Rattle.std.specs.Option.{option_to_list}
 use Rattle.std.proofs.lemmas.Bool.{cases_eq}
-use Rattle.std.proofs.lemmas.Option.{slice_get-get_or, slice_get_within, get_or_from_slice_get}
+use Rattle.std.proofs.lemmas.Option.{slice_get_within}
 use Rattle.std.proofs.lemmas.List.{append-nil, length-map}
 use Rattle.cargo_core.specs.declared.item.PoolId.{PoolId}
 use Rattle.cargo_core.specs.declared.item.Body.TheVariants as Carried
@@ -20,7 +20,7 @@ use Rattle.buffer_kit.specs.declared.virt_ends.VirtEnds.{VirtEnds}
 use Rattle.buffer_kit.specs.Virtualising.{SameVirt, from_queues, to_queues}
 use Rattle.buffer_kit.proofs.Passing.{none_more, beside, count_more, first_more, later_more}
 use Rattle.blk_mbr.specs.declared.part.Part.{Part}
-use Rattle.buffer_kit.proofs.Clients.{some_eq, nothing, queue_there, at_client}
+use Rattle.buffer_kit.proofs.ManyClients.{some_eq, nothing, queue_there, at_client}
 use Rattle.blk_virt.specs.declared.client.Client.{Client}
 use Rattle.blk_virt.specs.declared.desk.Desk.{Desk}
 use Rattle.blk_virt.specs.declared.work.Work.{Work}

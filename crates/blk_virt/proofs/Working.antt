@@ -9,7 +9,7 @@ use Rattle.wire_core.specs.Lists.{if_there}
 use Rattle.turn_kit.proofs.Holding.{cargo-append}
 use Rattle.blk_mbr.specs.declared.part.Part.{Part}
 use Rattle.blk_mbr.specs.Partitions.{part_of}
-use Rattle.buffer_kit.proofs.Clients.{some_eq}
+use Rattle.buffer_kit.proofs.ManyClients.{some_eq}
 use Rattle.blk_virt.specs.declared.client.Client.{Client}
 use Rattle.blk_virt.specs.declared.client.Current.{Current}
 use Rattle.blk_virt.specs.declared.desk.Desk.{Desk}

@@ -5,7 +5,6 @@ use Rattle.std.specs.Option.{option_map}
 use Rattle.cargo_core.specs.Ranges.{AreRanges}
 use Rattle.wire_core.specs.Bells.{bit}
 use Rattle.wire_core.specs.Deeds.{Cargo}
-use Rattle.wire_core.specs.Lists.{if_there}
 use Rattle.blk_mbr.specs.declared.part.Part.{Part}
 use Rattle.blk_virt.specs.declared.client.Client.{Client}
 use Rattle.blk_virt.specs.declared.client.Current.{Current}

@@ -1,5 +1,5 @@
 -- The block virtualiser: what it must fit, what it stands for, and its row.
-use Rattle.std.specs.Prelude.{◌≡◌, ◌+◌, ◌*◌, ◌≤◌, ◌<◌, ◌^◌, ◌%◌, ℕ, is_none, Option, None, Some, List, [], ◌∷◌, ◌++◌, All, length, map, drop, slice_get, slice_index_or}
+use Rattle.std.specs.Prelude.{◌≡◌, ◌+◌, ◌*◌, ◌≤◌, ◌<◌, ◌^◌, ◌%◌, ℕ, is_none, Option, None, Some, List, [], ◌∷◌, ◌++◌, All, length, map, drop, slice_get}
 use Rattle.std.specs.List.{filter}
 use Rattle.std.specs.Option.{option_to_list}
 use Rattle.cargo_core.specs.declared.item.Body.TheVariants as Carried

@@ -1,5 +1,5 @@
 -- How many buffers are in hand, and clients of which nothing came yet.
-use Rattle.std.proofs.Common.{◌≡◌, ◌+◌, ◌<◌, ◌≤◌, ◌^◌, ◌==◌, ℕ, zero, suc, Bool, true, false, Option, Some, None, List, [], ◌∷◌, ◌++◌, length, map, flat_map, take, slice_get, if◌then◌else◌, refl, sym, ap, ◌∙◌, subst, arith}
+use Rattle.std.proofs.Common.{◌≡◌, ◌+◌, ◌<◌, ◌≤◌, ◌^◌, ◌==◌, ℕ, zero, suc, Bool, true, false, Some, List, [], ◌∷◌, ◌++◌, length, map, take, slice_get, if◌then◌else◌, refl, sym, ap, ◌∙◌, subst, arith}
 use Rattle.std.specs.List.{sum_by}
 use Rattle.std.specs.Option.{option_to_list}
 use Rattle.std.proofs.lemmas.List.Sums.{sum_by-cons, sum_by-take-le}
@@ -9,14 +9,14 @@ use Rattle.cargo_core.specs.declared.item.Body.TheVariants as Carried
 use Rattle.cargo_core.specs.Bodies.{buffers_in}
 use Rattle.cargo_core.specs.Ranges.{AreRanges}
 use Rattle.wire_core.specs.Deeds.{Cargo}
-use Rattle.turn_kit.proofs.Holding.{cargo-append, cargo-cons}
-use Rattle.buffer_kit.proofs.Clients.{some_eq}
+use Rattle.turn_kit.proofs.Holding.{cargo-cons}
+use Rattle.buffer_kit.proofs.ManyClients.{some_eq}
 use Rattle.net_virt_tx.specs.declared.TxEnds.{TxEnds}
 use Rattle.net_virt_tx.specs.declared.client.Client.{Client}
 use Rattle.net_virt_tx.specs.declared.descriptors.Sender.{Sender}
 use Rattle.net_virt_tx.specs.declared.traffic.Traffic.{Traffic}
 use Rattle.net_virt_tx.specs.Queued.{returns_list}
-use Rattle.net_virt_tx.specs.Clients.{IsClient, IsFresh, carried, client_cargo, range_of}
+use Rattle.net_virt_tx.specs.Clients.{IsClient, IsFresh, carried, range_of}
 use Rattle.net_virt_tx.specs.Traffics.{IsTraffic, senders}
 use Rattle.net_virt_tx.specs.Sending.{FitsClients, sender_of}
 use Rattle.net_virt_tx.proofs.Counting.{few_marked}

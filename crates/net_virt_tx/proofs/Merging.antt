@@ -7,7 +7,7 @@ use Rattle.wire_core.specs.Bells.{bit}
 use Rattle.wire_core.specs.Deeds.{Cargo}
 use Rattle.wire_core.proofs.Places.{slice_get_written, slice_get_beside}
 use Rattle.buffer_kit.specs.Entries.{addr_of}
-use Rattle.buffer_kit.proofs.Clients.{some_eq}
+use Rattle.buffer_kit.proofs.ManyClients.{some_eq}
 use Rattle.net_virt_tx.specs.Clients.{at_address}
 
 -- one list is longer by an entry, the others stay

@@ -10,7 +10,7 @@ use Rattle.wire_core.specs.Bells.{bit}
 use Rattle.wire_core.specs.Deeds.{Cargo}
 use Rattle.turn_kit.proofs.Holding.{cargo-append, cargo-cons}
 use Rattle.buffer_kit.specs.Entries.{addr_of}
-use Rattle.buffer_kit.proofs.Clients.{some_eq}
+use Rattle.buffer_kit.proofs.ManyClients.{some_eq}
 use Rattle.net_virt_tx.specs.declared.client.Client.{Client}
 use Rattle.net_virt_tx.specs.declared.returns.Returns.{Returns}
 use Rattle.net_virt_tx.specs.Descriptors.{to_device, to_client}

@@ -1,5 +1,5 @@
 -- The client at a place, and whose buffer begins at a device address.
-use Rattle.std.proofs.Common.{◌≡◌, ◌⊎◌, ◌+◌, ◌*◌, ◌==◌, ◌<◌, ◌&&◌, ℕ, zero, suc, Bool, true, false, nat_le, nat_lt, inl, inr, Option, Some, None, List, [], ◌∷◌, All, length, slice_get, slice_index_or, refl, sym, ap, ◌∙◌, subst, arith}
+use Rattle.std.proofs.Common.{◌≡◌, ◌⊎◌, ◌+◌, ◌*◌, ◌==◌, ◌<◌, ◌&&◌, ℕ, Bool, true, false, nat_le, nat_lt, inl, inr, Option, Some, None, [], ◌∷◌, All, length, slice_get, slice_index_or, refl, sym, ap, ◌∙◌, subst, arith}
 use Rattle.std.specs.Option.{option_to_list, is_some}
 use Rattle.std.proofs.lemmas.Bool.{cases_eq, and_parts, eqb-true, and_from, lt-ltb}
 use Rattle.std.proofs.lemmas.List.{length-map}
@@ -10,11 +10,11 @@ use Rattle.cargo_core.specs.Ranges.{IsOwner, IsNobodys, is_within}
 use Rattle.cargo_core.specs.declared.item.Item.{Item}
 use Rattle.wire_core.specs.Deeds.{Cargo, given}
 use Rattle.buffer_kit.specs.Entries.{addr_of}
-use Rattle.buffer_kit.proofs.Clients.{some_eq, entry_there}
+use Rattle.buffer_kit.proofs.ManyClients.{some_eq, entry_there}
 use Rattle.net_virt_tx.specs.declared.client.Client.{Client}
 use Rattle.net_virt_tx.specs.declared.traffic.Traffic.{Traffic}
 use Rattle.net_virt_tx.specs.Clients.{IsClient, IsOf, is_away, is_marked, buffer_at, range_of}
-use Rattle.net_virt_tx.specs.Traffics.{IsTraffic, is_so, leaving_in, senders}
+use Rattle.net_virt_tx.specs.Traffics.{IsTraffic, leaving_in, senders}
 use Rattle.net_virt_tx.proofs.Counting.{marked_within}
 use Rattle.net_virt_tx.proofs.Serving.{range_at}
 

@@ -1,10 +1,10 @@
 -- The turns of the virtualiser, its start, and its row.
-use Rattle.std.proofs.Common.{◌≡◌, ◌+◌, ◌==◌, ◌≤◌, ℕ, zero, suc, false, Option, Some, None, List, [], ◌∷◌, ◌++◌, All, length, map, flat_map, slice_get, slice_index_or, refl, sym, ap, ◌∙◌, subst, arith}
+use Rattle.std.proofs.Common.{◌≡◌, ◌+◌, ◌==◌, ℕ, zero, suc, false, Option, Some, None, List, [], ◌∷◌, ◌++◌, length, map, flat_map, slice_get, slice_index_or, refl, sym, ap, ◌∙◌, subst, arith}
 use Rattle.std.specs.List.{filter, sum_by}
 use Rattle.std.specs.Option.{option_to_list}
 use Rattle.std.proofs.lemmas.List.{length-map}
 use Rattle.std.proofs.lemmas.List.Sums.{sum_by-cons}
-use Rattle.std.proofs.lemmas.List.Elements.{All-nil, All-cons}
+use Rattle.std.proofs.lemmas.List.Elements.{All-nil}
 use Rattle.cargo_core.specs.declared.item.PoolId.{PoolId}
 use Rattle.cargo_core.specs.Bodies.{buffers_of}
 use Rattle.cargo_core.specs.Ranges.{AreRanges}
@@ -26,7 +26,7 @@ use Rattle.buffer_kit.specs.Virtualising.{IsThere, new_intake, new_outlet, from_
 use Rattle.buffer_kit.proofs.VirtTurns.{turned}
 use Rattle.turn_kit.specs.declared.ends.Intake.{Intake}
 use Rattle.turn_kit.specs.declared.ends.Outlet.{Outlet}
-use Rattle.buffer_kit.proofs.Clients.{some_eq, queue_is, all_option, few_option}
+use Rattle.buffer_kit.proofs.ManyClients.{some_eq, queue_is, all_option, few_option}
 use Rattle.net_virt_tx.specs.declared.NetVirtTx.{NetVirtTx}
 use Rattle.net_virt_tx.specs.declared.TxEnds.{TxEnds}
 use Rattle.net_virt_tx.specs.declared.client.Client.{Client}

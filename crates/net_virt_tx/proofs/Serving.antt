@@ -1,5 +1,5 @@
 -- All clients stand for what passed after one of them was served further.
-use Rattle.std.proofs.Common.{◌≡◌, ◌⊎◌, ◌+◌, ◌*◌, ◌<◌, ◌^◌, ℕ, zero, suc, true, nat_le, nat_lt, cond, inl, inr, Option, Some, List, [], ◌∷◌, ◌++◌, All, length, map, flat_map, slice_get, slice_set, slice_index_or, refl, sym, ap, ◌∙◌, subst, arith, eq-eqb, ne_eqb}
+use Rattle.std.proofs.Common.{◌≡◌, ◌⊎◌, ◌+◌, ◌*◌, ◌<◌, ◌^◌, ℕ, zero, suc, true, nat_le, nat_lt, cond, inl, inr, Option, Some, List, [], ◌∷◌, ◌++◌, All, length, map, flat_map, slice_get, slice_index_or, refl, sym, ap, ◌∙◌, subst, arith}
 use Rattle.std.specs.List.{filter, sum_by}
 use Rattle.std.specs.Option.{option_to_list}
 use Rattle.std.proofs.Math.Seq.{map-set_same}
@@ -10,12 +10,11 @@ use Rattle.std.proofs.lemmas.List.Elements.{All-append, filter-append}
 use Rattle.cargo_core.specs.declared.item.PoolId.{PoolId}
 use Rattle.cargo_core.specs.Ranges.{AreRanges, IsApart}
 use Rattle.wire_core.specs.Deeds.{Cargo}
-use Rattle.wire_core.specs.Lists.{if_there}
-use Rattle.wire_core.proofs.Places.{slice_get_written, slice_get_beside}
+use Rattle.wire_core.proofs.Places.{slice_get_beside}
 use Rattle.turn_kit.proofs.Offers.{get_map}
 use Rattle.turn_kit.proofs.Holding.{cargo-append}
 use Rattle.buffer_kit.specs.Entries.{addr_of}
-use Rattle.buffer_kit.proofs.Clients.{some_eq, cargo_set, now_or_was, now_there, there_more, other_more}
+use Rattle.buffer_kit.proofs.ManyClients.{some_eq, cargo_set, now_or_was, now_there, there_more, other_more}
 use Rattle.net_virt_tx.specs.declared.client.Client.{Client}
 use Rattle.net_virt_tx.specs.declared.descriptors.Sender.{Sender}
 use Rattle.net_virt_tx.specs.declared.traffic.Traffic.{Traffic}

@@ -1,9 +1,8 @@
 -- What the virtualiser stands for after each call.
-use Rattle.std.proofs.Common.{◌≡◌, ◌⊎◌, ◌+◌, ◌-◌, ◌*◌, ◌==◌, ◌<◌, ◌≤◌, ◌&&◌, ℕ, Bool, true, false, nat_le, nat_lt, cond, inl, inr, Option, Some, None, is_none, IsSome, List, [], ◌∷◌, ◌++◌, length, map, slice_get, slice_index_or, flat_map, refl, sym, ap, ◌∙◌, subst, add-zero, zero-add, eq-eqb, ne_eqb, arith}
+use Rattle.std.proofs.Common.{◌≡◌, ◌⊎◌, ◌+◌, ◌-◌, ◌*◌, ◌==◌, ◌<◌, ◌≤◌, ◌&&◌, ℕ, Bool, true, false, nat_le, nat_lt, cond, inl, inr, Option, Some, None, is_none, IsSome, List, [], ◌∷◌, ◌++◌, length, map, slice_get, slice_index_or, flat_map, refl, sym, ap, ◌∙◌, subst, add-zero, zero-add, eq-eqb, arith}
 use Rattle.std.specs.List.{filter}
 use Rattle.std.specs.Option.{option_to_list}
 use Rattle.std.proofs.lemmas.Bool.{and_from, and_parts, le-leb, lt-ltb, cases_eq, leb-true}
-use Rattle.std.proofs.lemmas.Option.{slice_get-get_or, get_or_from_slice_get}
 use Rattle.std.proofs.lemmas.List.{append-nil, length-map, length-set}
 use Rattle.cargo_core.specs.declared.item.PoolId.{PoolId}
 use Rattle.cargo_core.specs.declared.item.Item.{Item}
@@ -24,7 +23,7 @@ use Rattle.buffer_kit.specs.declared.virt_ends.VirtEnds.{VirtEnds}
 use Rattle.wire_core.specs.Ends.{Role, End}
 use Rattle.buffer_kit.specs.Virtualising.{FitsVirt, SameVirt, from_queues, to_queues}
 use Rattle.buffer_kit.proofs.Passing.{none_more, beside, count_more, first_more, later_more}
-use Rattle.buffer_kit.proofs.Clients.{some_eq, nothing, none_if, queue_there, queue_is, at_client}
+use Rattle.buffer_kit.proofs.ManyClients.{some_eq, nothing, none_if, queue_there, queue_is, at_client}
 use Rattle.net_virt_tx.specs.declared.client.Client.{Client}
 use Rattle.net_virt_tx.specs.declared.descriptors.Sender.{Sender}
 use Rattle.net_virt_tx.specs.declared.traffic.Traffic.{Traffic}

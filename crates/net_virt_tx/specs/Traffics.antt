@@ -1,11 +1,10 @@
 -- What the sending virtualiser keeps of all its clients, and how that stands for what passed.
-use Rattle.std.specs.Prelude.{◌≡◌, ◌⊎◌, ◌+◌, ◌==◌, ◌&&◌, ◌<◌, ◌^◌, ℕ, Bool, false, true, is_none, Option, Some, None, List, [], ◌∷◌, ◌++◌, All, map, flat_map, slice_get, slice_set}
+use Rattle.std.specs.Prelude.{◌≡◌, ◌⊎◌, ◌+◌, ◌&&◌, ◌<◌, ◌^◌, ℕ, Bool, false, true, is_none, Option, Some, List, [], ◌∷◌, ◌++◌, All, map, flat_map, slice_get, slice_set}
 use Rattle.std.specs.List.{list_any, sum_by}
 use Rattle.std.specs.Option.{option_to_list}
 use Rattle.cargo_core.specs.declared.item.Body.{Body}
 use Rattle.cargo_core.specs.Ranges.{AreRanges}
 use Rattle.wire_core.specs.Deeds.{Cargo}
-use Rattle.wire_core.specs.Lists.{if_there}
 use Rattle.turn_kit.specs.Hands.{bodies_of}
 use Rattle.buffer_kit.specs.Entries.{addr_of}
 use Rattle.net_virt_tx.specs.declared.client.Client.{Client}

@@ -1,6 +1,6 @@
 use Rattle.std.proofs.Common.{◌≡◌, ◌+◌, suc, take, flat_map, slice_get, refl, sym, ap, ◌∙◌, arith}
 use Rattle.std.proofs.lemmas.Option.{slice_get_read}
-use Rattle.buffer_kit.proofs.Clients.{held_more}
+use Rattle.buffer_kit.proofs.ManyClients.{held_more}
 use Rattle.blk_virt.specs.Clients.{carried, client_cargo}
 use Rattle.blk_virt.proofs.desk.Desk.held.Goals as goal
 

@@ -1,5 +1,5 @@
 use Rattle.std.proofs.Common.{sym, ap, ◌∙◌, arith}
-use Rattle.buffer_kit.proofs.Clients.{some_eq}
+use Rattle.buffer_kit.proofs.ManyClients.{some_eq}
 use Rattle.blk_virt.specs.declared.opening.Block.{Block}
 use Rattle.blk_virt.specs.Openings.{sector_of}
 use Rattle.blk_virt.proofs.opening.Opening.part.Goals as goal

@@ -2,7 +2,7 @@ use Rattle.std.proofs.Common.{[], None, refl, ap, slice_get, is_none}
 use Rattle.std.specs.Option.{option_to_list}
 use Rattle.std.proofs.lemmas.Bool.{and_parts}
 use Rattle.wire_core.specs.Deeds.{put_of}
-use Rattle.buffer_kit.proofs.Clients.{so_there}
+use Rattle.buffer_kit.proofs.ManyClients.{so_there}
 use Rattle.blk_virt.specs.Clients.{is_held}
 use Rattle.blk_virt.specs.Desks.{held_at, loaded_at}
 use Rattle.blk_virt.proofs.Answering.{moved_desk, same_holders}

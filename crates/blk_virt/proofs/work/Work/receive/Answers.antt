@@ -1,7 +1,7 @@
 use Rattle.std.proofs.Common.{Some, None, Option, [], ◌∷◌, ◌++◌, inl, inr, refl, sym, ap, ◌∙◌, subst, arith}
 use Rattle.std.proofs.lemmas.Bool.{and_parts}
 use Rattle.turn_kit.proofs.Holding.{cargo-cons}
-use Rattle.buffer_kit.proofs.Clients.{some_eq}
+use Rattle.buffer_kit.proofs.ManyClients.{some_eq}
 use Rattle.blk_virt.specs.declared.opening.Block.{Block}
 use Rattle.blk_virt.specs.declared.opening.Opening.{Opening}
 use Rattle.blk_virt.specs.Requests.{brings}

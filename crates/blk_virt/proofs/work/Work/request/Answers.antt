@@ -3,7 +3,7 @@ use Rattle.std.proofs.lemmas.Bool.{and_parts}
 use Rattle.std.proofs.lemmas.Option.{slice_get_read, slice_get_within}
 use Rattle.turn_kit.proofs.Holding.{cargo-cons}
 use Rattle.blk_mbr.specs.Partitions.{part_of}
-use Rattle.buffer_kit.proofs.Clients.{some_eq, so_there}
+use Rattle.buffer_kit.proofs.ManyClients.{some_eq, so_there}
 use Rattle.blk_virt.specs.declared.client.Client.{Client}
 use Rattle.blk_virt.specs.Clients.{is_away, is_idle}
 use Rattle.blk_virt.specs.Openings.{sector_of, is_open}

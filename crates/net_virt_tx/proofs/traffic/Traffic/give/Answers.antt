@@ -6,7 +6,7 @@ use Rattle.std.proofs.lemmas.List.{set-get_or}
 use Rattle.std.proofs.lemmas.List.Elements.{All-nil}
 use Rattle.wire_core.specs.Deeds.{put_of, deed_of, Cargo}
 use Rattle.wire_core.specs.Lists.{put_by, taken_by, if_there}
-use Rattle.buffer_kit.proofs.Clients.{so_there}
+use Rattle.buffer_kit.proofs.ManyClients.{so_there}
 use Rattle.net_virt_tx.specs.Clients.{IsOf, Moved, load_of, is_loaded}
 use Rattle.net_virt_tx.specs.Traffics.{load_at, load_in, is_so}
 use Rattle.net_virt_tx.proofs.traffic.Traffic.give.Goals as goal

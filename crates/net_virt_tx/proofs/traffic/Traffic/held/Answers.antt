@@ -1,7 +1,7 @@
 use Rattle.std.proofs.Common.{◌≡◌, ◌+◌, suc, take, flat_map, slice_get, refl, sym, ap, ◌∙◌, arith}
 use Rattle.std.specs.List.{sum_by}
 use Rattle.std.proofs.lemmas.Option.{slice_get_read}
-use Rattle.buffer_kit.proofs.Clients.{held_more}
+use Rattle.buffer_kit.proofs.ManyClients.{held_more}
 use Rattle.net_virt_tx.specs.Clients.{carried, client_cargo}
 use Rattle.net_virt_tx.proofs.Holding.{places_more, places_few, places_of}
 use Rattle.net_virt_tx.proofs.traffic.Traffic.held.Goals as goal
