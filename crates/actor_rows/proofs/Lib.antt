@@ -6,3 +6,4 @@ pub mod Driving
 pub mod Merging
 pub mod SeatsLemmas
 pub mod NetTx
+pub mod Emptiness

@@ -9,7 +9,8 @@ use plain_wires::World;
 use std::alloc::Global;
 use wire_core::{ActorId, QueueRow};
 
-fn row(alloc: Global, kind: QueueKind, capacity: u32) -> Result<QueueRow, Memory>
+/// A queue of a kind from actor 0 to actor 1, which holds up to `capacity` entries.
+pub fn row(alloc: Global, kind: QueueKind, capacity: u32) -> Result<QueueRow, Memory>
     ensures kind { IfOk result (λ r. r.kind ≡ kind) }
     ensures capacity { IfOk result (λ r. r.capacity ≡ capacity) }
 {

@@ -15,8 +15,8 @@ use std::ops::{Deref, DerefMut};
 use turn_kit::Pipe;
 use wire_core::QueueId;
 
-/// The driver of a disk: its first pipe moves requests to the disk, its second the disk's responses.
-/// From sDDF's design document.
+/// The driver of a disk: its first pipe moves requests to the disk, its second the disk's
+/// responses. From sDDF's design document.
 #[derive(Drop)]
 pub struct BlkDriver {
     pub driver: PipeDriver<Pipes<Pipe>>,

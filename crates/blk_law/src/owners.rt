@@ -1,5 +1,6 @@
-//! The owners of the block class's buffers: what is said of each of its actors lets it put only what
-//! it had at the start and took. A response brings back the buffer of the request of its place.
+//! The owners of the block class's buffers: what is said of each of its actors lets it put only
+//! what it had at the start and took. A response brings back the buffer of the request of its
+//! place.
 
 ghost use Rattle.std.specs.Prelude.{ℕ, List};
 ghost use Rattle.cargo_core.specs.declared.item.Ask.{Ask};

@@ -1,5 +1,5 @@
-//! What a client of the block class recorded at any moment, from the rows of client, virtualiser and
-//! disk, apart from any system.
+//! What a client of the block class recorded at any moment, from the rows of client, virtualiser
+//! and disk, apart from any system.
 
 ghost use Rattle.std.specs.Prelude.{◌≡◌, ℕ, true, List};
 ghost use Rattle.cargo_core.specs.declared.item.Ask.{Ask};

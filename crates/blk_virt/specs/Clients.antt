@@ -1,5 +1,7 @@
 -- What the block virtualiser keeps of one client, and how that stands for what passed.
-use Rattle.std.specs.Prelude.{◌≡◌, ◌+◌, ◌*◌, ◌<◌, ◌≤◌, ◌^◌, ◌&&◌, ℕ, Bool, true, false, is_some, is_none, if◌then◌else◌, Option, Some, None, List, [], ◌∷◌, ◌++◌, length, map}
+use Rattle.std.specs.Prelude.{◌≡◌, ◌+◌, ◌*◌, ◌<◌, ◌≤◌, ◌^◌, ◌&&◌, ℕ, Bool, true, false, is_some}
+use Rattle.std.specs.Prelude.{is_none, if◌then◌else◌, Option, Some, None, List, [], ◌∷◌, ◌++◌}
+use Rattle.std.specs.Prelude.{length, map}
 use Rattle.std.specs.List.{filter}
 use Rattle.std.specs.Option.{option_map, option_to_list}
 use Rattle.cargo_core.specs.declared.item.Body.{Body}
@@ -11,7 +13,8 @@ use Rattle.blk_mbr.specs.declared.part.Part.{Part}
 use Rattle.blk_virt.specs.declared.client.Client.{Client}
 use Rattle.blk_virt.specs.declared.client.Current.{Current}
 use Rattle.blk_virt.specs.declared.requests.Holder.{Holder}
-use Rattle.blk_virt.specs.Requests.{request_of, goes_on, is_bad, for_disk, page_named, brings, numbered, number_of, is_at}
+use Rattle.blk_virt.specs.Requests.{request_of, goes_on, is_bad, for_disk, page_named, brings}
+use Rattle.blk_virt.specs.Requests.{numbered, number_of, is_at}
 use Rattle.blk_virt.specs.Serving.{answers_to, AllBring, unnumbered}
 pub use Rattle.buffer_kit.specs.Clients.{capped, carried}
 

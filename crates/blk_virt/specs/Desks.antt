@@ -1,5 +1,6 @@
 -- What the block virtualiser keeps of all its clients, and how that stands for what passed.
-use Rattle.std.specs.Prelude.{◌≡◌, ◌⊎◌, ◌+◌, ◌≤◌, ◌==◌, ℕ, Bool, true, false, Option, Some, None, List, [], ◌∷◌, ◌++◌, length, map, flat_map, slice_get, slice_set}
+use Rattle.std.specs.Prelude.{◌≡◌, ◌⊎◌, ◌+◌, ◌≤◌, ◌==◌, ℕ, Bool, true, false, Option, Some, None}
+use Rattle.std.specs.Prelude.{List, [], ◌∷◌, ◌++◌, length, map, flat_map, slice_get, slice_set}
 use Rattle.std.specs.List.{list_any, sum_by}
 use Rattle.std.specs.Option.{option_map}
 use Rattle.cargo_core.specs.Ranges.{AreRanges}
@@ -12,7 +13,8 @@ use Rattle.blk_virt.specs.declared.desk.Desk.{Desk}
 use Rattle.blk_virt.specs.declared.requests.Holder.{Holder}
 use Rattle.blk_virt.specs.Requests.{page_named, numbered, number_of, is_at, range_of}
 use Rattle.blk_virt.specs.Serving.{own_of, own_back}
-use Rattle.blk_virt.specs.Clients.{IsClient, ClientStands, Moved, brought, capped, client_cargo, is_away, is_held, is_idle, is_leaving}
+use Rattle.blk_virt.specs.Clients.{IsClient, ClientStands, Moved, brought, capped, client_cargo}
+use Rattle.blk_virt.specs.Clients.{is_away, is_held, is_idle, is_leaving}
 use Rattle.buffer_kit.specs.Clients.{entry_in}
 pub use Rattle.buffer_kit.specs.Clients.{is_so, with_more}
 

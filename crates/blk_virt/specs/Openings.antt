@@ -1,6 +1,7 @@
 -- How the block virtualiser begins: it reads the disk's first block with its own buffer, and knows
 -- the partitions once that came.
-use Rattle.std.specs.Prelude.{◌≡◌, ◌&&◌, ℕ, nat_le, Bool, false, is_none, is_some, Option, None, Some, List, [], ◌∷◌, length, take}
+use Rattle.std.specs.Prelude.{◌≡◌, ◌&&◌, ℕ, nat_le, Bool, false, is_none, is_some, Option, None}
+use Rattle.std.specs.Prelude.{Some, List, [], ◌∷◌, length, take}
 use Rattle.cargo_core.specs.declared.item.Body.{Body}
 use Rattle.cargo_core.specs.declared.item.Body.TheVariants as Carried
 use Rattle.cargo_core.specs.declared.item.Code.TheVariants as Asked

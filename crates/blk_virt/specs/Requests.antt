@@ -1,5 +1,6 @@
 -- How the requests of one client are judged, answered and sent on to the disk.
-use Rattle.std.specs.Prelude.{◌+◌, ◌*◌, ◌==◌, ◌&&◌, ℕ, Bool, true, false, not, nat_lt, Option, None, Some}
+use Rattle.std.specs.Prelude.{◌+◌, ◌*◌, ◌==◌, ◌&&◌, ℕ, Bool, true, false, not, nat_lt, Option, None}
+use Rattle.std.specs.Prelude.{Some}
 use Rattle.cargo_core.specs.declared.item.BlkReq.{BlkReq}
 use Rattle.cargo_core.specs.declared.item.BlkResp.{BlkResp}
 use Rattle.cargo_core.specs.declared.item.BlkStatus.{BlkStatus}

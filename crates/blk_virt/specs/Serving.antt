@@ -1,12 +1,14 @@
 -- What the block virtualiser does for one client, by what came from it, what went to the driver,
 -- what came back from the driver and what went back to the client.
-use Rattle.std.specs.Prelude.{◌≡◌, ◌+◌, ◌≤◌, true, if◌then◌else◌, Option, List, [], ◌∷◌, length, map}
+use Rattle.std.specs.Prelude.{◌≡◌, ◌+◌, ◌≤◌, true, if◌then◌else◌, Option, List, [], ◌∷◌, length}
+use Rattle.std.specs.Prelude.{map}
 use Rattle.std.specs.List.{filter}
 use Rattle.cargo_core.specs.Lists.{IsPrefix}
 use Rattle.wire_core.specs.Deeds.{Cargo}
 use Rattle.blk_mbr.specs.declared.part.Part.{Part}
 use Rattle.blk_virt.specs.declared.requests.Holder.{Holder}
-use Rattle.blk_virt.specs.Requests.{request_of, goes_on, for_disk, numbered, refusal, passed_on, page_named, brings, is_at}
+use Rattle.blk_virt.specs.Requests.{request_of, goes_on, for_disk, numbered, refusal, passed_on}
+use Rattle.blk_virt.specs.Requests.{page_named, brings, is_at}
 
 -- of the requests at the driver, those at the client's buffers
 abbrev pub own_of : Holder → List Cargo → List Cargo

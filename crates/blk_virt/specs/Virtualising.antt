@@ -1,5 +1,6 @@
 -- The block virtualiser: what it must fit, what it stands for, and its row.
-use Rattle.std.specs.Prelude.{◌≡◌, ◌+◌, ◌*◌, ◌≤◌, ◌<◌, ◌^◌, ◌%◌, ℕ, is_none, Option, None, Some, List, [], ◌∷◌, ◌++◌, All, length, map, drop, slice_get}
+use Rattle.std.specs.Prelude.{◌≡◌, ◌+◌, ◌*◌, ◌≤◌, ◌<◌, ◌^◌, ◌%◌, ℕ, is_none, Option, None, Some}
+use Rattle.std.specs.Prelude.{List, [], ◌∷◌, ◌++◌, All, length, map, drop, slice_get}
 use Rattle.std.specs.List.{filter}
 use Rattle.std.specs.Option.{option_to_list}
 use Rattle.cargo_core.specs.declared.item.Body.TheVariants as Carried
@@ -12,7 +13,8 @@ use Rattle.wire_core.specs.Lists.{Passed}
 use Rattle.wire_core.specs.Ends.{Role, End}
 use Rattle.turn_kit.specs.Turns.{Round}
 use Rattle.turn_kit.specs.Hands.{Balances, bodies_of, bodies_at}
-use Rattle.buffer_kit.specs.Virtualising.{SameVirt, IsNewVirt, VirtForgot, VirtOwns, virt_round, virt_came, virt_went, from_queues, to_queues}
+use Rattle.buffer_kit.specs.Virtualising.{SameVirt, IsNewVirt, VirtForgot, VirtOwns, virt_round}
+use Rattle.buffer_kit.specs.Virtualising.{virt_came, virt_went, from_queues, to_queues}
 use Rattle.blk_mbr.specs.declared.part.Part.{Part}
 use Rattle.blk_virt.specs.declared.client.Client.{Client}
 use Rattle.blk_virt.specs.declared.virtualiser.BlkEnds.{BlkEnds}
@@ -24,7 +26,8 @@ use Rattle.blk_virt.specs.Clients.{capped}
 use Rattle.blk_virt.specs.Ends.{FitsEnds}
 use Rattle.blk_virt.specs.Openings.{IsOutOfTurn, KnowsParts, first_read}
 use Rattle.blk_virt.specs.Desks.{IsSomeones, holders}
-use Rattle.blk_virt.specs.Works.{IsWork, SameWork, WorkStands, wants_at, gives_at, is_owing, work_cargo}
+use Rattle.blk_virt.specs.Works.{IsWork, SameWork, WorkStands, wants_at, gives_at, is_owing}
+use Rattle.blk_virt.specs.Works.{work_cargo}
 pub use Rattle.buffer_kit.specs.Clients.{queue_at}
 
 -- its ends are its own, and as it keeps them; each client has one each way
@@ -57,10 +60,10 @@ BlkVirtStandsFor v passed = VirtStands v.ends.input.queue.0 v.ends.output.queue.
     (from_queues v.ends) (to_queues v.ends) v.work passed
 
 -- of the responses that it took in turn, which are all but one that came last: the first entry that
--- it put reads block 0 with its own buffer, which has room for it, and entry j has the number j, modulo 2^32; each other is
--- at some client's buffer; it serves each client by its partition, which the sector of the first
--- response tells; nothing is taken from a client before that came; and of each client it counts the
--- requests whose buffer isn't the client's own
+-- it put reads block 0 with its own buffer, which has room for it, and entry j has the number j,
+-- modulo 2^32; each other is at some client's buffer; it serves each client by its partition,
+-- which the sector of the first response tells; nothing is taken from a client before that came;
+-- and of each client it counts the requests whose buffer isn't the client's own
 pub record BlkVirtRow (v : BlkVirt) (passed : Passed) : Type 0 where
   pub start : Paged
   pub long : 4096 ≤ length start.bytes

@@ -1,5 +1,6 @@
 -- What the block virtualiser has in its hand, and how that stands for what passed.
-use Rattle.std.specs.Prelude.{◌≡◌, ◌⊎◌, ◌+◌, ◌<◌, ◌^◌, ◌%◌, ◌&&◌, ◌||◌, ℕ, Bool, is_none, Option, Some, List, [], ◌∷◌, ◌++◌, length, drop, slice_get}
+use Rattle.std.specs.Prelude.{◌≡◌, ◌⊎◌, ◌+◌, ◌<◌, ◌^◌, ◌%◌, ◌&&◌, ◌||◌, ℕ, Bool, is_none, Option}
+use Rattle.std.specs.Prelude.{Some, List, [], ◌∷◌, ◌++◌, length, drop, slice_get}
 use Rattle.std.specs.Option.{option_to_list}
 use Rattle.cargo_core.specs.declared.item.PoolId.{PoolId}
 use Rattle.cargo_core.specs.declared.item.QueueKind.TheVariants as Kind
@@ -11,8 +12,10 @@ use Rattle.blk_virt.specs.declared.opening.Block.{Block}
 use Rattle.blk_virt.specs.declared.work.Work.{Work}
 use Rattle.blk_virt.specs.Requests.{number_of}
 use Rattle.blk_virt.specs.Clients.{carried}
-use Rattle.blk_virt.specs.Openings.{OpeningStands, KnowsParts, IsOutOfTurn, block_cargo, block_of, is_open, is_reading}
-use Rattle.blk_virt.specs.Desks.{IsDesk, DeskStands, desk_cargo, holders, needs_at, loaded_at, owes, with_more}
+use Rattle.blk_virt.specs.Openings.{OpeningStands, KnowsParts, IsOutOfTurn, block_cargo, block_of}
+use Rattle.blk_virt.specs.Openings.{is_open, is_reading}
+use Rattle.blk_virt.specs.Desks.{IsDesk, DeskStands, desk_cargo, holders, needs_at, loaded_at, owes}
+use Rattle.blk_virt.specs.Desks.{with_more}
 
 -- the client's next request is needed
 abbrev pub wants_at : Work → ℕ → Bool

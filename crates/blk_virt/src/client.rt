@@ -1,5 +1,6 @@
 //! What the block virtualiser keeps of one client.
-ghost use Rattle.std.specs.Prelude.{Option, ◌≡◌, ◌+◌, ◌*◌, ◌<◌, ◌≤◌, ◌^◌, ◌++◌, ◌∷◌, ◌==◌, [], ℕ, None, Some, true, false, is_some, length, slice_get, min};
+ghost use Rattle.std.specs.Prelude.{Option, ◌≡◌, ◌+◌, ◌*◌, ◌<◌, ◌≤◌, ◌^◌, ◌++◌, ◌∷◌, ◌==◌, [], ℕ};
+ghost use Rattle.std.specs.Prelude.{None, Some, true, false, is_some, length, slice_get, min};
 ghost use Rattle.std.specs.Option.{ForSome, option_map, option_to_list};
 ghost use Rattle.blk_mbr.specs.declared.part.Part.{Part};
 ghost use Rattle.wire_core.specs.Deeds.{deed_of, put_of};
@@ -7,10 +8,14 @@ ghost use Rattle.wire_core.specs.Lists.{taken_by, put_by, if_there};
 ghost use Rattle.wire_core.specs.Ends.{role_of};
 ghost use Rattle.wire_core.specs.Marks.{is_mark};
 ghost use Rattle.turn_kit.specs.Turns.{PostedAt};
-ghost use Rattle.buffer_kit.specs.Virtualising.{VirtOwns, SameVirt, from_queues, to_queues, virt_posts};
+ghost use Rattle.buffer_kit.specs.Virtualising.{VirtOwns, SameVirt, from_queues, to_queues};
+ghost use Rattle.buffer_kit.specs.Virtualising.{virt_posts};
 ghost use Rattle.blk_virt.specs.Ends.{FitsEnds};
-ghost use Rattle.blk_virt.specs.Requests.{goes_on, number_of, for_disk, page_named, numbered, brings};
-ghost use Rattle.blk_virt.specs.Clients.{carried, client_cargo, IsClient, IsFresh, Moved, is_idle, is_leaving, is_away, is_held, counted, brought, leaving_as, WentOff};
+ghost use Rattle.blk_virt.specs.Requests.{goes_on, number_of, for_disk, page_named, numbered};
+ghost use Rattle.blk_virt.specs.Requests.{brings};
+ghost use Rattle.blk_virt.specs.Clients.{carried, client_cargo, IsClient, IsFresh, Moved, is_idle};
+ghost use Rattle.blk_virt.specs.Clients.{is_leaving, is_away, is_held, counted, brought};
+ghost use Rattle.blk_virt.specs.Clients.{leaving_as, WentOff};
 
 use crate::{Holder, PageName, brings, numbered, page_named, passed_on, request_of};
 use blk_mbr::Part;

@@ -1,5 +1,7 @@
 //! What the block virtualiser keeps of all its clients.
-ghost use Rattle.std.specs.Prelude.{◌≡◌, ◌+◌, ◌-◌, ◌*◌, ◌<◌, ◌≤◌, ◌^◌, ◌++◌, ◌∷◌, ◌==◌, [], ℕ, List, Option, Some, None, true, false, is_some, length, slice_get, IfOk};
+ghost use Rattle.std.specs.Prelude.{◌≡◌, ◌+◌, ◌-◌, ◌*◌, ◌<◌, ◌≤◌, ◌^◌, ◌++◌, ◌∷◌, ◌==◌, [], ℕ};
+ghost use Rattle.std.specs.Prelude.{List, Option, Some, None, true, false, is_some, length};
+ghost use Rattle.std.specs.Prelude.{slice_get, IfOk};
 ghost use Rattle.std.specs.Option.{ForSome, MatchOption, option_map, option_to_list};
 ghost use Rattle.cargo_core.specs.declared.item.PoolId.{PoolId};
 ghost use Rattle.cargo_core.specs.Bodies.{buffers_in};
@@ -8,13 +10,16 @@ ghost use Rattle.wire_core.specs.Lists.{taken_by, put_by, if_there};
 ghost use Rattle.wire_core.specs.Ends.{role_of};
 ghost use Rattle.wire_core.specs.Marks.{is_mark};
 ghost use Rattle.turn_kit.specs.Turns.{PostedAt};
-ghost use Rattle.buffer_kit.specs.Virtualising.{VirtOwns, SameVirt, from_queues, to_queues, virt_posts};
+ghost use Rattle.buffer_kit.specs.Virtualising.{VirtOwns, SameVirt, from_queues, to_queues};
+ghost use Rattle.buffer_kit.specs.Virtualising.{virt_posts};
 ghost use Rattle.blk_mbr.specs.declared.part.Part.{Part};
 ghost use Rattle.blk_virt.specs.declared.client.Client.{Client};
 ghost use Rattle.blk_virt.specs.declared.desk.Desk.{Desk};
 ghost use Rattle.blk_virt.specs.Ends.{FitsEnds};
 ghost use Rattle.blk_virt.specs.Clients.{is_away, is_leaving, carried};
-ghost use Rattle.blk_virt.specs.Desks.{IsDesk, DeskStands, IsRequestOf, desk_cargo, with_more, OneMoved, IsStill, SentAs, needs_at, loaded_at, owes, held_at, leaving_at, leaving_with, is_due, bad_count};
+ghost use Rattle.blk_virt.specs.Desks.{IsDesk, DeskStands, IsRequestOf, desk_cargo, with_more};
+ghost use Rattle.blk_virt.specs.Desks.{OneMoved, IsStill, SentAs, needs_at, loaded_at, owes};
+ghost use Rattle.blk_virt.specs.Desks.{held_at, leaving_at, leaving_with, is_due, bad_count};
 
 use crate::{Client, Line};
 use blk_mbr::Part;

@@ -1,11 +1,13 @@
 //! How the block virtualiser begins: it reads the disk's first block, which has the partitions.
-ghost use Rattle.std.specs.Prelude.{◌≡◌, ◌+◌, ◌<◌, ◌≤◌, ◌^◌, ◌∷◌, [], ℕ, true, None, Some, List, is_some};
+ghost use Rattle.std.specs.Prelude.{◌≡◌, ◌+◌, ◌<◌, ◌≤◌, ◌^◌, ◌∷◌, [], ℕ, true, None, Some, List};
+ghost use Rattle.std.specs.Prelude.{is_some};
 ghost use Rattle.std.specs.Option.{ForSome, option_to_list};
 ghost use Rattle.cargo_core.specs.Bodies.{buffers_of};
 ghost use Rattle.wire_core.specs.Deeds.{Cargo};
 ghost use Rattle.blk_mbr.specs.Partitions.{part_of, partitions_of};
 ghost use Rattle.blk_virt.specs.Clients.{carried};
-ghost use Rattle.blk_virt.specs.Openings.{block_cargo, first_read, has_sector, sector_of, is_reading, is_open, is_first, block_of};
+ghost use Rattle.blk_virt.specs.Openings.{block_cargo, first_read, has_sector, sector_of};
+ghost use Rattle.blk_virt.specs.Openings.{is_reading, is_open, is_first, block_of};
 
 use crate::{PageName, brings};
 use blk_mbr::{Part, Partitions, partition_law, read_mbr};
@@ -142,8 +144,8 @@ impl Opening {
         self.block = Some(Block { entry, table });
     }
 
-    /// How many buffers of a pool it has here: that of the read which isn't put yet, and that of the
-    /// block which came.
+    /// How many buffers of a pool it has here: that of the read which isn't put yet, and that of
+    /// the block which came.
     pub fn held(&self, pool: PoolId) -> u32
         ensures held { result ≡ carried pool (option_to_list self.now.first)
             + carried pool (block_cargo self.now.block) }

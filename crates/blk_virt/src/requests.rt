@@ -2,7 +2,9 @@
 ghost use Rattle.std.specs.Prelude.{◌≡◌, ◌+◌, ◌*◌, ◌<◌, ◌≤◌, ◌^◌, true, ℕ, Some};
 ghost use Rattle.std.specs.Option.{ForSome};
 ghost use Rattle.blk_mbr.specs.declared.part.Part.{Part};
-ghost use Rattle.blk_virt.specs.Requests.{request_of, response_of, moves_blocks, is_own, is_bad, judged, goes_on, first_block, asked_of_disk, for_disk, numbered, refusal, passed_on, page_named, brings};
+ghost use Rattle.blk_virt.specs.Requests.{request_of, response_of, moves_blocks, is_own, is_bad};
+ghost use Rattle.blk_virt.specs.Requests.{judged, goes_on, first_block, asked_of_disk, for_disk};
+ghost use Rattle.blk_virt.specs.Requests.{numbered, refusal, passed_on, page_named, brings};
 
 use blk_expect::judge;
 use blk_mbr::Part;

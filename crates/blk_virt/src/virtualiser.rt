@@ -1,15 +1,22 @@
 //! The block virtualiser itself: the ends that it steps, and whose turn it is.
-ghost use Rattle.std.specs.Prelude.{◌≡◌, ◌+◌, ◌-◌, ◌<◌, ◌≤◌, ◌^◌, ℕ, IfOk, is_none, length, map, false};
+ghost use Rattle.std.specs.Prelude.{◌≡◌, ◌+◌, ◌-◌, ◌<◌, ◌≤◌, ◌^◌, ℕ, IfOk, is_none, length, map};
+ghost use Rattle.std.specs.Prelude.{false};
 ghost use Rattle.cargo_core.specs.Bodies.{buffers_of};
 ghost use Rattle.turn_kit.specs.Hands.{bodies_of};
 ghost use Rattle.wire_core.specs.Ends.{role_of, Role, End};
 ghost use Rattle.wire_core.specs.Lists.{Passed, Stepped, nothing_passed};
 ghost use Rattle.wire_core.specs.Marks.{is_mark};
-ghost use Rattle.turn_kit.specs.Turns.{Turned, PostedAt, choice_of, chosen_place, last_after, is_at_rest};
-ghost use Rattle.buffer_kit.specs.Virtualising.{from_queues, to_queues, virt_posts, place_of, IsThere, need_of};
+ghost use Rattle.turn_kit.specs.Turns.{Turned, PostedAt, choice_of, chosen_place, last_after};
+ghost use Rattle.turn_kit.specs.Turns.{is_at_rest};
+ghost use Rattle.buffer_kit.specs.Virtualising.{from_queues, to_queues, virt_posts, place_of};
+ghost use Rattle.buffer_kit.specs.Virtualising.{IsThere, need_of};
 ghost use Rattle.blk_virt.specs.Desks.{bad_count};
-ghost use Rattle.blk_virt.specs.Works.{IsWork, WorkIsStill, wants_at, gives_at, is_owing, work_cargo};
-ghost use Rattle.blk_virt.specs.Virtualising.{FitsBlkVirt, BlkVirtStandsFor, BlkVirtEnd, SameBlkVirt, BlkVirtForgot, BlkVirtRow, BlkVirtBalances, AreClients, IsNewBlkVirt, new_client, blk_virt_round};
+ghost use Rattle.blk_virt.specs.Works.{IsWork, WorkIsStill, wants_at, gives_at, is_owing};
+ghost use Rattle.blk_virt.specs.Works.{work_cargo};
+ghost use Rattle.blk_virt.specs.Virtualising.{FitsBlkVirt, BlkVirtStandsFor, BlkVirtEnd};
+ghost use Rattle.blk_virt.specs.Virtualising.{SameBlkVirt, BlkVirtForgot, BlkVirtRow};
+ghost use Rattle.blk_virt.specs.Virtualising.{BlkVirtBalances, AreClients, IsNewBlkVirt};
+ghost use Rattle.blk_virt.specs.Virtualising.{new_client, blk_virt_round};
 
 use crate::{Client, Desk, Giving, Holder, Line, Opening, Wanting, Work};
 use buffer_kit::{BlkCargo, VirtEnd, VirtEnds};
@@ -17,9 +24,9 @@ use cargo_core::{Memory, Page, PoolId};
 use std::alloc::Global;
 use wire_core::{Event, QueueId, Wires};
 
-/// A client of the virtualiser: the queues on which its requests come and its responses go, the entry
-/// of its partition, its pool, how many buffers that has, and the device address at which the first
-/// of them begins.
+/// A client of the virtualiser: the queues on which its requests come and its responses go, the
+/// entry of its partition, its pool, how many buffers that has, and the device address at which
+/// the first of them begins.
 #[derive(Clone, Copy, Debug, PartialEq, Eq)]
 pub struct BlkEnds {
     pub base: u64,
@@ -91,8 +98,8 @@ fn clients_of(alloc: Global, clients: &[BlkEnds]) -> Result<Vec<Client>, Memory>
 
 impl BlkVirt {
     /// A virtualiser in its start state. Requests go to `req`, and responses come at `resp`; the
-    /// page is its own buffer, which has room for a block and begins at the device address `base`. It
-    /// takes the memory for one request of each client at the driver.
+    /// page is its own buffer, which has room for a block and begins at the device address `base`.
+    /// It takes the memory for one request of each client at the driver.
     pub fn new(
         alloc: Global,
         req: QueueId,

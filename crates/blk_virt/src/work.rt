@@ -1,5 +1,6 @@
 //! What the block virtualiser has in its hand.
-ghost use Rattle.std.specs.Prelude.{◌≡◌, ◌+◌, ◌-◌, ◌<◌, ◌^◌, ◌++◌, ◌∷◌, ◌==◌, ◌&&◌, [], ℕ, List, None, Some, true, false, is_some, length, slice_get};
+ghost use Rattle.std.specs.Prelude.{◌≡◌, ◌+◌, ◌-◌, ◌<◌, ◌^◌, ◌++◌, ◌∷◌, ◌==◌, ◌&&◌, [], ℕ, List};
+ghost use Rattle.std.specs.Prelude.{None, Some, true, false, is_some, length, slice_get};
 ghost use Rattle.std.specs.Option.{option_to_list};
 ghost use Rattle.cargo_core.specs.declared.item.PoolId.{PoolId};
 ghost use Rattle.cargo_core.specs.Bodies.{buffers_in};
@@ -9,13 +10,15 @@ ghost use Rattle.wire_core.specs.Lists.{taken_by, put_by, if_there};
 ghost use Rattle.wire_core.specs.Ends.{role_of};
 ghost use Rattle.wire_core.specs.Marks.{is_mark};
 ghost use Rattle.turn_kit.specs.Turns.{PostedAt};
-ghost use Rattle.buffer_kit.specs.Virtualising.{VirtOwns, SameVirt, from_queues, to_queues, virt_posts};
+ghost use Rattle.buffer_kit.specs.Virtualising.{VirtOwns, SameVirt, from_queues, to_queues};
+ghost use Rattle.buffer_kit.specs.Virtualising.{virt_posts};
 ghost use Rattle.blk_virt.specs.Ends.{FitsEnds};
 ghost use Rattle.blk_virt.specs.declared.client.Client.{Client};
 ghost use Rattle.blk_virt.specs.Clients.{carried};
 ghost use Rattle.blk_virt.specs.Desks.{is_due, held_at, leaving_at, leaving_with, with_more};
 ghost use Rattle.blk_virt.specs.Openings.{is_open, is_reading};
-ghost use Rattle.blk_virt.specs.Works.{IsWork, SameWork, WorkStands, WorkIsStill, Sent, Gave, Received, wants_at, gives_at, is_owing, work_cargo};
+ghost use Rattle.blk_virt.specs.Works.{IsWork, SameWork, WorkStands, WorkIsStill, Sent, Gave};
+ghost use Rattle.blk_virt.specs.Works.{Received, wants_at, gives_at, is_owing, work_cargo};
 
 use crate::{Desk, Opening};
 use buffer_kit::{BlkCargo, VirtEnds};

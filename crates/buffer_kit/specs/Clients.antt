@@ -1,5 +1,6 @@
 -- What virtualisers keep of their clients, whatever their class.
-use Rattle.std.specs.Prelude.{◌-◌, ◌^◌, ◌==◌, ◌++◌, ℕ, Bool, false, min, Option, Some, None, List, slice_index_or}
+use Rattle.std.specs.Prelude.{◌-◌, ◌^◌, ◌==◌, ◌++◌, ℕ, Bool, false, min, Option, Some, None, List}
+use Rattle.std.specs.Prelude.{slice_index_or}
 use Rattle.cargo_core.specs.declared.item.PoolId.{PoolId}
 use Rattle.cargo_core.specs.Bodies.{buffers_of}
 use Rattle.wire_core.specs.declared.names.QueueId.{QueueId}

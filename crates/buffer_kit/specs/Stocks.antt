@@ -1,5 +1,6 @@
 -- Buffers that are still to be given, in their order.
-use Rattle.std.specs.Prelude.{◌≡◌, ◌+◌, ◌*◌, ◌<◌, ◌^◌, None, List, [], ◌++◌, All, length, map, reverse, option_to_list}
+use Rattle.std.specs.Prelude.{◌≡◌, ◌+◌, ◌*◌, ◌<◌, ◌^◌, None, List, [], ◌++◌, All, length, map}
+use Rattle.std.specs.Prelude.{reverse, option_to_list}
 use Rattle.cargo_core.specs.declared.item.Body.{Body}
 use Rattle.cargo_core.specs.Items.{kind_of}
 use Rattle.cargo_core.specs.declared.item.QueueKind.TheVariants as Kind

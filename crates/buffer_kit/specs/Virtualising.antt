@@ -1,5 +1,6 @@
 -- The ends of a virtualiser: one for each way of the driver, and one for each way of each client.
-use Rattle.std.specs.Prelude.{◌≡◌, ◌⊎◌, ◌+◌, ◌<◌, ◌^◌, ℕ, Bool, None, Some, List, ◌∷◌, ◌++◌, length, map, slice_get}
+use Rattle.std.specs.Prelude.{◌≡◌, ◌⊎◌, ◌+◌, ◌<◌, ◌^◌, ℕ, Bool, None, Some, List, ◌∷◌, ◌++◌, length}
+use Rattle.std.specs.Prelude.{map, slice_get}
 use Rattle.cargo_core.specs.declared.item.QueueKind.{QueueKind}
 use Rattle.cargo_core.specs.declared.item.QueueKind.TheVariants as Kind
 use Rattle.wire_core.specs.declared.names.QueueId.{QueueId}
@@ -8,7 +9,8 @@ use Rattle.wire_core.specs.Ends.{Role, Consumer, Producer, End}
 use Rattle.turn_kit.specs.Table.{Agrees, start_state}
 use Rattle.turn_kit.specs.Turns.{Post, Round}
 use Rattle.turn_kit.specs.Posts.{intake_post, outlet_post}
-use Rattle.turn_kit.specs.ManyEnds.{FitsIntakes, FitsOutlets, intake_queues, outlet_queues, intake_posts, outlet_posts, needs_from}
+use Rattle.turn_kit.specs.ManyEnds.{FitsIntakes, FitsOutlets, intake_queues, outlet_queues}
+use Rattle.turn_kit.specs.ManyEnds.{intake_posts, outlet_posts, needs_from}
 use Rattle.turn_kit.specs.declared.ends.Intake.{Intake}
 use Rattle.turn_kit.specs.declared.ends.Outlet.{Outlet}
 use Rattle.buffer_kit.specs.declared.virt_ends.VirtEnd.{VirtEnd}

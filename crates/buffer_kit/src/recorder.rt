@@ -1,5 +1,6 @@
 //! A pipe that records the frames which pass through it.
-ghost use Rattle.std.specs.Prelude.{◌≡◌, ◌==◌, ◌≤◌, ◌<◌, ◌++◌, ℕ, [], map, IfOk, OnOk, OnErr, is_none, is_some, false};
+ghost use Rattle.std.specs.Prelude.{◌≡◌, ◌==◌, ◌≤◌, ◌<◌, ◌++◌, ℕ, [], map, IfOk, OnOk, OnErr};
+ghost use Rattle.std.specs.Prelude.{is_none, is_some, false};
 ghost use Rattle.std.specs.Option.{option_to_list};
 ghost use Rattle.wire_core.specs.Deeds.{deed_of, put_of};
 ghost use Rattle.wire_core.specs.Lists.{Passed, with_deed, taken_by, put_by, if_there};

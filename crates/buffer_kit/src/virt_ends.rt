@@ -1,6 +1,8 @@
 //! All ends of a virtualiser: two at the driver's queues, and for each client one where entries
 //! come and one where they go.
-ghost use Rattle.std.specs.Prelude.{◌≡◌, ◌==◌, ◌+◌, ◌<◌, ◌^◌, ◌++◌, ◌&&◌, ℕ, [], IfOk, IfSome, IsSome, length, map, is_some, slice_get, Some, None, true, false};
+ghost use Rattle.std.specs.Prelude.{◌≡◌, ◌==◌, ◌+◌, ◌<◌, ◌^◌, ◌++◌, ◌&&◌, ℕ, [], IfOk, IfSome};
+ghost use Rattle.std.specs.Prelude.{IsSome, length, map, is_some, slice_get, Some, None, true};
+ghost use Rattle.std.specs.Prelude.{false};
 ghost use Rattle.std.specs.Option.{ForSome, option_to_list};
 ghost use Rattle.cargo_core.specs.Items.{kind_of};
 ghost use Rattle.wire_core.specs.Deeds.{deed_of, put_of};
@@ -8,7 +10,11 @@ ghost use Rattle.wire_core.specs.Lists.{taken_by, put_by, if_there};
 ghost use Rattle.wire_core.specs.Ends.{role_of, Role, Consumer, Producer, End};
 ghost use Rattle.wire_core.specs.Marks.{is_mark};
 ghost use Rattle.turn_kit.specs.Turns.{PostedAt, choice_of, chosen_place, last_after, is_at_rest};
-ghost use Rattle.buffer_kit.specs.Virtualising.{EndKinds, FitsKinds, VirtOwns, SameVirt, IsNewVirt, VirtForgot, new_intake, new_outlet, intake_forgotten, outlet_forgotten, from_queues, to_queues, virt_posts, virt_round, place_of, IsThere, net_kinds, blk_kinds};
+ghost use Rattle.buffer_kit.specs.Virtualising.{EndKinds, FitsKinds, VirtOwns, SameVirt, IsNewVirt};
+ghost use Rattle.buffer_kit.specs.Virtualising.{VirtForgot, new_intake, new_outlet};
+ghost use Rattle.buffer_kit.specs.Virtualising.{intake_forgotten, outlet_forgotten, from_queues};
+ghost use Rattle.buffer_kit.specs.Virtualising.{to_queues, virt_posts, virt_round, place_of};
+ghost use Rattle.buffer_kit.specs.Virtualising.{IsThere, net_kinds, blk_kinds};
 
 use cargo_core::{Body, Item, Memory};
 use std::alloc::Global;

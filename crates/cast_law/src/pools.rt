@@ -1,5 +1,5 @@
-//! The pools of a cast, of whatever classes it has: what a program counts in queues and hands and as
-//! lent is what the table of owners says after the journal.
+//! The pools of a cast, of whatever classes it has: what a program counts in queues and hands and
+//! as lent is what the table of owners says after the journal.
 
 ghost use Rattle.std.specs.Prelude.{◌≡◌, ◌≤◌, ℕ, List, length, map};
 ghost use Rattle.wire_core.specs.declared.names.PoolRow.{PoolRow};

@@ -19,6 +19,3 @@ pub use role::{Role, is_program_of};
 pub use sizes::{pool_bytes, queue_end, queue_offset};
 pub use table::{classes_of, classes_of_few};
 pub use uses::{ClassElement, Ends, Grant, Link, PoolUse, QueueUse, RoleUse, UseName};
-
-#[cfg(test)]
-mod tests;

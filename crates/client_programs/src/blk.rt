@@ -247,19 +247,3 @@ pub fn hand_law()
     ensures { (c : BlkClient) (passed : Passed) → BlkClientStandsFor c passed
         → BlkClientBalances c passed }
 {}
-
-#[cfg(test)]
-mod tests {
-    use super::*;
-
-    #[test]
-    fn a_new_client_asks_first_and_recorded_nothing(rt: HostRuntime) {
-        let pages = Vec::new(rt.alloc());
-        let script = Vec::new(rt.alloc());
-        let mut client = BlkClient::new(rt.alloc(), QueueId(0), QueueId(1), pages, script);
-        assert!(rt; client.replies().is_empty());
-        assert!(rt; !client.at_rest());
-        client.forget();
-        assert_eq!(rt; client.requests.queue, QueueId(0));
-    }
-}

@@ -9,6 +9,3 @@ mod words;
 
 pub use command::{Command, MOST_STEPS, Options};
 pub use words::{begins_run, read_words};
-
-#[cfg(test)]
-mod tests;

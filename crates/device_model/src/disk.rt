@@ -1,6 +1,6 @@
-//! The disk of the modelled machine. It does requests in their order on its image, and answers each.
-//! That a device is an actor at the far ends of its driver's queues is this project's own, and so is
-//! that the disk never errs.
+//! The disk of the modelled machine. It does requests in their order on its image, and answers
+//! each. That a device is an actor at the far ends of its driver's queues is this project's own,
+//! and so is that the disk never errs.
 
 ghost use Rattle.std.specs.Prelude.{◌≡◌, ◌<◌, ℕ, List, Some, true, false, is_some, is_none, length};
 ghost use Rattle.cargo_core.specs.Bodies.{buffers_of};

@@ -248,29 +248,3 @@ pub fn hand_law()
     ensures { (d : EthDevice) (passed : Passed) → DeviceStandsFor d passed
         → DeviceBalances d passed }
 {}
-
-#[cfg(test)]
-mod tests {
-    use super::*;
-    use std::test::Fail;
-
-    #[test]
-    fn a_new_device_has_no_buffer_and_an_empty_wire(rt: HostRuntime) -> Result<(), Fail> {
-        let mut frames = FrameLog::new(rt.alloc());
-        frames.push(b"fourteen bytes")?;
-        let mut device = EthDevice::new(
-            rt.alloc(),
-            QueueId(0),
-            QueueId(1),
-            QueueId(2),
-            QueueId(3),
-            frames,
-        );
-        assert_eq!(rt; device.held(PoolId(0)), 0);
-        assert!(rt; device.wire().is_empty());
-        assert!(rt; !device.at_rest());
-        device.forget();
-        assert_eq!(rt; device.active.queue, QueueId(1));
-        Ok(())
-    }
-}

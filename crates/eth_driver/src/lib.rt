@@ -86,28 +86,3 @@ impl DerefMut for EthDriver {
         &mut self.driver
     }
 }
-
-#[cfg(test)]
-mod tests {
-    use super::*;
-
-    #[test]
-    fn each_pair_of_queues_has_its_pipe(rt: HostRuntime) {
-        let made = EthDriver::new(
-            [QueueId(0), QueueId(1), QueueId(2), QueueId(3)],
-            [QueueId(5), QueueId(4), QueueId(6), QueueId(7)],
-        );
-        let rx_free = &made.driver.pipes.first;
-        let rx_active = &made.driver.pipes.rest.first;
-        let tx_active = &made.driver.pipes.rest.rest.first;
-        let tx_free = &made.driver.pipes.rest.rest.rest;
-        assert_eq!(rt; rx_free.input.queue, QueueId(5));
-        assert_eq!(rt; rx_free.output.queue, QueueId(0));
-        assert_eq!(rt; rx_active.input.queue, QueueId(1));
-        assert_eq!(rt; rx_active.output.queue, QueueId(4));
-        assert_eq!(rt; tx_active.input.queue, QueueId(6));
-        assert_eq!(rt; tx_active.output.queue, QueueId(2));
-        assert_eq!(rt; tx_free.input.queue, QueueId(3));
-        assert_eq!(rt; tx_free.output.queue, QueueId(7));
-    }
-}

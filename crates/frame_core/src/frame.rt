@@ -46,29 +46,3 @@ pub fn turn_round(frame: &mut [u8], own: Mac)
     frame[..6].copy_from_slice(&source);
     frame[6..12].copy_from_slice(&own.0);
 }
-
-#[cfg(test)]
-mod tests {
-    use super::*;
-
-    const OWN: Mac = Mac([2, 0, 0, 0, 0, 1]);
-
-    #[test]
-    fn frames_have_14_to_1514_bytes(rt: HostRuntime) {
-        assert!(rt; !is_frame(&[0; 13]));
-        assert!(rt; is_frame(&[0; 14]));
-        assert!(rt; is_frame(&[0; 1514]));
-        assert!(rt; !is_frame(&[0; 1515]));
-    }
-
-    #[test]
-    fn an_answer_goes_back_to_the_source(rt: HostRuntime) {
-        let mut frame = [2, 0, 0, 0, 0, 1, 2, 0, 0, 0, 0, 0x99, 8, 0, 7];
-        assert!(rt; is_for(&frame, OWN));
-        assert_eq!(rt; destination(&frame), OWN);
-        turn_round(&mut frame, OWN);
-        assert_eq!(rt; &frame, &[2, 0, 0, 0, 0, 0x99, 2, 0, 0, 0, 0, 1, 8, 0, 7]);
-        assert!(rt; !is_for(&frame, OWN));
-        assert!(rt; is_for(&[0xff; 14], OWN));
-    }
-}

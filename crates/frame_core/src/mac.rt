@@ -102,36 +102,3 @@ fn digit_value(c: u8) -> u8
         _ => 0,
     }
 }
-
-#[cfg(test)]
-mod tests {
-    use super::*;
-
-    #[test]
-    fn reads_six_pairs_of_either_case(rt: HostRuntime) {
-        assert_eq!(rt;
-            read_mac("02:00:00:00:00:aF"),
-            Some(Mac([2, 0, 0, 0, 0, 0xaf]))
-        );
-        assert_eq!(rt;
-            read_mac("Fe:DC:ba:98:76:54"),
-            Some(Mac([0xfe, 0xdc, 0xba, 0x98, 0x76, 0x54]))
-        );
-    }
-
-    #[test]
-    fn refuses_another_form_and_a_group(rt: HostRuntime) {
-        for text in [
-            "",
-            "02:00:00:00:00",
-            "02:00:00:00:00:0",
-            "02:00:00:00:00:01:",
-            "02-00-00-00-00-01",
-            "02:00:00:00:00:0g",
-            "ff:ff:ff:ff:ff:ff",
-            "01:00:5e:00:00:01",
-        ] {
-            assert_eq!(rt; read_mac(text), None);
-        }
-    }
-}

@@ -303,18 +303,3 @@ pub fn hand_law()
     ensures { (c : NetCopier) (passed : Passed) → CopierStandsFor c passed
         → CopierBalances c passed }
 {}
-
-#[cfg(test)]
-mod tests {
-    use super::*;
-
-    #[test]
-    fn a_new_copier_waits_for_a_lease_and_has_no_buffer(rt: HostRuntime) {
-        let mut copier = NetCopier::new(QueueId(0), QueueId(1), QueueId(2), QueueId(3));
-        assert!(rt; !copier.at_rest());
-        assert_eq!(rt; copier.held(PoolId(0)), 0);
-        copier.forget();
-        assert_eq!(rt; copier.lease_output.queue, QueueId(1));
-        assert_eq!(rt; copier.buffer_output.queue, QueueId(2));
-    }
-}

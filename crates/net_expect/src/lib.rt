@@ -66,33 +66,3 @@ pub fn answers_for(alloc: Global, frames: &FrameLog, mac: Mac) -> Result<FrameLo
     }
     Ok(log)
 }
-
-#[cfg(test)]
-mod tests {
-    use super::*;
-    use std::test::Fail;
-
-    #[test]
-    fn a_client_gets_its_own_frames_and_those_to_all(rt: HostRuntime) -> Result<(), Fail> {
-        let mut frames = FrameLog::new(rt.alloc());
-        frames.push(&[2, 0, 0, 0, 0, 1, 2, 0, 0, 0, 0, 9, 8, 0])?;
-        frames.push(&[2, 0, 0, 0, 0, 2, 2, 0, 0, 0, 0, 9, 8, 0])?;
-        frames.push(&[255, 255, 255, 255, 255, 255, 2, 0, 0, 0, 0, 9, 8, 0])?;
-        frames.push(&[2, 0, 0, 0, 0, 1])?;
-        let log = frames_for(rt.alloc(), &frames, Mac([2, 0, 0, 0, 0, 1]))?;
-        assert_eq!(rt; log.len(), 2);
-        assert_eq!(rt; log.get(0)[5], 1);
-        assert_eq!(rt; log.get(1)[5], 255);
-        let answers = answers_for(rt.alloc(), &frames, Mac([2, 0, 0, 0, 0, 2]))?;
-        assert_eq!(rt; answers.len(), 2);
-        assert_eq!(rt;
-            answers.get(0),
-            [2, 0, 0, 0, 0, 9, 2, 0, 0, 0, 0, 2, 8, 0].as_slice()
-        );
-        assert_eq!(rt;
-            answers.get(1),
-            [2, 0, 0, 0, 0, 9, 2, 0, 0, 0, 0, 2, 8, 0].as_slice()
-        );
-        Ok(())
-    }
-}

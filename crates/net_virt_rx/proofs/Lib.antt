@@ -5,4 +5,3 @@ pub mod Working
 pub mod Moving
 pub mod Steps
 pub mod Rounds
-pub mod Emptiness

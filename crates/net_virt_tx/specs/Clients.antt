@@ -1,5 +1,7 @@
 -- What the sending virtualiser keeps of one client, and how that stands for what passed.
-use Rattle.std.specs.Prelude.{◌≡◌, ◌+◌, ◌-◌, ◌*◌, ◌/◌, ◌<◌, ◌≤◌, ◌^◌, ◌==◌, ◌&&◌, ◌||◌, ℕ, Bool, false, not, nat_le, is_some, is_none, Option, Some, None, List, [], ◌∷◌, ◌++◌, All, length, map, slice_index_or}
+use Rattle.std.specs.Prelude.{◌≡◌, ◌+◌, ◌-◌, ◌*◌, ◌/◌, ◌<◌, ◌≤◌, ◌^◌, ◌==◌, ◌&&◌, ◌||◌, ℕ, Bool}
+use Rattle.std.specs.Prelude.{false, not, nat_le, is_some, is_none, Option, Some, None, List, []}
+use Rattle.std.specs.Prelude.{◌∷◌, ◌++◌, All, length, map, slice_index_or}
 use Rattle.std.specs.List.{filter}
 use Rattle.std.specs.Option.{option_to_list}
 use Rattle.cargo_core.specs.declared.item.PoolId.{PoolId}

@@ -1,5 +1,6 @@
 -- The sending virtualiser: what it must fit, what it stands for, and its row.
-use Rattle.std.specs.Prelude.{◌≡◌, ◌⊎◌, ◌+◌, ◌*◌, ◌==◌, ◌<◌, ◌≤◌, ◌^◌, ℕ, true, None, Some, List, [], ◌∷◌, ◌++◌, All, length, map, slice_get}
+use Rattle.std.specs.Prelude.{◌≡◌, ◌⊎◌, ◌+◌, ◌*◌, ◌==◌, ◌<◌, ◌≤◌, ◌^◌, ℕ, true, None, Some, List}
+use Rattle.std.specs.Prelude.{[], ◌∷◌, ◌++◌, All, length, map, slice_get}
 use Rattle.std.specs.List.{filter, sum_by}
 use Rattle.std.specs.Option.{option_to_list}
 use Rattle.cargo_core.specs.declared.ranges.Range.{Range}
@@ -12,7 +13,8 @@ use Rattle.wire_core.specs.Ends.{Role, End}
 use Rattle.turn_kit.specs.Turns.{Round}
 use Rattle.turn_kit.specs.Hands.{Balances, bodies_at}
 use Rattle.buffer_kit.specs.Entries.{addr_of}
-use Rattle.buffer_kit.specs.Virtualising.{FitsVirt, SameVirt, IsNewVirt, VirtForgot, VirtOwns, virt_round, virt_came, virt_went, from_queues, to_queues}
+use Rattle.buffer_kit.specs.Virtualising.{FitsVirt, SameVirt, IsNewVirt, VirtForgot, VirtOwns}
+use Rattle.buffer_kit.specs.Virtualising.{virt_round, virt_came, virt_went, from_queues, to_queues}
 use Rattle.net_virt_tx.specs.declared.TxEnds.{TxEnds}
 use Rattle.net_virt_tx.specs.declared.NetVirtTx.{NetVirtTx}
 use Rattle.net_virt_tx.specs.declared.client.Client.{Client}
@@ -21,7 +23,8 @@ use Rattle.net_virt_tx.specs.declared.traffic.Traffic.{Traffic}
 use Rattle.net_virt_tx.specs.Descriptors.{to_device}
 use Rattle.net_virt_tx.specs.Serving.{IsServed, is_good_of, bad_ones}
 use Rattle.net_virt_tx.specs.Clients.{IsFresh, IsOf, at_address, capped, range_of}
-use Rattle.net_virt_tx.specs.Traffics.{IsTraffic, TrafficStands, bad_count, is_free, loaded_at, needs_at, owes, senders, traffic_hand}
+use Rattle.net_virt_tx.specs.Traffics.{IsTraffic, TrafficStands, bad_count, is_free, loaded_at}
+use Rattle.net_virt_tx.specs.Traffics.{needs_at, owes, senders, traffic_hand}
 pub use Rattle.buffer_kit.specs.Clients.{queue_at}
 
 -- its ends are its own, and as it keeps them; each client has one each way

@@ -1,5 +1,6 @@
 -- What the sending virtualiser keeps of all its clients, and how that stands for what passed.
-use Rattle.std.specs.Prelude.{◌≡◌, ◌⊎◌, ◌+◌, ◌&&◌, ◌<◌, ◌^◌, ℕ, Bool, false, true, is_none, Option, Some, List, [], ◌∷◌, ◌++◌, All, map, flat_map, slice_get, slice_set}
+use Rattle.std.specs.Prelude.{◌≡◌, ◌⊎◌, ◌+◌, ◌&&◌, ◌<◌, ◌^◌, ℕ, Bool, false, true, is_none, Option}
+use Rattle.std.specs.Prelude.{Some, List, [], ◌∷◌, ◌++◌, All, map, flat_map, slice_get, slice_set}
 use Rattle.std.specs.List.{list_any, sum_by}
 use Rattle.std.specs.Option.{option_to_list}
 use Rattle.cargo_core.specs.declared.item.Body.{Body}
@@ -11,7 +12,9 @@ use Rattle.net_virt_tx.specs.declared.client.Client.{Client}
 use Rattle.net_virt_tx.specs.declared.descriptors.Sender.{Sender}
 use Rattle.net_virt_tx.specs.declared.traffic.Traffic.{Traffic}
 use Rattle.net_virt_tx.specs.Serving.{is_good_of, own_of}
-use Rattle.net_virt_tx.specs.Clients.{IsClient, ClientStands, Moved, IsOf, is_idle, is_leaving, is_loaded, is_away, load_of, client_cargo, capped, range_of, is_marked, number_of}
+use Rattle.net_virt_tx.specs.Clients.{IsClient, ClientStands, Moved, IsOf, is_idle, is_leaving}
+use Rattle.net_virt_tx.specs.Clients.{is_loaded, is_away, load_of, client_cargo, capped, range_of}
+use Rattle.net_virt_tx.specs.Clients.{is_marked, number_of}
 use Rattle.buffer_kit.specs.Clients.{entry_in}
 pub use Rattle.buffer_kit.specs.Clients.{is_so, with_more}
 

@@ -1,5 +1,7 @@
 //! What the sending virtualiser keeps of one client.
-ghost use Rattle.std.specs.Prelude.{◌≡◌, ◌+◌, ◌*◌, ◌/◌, ◌<◌, ◌≤◌, ◌^◌, ◌++◌, ◌∷◌, ◌&&◌, ◌==◌, [], ℕ, None, Some, true, false, IfOk, is_some, min, length, slice_get, slice_set};
+ghost use Rattle.std.specs.Prelude.{◌≡◌, ◌+◌, ◌*◌, ◌/◌, ◌<◌, ◌≤◌, ◌^◌, ◌++◌, ◌∷◌, ◌&&◌, ◌==◌, []};
+ghost use Rattle.std.specs.Prelude.{ℕ, None, Some, true, false, IfOk, is_some, min, length};
+ghost use Rattle.std.specs.Prelude.{slice_get, slice_set};
 ghost use Rattle.std.specs.Option.{option_to_list};
 ghost use Rattle.cargo_core.specs.declared.item.PoolId.{PoolId};
 ghost use Rattle.cargo_core.specs.declared.item.QueueKind.TheVariants as Kind;
@@ -10,11 +12,14 @@ ghost use Rattle.wire_core.specs.Ends.{role_of};
 ghost use Rattle.wire_core.specs.Marks.{is_mark};
 ghost use Rattle.turn_kit.specs.Turns.{PostedAt};
 ghost use Rattle.buffer_kit.specs.Entries.{addr_of};
-ghost use Rattle.buffer_kit.specs.Virtualising.{FitsVirt, VirtOwns, SameVirt, from_queues, to_queues, virt_posts};
+ghost use Rattle.buffer_kit.specs.Virtualising.{FitsVirt, VirtOwns, SameVirt, from_queues};
+ghost use Rattle.buffer_kit.specs.Virtualising.{to_queues, virt_posts};
 ghost use Rattle.net_virt_tx.specs.Descriptors.{to_device, to_client};
 ghost use Rattle.net_virt_tx.specs.Queued.{returns_list};
 ghost use Rattle.net_virt_tx.specs.Serving.{is_good_of};
-ghost use Rattle.net_virt_tx.specs.Clients.{IsClient, IsFresh, Moved, is_idle, is_leaving, is_loaded, load_of, comes_in_turn, is_away, buffer_at, number_of, is_marked, capped, carried, client_cargo};
+ghost use Rattle.net_virt_tx.specs.Clients.{IsClient, IsFresh, Moved, is_idle, is_leaving};
+ghost use Rattle.net_virt_tx.specs.Clients.{is_loaded, load_of, comes_in_turn, is_away, buffer_at};
+ghost use Rattle.net_virt_tx.specs.Clients.{number_of, is_marked, capped, carried, client_cargo};
 
 use crate::{Marks, Returns, Sender, to_client, to_device};
 use buffer_kit::{NetCargo, Served, VirtEnds, address};

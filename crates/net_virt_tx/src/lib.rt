@@ -8,10 +8,14 @@ ghost use Rattle.cargo_core.specs.Bodies.{buffers_of};
 ghost use Rattle.wire_core.specs.Ends.{role_of, Role, End};
 ghost use Rattle.wire_core.specs.Lists.{Passed, Stepped, nothing_passed};
 ghost use Rattle.wire_core.specs.Marks.{is_mark};
-ghost use Rattle.turn_kit.specs.Turns.{Turned, PostedAt, choice_of, chosen_place, last_after, is_at_rest};
-ghost use Rattle.buffer_kit.specs.Virtualising.{from_queues, to_queues, virt_posts, place_of, IsThere, need_of};
-ghost use Rattle.net_virt_tx.specs.Traffics.{IsTraffic, IsStill, is_free, owes, needs_at, loaded_at, bad_count, traffic_hand};
-ghost use Rattle.net_virt_tx.specs.Sending.{FitsTx, FitsClients, TxStandsFor, TxRow, TxBalances, TxEnd, SameTx, IsNewTx, TxForgot, sender_of, tx_round};
+ghost use Rattle.turn_kit.specs.Turns.{Turned, PostedAt, choice_of, chosen_place, last_after};
+ghost use Rattle.turn_kit.specs.Turns.{is_at_rest};
+ghost use Rattle.buffer_kit.specs.Virtualising.{from_queues, to_queues, virt_posts, place_of};
+ghost use Rattle.buffer_kit.specs.Virtualising.{IsThere, need_of};
+ghost use Rattle.net_virt_tx.specs.Traffics.{IsTraffic, IsStill, is_free, owes, needs_at};
+ghost use Rattle.net_virt_tx.specs.Traffics.{loaded_at, bad_count, traffic_hand};
+ghost use Rattle.net_virt_tx.specs.Sending.{FitsTx, FitsClients, TxStandsFor, TxRow, TxBalances};
+ghost use Rattle.net_virt_tx.specs.Sending.{TxEnd, SameTx, IsNewTx, TxForgot, sender_of, tx_round};
 
 use buffer_kit::{NetCargo, VirtEnd, VirtEnds};
 use cargo_core::{Memory, PoolId, Ranges};
@@ -308,36 +312,3 @@ pub fn row_law()
 pub fn hand_law()
     ensures { (v : NetVirtTx) (passed : Passed) → TxStandsFor v passed → TxBalances v passed }
 {}
-
-#[cfg(test)]
-mod tests {
-    use super::*;
-    use cargo_core::{Body, Item, NetDesc, Page, PoolId};
-    use std::test::Fail;
-
-    #[test]
-    fn a_short_frame_and_a_wrong_offset_are_bad(rt: HostRuntime) -> Result<(), Fail> {
-        let sender = Sender {
-            pool: PoolId(3),
-            buffers: 2,
-            base: 4096,
-        };
-        let good = Item::Net(NetDesc {
-            addr: 2048,
-            len: 14,
-        });
-        let short = Item::Net(NetDesc {
-            addr: 2048,
-            len: 13,
-        });
-        let wrong = Item::Net(NetDesc { addr: 1, len: 14 });
-        let page = Page::new(rt.alloc(), PoolId(3), 1, 2048)?;
-        let body = Body::Page(page);
-        let entry = (good, body);
-        assert!(rt; sender.is_good(&entry));
-        let entry = (short, entry.1);
-        assert!(rt; !sender.is_good(&entry));
-        assert!(rt; !sender.is_good(&(wrong, Body::Empty)));
-        Ok(())
-    }
-}

@@ -1,5 +1,6 @@
 //! A mark for each buffer of a client, by its number.
-ghost use Rattle.std.specs.Prelude.{◌≡◌, ◌<◌, false, IfOk, length, replicate, slice_index_or, slice_set};
+ghost use Rattle.std.specs.Prelude.{◌≡◌, ◌<◌, false, IfOk, length, replicate, slice_index_or};
+ghost use Rattle.std.specs.Prelude.{slice_set};
 
 use cargo_core::Memory;
 use std::alloc::Global;

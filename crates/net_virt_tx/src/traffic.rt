@@ -1,5 +1,6 @@
 //! What the sending virtualiser keeps of all its clients.
-ghost use Rattle.std.specs.Prelude.{◌≡◌, ◌+◌, ◌*◌, ◌<◌, ◌≤◌, ◌^◌, ◌++◌, ◌==◌, [], ℕ, List, Some, None, true, false, All, IfOk, is_some, length, map, slice_get};
+ghost use Rattle.std.specs.Prelude.{◌≡◌, ◌+◌, ◌*◌, ◌<◌, ◌≤◌, ◌^◌, ◌++◌, ◌==◌, [], ℕ, List, Some};
+ghost use Rattle.std.specs.Prelude.{None, true, false, All, IfOk, is_some, length, map, slice_get};
 ghost use Rattle.std.specs.Option.{MatchOption, option_to_list};
 ghost use Rattle.cargo_core.specs.declared.item.QueueKind.TheVariants as Kind;
 ghost use Rattle.cargo_core.specs.declared.item.PoolId.{PoolId};
@@ -11,12 +12,16 @@ ghost use Rattle.wire_core.specs.Ends.{role_of};
 ghost use Rattle.wire_core.specs.Marks.{is_mark};
 ghost use Rattle.turn_kit.specs.Turns.{PostedAt};
 ghost use Rattle.buffer_kit.specs.Entries.{addr_of};
-ghost use Rattle.buffer_kit.specs.Virtualising.{FitsVirt, VirtOwns, SameVirt, from_queues, to_queues, virt_posts};
+ghost use Rattle.buffer_kit.specs.Virtualising.{FitsVirt, VirtOwns, SameVirt, from_queues};
+ghost use Rattle.buffer_kit.specs.Virtualising.{to_queues, virt_posts};
 ghost use Rattle.net_virt_tx.specs.declared.client.Client.{Client};
 ghost use Rattle.net_virt_tx.specs.declared.traffic.Traffic.{Traffic};
 ghost use Rattle.net_virt_tx.specs.declared.TxEnds.{TxEnds};
 ghost use Rattle.net_virt_tx.specs.Clients.{IsFresh, is_away, carried};
-ghost use Rattle.net_virt_tx.specs.Traffics.{IsTraffic, OneMoved, TookBack, TookIn, is_free, needs_at, loaded_at, owes, leaving_at, load_at, bad_count, IsStill, TrafficStands, with_more, traffic_cargo, traffic_hand};
+ghost use Rattle.net_virt_tx.specs.Traffics.{IsTraffic, OneMoved, TookBack, TookIn, is_free};
+ghost use Rattle.net_virt_tx.specs.Traffics.{needs_at, loaded_at, owes, leaving_at, load_at};
+ghost use Rattle.net_virt_tx.specs.Traffics.{bad_count, IsStill, TrafficStands, with_more};
+ghost use Rattle.net_virt_tx.specs.Traffics.{traffic_cargo, traffic_hand};
 ghost use Rattle.net_virt_tx.specs.Sending.{FitsClients, IsNewTraffic, sender_of};
 
 use crate::{Client, TxEnds};

@@ -53,19 +53,25 @@ fn ends_by_number(
     Ok((producers, consumers))
 }
 
-// Seats an actor at its ends.
+// Seats an actor at its ends. Here, in `number`, in `begin_all` and in `settle` a call of `drop`
+// lets an actor go: where a block ends, the proof would go through all kinds of actors in place.
 fn seat(alloc: Global, rings: &[Ring], part: order_law::actor_parts::Part) -> Result<Part, Memory>
     requires apart { IsApart rings.now part }
     requires few { length rings.now ≤ 65536 }
     ensures { IfOk result (IsSeated rings.now part) }
 {
     let (actor, producers, consumers) = part;
-    let (producers, consumers) = ends_by_place(alloc, rings.len(), producers, consumers)?;
-    Ok(Part {
-        actor,
-        producers,
-        consumers,
-    })
+    match ends_by_place(alloc, rings.len(), producers, consumers) {
+        Ok((producers, consumers)) => Ok(Part {
+            actor,
+            producers,
+            consumers,
+        }),
+        Err(memory) => {
+            drop(actor);
+            Err(memory)
+        }
+    }
 }
 
 // The same for all of them.
@@ -95,8 +101,13 @@ fn number(alloc: Global, part: Part) -> Result<order_law::actor_parts::Part, Mem
         producers,
         consumers,
     } = part;
-    let (producers, consumers) = ends_by_number(alloc, producers, consumers)?;
-    Ok((actor, producers, consumers))
+    match ends_by_number(alloc, producers, consumers) {
+        Ok((producers, consumers)) => Ok((actor, producers, consumers)),
+        Err(memory) => {
+            drop(actor);
+            Err(memory)
+        }
+    }
 }
 
 // The same for all of them.

@@ -64,6 +64,14 @@ pub fn begin<'s, E: 's, R: Threads + Wait + Sync, G: Gate + Sync>(
     }
 }
 
+// The next parker, or a new one where there is none.
+fn next_parker(alloc: Global, parkers: &mut Vec<Parker>) -> Result<Parker, Memory> {
+    match parkers.pop() {
+        Some(parker) => Ok(parker),
+        None => Ok(Parker::new(alloc)?),
+    }
+}
+
 // Starts them all. The parker of the first stands last.
 fn begin_all<'s, E: 's, R: Threads + Wait + Sync, G: Gate + Sync>(
     scope: &'s Scope<'s, E>,
@@ -82,9 +90,12 @@ fn begin_all<'s, E: 's, R: Threads + Wait + Sync, G: Gate + Sync>(
     let mut begun = Vec::new(alloc);
     let mut me: u16 = 0;
     for part in parts {
-        let parker = match parkers.pop() {
-            Some(parker) => parker,
-            None => Parker::new(alloc)?,
+        let parker = match next_parker(alloc, &mut parkers) {
+            Ok(parker) => parker,
+            Err(memory) => {
+                drop(part);
+                return Err(memory);
+            }
         };
         let one = begin(scope, rt, rings, floor, gate, me, parker, part, limit);
         begun.push(one)?;
@@ -116,7 +127,8 @@ fn join_all<'s, R: Threads>(
     Ok(all)
 }
 
-/// Runs each in a thread of its own until all are idle, one has made `limit` steps or memory runs out.
+/// Runs each in a thread of its own until all are idle, one has made `limit` steps or memory runs
+/// out.
 pub fn in_threads<R: Threads + Wait + Sync, G: Gate + Sync>(
     rt: &R,
     alloc: Global,

@@ -131,7 +131,13 @@ pub(crate) fn settle<G: Gate>(
     let mut made = before;
     while !stop && made < limit && !actor.at_rest() {
         gate.pass(ActorId(me), actor.recorded());
-        actor.step(&mut seats)?;
+        let _event = match actor.step(&mut seats) {
+            Ok(event) => event,
+            Err(memory) => {
+                drop(actor);
+                return Err(memory);
+            }
+        };
         made += 1;
     }
     row_law();

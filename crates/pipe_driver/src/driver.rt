@@ -6,7 +6,9 @@ ghost use Rattle.wire_core.specs.Ends.{role_of, Role, End};
 ghost use Rattle.wire_core.specs.Lists.{Passed, Stepped};
 ghost use Rattle.turn_kit.specs.Turns.{Turned, choice_of, chosen_place, last_after, is_at_rest};
 ghost use Rattle.turn_kit.specs.declared.pipe.Pipe.{Pipe};
-ghost use Rattle.pipe_driver.specs.Drivers.{FitsPipes, PipesStandFor, PipesRow, PipesBalance, PipesEnd, inputs_of, outputs_of, pipes_round, pipes_hand, pipe_forgotten};
+ghost use Rattle.pipe_driver.specs.Drivers.{FitsPipes, PipesStandFor, PipesRow, PipesBalance};
+ghost use Rattle.pipe_driver.specs.Drivers.{PipesEnd, inputs_of, outputs_of, pipes_round};
+ghost use Rattle.pipe_driver.specs.Drivers.{pipes_hand, pipe_forgotten};
 
 use crate::PipeList;
 use cargo_core::PoolId;

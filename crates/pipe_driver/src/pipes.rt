@@ -1,13 +1,16 @@
 //! A list of pipes whose length its type tells: a pipe is one, and `Pipes` has one more.
 
-ghost use Rattle.std.specs.Prelude.{◌≡◌, ◌<◌, ◌≤◌, ◌+◌, ◌*◌, ◌^◌, ℕ, List, [], ◌∷◌, map, length, false};
+ghost use Rattle.std.specs.Prelude.{◌≡◌, ◌<◌, ◌≤◌, ◌+◌, ◌*◌, ◌^◌, ℕ, List, [], ◌∷◌, map, length};
+ghost use Rattle.std.specs.Prelude.{false};
 ghost use Rattle.cargo_core.specs.Bodies.{buffers_of};
 ghost use Rattle.wire_core.specs.Ends.{role_of, Moves};
 ghost use Rattle.wire_core.specs.Lists.{Passed, Stepped};
 ghost use Rattle.wire_core.specs.Marks.{is_mark};
 ghost use Rattle.turn_kit.specs.Turns.{offered_from, settled_all};
 ghost use Rattle.turn_kit.specs.declared.pipe.Pipe.{Pipe};
-ghost use Rattle.pipe_driver.specs.Drivers.{FitsPipes, PipesStandFor, PipesEnd, PipesPosted, inputs_of, outputs_of, pipe_posts, pipe_needs, pipes_hand, pipe_forgotten};
+ghost use Rattle.pipe_driver.specs.Drivers.{FitsPipes, PipesStandFor, PipesEnd, PipesPosted};
+ghost use Rattle.pipe_driver.specs.Drivers.{inputs_of, outputs_of, pipe_posts, pipe_needs};
+ghost use Rattle.pipe_driver.specs.Drivers.{pipes_hand, pipe_forgotten};
 
 use cargo_core::PoolId;
 use turn_kit::{Choice, Pipe, count_held};

@@ -3,12 +3,10 @@
 //! below a count; or `COUNT at ACTORS | WORDS`, so many runs in threads behind a gate that holds
 //! each actor's first step until so many have arrived there. Standard output has each name, what
 //! `serve` writes to these words, and the status code; of many seeds or runs what the first one
-//! gives, and how many give the same; and of runs how many actors waited in vain. The tests beside
-//! them call the program where the outside fails, and with texts as long as they may be.
+//! gives, and how many give the same; and of runs how many actors waited in vain.
 #![tactic(auto)]
 
 mod arrivals;
-mod tests;
 
 use arrivals::Arrivals;
 use sddf_top::{FileShelf, MemSink, Played, serve};

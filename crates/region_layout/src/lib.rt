@@ -1,4 +1,6 @@
 //! Where the regions of a plan lie, which queues and pools stand in them, and who acts.
+//!
+//! An example of its calls: `crates/library_examples/src/layout.rt`.
 #![tactic(auto)]
 
 mod actors;

@@ -1,4 +1,6 @@
 //! The texts that the program prints.
+//!
+//! An example of its calls: `crates/library_examples/src/report.rt`.
 #![tactic(auto)]
 
 mod answers;
@@ -14,6 +16,3 @@ pub use layout::write_layout;
 pub use place::write_place;
 pub use report::write_report;
 pub use summary::write_summary;
-
-#[cfg(test)]
-mod tests;

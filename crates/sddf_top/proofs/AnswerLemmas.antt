@@ -2,31 +2,23 @@ use Rattle.std.proofs.Common.{◌≡◌, ◌⊎◌, inl, inr, ℕ, Bool, true, f
 use Rattle.sdf_plan.specs.declared.plan.Plan.{Plan}
 use Rattle.trace_text.specs.declared.trace.Trace.{Trace}
 use Rattle.system_core.specs.Reports.{report_of}
-use Rattle.sddf_top.specs.declared.showing.Showing.{Showing}
-use Rattle.sddf_top.specs.declared.showing.Asked.{Asked}
-use Rattle.sddf_top.specs.declared.showing.Asked.TheVariants as Ask
-use Rattle.sddf_top.specs.declared.showing.Showing.TheVariants as Show
-use Rattle.sddf_top.specs.declared.status.Status.{Status}
-use Rattle.sddf_top.specs.declared.status.Status.TheVariants as Ended
+use Rattle.decision_core.specs.declared.showing.Showing.{Showing}
+use Rattle.decision_core.specs.declared.showing.Asked.{Asked}
+use Rattle.decision_core.specs.declared.showing.Asked.TheVariants as Ask
+use Rattle.decision_core.specs.declared.showing.Showing.TheVariants as Show
+use Rattle.decision_core.specs.declared.status.Status.{Status}
+use Rattle.decision_core.specs.declared.status.Status.TheVariants as Ended
 use Rattle.sddf_top.specs.declared.played.Played.{Played}
-use Rattle.sddf_top.specs.Decisions.{Decision, Say, Play, Run, asked_on, Decides, TextDecides, PlanDecides, TraceDecides, GeneratedDecides, long_trace, bad_trace, good_trace, checked, laid_out, traced, long_description, refused, accepted, no_command, described, generated}
+use Rattle.decision_core.specs.Decisions.{Decision, Say, Play, Run, asked_on, Decides, TextDecides, PlanDecides, TraceDecides, GeneratedDecides, long_trace, bad_trace, good_trace, checked, laid_out, traced, long_description, refused, accepted, no_command, described, generated, IsStatusOf}
 use Rattle.sddf_top.specs.Shown.{ending_of}
-use Rattle.sddf_top.specs.Answers.{Answers, Comes, Shows, ShowsRun, IsStatusOf, Serves, WasRead, IsTold, IsFault, no_reading, no_writing, no_memory}
-use Rattle.sddf_top.specs.Outside.{appended}
-use Rattle.sddf_top.proofs.DecisionLemmas.{Agrees, one-decision, plan-read, text-read}
+use Rattle.sddf_top.specs.Answers.{Answers, Comes, Shows, ShowsRun, Serves, IsFault, no_reading, no_writing, no_memory}
+use Rattle.shelf_core.specs.Reading.{WasRead, IsTold}
+use Rattle.shelf_core.specs.Outside.{appended}
+use Rattle.decision_core.proofs.DecisionLemmas.{Agrees, one-decision, plan-read, text-read}
 
 -- what was read of a told text is its bytes
 pub told-same : (told : List ℕ → Option (List ℕ)) (name a b : List ℕ) → IsTold told name a → WasRead told name b → a ≡ b
 told-same told name a b h r = h.2 ∙ sym (rw h.1 at r)
-
--- texts that didn't change are read as before
-pub read-before : (told told' : List ℕ → Option (List ℕ)) → ((n : List ℕ) → told' n ≡ told n) → (name bytes : List ℕ) → WasRead told' name bytes → WasRead told name bytes
-read-before told told' same name bytes r = rw (same name) at r
-
-pub text-before : (told told' : List ℕ → Option (List ℕ)) → ((n : List ℕ) → told' n ≡ told n) → (words : List (List ℕ)) (bytes : List ℕ) (d : Decision)
-    → TextDecides (PlanDecides (WasRead told') words) bytes d → TextDecides (PlanDecides (WasRead told) words) bytes d
-text-before told told' same words =
-    text-read (PlanDecides (WasRead told') words) (PlanDecides (WasRead told) words) (plan-read (WasRead told') (WasRead told) (read-before told told' same) words)
 
 -- a play gets quiet or spends its steps
 ending-status : (quiet : Bool) (steps : ℕ) (s : Status) → s ≡ ending_of quiet steps → (s ≡ Ended.Ok) ⊎ ((n : ℕ) × (s ≡ Ended.Spent n))
@@ -160,8 +152,3 @@ pub not-instead : (R : List ℕ → List ℕ → Type 0) (words : List (List ℕ
     → (f ≡ Ended.WriteFault → ⊥) → result ≡ f → ⊥
 not-instead R words s result f x p a (inl same) h n e = answer-not R words s f x p a h (sym same ∙ e)
 not-instead R words s result f x p a (inr failed) h n e = n (sym e ∙ failed)
-
--- what holds of an answer holds in another form
-pub map-ok : {T E : Type 0} (r : Result T E) (P Q : T → Type 0) → ((x : T) → P x → Q x) → IfOk r P → IfOk r Q
-map-ok (Ok x) P Q m h = m x h
-map-ok (Err e) P Q m h = tt

@@ -1,11 +1,5 @@
 pub mod AnswerLemmas
-pub mod Appending
-pub mod DecisionLemmas
-pub mod JudgedLemmas
-pub mod LastLemmas
 pub mod PlanLemmas
-pub mod ReadLemmas
 pub mod ServeLemmas
 pub mod SoundLemmas
-pub mod WordLemmas
 pub mod SystemRun

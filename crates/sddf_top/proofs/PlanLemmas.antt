@@ -6,8 +6,8 @@ use Rattle.system_core.specs.PlanPlays.{HasEnded}
 use Rattle.system_core.specs.Reports.{report_of}
 use Rattle.system_core.specs.declared.system.Ending.{Ending}
 use Rattle.system_core.specs.declared.system.Ending.TheVariants as Ends
-use Rattle.sddf_top.specs.declared.status.Status.{Status}
-use Rattle.sddf_top.specs.declared.status.Status.TheVariants as Ended
+use Rattle.decision_core.specs.declared.status.Status.{Status}
+use Rattle.decision_core.specs.declared.status.Status.TheVariants as Ended
 use Rattle.sddf_top.specs.Shown.{ending_of}
 
 -- a play that isn't quiet made all its steps

@@ -1,21 +1,28 @@
-use Rattle.std.proofs.Common.{◌≡◌, inr, ℕ, List, Option, Result, Ok, Err, IfOk, refl, arith}
+use Rattle.std.proofs.Common.{◌≡◌, ◌⊎◌, inl, inr, ℕ, List, Option, Result, Ok, Err, IfOk, refl, sym, subst, arith}
 use Rattle.std.specs.Prelude.{OnOk}
 use Rattle.cargo_core.specs.declared.memory.Memory.{Memory}
 use Rattle.command_words.specs.declared.command.Command.{Command}
 use Rattle.command_words.specs.Words.{Spells, IsGen}
 use Rattle.sddf_top.specs.declared.answering.Outcome.{Outcome}
-use Rattle.sddf_top.specs.declared.reading.ReadStop.{ReadStop}
-use Rattle.sddf_top.specs.declared.reading.ReadStop.TheVariants as Stop
-use Rattle.sddf_top.specs.declared.status.Status.{Status}
+use Rattle.shelf_core.specs.declared.reading.ReadStop.{ReadStop}
+use Rattle.shelf_core.specs.declared.reading.ReadStop.TheVariants as Stop
+use Rattle.decision_core.specs.declared.status.Status.{Status}
+use Rattle.decision_core.specs.declared.status.Status.TheVariants as Ended
 use Rattle.sddf_top.specs.declared.played.Played.{Played}
-use Rattle.sddf_top.specs.Outside.{Rose}
-use Rattle.sddf_top.specs.Decisions.{Decides}
-use Rattle.sddf_top.specs.Answers.{WasRead, no_reading, no_writing, no_memory}
-use Rattle.sddf_top.specs.Readings.{ReadLast}
+use Rattle.shelf_core.specs.Outside.{Rose}
+use Rattle.decision_core.specs.Decisions.{Decides}
+use Rattle.shelf_core.specs.Reading.{WasRead}
+use Rattle.sddf_top.specs.Answers.{IsFault, no_reading, no_writing, no_memory}
+use Rattle.decision_core.specs.Readings.{ReadLast}
 use Rattle.sddf_top.specs.Outcomes.{FollowsBy, HasTold}
 use Rattle.sddf_top.specs.Served.{IsServed}
-use Rattle.sddf_top.proofs.LastLemmas.{last-written}
 use Rattle.sddf_top.proofs.AnswerLemmas.{served-status, answer-not, not-instead}
+
+-- an answer that was written keeps its status, or is a fault
+pub last-written : (told : List ℕ → Option (List ℕ)) (words : List (List ℕ)) (old new : Option (List ℕ)) (s result : Status) → ReadLast told words old new s
+    → (result ≡ s) ⊎ (result ≡ Ended.WriteFault) → ReadLast told words old new result ⊎ IsFault result
+last-written told words old new s result h (inl e) = inl (subst (λ t. ReadLast told words old new t) (sym e) h)
+last-written told words old new s result h (inr e) = inr (subst (λ t. IsFault t) (sym e) no_writing)
 
 -- what is known of an answer that was made over a shelf
 pub record IsAnswered {F : Type 0} (text : F → List ℕ → Option (List ℕ)) (left : F → Option (List ℕ)) (reads : F → ℕ) (words : List (List ℕ)) (shelf shelf' : F) (answer : Result Outcome ReadStop) : Type 0 where

@@ -4,14 +4,14 @@ use Rattle.sdf_plan.specs.declared.plan.Plan.{Plan}
 use Rattle.trace_text.specs.declared.trace.Trace.{Trace}
 use Rattle.trace_text.specs.Traces.{IsReadFor}
 use Rattle.command_words.specs.Words.{BeginsRun}
-use Rattle.sddf_top.specs.declared.deciding.Decided.{Decided}
-use Rattle.sddf_top.specs.declared.deciding.Decided.TheVariants as Is
-use Rattle.sddf_top.specs.declared.showing.Asked.{Asked}
-use Rattle.sddf_top.specs.declared.showing.Asked.TheVariants as Ask
-use Rattle.sddf_top.specs.declared.showing.Showing.TheVariants as Show
-use Rattle.sddf_top.specs.Judged.{IsAcceptedPlan}
-use Rattle.sddf_top.specs.Outcomes.{decision_of, IsSound, AsksToRun}
-use Rattle.sddf_top.specs.Decisions.{Decision, Say, Play, Run, asked_on, AsksFor, to_play, to_run, Decides, TextDecides, PlanDecides, TraceDecides, GeneratedDecides, long_trace, bad_trace, good_trace, checked, laid_out, traced, long_description, refused, accepted, no_command, described, generated}
+use Rattle.decision_core.specs.declared.deciding.Decided.{Decided}
+use Rattle.decision_core.specs.declared.deciding.Decided.TheVariants as Is
+use Rattle.decision_core.specs.declared.showing.Asked.{Asked}
+use Rattle.decision_core.specs.declared.showing.Asked.TheVariants as Ask
+use Rattle.decision_core.specs.declared.showing.Showing.TheVariants as Show
+use Rattle.decision_core.specs.Judged.{IsAcceptedPlan}
+use Rattle.decision_core.specs.Decided.{decision_of, IsSound, AsksToRun}
+use Rattle.decision_core.specs.Decisions.{Decision, Say, Play, Run, asked_on, AsksFor, to_play, to_run, Decides, TextDecides, PlanDecides, TraceDecides, GeneratedDecides, long_trace, bad_trace, good_trace, checked, laid_out, traced, long_description, refused, accepted, no_command, described, generated}
 
 -- what a decision plays or runs is accepted, and read for its plan
 abbrev pub Sound : Decision → Type 0

@@ -1,5 +1,5 @@
 -- What `serve` answers, by what the words and the texts decide.
-use Rattle.std.specs.Prelude.{◌≡◌, ◌≤◌, ◌⊎◌, ℕ, false, Option, Some, List, length, take}
+use Rattle.std.specs.Prelude.{◌≡◌, ◌≤◌, ℕ, false, Option, List, length}
 use Rattle.cargo_core.specs.Lists.{IsPrefix}
 use Rattle.cargo_core.specs.declared.memory.Memory.{Memory}
 use Rattle.sdf_plan.specs.declared.plan.Plan.{Plan}
@@ -11,14 +11,14 @@ use Rattle.system_core.specs.PlanPlays.{IsPlayed}
 use Rattle.system_core.specs.Reports.{report_of}
 use Rattle.sddf_top.specs.SystemRun.Ran.{IsRan}
 use Rattle.report_text.specs.Reports.{report_text}
-use Rattle.sddf_top.specs.declared.showing.Showing.{Showing}
-use Rattle.sddf_top.specs.declared.status.Status.{Status}
-use Rattle.sddf_top.specs.declared.status.Status.TheVariants as Ended
+use Rattle.decision_core.specs.declared.showing.Showing.{Showing}
+use Rattle.decision_core.specs.declared.status.Status.{Status}
+use Rattle.decision_core.specs.declared.status.Status.TheVariants as Ended
 use Rattle.sddf_top.specs.declared.played.Played.{Played}
 use Rattle.sddf_top.specs.declared.played.Played.TheVariants as Was
-use Rattle.sddf_top.specs.Decisions.{Decision, Say, Play, Run, Decides}
+use Rattle.decision_core.specs.Decisions.{Decision, Say, Play, Run, Decides}
 use Rattle.sddf_top.specs.Shown.{seed_of, limit_of, limit_or_budget, ending_of, shown_text}
-use Rattle.sddf_top.specs.Outside.{IsRead, appended, read_most}
+use Rattle.shelf_core.specs.Outside.{appended}
 
 -- a trace was played on a plan: the system that was built and played, the status by whether it is
 -- quiet, and the text of its report, with its journal where the options ask for it, or its summary.
@@ -33,9 +33,9 @@ pub record Shows (plan : Plan) (trace : Trace) (showing : Showing) (status : Sta
   pub bounded : budget_of plan trace ≤ limit_of plan trace showing → status ≡ Ended.Ok
   pub text_is : text ≡ shown_text (layout_of plan) showing (report_of system) system.journal
 
--- a trace was run on a plan, with a thread for each actor: the system that took over what the threads
--- left and was played on, the status by whether it is quiet, and the text of its report. Where it
--- isn't quiet all steps were made.
+-- a trace was run on a plan, with a thread for each actor: the system that took over what the
+-- threads left and was played on, the status by whether it is quiet, and the text of its report.
+-- Where it isn't quiet all steps were made.
 pub record ShowsRun (plan : Plan) (trace : Trace) (steps : Option ℕ) (status : Status)
     (text : List ℕ) (played : Played) : Type 0 where
   pub system : System
@@ -63,22 +63,6 @@ ComesBy decides status text played =
 -- the answer to words, by what they and the texts under their names decide
 abbrev pub Answers : (List ℕ → List ℕ → Type 0) → List (List ℕ) → Status → List ℕ → Played → Type 0
 Answers reads words status text played = ComesBy (Decides reads words) status text played
-
--- the status that a decision leads to: a play or a run gets quiet or spends its steps
-abbrev pub IsStatusOf : Decision → Status → Type 0
-IsStatusOf (Say status' text') status = status ≡ status'
-IsStatusOf (Play plan trace showing) status =
-    (status ≡ Ended.Ok) ⊎ ((steps : ℕ) × (status ≡ Ended.Spent steps))
-IsStatusOf (Run plan trace limit) status =
-    (status ≡ Ended.Ok) ⊎ ((steps : ℕ) × (status ≡ Ended.Spent steps))
-
--- the bytes that were read of a text, where a shelf tells some texts
-abbrev pub WasRead : (List ℕ → Option (List ℕ)) → List ℕ → List ℕ → Type 0
-WasRead told name bytes = IsRead (told name) bytes
-
--- the bytes that are read of a text which is told
-abbrev pub IsTold : (List ℕ → Option (List ℕ)) → List ℕ → List ℕ → Type 0
-IsTold told name bytes = (text : List ℕ) × (told name ≡ Some text) × (bytes ≡ take read_most text)
 
 -- an answer that may come in place of another
 pub data IsFault : Status → Type 0 where

@@ -3,15 +3,7 @@
 -- FaultPlans), how the answer is written (Sunk), and what is shown of a play or a run (Shown,
 -- SystemRun).
 pub mod Answers
-pub mod Codes
-pub mod Decisions
-pub mod FaultPlans
-pub mod Judged
-pub mod Names
 pub mod Outcomes
-pub mod Outside
-pub mod Readings
 pub mod Served
 pub mod Shown
-pub mod Sunk
 pub mod SystemRun

@@ -1,39 +1,16 @@
--- What was decided, and which answer comes of it.
-use Rattle.std.specs.Prelude.{◌≡◌, ◌⊎◌, ◌<◌, ℕ, Option, Result, Ok, Err, IfOk, OnErr, List, string_bytes}
-use Rattle.trace_text.specs.Traces.{IsReadFor}
+-- Which answer comes of what was decided.
+use Rattle.std.specs.Prelude.{◌≡◌, ◌⊎◌, ◌<◌, ℕ, Option, Result, Ok, Err, IfOk, OnErr, List}
+use Rattle.std.specs.Prelude.{string_bytes}
 use Rattle.sddf_top.specs.declared.answering.Outcome.{Outcome}
-use Rattle.sddf_top.specs.declared.reading.ReadStop.{ReadStop}
-use Rattle.sddf_top.specs.declared.reading.ReadStop.TheVariants as Stop
+use Rattle.shelf_core.specs.declared.reading.ReadStop.{ReadStop}
+use Rattle.shelf_core.specs.declared.reading.ReadStop.TheVariants as Stop
 use Rattle.sddf_top.specs.declared.played.Played.{Played}
-use Rattle.sddf_top.specs.declared.deciding.Decided.{Decided}
-use Rattle.sddf_top.specs.declared.deciding.Decided.TheVariants as Is
-use Rattle.sddf_top.specs.declared.showing.Asked.TheVariants as Ask
-use Rattle.sddf_top.specs.declared.status.Status.{Status}
-use Rattle.sddf_top.specs.declared.status.Status.TheVariants as Ended
-use Rattle.sddf_top.specs.Outside.{Rose}
-use Rattle.sddf_top.specs.Judged.{IsAcceptedPlan}
-use Rattle.sddf_top.specs.Decisions.{Decision, Say, asked_on, Decides}
-use Rattle.sddf_top.specs.Answers.{Comes, ComesBy, IsStatusOf, Serves, WasRead}
-
--- the decision that is kept
-abbrev pub decision_of : Decided → Decision
-decision_of (Is.Say status text) = Say status (string_bytes text)
-decision_of (Is.Go plan trace asked) = asked_on plan trace asked
-
--- what is played or run is accepted, and read for its plan
-abbrev pub IsSound : Decided → Type 0
-IsSound (Is.Say status text) = Unit {0}
-IsSound (Is.Go plan trace asked) = IsAcceptedPlan plan × IsReadFor plan trace
-
--- a run is asked for
-abbrev pub AsksToRun : Decided → Type 0
-AsksToRun (Is.Say status text) = ⊥
-AsksToRun (Is.Go plan trace (Ask.Play showing)) = ⊥
-AsksToRun (Is.Go plan trace (Ask.Run steps)) = Unit {0}
-
--- this holds of each status that the decision may lead to
-abbrev pub OfEach : Decided → (Status → Type 0) → Type 0
-OfEach decided P = (status : Status) → IsStatusOf (decision_of decided) status → P status
+use Rattle.decision_core.specs.declared.status.Status.{Status}
+use Rattle.decision_core.specs.declared.status.Status.TheVariants as Ended
+use Rattle.shelf_core.specs.Outside.{Rose}
+use Rattle.decision_core.specs.Decisions.{Decision, Decides}
+use Rattle.sddf_top.specs.Answers.{Comes, ComesBy, Serves}
+use Rattle.shelf_core.specs.Reading.{WasRead}
 
 -- an answer follows from a decision
 abbrev pub Follows : Decision → Outcome → Type 0

@@ -3,13 +3,14 @@ use Rattle.std.specs.Prelude.{◌≡◌, ◌⊎◌, ◌<◌, ℕ, Option, List}
 use Rattle.cargo_core.specs.declared.memory.Memory.{Memory}
 use Rattle.command_words.specs.declared.command.Command.{Command}
 use Rattle.command_words.specs.Words.{Spells, IsGen}
-use Rattle.sddf_top.specs.declared.status.Status.{Status}
-use Rattle.sddf_top.specs.declared.status.Status.TheVariants as Ended
+use Rattle.decision_core.specs.declared.status.Status.{Status}
+use Rattle.decision_core.specs.declared.status.Status.TheVariants as Ended
 use Rattle.sddf_top.specs.declared.played.Played.{Played}
-use Rattle.sddf_top.specs.Outside.{Rose}
-use Rattle.sddf_top.specs.Decisions.{Decision, Decides}
-use Rattle.sddf_top.specs.Answers.{Serves, WasRead, IsTold, IsStatusOf, IsFault}
-use Rattle.sddf_top.specs.Readings.{ReadLast}
+use Rattle.shelf_core.specs.Outside.{Rose}
+use Rattle.decision_core.specs.Decisions.{Decision, Decides, IsStatusOf}
+use Rattle.sddf_top.specs.Answers.{Serves, IsFault}
+use Rattle.shelf_core.specs.Reading.{WasRead, IsTold}
+use Rattle.decision_core.specs.Readings.{ReadLast}
 
 -- the words were served over a shelf, which tells texts, what is left of the open one and how often
 -- it failed, and a sink, which tells what was written and how often it failed

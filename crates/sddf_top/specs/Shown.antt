@@ -8,10 +8,10 @@ use Rattle.expect_core.specs.declared.report.Report.{Report}
 use Rattle.expect_core.specs.Budgets.{budget_of}
 use Rattle.report_text.specs.Reports.{report_text, summary_text}
 use Rattle.report_text.specs.Journals.{journal_text}
-use Rattle.sddf_top.specs.declared.showing.Showing.{Showing}
-use Rattle.sddf_top.specs.declared.showing.Showing.TheVariants as Show
-use Rattle.sddf_top.specs.declared.status.Status.{Status}
-use Rattle.sddf_top.specs.declared.status.Status.TheVariants as Ended
+use Rattle.decision_core.specs.declared.showing.Showing.{Showing}
+use Rattle.decision_core.specs.declared.showing.Showing.TheVariants as Show
+use Rattle.decision_core.specs.declared.status.Status.{Status}
+use Rattle.decision_core.specs.declared.status.Status.TheVariants as Ended
 
 -- the seed of the picks
 abbrev pub seed_of : Showing → ℕ

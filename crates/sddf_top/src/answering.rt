@@ -3,18 +3,19 @@ ghost use Rattle.std.specs.Prelude.{◌≡◌, Err, IfOk, OnOk, ℕ, List, strin
 ghost use Rattle.cargo_core.specs.declared.memory.Memory.{Memory};
 ghost use Rattle.command_words.specs.declared.command.Command.{Command};
 ghost use Rattle.command_words.specs.Words.{texts_of, IsGen, Spells, BeginsRun};
-ghost use Rattle.sddf_top.specs.Outside.{Rose};
-ghost use Rattle.sddf_top.specs.Outcomes.{decision_of, IsSound, AsksToRun, Follows, FollowsBy};
-ghost use Rattle.sddf_top.specs.Decisions.{Decides};
-ghost use Rattle.sddf_top.specs.Answers.{WasRead};
-ghost use Rattle.sddf_top.specs.Readings.{ReadLast};
+ghost use Rattle.shelf_core.specs.Outside.{Rose};
+ghost use Rattle.decision_core.specs.Decided.{decision_of, IsSound, AsksToRun};
+ghost use Rattle.sddf_top.specs.Outcomes.{Follows, FollowsBy};
+ghost use Rattle.decision_core.specs.Decisions.{Decides};
+ghost use Rattle.shelf_core.specs.Reading.{WasRead};
+ghost use Rattle.decision_core.specs.Readings.{ReadLast};
 
-use crate::deciding::{Decided, decide_words};
+use crate::Played;
 use crate::playing::{play, run};
-use crate::reading::ReadStop;
-use crate::{Asked, Played, Shelf, Status};
 use cargo_core::Memory;
+use decision_core::{Asked, Decided, Status, decide_words};
 use pd_runner::Gate;
+use shelf_core::{ReadStop, Shelf};
 use std::alloc::Global;
 use std::sync::Wait;
 use std::thread::Threads;

@@ -1,15 +1,17 @@
 //! A trace is played or run on a plan, and what the system shows is made the answer.
 ghost use Rattle.std.specs.Prelude.{◌≡◌, IfOk, string_bytes};
 ghost use Rattle.trace_text.specs.Traces.{IsReadFor};
-ghost use Rattle.sddf_top.specs.Judged.{IsAcceptedPlan};
-ghost use Rattle.sddf_top.specs.Decisions.{Play, Run};
-ghost use Rattle.sddf_top.specs.Shown.{seed_of, limit_of, limit_or_budget, ending_of, told_text, shown_text};
+ghost use Rattle.decision_core.specs.Judged.{IsAcceptedPlan};
+ghost use Rattle.decision_core.specs.Decisions.{Play, Run};
+ghost use Rattle.sddf_top.specs.Shown.{seed_of, limit_of, limit_or_budget, ending_of, told_text};
+ghost use Rattle.sddf_top.specs.Shown.{shown_text};
 ghost use Rattle.sddf_top.specs.Outcomes.{Follows};
 
+use crate::Played;
 use crate::answering::Outcome;
 use crate::system_run::ran;
-use crate::{Played, Showing, Status};
 use cargo_core::Memory;
+use decision_core::{Showing, Status};
 use expect_core::{Report, budget};
 use pd_runner::Gate;
 use region_layout::{Layout, lay_out};

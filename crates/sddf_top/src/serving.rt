@@ -1,17 +1,18 @@
 //! The program as one call: the answer is made whole, and then written.
 ghost use Rattle.std.specs.Prelude.{◌≡◌, ◌⊎◌, ◌<◌, ℕ, Option, List, string_bytes};
 ghost use Rattle.command_words.specs.Words.{texts_of, BeginsRun};
-ghost use Rattle.sddf_top.specs.Outside.{Rose};
-ghost use Rattle.sddf_top.specs.Answers.{Answers, Serves, WasRead};
+ghost use Rattle.shelf_core.specs.Outside.{Rose};
+ghost use Rattle.sddf_top.specs.Answers.{Answers, Serves};
+ghost use Rattle.shelf_core.specs.Reading.{WasRead};
 ghost use Rattle.sddf_top.specs.Outcomes.{HasTold};
 ghost use Rattle.sddf_top.specs.Served.{IsServed};
 
+use crate::Played;
 use crate::answering::{Outcome, answer_words, answer_words_alone};
-use crate::reading::ReadStop;
-use crate::writing::write_text;
-use crate::{Played, Shelf, Sink, Status};
 use command_words::begins_run;
+use decision_core::Status;
 use pd_runner::Gate;
+use shelf_core::{ReadStop, Shelf, Sink, write_text};
 use std::alloc::Global;
 use std::sync::Wait;
 use std::thread::Threads;

@@ -11,7 +11,6 @@ use cargo_core::Memory;
 use pd_runner::{Gate, run_threads};
 use region_layout::Layout;
 use sdf_plan::Plan;
-use serial_law::serial_law;
 use std::alloc::Global;
 use std::sync::Wait;
 use std::thread::Threads;
@@ -36,7 +35,6 @@ pub fn ran<R: Threads + Wait + Sync, G: Gate + Sync>(
     ensures ran { IfOk result (λ r. IsRan plan.now trace.now limit r.0) }
     ensures ended { IfOk result (λ r. HasEnded limit r.0 r.1) }
 {
-    serial_law();
     let system = System::build(alloc, plan, layout, trace)?;
     let parts = system.take_apart()?;
     let parts = run_threads(rt, alloc, layout, parts, limit, gate)?;

@@ -1,4 +1,6 @@
 //! System descriptions: how a text is read into a plan.
+//!
+//! An example of its calls: `crates/library_examples/src/description.rt`.
 #![tactic(auto)]
 
 mod element;
@@ -11,6 +13,3 @@ mod rules;
 mod tree;
 
 pub use read::{TEXT_MOST, read_description};
-
-#[cfg(test)]
-mod tests;

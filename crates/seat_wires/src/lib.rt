@@ -1,5 +1,7 @@
 //! The ends of one actor over rings. It stands between the ring and the actors, so that no actor
 //! names a ring.
+//!
+//! An example of its calls: `crates/library_examples/src/seats.rt`.
 #![tactic(auto)]
 
 mod laws;

@@ -10,6 +10,3 @@ mod switch;
 pub use grammar::the_grammar;
 pub use plain::plain_input_of;
 pub use switch::Switch;
-
-#[cfg(test)]
-mod tests;

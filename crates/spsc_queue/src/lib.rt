@@ -1,6 +1,8 @@
 //! The lock-free ring: a queue for one producer and one consumer, on words and slots that both
 //! share. It stands apart so that all that is concurrent about a queue is in one crate, in safe
 //! code over `atomic_table`.
+//!
+//! An example of its calls: `crates/library_examples/src/ring.rt`.
 #![tactic(auto)]
 
 mod both;

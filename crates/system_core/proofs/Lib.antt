@@ -22,7 +22,7 @@ pub mod Replying
 pub mod Crewing
 pub mod Built
 pub mod Quieting
+pub mod PoolsLemmas
 pub mod Together
 pub mod Parting
 pub mod Adopting
-pub mod PlayPools

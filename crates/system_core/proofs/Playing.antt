@@ -1,4 +1,4 @@
-use Rattle.std.proofs.Common.{◌≡◌, ◌≤◌, ◌+◌, ◌++◌, ℕ, Some, List, [], ◌∷◌, length, length-append, slice_get, append_assoc, subst, refl, sym, ap, ◌∙◌}
+use Rattle.std.proofs.Common.{◌≡◌, ◌≤◌, ◌+◌, ◌++◌, ℕ, Some, List, [], ◌∷◌, length, length-append, slice_get, append_assoc, subst, refl, sym, ap, ◌∙◌, arith}
 use Rattle.std.proofs.lemmas.List.{append-nil}
 use Rattle.wire_core.specs.declared.names.Entry.{Entry}
 use Rattle.wire_core.specs.Picks.{PickedFrom, next_seed, place_of, drawn}
@@ -14,9 +14,10 @@ pub record Playing (old new : Shown) (seed x n : ℕ) : Type 0 where
   pub picked : PickedFrom (runs old.setting) seed old.journal more
   pub drawn_is : x ≡ drawn seed more
   pub count : length more ≡ n
+  pub unmoved : n ≡ 0 → new ≡ old
 
 pub start_playing : (old : Shown) (seed : ℕ) → Playing old old seed seed 0
-start_playing old seed = record { setting = refl; more = []; journal = sym (append-nil old.journal); picked = tt; drawn_is = refl; count = refl }
+start_playing old seed = record { setting = refl; more = []; journal = sym (append-nil old.journal); picked = tt; drawn_is = refl; count = refl; unmoved = λ e. refl }
 
 -- one step more, of the actor that is picked
 pub play_step : (old mid new : Shown) (seed x n x' place count : ℕ) → Playing old mid seed x n → x' ≡ next_seed x → count ≡ length (runnable_now mid) → place ≡ place_of x' count → StepsAt place mid new → Playing old new seed x' (n + 1)
@@ -32,7 +33,19 @@ play_step old mid new seed x n x' place count p next many at s =
       picked = PickedFrom-append (runs old.setting) seed old.journal p.more e p.picked (rw (← p.journal, ← p.setting) there);
       drawn_is = is ∙ sym (drawn-append seed p.more e);
       count = length-append p.more (e ∷ []) ∙ ap (λ m. m + 1) p.count;
+      unmoved = λ none. absurd (omega (arith, none));
     }
 
 pub played : (old new : Shown) (seed x n limit : ℕ) → Playing old new seed x n → n ≤ limit → Played old new seed limit
-played old new seed x n limit p le = record { setting = p.setting; more = p.more; journal = p.journal; picked = p.picked; within = subst (λ m. m ≤ limit) (sym p.count) le }
+played old new seed x n limit p le = record { setting = p.setting; more = p.more; journal = p.journal; picked = p.picked; within = subst (λ m. m ≤ limit) (sym p.count) le; unmoved = λ none. p.unmoved (sym p.count ∙ ap length none) }
+
+-- a seed picks nobody where nobody is runnable
+pub none_picked : (runs : List Entry → List ℕ) (seed : ℕ) (before more : List Entry) → PickedFrom runs seed before more → runs before ≡ [] → more ≡ []
+none_picked runs seed before [] picked none = refl
+none_picked runs seed before (e ∷ es) picked none =
+    let at : slice_get [] (place_of (next_seed seed) (length (runs before))) ≡ Some e.actor.0 = subst (λ ks. slice_get ks (place_of (next_seed seed) (length (runs before))) ≡ Some e.actor.0) none picked.0 in
+    absurd cc
+
+-- so a play leaves a system as it is in which nobody is runnable
+pub rests : (old new : Shown) (seed limit : ℕ) → Played old new seed limit → runnable_now old ≡ [] → new ≡ old
+rests old new seed limit p none = p.unmoved (none_picked (runs old.setting) seed old.journal p.more p.picked none)

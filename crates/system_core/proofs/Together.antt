@@ -1,4 +1,4 @@
-use Rattle.std.proofs.Common.{◌≡◌, ◌≤◌, ◌++◌, ℕ, Some, List, [], length, sym, ap, ◌∙◌, subst, arith, refl}
+use Rattle.std.proofs.Common.{◌≡◌, ◌≤◌, ◌++◌, ℕ, Some, List, [], length, sym, ap, ◌∙◌, subst, arith, refl, Result, Ok, Err, IfOk}
 use Rattle.wire_core.specs.declared.names.QueueRow.{QueueRow}
 use Rattle.wire_core.specs.declared.names.Entry.{Entry}
 use Rattle.wire_core.specs.Picks.{PickedFrom}
@@ -24,8 +24,10 @@ use Rattle.system_core.specs.Plays.{Played, IsSpent, runnable_now}
 use Rattle.system_core.specs.declared.system.Ending.{Ending}
 use Rattle.system_core.specs.declared.system.Ending.TheVariants as Ends
 use Rattle.system_core.specs.Lawful.{StandsLawful}
+use Rattle.order_law.specs.ActorParts.Parting.{Apart}
+use Rattle.system_core.specs.Adopting.{IsAdopted}
 use Rattle.system_core.specs.Builds.{IsBuilt, IsCastOf, BeginsAnew, serial_class}
-use Rattle.system_core.specs.PlanPlays.{IsPlayed, IsPlayedOn, HasEnded}
+use Rattle.system_core.specs.PlanPlays.{IsSystemOf, IsOfItsPlan, StaysOfItsPlan, IsPlayed, IsPlayedOn, HasEnded}
 use Rattle.actor_set.proofs.LawsLemmas.Calm.{calm_actor, sheet_is}
 use Rattle.system_core.proofs.Scripts.{scripts_length}
 use Rattle.cast_core.specs.Sources.{first_serial}
@@ -34,6 +36,7 @@ use Rattle.system_core.proofs.Networking.{shows_frames}
 use Rattle.system_core.proofs.Quieting.{still_now, shows_whole_net, shows_whole_blk}
 use Rattle.system_core.proofs.Bounded.{row_as, bounded}
 use Rattle.system_core.proofs.Replying.{shows_replies}
+use Rattle.system_core.proofs.PoolsLemmas.Showing.{tells_owners}
 use Rattle.system_core.proofs.Begun.{There, serial_there, shows_in_part, shows_whole}
 
 plays_as : (s : Setting) (hostile : Hostiles) (actors : Needful) (m : Moved) (p : SerialPart) → Plays hostile actors m (sheet_in s (serial_part p)) → Plays hostile actors m (serial_sheet p)
@@ -74,54 +77,84 @@ module _ (s : Shown) (stands : StandsLawful s) (class : SerialClass) (there : Is
       (hostile_in s.setting) s.setting.rows class there)
 
 -- a system of a plan and a trace, whatever its queues had before its journal begins
-module _ (old new : Shown) (seed limit : ℕ) (none : old.journal ≡ []) (played : Played old new seed limit) where
-  more_is : played.more ≡ new.journal
-  more_is = sym (played.journal ∙ ap (λ j. j ++ played.more) none)
+module _ (plan : Plan) (trace : Trace) (valid : Valid plan) (read : IsReadFor plan trace) (s : Shown) (cast_is : IsCastOf plan trace s.setting) (stands : StandsLawful s) (part : LawInPart) (whole : LawWhole) where
+  module _ (serial : Serial) (has : plan.serial ≡ Some serial) where
+    abbrev class : SerialClass
+    class = serial_class (first_serial plan) (length serial.client) trace
 
-  picked_is : PickedFrom (runs new.setting) seed [] new.journal
-  picked_is =
-      subst (λ z. PickedFrom (runs z) seed [] new.journal) (sym played.setting)
-      (subst (λ j. PickedFrom (runs old.setting) seed [] j) more_is (subst (λ j. PickedFrom (runs old.setting) seed j played.more) none played.picked))
+    class_is : HasSerial (first_serial plan) plan serial trace s.setting
+    class_is = has_serial plan trace s.setting cast_is serial has
 
-  module _ (plan : Plan) (valid : Valid plan) (trace : Trace) (read : IsReadFor plan trace) (cast : IsCastOf plan trace old.setting) (stands : StandsLawful new) (part : LawInPart) (whole : LawWhole) where
-    cast_is : IsCastOf plan trace new.setting
-    cast_is = subst (IsCastOf plan trace) (sym played.setting) cast
+    says : length trace.says ≡ length serial.client
+    says = scripts_length plan serial trace has read
 
-    module _ (serial : Serial) (has : plan.serial ≡ Some serial) where
-      abbrev class : SerialClass
-      class = serial_class (first_serial plan) (length serial.client) trace
+    there : IsSerial (There s.setting) (hostile_in s.setting) s.setting.rows class
+    there = serial_there plan serial (first_serial plan) trace s.setting stands.fitted class_is says
 
-      class_is : HasSerial (first_serial plan) plan serial trace new.setting
-      class_is = has_serial plan trace new.setting cast_is serial has
+  pub is_system : IsSystemOf plan trace s
+  is_system = record {
+    cast = cast_is;
+    bounded = bounded plan trace valid s cast_is stands (λ serial has. there serial has);
+    stands = stands;
+    owners = tells_owners plan trace s valid cast_is stands;
+    arrives = λ serial has. arrives s stands (class serial has) (there serial has) part;
+    shows = λ serial has. shows_in_part plan serial (first_serial plan) trace s (class_is serial has) (says serial has) stands.told (arrives_now s stands (class serial has) (there serial has) part);
+    shows_net = λ net has. shows_frames plan net trace s cast_is has stands.told;
+    shows_blk = λ blk has. shows_replies plan blk trace s cast_is has stands.told;
+    whole = λ quiet serial has. shows_whole plan serial (first_serial plan) trace s (class_is serial has) (says serial has) stands.told (arrives_whole s stands (class serial has) (there serial has) whole quiet);
+    whole_net = λ quiet net has. shows_whole_net s stands quiet plan valid net has trace cast_is;
+    whole_blk = λ quiet blk has. shows_whole_blk s stands quiet plan valid blk has trace cast_is;
+  }
 
-      says : length trace.says ≡ length serial.client
-      says = scripts_length plan serial trace has read
+-- of each plan and trace of which it has the cast
+pub of_plan : (s : Shown) → StandsLawful s → LawInPart → LawWhole → IsOfItsPlan s
+of_plan s stands part whole plan trace valid read cast_is = is_system plan trace valid read s cast_is stands part whole
 
-      there : IsSerial (There new.setting) (hostile_in new.setting) new.setting.rows class
-      there = serial_there plan serial (first_serial plan) trace new.setting stands.fitted class_is says
+-- a play keeps the cast
+pub stays_of_plan : (old new : Shown) (seed limit : ℕ) → Played old new seed limit → IsOfItsPlan new → StaysOfItsPlan old new
+stays_of_plan old new seed limit played of plan trace valid read was = of plan trace valid read (subst (IsCastOf plan trace) (sym played.setting) was.cast)
 
-    pub played_on : IsPlayedOn plan trace seed limit new
-    played_on = record {
-      cast = cast_is;
-      picked = picked_is;
+-- one play that began with nothing picked its whole journal
+pub played_on : (old new : Shown) (seed limit : ℕ) → old.journal ≡ [] → Played old new seed limit → (plan : Plan) (trace : Trace) → IsSystemOf plan trace new → IsPlayedOn plan trace seed limit new
+played_on old new seed limit none played plan trace system =
+    let more_is : played.more ≡ new.journal = sym (played.journal ∙ ap (λ j. j ++ played.more) none) in
+    record {
+      system = system;
+      picked = subst (λ z. PickedFrom (runs z) seed [] new.journal) (sym played.setting)
+          (subst (λ j. PickedFrom (runs old.setting) seed [] j) more_is (subst (λ j. PickedFrom (runs old.setting) seed j played.more) none played.picked));
       within = subst (λ j. length j ≤ limit) more_is played.within;
-      bounded = bounded plan trace valid new cast_is stands (λ serial has. there serial has);
-      stands = stands;
-      arrives = λ serial has. arrives new stands (class serial has) (there serial has) part;
-      shows = λ serial has. shows_in_part plan serial (first_serial plan) trace new (class_is serial has) (says serial has) stands.told (arrives_now new stands (class serial has) (there serial has) part);
-      shows_net = λ net has. shows_frames plan net trace new cast_is has stands.told;
-      shows_blk = λ blk has. shows_replies plan blk trace new cast_is has stands.told;
-      whole = λ quiet serial has. shows_whole plan serial (first_serial plan) trace new (class_is serial has) (says serial has) stands.told (arrives_whole new stands (class serial has) (there serial has) whole quiet);
-      whole_net = λ quiet net has. shows_whole_net new stands quiet plan valid net has trace cast_is;
-      whole_blk = λ quiet blk has. shows_whole_blk new stands quiet plan valid blk has trace cast_is;
     }
 
--- one that was built begins with nothing
-pub together : (old new : Shown) (seed limit : ℕ) → Played old new seed limit → (plan : Plan) → Valid plan → (trace : Trace) → IsReadFor plan trace → IsBuilt plan trace old → StandsLawful new → LawInPart → LawWhole → IsPlayed plan trace seed limit new
-together old new seed limit played plan valid trace read built stands part whole = record {
+-- and so did one of a system that was built
+pub together : (old new : Shown) (seed limit : ℕ) → Played old new seed limit → (plan : Plan) (trace : Trace) → IsBuilt plan trace old → IsSystemOf plan trace new → IsPlayed plan trace seed limit new
+together old new seed limit played plan trace built system = record {
   begins = subst BeginsAnew (sym played.setting) built.begins;
-  played = played_on old new seed limit built.journal played plan valid trace read built.cast stands part whole;
+  played = played_on old new seed limit built.journal played plan trace system;
 }
+
+-- who acts in a system doesn't depend on its history
+same_cast : (plan : Plan) (trace : Trace) (s : Setting) (h : History) → IsCastOf plan trace s → IsCastOf plan trace (record s { history = h })
+same_cast plan trace s h is = record {
+  rows = is.rows;
+  pools = is.pools;
+  count = is.count;
+  scene = is.scene;
+  parts = is.parts;
+  whole = is.whole;
+  whole_block = is.whole_block;
+  net = is.net;
+  serial = is.serial;
+  blk = is.blk;
+}
+
+-- so a system that goes on from what actors left has the cast that these came from
+pub adopted_cast : (plan : Plan) (trace : Trace) (s : Setting) (parts : List Apart) (t : Shown) → IsCastOf plan trace s → IsAdopted s parts t → IsCastOf plan trace t.setting
+adopted_cast plan trace s parts t cast adopted = subst (IsCastOf plan trace) (sym adopted.setting) (same_cast plan trace s t.setting.history cast)
+
+-- what follows from two facts of a value, where there is one
+pub both_ok : {X Y : Type 0} (r : Result X Y) (P Q R : X → Type 0) → ((x : X) → P x → Q x → R x) → IfOk r P → IfOk r Q → IfOk r R
+both_ok (Ok x) P Q R f p q = f x p q
+both_ok (Err y) P Q R f p q = tt
 
 -- how a play ended that began with nothing
 pub ended : (limit : ℕ) (old new : Shown) (e : Ending) → old.journal ≡ [] → (e ≡ Ends.Quiet → runnable_now new ≡ []) → (e ≡ Ends.Spent → IsSpent old new limit) → HasEnded limit new e

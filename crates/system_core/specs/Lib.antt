@@ -1,5 +1,5 @@
--- The definitions of a system at play: what it shows (Shows, Reports, Crews, PlayPools), what holds
--- of it (Lawful), how it is built and played (Builds, Plays, PlanPlays), how it takes over what
+-- The definitions of a system at play: what it shows (Shows, Reports, Crews, Pools), what holds of
+-- it (Lawful), how it is built and played (Builds, Plays, PlanPlays), how it takes over what
 -- threads left (Adopting), and inside, what it keeps (Runnings, Asking, States, Starts, Systems,
 -- Inside).
 pub mod Shows
@@ -16,4 +16,4 @@ pub mod Starts
 pub mod Systems
 pub mod Adopting
 pub mod Inside
-pub mod PlayPools
+pub mod Pools

@@ -1,4 +1,5 @@
--- What a play of a plan and a trace shows: all that a caller learns of the system that was played.
+-- What a system of a plan and a trace shows, however it was played, and what one play of it shows:
+-- all that a caller learns of it.
 use Rattle.std.specs.Prelude.{◌≡◌, ◌<◌, ◌≤◌, ℕ, Some, List, [], length, slice_get}
 use Rattle.cargo_core.specs.Lists.{IsPrefix, Merge, PrefixMerge}
 use Rattle.wire_core.specs.Picks.{PickedFrom}
@@ -20,11 +21,15 @@ use Rattle.blk_expect.specs.Replies.{replies_of}
 use Rattle.blk_law.specs.Sheets.Numbers.{BlkPlace}
 use Rattle.sdf_plan.specs.declared.plan.Serial.{Serial}
 use Rattle.trace_text.specs.declared.trace.Trace.{Trace}
+use Rattle.trace_text.specs.Traces.{IsReadFor}
+use Rattle.sdf_check.specs.Valid.{Valid}
+use Rattle.cast_law.specs.Places.{pool_place}
 use Rattle.expect_core.specs.Budgets.{budget_of}
 use Rattle.system_core.specs.Shows.{State, Shown, runs, moved_in}
 use Rattle.system_core.specs.Plays.{runnable_now}
 use Rattle.system_core.specs.Lawful.{StandsLawful}
 use Rattle.system_core.specs.Builds.{IsCastOf, BeginsAnew, serial_class}
+use Rattle.system_core.specs.Pools.{TellsOwners}
 use Rattle.system_core.specs.declared.system.Ending.{Ending}
 use Rattle.system_core.specs.declared.system.Ending.TheVariants as Ends
 
@@ -73,15 +78,15 @@ pub record ShowsAllReplies (blk : BlkPlace) (s : State) : Type 0 where
       → slice_get blk.entries c ≡ Some entry → slice_get blk.asks c ≡ Some asks
       → slice_get s.blk c ≡ Some got → got ≡ replies_of blk.image entry asks
 
--- the system of a plan and a trace, whatever its queues had before its journal begins, after a seed
--- picked its steps, at most so many
-pub record IsPlayedOn (plan : Plan) (trace : Trace) (seed limit : ℕ) (s : Shown) : Type 0 where
+-- a system of a plan and a trace, whatever its queues had before its journal begins, in however
+-- many plays it came to that journal, and whatever seeds picked its steps
+pub record IsSystemOf (plan : Plan) (trace : Trace) (s : Shown) : Type 0 where
   pub cast : IsCastOf plan trace s.setting
-  pub picked : PickedFrom (runs s.setting) seed [] s.journal
-  pub within : length s.journal ≤ limit
-  -- whatever the limit and the seed, it gets quiet within the budget
+  -- whoever counts, the whole journal is shorter than the budget
   pub bounded : length s.journal < budget_of plan trace
   pub stands : StandsLawful s
+  -- each buffer has one owner at each moment, or its counted receivers
+  pub owners : TellsOwners plan (pool_place plan trace) s
   pub arrives : (serial : Serial) → plan.serial ≡ Some serial → EachMoment (λ j.
       ArrivesInPart (serial_class (first_serial plan) (length serial.client) trace)
       (moved_in s.setting j)) s.journal
@@ -99,6 +104,23 @@ pub record IsPlayedOn (plan : Plan) (trace : Trace) (seed limit : ℕ) (s : Show
   -- and all replies of the block class
   pub whole_blk : runnable_now s ≡ [] → (blk : Blk) → plan.blk ≡ Some blk
       → ShowsAllReplies (blk_place plan trace) s.state
+
+-- of whatever valid plan and trace a system has the cast, it is a system of these
+abbrev pub IsOfItsPlan : Shown → Type 0
+IsOfItsPlan s = (plan : Plan) (trace : Trace) → Valid plan → IsReadFor plan trace
+    → IsCastOf plan trace s.setting → IsSystemOf plan trace s
+
+-- what is done to a system leaves it one of each valid plan and trace of which it was one
+abbrev pub StaysOfItsPlan : Shown → Shown → Type 0
+StaysOfItsPlan old new = (plan : Plan) (trace : Trace) → Valid plan → IsReadFor plan trace
+    → IsSystemOf plan trace old → IsSystemOf plan trace new
+
+-- a system of a plan and a trace after one play: a seed picked all steps of its journal, at most so
+-- many
+pub record IsPlayedOn (plan : Plan) (trace : Trace) (seed limit : ℕ) (s : Shown) : Type 0 where
+  pub system : IsSystemOf plan trace s
+  pub picked : PickedFrom (runs s.setting) seed [] s.journal
+  pub within : length s.journal ≤ limit
 
 -- the same from the start state on, before which nothing happened
 pub record IsPlayed (plan : Plan) (trace : Trace) (seed limit : ℕ) (s : Shown) : Type 0 where

@@ -15,6 +15,8 @@ pub record Played (old new : Shown) (seed limit : ℕ) : Type 0 where
   pub journal : new.journal ≡ old.journal ++ more
   pub picked : PickedFrom (runs old.setting) seed old.journal more
   pub within : length more ≤ limit
+  -- where no step was made, all is as it was
+  pub unmoved : more ≡ [] → new ≡ old
 
 -- so many steps were made, and some actor is runnable
 abbrev pub IsSpent : Shown → Shown → ℕ → Type 0

@@ -22,6 +22,7 @@ ghost use Rattle.system_core.specs.Runnings.{removed_if, with_option};
 ghost use Rattle.system_core.specs.Plays.{Played, IsSpent, StepsAt, runnable_now};
 ghost use Rattle.system_core.specs.Asking.{IsAsked, AreWhole};
 ghost use Rattle.system_core.specs.Builds.{IsBuilt};
+ghost use Rattle.system_core.specs.PlanPlays.{IsSystemOf, IsOfItsPlan, StaysOfItsPlan};
 ghost use Rattle.system_core.specs.PlanPlays.{IsPlayed, HasEnded};
 
 mod apart;
@@ -217,6 +218,7 @@ impl System {
             ≡ started (start_history rows.items) rows.items pools.items (starts rows.items)
             actors.items net serial blk) }
         ensures stands { IfOk result StandsLawful }
+        ensures of_plan { IfOk result IsOfItsPlan }
     {
         let world = World::new(alloc, &rows)?;
         let none: Vec<Ended> = Vec::new(alloc);
@@ -252,6 +254,7 @@ impl System {
             ≡ started (history_of rows.items past.value.items) rows.items pools.items world
             actors.items net serial blk) }
         ensures stands { IfOk result StandsLawful }
+        ensures of_plan { IfOk result IsOfItsPlan }
     {
         let running = first_running(alloc, &rows, &world, &actors, &past)?;
         let system = System {
@@ -273,8 +276,10 @@ impl System {
 
     // What holds of every system; nothing is done.
     fn stand(&self)
-        ensures { StandsLawful self.now }
+        ensures stands { StandsLawful self.now }
+        ensures of_plan { IsOfItsPlan self.now }
     {
+        serial_law();
         let _made = self.journal.len();
     }
 
@@ -290,6 +295,7 @@ impl System {
         requires layout { layout.now ≡ layout_of plan.now }
         requires trace { IsReadFor plan.now trace.now }
         ensures built { IfOk result (IsBuilt plan.now trace.now) }
+        ensures system { IfOk result (IsSystemOf plan.now trace.now) }
         ensures stands { IfOk result StandsLawful }
     {
         let rows = copies(alloc, layout.queues())?;
@@ -354,11 +360,15 @@ impl System {
         Ok(())
     }
 
-    /// Makes steps of actors that the seed picks, until none is runnable or so many were made.
-    /// After want of memory the journal holds the steps that were made.
+    /// Makes steps of actors that the seed picks, until none is runnable or so many were made. It
+    /// goes on from the last journal, so a system may be played in any number of calls, each with a
+    /// seed and a limit of its own. After want of memory the journal holds the steps that were
+    /// made.
     pub fn play(&mut self, seed: u64, limit: u64) -> Result<Ending, Memory>
         ensures played { Played self.old self.new seed limit }
+        ensures system { StaysOfItsPlan self.old self.new }
         ensures stands { StandsLawful self.new }
+        ensures rests { runnable_now self.old ≡ [] → self.new ≡ self.old }
         ensures quiet { IfOk result (λ e. e ≡ Ending.Quiet → runnable_now self.new ≡ []) }
         ensures spent { IfOk result (λ e. e ≡ Ending.Spent → IsSpent self.old self.new limit) }
     {
@@ -405,7 +415,6 @@ impl System {
         ensures played { IfOk result (λ r. IsPlayed plan.now trace.now seed limit r.0) }
         ensures ended { IfOk result (λ r. HasEnded limit r.0 r.1) }
     {
-        serial_law();
         let mut system = System::build(alloc, plan, layout, trace)?;
         let ending = system.play(seed, limit)?;
         Ok((system, ending))

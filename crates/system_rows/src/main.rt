@@ -1,19 +1,27 @@
 //! Plays descriptions. A row of the input is `FILE | SEED | STEPS | LINE | LINE`: a description,
 //! the seed, the most steps, and the lines of a trace for it. `FILE with NAME as OTHER` stands for
 //! the plan in which a domain has another name, also one that no text spells, as `@uart`, the
-//! serial device's own. For each row one line is written: how the play ended, what was sent on the
-//! line, what each serial client recorded, and how many replies each block client got. Bytes are
-//! written as runs, `3*61` for 616161; where several clients speak, the line is written as how often
-//! each byte stands in it, since their bytes come in any order. Where a quiet play left a record or
-//! replies that the trace doesn't give the client, the line says so.
+//! serial device's own. Several seeds, as `1 2 3`, stand for as many plays in a row of one system,
+//! each by its seed and of so many steps at most. For each row one line is written: how the play
+//! ended, what was sent on the line, what each serial client recorded, and how many replies each
+//! block client got. Bytes are written as runs, `3*61` for 616161; where several clients speak,
+//! the line is written as how often each byte stands in it, since their bytes come in any order.
+//! Where a quiet play left a record or replies that the trace doesn't give the client, the line
+//! says so.
 #![tactic(auto)]
 
-ghost use Rattle.std.specs.Prelude.{◌≡◌, ◌<◌, ◌≤◌, IfOk, IfSome, length, None};
+ghost use Rattle.std.specs.Prelude.{◌≡◌, ◌<◌, ◌≤◌, IfOk, IfSome, length, None, []};
+ghost use Rattle.wire_core.specs.Journal.{LegalJournal};
 ghost use Rattle.sdf_check.specs.Valid.{Valid};
 ghost use Rattle.sdf_plan.specs.Elements.{IsNumbered};
 ghost use Rattle.sdf_model.specs.Counts.{text_most};
 ghost use Rattle.trace_text.specs.Events.{blk_clients};
 ghost use Rattle.trace_text.specs.Traces.{IsReadFor};
+ghost use Rattle.region_layout.specs.Layouts.{layout_of};
+ghost use Rattle.expect_core.specs.Budgets.{budget_of};
+ghost use Rattle.system_core.specs.Shows.{hostile_in};
+ghost use Rattle.system_core.specs.Plays.{runnable_now};
+ghost use Rattle.system_core.specs.PlanPlays.{IsSystemOf};
 
 mod naming;
 mod numbering;
@@ -22,7 +30,7 @@ use cargo_core::{Memory, Reply};
 use expect_core::{Report, input_of, replies_of};
 use naming::rename_domain;
 use numbering::is_numbered;
-use region_layout::lay_out;
+use region_layout::{Layout, lay_out};
 use sdf_check::check;
 use sdf_model::{TEXT_MOST, read_description};
 use sdf_plan::{Plan, SdfFault};
@@ -206,22 +214,69 @@ fn told(
     Ok(line)
 }
 
-// What a play of a plan comes to, with a trace that was read for it.
-fn play(alloc: Global, plan: &Plan, trace: &Trace, seed: u64, steps: u64) -> Result<String, Memory>
+// A system that was played several times in a row, by a seed each time and so many steps at most,
+// and how the last play ended.
+fn played_in_a_row(
+    alloc: Global,
+    plan: &Plan,
+    layout: &Layout,
+    trace: &Trace,
+    seeds: &[u64],
+    steps: u64,
+) -> Result<(System, Ending), Memory>
+    requires valid { Valid plan.now }
+    requires layout { layout.now ≡ layout_of plan.now }
+    requires trace { IsReadFor plan.now trace.now }
+    ensures system { IfOk result (λ r. IsSystemOf plan.now trace.now r.0) }
+    ensures legal { IfOk result (λ r. LegalJournal (hostile_in r.0.setting) r.0.setting.history
+        r.0.setting.rows r.0.journal) }
+    ensures bounded { IfOk result (λ r. length r.0.journal < budget_of plan.now trace.now) }
+    ensures quiet { IfOk result (λ r. r.1 ≡ Ending.Quiet → runnable_now r.0 ≡ []) }
+{
+    let mut system = System::build(alloc, plan, layout, trace)?;
+    let mut ending = Ending::Spent;
+    for seed in seeds {
+        ending = system.play(*seed, steps)?;
+    }
+    Ok((system, ending))
+}
+
+// The seeds that a text has.
+fn seeds_of(alloc: Global, text: &str) -> Result<Vec<u64>, Memory> {
+    let mut seeds = Vec::new(alloc);
+    for seed in text.split(" ") {
+        seeds.push(seed.parse::<u64>().unwrap_or(0))?;
+    }
+    Ok(seeds)
+}
+
+// What plays of a plan come to, by seeds that a text has, with a trace that was read for it.
+fn play(
+    alloc: Global,
+    plan: &Plan,
+    trace: &Trace,
+    seeds: &str,
+    steps: u64,
+) -> Result<String, Memory>
     requires valid { Valid plan.now }
     requires trace { IsReadFor plan.now trace.now }
 {
     let layout = lay_out(alloc, plan)?;
-    let (system, ending) = System::played(alloc, plan, &layout, trace, seed, steps)?;
+    let seeds = seeds_of(alloc, seeds)?;
+    let (system, ending) = if seeds.len() == 1 {
+        System::played(alloc, plan, &layout, trace, seeds[0], steps)?
+    } else {
+        played_in_a_row(alloc, plan, &layout, trace, &seeds, steps)?
+    };
     let report = system.report()?;
     told(alloc, &report, plan, trace, ending)
 }
 
-// What a play of a plan comes to, with the lines of a row.
+// What plays of a plan come to, with the lines of a row.
 fn play_lines(
     alloc: Global,
     plan: &Plan,
-    seed: u64,
+    seeds: &str,
     steps: u64,
     lines: &str,
 ) -> Result<String, Memory>
@@ -229,18 +284,18 @@ fn play_lines(
 {
     let text = trace_of(alloc, lines)?;
     match read_trace(alloc, text.as_str().as_bytes(), plan) {
-        Ok(trace) => play(alloc, plan, &trace, seed, steps),
+        Ok(trace) => play(alloc, plan, &trace, seeds, steps),
         Err(TraceFault::BadLine(_)) => Ok(String::from_str(alloc, "bad trace\n")?),
         Err(TraceFault::Memory(memory)) => Err(memory),
     }
 }
 
-// What a play of a description's text comes to.
+// What plays of a description's text come to.
 fn answer(
     alloc: Global,
     text: &str,
     names: Option<&str>,
-    seed: u64,
+    seeds: &str,
     steps: u64,
     lines: &str,
 ) -> Result<String, Memory> {
@@ -248,7 +303,7 @@ fn answer(
         return Ok(String::from_str(alloc, "too long\n")?);
     }
     match judged(alloc, text, names) {
-        Ok(Some(plan)) => play_lines(alloc, &plan, seed, steps, lines),
+        Ok(Some(plan)) => play_lines(alloc, &plan, seeds, steps, lines),
         Ok(None) => Ok(String::from_str(alloc, "too many\n")?),
         Err(SdfFault::Refused(_)) => Ok(String::from_str(alloc, "refused\n")?),
         Err(SdfFault::Memory(memory)) => Err(memory),
@@ -270,7 +325,7 @@ fn row(rt: &HostRuntime, row: &str) -> io::Result<()> {
     let Some((name, rest)) = row.split_once(" | ") else {
         return rt.println("no row");
     };
-    let Some((seed, rest)) = rest.split_once(" | ") else {
+    let Some((seeds, rest)) = rest.split_once(" | ") else {
         return rt.println("no row");
     };
     let (steps, lines) = rest.split_once(" | ").unwrap_or((rest, ""));
@@ -279,9 +334,8 @@ fn row(rt: &HostRuntime, row: &str) -> io::Result<()> {
         None => (name, None),
     };
     let text = fs::read_to_string(rt, name)?;
-    let seed = seed.parse::<u64>().unwrap_or(0);
     let steps = steps.parse::<u64>().unwrap_or(0);
-    match answer(rt.alloc(), text.as_str(), names, seed, steps, lines) {
+    match answer(rt.alloc(), text.as_str(), names, seeds, steps, lines) {
         Ok(line) => rt.print(line.as_str()),
         Err(_) => rt.println("no memory"),
     }

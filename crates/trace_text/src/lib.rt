@@ -1,5 +1,7 @@
 //! Traces: what the devices receive and the clients ask for, one line each, and how a text of such
 //! lines is read.
+//!
+//! An example of its calls: `crates/library_examples/src/trace.rt`.
 #![tactic(auto)]
 
 mod clients;

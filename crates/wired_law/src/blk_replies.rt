@@ -1,5 +1,5 @@
-//! What the clients of the block class recorded at any moment, in a cast that has the whole class at
-//! the layout's queues.
+//! What the clients of the block class recorded at any moment, in a cast that has the whole class
+//! at the layout's queues.
 
 ghost use Rattle.std.specs.Prelude.{◌≡◌, ℕ, Some, List, map, slice_get};
 ghost use Rattle.cargo_core.specs.Lists.{IsPrefix};

@@ -16,7 +16,8 @@ use Rattle.net_virt_tx.specs.declared.NetVirtTx.{NetVirtTx}
 use Rattle.net_virt_tx.specs.Sending.{FitsTx, SameTx, TxStandsFor}
 use Rattle.actor_rows.specs.Hands.{OnlyAt, AreQueues}
 use Rattle.actor_rows.proofs.Fitting.{map_get, some_is}
-use Rattle.actor_rows.specs.NetTx.Standings.{IsNewAlone, Stands, queue}
+use Rattle.actor_rows.specs.Standings.{queue}
+use Rattle.actor_rows.specs.NetTx.Standings.{IsNewAlone, Stands}
 
 -- the one queue of a list of one
 one_at : (q r : QueueId) (k : ℕ) → slice_get (q ∷ []) k ≡ Some r → (k ≡ 0) × (r ≡ q)

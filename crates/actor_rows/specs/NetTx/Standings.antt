@@ -1,7 +1,6 @@
 -- The virtualiser of these tests and its queues.
-use Rattle.std.specs.Prelude.{◌≡◌, ℕ, List, [], ◌∷◌, length}
+use Rattle.std.specs.Prelude.{◌≡◌, List, [], ◌∷◌, length}
 use Rattle.cargo_core.specs.declared.item.QueueKind.TheVariants as Kind
-use Rattle.wire_core.specs.declared.names.QueueId.{QueueId}
 use Rattle.wire_core.specs.Ends.{Producer}
 use Rattle.wire_core.specs.Lists.{nothing_passed}
 use Rattle.wire_core.specs.Queues.{Queue, end_at}
@@ -9,10 +8,7 @@ use Rattle.buffer_kit.specs.Virtualising.{from_queues, to_queues}
 use Rattle.net_virt_tx.specs.declared.NetVirtTx.{NetVirtTx}
 use Rattle.net_virt_tx.specs.declared.TxEnds.{TxEnds}
 use Rattle.net_virt_tx.specs.Sending.{FitsTx, IsNewTx, TxStandsFor}
-
--- the queue of a number
-abbrev pub queue : ℕ → QueueId
-queue n = record { 0 = n }
+use Rattle.actor_rows.specs.Standings.{queue}
 
 -- the one client
 abbrev pub client : TxEnds

@@ -5,11 +5,13 @@ ghost use Rattle.cargo_core.specs.declared.item.QueueKind.TheVariants as Kind;
 ghost use Rattle.cargo_core.specs.Items.{kind_of};
 ghost use Rattle.actor_rows.specs.NetTx.Standings.{IsNewAlone, Stands};
 
+use crate::alone::settle;
 use crate::{get, one_or_two, put_in, queues_of};
 use cargo_core::{Body, Item, Memory, NetDesc, Page, PoolId, QueueKind, Ranges};
-use net_virt_tx::{NetVirtTx, TxEnds};
+use net_virt_tx::{NetVirtTx, Sender, TxEnds};
 use plain_wires::World;
 use std::alloc::Global;
+use std::test::Fail;
 use wire_core::QueueId;
 
 // Between the queues 0 and 1 of the driver and the queues 2 and 3 of a client with two buffers.
@@ -43,9 +45,7 @@ fn send(virt: &mut NetVirtTx, world: &mut World, item: Item, body: Body) -> bool
     ensures { Stands world.new virt.new }
 {
     let given = put_in(world, QueueId(2), item, body);
-    for _call in 0..60 {
-        virt.step(world);
-    }
+    settle(virt, world);
     given
 }
 
@@ -55,9 +55,7 @@ fn returned(virt: &mut NetVirtTx, world: &mut World) -> Option<Item>
     ensures { Stands world.new virt.new }
 {
     let got = get(world, QueueId(3));
-    for _call in 0..60 {
-        virt.step(world);
-    }
+    settle(virt, world);
     got
 }
 
@@ -67,9 +65,7 @@ fn sent(virt: &mut NetVirtTx, world: &mut World) -> Option<Item>
     ensures { Stands world.new virt.new }
 {
     let got = get(world, QueueId(0));
-    for _call in 0..60 {
-        virt.step(world);
-    }
+    settle(virt, world);
     got
 }
 
@@ -100,5 +96,25 @@ fn bad_descriptors_go_back_and_a_good_one_goes_on(rt: HostRuntime) -> Result<(),
     assert!(rt; returned(&mut virt, &mut wires).is_none());
     assert!(rt; virt.bad() == 3);
     assert!(rt; virt.at_rest());
+    Ok(())
+}
+
+#[test]
+fn a_short_frame_and_a_wrong_offset_are_bad(rt: HostRuntime) -> Result<(), Fail> {
+    let sender = Sender {
+        pool: PoolId(3),
+        buffers: 2,
+        base: 4096,
+    };
+    let good = descriptor(2048, 14);
+    let short = descriptor(2048, 13);
+    let wrong = descriptor(1, 14);
+    let page = Page::new(rt.alloc(), PoolId(3), 1, 2048)?;
+    let body = Body::Page(page);
+    let entry = (good, body);
+    assert!(rt; sender.is_good(&entry));
+    let entry = (short, entry.1);
+    assert!(rt; !sender.is_good(&entry));
+    assert!(rt; !sender.is_good(&(wrong, Body::Empty)));
     Ok(())
 }

@@ -27,29 +27,14 @@ use Rattle.sdf_plan.specs.declared.plan.Plan.{Plan}
 use Rattle.trace_text.specs.declared.trace.Trace.{Trace}
 use Rattle.system_core.specs.Shows.{Setting, Shown}
 use Rattle.sdf_check.specs.Valid.{Valid}
-use Rattle.trace_text.specs.Traces.{IsReadFor}
 use Rattle.system_core.specs.Lawful.{StandsLawful}
 use Rattle.system_core.specs.Plays.{Played}
-use Rattle.system_core.specs.Builds.{IsBuilt, IsCastOf}
-use Rattle.system_core.proofs.Together.{LawInPart, LawWhole, played_on}
+use Rattle.system_core.specs.Builds.{IsBuilt}
+use Rattle.system_core.specs.PlanPlays.{IsSystemOf}
+use Rattle.system_core.proofs.Together.{played_on}
 use Rattle.sddf_top.specs.SystemRun.Ran.{IsRan}
 use Rattle.system_core.specs.Adopting.{HaveComeFrom, IsAdopted, rests_first, own_steps, steps_first, AllRest, OneSpent}
 use Rattle.sddf_top.proofs.SystemRun.Counting.{steps_below}
-
--- who acts in a system doesn't depend on its history
-pub same_cast : (plan : Plan) (trace : Trace) (s : Setting) (h : History) → IsCastOf plan trace s → IsCastOf plan trace (record s { history = h })
-same_cast plan trace s h is = record {
-  rows = is.rows;
-  pools = is.pools;
-  count = is.count;
-  scene = is.scene;
-  parts = is.parts;
-  whole = is.whole;
-  whole_block = is.whole_block;
-  net = is.net;
-  serial = is.serial;
-  blk = is.blk;
-}
 
 module _ (s : Setting) (rings : List RingIs) (parts : List Apart) (come : HaveComeFrom s rings parts) (t : Shown) (is : IsAdopted s parts t) where
   abbrev rows : List QueueRow
@@ -168,8 +153,8 @@ module _ (plan : Plan) (trace : Trace) (built : Shown) (is : IsBuilt plan trace 
   first_moment t adopted (inr spent) = inr (one_spent built.setting rings' (map apart_of news) come t adopted spent.0 spent.2 spent.4 limit spent.1 (subst (λ (rs : List RingIs). HasSpent rs limit spent.1 spent.2) (sym same) spent.5))
 
 -- so the system that was played on is what a run shows
-pub is_ran : (plan : Plan) → Valid plan → (trace : Trace) → IsReadFor plan trace → (limit : ℕ) (s : Setting) → IsCastOf plan trace s → (parts : List Apart) (t new : Shown) → IsAdopted s parts t → AllRest t.setting ⊎ OneSpent t.setting limit → Played t new 0 limit → StandsLawful new → LawInPart → LawWhole → IsRan plan trace limit new
-is_ran plan valid trace read limit s cast parts t new adopted first played stands part whole = record {
-  played = played_on t new 0 limit adopted.journal played plan valid trace read (subst (IsCastOf plan trace) (sym adopted.setting) (same_cast plan trace s t.setting.history cast)) stands part whole;
+pub is_ran : (plan : Plan) (trace : Trace) (limit : ℕ) (s : Setting) (parts : List Apart) (t new : Shown) → IsAdopted s parts t → AllRest t.setting ⊎ OneSpent t.setting limit → Played t new 0 limit → IsSystemOf plan trace new → IsRan plan trace limit new
+is_ran plan trace limit s parts t new adopted first played system = record {
+  played = played_on t new 0 limit adopted.journal played plan trace system;
   first = subst (λ (z : Setting). AllRest z ⊎ OneSpent z limit) (sym played.setting) first;
 }

@@ -9,11 +9,13 @@ ghost use Rattle.order_law.specs.ActorParts.Parting.{AreApart};
 ghost use Rattle.order_law.specs.ActorParts.Opening.{IsForgotten};
 ghost use Rattle.sdf_check.specs.Valid.{Valid};
 ghost use Rattle.trace_text.specs.declared.trace.Trace.{Trace as TraceIs};
+ghost use Rattle.trace_text.specs.Traces.{IsReadFor};
 ghost use Rattle.region_layout.specs.Layouts.{layout_of};
 ghost use Rattle.system_core.specs.Shows.{Setting};
 ghost use Rattle.system_core.specs.Lawful.{StandsLawful};
 ghost use Rattle.system_core.specs.Builds.{BeginsAnew, IsCastOf};
 ghost use Rattle.system_core.specs.Adopting.{HaveComeFrom, IsAdopted};
+ghost use Rattle.system_core.specs.PlanPlays.{IsSystemOf};
 
 use super::System;
 use crate::crews::{blk_crew, net_crew, serial_crew};
@@ -82,6 +84,10 @@ impl System {
             → IsCastOf plan.now trace s
             → HaveComeFrom s parts.rings.items (map apart_of parts.actors.items)
             → IsAdopted s (map apart_of parts.actors.items) t) }
+        ensures system { IfOk result (λ t. (trace : TraceIs) (s : Setting)
+            → IsReadFor plan.now trace → IsCastOf plan.now trace s
+            → HaveComeFrom s parts.rings.items (map apart_of parts.actors.items)
+            → IsSystemOf plan.now trace t) }
         ensures stands { IfOk result StandsLawful }
     {
         let rows = copies(alloc, layout.queues())?;

@@ -9,5 +9,5 @@ ends_by_place-requires-clause-producers c = ends_within c.args.rings.now c.args.
 pub ends_by_place-requires-clause-consumers : goal.ends_by_place-requires-clause-consumers
 ends_by_place-requires-clause-consumers c = ends_within c.args.rings.now c.args.part c.requires.apart Consumer
 
-pub returns : goal.returns
-returns c = seated c.args.rings.now c.args.part c.requires.apart c.requires.few _ refl c.in_ok-producers.ensures.producers c.in_ok-producers.ensures.consumers
+pub returns-in-Ok : goal.returns-in-Ok
+returns-in-Ok c = seated c.args.rings.now c.args.part c.requires.apart c.requires.few _ refl c.in-Ok.ensures.producers c.in-Ok.ensures.consumers

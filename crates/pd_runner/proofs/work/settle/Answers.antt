@@ -15,7 +15,7 @@ pub loop-actor-preserved : goal.loop-actor-preserved
 loop-actor-preserved g c = let was = c.loop-actor.invariant in record {
   n = was.n + 1;
   made_is = let e = was.made_is in omega (arith, e);
-  comes = comes_on _ _ was.n _ _ _ _ c.in_ok-step.field-0 was.comes c.in_ok-step.ensures.fits c.in_ok-step.ensures.part c.in_ok-step.ensures.stepped c.in_ok-step.ensures.own;
+  comes = comes_on _ _ was.n _ _ _ _ c.in-Ok.event was.comes c.in-Ok.ensures.fits c.in-Ok.ensures.part c.in-Ok.ensures.stepped c.in-Ok.ensures.own;
   within = omega arith;
 }
 

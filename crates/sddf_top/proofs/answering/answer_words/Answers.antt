@@ -1,6 +1,6 @@
 use Rattle.command_words.specs.Words.{texts_of}
-use Rattle.sddf_top.specs.Answers.{WasRead}
-use Rattle.sddf_top.specs.Outcomes.{decision_of}
+use Rattle.shelf_core.specs.Reading.{WasRead}
+use Rattle.decision_core.specs.Decided.{decision_of}
 use Rattle.sddf_top.proofs.AnswerLemmas.{come-status}
 use Rattle.sddf_top.proofs.SoundLemmas.{sound}
 use Rattle.sddf_top.proofs.answering.answer_words.Goals as goal

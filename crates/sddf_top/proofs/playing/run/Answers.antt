@@ -18,7 +18,7 @@ returns g c = record {
   bounded = λ enough. quiet-bounded (report_of c.in_ok-system.system).quiet (report_of c.in_ok-system.system).steps (length c.in_ok-system.system.journal) c.limit_or_budget-limit.result (budget_of c.args.plan.now c.args.trace.now) c.ending_of.result
       (c.ending_of.ensures ∙ ap (λ (r : Report). ending_of r.quiet r.steps) c.in_ok-report.ensures)
       (λ q. spent-whole c.limit_or_budget-limit.result c.in_ok-system.system c.in_ok-system.field-0-1 c.in_ok-system.ensures.ended q)
-      c.in_ok-system.ensures.ran.played.bounded
+      c.in_ok-system.ensures.ran.played.system.bounded
       (subst (λ n. budget_of c.args.plan.now c.args.trace.now ≤ n) (sym c.limit_or_budget-limit.ensures) enough);
   text_is = c.in_ok-text.ensures ∙ ap report_text c.in_ok-report.ensures;
 }

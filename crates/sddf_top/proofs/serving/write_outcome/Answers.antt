@@ -1,6 +1,6 @@
 use Rattle.std.proofs.Common.{ap, ◌∙◌}
-use Rattle.sddf_top.specs.Outside.{appended}
-use Rattle.sddf_top.specs.Answers.{WasRead}
+use Rattle.shelf_core.specs.Outside.{appended}
+use Rattle.shelf_core.specs.Reading.{WasRead}
 use Rattle.sddf_top.proofs.AnswerLemmas.{written-whole}
 use Rattle.sddf_top.proofs.serving.write_outcome.Goals as goal
 

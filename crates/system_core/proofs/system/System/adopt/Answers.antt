@@ -11,6 +11,7 @@ use Rattle.order_law.specs.ActorParts.Given.{apart_of}
 use Rattle.order_law.specs.ActorParts.Parting.{AreApart}
 use Rattle.system_core.proofs.Built.{layout_queues, layout_pools}
 use Rattle.system_core.proofs.Adopting.{parts_apart, parts_people, parts_sized, parts_ended, parts_go, parts_adopted}
+use Rattle.system_core.proofs.Together.{both_ok, adopted_cast}
 use Rattle.system_core.proofs.system.System.adopt.Goals as goal
 
 pub net_crew-requires-clause-rows : goal.net_crew-requires-clause-rows
@@ -47,3 +48,9 @@ returns-clause-adopted c =
     IfOk-weaker c.begin.result _ _
     (λ t is trace s cast come. parts_adopted c.args.plan.now c.requires.valid trace s cast c.args.parts.rings.items (map apart_of c.args.parts.actors.items) come c.in_ok-rows.rows.items (c.in_ok-rows.ensures ∙ (c.queues.ensures ∙ layout_queues c.args.plan.now c.args.layout.now c.requires.layout)) c.in_ok-actors.actors.items c.in_ok-actors-2.actors.items c.in_ok-actors.ended.items (subst (λ (rs : List QueueRow). AreFinished rs c.args.parts.rings.items (map apart_of c.args.parts.actors.items) c.in_ok-actors.actors.items c.in_ok-actors.ended.items) c.deref-4.ensures.value c.in_ok-actors.ensures) c.in_ok-actors-2.ensures c.in_ok-pools.pools.items (c.in_ok-pools.ensures ∙ (c.pools.ensures ∙ layout_pools c.args.plan.now c.args.layout.now c.requires.layout)) c.in_ok-net.net c.in_ok-serial.serial c.in_ok-blk.blk c.in_ok-net.ensures c.in_ok-serial.ensures c.in_ok-blk.ensures t (rw (c.in_ok-world.ensures ∙ ap (λ (rs : List QueueRow). all_adopted rs c.in_ok-actors.ended.items) c.deref-5.ensures.value, c.of-past.ensures) at is))
     c.begin.ensures.state
+
+pub returns-clause-system : goal.returns-clause-system
+returns-clause-system c =
+    both_ok c.begin.result _ _ _
+    (λ t is of trace s read cast come. of c.args.plan.now trace c.requires.valid read (adopted_cast c.args.plan.now trace s (map apart_of c.args.parts.actors.items) t cast (is trace s cast come)))
+    (returns-clause-adopted c) c.begin.ensures.of_plan

@@ -1,5 +1,0 @@
-use Rattle.actor_rows.specs.NetTx.Standings.{Stands}
-use Rattle.actor_rows.proofs.net_tx.tests.sent.Given as goal
-
-abbrev pub invariant-loop-call : goal.invariant-loop-call
-invariant-loop-call l = Stands l.world l.virt

@@ -1,5 +1,0 @@
-use Rattle.actor_rows.proofs.Driving.{after_feed}
-use Rattle.actor_rows.proofs.tests.feed.Goals as goal
-
-pub loop-call-init : goal.loop-call-init
-loop-call-init c = after_feed _ _ c.args.driver.now c.requires c.give-given.ensures

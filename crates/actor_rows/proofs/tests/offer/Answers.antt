@@ -1,5 +1,0 @@
-use Rattle.actor_rows.proofs.Merging.{after_offer}
-use Rattle.actor_rows.proofs.tests.offer.Goals as goal
-
-pub loop-call-init : goal.loop-call-init
-loop-call-init c = after_offer _ _ c.args.virt.now c.args.client c.requires.stands c.give-given.ensures

@@ -1,5 +1,0 @@
-use Rattle.actor_rows.proofs.Fitting.{after_give}
-use Rattle.actor_rows.proofs.tests.say.Goals as goal
-
-pub loop-call-init : goal.loop-call-init
-loop-call-init c = after_give _ _ c.args.virt.now c.requires c.give-given.ensures

@@ -1,0 +1,68 @@
+//! Each actor of these tests stands alone over queues whose other ends are worked by hand: between
+//! two calls by hand it has time to be at rest.
+
+ghost use Rattle.std.specs.Prelude.{List};
+ghost use Rattle.wire_core.specs.Queues.{Queue};
+ghost use Rattle.actor_rows.specs.Standings.{DriverStands, RxStands, TxStands};
+ghost use Rattle.actor_rows.specs.NetTx.Standings.{Stands};
+
+use net_virt_tx::NetVirtTx;
+use plain_wires::World;
+use serial_virt::{SerialVirtRx, SerialVirtTx};
+use uart_driver::UartDriver;
+
+/// How many calls an actor of these tests makes at most until it is at rest.
+const ENOUGH: u32 = 60;
+
+/// An actor that stands alone at its queues.
+pub trait Alone {
+    /// It stands at these queues.
+    ghost stands: { List Queue → Self → Type 0 };
+
+    /// Makes one call.
+    fn call(&mut self, world: &mut World)
+        requires { stands world.old self.old }
+        ensures { stands world.new self.new };
+}
+
+impl Alone for SerialVirtRx {
+    ghost stands = { RxStands };
+
+    fn call(&mut self, world: &mut World) {
+        self.step(world);
+    }
+}
+
+impl Alone for SerialVirtTx {
+    ghost stands = { TxStands };
+
+    fn call(&mut self, world: &mut World) {
+        self.step(world);
+    }
+}
+
+impl Alone for UartDriver {
+    ghost stands = { DriverStands };
+
+    fn call(&mut self, world: &mut World) {
+        self.step(world);
+    }
+}
+
+impl Alone for NetVirtTx {
+    ghost stands = { Stands };
+
+    fn call(&mut self, world: &mut World) {
+        self.step(world);
+    }
+}
+
+/// Gives an actor time to be at rest.
+pub fn settle<A: Alone>(actor: &mut A, world: &mut World)
+    requires { A.stands world.old actor.old }
+    ensures { A.stands world.new actor.new }
+{
+    for _call in 0..ENOUGH {
+        actor.call(world);
+    }
+}

@@ -1,0 +1,236 @@
+use Rattle.std.proofs.Common.{◌≡◌, inl, inr, ◌<◌, ◌≤◌, ◌+◌, ℕ, List, ◌++◌, ◌∷◌, length, take, drop, refl, sym, ap, ◌∙◌, subst, append_assoc, codes, decimal, arith, Option, Result, Ok, Err, IfOk}
+use Rattle.std.proofs.lemmas.Bool.{cases_lt}
+use Rattle.std.proofs.lemmas.Fmt.{decimal_injective}
+use Rattle.std.proofs.lemmas.List.{take-append-drop, take-take}
+use Rattle.sdf_plan.specs.declared.place.Refusal.{Refusal}
+use Rattle.sdf_plan.specs.declared.plan.Plan.{Plan}
+use Rattle.trace_text.specs.declared.trace.Trace.{Trace}
+use Rattle.trace_text.specs.Traces.{HasNoBadLine, IsLeastBadLine}
+use Rattle.report_text.specs.Answers.{usage_text, bad_trace_text}
+use Rattle.command_words.specs.declared.command.Command.{Command}
+use Rattle.command_words.specs.declared.command.Command.TheVariants as Do
+use Rattle.command_words.specs.Words.{IsCheck, IsLayout, IsGen, Spells, Begins, IsBadWord}
+use Rattle.decision_core.specs.declared.status.Status.TheVariants as Ended
+use Rattle.decision_core.specs.declared.showing.Asked.{Asked}
+use Rattle.decision_core.specs.declared.showing.Asked.TheVariants as Ask
+use Rattle.decision_core.specs.declared.showing.Showing.TheVariants as Show
+use Rattle.workload.specs.Generated.{generated_text}
+use Rattle.workload.specs.declared.description.TheConstants.{FULL_EXAMPLE}
+use Rattle.decision_core.specs.Decisions.{Decision, Say, Play, Run, asked_on, AsksFor, to_play, to_run, TraceDecides, PlanDecides, TextDecides, GeneratedDecides, Decides, NamesDescription, refuses, long_trace, bad_trace, good_trace, checked, laid_out, traced, long_description, refused, accepted, no_command, described, generated}
+use Rattle.shelf_core.specs.Reading.{WasRead}
+use Rattle.command_words.proofs.Letters.{run-or-gen}
+use Rattle.decision_core.proofs.JudgedLemmas.{same-accepted, accepted-or-refused, same-refused}
+
+-- fewer words begin a command too
+begins-fewer : (n m : ℕ) (words : List (List ℕ)) → n ≤ m → Begins (take m words) → Begins (take n words)
+begins-fewer n m words le b =
+    let same : take m words ++ b.0 ≡ take n words ++ (drop n (take m words) ++ b.0)
+    = ap (λ x. x ++ b.0) (sym (take-append-drop n (take m words))) ∙ append_assoc (take n (take m words)) (drop n (take m words)) b.0
+    ∙ ap (λ x. x ++ (drop n (take m words) ++ b.0)) (take-take n m words le) in
+    (drop n (take m words) ++ b.0, b.1, subst (λ ws. Spells ws b.1) same b.2)
+
+-- no two words are the first bad one
+bad-once : (words : List (List ℕ)) (k l : ℕ) → IsBadWord words k → IsBadWord words l → k < l → ⊥
+bad-once words k l h i lt = h.here (omega (arith, i.within)) (begins-fewer (k + 1) l words (omega arith) i.before)
+
+bad-same : (words : List (List ℕ)) (k l : ℕ) → IsBadWord words k → IsBadWord words l → k ≡ l
+bad-same words k l h i = elim (cases_lt k l) [
+  | inl lt ↦ absurd (bad-once words k l h i lt)
+  | inr ge ↦ elim (cases_lt l k) [ inl lt ↦ absurd (bad-once words l k i h lt) | inr le ↦ omega arith ]
+]
+
+-- a command has no bad word
+bad-none : (words : List (List ℕ)) (k : ℕ) (command : Command) → IsBadWord words k → Spells words command → ⊥
+bad-none words k command h s = elim (cases_lt k (length words)) [
+  | inl lt ↦ h.here lt (drop (k + 1) words, command, subst (λ ws. Spells ws command) (sym (take-append-drop (k + 1) words)) s)
+  | inr ge ↦ h.whole (omega (arith, h.within)) command s
+]
+
+-- words that ask for something of a trace are a command
+asks-spell : (words : List (List ℕ)) (desc trace : List ℕ) (asked : Asked) → AsksFor words desc trace asked → (command : Command) × Spells words command
+asks-spell words desc trace _ (to_play o p) = (Do.Play o, (desc, trace, p))
+asks-spell words desc trace _ (to_run n p) = (Do.Run n, (desc, trace, p))
+
+-- words that name a description are a command
+names-spell : (words : List (List ℕ)) (desc : List ℕ) → NamesDescription words desc → (command : Command) × Spells words command
+names-spell words desc (inl c) = (Do.Check, (desc, c))
+names-spell words desc (inr (inl l)) = (Do.Layout, (desc, l))
+names-spell words desc (inr (inr p)) = asks-spell words desc p.0 p.1 p.2
+
+-- the names in words
+second-of : (words : List (List ℕ)) (w desc : List ℕ) (ws : List (List ℕ)) (v desc' : List ℕ) (vs : List (List ℕ)) → words ≡ w ∷ desc ∷ ws → words ≡ v ∷ desc' ∷ vs → desc ≡ desc'
+second-of words w desc ws v desc' vs e f = let g : w ∷ desc ∷ ws ≡ v ∷ desc' ∷ vs = sym e ∙ f in cc
+
+asks-words : (words : List (List ℕ)) (desc trace : List ℕ) (asked : Asked) → AsksFor words desc trace asked → (w : List ℕ) × (ws : List (List ℕ)) × (words ≡ w ∷ desc ∷ trace ∷ ws)
+asks-words words desc trace _ (to_play o p) = (_, _, p.words_are)
+asks-words words desc trace _ (to_run n p) = (_, _, p.words_are)
+
+names-words : (words : List (List ℕ)) (desc : List ℕ) → NamesDescription words desc → (w : List ℕ) × (ws : List (List ℕ)) × (words ≡ w ∷ desc ∷ ws)
+names-words words desc (inl c) = (_, _, c.words_are)
+names-words words desc (inr (inl l)) = (_, _, l.words_are)
+names-words words desc (inr (inr p)) = let a = asks-words words desc p.0 p.1 p.2 in (_, _, a.2)
+
+pub same-desc : (words : List (List ℕ)) (desc desc' : List ℕ) → NamesDescription words desc → NamesDescription words desc' → desc ≡ desc'
+same-desc words desc desc' n m = let a = names-words words desc n in let b = names-words words desc' m in second-of words a.0 desc a.1 b.0 desc' b.1 a.2 b.2
+
+same-trace : (words : List (List ℕ)) (desc trace desc' trace' : List ℕ) (o o' : Asked) → AsksFor words desc trace o → AsksFor words desc' trace' o' → trace ≡ trace'
+same-trace words desc trace desc' trace' o o' p q =
+    let a = asks-words words desc trace o p in
+    let b = asks-words words desc' trace' o' q in
+    let e = sym a.2 ∙ b.2 in cc
+
+-- words are one command
+check-or-traced : (words : List (List ℕ)) (desc desc' trace : List ℕ) (o : Asked) → IsCheck words desc → AsksFor words desc' trace o → ⊥
+check-or-traced words desc desc' trace _ c (to_play o p) = let e = sym c.words_are ∙ p.words_are in cc
+check-or-traced words desc desc' trace _ c (to_run n p) = let e = sym c.words_are ∙ p.words_are in cc
+
+layout-or-traced : (words : List (List ℕ)) (desc desc' trace : List ℕ) (o : Asked) → IsLayout words desc → AsksFor words desc' trace o → ⊥
+layout-or-traced words desc desc' trace _ l (to_play o p) = let e = sym l.words_are ∙ p.words_are in cc
+layout-or-traced words desc desc' trace _ l (to_run n p) = let e = sym l.words_are ∙ p.words_are in cc
+
+check-or-layout : (words : List (List ℕ)) (desc desc' : List ℕ) → IsCheck words desc → IsLayout words desc' → ⊥
+check-or-layout words desc desc' c l = let e = sym c.words_are ∙ l.words_are in cc
+
+-- two decisions agree where they say the same, or both play, or both run
+abbrev pub Agrees : Decision → Decision → Type 0
+Agrees (Say s x) (Say s' x') = (s ≡ s') × (x ≡ x')
+Agrees (Say s x) (Play p t o) = ⊥
+Agrees (Say s x) (Run p t n) = ⊥
+Agrees (Play p t o) (Say s' x') = ⊥
+Agrees (Play p t o) (Play p' t' o') = Unit {0}
+Agrees (Play p t o) (Run p' t' n) = ⊥
+Agrees (Run p t n) (Say s' x') = ⊥
+Agrees (Run p t n) (Play p' t' o) = ⊥
+Agrees (Run p t n) (Run p' t' n') = Unit {0}
+
+-- what the same words ask for
+play-or-run : (words : List (List ℕ)) (more less : List (List ℕ)) → words ≡ codes "play" ∷ more → words ≡ codes "run" ∷ less → ⊥
+play-or-run words more less e f = let g = sym e ∙ f in cc
+
+agrees-asked : (words : List (List ℕ)) (desc trace desc' trace' : List ℕ) (a b : Asked) → AsksFor words desc trace a → AsksFor words desc' trace' b → (plan : Plan) (t : Trace) → Agrees (asked_on plan t a) (asked_on plan t b)
+agrees-asked words desc trace desc' trace' _ _ (to_play o p) (to_play o' q) plan t = tt
+agrees-asked words desc trace desc' trace' _ _ (to_play o p) (to_run n q) plan t = absurd (play-or-run words _ _ p.words_are q.words_are)
+agrees-asked words desc trace desc' trace' _ _ (to_run n p) (to_play o q) plan t = absurd (play-or-run words _ _ q.words_are p.words_are)
+agrees-asked words desc trace desc' trace' _ _ (to_run n p) (to_run n' q) plan t = tt
+
+agrees-refused : (r r' : Refusal) → r ≡ r' → Agrees (refuses r) (refuses r')
+agrees-refused r r' e = let f = ap refuses e in (cc, cc)
+
+long-or-short : (xs : List ℕ) → 16777216 < length xs → length xs ≤ 16777216 → ⊥
+long-or-short xs long short = omega arith
+
+-- there is one least bad line
+bad-once-line : (plan : Plan) (bytes : List ℕ) (l m : ℕ) (h : IsLeastBadLine plan bytes l) (i : IsLeastBadLine plan bytes m) → h.at < i.at → ⊥
+bad-once-line plan bytes l m h i lt = let e = h.bad in let f = i.before h.at lt in cc
+
+same-line : (plan : Plan) (bytes : List ℕ) (l m : ℕ) → IsLeastBadLine plan bytes l → IsLeastBadLine plan bytes m → l ≡ m
+same-line plan bytes l m h i = elim (cases_lt h.at i.at) [
+  | inl lt ↦ absurd (bad-once-line plan bytes l m h i lt)
+  | inr ge ↦ elim (cases_lt i.at h.at) [ inl lt ↦ absurd (bad-once-line plan bytes m l i h lt) | inr le ↦ omega (arith, h.counted, i.counted) ]
+]
+
+good-or-bad : (plan : Plan) (bytes : List ℕ) (l : ℕ) → HasNoBadLine plan bytes → IsLeastBadLine plan bytes l → ⊥
+good-or-bad plan bytes l h i = let e = i.bad in let f = h i.at in cc
+
+agrees-bad : (l m : ℕ) → l ≡ m → Agrees (Say (Ended.BadTrace l) (bad_trace_text l)) (Say (Ended.BadTrace m) (bad_trace_text m))
+agrees-bad l m e = (ap (λ n. Ended.BadTrace n) e, ap bad_trace_text e)
+
+-- what the bytes of a trace decide
+one-trace : (plan : Plan) (o o' : Asked) → ((t : Trace) → Agrees (asked_on plan t o) (asked_on plan t o')) → (bytes : List ℕ) (d d' : Decision) → TraceDecides plan o bytes d → TraceDecides plan o' bytes d' → Agrees d d'
+one-trace plan o o' same bytes _ _ (long_trace l) (long_trace m) = (refl, refl)
+one-trace plan o o' same bytes _ _ (long_trace l) (bad_trace k m b) = absurd (long-or-short bytes l m)
+one-trace plan o o' same bytes _ _ (long_trace l) (good_trace m g) = absurd (long-or-short bytes l m)
+one-trace plan o o' same bytes _ _ (bad_trace k l b) (long_trace m) = absurd (long-or-short bytes m l)
+one-trace plan o o' same bytes _ _ (bad_trace k l b) (bad_trace k' m b') = agrees-bad k k' (same-line plan bytes k k' b b')
+one-trace plan o o' same bytes _ _ (bad_trace k l b) (good_trace m g) = absurd (good-or-bad plan bytes k g b)
+one-trace plan o o' same bytes _ _ (good_trace l g) (long_trace m) = absurd (long-or-short bytes m l)
+one-trace plan o o' same bytes _ _ (good_trace l g) (bad_trace k m b) = absurd (good-or-bad plan bytes k g b)
+one-trace plan o o' same bytes _ _ (good_trace l g) (good_trace m g') = same _
+
+-- what the bytes of a description decide, where what a plan decides agrees
+one-text : (P Q : Plan → Decision → Type 0) → ((plan : Plan) (d d' : Decision) → P plan d → Q plan d' → Agrees d d') → (bytes : List ℕ) (d d' : Decision)
+    → TextDecides P bytes d → TextDecides Q bytes d' → Agrees d d'
+one-text P Q one bytes _ _ (long_description l) (long_description m) = (refl, refl)
+one-text P Q one bytes _ _ (long_description l) (refused r m i) = absurd (long-or-short bytes l m)
+one-text P Q one bytes _ _ (long_description l) (accepted p d m i q) = absurd (long-or-short bytes l m)
+one-text P Q one bytes _ _ (refused r l h) (long_description m) = absurd (long-or-short bytes m l)
+one-text P Q one bytes _ _ (refused r l h) (refused r' m i) = agrees-refused r r' (same-refused bytes r r' h i)
+one-text P Q one bytes _ _ (refused r l h) (accepted p d m i q) = absurd (accepted-or-refused bytes p r i h)
+one-text P Q one bytes _ _ (accepted p d l h q) (long_description m) = absurd (long-or-short bytes m l)
+one-text P Q one bytes _ _ (accepted p d l h q) (refused r m i) = absurd (accepted-or-refused bytes p r h i)
+one-text P Q one bytes _ _ (accepted p d l h q) (accepted p' d' m i q') =
+    one p' d d' (subst (λ x. P x d) (same-accepted bytes p p' h i) q) q'
+
+-- no words are `gen` and another command
+gen-or-named : (words : List (List ℕ)) (n : ℕ) (desc : List ℕ) → IsGen words n → NamesDescription words desc → ⊥
+gen-or-named words n desc g (inl c) = let e = sym g.words_are ∙ c.words_are in cc
+gen-or-named words n desc g (inr (inl l)) = let e = sym g.words_are ∙ l.words_are in cc
+gen-or-named words n desc g (inr (inr p)) = gen-or-traced p.1 p.2 where
+  gen-or-traced : (asked : Asked) → AsksFor words desc p.0 asked → ⊥
+  gen-or-traced _ (to_play o q) = let e = sym g.words_are ∙ q.words_are in cc
+  gen-or-traced _ (to_run m q) = run-or-gen words _ _ q.words_are g.words_are
+
+gen-same : (words : List (List ℕ)) (n m : ℕ) → IsGen words n → IsGen words m → n ≡ m
+gen-same words n m g h =
+    let e = sym g.words_are ∙ h.words_are in
+    let same : decimal n ≡ decimal m = cc in
+    decimal_injective n m g.small h.small same
+
+-- two tellings of what was read agree
+module _ (R S : List ℕ → List ℕ → Type 0) (same : (name a b : List ℕ) → R name a → S name b → a ≡ b) (words : List (List ℕ)) where
+  -- what the words decide for a plan
+  one-plan : (plan : Plan) (d d' : Decision) → PlanDecides R words plan d → PlanDecides S words plan d' → Agrees d d'
+  one-plan plan _ _ (checked desc c) (checked desc' c') = (refl, refl)
+  one-plan plan _ _ (checked desc c) (laid_out desc' l') = absurd (check-or-layout words desc desc' c l')
+  one-plan plan _ _ (checked desc c) (traced desc' trace' bytes' o' d' p' r' t') = absurd (check-or-traced words desc desc' trace' o' c p')
+  one-plan plan _ _ (laid_out desc l) (checked desc' c') = absurd (check-or-layout words desc' desc c' l)
+  one-plan plan _ _ (laid_out desc l) (laid_out desc' l') = (refl, refl)
+  one-plan plan _ _ (laid_out desc l) (traced desc' trace' bytes' o' d' p' r' t') = absurd (layout-or-traced words desc desc' trace' o' l p')
+  one-plan plan _ _ (traced desc trace bytes o d p r t) (checked desc' c') = absurd (check-or-traced words desc' desc trace o c' p)
+  one-plan plan _ _ (traced desc trace bytes o d p r t) (laid_out desc' l') = absurd (layout-or-traced words desc' desc trace o l' p)
+  one-plan plan _ _ (traced desc trace bytes o d p r t) (traced desc' trace' bytes' o' d' p' r' t') =
+      let b : bytes ≡ bytes' = same trace' bytes bytes' (subst (λ n. R n bytes) (same-trace words desc trace desc' trace' o o' p p') r) r' in
+      one-trace plan o o' (λ t. agrees-asked words desc trace desc' trace' o o' p p' plan t) bytes' d d' (subst (λ x. TraceDecides plan o x d) b t) t'
+
+  -- what the words and the texts under their names decide
+  pub one-decision : (d d' : Decision) → Decides R words d → Decides S words d' → Agrees d d'
+  one-decision _ _ (no_command k h) (no_command l i) = let e = bad-same words k l h i in (cc, ap usage_text e)
+  one-decision _ _ (no_command k h) (described desc bytes d n r t) = let s = names-spell words desc n in absurd (bad-none words k s.0 h s.1)
+  one-decision _ _ (described desc bytes d n r t) (no_command k h) = let s = names-spell words desc n in absurd (bad-none words k s.0 h s.1)
+  one-decision _ _ (described desc bytes d n r t) (described desc' bytes' d' n' r' t') =
+      let b : bytes ≡ bytes' = same desc' bytes bytes' (subst (λ x. R x bytes) (same-desc words desc desc' n n') r) r' in
+      one-text (PlanDecides R words) (PlanDecides S words) one-plan bytes' d d' (subst (λ x. TextDecides (PlanDecides R words) x d) b t) t'
+  one-decision _ _ (no_command k h) (generated n d g t) = absurd (bad-none words k (Do.Gen n) h g)
+  one-decision _ _ (generated n d g t) (no_command k h) = absurd (bad-none words k (Do.Gen n) h g)
+  one-decision _ _ (described desc bytes d n r t) (generated m d' g t') = absurd (gen-or-named words m desc g n)
+  one-decision _ _ (generated m d g t) (described desc bytes d' n r t') = absurd (gen-or-named words m desc g n)
+  one-decision _ _ (generated n d g t) (generated m d' g' t') =
+      one-text (GeneratedDecides m) (GeneratedDecides m) (λ plan e e' a b. one-trace plan (Ask.Play Show.Summary) (Ask.Play Show.Summary) (λ t. tt) (generated_text m) e e' a b) FULL_EXAMPLE.now d d'
+      (subst (λ k. TextDecides (GeneratedDecides k) FULL_EXAMPLE.now d) (gen-same words n m g g') t) t'
+
+-- what is decided where a text was read as it was before
+pub plan-read : (R S : List ℕ → List ℕ → Type 0) → ((name bytes : List ℕ) → R name bytes → S name bytes) → (words : List (List ℕ)) (plan : Plan) (d : Decision)
+    → PlanDecides R words plan d → PlanDecides S words plan d
+plan-read R S m words plan _ (checked desc c) = checked desc c
+plan-read R S m words plan _ (laid_out desc l) = laid_out desc l
+plan-read R S m words plan _ (traced desc trace bytes o d p r t) = traced desc trace bytes o d p (m trace bytes r) t
+
+pub text-read : (P Q : Plan → Decision → Type 0) → ((plan : Plan) (d : Decision) → P plan d → Q plan d) → (bytes : List ℕ) (d : Decision)
+    → TextDecides P bytes d → TextDecides Q bytes d
+text-read P Q m bytes _ (long_description l) = long_description l
+text-read P Q m bytes _ (refused r l h) = refused r l h
+text-read P Q m bytes _ (accepted p d l h q) = accepted p d l h (m p d q)
+
+-- texts that didn't change are read as before
+pub read-before : (told told' : List ℕ → Option (List ℕ)) → ((n : List ℕ) → told' n ≡ told n) → (name bytes : List ℕ) → WasRead told' name bytes → WasRead told name bytes
+read-before told told' same name bytes r = rw (same name) at r
+
+pub text-before : (told told' : List ℕ → Option (List ℕ)) → ((n : List ℕ) → told' n ≡ told n) → (words : List (List ℕ)) (bytes : List ℕ) (d : Decision)
+    → TextDecides (PlanDecides (WasRead told') words) bytes d → TextDecides (PlanDecides (WasRead told) words) bytes d
+text-before told told' same words =
+    text-read (PlanDecides (WasRead told') words) (PlanDecides (WasRead told) words) (plan-read (WasRead told') (WasRead told) (read-before told told' same) words)
+
+-- what holds of what was decided holds in another form
+pub map-ok : {T E : Type 0} (r : Result T E) (P Q : T → Type 0) → ((x : T) → P x → Q x) → IfOk r P → IfOk r Q
+map-ok (Ok x) P Q m h = m x h
+map-ok (Err e) P Q m h = tt

@@ -1,0 +1,79 @@
+use Rattle.std.proofs.Common.{◌≡◌, ◌≤◌, ◌<◌, ◌⊎◌, inl, inr, ℕ, List, length, drop, Option, Some, None, sym, ◌∙◌, ap, subst, arith}
+use Rattle.std.proofs.lemmas.List.{length-take}
+use Rattle.std.specs.Option.{option_map}
+use Rattle.sdf_plan.specs.declared.plan.Plan.{Plan}
+use Rattle.trace_text.specs.declared.trace.Trace.{Trace}
+use Rattle.decision_core.specs.declared.showing.Asked.{Asked}
+use Rattle.decision_core.specs.declared.showing.Asked.TheVariants as Ask
+use Rattle.decision_core.specs.declared.status.Status.{Status}
+use Rattle.decision_core.specs.declared.status.Status.TheVariants as Ended
+use Rattle.sdf_model.specs.Counts.{text_most}
+use Rattle.shelf_core.specs.Outside.{IsRead, read_most}
+use Rattle.decision_core.specs.Decisions.{Decision, asked_on, AsksFor, TextDecides, TraceDecides, GeneratedDecides, long_description, refused, accepted, long_trace, bad_trace, good_trace, NamesDescription, IsStatusOf}
+use Rattle.shelf_core.specs.Reading.{Behind}
+use Rattle.decision_core.specs.Readings.{IsLong, IsWithinLimit, IsOfText, IsOfPlay, IsUnread, LeavesPlay, LeavesPlan, LeavesText, ReadLast, read_description, read_trace}
+use Rattle.decision_core.proofs.DecisionLemmas.{same-desc}
+
+-- a text is too long, or within the limit, as the bytes are that were read of it
+pub long-read : (told : Option (List ℕ)) (bytes : List ℕ) → IsRead told bytes → text_most < length bytes → IsLong told
+long-read (Some text) bytes r l = omega (arith, l, ap length r, length-take read_most text)
+long-read None bytes r l = tt
+
+pub within-read : (told : Option (List ℕ)) (bytes : List ℕ) → IsRead told bytes → length bytes ≤ text_most → IsWithinLimit told
+within-read (Some text) bytes r l = omega (arith, l, ap length r, length-take read_most text)
+within-read None bytes r l = tt
+
+-- what is asked of a trace ends as a trace may be answered
+of-play : (s : Status) → (s ≡ Ended.Ok) ⊎ ((n : ℕ) × (s ≡ Ended.Spent n)) → IsOfPlay s
+of-play s (inl e) = rw e tt
+of-play s (inr h) = rw h.1 tt
+
+asked-leads : (plan : Plan) (t : Trace) (a : Asked) (s : Status) → IsStatusOf (asked_on plan t a) s → IsOfPlay s
+asked-leads plan t (Ask.Play o) s h = of-play s h
+asked-leads plan t (Ask.Run n) s h = of-play s h
+
+-- what a trace decides is an answer to a trace
+pub trace-status : (told : Option (List ℕ)) (plan : Plan) (a : Asked) (bytes : List ℕ) (d : Decision) (s : Status) → IsRead told bytes → TraceDecides plan a bytes d → IsStatusOf d s → IsOfText told IsOfPlay s
+trace-status told plan a bytes _ s r (long_trace l) h = inl (long-read told bytes r l, h)
+trace-status told plan a bytes _ s r (bad_trace k l b) h = inr (within-read told bytes r l, rw h tt)
+trace-status told plan a bytes _ s r (good_trace l g) h = inr (within-read told bytes r l, asked-leads plan _ a s h)
+
+-- what was asked of a trace leaves what a plan leaves
+pub play-leaves : (told : List ℕ → Option (List ℕ)) (words : List (List ℕ)) (desc trace : List ℕ) (options : Asked) (old new : Option (List ℕ)) (s : Status)
+    → AsksFor words desc trace options → LeavesPlay told trace old new s → LeavesPlan told words old new s
+play-leaves told words desc trace options old new s p h = inr (desc, trace, options, p, h.0, h.1)
+
+-- what was read last, once a description within the limit was read
+plan-read-last : (told told' : List ℕ → Option (List ℕ)) → ((n : List ℕ) → told' n ≡ told n) → (words : List (List ℕ)) (desc : List ℕ) (first old new : Option (List ℕ)) (s : Status)
+    → NamesDescription words desc → Behind told desc old → IsWithinLimit (told desc) → LeavesPlan told' words old new s → ReadLast told words first new s
+unfolding Behind
+plan-read-last told told' same words desc first old new s named behind within (inl h) = read_description desc named (h.1 ∙ behind) (inr (within, h.0))
+plan-read-last told told' same words desc first old new s named behind within (inr h) =
+    read_trace h.0 h.1 h.2 h.3 (subst (λ d. IsWithinLimit (told d)) (same-desc words desc h.0 named (inr (inr (h.1, h.2, h.3)))) within)
+    (h.4 ∙ ap (option_map (drop read_most)) (same h.1)) (subst (λ o. IsOfText o IsOfPlay s) (same h.1) h.5)
+
+-- what was read last, once the description was read
+pub last-read : (told told' : List ℕ → Option (List ℕ)) → ((n : List ℕ) → told' n ≡ told n) → (words : List (List ℕ)) (desc bytes : List ℕ) (first old new : Option (List ℕ)) (s : Status)
+    → NamesDescription words desc → Behind told desc old → IsRead (told desc) bytes → LeavesText told' words bytes old new s → ReadLast told words first new s
+unfolding Behind
+last-read told told' same words desc bytes first old new s named behind r (inl h) =
+    read_description desc named (h.2 ∙ behind) (inl (long-read (told desc) bytes r h.0, h.1))
+last-read told told' same words desc bytes first old new s named behind r (inr h) =
+    plan-read-last told told' same words desc first old new s named behind (within-read (told desc) bytes r h.0) h.1
+
+-- what `gen` decides is an answer to a command that reads no text
+asked-unread : (plan : Plan) (t : Trace) (a : Asked) (s : Status) → IsStatusOf (asked_on plan t a) s → IsUnread s
+asked-unread plan t (Ask.Play o) s (inl e) = rw e tt
+asked-unread plan t (Ask.Play o) s (inr h) = rw h.1 tt
+asked-unread plan t (Ask.Run n) s (inl e) = rw e tt
+asked-unread plan t (Ask.Run n) s (inr h) = rw h.1 tt
+
+trace-unread : (plan : Plan) (a : Asked) (bytes : List ℕ) (d : Decision) (s : Status) → TraceDecides plan a bytes d → IsStatusOf d s → IsUnread s
+trace-unread plan a bytes _ s (long_trace l) h = rw h tt
+trace-unread plan a bytes _ s (bad_trace k l b) h = rw h tt
+trace-unread plan a bytes _ s (good_trace l g) h = asked-unread plan _ a s h
+
+pub gen-unread : (n : ℕ) (bytes : List ℕ) (d : Decision) (s : Status) → TextDecides (GeneratedDecides n) bytes d → IsStatusOf d s → IsUnread s
+gen-unread n bytes _ s (long_description l) h = rw h tt
+gen-unread n bytes _ s (refused r l i) h = rw h tt
+gen-unread n bytes _ s (accepted plan d l i t) h = trace-unread plan _ _ d s t h

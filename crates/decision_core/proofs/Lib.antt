@@ -1,0 +1,4 @@
+pub mod DecisionLemmas
+pub mod JudgedLemmas
+pub mod LastLemmas
+pub mod WordLemmas

@@ -1,0 +1,69 @@
+use Rattle.std.proofs.Common.{◌≡◌, ℕ, Option, List, [], ◌∷◌, refl, sym, ap, ◌∙◌, subst, inl, inr, get_or}
+use Rattle.std.specs.Prelude.{string_bytes}
+use Rattle.std.specs.Global.{Global}
+use Rattle.std.specs.declared.string.String.{String}
+use Rattle.command_words.specs.declared.command.Command.{Command}
+use Rattle.command_words.specs.declared.command.Command.TheVariants as Do
+use Rattle.command_words.specs.declared.command.Options.{Options}
+use Rattle.command_words.specs.Words.{texts_of, IsCheck, IsLayout, IsPlay, IsRun, IsGen, Spells}
+use Rattle.command_words.proofs.Letters.{run-or-gen}
+use Rattle.decision_core.specs.declared.showing.Showing.TheVariants as Show
+use Rattle.decision_core.specs.declared.showing.Asked.TheVariants as Ask
+use Rattle.decision_core.specs.Decisions.{NamesDescription, AsksFor, to_play, to_run}
+
+-- the words of a command are two at least
+none-spelled : (c : Command) → Spells [] c → ⊥
+none-spelled Do.Check s = let e = s.1.words_are in cc
+none-spelled Do.Layout s = let e = s.1.words_are in cc
+none-spelled (Do.Play o) s = let e = s.2.words_are in cc
+none-spelled (Do.Run n) s = let e = s.2.words_are in cc
+none-spelled (Do.Gen n) s = let e = s.words_are in cc
+
+one-spelled : (w : List ℕ) (c : Command) → Spells (w ∷ []) c → ⊥
+one-spelled w Do.Check s = let e = s.1.words_are in cc
+one-spelled w Do.Layout s = let e = s.1.words_are in cc
+one-spelled w (Do.Play o) s = let e = s.2.words_are in cc
+one-spelled w (Do.Run n) s = let e = s.2.words_are in cc
+one-spelled w (Do.Gen n) s = let e = s.words_are in cc
+
+-- the names in the words of a command
+pub second-named : (words : List (String Global)) (c : Command) (w : String Global) → Spells (texts_of words) c → ((n : ℕ) → c ≡ Do.Gen n → ⊥) → w ≡ get_or words 1 w → NamesDescription (texts_of words) (string_bytes w)
+second-named [] c w s named e = absurd (none-spelled c s)
+second-named (a ∷ []) c w s named e = absurd (one-spelled (string_bytes a) c s)
+second-named (a ∷ b ∷ ws) Do.Check w s named e =
+    let f = s.1.words_are in let d : s.0 ≡ string_bytes b = cc in
+    inl (subst (λ x. IsCheck (texts_of (a ∷ b ∷ ws)) x) (d ∙ ap (λ (x : String Global). string_bytes x) (sym e)) s.1)
+second-named (a ∷ b ∷ ws) Do.Layout w s named e =
+    let f = s.1.words_are in let d : s.0 ≡ string_bytes b = cc in
+    inr (inl (subst (λ x. IsLayout (texts_of (a ∷ b ∷ ws)) x) (d ∙ ap (λ (x : String Global). string_bytes x) (sym e)) s.1))
+second-named (a ∷ b ∷ ws) (Do.Gen n) w s named e = absurd (named n refl)
+second-named (a ∷ b ∷ ws) (Do.Play o) w s named e =
+    let f = s.2.words_are in let d : s.0 ≡ string_bytes b = cc in
+    inr (inr (s.1, Ask.Play (Show.Report o), to_play o (subst (λ x. IsPlay (texts_of (a ∷ b ∷ ws)) x s.1 o) (d ∙ ap (λ (x : String Global). string_bytes x) (sym e)) s.2)))
+second-named (a ∷ b ∷ ws) (Do.Run n) w s named e =
+    let f = s.2.words_are in let d : s.0 ≡ string_bytes b = cc in
+    inr (inr (s.1, Ask.Run n, to_run n (subst (λ x. IsRun (texts_of (a ∷ b ∷ ws)) x s.1 n) (d ∙ ap (λ (x : String Global). string_bytes x) (sym e)) s.2)))
+
+third-word : (words : List (String Global)) (first desc trace : List ℕ) (more : List (List ℕ)) (w : String Global) → texts_of words ≡ first ∷ desc ∷ trace ∷ more → w ≡ get_or words 2 w → trace ≡ string_bytes w
+third-word [] first desc trace more w f e = cc
+third-word (a ∷ []) first desc trace more w f e = cc
+third-word (a ∷ b ∷ []) first desc trace more w f e = cc
+third-word (a ∷ b ∷ c ∷ ws) first desc trace more w f e =
+    let t : trace ≡ string_bytes c = cc in
+    t ∙ ap (λ (x : String Global). string_bytes x) (sym e)
+
+pub play-named : (words : List (String Global)) (desc trace : List ℕ) (o : Options) (w : String Global) → IsPlay (texts_of words) desc trace o → w ≡ get_or words 2 w
+    → AsksFor (texts_of words) desc (string_bytes w) (Ask.Play (Show.Report o))
+play-named words desc trace o w p e = to_play o (subst (λ x. IsPlay (texts_of words) desc x o) (third-word words _ desc trace _ w p.words_are e) p)
+
+pub run-named : (words : List (String Global)) (desc trace : List ℕ) (n : Option ℕ) (w : String Global) → IsRun (texts_of words) desc trace n → w ≡ get_or words 2 w
+    → AsksFor (texts_of words) desc (string_bytes w) (Ask.Run n)
+run-named words desc trace n w p e = to_run n (subst (λ x. IsRun (texts_of words) desc x n) (third-word words _ desc trace _ w p.words_are e) p)
+
+-- the words of `gen` spell no other command
+pub gen-alone : (words : List (List ℕ)) (n : ℕ) (c : Command) → IsGen words n → Spells words c → ((m : ℕ) → c ≡ Do.Gen m → ⊥) → ⊥
+gen-alone words n Do.Check g s named = let e = sym g.words_are ∙ s.1.words_are in cc
+gen-alone words n Do.Layout g s named = let e = sym g.words_are ∙ s.1.words_are in cc
+gen-alone words n (Do.Play o) g s named = let e = sym g.words_are ∙ s.2.words_are in cc
+gen-alone words n (Do.Run m) g s named = run-or-gen words _ _ s.2.words_are g.words_are
+gen-alone words n (Do.Gen m) g s named = named m refl

@@ -1,0 +1,28 @@
+use Rattle.std.proofs.Common.{sym, subst}
+use Rattle.command_words.specs.Words.{texts_of}
+use Rattle.shelf_core.specs.Outside.{IsRead}
+use Rattle.shelf_core.specs.Reading.{WasRead}
+use Rattle.decision_core.specs.Decided.{decision_of, OfEach}
+use Rattle.decision_core.specs.Readings.{LeavesText}
+use Rattle.decision_core.specs.Decisions.{NamesDescription, PlanDecides, TextDecides, described}
+use Rattle.decision_core.proofs.LastLemmas.{last-read}
+use Rattle.decision_core.proofs.WordLemmas.{second-named}
+use Rattle.decision_core.proofs.DecisionLemmas.{map-ok, text-before}
+use Rattle.decision_core.proofs.deciding.decide_command.Goals as goal
+
+pub returns-clause-decides : goal.returns-clause-decides
+returns-clause-decides g c =
+    let named : NamesDescription (texts_of c.args.words.now) c.as_str.result.now
+    = subst (λ x. NamesDescription (texts_of c.args.words.now) x) (sym c.as_str.ensures.value) (second-named c.args.words.now c.args.command c.index-words-1.result c.requires.spells c.requires.named c.index-words-1.is) in
+    map-ok c.decide_text.result _ _ (λ d h. described c.as_str.result.now c.in_ok-text.text (decision_of d) named c.in_ok-text.ensures.bytes
+    (text-before (g.F.Shelf.text c.args.shelf.now) (g.F.Shelf.text c.read_text.new.shelf) c.in_ok-text.ensures.texts (texts_of c.args.words.now) c.in_ok-text.text (decision_of d)
+    (subst (λ x. TextDecides (PlanDecides (WasRead (g.F.Shelf.text c.read_text.new.shelf)) (texts_of c.args.words.now)) x (decision_of d)) c.as_slice.ensures h)))
+    c.decide_text.ensures.decides
+
+pub returns-clause-last : goal.returns-clause-last
+returns-clause-last g c =
+    let named : NamesDescription (texts_of c.args.words.now) c.as_str.result.now
+    = subst (λ x. NamesDescription (texts_of c.args.words.now) x) (sym c.as_str.ensures.value) (second-named c.args.words.now c.args.command c.index-words-1.result c.requires.spells c.requires.named c.index-words-1.is) in
+    map-ok c.decide_text.result (λ d. OfEach d (LeavesText (g.F.Shelf.text c.read_text.new.shelf) (texts_of c.args.words.now) c.as_slice.result.now (g.F.Shelf.left c.read_text.new.shelf) (g.F.Shelf.left c.decide_text.new.shelf))) _ (λ d h status e. last-read (g.F.Shelf.text c.args.shelf.now) (g.F.Shelf.text c.read_text.new.shelf) c.in_ok-text.ensures.texts (texts_of c.args.words.now) c.as_str.result.now _ _ _ _ status
+    named c.in_ok-text.ensures.left (subst (λ x. IsRead (g.F.Shelf.text c.args.shelf.now c.as_str.result.now) x) (sym c.as_slice.ensures) c.in_ok-text.ensures.bytes) (h status e))
+    c.decide_text.ensures.last

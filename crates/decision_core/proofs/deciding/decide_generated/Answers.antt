@@ -1,0 +1,11 @@
+use Rattle.std.proofs.Common.{subst, ◌∙◌}
+use Rattle.decision_core.specs.declared.showing.Showing.TheVariants as Show
+use Rattle.decision_core.specs.declared.showing.Asked.TheVariants as Ask
+use Rattle.decision_core.specs.Decided.{decision_of}
+use Rattle.decision_core.specs.Decisions.{TraceDecides}
+use Rattle.decision_core.proofs.DecisionLemmas.{map-ok}
+use Rattle.decision_core.proofs.deciding.decide_generated.Goals as goal
+
+pub returns : goal.returns
+returns c =
+    map-ok c.decide_trace.result _ _ (λ d h. subst (λ x. TraceDecides c.args.plan (Ask.Play Show.Summary) x (decision_of d)) (c.as_bytes.ensures.value ∙ c.in_ok-text.ensures) h) c.decide_trace.ensures

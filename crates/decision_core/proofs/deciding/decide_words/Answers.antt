@@ -1,0 +1,28 @@
+use Rattle.std.proofs.Common.{refl, sym, subst}
+use Rattle.command_words.specs.declared.command.Command.TheVariants as Do
+use Rattle.command_words.specs.Words.{texts_of, Spells}
+use Rattle.shelf_core.specs.Reading.{WasRead}
+use Rattle.decision_core.specs.Decisions.{IsStatusOf, TextDecides, GeneratedDecides, Decides, no_command, generated}
+use Rattle.decision_core.specs.Decided.{decision_of}
+use Rattle.decision_core.specs.Readings.{read_none, read_no_text}
+use Rattle.decision_core.proofs.LastLemmas.{gen-unread}
+use Rattle.decision_core.proofs.deciding.decide_words.Goals as goal
+
+pub returns-in_ok-decide_gen-in-Ok-Gen-clause-decides : goal.returns-in_ok-decide_gen-in-Ok-Gen-clause-decides
+returns-in_ok-decide_gen-in-Ok-Gen-clause-decides g c =
+    let s : Spells (texts_of c.args.words.now) (Do.Gen c.in-Ok-Gen.number) = rw c.in-Ok-Gen.field-0-is at c.in-Ok-Gen.ensures.command in
+    let d = decision_of c.in_ok-decide_gen-in-Ok-Gen.field-0 in
+    generated c.in-Ok-Gen.number d s (subst (λ x. TextDecides (GeneratedDecides c.in-Ok-Gen.number) x d) c.as_bytes.ensures.value c.in_ok-decide_gen-in-Ok-Gen.ensures)
+
+pub returns-in_ok-decide_gen-in-Ok-Gen-clause-last : goal.returns-in_ok-decide_gen-in-Ok-Gen-clause-last
+returns-in_ok-decide_gen-in-Ok-Gen-clause-last g c status e =
+    let s : Spells (texts_of c.args.words.now) (Do.Gen c.in-Ok-Gen.number) = rw c.in-Ok-Gen.field-0-is at c.in-Ok-Gen.ensures.command in
+    read_no_text c.in-Ok-Gen.number s (gen-unread c.in-Ok-Gen.number _ (decision_of c.in_ok-decide_gen-in-Ok-Gen.field-0) status c.in_ok-decide_gen-in-Ok-Gen.ensures e) refl
+
+pub returns-in_ok-say_usage-in-Err-clause-decides : goal.returns-in_ok-say_usage-in-Err-clause-decides
+returns-in_ok-say_usage-in-Err-clause-decides g c =
+    subst (λ x. Decides (WasRead (g.F.Shelf.text c.args.shelf.now)) (texts_of c.args.words.now) x) (sym c.in_ok-say_usage-in-Err.ensures) (no_command c.in-Err.k c.in-Err.ensures.bad)
+
+pub returns-in_ok-say_usage-in-Err-clause-last : goal.returns-in_ok-say_usage-in-Err-clause-last
+returns-in_ok-say_usage-in-Err-clause-last g c status e =
+    read_none c.in-Err.k (subst (λ x. IsStatusOf x status) c.in_ok-say_usage-in-Err.ensures e) refl

@@ -1,0 +1,29 @@
+-- What was decided, as it is kept.
+use Rattle.std.specs.Prelude.{string_bytes}
+use Rattle.trace_text.specs.Traces.{IsReadFor}
+use Rattle.decision_core.specs.declared.deciding.Decided.{Decided}
+use Rattle.decision_core.specs.declared.deciding.Decided.TheVariants as Is
+use Rattle.decision_core.specs.declared.showing.Asked.TheVariants as Ask
+use Rattle.decision_core.specs.declared.status.Status.{Status}
+use Rattle.decision_core.specs.Judged.{IsAcceptedPlan}
+use Rattle.decision_core.specs.Decisions.{Decision, Say, asked_on, IsStatusOf}
+
+-- the decision that is kept
+abbrev pub decision_of : Decided → Decision
+decision_of (Is.Say status text) = Say status (string_bytes text)
+decision_of (Is.Go plan trace asked) = asked_on plan trace asked
+
+-- what is played or run is accepted, and read for its plan
+abbrev pub IsSound : Decided → Type 0
+IsSound (Is.Say status text) = Unit {0}
+IsSound (Is.Go plan trace asked) = IsAcceptedPlan plan × IsReadFor plan trace
+
+-- a run is asked for
+abbrev pub AsksToRun : Decided → Type 0
+AsksToRun (Is.Say status text) = ⊥
+AsksToRun (Is.Go plan trace (Ask.Play showing)) = ⊥
+AsksToRun (Is.Go plan trace (Ask.Run steps)) = Unit {0}
+
+-- this holds of each status that the decision may lead to
+abbrev pub OfEach : Decided → (Status → Type 0) → Type 0
+OfEach decided P = (status : Status) → IsStatusOf (decision_of decided) status → P status

@@ -1,0 +1,6 @@
+-- What the words and the texts under their names decide.
+pub mod Codes
+pub mod Decided
+pub mod Decisions
+pub mod Judged
+pub mod Readings

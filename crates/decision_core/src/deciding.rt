@@ -1,0 +1,286 @@
+//! What the words and the texts under their names decide, one function for each stage: words,
+//! description, plan, trace.
+ghost use Rattle.std.specs.Prelude.{◌≡◌, None, Err, IfOk, OnOk, OnErr, ℕ, List};
+ghost use Rattle.cargo_core.specs.declared.memory.Memory.{Memory};
+ghost use Rattle.sdf_plan.specs.declared.place.Refusal.{Refusal};
+ghost use Rattle.region_layout.specs.Layouts.{layout_of};
+ghost use Rattle.report_text.specs.Answers.{usage_text, accepted_text, bad_trace_text};
+ghost use Rattle.report_text.specs.Layouts.{layout_text};
+ghost use Rattle.command_words.specs.Words.{texts_of, IsGen, Spells, last_name};
+ghost use Rattle.command_words.specs.declared.command.Command.{Command};
+ghost use Rattle.shelf_core.specs.Outside.{Rose};
+ghost use Rattle.decision_core.specs.Judged.{IsAcceptedPlan};
+ghost use Rattle.decision_core.specs.Decided.{decision_of, OfEach};
+ghost use Rattle.decision_core.specs.Decisions.{Say, AsksFor, Decides, TextDecides, PlanDecides};
+ghost use Rattle.decision_core.specs.Decisions.{TraceDecides, GeneratedDecides, refuses, too_long};
+ghost use Rattle.shelf_core.specs.Reading.{WasRead};
+ghost use Rattle.decision_core.specs.Readings.{LeavesPlay, LeavesPlan, LeavesText, ReadLast};
+
+use crate::judging::judge;
+use crate::{Asked, Showing, Status};
+use cargo_core::Memory;
+use command_words::{Command, read_words};
+use region_layout::lay_out;
+use report_text::{
+    write_accepted, write_bad_trace, write_layout, write_refused, write_too_long, write_usage,
+};
+use sdf_model::TEXT_MOST;
+use sdf_plan::{Plan, Refusal, SdfFault};
+use shelf_core::{ReadStop, Shelf, read_text};
+use std::alloc::Global;
+use trace_text::{Trace, TraceFault, read_trace};
+use workload::{FULL_EXAMPLE, generate};
+
+/// What was decided before anything is played.
+#[derive(Drop)]
+pub enum Decided {
+    /// The answer: its status and its text.
+    Say(Status, String),
+    /// To do what is asked of a trace on a plan.
+    Go(Plan, Trace, Asked),
+}
+
+/// A description is refused.
+fn say_refusal(alloc: Global, refusal: Refusal) -> Result<Decided, Memory>
+    ensures { IfOk result (λ d. decision_of d ≡ refuses refusal) }
+{
+    let text = write_refused(alloc, &refusal)?;
+    Ok(Decided::Say(Status::Refused(refusal.rule), text))
+}
+
+/// A description isn't accepted.
+fn say_unaccepted(alloc: Global, fault: SdfFault) -> Result<Decided, Memory>
+    ensures { IfOk result (λ d. (refusal : Refusal) × (fault ≡ SdfFault.Refused refusal)
+        × (decision_of d ≡ refuses refusal)) }
+{
+    match fault {
+        SdfFault::Refused(refusal) => say_refusal(alloc, refusal),
+        SdfFault::Memory(memory) => Err(memory),
+    }
+}
+
+/// A trace has a bad line.
+fn say_bad_trace(alloc: Global, line: u64) -> Result<Decided, Memory>
+    ensures { IfOk result (λ d. decision_of d
+        ≡ Say (Status.BadTrace line) (bad_trace_text line)) }
+{
+    let text = write_bad_trace(alloc, line)?;
+    Ok(Decided::Say(Status::BadTrace(line), text))
+}
+
+/// A trace wasn't read.
+fn say_unread(alloc: Global, fault: TraceFault) -> Result<Decided, Memory>
+    ensures { IfOk result (λ d. (line : ℕ) × (fault ≡ TraceFault.BadLine line)
+        × (decision_of d ≡ Say (Status.BadTrace line) (bad_trace_text line))) }
+{
+    match fault {
+        TraceFault::BadLine(line) => say_bad_trace(alloc, line),
+        TraceFault::Memory(memory) => Err(memory),
+    }
+}
+
+/// A text is too long.
+fn say_too_long(alloc: Global) -> Result<Decided, Memory>
+    ensures { IfOk result (λ d. decision_of d ≡ too_long) }
+{
+    let text = write_too_long(alloc)?;
+    Ok(Decided::Say(Status::TooLong, text))
+}
+
+/// The words are no command.
+fn say_usage(alloc: Global, k: u32) -> Result<Decided, Memory>
+    ensures { IfOk result (λ d. decision_of d ≡ Say (Status.Usage k) (usage_text k)) }
+{
+    let text = write_usage(alloc, k)?;
+    Ok(Decided::Say(Status::Usage(k), text))
+}
+
+/// What `check` says of a description that is accepted.
+fn say_accepted(alloc: Global, plan: &Plan) -> Result<Decided, Memory>
+    ensures { IfOk result (λ d. decision_of d ≡ Say Status.Ok (accepted_text plan.now)) }
+{
+    let text = write_accepted(alloc, plan)?;
+    Ok(Decided::Say(Status::Ok, text))
+}
+
+/// What `layout` says of a description that is accepted.
+fn say_layout(alloc: Global, plan: &Plan) -> Result<Decided, Memory>
+    requires { IsAcceptedPlan plan.now }
+    ensures { IfOk result (λ d. decision_of d
+        ≡ Say Status.Ok (layout_text plan.now (layout_of plan.now))) }
+{
+    let layout = lay_out(alloc, plan)?;
+    let text = write_layout(alloc, plan, &layout)?;
+    Ok(Decided::Say(Status::Ok, text))
+}
+
+/// What the bytes of a trace decide for a plan.
+fn decide_trace(alloc: Global, plan: Plan, asked: Asked, bytes: &[u8]) -> Result<Decided, Memory>
+    ensures { IfOk result (λ d. TraceDecides plan asked bytes.now (decision_of d)) }
+{
+    if bytes.len() > TEXT_MOST {
+        return say_too_long(alloc);
+    }
+    match read_trace(alloc, bytes, &plan) {
+        Ok(trace) => Ok(Decided::Go(plan, trace, asked)),
+        Err(fault) => say_unread(alloc, fault),
+    }
+}
+
+/// What the trace of `gen` decides for the plan of its description.
+fn decide_generated(alloc: Global, plan: Plan, number: u64) -> Result<Decided, Memory>
+    ensures { IfOk result (λ d. GeneratedDecides number plan (decision_of d)) }
+{
+    let text = generate(alloc, number)?;
+    decide_trace(alloc, plan, Asked::Play(Showing::Summary), text.as_bytes())
+}
+
+/// What `gen` decides, by the bytes of its description.
+fn decide_gen(alloc: Global, desc: &[u8], number: u64) -> Result<Decided, Memory>
+    ensures { IfOk result (λ d. TextDecides (GeneratedDecides number) desc.now (decision_of d)) }
+{
+    if desc.len() > TEXT_MOST {
+        return say_too_long(alloc);
+    }
+    match judge(alloc, desc) {
+        Ok(plan) => decide_generated(alloc, plan, number),
+        Err(fault) => say_unaccepted(alloc, fault),
+    }
+}
+
+/// What the trace of this name decides for a plan.
+fn decide_named<F: Shelf>(
+    alloc: Global,
+    shelf: &mut F,
+    plan: Plan,
+    asked: Asked,
+    trace: &str,
+) -> Result<Decided, ReadStop>
+    ensures texts { (n : List ℕ) → F.text shelf.new n ≡ F.text shelf.old n }
+    ensures decides { IfOk result (λ d. (words : List (List ℕ)) (desc : List ℕ)
+        → AsksFor words desc trace.now asked
+        → PlanDecides (WasRead (F.text shelf.old)) words plan (decision_of d)) }
+    ensures last { IfOk result (λ d. OfEach d (LeavesPlay (F.text shelf.old) trace.now
+        (F.left shelf.old) (F.left shelf.new))) }
+    ensures calm { OnOk result (F.faults shelf.new ≡ F.faults shelf.old) }
+    ensures failed { result ≡ Err ReadStop.Failed → Rose (F.faults shelf.old) (F.faults shelf.new) }
+    ensures starved { (memory : Memory) → result ≡ Err (ReadStop.Memory memory)
+        → F.faults shelf.new ≡ F.faults shelf.old }
+{
+    let bytes = read_text(alloc, shelf, trace)?;
+    Ok(decide_trace(alloc, plan, asked, bytes.as_slice())?)
+}
+
+/// What a command decides for the plan of a description that is accepted.
+fn decide_plan<F: Shelf>(
+    alloc: Global,
+    shelf: &mut F,
+    words: &[String],
+    command: Command,
+    plan: Plan,
+) -> Result<Decided, ReadStop>
+    requires accepted { IsAcceptedPlan plan }
+    requires spells { Spells (texts_of words.now) command }
+    requires named { (n : ℕ) → command ≡ Command.Gen n → ⊥ }
+    ensures texts { (n : List ℕ) → F.text shelf.new n ≡ F.text shelf.old n }
+    ensures decides { IfOk result (λ d. PlanDecides (WasRead (F.text shelf.old))
+        (texts_of words.now) plan (decision_of d)) }
+    ensures last { IfOk result (λ d. OfEach d (LeavesPlan (F.text shelf.old) (texts_of words.now)
+        (F.left shelf.old) (F.left shelf.new))) }
+    ensures calm { OnOk result (F.faults shelf.new ≡ F.faults shelf.old) }
+    ensures failed { result ≡ Err ReadStop.Failed → Rose (F.faults shelf.old) (F.faults shelf.new) }
+    ensures starved { (memory : Memory) → result ≡ Err (ReadStop.Memory memory)
+        → F.faults shelf.new ≡ F.faults shelf.old }
+{
+    match command {
+        Command::Check => Ok(say_accepted(alloc, &plan)?),
+        Command::Layout => Ok(say_layout(alloc, &plan)?),
+        Command::Play(options) => {
+            let asked = Asked::Play(Showing::Report(options));
+            decide_named(alloc, shelf, plan, asked, words[2].as_str())
+        }
+        Command::Run(steps) => {
+            decide_named(alloc, shelf, plan, Asked::Run(steps), words[2].as_str())
+        }
+        Command::Gen(_) => unreachable!(),
+    }
+}
+
+/// What a command decides, by the bytes of its description.
+fn decide_text<F: Shelf>(
+    alloc: Global,
+    shelf: &mut F,
+    words: &[String],
+    command: Command,
+    text: &[u8],
+) -> Result<Decided, ReadStop>
+    requires spells { Spells (texts_of words.now) command }
+    requires named { (n : ℕ) → command ≡ Command.Gen n → ⊥ }
+    ensures texts { (n : List ℕ) → F.text shelf.new n ≡ F.text shelf.old n }
+    ensures decides { IfOk result (λ d. TextDecides
+        (PlanDecides (WasRead (F.text shelf.old)) (texts_of words.now)) text.now
+        (decision_of d)) }
+    ensures last { IfOk result (λ d. OfEach d (LeavesText (F.text shelf.old) (texts_of words.now)
+        text.now (F.left shelf.old) (F.left shelf.new))) }
+    ensures calm { OnOk result (F.faults shelf.new ≡ F.faults shelf.old) }
+    ensures failed { result ≡ Err ReadStop.Failed → Rose (F.faults shelf.old) (F.faults shelf.new) }
+    ensures starved { (memory : Memory) → result ≡ Err (ReadStop.Memory memory)
+        → F.faults shelf.new ≡ F.faults shelf.old }
+{
+    if text.len() > TEXT_MOST {
+        return Ok(say_too_long(alloc)?);
+    }
+    match judge(alloc, text) {
+        Ok(plan) => decide_plan(alloc, shelf, words, command, plan),
+        Err(fault) => Ok(say_unaccepted(alloc, fault)?),
+    }
+}
+
+/// What a command decides.
+fn decide_command<F: Shelf>(
+    alloc: Global,
+    shelf: &mut F,
+    words: &[String],
+    command: Command,
+) -> Result<Decided, ReadStop>
+    requires spells { Spells (texts_of words.now) command }
+    requires named { (n : ℕ) → command ≡ Command.Gen n → ⊥ }
+    ensures texts { (n : List ℕ) → F.text shelf.new n ≡ F.text shelf.old n }
+    ensures decides { IfOk result (λ d. Decides (WasRead (F.text shelf.old))
+        (texts_of words.now) (decision_of d)) }
+    ensures last { IfOk result (λ d. OfEach d (ReadLast (F.text shelf.old) (texts_of words.now)
+        (F.left shelf.old) (F.left shelf.new))) }
+    ensures calm { OnOk result (F.faults shelf.new ≡ F.faults shelf.old) }
+    ensures failed { result ≡ Err ReadStop.Failed → Rose (F.faults shelf.old) (F.faults shelf.new) }
+    ensures starved { (memory : Memory) → result ≡ Err (ReadStop.Memory memory)
+        → F.faults shelf.new ≡ F.faults shelf.old }
+{
+    let text = read_text(alloc, shelf, words[1].as_str())?;
+    decide_text(alloc, shelf, words, command, text.as_slice())
+}
+
+/// What the words decide.
+pub fn decide_words<F: Shelf>(
+    alloc: Global,
+    words: &[String],
+    shelf: &mut F,
+) -> Result<Decided, ReadStop>
+    ensures texts { (n : List ℕ) → F.text shelf.new n ≡ F.text shelf.old n }
+    ensures decides { IfOk result (λ d. Decides (WasRead (F.text shelf.old))
+        (texts_of words.now) (decision_of d)) }
+    ensures last { IfOk result (λ d. OfEach d (ReadLast (F.text shelf.old) (texts_of words.now)
+        (F.left shelf.old) (F.left shelf.new))) }
+    ensures calm { OnOk result (F.faults shelf.new ≡ F.faults shelf.old) }
+    ensures failed { result ≡ Err ReadStop.Failed → Rose (F.faults shelf.old) (F.faults shelf.new) }
+    ensures starved { (memory : Memory) → result ≡ Err (ReadStop.Memory memory)
+        → F.faults shelf.new ≡ F.faults shelf.old }
+    ensures command { result ≡ Err ReadStop.Failed
+        → (command : Command) × Spells (texts_of words.now) command }
+    ensures unread { (n : ℕ) → IsGen (texts_of words.now) n → shelf.new ≡ shelf.old }
+{
+    match read_words(words) {
+        Ok(Command::Gen(number)) => Ok(decide_gen(alloc, FULL_EXAMPLE.as_bytes(), number)?),
+        Ok(command) => decide_command(alloc, shelf, words, command),
+        Err(k) => Ok(say_usage(alloc, k)?),
+    }
+}

@@ -1,0 +1,46 @@
+//! `sddf_top`: the program as one call, over a shelf of texts and a sink, here both in memory.
+
+use cargo_core::Memory;
+use sddf_top::{MemShelf, MemSink, OpenGate, Played, serve};
+use std::alloc::Global;
+use std::sync::Wait;
+use std::thread::Threads;
+
+/// Does what the words ask for over a description and a trace, and gives what is written, but for
+/// how many steps it took, and the status.
+pub fn show_program<R: Threads + Wait + Sync>(
+    rt: &R,
+    alloc: Global,
+    words: &str,
+    description: &str,
+) -> Result<String, Memory> {
+    let mut shelf = MemShelf::new(alloc);
+    shelf.add("serial.toml", description.as_bytes())?;
+    shelf.add("hello.trace", b"say 0 616263\n")?;
+    let mut list = Vec::new(alloc);
+    for word in words.split(' ') {
+        list.push(String::from_str(alloc, word)?)?;
+    }
+    let mut sink = MemSink::new(alloc, 1000)?;
+    let mut played = Played::Nothing;
+    let status = serve(
+        rt,
+        alloc,
+        &list,
+        &mut shelf,
+        &mut sink,
+        &OpenGate,
+        &mut played,
+    );
+    let mut text = String::new(alloc);
+    for line in std::str::from_utf8(sink.written())
+        .unwrap_or("no text")
+        .lines()
+    {
+        if !line.starts_with("steps ") {
+            write!(text, "{line}\n")?;
+        }
+    }
+    write!(text, "status {}\n", status.code())?;
+    Ok(text)
+}

@@ -1,8 +1,0 @@
-use Rattle.std.proofs.Common.{◌≡◌, length}
-use Rattle.cargo_core.specs.declared.item.QueueKind.TheVariants as Kind
-use Rattle.wire_core.specs.Ends.{Producer}
-use Rattle.wire_core.specs.Queues.{end_at}
-use Rattle.plain_wires.proofs.tests.a_queue_is_filled_and_emptied_wherever_its_indices_are.Given as goal
-
-abbrev pub invariant-loop : goal.invariant-loop
-invariant-loop g l = (length l.small ≡ 1) × ((end_at l.small Producer 0).kind ≡ Kind.Byte)

@@ -1,7 +1,0 @@
-use Rattle.std.proofs.Common.{◌≡◌, length}
-use Rattle.wire_core.specs.Ends.{Producer}
-use Rattle.wire_core.specs.Queues.{end_at}
-use Rattle.plain_wires.proofs.tests.passes.Given as goal
-
-abbrev pub invariant-loop : goal.invariant-loop
-invariant-loop l = (length l.world ≡ length l.initial.world) × ((end_at l.world Producer 0).kind ≡ (end_at l.initial.world Producer 0).kind)

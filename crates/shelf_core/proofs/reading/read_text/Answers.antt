@@ -1,0 +1,28 @@
+use Rattle.std.proofs.Common.{◌∙◌, arith}
+use Rattle.shelf_core.specs.Reading.{Behind}
+use Rattle.shelf_core.proofs.ReadLemmas.{HasRead-more, read-full, read-ended, left-full, left-ended}
+use Rattle.shelf_core.proofs.reading.read_text.Goals as goal
+use Rattle.shelf_core.proofs.reading.read_text.Goals.{else-loop-text-test, then-loop-text-test+in_ok-read_piece+then-branch-eq0}
+
+pub loop-text-preserved : goal.loop-text-preserved
+loop-text-preserved g c = record {
+  texts = λ n. c.in_ok-read_piece.ensures.texts n ∙ c.loop-text.invariant.texts n;
+  calm = c.in_ok-read_piece.ensures.calm ∙ c.loop-text.invariant.calm;
+  read = HasRead-more _ _ _ _ _ _ c.loop-text.invariant.read c.in_ok-read_piece.ensures.on;
+  within = omega (arith, c.in_ok-read_piece.ensures.more, c.in_ok-read_piece.ensures.within, c.len-most.ensures, c.len.ensures);
+}
+
+pub returns-clause-bytes : goal.returns-clause-bytes
+returns-clause-bytes g c =
+    elim c.loop-text-test.branch [
+      | else-loop-text-test w ↦ rw w.text-is (read-full 16777217 _ _ _ (omega (arith, c.loop-text.invariant.within, c.len.ensures)) c.loop-text.invariant.read)
+      | then-loop-text-test+in_ok-read_piece+then-branch-eq0 w ↦ rw w.text-is (read-ended 16777217 _ _ _ _ _ _ w.if-branch-eq0.true c.loop-text.invariant.within c.loop-text.invariant.read w.in_ok-read_piece.ensures.on)
+    ]
+
+pub returns-clause-left : goal.returns-clause-left
+unfolding Behind
+returns-clause-left g c =
+    elim c.loop-text-test.branch [
+      | else-loop-text-test w ↦ rw w.shelf-is (left-full 16777217 _ _ _ (omega (arith, c.loop-text.invariant.within, c.len.ensures)) c.loop-text.invariant.read)
+      | then-loop-text-test+in_ok-read_piece+then-branch-eq0 w ↦ rw w.shelf-is (left-ended 16777217 _ _ _ _ _ _ w.if-branch-eq0.true c.loop-text.invariant.within c.loop-text.invariant.read w.in_ok-read_piece.ensures.on)
+    ]

@@ -1,0 +1,6 @@
+-- What shelves give, what sinks take, and what is read of a text.
+pub mod FaultPlans
+pub mod Names
+pub mod Outside
+pub mod Reading
+pub mod Sunk

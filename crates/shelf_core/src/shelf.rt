@@ -1,0 +1,45 @@
+//! Where texts come from.
+ghost use Rattle.std.specs.Prelude.{◌≡◌, ◌≤◌, ℕ, List, Option, length, drop, OnOk, OnErr, IfOk};
+ghost use Rattle.std.specs.Prelude.{IfSome};
+ghost use Rattle.std.specs.Option.{option_map};
+ghost use Rattle.shelf_core.specs.Outside.{Rose, GivesNext, IsAtEnd};
+
+/// The outside failed: a file, a stream.
+#[derive(Clone, Copy, Debug, PartialEq, Eq)]
+pub struct Failed;
+
+/// A place from which texts are read, one at a time.
+pub trait Shelf {
+    /// The bytes that stand under a name, where the shelf tells them. No call changes it.
+    ghost text: { Self → List ℕ → Option (List ℕ) };
+
+    /// The bytes of the open text that aren't yet read, where the shelf tells them. With no text
+    /// open there are none.
+    ghost left: { Self → Option (List ℕ) };
+
+    /// How often the outside failed. The count never falls, and stands still at the end of its
+    /// type, 2^64 - 1.
+    ghost faults: { Self → ℕ };
+
+    /// Begins the text of a name. A name that isn't there is a fault. After `Failed` no text is
+    /// open.
+    fn open(&mut self, name: &str) -> Result<(), Failed>
+        ensures texts { (n : List ℕ) → text self.new n ≡ text self.old n }
+        ensures rising { faults self.old ≤ faults self.new }
+        ensures opened { OnOk result (left self.new ≡ text self.old name.now) }
+        ensures calm { OnOk result (faults self.new ≡ faults self.old) }
+        ensures failed { OnErr result (Rose (faults self.old) (faults self.new)) }
+        ensures ended { OnErr result (IsAtEnd (left self.new)) };
+
+    /// Gives the next bytes of the text that was opened last, and how many they are. After `Failed`
+    /// no text is open.
+    fn read(&mut self, into: &mut [u8]) -> Result<usize, Failed>
+        ensures texts { (n : List ℕ) → text self.new n ≡ text self.old n }
+        ensures rising { faults self.old ≤ faults self.new }
+        ensures bound { IfOk result (λ n. n ≤ length into.new) }
+        ensures bytes { IfOk result (λ n. IfSome (left self.old) (λ l. GivesNext l n into.new)) }
+        ensures rest { IfOk result (λ n. left self.new ≡ option_map (drop n) (left self.old)) }
+        ensures calm { OnOk result (faults self.new ≡ faults self.old) }
+        ensures failed { OnErr result (Rose (faults self.old) (faults self.new)) }
+        ensures ended { OnErr result (IsAtEnd (left self.new)) };
+}

@@ -1,4 +1,0 @@
-pub mod Ends
-pub mod Placing
-pub mod Showing
-pub mod Owning

@@ -1,0 +1,9 @@
+use Rattle.std.proofs.Common.{◌≡◌, []}
+use Rattle.system_core.specs.Plays.{runnable_now}
+use Rattle.system_core.specs.PlanPlays.{IsSystemOf}
+use Rattle.system_core.specs.declared.system.Ending.TheVariants as Ends
+use Rattle.system_rows.proofs.played_in_a_row.Given as goal
+
+-- the system stays one of the plan and the trace, and the last ending says whether it is quiet
+abbrev pub invariant-loop-seed : goal.invariant-loop-seed
+invariant-loop-seed l = IsSystemOf l.fn.plan.now l.fn.trace.now l.system × (l.ending ≡ Ends.Quiet → runnable_now l.system ≡ [])
