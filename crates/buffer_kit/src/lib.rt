@@ -1,6 +1,6 @@
 //! What the actors that hand on buffers share: what an entry of a network queue says and how its
 //! buffer is filled, buffers that are given at the start and how many of some are of a pool, pipes
-//! that record, and the ends of virtualisers.
+//! that record, the ends of virtualisers, and what virtualisers keep of their clients.
 #![tactic(auto)]
 
 mod clients;
