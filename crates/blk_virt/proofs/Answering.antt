@@ -8,11 +8,10 @@ use Rattle.cargo_core.specs.declared.item.PoolId.{PoolId}
 use Rattle.cargo_core.specs.Ranges.{AreRanges}
 use Rattle.wire_core.specs.Bells.{bit}
 use Rattle.wire_core.specs.Deeds.{Cargo}
-use Rattle.wire_core.specs.Lists.{if_there}
 use Rattle.wire_core.proofs.Places.{slice_get_written, slice_get_beside}
-use Rattle.turn_kit.proofs.Holding.{cargo-append}
 use Rattle.turn_kit.proofs.Offers.{get_map}
 use Rattle.blk_mbr.specs.declared.part.Part.{Part}
+use Rattle.buffer_kit.proofs.ManyClients.{some_eq, cargo_set, now_or_was, now_there, there_more, other_more}
 use Rattle.blk_virt.specs.declared.client.Client.{Client}
 use Rattle.blk_virt.specs.declared.desk.Desk.{Desk}
 use Rattle.blk_virt.specs.declared.requests.Holder.{Holder}
@@ -20,7 +19,6 @@ use Rattle.blk_virt.specs.Requests.{request_of, is_at, range_of}
 use Rattle.blk_virt.specs.Serving.{own_of, own_back}
 use Rattle.blk_virt.specs.Clients.{IsClient, ClientStands, carried, client_cargo, is_away}
 use Rattle.blk_virt.specs.Desks.{IsDesk, DeskStands, OneMoved, LineMoves, IsRequestOf, AreOf, IsSomeones, holders, times, away_many, away_at, with_more, desk_cargo}
-use Rattle.blk_virt.proofs.Moving.{some_eq}
 use Rattle.blk_virt.proofs.Serving.{own_more, own_beside}
 use Rattle.blk_virt.proofs.Desking.{first_is}
 
@@ -77,25 +75,6 @@ away_set [] k was now at = cc
 away_set (c ∷ cs) zero was now at = let e = ap (λ (d : Client). bit (is_away d)) (some_eq at) in omega (arith, e)
 away_set (c ∷ cs) (suc k) was now at = let e = away_set cs k was now at in omega (arith, e)
 
-there_more : (lists : ℕ → List Cargo) (k j : ℕ) (more : List Cargo) → k ≡ j → with_more lists k more j ≡ lists j ++ more
-there_more lists k j more e = ap (λ b. lists j ++ if_there b more) (eq-eqb k j e)
-
-other_more : (lists : ℕ → List Cargo) (k j : ℕ) (more : List Cargo) → (k ≡ j → ⊥) → with_more lists k more j ≡ lists j
-other_more lists k j more ne = ap (λ b. lists j ++ if_there b more) (ne_eqb k j ne) ∙ append-nil (lists j)
-
-cargo_set : (pool : PoolId) (cs : List Client) (k : ℕ) (c d : Client) → slice_get cs k ≡ Some c → carried pool (flat_map client_cargo (slice_set cs k d)) + carried pool (client_cargo c) ≡ carried pool (flat_map client_cargo cs) + carried pool (client_cargo d)
-cargo_set pool [] k c d at = absurd cc
-cargo_set pool (x ∷ cs) zero c d at =
-    let a = cargo-append pool (client_cargo d) (flat_map client_cargo cs) in
-    let b = cargo-append pool (client_cargo x) (flat_map client_cargo cs) in
-    let e = ap (λ (y : Client). carried pool (client_cargo y)) (some_eq at) in
-    omega (arith, a, b, e)
-cargo_set pool (x ∷ cs) (suc k) c d at =
-    let a = cargo-append pool (client_cargo x) (flat_map client_cargo (slice_set cs k d)) in
-    let b = cargo-append pool (client_cargo x) (flat_map client_cargo cs) in
-    let e = cargo_set pool cs k c d at in
-    omega (arith, a, b, e)
-
 pub same_lists : (c : Client) (part : Option Part) (cs ss bs gs cs' ss' bs' gs' : List Cargo) → cs' ≡ cs → ss' ≡ ss → bs' ≡ bs → gs' ≡ gs → ClientStands c part cs ss bs gs → ClientStands c part cs' ss' bs' gs'
 same_lists c part cs ss bs gs cs' ss' bs' gs' e f g i h = rw (e, f, g, i) h
 
@@ -103,24 +82,17 @@ module _ (w w' : Desk) (h : IsDesk w) (k : ℕ) (part : Option Part) (came sent 
   pub same_holders : holders w' ≡ holders w
   same_holders = ap (map (λ (x : Client). x.holder)) m.clients ∙ map-set_same (λ (x : Client). x.holder) w.clients.items k m.now m.was (m.moved.holder ∙ ap (λ (x : Client). x.holder) (sym (get_or_from_slice_get w.clients.items k m.was m.was m.there)))
 
-  now_or_was : (j : ℕ) (d : Client) → slice_get w'.clients.items j ≡ Some d → (k ≡ j) ⊎ (k ≡ j → ⊥) → ((k ≡ j) × (m.now ≡ d)) ⊎ ((k ≡ j → ⊥) × (slice_get w.clients.items j ≡ Some d))
-  now_or_was j d at (inl e) = inl (e, some_eq (sym (slice_get_written w.clients.items k m.was m.now m.there) ∙ (ap (slice_get (slice_set w.clients.items k m.now)) e ∙ (ap (λ cs. slice_get cs j) (sym m.clients) ∙ at))))
-  now_or_was j d at (inr ne) = inr (ne, sym (slice_get_beside w.clients.items k j m.now (λ e. ne (sym e))) ∙ (ap (λ cs. slice_get cs j) (sym m.clients) ∙ at))
-
-  now_there : slice_get w'.clients.items k ≡ Some m.now
-  now_there = ap (λ cs. slice_get cs k) m.clients ∙ slice_get_written w.clients.items k m.was m.now m.there
-
   beside : (j : ℕ) → (k ≡ j → ⊥) → slice_get w'.clients.items j ≡ slice_get w.clients.items j
   beside j ne = ap (λ cs. slice_get cs j) m.clients ∙ slice_get_beside w.clients.items k j m.now (λ e. ne (sym e))
 
   line_now : LineMoves k m.was m.now w.line.shown w'.line.shown → (j : ℕ) → (k ≡ j) ⊎ (k ≡ j → ⊥) → times j w'.line.shown ≡ away_at (slice_get w'.clients.items j)
-  line_now (inl e) j (inl same) = ap (times j) e.0 ∙ (h.line j ∙ (ap (λ i. away_at (slice_get w.clients.items i)) (sym same) ∙ (ap away_at m.there ∙ (ap bit (sym e.1) ∙ (ap away_at (sym now_there) ∙ ap (λ i. away_at (slice_get w'.clients.items i)) same)))))
+  line_now (inl e) j (inl same) = ap (times j) e.0 ∙ (h.line j ∙ (ap (λ i. away_at (slice_get w.clients.items i)) (sym same) ∙ (ap away_at m.there ∙ (ap bit (sym e.1) ∙ (ap away_at (sym (now_there w.clients.items w'.clients.items k m.was m.now m.there m.clients)) ∙ ap (λ i. away_at (slice_get w'.clients.items i)) same)))))
   line_now (inl e) j (inr ne) = ap (times j) e.0 ∙ (h.line j ∙ ap away_at (sym (beside j ne)))
   line_now (inr (inl e)) j (inl same) =
       let a = ap (times j) e.0 ∙ times_more j k w.line.shown in
       let o = h.line j ∙ (ap (λ i. away_at (slice_get w.clients.items i)) (sym same) ∙ (ap away_at m.there ∙ ap bit e.1)) in
       let one = ap bit (eq-eqb k j same) in
-      let n = ap (λ i. away_at (slice_get w'.clients.items i)) (sym same) ∙ (ap away_at now_there ∙ ap bit e.2) in
+      let n = ap (λ i. away_at (slice_get w'.clients.items i)) (sym same) ∙ (ap away_at (now_there w.clients.items w'.clients.items k m.was m.now m.there m.clients) ∙ ap bit e.2) in
       omega (arith, a, o, one, n)
   line_now (inr (inl e)) j (inr ne) =
       let a = ap (times j) e.0 ∙ times_more j k w.line.shown in
@@ -131,7 +103,7 @@ module _ (w w' : Desk) (h : IsDesk w) (k : ℕ) (part : Option Part) (came sent 
   line_now (inr (inr e)) j (inl same) =
       let a = sym (ap (times j) e.0) ∙ (h.line j ∙ (ap (λ i. away_at (slice_get w.clients.items i)) (sym same) ∙ (ap away_at m.there ∙ ap bit e.1))) in
       let one = ap bit (eq-eqb k j same) in
-      let n = ap (λ i. away_at (slice_get w'.clients.items i)) (sym same) ∙ (ap away_at now_there ∙ ap bit e.2) in
+      let n = ap (λ i. away_at (slice_get w'.clients.items i)) (sym same) ∙ (ap away_at (now_there w.clients.items w'.clients.items k m.was m.now m.there m.clients) ∙ ap bit e.2) in
       omega (arith, a, one, n)
   line_now (inr (inr e)) j (inr ne) =
       let a = sym (ap (times j) e.0) ∙ h.line j in
@@ -152,7 +124,7 @@ module _ (w w' : Desk) (h : IsDesk w) (k : ℕ) (part : Option Part) (came sent 
 
   pub moved_desk : IsDesk w'
   moved_desk = record {
-    each = λ j d at. each_now j d (now_or_was j d at (cases_eq k j));
+    each = λ j d at. each_now j d (now_or_was w.clients.items w'.clients.items k m.was m.now m.there m.clients j d at (cases_eq k j));
     apart = subst AreRanges (ap (map range_of) (sym same_holders)) h.apart;
     line = λ j. line_now m.line j (cases_eq k j);
     long = long_now m.line;
@@ -166,7 +138,7 @@ module _ (w w' : Desk) (h : IsDesk w) (k : ℕ) (part : Option Part) (came sent 
   pub moved_held : (pool : PoolId) → carried pool (desk_cargo w) + (carried pool came + carried pool back) ≡ carried pool (desk_cargo w') + (carried pool sent + carried pool gave)
   moved_held pool =
       let f = ap (λ cs. carried pool (flat_map client_cargo cs)) m.clients in
-      let g = cargo_set pool w.clients.items k m.was m.now m.there in
+      let g = cargo_set client_cargo pool w.clients.items k m.was m.now m.there in
       let n = m.moved.held pool in
       omega (arith, f, g, n)
 
@@ -185,7 +157,7 @@ module _ (w w' : Desk) (h : IsDesk w) (k : ℕ) (part : Option Part) (came sent 
     clients_now : own_of m.was.holder (ls ++ sent) ≡ own_of m.was.holder ls ++ sent → own_back m.was.holder (ls ++ sent) (bs ++ back) ≡ own_back m.was.holder ls bs ++ back
         → ((j : ℕ) (d : Client) → (k ≡ j → ⊥) → slice_get w.clients.items j ≡ Some d → own_of d.holder (ls ++ sent) ≡ own_of d.holder ls) → ((j : ℕ) (d : Client) → (k ≡ j → ⊥) → slice_get w.clients.items j ≡ Some d → own_back d.holder (ls ++ sent) (bs ++ back) ≡ own_back d.holder ls bs)
         → (j : ℕ) (d : Client) → slice_get w'.clients.items j ≡ Some d → ClientStands d (parts d.holder.partition) (with_more cs k came j) (own_of d.holder (ls ++ sent)) (own_back d.holder (ls ++ sent) (bs ++ back)) (with_more gs k gave j)
-    clients_now own_sent own_backs other_sent other_backs j d at = by (now_or_was j d at (cases_eq k j))
+    clients_now own_sent own_backs other_sent other_backs j d at = by (now_or_was w.clients.items w'.clients.items k m.was m.now m.there m.clients j d at (cases_eq k j))
       where
         here : ClientStands m.now (parts m.was.holder.partition) (cs k ++ came) (own_of m.was.holder ls ++ sent) (own_back m.was.holder ls bs ++ back) (gs k ++ gave)
         here = rw is (m.moved.stands (cs k) (own_of m.was.holder ls) (own_back m.was.holder ls bs) (gs k) (rw (← is) (s.clients k m.was m.there)))

@@ -7,13 +7,13 @@ use Rattle.wire_core.specs.Bells.{bit}
 use Rattle.wire_core.specs.Deeds.{Cargo}
 use Rattle.wire_core.proofs.Places.{slice_get_written, slice_get_beside}
 use Rattle.blk_mbr.specs.declared.part.Part.{Part}
+use Rattle.buffer_kit.proofs.ManyClients.{some_eq, entry_there}
 use Rattle.blk_virt.specs.declared.client.Client.{Client}
 use Rattle.blk_virt.specs.declared.desk.Desk.{Desk}
 use Rattle.blk_virt.specs.declared.requests.Holder.{Holder}
 use Rattle.blk_virt.specs.Requests.{numbered, is_at}
 use Rattle.blk_virt.specs.Clients.{Moved, WentOff, is_away, is_held, is_idle, is_leaving, leaving_as}
 use Rattle.blk_virt.specs.Desks.{IsDesk, OneMoved, LineMoves, IsStill, SentAs, is_so, held_in, held_at, leaving_in, leaving_with, times, away_many, away_at}
-use Rattle.blk_virt.proofs.Moving.{some_eq}
 
 bit_one : (b : Bool) → 1 ≤ bit b → b ≡ true
 bit_one true h = refl
@@ -65,14 +65,9 @@ leaving_not_away c e = by (is_some c.current) c.leaving e
     by true (Some x) t = refl
     by false (Some x) t = refl
 
--- a client at a place
-pub leaving_there : (o : Option Client) → is_some (leaving_in o) ≡ true → (c : Client) × (o ≡ Some c)
-leaving_there None h = cc
-leaving_there (Some c) h = (c, refl)
-
-pub so_there : (p : Client → Bool) (o : Option Client) → is_so p o ≡ true → (c : Client) × (o ≡ Some c) × (p c ≡ true)
-so_there p None h = cc
-so_there p (Some c) h = (c, refl, h)
+-- a client that has something for the driver is there
+pub leaving_there : (o : Option Client) → is_some (leaving_in o) ≡ true → (c : Client) × (o ≡ Some c) × (is_some c.leaving ≡ true)
+leaving_there o h = entry_there (λ (c : Client). c.leaving) o h
 
 -- where one of them is as it was, so is what is needed and to go
 any_set : (p : Client → Bool) (cs : List Client) (k : ℕ) (was now : Client) → slice_get cs k ≡ Some was → p now ≡ p was → list_any p (slice_set cs k now) ≡ list_any p cs

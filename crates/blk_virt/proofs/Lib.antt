@@ -9,4 +9,3 @@ pub mod Stepping
 pub mod Turning
 pub mod Rows
 pub mod Starting
-pub mod Holding

@@ -8,6 +8,7 @@ use Rattle.cargo_core.specs.Items.{kind_of}
 use Rattle.wire_core.specs.Deeds.{Cargo}
 use Rattle.turn_kit.proofs.Holding.{cargo-append}
 use Rattle.blk_mbr.specs.declared.part.Part.{Part}
+use Rattle.buffer_kit.proofs.ManyClients.{some_eq}
 use Rattle.blk_virt.specs.declared.client.Client.{Client}
 use Rattle.blk_virt.specs.declared.client.Current.{Current}
 use Rattle.blk_virt.specs.Requests.{goes_on, for_disk, numbered, number_of, refusal, passed_on, page_named, brings, is_at}
@@ -15,9 +16,6 @@ use Rattle.blk_virt.specs.Serving.{answers_to, AllBring, unnumbered}
 use Rattle.blk_virt.specs.Clients.{IsClient, ClientStands, Moved, IsPending, IsOfPage, WentOff, carried, client_cargo, counted}
 use Rattle.blk_virt.proofs.Serving.{filter_yes, filter_no, refused_more, answered_more, bring_more, own_page, numbered_disk}
 use Rattle.blk_virt.proofs.Judging.{at_disk, bad_more}
-
-pub some_eq : {X : Type 0} {a b : X} → Some a ≡ Some b → a ≡ b
-some_eq h = cc
 
 pub idle_parts : (current : Option Current) (held : Option Cargo) → (is_none current && is_none held) ≡ true → (current ≡ None) × (held ≡ None)
 idle_parts None None h = (refl, refl)

@@ -1,17 +1,16 @@
 -- Whatever the virtualiser stands for meets its row.
-use Rattle.std.proofs.Common.{◌≡◌, ◌+◌, ◌≤◌, ℕ, Option, Some, None, List, [], ◌∷◌, ◌++◌, All, length, drop, slice_get, is_some, true, append_assoc, refl, sym, ap, ◌∙◌, subst, length-append, arith}
+use Rattle.std.proofs.Common.{◌≡◌, ◌+◌, ◌≤◌, ℕ, Option, Some, None, List, [], ◌∷◌, ◌++◌, length, drop, is_some, true, append_assoc, refl, sym, ap, ◌∙◌, subst, length-append, arith}
 use Rattle.std.specs.List.{filter}
 use Rattle.std.specs.Option.{option_to_list}
 use Rattle.std.proofs.lemmas.List.{append-nil, map-append, length-map}
-use Rattle.std.proofs.lemmas.List.Elements.{All-nil, All-cons}
-use Rattle.std.proofs.lemmas.Option.{slice_get_within, get_or_from_slice_get}
+use Rattle.std.proofs.lemmas.Option.{slice_get_within}
 use Rattle.cargo_core.specs.Lists.{IsPrefix}
-use Rattle.wire_core.specs.declared.names.QueueId.{QueueId}
 use Rattle.wire_core.specs.Deeds.{Cargo}
 use Rattle.wire_core.specs.Lists.{Passed}
 use Rattle.buffer_kit.specs.Virtualising.{from_queues, to_queues}
 use Rattle.blk_mbr.specs.declared.part.Part.{Part}
 use Rattle.blk_mbr.specs.Partitions.{part_of}
+use Rattle.buffer_kit.proofs.ManyClients.{queue_is, all_option, few_option}
 use Rattle.blk_virt.specs.declared.client.Client.{Client}
 use Rattle.blk_virt.specs.declared.client.Current.{Current}
 use Rattle.blk_virt.specs.declared.opening.Block.{Block}
@@ -24,17 +23,6 @@ use Rattle.blk_virt.specs.Clients.{ClientStands, IsClient, IsPending, capped}
 use Rattle.blk_virt.specs.Openings.{IsOutOfTurn, OpeningStands, KnowsParts, first_read, sector_of}
 use Rattle.blk_virt.specs.Virtualising.{BlkVirtStandsFor, BlkVirtRow, queue_at}
 use Rattle.blk_virt.proofs.Serving.{answers_front, bring_front}
-
-all_option : (P : Cargo → Type 0) (s : Option Cargo) → ((c : Cargo) → s ≡ Some c → P c) → All P (option_to_list s)
-all_option P None h = All-nil P
-all_option P (Some c) h = All-cons P c [] (h c refl) (All-nil P)
-
-few_option : (s : Option Cargo) → length (option_to_list s) ≤ 1
-few_option None = omega arith
-few_option (Some c) = omega arith
-
-queue_is : (qs : List QueueId) (k : ℕ) (q : QueueId) → slice_get qs k ≡ Some q → queue_at qs k ≡ q.0
-queue_is qs k q at = ap (λ (r : QueueId). r.0) (get_or_from_slice_get qs k q (record { 0 = 0 }) at)
 
 pending_long : (h : Holder) (part : Option Part) (current : Option Current) (held : Option Cargo) (pending : List Cargo) → IsPending h part current pending → ((c : Current) → current ≡ Some c → held ≡ None) → length pending + length (option_to_list held) ≤ 1
 pending_long h part None held pending is alone = let e = ap length is in let f = few_option held in omega (arith, e, f)

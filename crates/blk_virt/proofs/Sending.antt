@@ -8,6 +8,7 @@ use Rattle.wire_core.specs.declared.names.Event.{Event}
 use Rattle.wire_core.specs.Deeds.{Cargo, put_of}
 use Rattle.wire_core.proofs.Places.{slice_get_written}
 use Rattle.blk_mbr.specs.declared.part.Part.{Part}
+use Rattle.buffer_kit.proofs.ManyClients.{some_eq}
 use Rattle.blk_virt.specs.declared.client.Client.{Client}
 use Rattle.blk_virt.specs.declared.desk.Desk.{Desk}
 use Rattle.blk_virt.specs.declared.opening.Block.{Block}
@@ -17,7 +18,6 @@ use Rattle.blk_virt.specs.Clients.{carried, is_away, is_leaving, is_held}
 use Rattle.blk_virt.specs.Openings.{OpeningStands, first_read, block_of, is_open, is_reading}
 use Rattle.blk_virt.specs.Desks.{IsDesk, DeskStands, OneMoved, IsRequestOf, IsStill, SentAs, desk_cargo, with_more}
 use Rattle.blk_virt.specs.Works.{IsWork, WorkStands, WorkIsStill, Sent, Gave}
-use Rattle.blk_virt.proofs.Moving.{some_eq}
 use Rattle.blk_virt.proofs.Desking.{leaving_not_away}
 use Rattle.blk_virt.proofs.Answering.{moved_held, same_holders, stays, goes}
 use Rattle.blk_virt.proofs.Working.{opened, work_parts, none_lists}

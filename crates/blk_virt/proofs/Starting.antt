@@ -19,10 +19,10 @@ use Rattle.blk_virt.specs.Clients.{IsClient, ClientStands, carried, client_cargo
 use Rattle.blk_virt.specs.Openings.{OpeningStands, first_read, block_cargo}
 use Rattle.blk_virt.specs.declared.opening.Block.{Block}
 use Rattle.cargo_core.specs.Items.{kind_of}
+use Rattle.buffer_kit.proofs.ManyClients.{some_eq}
 use Rattle.blk_virt.specs.Desks.{IsDesk, DeskStands, AreOf, desk_cargo, away_at, away_many}
 use Rattle.blk_virt.specs.Works.{IsWork, WorkStands}
 use Rattle.blk_virt.specs.Virtualising.{AreClients, VirtStands, new_client}
-use Rattle.blk_virt.proofs.Moving.{some_eq}
 use Rattle.blk_virt.proofs.Working.{work_parts}
 
 -- a client at the start is one of those given

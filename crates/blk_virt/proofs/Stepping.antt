@@ -1,8 +1,8 @@
 -- What the virtualiser stands for after each call.
-use Rattle.std.proofs.Common.{◌≡◌, ◌⊎◌, ◌+◌, ◌<◌, ◌==◌, ℕ, Bool, true, false, not, ◌&&◌, is_some, is_none, inl, inr, Option, Some, None, List, [], ◌∷◌, ◌++◌, length, map, drop, slice_get, slice_index_or, refl, sym, ap, ◌∙◌, subst, eq-eqb, ne_eqb, arith}
+use Rattle.std.proofs.Common.{◌≡◌, ◌+◌, ◌<◌, ◌==◌, ℕ, Bool, true, false, not, ◌&&◌, is_some, is_none, inl, inr, Option, Some, None, List, [], ◌∷◌, ◌++◌, length, map, drop, slice_get, slice_index_or, refl, sym, ap, ◌∙◌, subst, arith}
 use Rattle.std.specs.Option.{option_to_list}
 use Rattle.std.proofs.lemmas.Bool.{cases_eq}
-use Rattle.std.proofs.lemmas.Option.{slice_get-get_or, slice_get_within, get_or_from_slice_get}
+use Rattle.std.proofs.lemmas.Option.{slice_get_within}
 use Rattle.std.proofs.lemmas.List.{append-nil, length-map}
 use Rattle.cargo_core.specs.declared.item.PoolId.{PoolId}
 use Rattle.cargo_core.specs.declared.item.Body.TheVariants as Carried
@@ -20,6 +20,7 @@ use Rattle.buffer_kit.specs.declared.virt_ends.VirtEnds.{VirtEnds}
 use Rattle.buffer_kit.specs.Virtualising.{SameVirt, from_queues, to_queues}
 use Rattle.buffer_kit.proofs.Passing.{none_more, beside, count_more, first_more, later_more}
 use Rattle.blk_mbr.specs.declared.part.Part.{Part}
+use Rattle.buffer_kit.proofs.ManyClients.{some_eq, nothing, queue_there, at_client}
 use Rattle.blk_virt.specs.declared.client.Client.{Client}
 use Rattle.blk_virt.specs.declared.desk.Desk.{Desk}
 use Rattle.blk_virt.specs.declared.work.Work.{Work}
@@ -30,7 +31,6 @@ use Rattle.blk_virt.specs.Desks.{DeskStands, holders, with_more}
 use Rattle.blk_virt.specs.Works.{IsWork, SameWork, WorkStands, Received, work_cargo}
 use Rattle.blk_virt.specs.Virtualising.{VirtStands, queue_at}
 use Rattle.blk_virt.proofs.Answering.{same_lists}
-use Rattle.blk_virt.proofs.Moving.{some_eq}
 use Rattle.blk_virt.proofs.Sending.{given_some, given_none}
 
 -- what came and was given matters only at the clients' places
@@ -71,29 +71,8 @@ moved e e' same w passed h =
     (subst (λ (qs : List QueueId). VirtStands e.input.queue.0 e.output.queue.0 qs (to_queues e') w passed) (sym same.from_clients)
     (subst (λ (qs : List QueueId). VirtStands e.input.queue.0 e.output.queue.0 (from_queues e) qs w passed) (sym same.to_clients) h)))
 
--- where nothing moved, all stays
-nothing : (passed : Passed) (took put : Lists) → ((n : ℕ) → took n ≡ []) → ((n : ℕ) → put n ≡ []) → passed ≡ record { taken = with passed.taken took; sent = with passed.sent put; dropped = passed.dropped }
-nothing passed took put takes puts = sym (λ j. record { taken = none_more passed.taken took takes j; sent = none_more passed.sent put puts j; dropped = passed.dropped })
-
 pub still : (i o : ℕ) (f t : List QueueId) (w : Work) (passed : Passed) (took put : Lists) → ((n : ℕ) → took n ≡ []) → ((n : ℕ) → put n ≡ []) → VirtStands i o f t w passed → VirtStands i o f t w (record { taken = with passed.taken took; sent = with passed.sent put; dropped = passed.dropped })
 still i o f t w passed took put takes puts h = subst (λ (p : Passed). VirtStands i o f t w p) (nothing passed took put takes puts) h
-
-pub none_if : (b : Bool) → if_there b [] ≡ []
-none_if true = refl
-none_if false = refl
-
-queue_there : (qs : List QueueId) (k : ℕ) → k < length qs → slice_get qs k ≡ Some (slice_index_or qs k (record { 0 = 0 }))
-queue_there qs k there = slice_get-get_or qs k (record { 0 = 0 }) there
-
-queue_is : (qs : List QueueId) (k : ℕ) (q : QueueId) → slice_get qs k ≡ Some q → queue_at qs k ≡ q.0
-queue_is qs k q at = ap (λ (r : QueueId). r.0) (get_or_from_slice_get qs k q (record { 0 = 0 }) at)
-
--- what moved at the queue of client k moved at no other client's
-at_client : (qs : List QueueId) (k : ℕ) (q : QueueId) → slice_get qs k ≡ Some q → AreApart qs → (more : Lists) (x : List Cargo) → ((n : ℕ) → more n ≡ if_there (q.0 == n) x) → (j : ℕ) → j < length qs → (k ≡ j) ⊎ (k ≡ j → ⊥) → more (queue_at qs j) ≡ if_there (k == j) x
-at_client qs k q at apart more x h j there (inl e) =
-    ap more (ap (queue_at qs) (sym e) ∙ queue_is qs k q at) ∙ (h q.0 ∙ (if_there_here q.0 x ∙ sym (ap (λ b. if_there b x) (eq-eqb k j e))))
-at_client qs k q at apart more x h j there (inr ne) =
-    h (queue_at qs j) ∙ (beside q.0 (queue_at qs j) x (λ e. ne (apart k j q (slice_index_or qs j (record { 0 = 0 })) at (queue_there qs j there) e)) ∙ sym (ap (λ b. if_there b x) (ne_eqb k j ne)))
 
 module _ (i o : ℕ) (f t : List QueueId) (w w' : Work) (same : SameWork w w') (fits : IsWork w') (passed : Passed) (took put : Lists) (h : VirtStands i o f t w passed) where
   abbrev after : Passed

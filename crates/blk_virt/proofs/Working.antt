@@ -9,6 +9,7 @@ use Rattle.wire_core.specs.Lists.{if_there}
 use Rattle.turn_kit.proofs.Holding.{cargo-append}
 use Rattle.blk_mbr.specs.declared.part.Part.{Part}
 use Rattle.blk_mbr.specs.Partitions.{part_of}
+use Rattle.buffer_kit.proofs.ManyClients.{some_eq}
 use Rattle.blk_virt.specs.declared.client.Client.{Client}
 use Rattle.blk_virt.specs.declared.client.Current.{Current}
 use Rattle.blk_virt.specs.declared.desk.Desk.{Desk}
@@ -20,7 +21,6 @@ use Rattle.blk_virt.specs.Clients.{carried, is_away, is_idle, brought}
 use Rattle.blk_virt.specs.Openings.{OpeningStands, KnowsParts, IsOutOfTurn, IsLate, first_read, has_sector, sector_of, block_of, block_cargo, is_first, is_open}
 use Rattle.blk_virt.specs.Desks.{DeskStands, OneMoved, AreOf, due_for, brought_in, is_due, with_more}
 use Rattle.blk_virt.specs.Works.{IsWork, WorkStands}
-use Rattle.blk_virt.proofs.Moving.{some_eq}
 use Rattle.blk_virt.proofs.Desking.{first_is}
 use Rattle.blk_virt.proofs.Answering.{same_holders, stays, answers}
 

@@ -1,16 +1,14 @@
 -- What the block virtualiser keeps of one client, and how that stands for what passed.
-use Rattle.std.specs.Prelude.{◌≡◌, ◌+◌, ◌-◌, ◌*◌, ◌<◌, ◌≤◌, ◌^◌, ◌&&◌, ℕ, Bool, true, false}
-use Rattle.std.specs.Prelude.{is_some, is_none, if◌then◌else◌, min, Option, Some, None, List, []}
-use Rattle.std.specs.Prelude.{◌∷◌, ◌++◌, length, map}
+use Rattle.std.specs.Prelude.{◌≡◌, ◌+◌, ◌*◌, ◌<◌, ◌≤◌, ◌^◌, ◌&&◌, ℕ, Bool, true, false, is_some}
+use Rattle.std.specs.Prelude.{is_none, if◌then◌else◌, Option, Some, None, List, [], ◌∷◌, ◌++◌}
+use Rattle.std.specs.Prelude.{length, map}
 use Rattle.std.specs.List.{filter}
 use Rattle.std.specs.Option.{option_map, option_to_list}
 use Rattle.cargo_core.specs.declared.item.Body.{Body}
 use Rattle.cargo_core.specs.declared.item.PoolId.{PoolId}
 use Rattle.cargo_core.specs.declared.item.QueueKind.TheVariants as Kind
-use Rattle.cargo_core.specs.Bodies.{buffers_of}
 use Rattle.cargo_core.specs.Items.{kind_of}
 use Rattle.wire_core.specs.Deeds.{Cargo}
-use Rattle.turn_kit.specs.Hands.{bodies_of}
 use Rattle.blk_mbr.specs.declared.part.Part.{Part}
 use Rattle.blk_virt.specs.declared.client.Client.{Client}
 use Rattle.blk_virt.specs.declared.client.Current.{Current}
@@ -18,10 +16,7 @@ use Rattle.blk_virt.specs.declared.requests.Holder.{Holder}
 use Rattle.blk_virt.specs.Requests.{request_of, goes_on, is_bad, for_disk, page_named, brings}
 use Rattle.blk_virt.specs.Requests.{numbered, number_of, is_at}
 use Rattle.blk_virt.specs.Serving.{answers_to, AllBring, unnumbered}
-
--- a count of 64 bits, which stands still at its end
-abbrev pub capped : ℕ → ℕ
-capped n = min n (2 ^ 64 - 1)
+pub use Rattle.buffer_kit.specs.Clients.{capped, carried}
 
 -- the count after a request came
 abbrev pub counted : Holder → ℕ → Cargo → ℕ
@@ -55,10 +50,6 @@ is_held c = is_some c.held
 -- the entries that it has
 abbrev pub client_cargo : Client → List Cargo
 client_cargo c = option_to_list c.leaving ++ option_to_list c.held
-
--- how many buffers of a pool entries carry
-abbrev pub carried : PoolId → List Cargo → ℕ
-carried pool cs = buffers_of pool (bodies_of cs)
 
 -- what is kept of a request that was sent on is so
 pub record IsCurrent (h : Holder) (part : Option Part) (current : Current) (x : Cargo) :

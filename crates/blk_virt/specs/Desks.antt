@@ -6,7 +6,6 @@ use Rattle.std.specs.Option.{option_map}
 use Rattle.cargo_core.specs.Ranges.{AreRanges}
 use Rattle.wire_core.specs.Bells.{bit}
 use Rattle.wire_core.specs.Deeds.{Cargo}
-use Rattle.wire_core.specs.Lists.{if_there}
 use Rattle.blk_mbr.specs.declared.part.Part.{Part}
 use Rattle.blk_virt.specs.declared.client.Client.{Client}
 use Rattle.blk_virt.specs.declared.client.Current.{Current}
@@ -16,11 +15,8 @@ use Rattle.blk_virt.specs.Requests.{page_named, numbered, number_of, is_at, rang
 use Rattle.blk_virt.specs.Serving.{own_of, own_back}
 use Rattle.blk_virt.specs.Clients.{IsClient, ClientStands, Moved, brought, capped, client_cargo}
 use Rattle.blk_virt.specs.Clients.{is_away, is_held, is_idle, is_leaving}
-
--- a client is there, and so
-abbrev pub is_so : (Client → Bool) → Option Client → Bool
-is_so p None = false
-is_so p (Some c) = p c
+use Rattle.buffer_kit.specs.Clients.{entry_in}
+pub use Rattle.buffer_kit.specs.Clients.{is_so, with_more}
 
 -- the client's next request may be taken
 abbrev pub needs_at : Desk → ℕ → Bool
@@ -36,8 +32,7 @@ owes w = list_any is_leaving w.clients.items
 
 -- what a client is given next
 abbrev pub held_in : Option Client → Option Cargo
-held_in None = None
-held_in (Some c) = c.held
+held_in o = entry_in (λ (c : Client). c.held) o
 
 -- the same of the client at a place
 abbrev pub held_at : Desk → ℕ → Option Cargo
@@ -45,8 +40,7 @@ held_at w k = held_in (slice_get w.clients.items k)
 
 -- what a client has for the driver
 abbrev pub leaving_in : Option Client → Option Cargo
-leaving_in None = None
-leaving_in (Some c) = c.leaving
+leaving_in o = entry_in (λ (c : Client). c.leaving) o
 
 -- the same of the client at a place
 abbrev pub leaving_at : Desk → ℕ → Option Cargo
@@ -149,10 +143,6 @@ SentAs old new k n sent = ((sent ≡ []) × (new.line.shown ≡ old.line.shown))
 -- an entry is at a buffer of one of these
 abbrev pub IsSomeones : List Holder → Cargo → Type 0
 IsSomeones hs x = (k : ℕ) × (h : Holder) × (slice_get hs k ≡ Some h) × (is_at h x ≡ true)
-
--- the same lists, with these more at place k
-abbrev pub with_more : (ℕ → List Cargo) → ℕ → List Cargo → ℕ → List Cargo
-with_more lists k more j = lists j ++ if_there (k == j) more
 
 -- how it stands for what came from each client by its place, what it sent to the driver, what was
 -- answered there and what it gave to each client, by the partitions of the entries: it serves each

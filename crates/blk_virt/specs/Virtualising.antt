@@ -1,7 +1,6 @@
 -- The block virtualiser: what it must fit, what it stands for, and its row.
 use Rattle.std.specs.Prelude.{◌≡◌, ◌+◌, ◌*◌, ◌≤◌, ◌<◌, ◌^◌, ◌%◌, ℕ, is_none, Option, None, Some}
 use Rattle.std.specs.Prelude.{List, [], ◌∷◌, ◌++◌, All, length, map, drop, slice_get}
-use Rattle.std.specs.Prelude.{slice_index_or}
 use Rattle.std.specs.List.{filter}
 use Rattle.std.specs.Option.{option_to_list}
 use Rattle.cargo_core.specs.declared.item.Body.TheVariants as Carried
@@ -29,10 +28,7 @@ use Rattle.blk_virt.specs.Openings.{IsOutOfTurn, KnowsParts, first_read}
 use Rattle.blk_virt.specs.Desks.{IsSomeones, holders}
 use Rattle.blk_virt.specs.Works.{IsWork, SameWork, WorkStands, wants_at, gives_at, is_owing}
 use Rattle.blk_virt.specs.Works.{work_cargo}
-
--- the queue at a place
-abbrev pub queue_at : List QueueId → ℕ → ℕ
-queue_at qs k = (slice_index_or qs k (record { 0 = 0 })).0
+pub use Rattle.buffer_kit.specs.Clients.{queue_at}
 
 -- its ends are its own, and as it keeps them; each client has one each way
 pub record FitsBlkVirt (ends : Role → ℕ → End) (v : BlkVirt) : Type 0 where

@@ -19,7 +19,7 @@ ghost use Rattle.blk_virt.specs.Clients.{leaving_as, WentOff};
 
 use crate::{Holder, PageName, brings, numbered, page_named, passed_on, request_of};
 use blk_mbr::Part;
-use buffer_kit::{BlkCargo, VirtEnds};
+use buffer_kit::{BlkCargo, Served, VirtEnds};
 use cargo_core::{Body, Item, PoolId};
 use turn_kit::count_held;
 use wire_core::{Event, Wires};
@@ -54,6 +54,20 @@ fn id_of(current: &Option<Current>) -> u32
     }
 }
 
+impl Served for Client {
+    ghost leaving = { λ c. c.leaving };
+
+    ghost bad_many = { λ c. c.bad };
+
+    fn is_leaving(&self) -> bool {
+        self.leaving.is_some()
+    }
+
+    fn bad(&self) -> u64 {
+        self.bad
+    }
+}
+
 impl Client {
     /// A client of which nothing came yet.
     pub fn new(holder: Holder) -> Client
@@ -77,13 +91,6 @@ impl Client {
         ensures { result ≡ is_idle self.now }
     {
         self.current.is_none() && self.held.is_none()
-    }
-
-    /// Whether a request is on its way to the driver.
-    pub fn is_leaving(&self) -> bool
-        ensures { result ≡ is_leaving self.now }
-    {
-        self.leaving.is_some()
     }
 
     /// Whether an answer is to go to it.

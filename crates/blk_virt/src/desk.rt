@@ -23,7 +23,7 @@ ghost use Rattle.blk_virt.specs.Desks.{held_at, leaving_at, leaving_with, is_due
 
 use crate::{Client, Line};
 use blk_mbr::Part;
-use buffer_kit::VirtEnds;
+use buffer_kit::{Served, VirtEnds, bad_of_all, leaver};
 use cargo_core::{Body, Item, PoolId};
 use turn_kit::Needs;
 use wire_core::{Event, Wires};
@@ -61,12 +61,7 @@ impl Desk {
         ensures { MatchOption result (owes self.now ≡ false)
             (λ k. (owes self.now ≡ true) × (is_some (leaving_at self.now k) ≡ true)) }
     {
-        for (place, client) in self.clients.iter().enumerate() {
-            if client.is_leaving() {
-                return Some(place);
-            }
-        }
-        None
+        leaver(&self.clients)
     }
 
     /// Whether a response is in turn: some request is at the driver, and it brings the buffer of
@@ -223,11 +218,7 @@ impl Desk {
     pub fn bad(&self) -> u64
         ensures { result ≡ bad_count self.now }
     {
-        let mut bad: u64 = 0;
-        for client in &self.clients {
-            bad = bad.saturating_add(client.bad);
-        }
-        bad
+        bad_of_all(&self.clients)
     }
 }
 

@@ -8,3 +8,4 @@ pub mod VirtFits
 pub mod Places
 pub mod Forgets
 pub mod Passing
+pub mod ManyClients

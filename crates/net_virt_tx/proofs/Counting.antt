@@ -59,9 +59,6 @@ offset_at n b x at e = add-zero (bit (addr_of x.0 == b * 2048)) ∙ bit_same (ad
 pub offset_off : (n b : ℕ) (x : Cargo) → addr_of x.0 ≡ n * 2048 → (n ≡ b → ⊥) → at_address (b * 2048) (x ∷ []) ≡ 0
 offset_off n b x at ne = add-zero (bit (addr_of x.0 == b * 2048)) ∙ bit_other (addr_of x.0) (b * 2048) (λ e. ne (omega (arith, at, e)))
 
-pub some_eq : {X : Type 0} {a b : X} → Some a ≡ Some b → a ≡ b
-some_eq h = cc
-
 pub where_at : (P : Cargo → Type 0) (a : ℕ) (xs : List Cargo) → All P xs → 0 < at_address a xs → (x : Cargo) × P x × (addr_of x.0 ≡ a)
 where_at P a [] h some = absurd (omega (arith, some))
 where_at P a (x ∷ xs) h some = by_test (cases_eq (addr_of x.0) a) (λ more. where_at P a xs (λ k d l. h (suc k) d (omega (arith, l))) more)

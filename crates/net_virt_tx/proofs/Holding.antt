@@ -1,5 +1,5 @@
 -- How many buffers are in hand, and clients of which nothing came yet.
-use Rattle.std.proofs.Common.{◌≡◌, ◌+◌, ◌<◌, ◌≤◌, ◌^◌, ◌==◌, ℕ, zero, suc, Bool, true, false, Option, Some, None, List, [], ◌∷◌, ◌++◌, length, map, flat_map, take, slice_get, if◌then◌else◌, refl, sym, ap, ◌∙◌, subst, arith}
+use Rattle.std.proofs.Common.{◌≡◌, ◌+◌, ◌<◌, ◌≤◌, ◌^◌, ◌==◌, ℕ, zero, suc, Bool, true, false, Some, List, [], ◌∷◌, ◌++◌, length, map, take, slice_get, if◌then◌else◌, refl, sym, ap, ◌∙◌, subst, arith}
 use Rattle.std.specs.List.{sum_by}
 use Rattle.std.specs.Option.{option_to_list}
 use Rattle.std.proofs.lemmas.List.Sums.{sum_by-cons, sum_by-take-le}
@@ -9,16 +9,17 @@ use Rattle.cargo_core.specs.declared.item.Body.TheVariants as Carried
 use Rattle.cargo_core.specs.Bodies.{buffers_in}
 use Rattle.cargo_core.specs.Ranges.{AreRanges}
 use Rattle.wire_core.specs.Deeds.{Cargo}
-use Rattle.turn_kit.proofs.Holding.{cargo-append, cargo-cons}
+use Rattle.turn_kit.proofs.Holding.{cargo-cons}
+use Rattle.buffer_kit.proofs.ManyClients.{some_eq}
 use Rattle.net_virt_tx.specs.declared.TxEnds.{TxEnds}
 use Rattle.net_virt_tx.specs.declared.client.Client.{Client}
 use Rattle.net_virt_tx.specs.declared.descriptors.Sender.{Sender}
 use Rattle.net_virt_tx.specs.declared.traffic.Traffic.{Traffic}
 use Rattle.net_virt_tx.specs.Queued.{returns_list}
-use Rattle.net_virt_tx.specs.Clients.{IsClient, IsFresh, carried, client_cargo, range_of}
+use Rattle.net_virt_tx.specs.Clients.{IsClient, IsFresh, carried, range_of}
 use Rattle.net_virt_tx.specs.Traffics.{IsTraffic, senders}
 use Rattle.net_virt_tx.specs.Sending.{FitsClients, sender_of}
-use Rattle.net_virt_tx.proofs.Counting.{few_marked, some_eq}
+use Rattle.net_virt_tx.proofs.Counting.{few_marked}
 
 one_body : (pool : PoolId) (b : Body) → buffers_in pool b ≤ 1
 one_body pool Carried.Empty = omega arith
@@ -37,10 +38,6 @@ few_carried pool (c ∷ cs) =
     let one = one_body pool c.1 in
     let rest = few_carried pool cs in
     omega (arith, all, one, rest)
-
-pub few_option : (o : Option Cargo) → length (option_to_list o) ≤ 1
-few_option None = omega arith
-few_option (Some c) = omega arith
 
 -- what leaves and what came back are buffers of the client, each once
 pub few_entries : (c : Client) → IsClient c → length (option_to_list c.leaving) + length (returns_list c.returns) ≤ c.sender.buffers
@@ -80,19 +77,6 @@ new_traffic w clients fits are same fresh = record {
   apart = are;
   few = subst (λ (ss : List Sender). sum_by (λ (s : Sender). s.buffers + 2) ss < 2 ^ 32) (sym same) (let e = sums_same clients in let f = fits.few in omega (arith, e, f));
 }
-
--- a client more of those that were counted
-pub held_more : (pool : PoolId) (cs : List Client) (k : ℕ) (c : Client) → slice_get cs k ≡ Some c → carried pool (flat_map client_cargo (take (suc k) cs)) ≡ carried pool (flat_map client_cargo (take k cs)) + carried pool (client_cargo c)
-held_more pool [] k c at = absurd cc
-held_more pool (x ∷ cs) zero c at =
-    let all = cargo-append pool (client_cargo x) [] in
-    let e = ap (λ (y : Client). carried pool (client_cargo y)) (some_eq at) in
-    omega (arith, all, e)
-held_more pool (x ∷ cs) (suc k) c at =
-    let a = cargo-append pool (client_cargo x) (flat_map client_cargo (take (suc k) cs)) in
-    let b = cargo-append pool (client_cargo x) (flat_map client_cargo (take k cs)) in
-    let e = held_more pool cs k c at in
-    omega (arith, a, b, e)
 
 abbrev pub places_of : Client → ℕ
 places_of c = c.sender.buffers + 2

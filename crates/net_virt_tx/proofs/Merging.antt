@@ -7,10 +7,8 @@ use Rattle.wire_core.specs.Bells.{bit}
 use Rattle.wire_core.specs.Deeds.{Cargo}
 use Rattle.wire_core.proofs.Places.{slice_get_written, slice_get_beside}
 use Rattle.buffer_kit.specs.Entries.{addr_of}
+use Rattle.buffer_kit.proofs.ManyClients.{some_eq}
 use Rattle.net_virt_tx.specs.Clients.{at_address}
-
-some_eq : {X : Type 0} {a b : X} → Some a ≡ Some b → a ≡ b
-some_eq h = cc
 
 -- one list is longer by an entry, the others stay
 pub record Grows {T : Type 0} (lists lists' : List (List T)) (k : ℕ) (x : T) : Type 0 where

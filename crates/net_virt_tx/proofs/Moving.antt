@@ -10,13 +10,14 @@ use Rattle.wire_core.specs.Bells.{bit}
 use Rattle.wire_core.specs.Deeds.{Cargo}
 use Rattle.turn_kit.proofs.Holding.{cargo-append, cargo-cons}
 use Rattle.buffer_kit.specs.Entries.{addr_of}
+use Rattle.buffer_kit.proofs.ManyClients.{some_eq}
 use Rattle.net_virt_tx.specs.declared.client.Client.{Client}
 use Rattle.net_virt_tx.specs.declared.returns.Returns.{Returns}
 use Rattle.net_virt_tx.specs.Descriptors.{to_device, to_client}
 use Rattle.net_virt_tx.specs.Queued.{returns_list, IsReady}
 use Rattle.net_virt_tx.specs.Serving.{is_good_of, bad_ones}
 use Rattle.net_virt_tx.specs.Clients.{IsClient, ClientStands, Moved, IsReturn, at_address, is_marked, number_of, is_away, buffer_at, carried, capped}
-use Rattle.net_virt_tx.proofs.Counting.{at_append, one_at, none_at, offset_at, offset_off, bit_most, many_set, few_marked, marked_within, set_here, set_beside, kind_same, addr_with, back_again, good_is, good_more, bad_more, cargo_parts, some_eq}
+use Rattle.net_virt_tx.proofs.Counting.{at_append, one_at, none_at, offset_at, offset_off, bit_most, many_set, few_marked, marked_within, set_here, set_beside, kind_same, addr_with, back_again, good_is, good_more, bad_more, cargo_parts}
 use Rattle.net_virt_tx.proofs.Merging.{merge_first, merge_second}
 
 -- the same lists

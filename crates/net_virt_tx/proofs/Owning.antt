@@ -1,5 +1,5 @@
 -- The client at a place, and whose buffer begins at a device address.
-use Rattle.std.proofs.Common.{◌≡◌, ◌⊎◌, ◌+◌, ◌*◌, ◌==◌, ◌<◌, ◌&&◌, ℕ, zero, suc, Bool, true, false, nat_le, nat_lt, inl, inr, Option, Some, None, List, [], ◌∷◌, All, length, slice_get, slice_index_or, refl, sym, ap, ◌∙◌, subst, arith}
+use Rattle.std.proofs.Common.{◌≡◌, ◌⊎◌, ◌+◌, ◌*◌, ◌==◌, ◌<◌, ◌&&◌, ℕ, Bool, true, false, nat_le, nat_lt, inl, inr, Option, Some, None, [], ◌∷◌, All, length, slice_get, slice_index_or, refl, sym, ap, ◌∙◌, subst, arith}
 use Rattle.std.specs.Option.{option_to_list, is_some}
 use Rattle.std.proofs.lemmas.Bool.{cases_eq, and_parts, eqb-true, and_from, lt-ltb}
 use Rattle.std.proofs.lemmas.List.{length-map}
@@ -10,11 +10,12 @@ use Rattle.cargo_core.specs.Ranges.{IsOwner, IsNobodys, is_within}
 use Rattle.cargo_core.specs.declared.item.Item.{Item}
 use Rattle.wire_core.specs.Deeds.{Cargo, given}
 use Rattle.buffer_kit.specs.Entries.{addr_of}
+use Rattle.buffer_kit.proofs.ManyClients.{some_eq, entry_there}
 use Rattle.net_virt_tx.specs.declared.client.Client.{Client}
 use Rattle.net_virt_tx.specs.declared.traffic.Traffic.{Traffic}
 use Rattle.net_virt_tx.specs.Clients.{IsClient, IsOf, is_away, is_marked, buffer_at, range_of}
-use Rattle.net_virt_tx.specs.Traffics.{IsTraffic, is_so, leaving_in, senders}
-use Rattle.net_virt_tx.proofs.Counting.{marked_within, some_eq}
+use Rattle.net_virt_tx.specs.Traffics.{IsTraffic, leaving_in, senders}
+use Rattle.net_virt_tx.proofs.Counting.{marked_within}
 use Rattle.net_virt_tx.proofs.Serving.{range_at}
 
 -- a buffer that is away is in the client's range
@@ -68,16 +69,9 @@ owner_there w h a n own =
     let q = length-map w.clients.items (λ (c : Client). c.sender) in
     omega (arith, l, m, p, q)
 
--- a client of which something is known is there
-pub so_there : (p : Client → Bool) (cs : List Client) (k : ℕ) → is_so p (slice_get cs k) ≡ true → (c : Client) × (slice_get cs k ≡ Some c) × (p c ≡ true)
-so_there p [] k e = absurd cc
-so_there p (c ∷ cs) zero e = (c, refl, e)
-so_there p (c ∷ cs) (suc k) e = so_there p cs k e
-
-pub leaving_there : (cs : List Client) (k : ℕ) → is_some (leaving_in (slice_get cs k)) ≡ true → (c : Client) × (slice_get cs k ≡ Some c) × (is_some c.leaving ≡ true)
-leaving_there [] k e = absurd cc
-leaving_there (c ∷ cs) zero e = (c, refl, e)
-leaving_there (c ∷ cs) (suc k) e = leaving_there cs k e
+-- a client that has something for the driver is there
+pub leaving_there : (o : Option Client) → is_some (leaving_in o) ≡ true → (c : Client) × (o ≡ Some c) × (is_some c.leaving ≡ true)
+leaving_there o h = entry_there (λ (c : Client). c.leaving) o h
 
 -- what was put is of the load
 pub put_of_load : (P : Cargo → Type 0) (item : Option Item) (load : Option Cargo) → ((x : Cargo) → load ≡ Some x → P x) → All P (option_to_list (given item load))

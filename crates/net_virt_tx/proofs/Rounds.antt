@@ -1,10 +1,10 @@
 -- The turns of the virtualiser, its start, and its row.
-use Rattle.std.proofs.Common.{◌≡◌, ◌+◌, ◌==◌, ◌≤◌, ℕ, zero, suc, false, Option, Some, None, List, [], ◌∷◌, ◌++◌, All, length, map, flat_map, slice_get, slice_index_or, refl, sym, ap, ◌∙◌, subst, arith}
+use Rattle.std.proofs.Common.{◌≡◌, ◌+◌, ◌==◌, ℕ, zero, suc, false, Option, Some, None, List, [], ◌∷◌, ◌++◌, length, map, flat_map, slice_get, slice_index_or, refl, sym, ap, ◌∙◌, subst, arith}
 use Rattle.std.specs.List.{filter, sum_by}
 use Rattle.std.specs.Option.{option_to_list}
 use Rattle.std.proofs.lemmas.List.{length-map}
 use Rattle.std.proofs.lemmas.List.Sums.{sum_by-cons}
-use Rattle.std.proofs.lemmas.List.Elements.{All-nil, All-cons}
+use Rattle.std.proofs.lemmas.List.Elements.{All-nil}
 use Rattle.cargo_core.specs.declared.item.PoolId.{PoolId}
 use Rattle.cargo_core.specs.Bodies.{buffers_of}
 use Rattle.cargo_core.specs.Ranges.{AreRanges}
@@ -26,6 +26,7 @@ use Rattle.buffer_kit.specs.Virtualising.{IsThere, new_intake, new_outlet, from_
 use Rattle.buffer_kit.proofs.VirtTurns.{turned}
 use Rattle.turn_kit.specs.declared.ends.Intake.{Intake}
 use Rattle.turn_kit.specs.declared.ends.Outlet.{Outlet}
+use Rattle.buffer_kit.proofs.ManyClients.{some_eq, queue_is, all_option, few_option}
 use Rattle.net_virt_tx.specs.declared.NetVirtTx.{NetVirtTx}
 use Rattle.net_virt_tx.specs.declared.TxEnds.{TxEnds}
 use Rattle.net_virt_tx.specs.declared.client.Client.{Client}
@@ -38,9 +39,9 @@ use Rattle.net_virt_tx.specs.Clients.{IsFresh, ClientStands, capped, client_carg
 use Rattle.net_virt_tx.specs.Traffics.{IsTraffic, IsStill, IsSomeones, is_free, loaded_at, needs_at, owes, senders}
 use Rattle.net_virt_tx.specs.Sending.{TxStands, TxStandsFor, TxRow, AreAway, IsAnyones, IsNewTraffic, IsOutOfTurn, SameTx, bad_total, queue_at, sender_of, tx_round}
 use Rattle.net_virt_tx.proofs.Merging.{merge_nothing}
-use Rattle.net_virt_tx.proofs.Counting.{some_eq, bit_most}
+use Rattle.net_virt_tx.proofs.Counting.{bit_most}
 use Rattle.net_virt_tx.proofs.Splitting.{merges}
-use Rattle.net_virt_tx.proofs.Steps.{queue_is, stray_none, own_at}
+use Rattle.net_virt_tx.proofs.Steps.{stray_none, own_at}
 
 -- what is needed and loaded stays where the clients do
 still_free : (w w' : Traffic) → IsStill w w' → is_free w' ≡ is_free w
@@ -121,14 +122,6 @@ new_stands ss w h n i o f t long long' = record {
       let stray = ap (λ (s : Option Cargo). carried pool (option_to_list s)) n.none_stray in
       omega (arith, came, went, hand, none, stray);
 }
-
-all_option : (P : Cargo → Type 0) (s : Option Cargo) → ((c : Cargo) → s ≡ Some c → P c) → All P (option_to_list s)
-all_option P None h = All-nil P
-all_option P (Some c) h = All-cons P c [] (h c refl) (All-nil P)
-
-few_option : (s : Option Cargo) → length (option_to_list s) ≤ 1
-few_option None = omega arith
-few_option (Some c) = omega arith
 
 -- a client of which the sender is known
 from_map : (cs : List Client) (k : ℕ) (s : Sender) → slice_get (map (λ (c : Client). c.sender) cs) k ≡ Some s → (c : Client) × (slice_get cs k ≡ Some c) × (c.sender ≡ s)

@@ -1,5 +1,5 @@
 -- All clients stand for what passed after one of them was served further.
-use Rattle.std.proofs.Common.{◌≡◌, ◌⊎◌, ◌+◌, ◌*◌, ◌<◌, ◌^◌, ℕ, zero, suc, true, nat_le, nat_lt, cond, inl, inr, Option, Some, List, [], ◌∷◌, ◌++◌, All, length, map, flat_map, slice_get, slice_set, slice_index_or, refl, sym, ap, ◌∙◌, subst, arith, eq-eqb, ne_eqb}
+use Rattle.std.proofs.Common.{◌≡◌, ◌⊎◌, ◌+◌, ◌*◌, ◌<◌, ◌^◌, ℕ, zero, suc, true, nat_le, nat_lt, cond, inl, inr, Option, Some, List, [], ◌∷◌, ◌++◌, All, length, map, flat_map, slice_get, slice_index_or, refl, sym, ap, ◌∙◌, subst, arith}
 use Rattle.std.specs.List.{filter, sum_by}
 use Rattle.std.specs.Option.{option_to_list}
 use Rattle.std.proofs.Math.Seq.{map-set_same}
@@ -10,11 +10,11 @@ use Rattle.std.proofs.lemmas.List.Elements.{All-append, filter-append}
 use Rattle.cargo_core.specs.declared.item.PoolId.{PoolId}
 use Rattle.cargo_core.specs.Ranges.{AreRanges, IsApart}
 use Rattle.wire_core.specs.Deeds.{Cargo}
-use Rattle.wire_core.specs.Lists.{if_there}
-use Rattle.wire_core.proofs.Places.{slice_get_written, slice_get_beside}
+use Rattle.wire_core.proofs.Places.{slice_get_beside}
 use Rattle.turn_kit.proofs.Offers.{get_map}
 use Rattle.turn_kit.proofs.Holding.{cargo-append}
 use Rattle.buffer_kit.specs.Entries.{addr_of}
+use Rattle.buffer_kit.proofs.ManyClients.{some_eq, cargo_set, now_or_was, now_there, there_more, other_more}
 use Rattle.net_virt_tx.specs.declared.client.Client.{Client}
 use Rattle.net_virt_tx.specs.declared.descriptors.Sender.{Sender}
 use Rattle.net_virt_tx.specs.declared.traffic.Traffic.{Traffic}
@@ -22,7 +22,6 @@ use Rattle.net_virt_tx.specs.Descriptors.{to_client}
 use Rattle.net_virt_tx.specs.Serving.{is_own, own_of}
 use Rattle.net_virt_tx.specs.Clients.{IsClient, ClientStands, IsOf, carried, client_cargo, range_of}
 use Rattle.net_virt_tx.specs.Traffics.{IsTraffic, IsSomeones, TrafficStands, OneMoved, senders, with_more, traffic_cargo}
-use Rattle.net_virt_tx.proofs.Counting.{some_eq}
 use Rattle.net_virt_tx.proofs.Moving.{same_lists}
 
 own_append : (s : Sender) (xs ys : List Cargo) → own_of s (xs ++ ys) ≡ own_of s xs ++ own_of s ys
@@ -42,25 +41,6 @@ own_none : (s r : Sender) (xs : List Cargo) → IsApart (range_of s) (range_of r
 own_none s r [] apart h = refl
 own_none s r (x ∷ xs) apart h = ap (λ b. map (to_client r.base) (cond b (x ∷ filter (is_own r) xs) (filter (is_own r) xs))) (apart (addr_of x.0) (is_within_own s x (h zero x (omega arith)))) ∙ own_none s r xs apart (all_later (IsOf s) x xs h)
 
-there_more : (lists : ℕ → List Cargo) (k j : ℕ) (more : List Cargo) → k ≡ j → with_more lists k more j ≡ lists j ++ more
-there_more lists k j more e = ap (λ b. lists j ++ if_there b more) (eq-eqb k j e)
-
-other_more : (lists : ℕ → List Cargo) (k j : ℕ) (more : List Cargo) → (k ≡ j → ⊥) → with_more lists k more j ≡ lists j
-other_more lists k j more ne = ap (λ b. lists j ++ if_there b more) (ne_eqb k j ne) ∙ append-nil (lists j)
-
-cargo_set : (pool : PoolId) (cs : List Client) (k : ℕ) (c d : Client) → slice_get cs k ≡ Some c → carried pool (flat_map client_cargo (slice_set cs k d)) + carried pool (client_cargo c) ≡ carried pool (flat_map client_cargo cs) + carried pool (client_cargo d)
-cargo_set pool [] k c d at = absurd cc
-cargo_set pool (x ∷ cs) zero c d at =
-    let a = cargo-append pool (client_cargo d) (flat_map client_cargo cs) in
-    let b = cargo-append pool (client_cargo x) (flat_map client_cargo cs) in
-    let e = ap (λ (y : Client). carried pool (client_cargo y)) (some_eq at) in
-    omega (arith, a, b, e)
-cargo_set pool (x ∷ cs) (suc k) c d at =
-    let a = cargo-append pool (client_cargo x) (flat_map client_cargo (slice_set cs k d)) in
-    let b = cargo-append pool (client_cargo x) (flat_map client_cargo cs) in
-    let e = cargo_set pool cs k c d at in
-    omega (arith, a, b, e)
-
 pub range_at : (w : Traffic) → IsTraffic w → (k : ℕ) (c : Client) → slice_get w.clients.items k ≡ Some c → slice_get w.ranges k ≡ Some (range_of c.sender)
 range_at w h k c at = ap (λ rs. slice_get rs k) h.ranges_are ∙ get_map range_of (senders w) k c.sender (get_map (λ (x : Client). x.sender) w.clients.items k c at)
 
@@ -68,14 +48,9 @@ module _ (w w' : Traffic) (h : IsTraffic w) (k : ℕ) (came sent returned back :
   pub same_senders : senders w' ≡ senders w
   same_senders = ap (map (λ (x : Client). x.sender)) m.clients ∙ map-set_same (λ (x : Client). x.sender) w.clients.items k m.now m.was (m.moved.sender ∙ ap (λ (x : Client). x.sender) (sym (get_or_from_slice_get w.clients.items k m.was m.was m.there)))
 
-  -- a client now is the one that moved, or one that was there
-  now_or_was : (j : ℕ) (d : Client) → slice_get w'.clients.items j ≡ Some d → (k ≡ j) ⊎ (k ≡ j → ⊥) → ((k ≡ j) × (m.now ≡ d)) ⊎ ((k ≡ j → ⊥) × (slice_get w.clients.items j ≡ Some d))
-  now_or_was j d at (inl e) = inl (e, some_eq (sym (slice_get_written w.clients.items k m.was m.now m.there) ∙ (ap (slice_get (slice_set w.clients.items k m.now)) e ∙ (ap (λ cs. slice_get cs j) (sym m.clients) ∙ at))))
-  now_or_was j d at (inr ne) = inr (ne, sym (slice_get_beside w.clients.items k j m.now (λ e. ne (sym e))) ∙ (ap (λ cs. slice_get cs j) (sym m.clients) ∙ at))
-
   pub moved_traffic : IsTraffic w'
   moved_traffic = record {
-    each = λ j d at. each_now j d (now_or_was j d at (cases_eq k j));
+    each = λ j d at. each_now j d (now_or_was w.clients.items w'.clients.items k m.was m.now m.there m.clients j d at (cases_eq k j));
     ranges_are = m.ranges ∙ (h.ranges_are ∙ ap (map range_of) (sym same_senders));
     apart = subst AreRanges (sym m.ranges) h.apart;
     few = subst (λ (ss : List Sender). sum_by (λ (s : Sender). s.buffers + 2) ss < 2 ^ 32) (sym same_senders) h.few;
@@ -85,20 +60,17 @@ module _ (w w' : Traffic) (h : IsTraffic w) (k : ℕ) (came sent returned back :
       each_now j d (inl e) = subst IsClient e.1 m.moved.work
       each_now j d (inr e) = h.each j d e.1
 
-  now_there : slice_get w'.clients.items k ≡ Some m.now
-  now_there = ap (λ cs. slice_get cs k) m.clients ∙ slice_get_written w.clients.items k m.was m.now m.there
-
   someone : (x : Cargo) → IsSomeones w.clients.items x → IsSomeones w'.clients.items x
   someone x (j, d, at, of) = by_test (cases_eq k j)
     where
       by_test : (k ≡ j) ⊎ (k ≡ j → ⊥) → IsSomeones w'.clients.items x
-      by_test (inl e) = (k, m.now, now_there, subst (λ (s : Sender). IsOf s x) (ap (λ (c : Client). c.sender) (some_eq (sym at ∙ (ap (slice_get w.clients.items) (sym e) ∙ m.there))) ∙ sym m.moved.sender) of)
+      by_test (inl e) = (k, m.now, (now_there w.clients.items w'.clients.items k m.was m.now m.there m.clients), subst (λ (s : Sender). IsOf s x) (ap (λ (c : Client). c.sender) (some_eq (sym at ∙ (ap (slice_get w.clients.items) (sym e) ∙ m.there))) ∙ sym m.moved.sender) of)
       by_test (inr ne) = (j, d, ap (λ cs. slice_get cs j) m.clients ∙ (slice_get_beside w.clients.items k j m.now (λ e. ne (sym e)) ∙ at), of)
 
   pub moved_stands : (cs : ℕ → List Cargo) (ss rs : List Cargo) (bs : ℕ → List Cargo) → TrafficStands w cs ss rs bs → TrafficStands w' (with_more cs k came) (ss ++ sent) (rs ++ returned) (with_more bs k back)
   moved_stands cs ss rs bs s = record {
-    clients = λ j d at. client_now j d (now_or_was j d at (cases_eq k j));
-    within = All-append (IsSomeones w'.clients.items) ss sent (λ n d l. someone (slice_index_or ss n d) (s.within n d l)) (λ n d l. (k, m.now, now_there, subst (λ (x : Sender). IsOf x (slice_index_or sent n d)) (sym m.moved.sender) (m.sent_own n d l)));
+    clients = λ j d at. client_now j d (now_or_was w.clients.items w'.clients.items k m.was m.now m.there m.clients j d at (cases_eq k j));
+    within = All-append (IsSomeones w'.clients.items) ss sent (λ n d l. someone (slice_index_or ss n d) (s.within n d l)) (λ n d l. (k, m.now, (now_there w.clients.items w'.clients.items k m.was m.now m.there m.clients), subst (λ (x : Sender). IsOf x (slice_index_or sent n d)) (sym m.moved.sender) (m.sent_own n d l)));
   }
     where
       own_now : (xs more : List Cargo) → All (IsOf m.was.sender) more → own_of m.now.sender (xs ++ more) ≡ own_of m.was.sender xs ++ map (to_client m.was.sender.base) more
@@ -122,7 +94,7 @@ module _ (w w' : Traffic) (h : IsTraffic w) (k : ℕ) (came sent returned back :
       let b = cargo-append pool (flat_map client_cargo w'.clients.items) (option_to_list w'.stray) in
       let e = ap (λ (o : Option Cargo). carried pool (option_to_list o)) m.stray in
       let f = ap (λ cs. carried pool (flat_map client_cargo cs)) m.clients in
-      let g = cargo_set pool w.clients.items k m.was m.now m.there in
+      let g = cargo_set client_cargo pool w.clients.items k m.was m.now m.there in
       let n = m.moved.held pool in
       omega (arith, a, b, e, f, g, n)
 

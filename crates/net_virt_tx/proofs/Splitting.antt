@@ -16,9 +16,9 @@ use Rattle.net_virt_tx.specs.Descriptors.{to_client, to_device, with_addr}
 use Rattle.net_virt_tx.specs.Serving.{is_good_of, is_own, own_of}
 use Rattle.net_virt_tx.specs.Clients.{range_of}
 use Rattle.net_virt_tx.specs.Sending.{IsAnyones, all_good}
-use Rattle.net_virt_tx.proofs.Counting.{some_eq}
 use Rattle.net_virt_tx.proofs.Serving.{is_within_own}
 use Rattle.turn_kit.proofs.Offers.{get_map}
+use Rattle.buffer_kit.proofs.ManyClients.{some_eq}
 
 -- of some entries, those in the range of a client
 abbrev pub owned : List Cargo → Sender → List Cargo

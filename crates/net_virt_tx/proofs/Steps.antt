@@ -1,9 +1,8 @@
 -- What the virtualiser stands for after each call.
-use Rattle.std.proofs.Common.{◌≡◌, ◌⊎◌, ◌+◌, ◌-◌, ◌*◌, ◌==◌, ◌<◌, ◌≤◌, ◌&&◌, ℕ, Bool, true, false, nat_le, nat_lt, cond, inl, inr, Option, Some, None, is_none, IsSome, List, [], ◌∷◌, ◌++◌, length, map, slice_get, slice_index_or, flat_map, refl, sym, ap, ◌∙◌, subst, add-zero, zero-add, eq-eqb, ne_eqb, arith}
+use Rattle.std.proofs.Common.{◌≡◌, ◌⊎◌, ◌+◌, ◌-◌, ◌*◌, ◌==◌, ◌<◌, ◌≤◌, ◌&&◌, ℕ, Bool, true, false, nat_le, nat_lt, cond, inl, inr, Option, Some, None, is_none, IsSome, List, [], ◌∷◌, ◌++◌, length, map, slice_get, slice_index_or, flat_map, refl, sym, ap, ◌∙◌, subst, add-zero, zero-add, eq-eqb, arith}
 use Rattle.std.specs.List.{filter}
 use Rattle.std.specs.Option.{option_to_list}
 use Rattle.std.proofs.lemmas.Bool.{and_from, and_parts, le-leb, lt-ltb, cases_eq, leb-true}
-use Rattle.std.proofs.lemmas.Option.{slice_get-get_or, get_or_from_slice_get}
 use Rattle.std.proofs.lemmas.List.{append-nil, length-map, length-set}
 use Rattle.cargo_core.specs.declared.item.PoolId.{PoolId}
 use Rattle.cargo_core.specs.declared.item.Item.{Item}
@@ -24,6 +23,7 @@ use Rattle.buffer_kit.specs.declared.virt_ends.VirtEnds.{VirtEnds}
 use Rattle.wire_core.specs.Ends.{Role, End}
 use Rattle.buffer_kit.specs.Virtualising.{FitsVirt, SameVirt, from_queues, to_queues}
 use Rattle.buffer_kit.proofs.Passing.{none_more, beside, count_more, first_more, later_more}
+use Rattle.buffer_kit.proofs.ManyClients.{some_eq, nothing, none_if, queue_there, queue_is, at_client}
 use Rattle.net_virt_tx.specs.declared.client.Client.{Client}
 use Rattle.net_virt_tx.specs.declared.descriptors.Sender.{Sender}
 use Rattle.net_virt_tx.specs.declared.traffic.Traffic.{Traffic}
@@ -34,7 +34,7 @@ use Rattle.net_virt_tx.specs.Clients.{IsClient, ClientStands, at_address, buffer
 use Rattle.net_virt_tx.specs.Traffics.{IsTraffic, IsSomeones, OneMoved, TookBack, TookIn, TrafficStands, senders, with_more}
 use Rattle.net_virt_tx.specs.declared.NetVirtTx.{NetVirtTx}
 use Rattle.net_virt_tx.specs.Sending.{FitsTx, TxStands, IsOutOfTurn, IsBackInTurn, IsDescriptorInTurn, queue_at}
-use Rattle.net_virt_tx.proofs.Counting.{some_eq, at_append, at_split, bit_same, bit_other, good_is, idle_parts, mark_true, where_at}
+use Rattle.net_virt_tx.proofs.Counting.{at_append, at_split, bit_same, bit_other, good_is, idle_parts, mark_true, where_at}
 use Rattle.net_virt_tx.proofs.Merging.{merge_at}
 use Rattle.net_virt_tx.proofs.Serving.{as_lists, moved_traffic, moved_stands, moved_held, same_senders}
 
@@ -46,35 +46,13 @@ moved e e' same w passed h =
     (subst (λ (qs : List QueueId). TxStands e.input.queue.0 e.output.queue.0 qs (to_queues e') w passed) (sym same.from_clients)
     (subst (λ (qs : List QueueId). TxStands e.input.queue.0 e.output.queue.0 (from_queues e) qs w passed) (sym same.to_clients) h)))
 
--- where nothing moved, all stays
-nothing : (passed : Passed) (took put : Lists) → ((n : ℕ) → took n ≡ []) → ((n : ℕ) → put n ≡ []) → passed ≡ record { taken = with passed.taken took; sent = with passed.sent put; dropped = passed.dropped }
-nothing passed took put takes puts = sym (λ j. record { taken = none_more passed.taken took takes j; sent = none_more passed.sent put puts j; dropped = passed.dropped })
-
 pub still : (e e' : VirtEnds) → SameVirt e e' → (w : Traffic) (passed : Passed) (took put : Lists) → ((n : ℕ) → took n ≡ []) → ((n : ℕ) → put n ≡ []) → TxStands e.input.queue.0 e.output.queue.0 (from_queues e) (to_queues e) w passed → TxStands e'.input.queue.0 e'.output.queue.0 (from_queues e') (to_queues e') w (record { taken = with passed.taken took; sent = with passed.sent put; dropped = passed.dropped })
 still e e' same w passed took put takes puts h =
     moved e e' same w (record { taken = with passed.taken took; sent = with passed.sent put; dropped = passed.dropped })
     (subst (λ (p : Passed). TxStands e.input.queue.0 e.output.queue.0 (from_queues e) (to_queues e) w p) (nothing passed took put takes puts) h)
 
-pub none_if : (b : Bool) → if_there b [] ≡ []
-none_if true = refl
-none_if false = refl
-
 pub stray_none : (b : Bool) (s : Option Cargo) → s ≡ None → if_there b (option_to_list s) ≡ []
 stray_none b s e = ap (λ (o : Option Cargo). if_there b (option_to_list o)) e ∙ none_if b
-
--- the queue of a client that is there
-queue_there : (qs : List QueueId) (k : ℕ) → k < length qs → slice_get qs k ≡ Some (slice_index_or qs k (record { 0 = 0 }))
-queue_there qs k there = slice_get-get_or qs k (record { 0 = 0 }) there
-
-pub queue_is : (qs : List QueueId) (k : ℕ) (q : QueueId) → slice_get qs k ≡ Some q → queue_at qs k ≡ q.0
-queue_is qs k q at = ap (λ (r : QueueId). r.0) (get_or_from_slice_get qs k q (record { 0 = 0 }) at)
-
--- what moved at the queue of client k moved at no other client's
-at_client : (qs : List QueueId) (k : ℕ) (q : QueueId) → slice_get qs k ≡ Some q → AreApart qs → (more : Lists) (x : List Cargo) → ((n : ℕ) → more n ≡ if_there (q.0 == n) x) → (j : ℕ) → j < length qs → (k ≡ j) ⊎ (k ≡ j → ⊥) → more (queue_at qs j) ≡ if_there (k == j) x
-at_client qs k q at apart more x h j there (inl e) =
-    ap more (ap (queue_at qs) (sym e) ∙ queue_is qs k q at) ∙ (h q.0 ∙ (if_there_here q.0 x ∙ sym (ap (λ b. if_there b x) (eq-eqb k j e))))
-at_client qs k q at apart more x h j there (inr ne) =
-    h (queue_at qs j) ∙ (beside q.0 (queue_at qs j) x (λ e. ne (apart k j q (slice_index_or qs j (record { 0 = 0 })) at (queue_there qs j there) e)) ∙ sym (ap (λ b. if_there b x) (ne_eqb k j ne)))
 
 -- a client was served further
 module _ (i o : ℕ) (f t : List QueueId) (w w' : Traffic) (k : ℕ) (came sent returned back : List Cargo) (m : OneMoved w w' k came sent returned back) (none : w.stray ≡ None) (passed : Passed) (took put : Lists) (h : TxStands i o f t w passed) where

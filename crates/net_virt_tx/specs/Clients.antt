@@ -1,7 +1,7 @@
 -- What the sending virtualiser keeps of one client, and how that stands for what passed.
 use Rattle.std.specs.Prelude.{◌≡◌, ◌+◌, ◌-◌, ◌*◌, ◌/◌, ◌<◌, ◌≤◌, ◌^◌, ◌==◌, ◌&&◌, ◌||◌, ℕ, Bool}
-use Rattle.std.specs.Prelude.{false, not, nat_le, is_some, is_none, min, Option, Some, None, List}
-use Rattle.std.specs.Prelude.{[], ◌∷◌, ◌++◌, All, length, map, slice_index_or}
+use Rattle.std.specs.Prelude.{false, not, nat_le, is_some, is_none, Option, Some, None, List, []}
+use Rattle.std.specs.Prelude.{◌∷◌, ◌++◌, All, length, map, slice_index_or}
 use Rattle.std.specs.List.{filter}
 use Rattle.std.specs.Option.{option_to_list}
 use Rattle.cargo_core.specs.declared.item.PoolId.{PoolId}
@@ -9,22 +9,17 @@ use Rattle.cargo_core.specs.declared.item.Body.{Body}
 use Rattle.cargo_core.specs.declared.item.Body.TheVariants as Carried
 use Rattle.cargo_core.specs.declared.item.QueueKind.TheVariants as Kind
 use Rattle.cargo_core.specs.declared.ranges.Range.{Range}
-use Rattle.cargo_core.specs.Bodies.{buffers_of}
 use Rattle.cargo_core.specs.Items.{kind_of}
 use Rattle.cargo_core.specs.Lists.{Merge}
 use Rattle.wire_core.specs.Bells.{bit}
 use Rattle.wire_core.specs.Deeds.{Cargo}
-use Rattle.turn_kit.specs.Hands.{bodies_of}
 use Rattle.buffer_kit.specs.Entries.{addr_of}
 use Rattle.net_virt_tx.specs.declared.client.Client.{Client}
 use Rattle.net_virt_tx.specs.declared.descriptors.Sender.{Sender}
 use Rattle.net_virt_tx.specs.Descriptors.{to_client}
 use Rattle.net_virt_tx.specs.Queued.{returns_list, IsReady}
 use Rattle.net_virt_tx.specs.Serving.{is_good_of, bad_ones}
-
--- a count of 64 bits, which stands still at its end
-abbrev pub capped : ℕ → ℕ
-capped n = min n (2 ^ 64 - 1)
+pub use Rattle.buffer_kit.specs.Clients.{capped, carried}
 
 -- how many of these are so
 abbrev pub how_many : List Bool → ℕ
@@ -91,10 +86,6 @@ is_away c a = nat_le c.sender.base a && ((c.sender.base + buffer_at c a * 2048 =
 -- all entries that it has
 abbrev pub client_cargo : Client → List Cargo
 client_cargo c = option_to_list c.leaving ++ (option_to_list c.bad ++ returns_list c.returns)
-
--- how many buffers of a pool entries carry
-abbrev pub carried : PoolId → List Cargo → ℕ
-carried pool cs = buffers_of pool (bodies_of cs)
 
 -- an entry goes to the client at one of its buffers
 abbrev pub IsReturn : ℕ → Cargo → Type 0

@@ -1,6 +1,6 @@
 -- The sending virtualiser: what it must fit, what it stands for, and its row.
 use Rattle.std.specs.Prelude.{◌≡◌, ◌⊎◌, ◌+◌, ◌*◌, ◌==◌, ◌<◌, ◌≤◌, ◌^◌, ℕ, true, None, Some, List}
-use Rattle.std.specs.Prelude.{[], ◌∷◌, ◌++◌, All, length, map, slice_get, slice_index_or}
+use Rattle.std.specs.Prelude.{[], ◌∷◌, ◌++◌, All, length, map, slice_get}
 use Rattle.std.specs.List.{filter, sum_by}
 use Rattle.std.specs.Option.{option_to_list}
 use Rattle.cargo_core.specs.declared.ranges.Range.{Range}
@@ -25,10 +25,7 @@ use Rattle.net_virt_tx.specs.Serving.{IsServed, is_good_of, bad_ones}
 use Rattle.net_virt_tx.specs.Clients.{IsFresh, IsOf, at_address, capped, range_of}
 use Rattle.net_virt_tx.specs.Traffics.{IsTraffic, TrafficStands, bad_count, is_free, loaded_at}
 use Rattle.net_virt_tx.specs.Traffics.{needs_at, owes, senders, traffic_hand}
-
--- the queue at a place
-abbrev pub queue_at : List QueueId → ℕ → ℕ
-queue_at qs k = (slice_index_or qs k (record { 0 = 0 })).0
+pub use Rattle.buffer_kit.specs.Clients.{queue_at}
 
 -- its ends are its own, and as it keeps them; each client has one each way
 pub record FitsTx (ends : Role → ℕ → End) (v : NetVirtTx) : Type 0 where

@@ -1,13 +1,11 @@
 -- What the sending virtualiser keeps of all its clients, and how that stands for what passed.
-use Rattle.std.specs.Prelude.{◌≡◌, ◌⊎◌, ◌+◌, ◌==◌, ◌&&◌, ◌<◌, ◌^◌, ℕ, Bool, false, true, is_none}
-use Rattle.std.specs.Prelude.{Option, Some, None, List, [], ◌∷◌, ◌++◌, All, map, flat_map}
-use Rattle.std.specs.Prelude.{slice_get, slice_set}
+use Rattle.std.specs.Prelude.{◌≡◌, ◌⊎◌, ◌+◌, ◌&&◌, ◌<◌, ◌^◌, ℕ, Bool, false, true, is_none, Option}
+use Rattle.std.specs.Prelude.{Some, List, [], ◌∷◌, ◌++◌, All, map, flat_map, slice_get, slice_set}
 use Rattle.std.specs.List.{list_any, sum_by}
 use Rattle.std.specs.Option.{option_to_list}
 use Rattle.cargo_core.specs.declared.item.Body.{Body}
 use Rattle.cargo_core.specs.Ranges.{AreRanges}
 use Rattle.wire_core.specs.Deeds.{Cargo}
-use Rattle.wire_core.specs.Lists.{if_there}
 use Rattle.turn_kit.specs.Hands.{bodies_of}
 use Rattle.buffer_kit.specs.Entries.{addr_of}
 use Rattle.net_virt_tx.specs.declared.client.Client.{Client}
@@ -17,11 +15,8 @@ use Rattle.net_virt_tx.specs.Serving.{is_good_of, own_of}
 use Rattle.net_virt_tx.specs.Clients.{IsClient, ClientStands, Moved, IsOf, is_idle, is_leaving}
 use Rattle.net_virt_tx.specs.Clients.{is_loaded, is_away, load_of, client_cargo, capped, range_of}
 use Rattle.net_virt_tx.specs.Clients.{is_marked, number_of}
-
--- a client is there, and so
-abbrev pub is_so : (Client → Bool) → Option Client → Bool
-is_so p None = false
-is_so p (Some c) = p c
+use Rattle.buffer_kit.specs.Clients.{entry_in}
+pub use Rattle.buffer_kit.specs.Clients.{is_so, with_more}
 
 -- no entry came out of turn
 abbrev pub is_free : Traffic → Bool
@@ -41,13 +36,11 @@ owes w = is_none w.stray && list_any is_leaving w.clients.items
 
 -- what a client has for the driver
 abbrev pub leaving_in : Option Client → Option Cargo
-leaving_in None = None
-leaving_in (Some c) = c.leaving
+leaving_in o = entry_in (λ (c : Client). c.leaving) o
 
 -- what a client is given next
 abbrev pub load_in : Option Client → Option Cargo
-load_in None = None
-load_in (Some c) = load_of c
+load_in o = entry_in (λ (c : Client). load_of c) o
 
 -- what the client at a place has for the driver
 abbrev pub leaving_at : Traffic → ℕ → Option Cargo
@@ -79,10 +72,6 @@ pub record IsTraffic (w : Traffic) : Type 0 where
 -- the entry is at a buffer of one of these clients
 abbrev pub IsSomeones : List Client → Cargo → Type 0
 IsSomeones cs x = (k : ℕ) × (c : Client) × (slice_get cs k ≡ Some c) × IsOf c.sender x
-
--- the same lists, with these more at place k
-abbrev pub with_more : (ℕ → List Cargo) → ℕ → List Cargo → ℕ → List Cargo
-with_more lists k more j = lists j ++ if_there (k == j) more
 
 -- how it stands for what came from each client by its place, what it sent to the driver, what
 -- returned from there and what went back to each client

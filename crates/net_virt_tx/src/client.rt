@@ -22,7 +22,7 @@ ghost use Rattle.net_virt_tx.specs.Clients.{is_loaded, load_of, comes_in_turn, i
 ghost use Rattle.net_virt_tx.specs.Clients.{number_of, is_marked, capped, carried, client_cargo};
 
 use crate::{Marks, Returns, Sender, to_client, to_device};
-use buffer_kit::{NetCargo, VirtEnds, address};
+use buffer_kit::{NetCargo, Served, VirtEnds, address};
 use cargo_core::{Body, Item, Memory, PoolId};
 use std::alloc::Global;
 use turn_kit::count_held;
@@ -67,6 +67,20 @@ fn returned_number(entry: &Option<(Item, Body)>) -> usize
     }
 }
 
+impl Served for Client {
+    ghost leaving = { λ c. c.leaving };
+
+    ghost bad_many = { λ c. c.bad_many };
+
+    fn is_leaving(&self) -> bool {
+        self.leaving.is_some()
+    }
+
+    fn bad(&self) -> u64 {
+        self.bad_many
+    }
+}
+
 impl Client {
     /// A client of which nothing came yet, with the memory for all its buffers.
     pub fn new(alloc: Global, sender: Sender) -> Result<Client, Memory>
@@ -95,13 +109,6 @@ impl Client {
         ensures { result ≡ is_idle self.now }
     {
         self.leaving.is_none() && self.bad.is_none()
-    }
-
-    /// Whether it has an entry to the driver.
-    pub fn is_leaving(&self) -> bool
-        ensures { result ≡ is_leaving self.now }
-    {
-        self.leaving.is_some()
     }
 
     /// Whether an entry is to go to it.

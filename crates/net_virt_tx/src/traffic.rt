@@ -25,7 +25,7 @@ ghost use Rattle.net_virt_tx.specs.Traffics.{traffic_cargo, traffic_hand};
 ghost use Rattle.net_virt_tx.specs.Sending.{FitsClients, IsNewTraffic, sender_of};
 
 use crate::{Client, TxEnds};
-use buffer_kit::{VirtEnds, address};
+use buffer_kit::{VirtEnds, address, bad_of_all, leaver};
 use cargo_core::{Body, Item, Memory, PoolId, Ranges};
 use std::alloc::Global;
 use turn_kit::{Needs, count_held};
@@ -131,12 +131,7 @@ impl Traffic {
             (λ k. (owes (record self.now { stray = None }) ≡ true)
             × (is_some (leaving_at self.now k) ≡ true)) }
     {
-        for (place, client) in self.clients.iter().enumerate() {
-            if client.is_leaving() {
-                return Some(place);
-            }
-        }
-        None
+        leaver(&self.clients)
     }
 
     /// A client that has an entry to the driver. None where an entry came out of turn.
@@ -271,11 +266,7 @@ impl Traffic {
     pub fn bad(&self) -> u64
         ensures { result ≡ bad_count self.now }
     {
-        let mut bad: u64 = 0;
-        for client in &self.clients {
-            bad = bad.saturating_add(client.bad_many);
-        }
-        bad
+        bad_of_all(&self.clients)
     }
 }
 

@@ -18,7 +18,7 @@ use Rattle.net_virt_tx.specs.declared.NetVirtTx.{NetVirtTx}
 use Rattle.net_virt_tx.specs.Sending.{FitsTx, TxStandsFor, IsOutOfTurn, IsBackInTurn, IsDescriptorInTurn, queue_at}
 use Rattle.net_virt_tx.specs.Traffics.{TrafficStands, senders, traffic_hand}
 use Rattle.net_virt_tx.proofs.Serving.{as_lists}
-use Rattle.net_virt_tx.proofs.Steps.{none_if, queue_is}
+use Rattle.buffer_kit.proofs.ManyClients.{none_if, queue_is}
 use Rattle.actor_set.proofs.LawsLemmas.NetBeside.{fits_virt, bodies_same, turned}
 
 module _ (ends ends' : Role → ℕ → End) where

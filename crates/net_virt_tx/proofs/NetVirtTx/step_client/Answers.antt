@@ -4,9 +4,10 @@ use Rattle.std.proofs.lemmas.Bool.{and_parts}
 use Rattle.wire_core.specs.Deeds.{deed_of}
 use Rattle.wire_core.specs.Lists.{if_there, with_deed}
 use Rattle.buffer_kit.specs.Virtualising.{from_queues, to_queues}
+use Rattle.buffer_kit.proofs.ManyClients.{none_if}
 use Rattle.net_virt_tx.specs.Clients.{is_idle}
 use Rattle.net_virt_tx.specs.Traffics.{is_so, needs_at}
-use Rattle.net_virt_tx.proofs.Steps.{still, moved, tx_in, none_if, is_there, free_none, fits_on, in_keeps}
+use Rattle.net_virt_tx.proofs.Steps.{still, moved, tx_in, is_there, free_none, fits_on, in_keeps}
 use Rattle.net_virt_tx.proofs.NetVirtTx.step_client.Goals as goal
 
 pub returns-in_default-clause-stepped : goal.returns-in_default-clause-stepped

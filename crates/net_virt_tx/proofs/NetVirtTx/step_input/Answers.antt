@@ -3,8 +3,9 @@ use Rattle.std.specs.Option.{option_map, option_to_list}
 use Rattle.wire_core.specs.Deeds.{deed_of}
 use Rattle.wire_core.specs.Lists.{if_there, with_deed}
 use Rattle.buffer_kit.specs.Virtualising.{from_queues, to_queues}
+use Rattle.buffer_kit.proofs.ManyClients.{none_if}
 use Rattle.net_virt_tx.specs.Traffics.{is_free}
-use Rattle.net_virt_tx.proofs.Steps.{still, moved, tx_back, none_if, is_there, free_none, fits_on, back_keeps}
+use Rattle.net_virt_tx.proofs.Steps.{still, moved, tx_back, is_there, free_none, fits_on, back_keeps}
 use Rattle.net_virt_tx.proofs.NetVirtTx.step_input.Goals as goal
 
 pub returns-in_default-clause-stepped : goal.returns-in_default-clause-stepped

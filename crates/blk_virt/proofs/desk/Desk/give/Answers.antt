@@ -2,8 +2,9 @@ use Rattle.std.proofs.Common.{[], Option, slice_get, inl, refl, subst}
 use Rattle.std.specs.Option.{option_to_list}
 use Rattle.std.proofs.lemmas.Option.{slice_get_read, slice_get_within}
 use Rattle.wire_core.specs.Deeds.{put_of, Cargo}
+use Rattle.buffer_kit.proofs.ManyClients.{so_there}
 use Rattle.blk_virt.specs.Clients.{Moved, is_held}
-use Rattle.blk_virt.proofs.Desking.{so_there, held_load}
+use Rattle.blk_virt.proofs.Desking.{held_load}
 use Rattle.blk_virt.proofs.desk.Desk.give.Goals as goal
 
 pub returns-clause-moved : goal.returns-clause-moved

@@ -1,8 +1,8 @@
 use Rattle.std.proofs.Common.{◌<◌, inr, length, slice_get, slice_set, refl, sym, ap, ◌∙◌, subst}
 use Rattle.std.proofs.lemmas.Option.{slice_get_read}
+use Rattle.buffer_kit.proofs.ManyClients.{some_eq}
 use Rattle.blk_virt.specs.declared.desk.Desk.{Desk}
 use Rattle.blk_virt.specs.Clients.{is_away}
-use Rattle.blk_virt.proofs.Moving.{some_eq}
 use Rattle.blk_virt.proofs.Desking.{first_is}
 use Rattle.blk_virt.proofs.desk.Desk.take_back.Goals as goal
 

@@ -1,7 +1,7 @@
 use Rattle.std.proofs.Common.{sym, ap, ◌∙◌, arith}
+use Rattle.buffer_kit.proofs.ManyClients.{some_eq}
 use Rattle.blk_virt.specs.declared.opening.Block.{Block}
 use Rattle.blk_virt.specs.Openings.{sector_of}
-use Rattle.blk_virt.proofs.Moving.{some_eq}
 use Rattle.blk_virt.proofs.opening.Opening.part.Goals as goal
 
 pub returns-in-Some-clause-part : goal.returns-in-Some-clause-part

@@ -3,8 +3,9 @@ use Rattle.std.specs.Option.{option_map, option_to_list}
 use Rattle.wire_core.specs.Deeds.{Cargo, deed_of, put_of}
 use Rattle.wire_core.specs.Lists.{if_there, with_deed}
 use Rattle.buffer_kit.specs.Virtualising.{from_queues, to_queues}
+use Rattle.buffer_kit.proofs.ManyClients.{none_if}
 use Rattle.blk_virt.specs.Desks.{held_at}
-use Rattle.blk_virt.proofs.Stepping.{still, moved, none_if, nothing_put, client_out, free_from}
+use Rattle.blk_virt.proofs.Stepping.{still, moved, nothing_put, client_out, free_from}
 use Rattle.blk_virt.proofs.virtualiser.BlkVirt.step_answer.Goals as goal
 
 pub returns-clause-stepped : goal.returns-clause-stepped

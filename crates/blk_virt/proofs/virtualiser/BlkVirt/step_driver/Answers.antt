@@ -3,8 +3,9 @@ use Rattle.std.specs.Option.{option_map, option_to_list}
 use Rattle.wire_core.specs.Deeds.{Cargo, deed_of, put_of}
 use Rattle.wire_core.specs.Lists.{if_there, with_deed}
 use Rattle.buffer_kit.specs.Virtualising.{from_queues, to_queues}
+use Rattle.buffer_kit.proofs.ManyClients.{none_if}
 use Rattle.blk_virt.specs.Desks.{leaving_with}
-use Rattle.blk_virt.proofs.Stepping.{still, moved, none_if, nothing_put, driver_out, free_from}
+use Rattle.blk_virt.proofs.Stepping.{still, moved, nothing_put, driver_out, free_from}
 use Rattle.blk_virt.proofs.virtualiser.BlkVirt.step_driver.Goals as goal
 
 pub returns-then-is_reading-clause-stepped : goal.returns-then-is_reading-clause-stepped

@@ -3,8 +3,9 @@ use Rattle.std.specs.Option.{option_map, option_to_list}
 use Rattle.wire_core.specs.Deeds.{Cargo, deed_of}
 use Rattle.wire_core.specs.Lists.{if_there, with_deed}
 use Rattle.buffer_kit.specs.Virtualising.{from_queues, to_queues}
+use Rattle.buffer_kit.proofs.ManyClients.{none_if}
 use Rattle.blk_virt.specs.Virtualising.{queue_at}
-use Rattle.blk_virt.proofs.Stepping.{still, moved, none_if, response_in, is_free}
+use Rattle.blk_virt.proofs.Stepping.{still, moved, response_in, is_free}
 use Rattle.blk_virt.proofs.virtualiser.BlkVirt.step_response.Goals as goal
 
 pub returns-in_default-clause-stepped : goal.returns-in_default-clause-stepped

@@ -2,9 +2,9 @@ use Rattle.std.proofs.Common.{[], None, refl, ap, slice_get, is_none}
 use Rattle.std.specs.Option.{option_to_list}
 use Rattle.std.proofs.lemmas.Bool.{and_parts}
 use Rattle.wire_core.specs.Deeds.{put_of}
+use Rattle.buffer_kit.proofs.ManyClients.{so_there}
 use Rattle.blk_virt.specs.Clients.{is_held}
 use Rattle.blk_virt.specs.Desks.{held_at, loaded_at}
-use Rattle.blk_virt.proofs.Desking.{so_there}
 use Rattle.blk_virt.proofs.Answering.{moved_desk, same_holders}
 use Rattle.blk_virt.proofs.Sending.{answer_gave, still_work, held_not_away}
 use Rattle.blk_virt.proofs.work.Work.give.Goals as goal

@@ -1,6 +1,7 @@
 use Rattle.std.proofs.Common.{Some, None, Option, [], ◌∷◌, ◌++◌, inl, inr, refl, sym, ap, ◌∙◌, subst, arith}
 use Rattle.std.proofs.lemmas.Bool.{and_parts}
 use Rattle.turn_kit.proofs.Holding.{cargo-cons}
+use Rattle.buffer_kit.proofs.ManyClients.{some_eq}
 use Rattle.blk_virt.specs.declared.opening.Block.{Block}
 use Rattle.blk_virt.specs.declared.opening.Opening.{Opening}
 use Rattle.blk_virt.specs.Requests.{brings}
@@ -8,7 +9,6 @@ use Rattle.blk_virt.specs.Clients.{carried}
 use Rattle.blk_virt.specs.Openings.{has_sector, is_open, block_of, block_cargo}
 use Rattle.blk_virt.specs.Desks.{is_due, desk_cargo}
 use Rattle.blk_virt.specs.Works.{IsWork, WorkStands, work_cargo}
-use Rattle.blk_virt.proofs.Moving.{some_eq}
 use Rattle.blk_virt.proofs.Answering.{moved_desk, moved_held, same_holders}
 use Rattle.blk_virt.proofs.Working.{first_came, later_came, strays, work_parts, first_parts}
 use Rattle.blk_virt.proofs.work.Work.receive.Goals as goal

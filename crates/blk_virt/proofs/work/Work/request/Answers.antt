@@ -3,12 +3,11 @@ use Rattle.std.proofs.lemmas.Bool.{and_parts}
 use Rattle.std.proofs.lemmas.Option.{slice_get_read, slice_get_within}
 use Rattle.turn_kit.proofs.Holding.{cargo-cons}
 use Rattle.blk_mbr.specs.Partitions.{part_of}
+use Rattle.buffer_kit.proofs.ManyClients.{some_eq, so_there}
 use Rattle.blk_virt.specs.declared.client.Client.{Client}
 use Rattle.blk_virt.specs.Clients.{is_away, is_idle}
 use Rattle.blk_virt.specs.Openings.{sector_of, is_open}
 use Rattle.blk_virt.specs.Desks.{needs_at, desk_cargo}
-use Rattle.blk_virt.proofs.Moving.{some_eq}
-use Rattle.blk_virt.proofs.Desking.{so_there}
 use Rattle.blk_virt.proofs.Answering.{moved_desk, moved_held, same_holders}
 use Rattle.blk_virt.proofs.Working.{request_came, work_parts, idle_not_away}
 use Rattle.blk_virt.proofs.work.Work.request.Goals as goal

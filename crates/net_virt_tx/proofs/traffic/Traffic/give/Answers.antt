@@ -6,14 +6,14 @@ use Rattle.std.proofs.lemmas.List.{set-get_or}
 use Rattle.std.proofs.lemmas.List.Elements.{All-nil}
 use Rattle.wire_core.specs.Deeds.{put_of, deed_of, Cargo}
 use Rattle.wire_core.specs.Lists.{put_by, taken_by, if_there}
+use Rattle.buffer_kit.proofs.ManyClients.{so_there}
 use Rattle.net_virt_tx.specs.Clients.{IsOf, Moved, load_of, is_loaded}
 use Rattle.net_virt_tx.specs.Traffics.{load_at, load_in, is_so}
-use Rattle.net_virt_tx.proofs.Owning.{so_there}
 use Rattle.net_virt_tx.proofs.traffic.Traffic.give.Goals as goal
 
 at_place : (g : _) (c : goal.After-self-1 g) → slice_get c.args.self.now.clients.items c.args.place ≡ Some c.index_mut-client.result.now
 at_place g c =
-    let l = so_there is_loaded c.args.self.now.clients.items c.args.place (and_parts (is_none c.args.self.now.stray) (is_so is_loaded (slice_get c.args.self.now.clients.items c.args.place)) c.requires.some).1 in
+    let l = so_there is_loaded (slice_get c.args.self.now.clients.items c.args.place) (and_parts (is_none c.args.self.now.stray) (is_so is_loaded (slice_get c.args.self.now.clients.items c.args.place)) c.requires.some).1 in
     slice_get_read c.args.self.now.clients.items _ c.args.place c.index_mut-client.result.now refl (slice_get_within c.args.self.now.clients.items c.args.place l.0 l.1) c.index_mut-client.ensures.value
 
 same_load : (g : _) (c : goal.After-self-1 g) → load_of c.index_mut-client.result.now ≡ load_at c.args.self.now c.args.place
@@ -21,13 +21,13 @@ same_load g c = sym (ap load_in (at_place g c))
 
 pub give-requires-clause-work : goal.give-requires-clause-work
 give-requires-clause-work g c =
-    let l = so_there is_loaded c.args.self.now.clients.items c.args.place (and_parts (is_none c.args.self.now.stray) (is_so is_loaded (slice_get c.args.self.now.clients.items c.args.place)) c.requires.some).1 in
+    let l = so_there is_loaded (slice_get c.args.self.now.clients.items c.args.place) (and_parts (is_none c.args.self.now.stray) (is_so is_loaded (slice_get c.args.self.now.clients.items c.args.place)) c.requires.some).1 in
     c.requires.work.each c.args.place c.index_mut-client.result.now (slice_get_read c.args.self.now.clients.items _ c.args.place c.index_mut-client.result.now refl (slice_get_within c.args.self.now.clients.items c.args.place l.0 l.1) c.index_mut-client.ensures.value)
 
 pub give-requires-clause-some : goal.give-requires-clause-some
 give-requires-clause-some g c =
     let so = (and_parts (is_none c.args.self.now.stray) (is_so is_loaded (slice_get c.args.self.now.clients.items c.args.place)) c.requires.some).1 in
-    let l = so_there is_loaded c.args.self.now.clients.items c.args.place so in
+    let l = so_there is_loaded (slice_get c.args.self.now.clients.items c.args.place) so in
     let at = slice_get_read c.args.self.now.clients.items _ c.args.place c.index_mut-client.result.now refl (slice_get_within c.args.self.now.clients.items c.args.place l.0 l.1) c.index_mut-client.ensures.value in
     sym (ap (is_so is_loaded) at) ∙ so
 

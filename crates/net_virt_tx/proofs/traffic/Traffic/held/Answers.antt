@@ -1,8 +1,9 @@
 use Rattle.std.proofs.Common.{◌≡◌, ◌+◌, suc, take, flat_map, slice_get, refl, sym, ap, ◌∙◌, arith}
 use Rattle.std.specs.List.{sum_by}
 use Rattle.std.proofs.lemmas.Option.{slice_get_read}
+use Rattle.buffer_kit.proofs.ManyClients.{held_more}
 use Rattle.net_virt_tx.specs.Clients.{carried, client_cargo}
-use Rattle.net_virt_tx.proofs.Holding.{held_more, places_more, places_few, places_of}
+use Rattle.net_virt_tx.proofs.Holding.{places_more, places_few, places_of}
 use Rattle.net_virt_tx.proofs.traffic.Traffic.held.Goals as goal
 
 pub held-count-requires-clause-work : goal.held-count-requires-clause-work
@@ -21,7 +22,7 @@ pub loop-client-preserved : goal.loop-client-preserved
 loop-client-preserved c =
     let at = ap (λ xs. slice_get xs c.loop-client.client-index) (sym c.deref-client-items.ensures.value) ∙ slice_get_read c.deref-client-items.result.now _ c.loop-client.client-index c.client-item.result refl c.loop-client-test.true c.client-item.is in
     let next : c.loop-client.client-index + 1 ≡ suc c.loop-client.client-index = omega arith in
-    let held = held_more c.args.pool c.args.self.now.clients.items c.loop-client.client-index c.client-item.result at in
+    let held = held_more client_cargo c.args.pool c.args.self.now.clients.items c.loop-client.client-index c.client-item.result at in
     let held' = ap (λ n. carried c.args.pool (flat_map client_cargo (take n c.args.self.now.clients.items))) next in
     let more = places_more c.args.self.now.clients.items c.loop-client.client-index c.client-item.result at in
     let more' = ap (λ n. sum_by places_of (take n c.args.self.now.clients.items)) next in

@@ -12,7 +12,7 @@ use Rattle.net_virt_tx.proofs.traffic.Traffic.send.Goals as goal
 
 at_place : (g : _) (c : goal.After-self-1 g) → slice_get c.args.self.now.clients.items c.args.place ≡ Some c.index_mut-client.result.now
 at_place g c =
-    let l = leaving_there c.args.self.now.clients.items c.args.place c.requires.some in
+    let l = leaving_there (slice_get c.args.self.now.clients.items c.args.place) c.requires.some in
     slice_get_read c.args.self.now.clients.items _ c.args.place c.index_mut-client.result.now refl (slice_get_within c.args.self.now.clients.items c.args.place l.0 l.1) c.index_mut-client.ensures.value
 
 same_load : (g : _) (c : goal.After-self-1 g) → c.index_mut-client.result.now.leaving ≡ leaving_at c.args.self.now c.args.place
@@ -20,12 +20,12 @@ same_load g c = sym (ap leaving_in (at_place g c))
 
 pub send-requires-clause-work : goal.send-requires-clause-work
 send-requires-clause-work g c =
-    let l = leaving_there c.args.self.now.clients.items c.args.place c.requires.some in
+    let l = leaving_there (slice_get c.args.self.now.clients.items c.args.place) c.requires.some in
     c.requires.work.each c.args.place c.index_mut-client.result.now (slice_get_read c.args.self.now.clients.items _ c.args.place c.index_mut-client.result.now refl (slice_get_within c.args.self.now.clients.items c.args.place l.0 l.1) c.index_mut-client.ensures.value)
 
 pub send-requires-clause-some : goal.send-requires-clause-some
 send-requires-clause-some g c =
-    let l = leaving_there c.args.self.now.clients.items c.args.place c.requires.some in
+    let l = leaving_there (slice_get c.args.self.now.clients.items c.args.place) c.requires.some in
     let at = slice_get_read c.args.self.now.clients.items _ c.args.place c.index_mut-client.result.now refl (slice_get_within c.args.self.now.clients.items c.args.place l.0 l.1) c.index_mut-client.ensures.value in
     sym (ap (λ o. is_some (leaving_in o)) at) ∙ c.requires.some
 

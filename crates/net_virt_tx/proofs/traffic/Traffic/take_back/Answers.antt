@@ -2,9 +2,9 @@ use Rattle.std.proofs.Common.{◌≡◌, true, refl, sym, ◌∙◌, subst, inl}
 use Rattle.std.proofs.lemmas.Option.{slice_get_read, slice_get_within}
 use Rattle.std.proofs.lemmas.List.Elements.{All-nil}
 use Rattle.buffer_kit.specs.Entries.{addr_of}
+use Rattle.buffer_kit.proofs.ManyClients.{some_eq}
 use Rattle.net_virt_tx.specs.declared.client.Client.{Client}
 use Rattle.net_virt_tx.specs.Clients.{IsOf, is_away}
-use Rattle.net_virt_tx.proofs.Counting.{some_eq}
 use Rattle.net_virt_tx.proofs.Owning.{away_of, one_of}
 use Rattle.net_virt_tx.proofs.traffic.Traffic.take_back.Goals as goal
 
