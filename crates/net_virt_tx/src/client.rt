@@ -17,7 +17,7 @@ ghost use Rattle.buffer_kit.specs.Virtualising.{to_queues, virt_posts};
 ghost use Rattle.net_virt_tx.specs.Descriptors.{to_device, to_client};
 ghost use Rattle.net_virt_tx.specs.Queued.{returns_list};
 ghost use Rattle.net_virt_tx.specs.Serving.{is_good_of};
-ghost use Rattle.net_virt_tx.specs.Clients.{IsClient, IsFresh, Moved, is_idle, is_leaving};
+ghost use Rattle.net_virt_tx.specs.Clients.{IsClient, IsFresh, Moved, is_idle};
 ghost use Rattle.net_virt_tx.specs.Clients.{is_loaded, load_of, comes_in_turn, is_away, buffer_at};
 ghost use Rattle.net_virt_tx.specs.Clients.{number_of, is_marked, capped, carried, client_cargo};
 
