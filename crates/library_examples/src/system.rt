@@ -11,13 +11,6 @@ use std::alloc::Global;
 use system_core::{Ending, System};
 use trace_text::{TraceFault, read_trace};
 
-// Plays a system by seed 0, for so many steps at most.
-fn played(system: &mut System, limit: u64) -> Result<(Ending, Report), Memory> {
-    let ending = system.play(0, limit)?;
-    let report = system.report()?;
-    Ok((ending, report))
-}
-
 // What a play came to.
 fn told(alloc: Global, ending: Ending, report: &Report) -> Result<String, Memory> {
     let mut text = format!(in alloc; "{ending:?}, bad {}\n", report.bad)?;
@@ -43,8 +36,7 @@ pub fn show_system(alloc: Global, plan: &Plan, lines: &str) -> Result<String, Me
     };
     let layout = lay_out(alloc, plan)?;
     let mut system = System::build(alloc, plan, &layout, &trace)?;
-    let shown = played(&mut system, budget(plan, &trace));
-    drop(system);
-    let (ending, report) = shown?;
-    told(alloc, ending, &report)
+    let ending = system.play(0, budget(plan, &trace));
+    let report = system.into_report()?;
+    told(alloc, ending?, &report)
 }

@@ -213,7 +213,7 @@ fn plays(alloc: Global, plan: &Plan, trace: &Trace, seeds: Seeds) -> Result<Stri
     for k in 0..seeds.count {
         let seed = seeds.first.saturating_add(k);
         let (system, ending) = System::played(alloc, plan, &layout, trace, seed, STEPS)?;
-        let report = system.report()?;
+        let report = system.into_report()?;
         let line = told(alloc, plan, &report, trace, ending, seeds.pools)?;
         text.push_str(line.as_str())?;
     }

@@ -324,6 +324,15 @@ impl System {
         })
     }
 
+    /// Ends the system, and gives what is seen of it as it was.
+    pub fn into_report(self) -> Result<Report, Memory>
+        ensures { IfOk result (λ r. r ≡ report_of self) }
+    {
+        let report = self.report();
+        drop(self);
+        report
+    }
+
     /// All calls that were made, since the system was built.
     pub fn journal(&self) -> &[Entry]
         ensures { result.now ≡ self.now.journal }

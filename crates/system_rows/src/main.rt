@@ -19,9 +19,10 @@ ghost use Rattle.trace_text.specs.Events.{blk_clients};
 ghost use Rattle.trace_text.specs.Traces.{IsReadFor};
 ghost use Rattle.region_layout.specs.Layouts.{layout_of};
 ghost use Rattle.expect_core.specs.Budgets.{budget_of};
-ghost use Rattle.system_core.specs.Shows.{hostile_in};
+ghost use Rattle.system_core.specs.Reports.{report_of};
+ghost use Rattle.system_core.specs.Shows.{Shown, hostile_in};
 ghost use Rattle.system_core.specs.Plays.{runnable_now};
-ghost use Rattle.system_core.specs.PlanPlays.{IsSystemOf};
+ghost use Rattle.system_core.specs.PlanPlays.{IsSystemOf, StaysOfItsPlan};
 
 mod naming;
 mod numbering;
@@ -214,8 +215,21 @@ fn told(
     Ok(line)
 }
 
-// A system that was played several times in a row, by a seed each time and so many steps at most,
-// and how the last play ended.
+// Plays a system several times in a row, by a seed each time and so many steps at most, and answers
+// how the last play ended.
+fn play_in_a_row(system: &mut System, seeds: &[u64], steps: u64) -> Result<Ending, Memory>
+    ensures system { StaysOfItsPlan system.old system.new }
+    ensures quiet { IfOk result (λ e. e ≡ Ending.Quiet → runnable_now system.new ≡ []) }
+{
+    let mut ending = Ending::Spent;
+    for seed in seeds {
+        ending = system.play(*seed, steps)?;
+    }
+    Ok(ending)
+}
+
+// How the last of several plays in a row of one system ended, and what is seen of it then: it is a
+// system of the plan and the trace, as after one play.
 fn played_in_a_row(
     alloc: Global,
     plan: &Plan,
@@ -223,22 +237,36 @@ fn played_in_a_row(
     trace: &Trace,
     seeds: &[u64],
     steps: u64,
-) -> Result<(System, Ending), Memory>
+) -> Result<(Ending, Report), Memory>
     requires valid { Valid plan.now }
     requires layout { layout.now ≡ layout_of plan.now }
     requires trace { IsReadFor plan.now trace.now }
-    ensures system { IfOk result (λ r. IsSystemOf plan.now trace.now r.0) }
-    ensures legal { IfOk result (λ r. LegalJournal (hostile_in r.0.setting) r.0.setting.history
-        r.0.setting.rows r.0.journal) }
-    ensures bounded { IfOk result (λ r. length r.0.journal < budget_of plan.now trace.now) }
-    ensures quiet { IfOk result (λ r. r.1 ≡ Ending.Quiet → runnable_now r.0 ≡ []) }
+    ensures { IfOk result (λ r. (s : Shown) × (r.1 ≡ report_of s) × IsSystemOf plan.now trace.now s
+        × LegalJournal (hostile_in s.setting) s.setting.history s.setting.rows s.journal
+        × (length s.journal < budget_of plan.now trace.now)
+        × (r.0 ≡ Ending.Quiet → runnable_now s ≡ [])) }
 {
     let mut system = System::build(alloc, plan, layout, trace)?;
-    let mut ending = Ending::Spent;
-    for seed in seeds {
-        ending = system.play(*seed, steps)?;
-    }
-    Ok((system, ending))
+    let ending = play_in_a_row(&mut system, seeds, steps);
+    let report = system.into_report()?;
+    Ok((ending?, report))
+}
+
+// The same of a single play.
+fn played_once(
+    alloc: Global,
+    plan: &Plan,
+    layout: &Layout,
+    trace: &Trace,
+    seed: u64,
+    steps: u64,
+) -> Result<(Ending, Report), Memory>
+    requires valid { Valid plan.now }
+    requires layout { layout.now ≡ layout_of plan.now }
+    requires trace { IsReadFor plan.now trace.now }
+{
+    let (system, ending) = System::played(alloc, plan, layout, trace, seed, steps)?;
+    Ok((ending, system.into_report()?))
 }
 
 // The seeds that a text has.
@@ -263,12 +291,11 @@ fn play(
 {
     let layout = lay_out(alloc, plan)?;
     let seeds = seeds_of(alloc, seeds)?;
-    let (system, ending) = if seeds.len() == 1 {
-        System::played(alloc, plan, &layout, trace, seeds[0], steps)?
+    let (ending, report) = if seeds.len() == 1 {
+        played_once(alloc, plan, &layout, trace, seeds[0], steps)?
     } else {
         played_in_a_row(alloc, plan, &layout, trace, &seeds, steps)?
     };
-    let report = system.report()?;
     told(alloc, &report, plan, trace, ending)
 }
 
