@@ -79,15 +79,13 @@ impl Sharer {
 
     /// Whether some client is owed a lease.
     pub fn is_owing(&self) -> bool
-        requires { length self.now.owed < 2 ^ 32 }
         ensures { result ≡ is_owing self.now }
     {
-        self.owed.count() > 0
+        self.owed.any()
     }
 
     /// Whether it has no lease and no buffer in its hand.
     pub fn is_idle(&self) -> bool
-        requires { length self.now.owed < 2 ^ 32 }
         ensures { result ≡ is_idle self.now }
     {
         self.stock.next.is_none() && self.stray.is_none() && !self.is_owing()
