@@ -1,11 +1,10 @@
 -- What the virtualiser stands for after each call.
-use Rattle.std.proofs.Common.{◌≡◌, ◌≢◌, ◌⊎◌, ◌+◌, ◌*◌, ◌-◌, ◌/◌, ◌==◌, ◌<◌, ◌≤◌, ◌^◌, ◌&&◌, ℕ, zero, suc, Bool, true, false, nat_lt, not, inl, inr, Option, Some, None, is_some, is_none, IsSome, List, [], ◌∷◌, ◌++◌, All, length, map, reverse, slice_get, slice_set, slice_index_or, refl, sym, ap, ◌∙◌, subst, append_assoc, add-zero, eq-eqb, ne_eqb, arith}
+use Rattle.std.proofs.Common.{◌≡◌, ◌⊎◌, ◌+◌, ◌*◌, ◌-◌, ◌/◌, ◌==◌, ◌<◌, ◌^◌, ◌&&◌, ℕ, zero, suc, Bool, true, false, nat_lt, not, inl, inr, Option, Some, None, is_some, is_none, IsSome, List, [], ◌∷◌, ◌++◌, length, map, reverse, slice_get, slice_set, slice_index_or, refl, sym, ap, ◌∙◌, subst, append_assoc, eq-eqb, ne_eqb, arith}
 use Rattle.std.specs.Option.{option_to_list}
 use Rattle.std.proofs.Math.Nat.{mul-div_cancel}
-use Rattle.std.proofs.lemmas.Bool.{and_from, lt-ltb, ltb-true, cases_eq}
+use Rattle.std.proofs.lemmas.Bool.{and_from, lt-ltb, cases_eq}
 use Rattle.std.proofs.lemmas.Option.{slice_get-get_or, slice_get_within, get_or_from_slice_get}
-use Rattle.std.proofs.lemmas.List.{append-nil, length-append, length-map, length-reverse, length-set, get_or-set_same, get_or-set_other}
-use Rattle.std.proofs.lemmas.List.Elements.{All-nil, All-push}
+use Rattle.std.proofs.lemmas.List.{append-nil, length-append, length-map, length-reverse, length-set, get_or-set_other}
 use Rattle.cargo_core.specs.declared.item.PoolId.{PoolId}
 use Rattle.cargo_core.specs.declared.item.Item.{Item}
 use Rattle.cargo_core.specs.declared.item.Body.TheVariants as Carried
@@ -17,7 +16,7 @@ use Rattle.wire_core.specs.declared.names.QueueId.{QueueId}
 use Rattle.wire_core.specs.Bells.{bit}
 use Rattle.wire_core.specs.declared.names.Event.{Event}
 use Rattle.wire_core.specs.Deeds.{Cargo, given, put_of}
-use Rattle.wire_core.specs.Lists.{Lists, Passed, with, if_there, nothing_passed}
+use Rattle.wire_core.specs.Lists.{Lists, Passed, with, if_there}
 use Rattle.wire_core.proofs.Places.{if_there_here}
 use Rattle.turn_kit.specs.Hands.{bodies_of, bodies_at}
 use Rattle.turn_kit.specs.ManyEnds.{AreApart}
@@ -31,11 +30,11 @@ use Rattle.buffer_kit.specs.Virtualising.{SameVirt, from_queues, to_queues}
 use Rattle.buffer_kit.proofs.Counts.{stock_count}
 use Rattle.buffer_kit.proofs.Passing.{none_more, beside, count_more, first_more, later_more}
 use Rattle.net_virt_rx.specs.declared.sharer.Sharer.{Sharer}
-use Rattle.net_virt_rx.specs.Sharing.{IsSharer, IsLoan, Owes, SameSharer, SharerStands, ClientStands, IsBuffer, IsFrameInTurn, IsLeaseInTurn, named, number_of, leases_for, lease_entry, is_back, is_returned, is_due_back, returned, IsDueBack, is_out, is_idle, is_owing, how_many, owed_to, owed_lease, sharer_hand, sharer_bodies, lent_bodies, with_more}
+use Rattle.net_virt_rx.specs.Sharing.{IsSharer, SameSharer, SharerStands, ClientStands, IsFrameInTurn, IsLeaseInTurn, named, is_back, is_returned, is_due_back, returned, IsDueBack, is_out, is_idle, is_owing, how_many, owed_to, owed_lease, sharer_hand, sharer_bodies, lent_bodies, with_more}
 use Rattle.net_virt_rx.specs.Receiving.{RxStands, IsOutOfTurn, queue_at}
 use Rattle.net_virt_rx.proofs.Marking.{one_less}
 use Rattle.net_virt_rx.proofs.Standing.{as_lists, gives}
-use Rattle.net_virt_rx.proofs.Working.{no_stray, no_list, owing_not}
+use Rattle.net_virt_rx.proofs.Working.{no_stray, no_list}
 
 some_eq : {X : Type 0} {a b : X} → Some a ≡ Some b → a ≡ b
 some_eq h = cc

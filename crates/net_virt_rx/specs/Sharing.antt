@@ -1,7 +1,7 @@
 -- What a receiving virtualiser has in its hand and has lent, and how it stands for the frames that
 -- came, the buffers that it gave and the leases that went to each client and came back.
-use Rattle.std.specs.Prelude.{◌≡◌, ◌+◌, ◌-◌, ◌*◌, ◌/◌, ◌<◌, ◌≤◌, ◌^◌, ◌==◌, ◌&&◌, ℕ, zero, suc, Bool}
-use Rattle.std.specs.Prelude.{true, false, if◌then◌else◌, not, nat_lt, is_some, is_none, Option}
+use Rattle.std.specs.Prelude.{◌≡◌, ◌+◌, ◌-◌, ◌*◌, ◌/◌, ◌<◌, ◌≤◌, ◌^◌, ◌==◌, ◌&&◌, ℕ, zero, suc}
+use Rattle.std.specs.Prelude.{Bool, true, false, if◌then◌else◌, not, nat_lt, is_some, is_none, Option}
 use Rattle.std.specs.Prelude.{Some, None, List, [], ◌∷◌, ◌++◌, All, length, map, flat_map, take}
 use Rattle.std.specs.Prelude.{slice_get, slice_index_or}
 use Rattle.std.specs.List.{filter}

@@ -1,5 +1,5 @@
 //! What a receiving virtualiser has in its hand, and what it has lent.
-ghost use Rattle.std.specs.Prelude.{◌≡◌, ◌+◌, ◌*◌, ◌/◌, ◌<◌, ◌≤◌, ◌^◌, ◌++◌, ◌∷◌, [], ℕ, None, Some};
+ghost use Rattle.std.specs.Prelude.{◌≡◌, ◌+◌, ◌*◌, ◌<◌, ◌≤◌, ◌^◌, ◌++◌, ◌∷◌, [], ℕ, None, Some};
 ghost use Rattle.std.specs.Prelude.{true, false, List, IfOk, OnOk, OnErr, IsSome, is_some, length};
 ghost use Rattle.std.specs.Prelude.{map, replicate, slice_get, slice_index_or, slice_set};
 ghost use Rattle.std.specs.Option.{ForSome, option_map};
@@ -12,9 +12,8 @@ ghost use Rattle.buffer_kit.specs.Entries.{addr_of};
 ghost use Rattle.buffer_kit.specs.Pools.{ArePool, given_entry};
 ghost use Rattle.net_virt_rx.specs.Sharing.{IsSharer, IsNewSharer, SameSharer, SharerStands};
 ghost use Rattle.net_virt_rx.specs.Sharing.{how_many, is_owing, is_idle, is_back, is_returned};
-ghost use Rattle.net_virt_rx.specs.Sharing.{due_back, returned};
-ghost use Rattle.net_virt_rx.specs.Sharing.{is_out, owed_lease, sharer_hand, sharer_bodies};
-ghost use Rattle.net_virt_rx.specs.Sharing.{with_more, lent_many};
+ghost use Rattle.net_virt_rx.specs.Sharing.{due_back, returned, is_out, owed_lease, sharer_hand};
+ghost use Rattle.net_virt_rx.specs.Sharing.{sharer_bodies, with_more, lent_many};
 
 use crate::Receivers;
 use buffer_kit::{Stock, address, frame, told_length};
