@@ -12,6 +12,6 @@ loop-actor-preserved c =
       split = append_assoc c.loop-actor.yielded (c.in-Some.actor ∷ []) _ ∙ (sym (ap (λ (l : List Actor). c.loop-actor.yielded ++ l) step.0) ∙ was.split);
       len = let a = ap length step.0 in let b = step.1 in let d = was.len in omega (arith, a, b, d);
       each = subst (AllZip IsAlone (c.loop-actor.yielded ++ c.in-Some.actor ∷ [])) (sym c.in_ok-push.ensures.items)
-          (all_zipped_more IsAlone c.loop-actor.yielded c.loop-actor.parts.items c.in-Some.actor (c.forget.new.self, c.new.result, c.new-in-loop-actor.result) was.each
+          (all_zipped_more IsAlone c.loop-actor.yielded c.loop-actor.parts.items c.in-Some.actor (c.new.result, c.new-2.result, c.new-3.result) was.each
           (record { forgotten = record { forgot = c.forget.ensures.after; part = c.forget.ensures.part; fits = c.forget.ensures.fits; stands = c.forget.ensures.lists }; no_producer = c.new.ensures.items; no_consumer = c.new-in-loop-actor.ensures.items }));
     }

@@ -1,0 +1,1 @@
+use Rattle.pd_runner.proofs.run.first_want.Goals as goal
