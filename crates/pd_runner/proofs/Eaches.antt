@@ -1,5 +1,5 @@
 -- Lists side by side.
-use Rattle.std.proofs.Common.{◌≡◌, ◌∙◌, ◌⊎◌, ◌+◌, refl, List, [], ◌∷◌, ◌++◌, append_assoc, ap, sym, subst, inl, inr, ℕ, zero, suc, ◌<◌, length, get_or, arith, Result, Ok, Err, IfOk, Some, slice_get}
+use Rattle.std.proofs.Common.{◌≡◌, ◌∙◌, ◌⊎◌, ⊎_elim, ◌+◌, refl, List, [], ◌∷◌, ◌++◌, append_assoc, ap, sym, subst, inl, inr, ℕ, zero, suc, ◌<◌, length, get_or, arith, Result, Ok, Err, IfOk, Some, slice_get}
 use Rattle.std.proofs.lemmas.Option.{slice_get_read}
 use Rattle.play_core.proofs.Lists.{some_is}
 use Rattle.pd_runner.specs.Each.{Each, Every, AnyOf}
@@ -60,7 +60,10 @@ pub up_to : {X : Type 0} (P : X → Type 0) (xs : List X) (i : ℕ) (x : X) → 
 up_to P xs i x is below before here n y lt at = by (lt_or_is n i lt)
   where
     lt_or_is : (n i : ℕ) → n < i + 1 → (n < i) ⊎ (n ≡ i)
-    lt_or_is n i lt = search (arith)
+    lt_or_is zero zero lt = inr refl
+    lt_or_is zero (suc i) lt = inl (omega arith)
+    lt_or_is (suc n) zero lt = absurd (omega (arith, lt))
+    lt_or_is (suc n) (suc i) lt = ⊎_elim (λ h. inl (omega (arith, h))) (λ h. inr (ap suc h)) (lt_or_is n i (omega (arith, lt)))
 
     by : (n < i) ⊎ (n ≡ i) → P y
     by (inl less) = before n y less at

@@ -25,7 +25,7 @@ fn each_alone(alloc: Global, actors: Vec<Actor>) -> Result<Vec<Part>, Memory>
     let mut parts = Vec::with_capacity(alloc, actors.len())?;
     for mut actor in actors {
         actor.forget();
-        parts.push((Worker::new(actor), Vec::new(alloc), Vec::new(alloc)))?;
+        parts.push((Worker::alone(actor), Vec::new(alloc), Vec::new(alloc)))?;
     }
     Ok(parts)
 }

@@ -23,7 +23,7 @@ pub struct Worker {
 
 impl Worker {
     // None of its steps was made yet.
-    pub(crate) fn new(actor: Actor) -> Worker
+    pub(crate) fn alone(actor: Actor) -> Worker
         ensures actor { result.actor ≡ actor }
         ensures wanted { result.wanted ≡ None }
     {
@@ -35,7 +35,7 @@ impl Worker {
 
     // The actor goes back to a system.
     pub(crate) fn into_actor(self) -> Actor
-        ensures { result ≡ self.entry.actor }
+        ensures { result ≡ self.actor }
     {
         let Worker { actor, wanted: _ } = self;
         actor
