@@ -1,5 +1,6 @@
 -- Lists side by side.
-use Rattle.std.proofs.Common.{◌≡◌, ◌∙◌, ◌⊎◌, ⊎_elim, ◌+◌, refl, List, [], ◌∷◌, ◌++◌, append_assoc, ap, sym, subst, inl, inr, ℕ, zero, suc, ◌<◌, length, get_or, arith, Result, Ok, Err, IfOk, Some, slice_get}
+use Rattle.std.proofs.Common.{◌≡◌, ◌∙◌, ◌⊎◌, ⊎_elim, ◌+◌, refl, List, [], ◌∷◌, ◌++◌, append_assoc, ap, sym, subst, inl, inr, ℕ, zero, suc, ◌<◌, length, get_or, arith, Result, Ok, Err, IfOk, Option, Some, None, slice_get}
+use Rattle.std.specs.Prelude.{IfNone}
 use Rattle.std.proofs.lemmas.Option.{slice_get_read}
 use Rattle.play_core.proofs.Lists.{some_is}
 use Rattle.pd_runner.specs.Each.{Each, Every, AnyOf}
@@ -68,3 +69,7 @@ up_to P xs i x is below before here n y lt at = by (lt_or_is n i lt)
     by : (n < i) ⊎ (n ≡ i) → P y
     by (inl less) = before n y less at
     by (inr same) = subst P (some_is (sym (slice_get_read xs (length xs) i x refl below is) ∙ (ap (slice_get xs) (sym same) ∙ at))) here
+
+pub none_then : {V : Type 0} (P : Type 0) (r : Option V) → IfNone r P → r ≡ None → P
+none_then P None h is = h
+none_then P (Some v) h is = cc

@@ -107,7 +107,7 @@ pub all_whole : (rows : List QueueRow) (rings : List RingIs) (parts : List Kept)
 all_whole rows rings parts apart whole = every_of (λ (k : Kept). IsWhole k.0.actor) parts (λ n k at. whole (apart_end (apart_of k)) k.0.actor (apart.stand n (apart_of k) (map_get apart_of parts n k at)).fits)
 
 -- where no step is made each came to be what it was
-nones : ℕ → List (Option EndIs)
+abbrev nones : ℕ → List (Option EndIs)
 nones zero = []
 nones (suc n) = None ∷ nones n
 
@@ -121,10 +121,10 @@ nones_none (suc n) zero = refl
 nones_none (suc n) (suc k) = nones_none n k
 
 module _ (rings : List RingIs) (limit : ℕ) (k : Kept) (apart : IsApart rings k) where
-  places : Role → List (Option EndIs)
+  abbrev places : Role → List (Option EndIs)
   places r = placed (ends_at (apart_of k) r) (nones (length rings))
 
-  sitting : SeatsAre
+  abbrev sitting : SeatsAre
   sitting = record { rings = rings; producers = places Producer; consumers = places Consumer }
 
   sat_at : (r : Role) (n : ℕ) → stands_at (ends_of sitting r) n ≡ end_in (ends_at (apart_of k) r) n

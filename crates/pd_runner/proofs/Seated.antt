@@ -23,7 +23,7 @@ module _ (rings : List RingIs) (k : Kept) (apart : IsApart rings k) where
   pub ends_within : (r : Role) → AreWithin (length rings) (ends_at (apart_of k) r)
   ends_within r i x at = let on = apart.on r i x at in get_within rings x.0.0 on.0 on.1
 
-  stands_there : (r : Role) (places : List (Option EndIs)) → ArePlaced (length rings) (ends_at (apart_of k) r) places → (n : ℕ) → stands_at places n ≡ end_in (ends_at (apart_of k) r) n
+  pub stands_there : (r : Role) (places : List (Option EndIs)) → ArePlaced (length rings) (ends_at (apart_of k) r) places → (n : ℕ) → stands_at places n ≡ end_in (ends_at (apart_of k) r) n
   stands_there r places put n = ap (λ l. stands_at l n) put.3 ∙ stands_placed (ends_at (apart_of k) r) put.0 n (subst (λ many. AreWithin many (ends_at (apart_of k) r)) (sym put.2) (ends_within r)) (λ i j x y at there same. apart.once r i j x y at there same) put.1
 
   few_places : length rings ≤ 65536 → (ends : List (QueueId × EndIs)) (places : List (Option EndIs)) → ArePlaced (length rings) ends places → length places ≤ 65536

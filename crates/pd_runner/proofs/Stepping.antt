@@ -48,10 +48,12 @@ at_work_on a s [] b t c g h busy = (ap actor_rests (sym g.0) ∙ busy, tt)
 at_work_on a s (d ∷ cs) b t c g h busy = (h.0, at_work_on d.actor d.seats cs b t c g.1 h.1 busy)
 
 pub worked_none : (a : Actor) (s t : SeatsAre) → t ≡ s → Sits a s → Worked a s 0 a t
+unfolding comes_none
 worked_none a s t is h = subst (λ (z : SeatsAre). Worked a s 0 a z) (sym is) (record { comes = comes_none a s h; at_work = tt })
 
 pub worked_on : (a : Actor) (s : SeatsAre) (n : ℕ) (b : Actor) (t : SeatsAre) (c : Actor) (u : SeatsAre) (e : Event)
     → Worked a s n b t → FitsActor (seat_end u) c → part_of c ≡ part_of b → Stepped ActorStandsFor SeatDid t u b c e → ActorEnd b (role_of e.op) e.queue.0 → (actor_rests b ≡ true → is_waiting e.op ≡ true) → actor_rests b ≡ false → Worked a s (n + 1) c u
+unfolding comes_on
 worked_on a s n b t c u e h fits same st own due busy = record {
   comes = comes_on a s n b t c u e h.comes fits same st own due;
   at_work = at_work_on a s h.comes.calls b t (record { deed = record { event = e; body = st.body }; actor = c; seats = u }) h.comes.goes h.at_work busy;
@@ -81,6 +83,7 @@ module _ (rings : List RingIs) (old : Part) (n : ℕ) (new : Part) (s : SeatsAre
   came_of h = came_there h.went.rings (subst (λ (z : SeatsAre). Comes old.worker.actor (part_seats rings old) n new.worker.actor z) (there_is h.went.rings) h)
 
   pub worked_of : Worked old.worker.actor (part_seats rings old) n new.worker.actor s → CameAtWork rings old n new
+  unfolding came_there
   worked_of h =
       let there : Worked old.worker.actor (part_seats rings old) n new.worker.actor (part_seats rings new) = subst (λ (z : SeatsAre). Worked old.worker.actor (part_seats rings old) n new.worker.actor z) (there_is h.comes.went.rings) h in
       record { came = came_there h.comes.went.rings there.comes; at_work = there.at_work }

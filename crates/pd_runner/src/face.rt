@@ -186,8 +186,8 @@ fn run_apart<R: Threads + Wait + Sync, G: Gate + Sync>(
 /// and at the same queues. What each of them took and sent begins with what it had taken and sent.
 /// At rest an actor only looked for a notification, or waived one. Every actor is at rest, or the
 /// ends of one made at least `limit` word steps in this call. Where all rest at the start, no step
-/// is made, and the parts come back as they are. It may wait, so that it returns isn't promised. Err
-/// is the answer where a step of any actor wanted memory, or the run itself did.
+/// is made, and the parts come back as they are. It may wait, so that it returns isn't promised.
+/// Err is the answer where a step of any actor wanted memory, or the run itself did.
 pub fn run_threads<R: Threads + Wait + Sync, G: Gate + Sync>(
     rt: &R,
     alloc: Global,

@@ -200,10 +200,7 @@ fn settle_all<G: Gate>(
     let mut all = Vec::new(alloc);
     let mut me: u16 = 0;
     for ran in rans {
-        let Ran {
-            part,
-            made,
-        } = ran;
+        let Ran { part, made } = ran;
         let (part, _) = settle(rings, gate, me, part, made, limit, stop)?;
         all.push(part)?;
         me = me.wrapping_add(1);

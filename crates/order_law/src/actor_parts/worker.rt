@@ -12,9 +12,9 @@ use actor_set::laws::turn_law;
 use cargo_core::Memory;
 use wire_core::{Event, Wires};
 
-/// An actor at work apart from its system. It is stepped by its own call alone, which keeps the want
-/// of memory that a step met; nothing takes that back. It is made where a system is taken apart, and
-/// lets its actor go where the rings come to their end.
+/// An actor at work apart from its system. It is stepped by its own call alone, which keeps the
+/// want of memory that a step met; nothing takes that back. It is made where a system is taken
+/// apart, and lets its actor go where the rings come to their end.
 #[derive(Drop)]
 pub struct Worker {
     pub(crate) actor: Actor,
