@@ -2,3 +2,4 @@ pub mod Texts
 pub mod Lines
 pub mod Generated
 pub mod Example
+pub mod Kept

@@ -1,8 +1,9 @@
 //! Laws of the workload: what its description spells, and that its traces are traces.
-ghost use Rattle.std.specs.Prelude.{◌≡◌, ℕ, Some};
+ghost use Rattle.std.specs.Prelude.{ℕ};
 ghost use Rattle.sdf_model.specs.Spelled.{plan_of};
+ghost use Rattle.sdf_model.specs.Tree.{IsDocument, BreaksText, places_of};
+ghost use Rattle.sdf_plan.specs.Places.{KeepsRules};
 ghost use Rattle.toml.specs.Data.{Members};
-ghost use Rattle.toml.specs.Parse.{parse_document};
 ghost use Rattle.trace_text.specs.Traces.{HasNoBadLine};
 ghost use Rattle.workload.specs.declared.description.TheConstants.{FULL_EXAMPLE};
 ghost use Rattle.workload.specs.Generated.{generated_text};
@@ -10,10 +11,12 @@ ghost use Rattle.workload_law.specs.Clients.{HasClients};
 
 use sdf_plan::Plan;
 
-/// The full example is a document, whose plan has the clients that the generated traces are for.
-pub fn clients_law()
-    ensures { (root : Members) × (parse_document FULL_EXAMPLE.now ≡ Some root)
-        × HasClients (plan_of root) }
+/// The full example keeps the rules on texts: it is a document, and no element of it has a key that
+/// isn't known, lacks one that it must have, or has a value that isn't of its key's kind. The plan
+/// that it spells has the clients that the generated traces are for.
+pub fn example_law()
+    ensures document { (root : Members) × IsDocument FULL_EXAMPLE.now root × HasClients (plan_of root) }
+    ensures kept { KeepsRules (BreaksText FULL_EXAMPLE.now) (places_of FULL_EXAMPLE.now) 1 4 }
 {}
 
 /// Whatever the number, no line of the generated trace is bad for a plan with such clients.

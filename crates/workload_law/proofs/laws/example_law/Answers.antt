@@ -1,0 +1,9 @@
+use Rattle.workload_law.proofs.Example.{root, full_clients}
+use Rattle.workload_law.proofs.Kept.{is_document, rules_kept}
+use Rattle.workload_law.proofs.laws.example_law.Goals as goal
+
+pub returns-clause-document : goal.returns-clause-document
+returns-clause-document c = (root, is_document, full_clients)
+
+pub returns-clause-kept : goal.returns-clause-kept
+returns-clause-kept c = rules_kept
