@@ -1,5 +1,5 @@
 -- The document that the full example is.
-use Rattle.std.proofs.Common.{◌≡◌, refl, sym, ap, inl, inr, arith, drop, ◌∙◌, ℕ, zero, suc, ◌==◌, false, List, [], ◌∷◌, ◌++◌, true, Option, Some, option_map, length, codes, pos}
+use Rattle.std.proofs.Common.{◌≡◌, ◌≤◌, refl, sym, ap, inl, inr, arith, drop, ◌∙◌, ℕ, zero, suc, ◌==◌, false, List, [], ◌∷◌, ◌++◌, true, Option, Some, option_map, length, codes, pos}
 use Rattle.std.specs.Prelude.{⊤}
 use Rattle.std.proofs.lemmas.Bool.{cases_Bool, eqb-true}
 use Rattle.toml_parser.specs.Strings.{Key}
@@ -8,6 +8,7 @@ use Rattle.toml.specs.Data.{Data, Items, no_items, item, push_item, Members, no_
 use Rattle.toml.specs.Tables.{Nodes, no_nodes, node, value, open_table, header, Document, Expression, key_value, define, close}
 use Rattle.toml.specs.Parse.{read_map, ends_line, val, items, expression, line, lines, skip_bom, parse_document}
 use Rattle.toml.proofs.OnLiterals.{toml_on_literals}
+use Rattle.sdf_model.specs.Counts.{text_most}
 use Rattle.sdf_model.specs.Spelled.{plan_of}
 use Rattle.trace_text.specs.Events.{is_source, is_speaker, is_blk_client}
 use Rattle.workload.specs.declared.description.TheConstants.{FULL_EXAMPLE}
@@ -297,3 +298,6 @@ full_clients = record {
 unfoldable pub whole_example : ⊤
 unfolding root regions channels net_table serial_table blk_table domains domain_0 domain_1 domain_2 domain_3 domain_4 domain_5 domain_6 domain_7 domain_8 domain_9 domain_10 domain_11 domain_12 domain_13 domain_14 domain_15
 whole_example = tt
+
+pub full_short : length FULL_EXAMPLE.now ≤ text_most
+full_short = let long = full_length in omega (arith, long)

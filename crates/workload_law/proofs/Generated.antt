@@ -4,7 +4,9 @@ use Rattle.std.specs.Fmt.{decimal, digits}
 use Rattle.std.proofs.lemmas.Bool.{le-leb, cases_lt}
 use Rattle.std.proofs.lemmas.List.{length-replicate}
 use Rattle.cargo_core.specs.declared.item.Code.TheVariants as Asked
-use Rattle.hex.specs.Hex.{IsBytes, encode_lower, decode_pairs}
+use Rattle.hex.specs.Hex.{IsBytes, encode_lower, decode_pairs, lower_digits}
+use Rattle.hex.proofs.HexLemmas.{length-encode_with}
+use Rattle.sdf_model.specs.Counts.{text_most}
 use Rattle.frame_core.specs.Frames.{is_frame_of, broadcast}
 use Rattle.sdf_plan.specs.declared.plan.Plan.{Plan}
 use Rattle.trace_text.specs.Texts.{words_of, number_of, piece_of, data_of}
@@ -16,7 +18,7 @@ use Rattle.trace_text.proofs.SoFar.{so_far_none, so_far_good}
 use Rattle.wire_core.specs.Picks.{next_seed}
 use Rattle.trace_text.proofs.Forms.{write_ask, not_equal}
 use Rattle.trace_text.proofs.Words.{meaning_words, two_rx, two_in, two_disk, three_send, three_say, three_bytes, five_read, six_write}
-use Rattle.workload.specs.Draws.{drawn, drawn_behind}
+use Rattle.workload.specs.Draws.{moved, drawn, drawn_behind}
 use Rattle.workload.specs.Lines.{station, frame, destination, rx_line, send_line, letters, in_line, say_line, disk_lines, write_line, read_line, blk_lines}
 use Rattle.workload.specs.Generated.{numbered, generated_text}
 use Rattle.workload_law.specs.Clients.{HasClients}
@@ -384,3 +386,80 @@ generated_good plan n has =
     let at_5 = disk_next plan text has.blk last f (0 + 2051 + 512) 0 0 at_4 in
     let at_6 = asks_all plan text has f (0 + 2051 + 512) 1 32768 asks 0 [] 0 (omega (arith, many_2)) (omega (arith, many_2)) at_5 in
     finish plan text f (0 + 2051 + 512) (0 + 3 * length asks) 32768 at_6
+
+-- ---- the length of the trace
+
+rx_long : (i draw : ℕ) → length (rx_line i draw) ≤ 200
+unfolding rx_line
+rx_long i draw =
+    let bytes = frame (destination i) (station 0x99) (draw % 64) i in
+    let long : length bytes ≡ 14 + draw % 64 = frame_long (destination i) (station 0x99) (draw % 64) i (destination_long i) refl in
+    omega (arith, long, length-append (encode_lower bytes) (codes "\n"), length-encode_with lower_digits bytes)
+
+send_long : (i draw : ℕ) → length (send_line i draw) ≤ 200
+unfolding send_line
+send_long i draw =
+    let bytes = frame (station 0x99) (station 1) (draw % 64) i in
+    let long : length bytes ≡ 14 + draw % 64 = frame_long (station 0x99) (station 1) (draw % 64) i refl refl in
+    omega (arith, long, length-append (encode_lower bytes) (codes "\n"), length-encode_with lower_digits bytes)
+
+low_long : (block : ℕ) → IsLow block → length (decimal block) ≡ 1
+unfolding digits
+low_long block (inl e) = rw e refl
+low_long block (inr e) = rw e refl
+
+write_long : (block value : ℕ) → IsLow block → length (write_line block value) ≤ 50
+unfolding write_line
+write_long block value low =
+    let fill = encode_lower (value ∷ []) in
+    let word = decimal block in
+    omega (arith, low_long block low, length-append word (codes " 1 4096*" ++ (fill ++ codes "\n")), length-append fill (codes "\n"), length-encode_with lower_digits (value ∷ []))
+
+read_long : (block : ℕ) → IsLow block → length (read_line block) ≤ 50
+unfolding read_line
+read_long block low = let word = decimal block in omega (arith, low_long block low, length-append word (codes " 1\n"))
+
+asks_long : (i draw : ℕ) → length (blk_lines i draw) ≤ 200
+unfolding blk_lines
+asks_long i draw =
+    let block = draw % 2 in
+    let other = codes "blk 1 read 0 1\n" in
+    omega (arith, write_long block i (low_block draw), read_long block (low_block draw), length-append (write_line block i) (read_line block ++ other), length-append (read_line block) other)
+
+numbered_long : (line : ℕ → ℕ → List ℕ) → ((i draw : ℕ) → length (line i draw) ≤ 200) → (i : ℕ) (draws : List ℕ) → length (numbered line i draws) ≤ 200 * length draws
+unfolding numbered
+numbered_long line long i [] = omega arith
+numbered_long line long i (x ∷ xs) = omega (arith, long i x, numbered_long line long (i + 1) xs, length-append (line i x) (numbered line (i + 1) xs))
+
+in_long : (draws more : List ℕ) → length draws ≡ 1024 → length more ≡ 1024 → length (in_line draws more) ≤ 5000
+unfolding in_line
+in_long draws more first second =
+    let bytes = letters draws ++ 28 ∷ 49 ∷ 13 ∷ letters more in
+    let long : length bytes ≡ 2051 = omega (arith, length-append (letters draws) (28 ∷ 49 ∷ 13 ∷ letters more), letters_long draws, letters_long more, first, second) in
+    omega (arith, long, length-append (encode_lower bytes) (codes "\n"), length-encode_with lower_digits bytes)
+
+say_long : (draws : List ℕ) → length draws ≡ 512 → length (say_line draws) ≤ 5000
+unfolding say_line
+say_long draws many =
+    let long : length (letters draws) ≡ 512 = letters_long draws ∙ many in
+    omega (arith, long, length-append (encode_lower (letters draws)) (codes "\n"), length-encode_with lower_digits (letters draws))
+
+disk_long : length disk_lines ≤ 200
+unfolding disk_lines
+disk_long = omega arith
+
+pub generated_short : (n : ℕ) → length (generated_text n) ≤ text_most
+unfolding generated_text
+generated_short n =
+    let frames = drawn_behind 0 n 256 in
+    let sends = drawn_behind 256 n 32 in
+    let input = drawn_behind 288 n 1024 in
+    let more = drawn_behind 1312 n 1024 in
+    let said = drawn_behind 2336 n 512 in
+    let asks = drawn_behind 2848 n 32 in
+    let last = numbered blk_lines 0 asks in
+    omega (arith, numbered_long rx_line rx_long 0 frames, numbered_long send_line send_long 0 sends, numbered_long blk_lines asks_long 0 asks, drawn_long (moved n 0) 256, drawn_long (moved n 256) 32, drawn_long (moved n 2848) 32,
+    in_long input more (drawn_long (moved n 288) 1024) (drawn_long (moved n 1312) 1024), say_long said (drawn_long (moved n 2336) 512), disk_long,
+    length-append (numbered rx_line 0 frames) (numbered send_line 0 sends ++ (in_line input more ++ (say_line said ++ (disk_lines ++ last)))),
+    length-append (numbered send_line 0 sends) (in_line input more ++ (say_line said ++ (disk_lines ++ last))),
+    length-append (in_line input more) (say_line said ++ (disk_lines ++ last)), length-append (say_line said) (disk_lines ++ last), length-append disk_lines last)

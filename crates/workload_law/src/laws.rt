@@ -1,5 +1,6 @@
 //! Laws of the workload: what its description spells, and that its traces are traces.
-ghost use Rattle.std.specs.Prelude.{ℕ};
+ghost use Rattle.std.specs.Prelude.{◌≤◌, ℕ, length};
+ghost use Rattle.sdf_model.specs.Counts.{text_most};
 ghost use Rattle.sdf_model.specs.Spelled.{plan_of};
 ghost use Rattle.sdf_model.specs.Tree.{IsDocument, BreaksText, places_of};
 ghost use Rattle.sdf_plan.specs.Places.{KeepsRules};
@@ -16,10 +17,14 @@ use sdf_plan::Plan;
 /// that it spells has the clients that the generated traces are for.
 pub fn example_law()
     ensures document { (root : Members) × IsDocument FULL_EXAMPLE.now root × HasClients (plan_of root) }
+    ensures short { length FULL_EXAMPLE.now ≤ text_most }
     ensures kept { KeepsRules (BreaksText FULL_EXAMPLE.now) (places_of FULL_EXAMPLE.now) 1 4 }
 {}
 
-/// Whatever the number, no line of the generated trace is bad for a plan with such clients.
-pub fn lines_law()
-    ensures { (plan : Plan) (n : ℕ) → HasClients plan → HasNoBadLine plan (generated_text n) }
+/// Whatever the number, no line of the generated trace is bad for a plan with such clients, and the
+/// trace isn't too long.
+pub fn trace_law()
+    ensures lines { (plan : Plan) (n : ℕ) → HasClients plan
+        → HasNoBadLine plan (generated_text n) }
+    ensures short { (n : ℕ) → length (generated_text n) ≤ text_most }
 {}

@@ -4,4 +4,4 @@
 
 mod laws;
 
-pub use laws::{example_law, lines_law};
+pub use laws::{example_law, trace_law};

@@ -1,4 +1,4 @@
-use Rattle.workload_law.proofs.Example.{root, full_clients}
+use Rattle.workload_law.proofs.Example.{root, full_clients, full_short}
 use Rattle.workload_law.proofs.Kept.{is_document, rules_kept}
 use Rattle.workload_law.proofs.laws.example_law.Goals as goal
 
@@ -7,3 +7,6 @@ returns-clause-document c = (root, is_document, full_clients)
 
 pub returns-clause-kept : goal.returns-clause-kept
 returns-clause-kept c = rules_kept
+
+pub returns-clause-short : goal.returns-clause-short
+returns-clause-short c = full_short
