@@ -3,3 +3,5 @@ pub mod Lines
 pub mod Generated
 pub mod Example
 pub mod Kept
+pub mod Refuting
+pub mod Ruled
