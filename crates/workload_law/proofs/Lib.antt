@@ -5,3 +5,4 @@ pub mod Example
 pub mod Kept
 pub mod Refuting
 pub mod Ruled
+pub mod Accepted

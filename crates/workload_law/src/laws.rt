@@ -1,5 +1,6 @@
 //! Laws of the workload: what its description spells, and that its traces are traces.
 ghost use Rattle.std.specs.Prelude.{◌≤◌, ℕ, length};
+ghost use Rattle.sdf_check.specs.Valid.{Valid};
 ghost use Rattle.sdf_model.specs.Counts.{text_most};
 ghost use Rattle.sdf_model.specs.Spelled.{plan_of};
 ghost use Rattle.sdf_model.specs.Tree.{IsDocument, BreaksText, places_of};
@@ -12,13 +13,14 @@ ghost use Rattle.workload_law.specs.Clients.{HasClients};
 
 use sdf_plan::Plan;
 
-/// The full example keeps the rules on texts: it is a document, and no element of it has a key that
-/// isn't known, lacks one that it must have, or has a value that isn't of its key's kind. The plan
-/// that it spells has the clients that the generated traces are for.
+/// The full example is a description: it is a document, it isn't too long, and it keeps the rules
+/// on texts; the plan that it spells keeps the rules on plans, and has the clients that the generated
+/// traces are for.
 pub fn example_law()
-    ensures document { (root : Members) × IsDocument FULL_EXAMPLE.now root × HasClients (plan_of root) }
     ensures short { length FULL_EXAMPLE.now ≤ text_most }
     ensures kept { KeepsRules (BreaksText FULL_EXAMPLE.now) (places_of FULL_EXAMPLE.now) 1 4 }
+    ensures plan { (root : Members) × IsDocument FULL_EXAMPLE.now root × Valid (plan_of root)
+        × HasClients (plan_of root) }
 {}
 
 /// Whatever the number, no line of the generated trace is bad for a plan with such clients, and the

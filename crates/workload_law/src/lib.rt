@@ -1,5 +1,5 @@
-//! Laws of the workload: the full example has the clients for which its traces are generated, and
-//! no line of a generated trace is bad.
+//! Laws of the workload: the full example is a valid plan, and no line of a generated trace is bad
+//! for it.
 #![tactic(auto)]
 
 mod laws;
