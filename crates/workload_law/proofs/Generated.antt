@@ -238,7 +238,7 @@ unfolding in_line
 in_next plan text serial draws more rest f b a d l first second low at =
     let bytes = letters draws ++ 28 ∷ 49 ∷ 13 ∷ letters more in
     let is : IsBytes bytes = bytes_both (letters draws) (28 ∷ 49 ∷ 13 ∷ letters more) (letters_bytes draws)
-        (bytes_cons 28 (49 ∷ 13 ∷ letters more) (omega arith) (bytes_cons 49 (13 ∷ letters more) (omega arith) (bytes_cons 13 (letters more) (omega arith) (letters_bytes more)))) in
+    (bytes_cons 28 (49 ∷ 13 ∷ letters more) (omega arith) (bytes_cons 49 (13 ∷ letters more) (omega arith) (bytes_cons 13 (letters more) (omega arith) (letters_bytes more)))) in
     let long : length bytes ≡ 2051 = omega (arith, length-append (letters draws) (28 ∷ 49 ∷ 13 ∷ letters more), letters_long draws, letters_long more, first, second) in
     let whole = ap (λ rest'. codes "in " ++ rest') (append_assoc (encode_lower bytes) (codes "\n") rest) in
     weaken plan text rest f (b + length bytes) a f (b + 2051) a d l (omega arith) (omega (arith, long)) (omega arith)
@@ -458,8 +458,20 @@ generated_short n =
     let said = drawn_behind 2336 n 512 in
     let asks = drawn_behind 2848 n 32 in
     let last = numbered blk_lines 0 asks in
-    omega (arith, numbered_long rx_line rx_long 0 frames, numbered_long send_line send_long 0 sends, numbered_long blk_lines asks_long 0 asks, drawn_long (moved n 0) 256, drawn_long (moved n 256) 32, drawn_long (moved n 2848) 32,
-    in_long input more (drawn_long (moved n 288) 1024) (drawn_long (moved n 1312) 1024), say_long said (drawn_long (moved n 2336) 512), disk_long,
-    length-append (numbered rx_line 0 frames) (numbered send_line 0 sends ++ (in_line input more ++ (say_line said ++ (disk_lines ++ last)))),
-    length-append (numbered send_line 0 sends) (in_line input more ++ (say_line said ++ (disk_lines ++ last))),
-    length-append (in_line input more) (say_line said ++ (disk_lines ++ last)), length-append (say_line said) (disk_lines ++ last), length-append disk_lines last)
+    omega (
+      arith,
+      numbered_long rx_line rx_long 0 frames,
+      numbered_long send_line send_long 0 sends,
+      numbered_long blk_lines asks_long 0 asks,
+      drawn_long (moved n 0) 256,
+      drawn_long (moved n 256) 32,
+      drawn_long (moved n 2848) 32,
+      in_long input more (drawn_long (moved n 288) 1024) (drawn_long (moved n 1312) 1024),
+      say_long said (drawn_long (moved n 2336) 512),
+      disk_long,
+      length-append (numbered rx_line 0 frames) (numbered send_line 0 sends ++ (in_line input more ++ (say_line said ++ (disk_lines ++ last)))),
+      length-append (numbered send_line 0 sends) (in_line input more ++ (say_line said ++ (disk_lines ++ last))),
+      length-append (in_line input more) (say_line said ++ (disk_lines ++ last)),
+      length-append (say_line said) (disk_lines ++ last),
+      length-append disk_lines last,
+    )

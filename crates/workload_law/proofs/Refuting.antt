@@ -37,7 +37,7 @@ found_both f (Some a) None = None
 -- ---- connectives
 
 abbrev pub no_sum : {P Q : Type 0} → No P → No Q → No (P ⊎ Q)
-no_sum (Some p) (Some q) = Some (λ h. elim h [ | inl a ↦ p a | inr b ↦ q b ])
+no_sum (Some p) (Some q) = Some (λ h. elim h [ inl a ↦ p a | inr b ↦ q b ])
 no_sum None q = None
 no_sum (Some p) None = None
 

@@ -239,6 +239,7 @@ earlier_of plan channel at d id none (c, e, before, h) = none (c, of (slice_get 
     inner : (o : Option End) → IsSomeAnd o (λ other. (domain_named plan other.pd ≡ Some d) × (other.id ≡ id)) → IsSomeAnd o (EndHas plan channel at d id c e)
     inner None h = h
     inner (Some end) h = (before, h)
+
     of : (o : Option Channel) → IsSomeAnd o (λ (this : Channel). IsSomeAnd (slice_get this.end e) (λ other. (domain_named plan other.pd ≡ Some d) × (other.id ≡ id))) → IsSomeAnd o (ChannelHas plan channel at d id c)
     of None h = h
     of (Some this) h = (e, inner (slice_get this.end e) h)

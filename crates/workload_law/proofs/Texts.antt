@@ -116,7 +116,7 @@ data_block v h =
     let bytes = bytes_cons v [] h bytes_none in
     let digits = encode_lower (v ∷ []) in
     let cut : parts_of 42 (codes "4096*" ++ digits) ≡ codes "4096" ∷ digits ∷ [] =
-        slice_split_at (λ b. eqb b 42) (codes "4096") 42 digits (lacks 42 (codes "4096") refl) refl
-        ∙ ap (λ rest. codes "4096" ∷ rest) (slice_split_none (λ b. eqb b 42) digits (hex_lacks 42 refl (v ∷ []) bytes)) in
+    slice_split_at (λ b. eqb b 42) (codes "4096") 42 digits (lacks 42 (codes "4096") refl) refl
+    ∙ ap (λ rest. codes "4096" ∷ rest) (slice_split_none (λ b. eqb b 42) digits (hex_lacks 42 refl (v ∷ []) bytes)) in
     one_piece (codes "4096*" ++ digits) (replicate 4096 v) (lacks_both 44 (codes "4096*") digits (lacks 44 (codes "4096*") refl) (hex_lacks 44 refl (v ∷ []) bytes))
     (piece_two (codes "4096*" ++ digits) (codes "4096") digits cut ∙ repeated_gives (codes "4096") digits 4096 (v ∷ []) many_is (omega arith) (decode_sized-encode_lower (v ∷ []) 1 refl bytes))
