@@ -6,6 +6,7 @@ use Rattle.decision_core.specs.Decisions.{IsStatusOf, TextDecides, GeneratedDeci
 use Rattle.decision_core.specs.Decided.{decision_of}
 use Rattle.decision_core.specs.Readings.{read_none, read_no_text}
 use Rattle.decision_core.proofs.LastLemmas.{gen-unread}
+use Rattle.decision_core.proofs.GenLemmas.{gen-plays}
 use Rattle.decision_core.proofs.deciding.decide_words.Goals as goal
 
 pub returns-in_ok-decide_gen-in-Ok-Gen-clause-decides : goal.returns-in_ok-decide_gen-in-Ok-Gen-clause-decides
@@ -26,3 +27,8 @@ returns-in_ok-say_usage-in-Err-clause-decides g c =
 pub returns-in_ok-say_usage-in-Err-clause-last : goal.returns-in_ok-say_usage-in-Err-clause-last
 returns-in_ok-say_usage-in-Err-clause-last g c status e =
     read_none c.in-Err.k (subst (λ x. IsStatusOf x status) c.in_ok-say_usage-in-Err.ensures e) refl
+
+pub returns-in_ok-decide_gen-in-Ok-Gen-clause-plays : goal.returns-in_ok-decide_gen-in-Ok-Gen-clause-plays
+returns-in_ok-decide_gen-in-Ok-Gen-clause-plays g c n is =
+    let d = decision_of c.in_ok-decide_gen-in-Ok-Gen.field-0 in
+    gen-plays c.in-Ok-Gen.number d (subst (λ x. TextDecides (GeneratedDecides c.in-Ok-Gen.number) x d) c.as_bytes.ensures.value c.in_ok-decide_gen-in-Ok-Gen.ensures)
