@@ -13,6 +13,7 @@ ghost use Rattle.decision_core.specs.Judged.{IsAcceptedPlan};
 ghost use Rattle.decision_core.specs.Decided.{decision_of, OfEach};
 ghost use Rattle.decision_core.specs.Decisions.{Say, AsksFor, Decides, TextDecides, PlanDecides};
 ghost use Rattle.decision_core.specs.Decisions.{TraceDecides, GeneratedDecides, refuses, too_long};
+ghost use Rattle.decision_core.specs.Generating.{IsSummary};
 ghost use Rattle.shelf_core.specs.Reading.{WasRead};
 ghost use Rattle.decision_core.specs.Readings.{LeavesPlay, LeavesPlan, LeavesText, ReadLast};
 ghost use Rattle.decision_core.specs.Readings.{OpensTrace, OpensText, OpensInTurn};
@@ -287,6 +288,8 @@ pub fn decide_words<F: Shelf>(
     ensures command { result ≡ Err ReadStop.Failed
         → (command : Command) × Spells (texts_of words.now) command }
     ensures unread { (n : ℕ) → IsGen (texts_of words.now) n → shelf.new ≡ shelf.old }
+    ensures plays { (n : ℕ) → IsGen (texts_of words.now) n
+        → IfOk result (λ d. IsSummary (decision_of d)) }
 {
     match read_words(words) {
         Ok(Command::Gen(number)) => Ok(decide_gen(alloc, FULL_EXAMPLE.as_bytes(), number)?),
