@@ -118,7 +118,7 @@ play-or-run : (words : List (List ℕ)) (more less : List (List ℕ)) → words 
 play-or-run words more less e f = let g = sym e ∙ f in cc
 
 agrees-asked : (words : List (List ℕ)) (desc trace desc' trace' : List ℕ) (a b : Asked) → AsksFor words desc trace a → AsksFor words desc' trace' b → (plan : Plan) (t : Trace) → Agrees (asked_on plan t a) (asked_on plan t b)
-agrees-asked words desc trace desc' trace' _ _ (to_play o p) (to_play o' q) plan t = (refl, refl, ap Show.Report (same-options words desc trace desc' trace' o o' p q))
+agrees-asked words desc trace desc' trace' _ _ (to_play o p) (to_play o' q) plan t = (refl, refl, ap (λ (x : Options). Show.Report x) (same-options words desc trace desc' trace' o o' p q))
 agrees-asked words desc trace desc' trace' _ _ (to_play o p) (to_run n q) plan t = absurd (play-or-run words _ _ p.words_are q.words_are)
 agrees-asked words desc trace desc' trace' _ _ (to_run n p) (to_play o q) plan t = absurd (play-or-run words _ _ q.words_are p.words_are)
 agrees-asked words desc trace desc' trace' _ _ (to_run n p) (to_run n' q) plan t = (refl, refl, same-limit words desc trace desc' trace' n n' p q)
