@@ -8,7 +8,7 @@ ghost use Rattle.report_text.specs.Answers.{usage_text, accepted_text, bad_trace
 ghost use Rattle.report_text.specs.Layouts.{layout_text};
 ghost use Rattle.command_words.specs.Words.{texts_of, IsGen, Spells, last_name};
 ghost use Rattle.command_words.specs.declared.command.Command.{Command};
-ghost use Rattle.shelf_core.specs.Outside.{Rose, also_opened};
+ghost use Rattle.shelf_core.specs.Outside.{FailsLast, also_opened};
 ghost use Rattle.decision_core.specs.Judged.{IsAcceptedPlan};
 ghost use Rattle.decision_core.specs.Decided.{decision_of, OfEach};
 ghost use Rattle.decision_core.specs.Decisions.{Say, AsksFor, Decides, TextDecides, PlanDecides};
@@ -166,7 +166,8 @@ fn decide_named<F: Shelf>(
         (F.left shelf.old) (F.left shelf.new))) }
     ensures opens { F.opens shelf.new ≡ also_opened (F.opens shelf.old) trace.now }
     ensures calm { OnOk result (F.faults shelf.new ≡ F.faults shelf.old) }
-    ensures failed { result ≡ Err ReadStop.Failed → Rose (F.faults shelf.old) (F.faults shelf.new) }
+    ensures failed { result ≡ Err ReadStop.Failed → FailsLast (F.faults shelf.old)
+        (F.faults shelf.new) (F.failed shelf.new) }
     ensures starved { (memory : Memory) → result ≡ Err (ReadStop.Memory memory)
         → F.faults shelf.new ≡ F.faults shelf.old }
 {
@@ -192,7 +193,8 @@ fn decide_plan<F: Shelf>(
         (F.left shelf.old) (F.left shelf.new) (F.opens shelf.old) (F.opens shelf.new))) }
     ensures opens { OpensTrace (texts_of words.now) (F.opens shelf.old) (F.opens shelf.new) }
     ensures calm { OnOk result (F.faults shelf.new ≡ F.faults shelf.old) }
-    ensures failed { result ≡ Err ReadStop.Failed → Rose (F.faults shelf.old) (F.faults shelf.new) }
+    ensures failed { result ≡ Err ReadStop.Failed → FailsLast (F.faults shelf.old)
+        (F.faults shelf.new) (F.failed shelf.new) }
     ensures starved { (memory : Memory) → result ≡ Err (ReadStop.Memory memory)
         → F.faults shelf.new ≡ F.faults shelf.old }
 {
@@ -230,7 +232,8 @@ fn decide_text<F: Shelf>(
     ensures opens { OpensText (texts_of words.now) text.now (F.opens shelf.old)
         (F.opens shelf.new) }
     ensures calm { OnOk result (F.faults shelf.new ≡ F.faults shelf.old) }
-    ensures failed { result ≡ Err ReadStop.Failed → Rose (F.faults shelf.old) (F.faults shelf.new) }
+    ensures failed { result ≡ Err ReadStop.Failed → FailsLast (F.faults shelf.old)
+        (F.faults shelf.new) (F.failed shelf.new) }
     ensures starved { (memory : Memory) → result ≡ Err (ReadStop.Memory memory)
         → F.faults shelf.new ≡ F.faults shelf.old }
 {
@@ -260,7 +263,8 @@ fn decide_command<F: Shelf>(
     ensures opens { OpensInTurn (WasRead (F.text shelf.old)) (texts_of words.now)
         (F.opens shelf.old) (F.opens shelf.new) }
     ensures calm { OnOk result (F.faults shelf.new ≡ F.faults shelf.old) }
-    ensures failed { result ≡ Err ReadStop.Failed → Rose (F.faults shelf.old) (F.faults shelf.new) }
+    ensures failed { result ≡ Err ReadStop.Failed → FailsLast (F.faults shelf.old)
+        (F.faults shelf.new) (F.failed shelf.new) }
     ensures starved { (memory : Memory) → result ≡ Err (ReadStop.Memory memory)
         → F.faults shelf.new ≡ F.faults shelf.old }
 {
@@ -282,7 +286,8 @@ pub fn decide_words<F: Shelf>(
     ensures opens { OpensInTurn (WasRead (F.text shelf.old)) (texts_of words.now)
         (F.opens shelf.old) (F.opens shelf.new) }
     ensures calm { OnOk result (F.faults shelf.new ≡ F.faults shelf.old) }
-    ensures failed { result ≡ Err ReadStop.Failed → Rose (F.faults shelf.old) (F.faults shelf.new) }
+    ensures failed { result ≡ Err ReadStop.Failed → FailsLast (F.faults shelf.old)
+        (F.faults shelf.new) (F.failed shelf.new) }
     ensures starved { (memory : Memory) → result ≡ Err (ReadStop.Memory memory)
         → F.faults shelf.new ≡ F.faults shelf.old }
     ensures command { result ≡ Err ReadStop.Failed
