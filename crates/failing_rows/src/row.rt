@@ -79,6 +79,8 @@ impl Row {
             return u8::MAX;
         }
         let mut played = Played::Nothing;
-        serve_alone(alloc, &self.words, shelf, sink, &mut played).code()
+        let status = serve_alone(alloc, &self.words, shelf, sink, &mut played);
+        played.forget();
+        status.code()
     }
 }

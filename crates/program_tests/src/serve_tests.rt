@@ -26,7 +26,9 @@ fn play(alloc: Global, shelf: &mut MemShelf, sink: &mut MemSink) -> Result<u8, F
         String::from_str(alloc, "T")?,
     ]?;
     let mut played = Played::Nothing;
-    Ok(serve_alone(alloc, &words, shelf, sink, &mut played).code())
+    let status = serve_alone(alloc, &words, shelf, sink, &mut played);
+    played.forget();
+    Ok(status.code())
 }
 
 /// How `play S T` ends, and what it writes, where the trace is so many bytes `#`.
@@ -71,6 +73,7 @@ fn a_sure_outside_has_no_faults(rt: HostRuntime) -> Result<(), Fail> {
     let mut sink = SureSink::new();
     let mut played = Played::Nothing;
     let status = serve_surely(alloc, &words, &mut shelf, &mut sink, &mut played);
+    played.forget();
     assert_eq!(rt; status.code(), 0);
     assert_eq!(rt; sink.bytes(), 20);
     Ok(())

@@ -19,9 +19,9 @@ pub use pd_runner::{Gate, OpenGate};
 pub use played::Played;
 pub use sdf_model::TEXT_MOST;
 pub use serving::{serve, serve_alone};
-pub use sure::serve_surely;
 pub use shelf_core::{
     Failed, FileShelf, MemShelf, MemSink, NamedText, OutSink, READ_MOST, ReadStop, Shelf, Sink,
     SureShelf, SureSink, read_text, write_text,
 };
+pub use sure::serve_surely;
 pub use system_core::System;
