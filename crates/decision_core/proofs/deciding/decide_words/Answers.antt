@@ -51,3 +51,7 @@ pub returns-in_ok-decide_gen-in-Ok-Gen-clause-plays : goal.returns-in_ok-decide_
 returns-in_ok-decide_gen-in-Ok-Gen-clause-plays g c n is =
     let d = decision_of c.in_ok-decide_gen-in-Ok-Gen.field-0 in
     gen-plays c.in-Ok-Gen.number d (subst (λ x. TextDecides (GeneratedDecides c.in-Ok-Gen.number) x d) c.as_bytes.ensures.value c.in_ok-decide_gen-in-Ok-Gen.ensures)
+
+pub returns-in_ok-say_usage-in-Err-clause-plays : goal.returns-in_ok-say_usage-in-Err-clause-plays
+returns-in_ok-say_usage-in-Err-clause-plays g c n is =
+    absurd (bad-none (texts_of c.args.words.now) c.in-Err.k (Do.Gen n) c.in-Err.ensures.bad is)
