@@ -1,12 +1,10 @@
-//! Tests of the rooms that read and print texts: descriptions and class tables, traces' frames and
-//! the switch, what clients must get, reports and journals. They stand apart from `plan_rows` and
-//! `trace_rows`, since a program with tests is proved twice.
+//! Tests of the rooms that read and print texts: class tables, traces' frames and the switch, what
+//! clients must get, reports and journals. They stand apart from `plan_rows` and `trace_rows`, since
+//! a program with tests is proved twice.
 #![tactic(auto)]
 
 #[cfg(test)]
 mod class_tests;
-#[cfg(test)]
-mod description_tests;
 #[cfg(test)]
 mod expected_tests;
 #[cfg(test)]
