@@ -122,10 +122,10 @@ given_are w (p ∷ pages) first numbered =
     shift i = omega arith
 
 -- a stock's start entries have the items of its window
-stock_items : (s : Stock) (pages : List Paged) → s.base ≡ 0 → s.size ≡ 2048 → IsStart s pages → items_of (map (given_entry s.base s.size) pages) ≡ given_items (by_offset (stock_pool s))
-stock_items s pages base size is =
+stock_items : (s : Stock) (pages : List Paged) → s.base ≡ 0 → IsStart s pages → items_of (map (given_entry s.base s.size) pages) ≡ given_items (by_offset (stock_pool s))
+stock_items s pages base is =
     let w : Window = by_offset (stock_pool s) in
-    ap items_of (ap₂ (λ b n. map (given_entry b n) pages) base size) ∙ (given_are w pages 0 (λ i p at. is.are_pool.numbered i p at ∙ first i) ∙ ap (λ n. map (given_item w) (numbers_from 0 n)) is.many)
+    ap items_of (ap (λ b. map (given_entry b s.size) pages) base) ∙ (given_are w pages 0 (λ i p at. is.are_pool.numbered i p at ∙ first i) ∙ ap (λ n. map (given_item w) (numbers_from 0 n)) is.many)
   where
     first : (i : ℕ) → i ≡ 0 + i
     first i = omega arith

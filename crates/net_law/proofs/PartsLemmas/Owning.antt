@@ -186,7 +186,7 @@ module _ (naming : Naming) (scene : Scene) (program : Program) (mac : Mac) (rx_a
 -- a lease names the buffer of its frame
 lease_name : (pool : PoolAt) (frame : List ℕ) (x : Item) → IsIn (by_address pool) x → buffer_of (by_offset pool ∷ []) (lease_item pool.base frame x) ≡ buffer_of (by_address pool ∷ []) x
 lease_name pool frame x at =
-    let offset : addr_of x - pool.base ≡ 0 + at.number * 2048 = ap (λ a. a - pool.base) at.begins ∙ (add-sub_cancel_left pool.base (at.number * 2048) ∙ zero_first (at.number * 2048)) in
+    let offset : addr_of x - pool.base ≡ 0 + at.number * pool.size = ap (λ a. a - pool.base) at.begins ∙ (add-sub_cancel_left pool.base (at.number * pool.size) ∙ zero_first (at.number * pool.size)) in
     ap (buffer_at (by_offset pool ∷ [])) offset ∙ (at_address (by_offset pool) at.number (omega arith) at.few ∙ sym (buffer_is (by_address pool) (omega arith) x at.number at refl))
   where
     zero_first : (n : ℕ) → n ≡ 0 + n

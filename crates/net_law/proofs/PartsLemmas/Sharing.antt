@@ -145,7 +145,7 @@ module _ (scene : Scene) (active free : ℕ) (pool : PoolAt) (clients : List Les
       item_in = record { number = n; few = few; net = refl; begins = refl }
 
       names_this : buffer_of (w ∷ []) item ≡ Some (numbered pool.number n)
-      names_this = let at : IsIn w item = record { number = n; few = few; net = refl; begins = refl } in buffer_is w (omega arith) item n at refl
+      names_this = let at : IsIn w item = record { number = n; few = few; net = refl; begins = refl } in buffer_is w row.sized item n at refl
 
       snoc_in : AreIn w (m.sent free ++ item ∷ [])
       snoc_in k x at = by (get_snoc (m.sent free) item x k at)
@@ -154,14 +154,14 @@ module _ (scene : Scene) (active free : ℕ) (pool : PoolAt) (clients : List Les
           by (inl h) = row.gives k x h
           by (inr h) = subst (IsIn w) h.1 item_in
 
-      snoc_rises : (k : ℕ) (x : Item) → k < pool.buffers → slice_get (m.sent free ++ item ∷ []) k ≡ Some x → Rattle.buffer_kit.specs.Entries.addr_of x ≡ pool.base + k * 2048
+      snoc_rises : (k : ℕ) (x : Item) → k < pool.buffers → slice_get (m.sent free ++ item ∷ []) k ≡ Some x → Rattle.buffer_kit.specs.Entries.addr_of x ≡ pool.base + k * pool.size
       snoc_rises k x lt at = by (get_snoc (m.sent free) item x k at)
         where
-          by : (slice_get (m.sent free) k ≡ Some x) ⊎ ((k ≡ length (m.sent free)) × (item ≡ x)) → Rattle.buffer_kit.specs.Entries.addr_of x ≡ pool.base + k * 2048
+          by : (slice_get (m.sent free) k ≡ Some x) ⊎ ((k ≡ length (m.sent free)) × (item ≡ x)) → Rattle.buffer_kit.specs.Entries.addr_of x ≡ pool.base + k * pool.size
           by (inl h) = row.rising k x lt h
           by (inr h) =
               let same : n ≡ k = next (omega (arith, lt, h.0)) ∙ sym h.0 in
-              ap Rattle.buffer_kit.specs.Entries.addr_of (sym h.1) ∙ ap (λ j. pool.base + j * 2048) same
+              ap Rattle.buffer_kit.specs.Entries.addr_of (sym h.1) ∙ ap (λ j. pool.base + j * pool.size) same
 
       snoc_hand : (b : Buffer) → times b (names_in (w ∷ []) (m.sent free ++ item ∷ [])) + bit (is_lent pool l m b) ≤ at_start (pool_hand pool) b + times b (names_in (w ∷ []) (m.taken active))
       snoc_hand b = by (is_same (numbered pool.number n) b) refl
@@ -182,6 +182,7 @@ module _ (scene : Scene) (active free : ℕ) (pool : PoolAt) (clients : List Les
           let put = put_here m free item in (
             item,
             record {
+              sized = row.sized;
               within = row.within;
               lends = λ k c at. subst (λ xs. IsPrefix xs (leases_from scene.frames pool.base c.mac 0 (m.taken active))) (sym (put_beside m free item c.active (beside_free k c at))) (row.lends k c at);
               gives = subst (AreIn w) (sym put) snoc_in;
@@ -202,10 +203,10 @@ module _ (scene : Scene) (active free : ℕ) (pool : PoolAt) (clients : List Les
             omega (arith, ap bit not_lent)
 
     sent_count : sum_below S pool.buffers ≡ length (m.sent free)
-    sent_count = count_in w (omega arith) (m.sent free) row.gives
+    sent_count = count_in w row.sized (m.sent free) row.gives
 
     taken_count : sum_below T pool.buffers ≡ length (m.taken active)
-    taken_count = count_in w (omega arith) (m.taken active) row.within
+    taken_count = count_in w row.sized (m.taken active) row.within
 
     home_is : sum_below L pool.buffers + home_count pool l m ≡ pool.buffers
     home_is = below_rest (λ n. is_lent pool l m (numbered pool.number n)) pool.buffers
@@ -218,7 +219,7 @@ module _ (scene : Scene) (active free : ℕ) (pool : PoolAt) (clients : List Les
         each k x at =
             let below = Rattle.play_core.proofs.Lists.there_below (m.sent free) k x at in
             let is : IsIn w x = record { number = k; few = omega (arith, lt, below); net = (row.gives k x at).net; begins = row.rising k x (omega (arith, lt, below)) at } in
-            ap (is_named (numbered pool.number (length (m.sent free)))) (buffer_is w (omega arith) x k is refl) ∙ named_other pool.number k (length (m.sent free)) (λ e. omega (arith, e, below))
+            ap (is_named (numbered pool.number (length (m.sent free)))) (buffer_is w row.sized x k is refl) ∙ named_other pool.number k (length (m.sent free)) (λ e. omega (arith, e, below))
 
     frees : nat_lt (length (m.sent free)) (frees_due pool l m) ≡ true → CouldPut Receiver m free
     frees lt = by (cases_lt (length (m.sent free)) pool.buffers)
@@ -235,7 +236,7 @@ module _ (scene : Scene) (active free : ℕ) (pool : PoolAt) (clients : List Les
     frees_only : CouldPut Receiver m free → nat_lt (length (m.sent free)) (frees_due pool l m) ≡ true
     frees_only put =
         let after = (with_put m free put.0).sent free in
-        let all = count_in w (omega arith) after put.1.gives in
+        let all = count_in w row.sized after put.1.gives in
         let few = below_few (λ n. times (numbered pool.number n) (names_in (w ∷ []) after) + L n) (λ n. 1 + T n) pool.buffers (λ n lt. omega (arith, put.1.in_hand (numbered pool.number n), start_few pool n)) in
         let sums = below_plus (λ n. times (numbered pool.number n) (names_in (w ∷ []) after)) L pool.buffers in
         let start = below_more T pool.buffers in

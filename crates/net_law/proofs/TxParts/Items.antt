@@ -53,7 +53,7 @@ good_offset s (item, Carried.Page page) h =
       number = page.no;
       few = ltb-true page.no s.buffers two.0;
       net = net_of item four.0;
-      begins = eqb-true (addr_of item) (page.no * 2048) three.0;
+      begins = eqb-true (addr_of item) (page.no * s.size) three.0;
     }
 good_offset s (item, Carried.Lease lease) h = absurd cc
 good_offset s (item, Carried.Empty) h = absurd cc

@@ -83,9 +83,11 @@ pub record SendsItems (frames : List (List ℕ)) (own : Window) (back put : List
 
 -- what a client may have put: its own buffers in rising number and then those that it took, as they
 -- came; and the frames of its program, where an echo takes a frame only after its answer to the one
--- before
+-- before. No buffer is empty
 pub record ServesClient (program : Program) (mac : Mac) (frames : List (List ℕ)) (rx tx : Window)
     (came gave back put : List Item) : Type 0 where
+  pub sized : 0 < rx.size
+  pub spare_sized : 0 < tx.size
   pub given : IsPrefix gave (given_items rx ++ came)
   pub sends : SendsItems (sent_where program mac frames (length came)) tx back put
   pub answered : is_answering program ≡ true → length came ≤ length put + 1
@@ -147,15 +149,16 @@ is_lent pool l m b = nat_lt (leases_back (by_offset pool ∷ []) l m b)
 -- what the receiving virtualiser may have put: to each client the leases of those frames that are
 -- for it, in their order; and buffers of its own, the first in rising number, each of which was in
 -- its hand, where a buffer isn't while it is lent. Each frame came in one of its buffers, and of a
--- buffer at most one lease is out to a client
+-- buffer at most one lease is out to a client. No buffer is empty
 pub record SharesFrames (frames : List (List ℕ)) (active free : ℕ) (pool : PoolAt)
     (clients : List Lessee) (m : Moved) : Type 0 where
+  pub sized : 0 < pool.size
   pub within : AreIn (by_address pool) (m.taken active)
   pub lends : (k : ℕ) (c : Lessee) → slice_get clients k ≡ Some c
       → IsPrefix (m.sent c.active) (leases_from frames pool.base c.mac 0 (m.taken active))
   pub gives : AreIn (by_address pool) (m.sent free)
   pub rising : (k : ℕ) (item : Item) → k < pool.buffers → slice_get (m.sent free) k ≡ Some item
-      → addr_of item ≡ pool.base + k * 2048
+      → addr_of item ≡ pool.base + k * pool.size
   pub in_hand : (b : Buffer) → times b (names_in (by_address pool ∷ []) (m.sent free))
       + bit (is_lent pool (lender_of frames active free pool clients) m b)
       ≤ at_start (pool_hand pool) b + times b (names_in (by_address pool ∷ []) (m.taken active))

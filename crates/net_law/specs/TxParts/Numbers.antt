@@ -8,17 +8,19 @@ use Rattle.net_law.specs.Parts.Numbers.{client_first}
 use Rattle.net_law.specs.TxParts.Parts.{SendPart, Shipper}
 
 -- where the network class stands: its first queue, the pool in which the device receives, and of
--- each client its address, its pools by device addresses, and its program
+-- each client its address, its pools by device addresses, and its program; and how many bytes a
+-- frame has at most
 pub record NetPlace : Type 0 where
   pub first : ℕ
   pub pool : PoolAt
   pub macs : List Mac
   pub pools : List ClientPools
   pub programs : List Program
+  pub most : ℕ
 
 -- a pool as its client has it: by offsets
 abbrev pub own_pool : PoolAt → PoolAt
-own_pool p = record { number = p.number; base = 0; buffers = p.buffers }
+own_pool p = record { number = p.number; base = 0; buffers = p.buffers; size = p.size }
 
 -- a client's pools as the client has them
 abbrev pub own_pools : ClientPools → ClientPools

@@ -13,7 +13,7 @@ use Rattle.net_law.specs.TxParts.Parts.{SendPart, Shipper}
 
 -- the pool of a client's buffers
 abbrev pub sender_pool : Sender → PoolAt
-sender_pool s = record { number = s.pool.0; base = s.base; buffers = s.buffers }
+sender_pool s = record { number = s.pool.0; base = s.base; buffers = s.buffers; size = s.size }
 
 -- clients with these pools and queues
 abbrev pub shippers : List Sender → (from to : List QueueId) → List Shipper
