@@ -46,8 +46,7 @@ pub fn table_law()
 
 /// The rows of the actors, of entries with their bodies, say of the items what the table says. A
 /// copier's does where it took leases alone, each as long as its item says; the virtualiser's where
-/// the frames that it took are those of their places and none came out of turn. A buffer of the
-/// network has 2,048 bytes.
+/// the frames that it took are those of their places and none came out of turn.
 pub fn row_law()
     ensures device { (scene : Scene) (d : EthDevice) (passed : Passed) (m : Moved)
         → AreItemsOf (net_sheet scene (device_part d)).ends passed m

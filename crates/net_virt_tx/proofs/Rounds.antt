@@ -175,6 +175,7 @@ row_of v passed h =
     let t = to_queues v.ends in
     record {
       apart = subst AreRanges h.work.ranges_are h.work.apart;
+      sized = sized;
       from_each = h.from_each ∙ sym (length-map v.work.clients.items (λ (c : Client). c.sender));
       to_each = h.to_each ∙ sym (length-map v.work.clients.items (λ (c : Client). c.sender));
       turn = h.turn;

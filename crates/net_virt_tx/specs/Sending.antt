@@ -101,13 +101,15 @@ AreAway s sent returned = (b : ℕ) → b < s.buffers
     → (at_address (s.base + b * s.size) returned ≤ at_address (s.base + b * s.size) sent)
     × (at_address (s.base + b * s.size) sent ≤ at_address (s.base + b * s.size) returned + 1)
 
--- its clients' ranges don't meet, and each client has a queue each way; of what it took in turn,
+-- its clients' ranges don't meet, no buffer is empty, and each client has a queue each way; of what
+-- it took in turn,
 -- which is all but for one entry that came last: what it gave the driver is a merge of beginnings
 -- of each client's good descriptors with their device addresses, each at a buffer of the client,
 -- which is at the driver at most once; it serves each client; it counts the bad descriptors; and
 -- the entry out of turn is in its hand
 pub record TxRow (v : NetVirtTx) (passed : Passed) : Type 0 where
   pub apart : AreRanges (map range_of (senders v.work))
+  pub sized : (k : ℕ) (s : Sender) → slice_get (senders v.work) k ≡ Some s → 1 ≤ s.size
   pub from_each : length (from_queues v.ends) ≡ length (senders v.work)
   pub to_each : length (to_queues v.ends) ≡ length (senders v.work)
   pub turn : Lists

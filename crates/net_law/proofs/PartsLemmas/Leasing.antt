@@ -229,6 +229,7 @@ module _ (scene : Scene) (v : NetVirtRx) (passed : Passed) (m : Moved) (items : 
 
   pub receiver_row : (net_sheet scene (receiver_part v)).row m
   receiver_row = record {
+    sized = row.is_start.are_pool.some;
     within = subst (AreIn w) (sym came_is) (buffers_in came came_within takes.net);
     lends = lends_items;
     gives = subst (AreIn w) (sym gave_is) (buffers_in gave gave_within takes.given_net);

@@ -242,6 +242,8 @@ module _ (scene : Scene) (program : Program) (mac : Mac) (rx_active rx_free tx_a
         let still = sym (put_beside m rx_free more.0 tx_active client_away) in (
           more.0,
           record {
+            sized = row.sized;
+            spare_sized = row.spare_sized;
             given = more.1;
             sends = subst (λ l. SendsItems (sent_where program mac scene.frames (length (m.taken rx_active))) (by_offset tx) (m.taken tx_free) l) still row.sends;
             answered = λ echo. subst (λ l. length (m.taken rx_active) ≤ length l + 1) still (row.answered echo);
@@ -257,6 +259,8 @@ module _ (scene : Scene) (program : Program) (mac : Mac) (rx_active rx_free tx_a
         let longer = put_length m tx_active more.0 in (
           more.0,
           record {
+            sized = row.sized;
+            spare_sized = row.spare_sized;
             given = subst (λ l. IsPrefix l due) (sym (put_beside m tx_active more.0 rx_free (λ same. client_away (sym same)))) row.given;
             sends = record {
               filled = more.1;

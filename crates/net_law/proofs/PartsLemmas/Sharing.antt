@@ -92,6 +92,7 @@ module _ (scene : Scene) (active free : ℕ) (pool : PoolAt) (clients : List Les
 
     row_same : Receiver.row a → Receiver.row b
     row_same h = record {
+      sized = h.sized;
       within = subst (AreIn w) took h.within;
       lends = λ k c at. subst (λ xs. IsPrefix xs (leases_from scene.frames pool.base c.mac 0 (b.taken active))) (shared k c at) (subst (λ ys. IsPrefix (a.sent c.active) (leases_from scene.frames pool.base c.mac 0 ys)) took (h.lends k c at));
       gives = subst (AreIn w) gave h.gives;
@@ -248,6 +249,7 @@ module _ (scene : Scene) (active free : ℕ) (pool : PoolAt) (clients : List Les
         let beside = put_beside m c.active more.0 free (λ e. beside_free k c at (sym e)) in (
           more.0,
           record {
+            sized = row.sized;
             within = row.within;
             lends = more.1;
             gives = subst (AreIn w) (sym beside) row.gives;

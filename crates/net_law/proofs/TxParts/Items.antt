@@ -1,5 +1,5 @@
 -- The virtualiser's row, of items.
-use Rattle.std.proofs.Common.{◌≡◌, ◌==◌, ◌+◌, ◌-◌, ◌*◌, ◌++◌, ℕ, zero, suc, Bool, true, false, nat_le, not, cond, Some, List, [], ◌∷◌, All, length, map, slice_get, refl, sym, ap, ◌∙◌, subst, arith}
+use Rattle.std.proofs.Common.{◌<◌, ◌≡◌, ◌==◌, ◌+◌, ◌-◌, ◌*◌, ◌++◌, ℕ, zero, suc, Bool, true, false, nat_le, not, cond, Some, List, [], ◌∷◌, All, length, map, slice_get, refl, sym, ap, ◌∙◌, subst, arith}
 use Rattle.std.specs.List.{filter}
 use Rattle.std.proofs.lemmas.Bool.{and_parts, eqb-true, leb-true, ltb-true}
 use Rattle.std.proofs.lemmas.List.{append-nil}
@@ -154,6 +154,9 @@ module _ (v : NetVirtTx) (passed : Passed) (m : Moved) (items : AreItemsOf (send
     all_good_here : All (λ (x : Cargo). is_good_of h.sender x ≡ true) (passed.taken h.active.0)
     all_good_here = good k h.sender h.active h.there h.comes
 
+    sized : 0 < c.pool.size
+    sized = subst (λ (p : PoolAt). 0 < p.size) (sym h.pool_is) (row.sized k h.sender h.there)
+
     offsets : (j : ℕ) (item : Item) → slice_get (m.taken c.active) j ≡ Some item → IsOffset c.pool item
     offsets j item is =
         let x = map_from (λ (y : Cargo). y.0) (passed.taken h.active.0) j item (ap (λ n. slice_get (items_of (passed.taken n)) j) (sym h.active_is) ∙ (ap (λ l. slice_get l j) (sym came) ∙ is)) in
@@ -186,6 +189,7 @@ module _ (v : NetVirtTx) (passed : Passed) (m : Moved) (items : AreItemsOf (send
 
   pub send_row : (send_sheet (send_part v)).row m
   send_row = record {
+    sized = λ k c at. sized k c at;
     came = λ k c at j item is. offsets k c at j item is;
     merges = subst (λ xs. PrefixMerge (all_sends (shippers ss f t) m) xs) (sym gave) (subst (λ ls. PrefixMerge ls (items_of (passed.sent v.ends.output.queue.0))) (sends_are ss f t row.turn m row.from_each row.to_each sends_here) (maps_merge (λ (c : Cargo). c.0) (all_good ss f row.turn) (passed.sent v.ends.output.queue.0) row.merges));
     returns = λ k c at. returns k c at;
