@@ -253,7 +253,7 @@ module _ (hostile : Hostiles) (h : History) (rows : List QueueRow) (actors : Nee
         prefix_trans (got lf) (put lf) (due mac) back (prefix_trans (put lf) (got la) (due mac) given (prefix_trans (got la) (put la) (due mac) (begins_at la at_la) lent))
 
     few_leases : length (due mac) ≤ length (got lf) + net.pool.buffers
-    few_leases = leases_few net.pool scene.frames mac (got (net.first + 4)) (got lf) receiver_row.within came_back (receiver_row.single k (lessee_of net.first k mac) lessee)
+    few_leases = leases_few net.pool receiver_row.sized scene.frames mac (got (net.first + 4)) (got lf) receiver_row.within came_back (receiver_row.single k (lessee_of net.first k mac) lessee)
 
     -- no more frames came than are for the client, so an echo has answered all that came
     came_few : length (got ra) ≤ length (frames_for mac scene.frames)
@@ -367,7 +367,7 @@ module _ (hostile : Hostiles) (h : History) (rows : List QueueRow) (actors : Nee
           subst (λ (x : Lessee). is_short (put x.active) (leases_of scene.frames net.pool (net.first + 4) m x) ≡ false) (ap (λ i. lessee_of net.first i of.0) plus ∙ of.2) (lease_paid k of.0 of.1)
 
   all_back : home_count net.pool (lender_of scene.frames (net.first + 4) (net.first + 5) net.pool lessees) m ≡ net.pool.buffers
-  all_back = all_home scene.frames (net.first + 4) (net.first + 5) net.pool lessees m receiver_row.within each
+  all_back = all_home scene.frames (net.first + 4) (net.first + 5) net.pool receiver_row.sized lessees m receiver_row.within each
     where
       each : (k : ℕ) (c : Lessee) → slice_get lessees k ≡ Some c → got c.free ≡ leases_of scene.frames net.pool (net.first + 4) m c
       each k c at =

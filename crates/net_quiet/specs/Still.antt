@@ -23,7 +23,7 @@ use Rattle.net_quiet.specs.TxCast.Casting.{IsClientOf, sends_at}
 
 -- the device addresses of a pool's buffers
 abbrev pub range_of : PoolAt → Range
-range_of p = record { base = p.base; size = p.buffers * 2048 }
+range_of p = record { base = p.base; size = p.buffers * p.size }
 
 -- no two clients send in buffers at one address
 abbrev pub SendApart : List ClientPools → Type 0

@@ -32,6 +32,6 @@ pub fn cast_law()
         → AreLeases (passed.taken (client_first first k)) }
     ensures records { (first : ℕ) (frames : List (List ℕ)) (pool : PoolAt) (macs : List Mac)
         (passed : Passed) → IsCast first frames pool macs passed → (k : ℕ) (mac : Mac)
-        → slice_get macs k ≡ Some mac → (c : NetClient) → IsClientAt first k c passed
+        → slice_get macs k ≡ Some mac → (c : NetClient) → IsClientAt first k frames c passed
         → IsPrefix c.frames.tape.shown (frames_for mac frames) }
 {}

@@ -55,7 +55,7 @@ pub fn hand_on_law()
         → NamesPart naming scene (copier_part c) → CopierRow c passed
         → HandsOn naming m passed (net_sheet scene (copier_part c)).ends }
     ensures receiver { (naming : Naming) (scene : Scene) (v : NetVirtRx) (passed : Passed)
-        (m : Moved) → NamesPart naming scene (receiver_part v) → v.work.stock.size ≡ 2048
+        (m : Moved) → NamesPart naming scene (receiver_part v)
         → AreNet (passed.sent v.ends.output.queue.0) → RxRow v passed
         → HandsOn naming m passed (net_sheet scene (receiver_part v)).ends }
     ensures client { (naming : Naming) (scene : Scene) (c : NetClient) (passed : Passed) (m : Moved)
@@ -81,7 +81,6 @@ pub fn hold_law()
         (holder_of (net_sheet scene (copier_part c)) (copier_hand c) no_lent) }
     ensures receiver { (naming : Naming) (sizes : ℕ → ℕ) (scene : Scene) (v : NetVirtRx)
         (passed : Passed) (m : Moved) → NamesPart naming scene (receiver_part v)
-        → v.work.stock.size ≡ 2048
         → AreItemsOf (net_sheet scene (receiver_part v)).ends passed m
         → TakesFrames (frame_at scene.frames) v passed → RxStandsFor v passed
         → v.work.stray ≡ None → length (to_queues v.ends) ≡ length v.work.macs.items

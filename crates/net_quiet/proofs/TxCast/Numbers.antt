@@ -39,10 +39,16 @@ client_queues first k program mac q c e = (cc, cc, cc, cc)
 pub client_plays : (first k : ℕ) (program : Program) (mac : Mac) (q : ClientPools) (c : NetClient) → client_part c ≡ client_at first k program mac (own_pools q) → (program_of c.program ≡ program) × (c.program.mac ≡ mac)
 client_plays first k program mac q c e = (cc, cc)
 
-pub client_ships : (first k : ℕ) (program : Program) (mac : Mac) (q : ClientPools) (c : NetClient) → client_part c ≡ client_at first k program mac (own_pools q) → (c.outbox.stock.pool.0 ≡ q.tx.number) × (c.outbox.stock.base ≡ 0) × (c.outbox.stock.buffers ≡ q.tx.buffers)
+pub client_ships : (first k : ℕ) (program : Program) (mac : Mac) (q : ClientPools) (c : NetClient) → client_part c ≡ client_at first k program mac (own_pools q) → (c.outbox.stock.pool.0 ≡ q.tx.number) × (c.outbox.stock.base ≡ 0) × (c.outbox.stock.buffers ≡ q.tx.buffers) × (c.outbox.stock.size ≡ q.tx.size)
 client_ships first k program mac q c e =
     let own : stock_pool c.outbox.stock ≡ (own_pools q).tx = cc in
-    (ap (λ (p : PoolAt). p.number) own, ap (λ (p : PoolAt). p.base) own, ap (λ (p : PoolAt). p.buffers) own)
+    (ap (λ (p : PoolAt). p.number) own, ap (λ (p : PoolAt). p.base) own, ap (λ (p : PoolAt). p.buffers) own, ap (λ (p : PoolAt). p.size) own)
+
+-- a client's buffers for receiving are as long as its pool's
+pub client_rx : (first k : ℕ) (program : Program) (mac : Mac) (q : ClientPools) (c : NetClient) → client_part c ≡ client_at first k program mac (own_pools q) → c.stock.size ≡ q.rx.size
+client_rx first k program mac q c e =
+    let own : stock_pool c.stock ≡ (own_pools q).rx = cc in
+    ap (λ (p : PoolAt). p.size) own
 
 pub sender_queues : (first : ℕ) (pools : List ClientPools) (v : NetVirtTx) → send_part v ≡ sender_at first pools → (v.ends.output.queue.0 ≡ first + 6) × (v.ends.input.queue.0 ≡ first + 7) × (shippers (senders v.work) (from_queues v.ends) (to_queues v.ends) ≡ shippers_from first 0 pools)
 sender_queues first pools v e = (ap (λ (p : SendPart). p.active) e, ap (λ (p : SendPart). p.free) e, ap (λ (p : SendPart). p.clients) e)
