@@ -60,7 +60,7 @@ job_part plan trace EthDevice = Some (NetworkPart (device_at 0 trace.frames))
 job_part plan trace EthDriver = Some (NetworkPart (driver_at 0))
 job_part plan trace NetReceiver = Some (NetworkPart
     (receiver_at 0 (net_place plan trace).pool (net_place plan trace).macs))
-job_part plan trace NetSender = Some (SendingPart (sender_at 0 (net_place plan trace).pools))
+job_part plan trace NetSender = Some (SendingPart (sender_at 0 (net_place plan trace).most (net_place plan trace).pools))
 job_part plan trace (NetCopier c) = Some (NetworkPart (copier_at 0 c))
 job_part plan trace (NetClient c) = Some (NetworkPart
     (client_at 0 c (client_program plan trace c)

@@ -434,20 +434,20 @@ module _ (hostile : Hostiles) (h : History) (rows : List QueueRow) (actors : Nee
   puts_all k program mac q of = all_sent hostile h rows actors j scene net still w k program mac q of ∙ sends_long program mac scene.frames (length (got (client_first net.first k + 2))) (got_frames k mac of.address)
 
   wire_all : length (got (net.first + 2)) ≡ total (sends_at net.programs net.macs scene.frames)
-  wire_all = merge_total (all_sends (shippers_from net.first 0 net.pools) m) (got (net.first + 2)) (wire_merge hostile h rows actors j scene net still w) ∙ total_same (all_sends (shippers_from net.first 0 net.pools) m) (sends_at net.programs net.macs scene.frames) many each
+  wire_all = merge_total (all_sends (shippers_from net.first net.most 0 net.pools) m) (got (net.first + 2)) (wire_merge hostile h rows actors j scene net still w) ∙ total_same (all_sends (shippers_from net.first net.most 0 net.pools) m) (sends_at net.programs net.macs scene.frames) many each
     where
-      many : length (all_sends (shippers_from net.first 0 net.pools) m) ≡ length (sends_at net.programs net.macs scene.frames)
+      many : length (all_sends (shippers_from net.first net.most 0 net.pools) m) ≡ length (sends_at net.programs net.macs scene.frames)
       many =
-          let a = length-map (shippers_from net.first 0 net.pools) (λ (c : Shipper). at_device c.pool (got c.active)) in
-          let b = shippers_long net.first 0 net.pools in
+          let a = length-map (shippers_from net.first net.most 0 net.pools) (λ (c : Shipper). at_device c.pool (got c.active)) in
+          let b = shippers_long net.first net.most 0 net.pools in
           let c = sends_many net.programs net.macs scene.frames w.pools.programs_many in
           let d = w.pools.pools_many in
           omega (arith, a, b, c, d)
 
-      each : (k : ℕ) (x : List Item) (y : List (List ℕ)) → slice_get (all_sends (shippers_from net.first 0 net.pools) m) k ≡ Some x → slice_get (sends_at net.programs net.macs scene.frames) k ≡ Some y → length x ≡ length y
+      each : (k : ℕ) (x : List Item) (y : List (List ℕ)) → slice_get (all_sends (shippers_from net.first net.most 0 net.pools) m) k ≡ Some x → slice_get (sends_at net.programs net.macs scene.frames) k ≡ Some y → length x ≡ length y
       each k x y x_at y_at =
-          let c = map_from (λ (c : Shipper). at_device c.pool (got c.active)) (shippers_from net.first 0 net.pools) k x x_at in
-          let s = shipper_from net.first 0 net.pools k c.0 c.1 in
+          let c = map_from (λ (c : Shipper). at_device c.pool (got c.active)) (shippers_from net.first net.most 0 net.pools) k x x_at in
+          let s = shipper_from net.first net.most 0 net.pools k c.0 c.1 in
           let f = sends_there net.programs net.macs scene.frames k y y_at in
           let of : IsClientOf net k f.0 f.1 s.0 = record { address = f.3; pools = s.1; plays = f.2 } in
           let plus : k ≡ 0 + k = omega arith in

@@ -102,11 +102,11 @@ module _ (hostile : Hostiles) (h : History) (rows : List QueueRow) (actors : Nee
   device_row : FillsFrames scene.frames (got net.first) (put (net.first + 1)) (got (net.first + 2)) (put (net.first + 3))
   device_row = w.device.row
 
-  sender_row : MergesSends (sender_at net.first net.pools) m
+  sender_row : MergesSends (sender_at net.first net.most net.pools) m
   sender_row = w.sender.row
 
   abbrev clients : List Shipper
-  clients = shippers_from net.first 0 net.pools
+  clients = shippers_from net.first net.most 0 net.pools
 
   want_driver : (place : ℕ) (x : Want) → slice_get ((net_sheet scene (driver_at net.first)).wants m) place ≡ Some x → HasWant hostile actors x
   want_driver = want_at (net_sheet scene (driver_at net.first)) w.driver
@@ -114,8 +114,8 @@ module _ (hostile : Hostiles) (h : History) (rows : List QueueRow) (actors : Nee
   want_device : (place : ℕ) (x : Want) → slice_get ((net_sheet scene (device_at net.first scene.frames)).wants m) place ≡ Some x → HasWant hostile actors x
   want_device = want_at (net_sheet scene (device_at net.first scene.frames)) w.device
 
-  want_sender : (place : ℕ) (x : Want) → slice_get ((send_sheet (sender_at net.first net.pools)).wants m) place ≡ Some x → HasWant hostile actors x
-  want_sender = want_at (send_sheet (sender_at net.first net.pools)) w.sender
+  want_sender : (place : ℕ) (x : Want) → slice_get ((send_sheet (sender_at net.first net.most net.pools)).wants m) place ≡ Some x → HasWant hostile actors x
+  want_sender = want_at (send_sheet (sender_at net.first net.most net.pools)) w.sender
 
   -- from the virtualiser's free buffers to the device's frames
 
@@ -204,13 +204,13 @@ module _ (hostile : Hostiles) (h : History) (rows : List QueueRow) (actors : Nee
   abbrev out_want : Shipper → Want
   out_want c = outlet_want c.free (is_short (put c.free) (at_home c.pool (got (net.first + 7))))
 
-  ship_at : (k : ℕ) (q : ClientPools) → slice_get net.pools k ≡ Some q → slice_get clients k ≡ Some (ship_of net.first k q)
-  ship_at k q at = shipper_at net.first 0 net.pools k k q (omega arith) at
+  ship_at : (k : ℕ) (q : ClientPools) → slice_get net.pools k ≡ Some q → slice_get clients k ≡ Some (ship_of net.first net.most k q)
+  ship_at k q at = shipper_at net.first net.most 0 net.pools k k q (omega arith) at
 
   others_fail : (k : ℕ) (q : ClientPools) → slice_get net.pools k ≡ Some q → (i : ℕ) (l : List Item) → slice_get (all_sends clients m) i ≡ Some l → (i ≡ k → ⊥) → (p : ℕ) (x : Item) → slice_get l p ≡ Some x → in_range q.tx x ≡ false
   others_fail k q at i l l_at away p x x_at =
       let c = map_from (λ (c : Shipper). at_device c.pool (got c.active)) clients i l l_at in
-      let of = shipper_from net.first 0 net.pools i c.0 c.1 in
+      let of = shipper_from net.first net.most 0 net.pools i c.0 c.1 in
       let pool_is : of.0.tx ≡ c.0.pool = ap (λ (s : Shipper). s.pool) of.2 in
       let own : in_range c.0.pool x ≡ true = all_in_own c.0.pool (sender_row.sized i c.0 c.1) (got c.0.active) (sender_row.came i c.0 c.1) p x (ap (λ z. slice_get z p) c.2 ∙ x_at) in
       w.pools.apart i k of.0 q of.1 at away (addr_of x) (ap (λ pool. in_range pool x) pool_is ∙ own)
@@ -219,8 +219,8 @@ module _ (hostile : Hostiles) (h : History) (rows : List QueueRow) (actors : Nee
   home_long : (k : ℕ) (q : ClientPools) → slice_get net.pools k ≡ Some q → length (at_home q.tx (put (net.first + 6))) ≡ length (got (client_first net.first k + 4))
   home_long k q at =
       let ship = ship_at k q at in
-      let there = map_get (λ (c : Shipper). at_device c.pool (got c.active)) clients k (ship_of net.first k q) ship in
-      let kept = keeps (in_range q.tx) (all_sends clients m) (put (net.first + 6)) merged k (at_device q.tx (got (client_first net.first k + 4))) there (all_in_own q.tx (sender_row.sized k (ship_of net.first k q) ship) (got (client_first net.first k + 4)) (sender_row.came k (ship_of net.first k q) ship)) (others_fail k q at) in
+      let there = map_get (λ (c : Shipper). at_device c.pool (got c.active)) clients k (ship_of net.first net.most k q) ship in
+      let kept = keeps (in_range q.tx) (all_sends clients m) (put (net.first + 6)) merged k (at_device q.tx (got (client_first net.first k + 4))) there (all_in_own q.tx (sender_row.sized k (ship_of net.first net.most k q) ship) (got (client_first net.first k + 4)) (sender_row.came k (ship_of net.first net.most k q) ship)) (others_fail k q at) in
       let long = length-map (filter (in_range q.tx) (put (net.first + 6))) (λ i. with_addr (addr_of i - q.tx.base) i) in
       let own = length-map (got (client_first net.first k + 4)) (λ i. with_addr (q.tx.base + addr_of i) i) in
       let same = ap length kept in
@@ -265,7 +265,7 @@ module _ (hostile : Hostiles) (h : History) (rows : List QueueRow) (actors : Nee
     ta_needs =
         let long = home_long k q of.pools in
         let none : is_short (at_home q.tx (put (net.first + 6))) (got ta) ≡ false = le-ltb (length (at_home q.tx (put (net.first + 6)))) (length (got ta)) (omega (arith, long)) in
-        let place = pair_first in_want out_want clients k (ship_of net.first k q) (ship_at k q of.pools) in
+        let place = pair_first in_want out_want clients k (ship_of net.first net.most k q) (ship_at k q of.pools) in
         needs_as hostile h rows actors j still ta _ true (ap not none) (want_sender (suc (suc (twice k))) _ place)
 
     ta_owes : Owes hostile actors ta (nat_lt (length (put ta)) (length items))
@@ -291,7 +291,7 @@ module _ (hostile : Hostiles) (h : History) (rows : List QueueRow) (actors : Nee
 
     tf_owes : Owes hostile actors tf (nat_lt (length (put tf)) (length (at_home q.tx (got (net.first + 7)))))
     tf_owes =
-        let place = pair_second in_want out_want clients k (ship_of net.first k q) (ship_at k q of.pools) in
+        let place = pair_second in_want out_want clients k (ship_of net.first net.most k q) (ship_at k q of.pools) in
         want_sender (suc (suc (suc (twice k)))) _ place
 
     at_tf : Holds hostile rows tf q.tx.buffers

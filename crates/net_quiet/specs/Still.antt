@@ -62,7 +62,7 @@ pub record IsNetwork (hostile : Hostiles) (scene : Scene) (rows : List QueueRow)
   pub device : Plays hostile actors m (net_sheet scene (device_at net.first scene.frames))
   pub driver : Plays hostile actors m (net_sheet scene (driver_at net.first))
   pub receiver : Plays hostile actors m (net_sheet scene (receiver_at net.first net.pool net.macs))
-  pub sender : Plays hostile actors m (send_sheet (sender_at net.first net.pools))
+  pub sender : Plays hostile actors m (send_sheet (sender_at net.first net.most net.pools))
   pub copier : (k : ℕ) → k < length net.macs
       → Plays hostile actors m (net_sheet scene (copier_at net.first k))
   pub client : (k : ℕ) (program : Program) (mac : Mac) (q : ClientPools)

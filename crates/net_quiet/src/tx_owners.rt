@@ -51,6 +51,6 @@ pub fn send_pool_law()
 /// By the layout's table, where the network's queues are the first, items name at the virtualiser's
 /// queues what the owners of buffers ask.
 pub fn send_name_law()
-    ensures { (scene : Scene) (pool : PoolAt) (macs : List Mac) (pools : List ClientPools)
-        → NamesSend (layout_naming scene pool macs pools) (sender_at 0 pools) }
+    ensures { (scene : Scene) (most : ℕ) (pool : PoolAt) (macs : List Mac) (pools : List ClientPools)
+        → NamesSend (layout_naming scene pool macs pools) (sender_at 0 most pools) }
 {}

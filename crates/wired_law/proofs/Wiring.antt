@@ -77,7 +77,7 @@ copier_is net frames c (inr (inr (inr (inl e)))) = absurd cc
 copier_is net frames c (inr (inr (inr (inr (inl k))))) = let e = k.2 in (k.0, k.1, cc)
 copier_is net frames c (inr (inr (inr (inr (inr k))))) = let e = k.5 in absurd cc
 
-sender_is : (net : NetPlace) (frames : List (List ℕ)) (v : NetVirtTx) → IsOfNetwork net frames (SendingPart (send_part v)) → send_part v ≡ sender_at net.first net.pools
+sender_is : (net : NetPlace) (frames : List (List ℕ)) (v : NetVirtTx) → IsOfNetwork net frames (SendingPart (send_part v)) → send_part v ≡ sender_at net.first net.most net.pools
 sender_is net frames v (inl e) = absurd cc
 sender_is net frames v (inr (inl e)) = absurd cc
 sender_is net frames v (inr (inr (inl e))) = absurd cc
@@ -144,7 +144,7 @@ module _ (ends : Role → ℕ → End) (rows : List QueueRow) (actors : List Act
 
     sender_there : (v : NetVirtTx) × IsSenderAt net v passed
     sender_there =
-        let x = actor_of (SendingPart (sender_at net.first net.pools)) whole.sender in
+        let x = actor_of (SendingPart (sender_at net.first net.most net.pools)) whole.sender in
         let v = sender_actor net.first net.pools x.0 x.1 in
         (v.0, record { part = v.2; row = sender_row v.0 passed (subst (λ a. ActorStandsFor a passed) v.1 x.3) })
 

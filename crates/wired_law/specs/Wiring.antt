@@ -37,7 +37,7 @@ abbrev pub IsOfNetwork : NetPlace → (frames : List (List ℕ)) → Part → Ty
 IsOfNetwork net frames p =
     (p ≡ NetworkPart (device_at net.first frames)) ⊎ (p ≡ NetworkPart (driver_at net.first))
     ⊎ (p ≡ NetworkPart (receiver_at net.first net.pool net.macs))
-    ⊎ (p ≡ SendingPart (sender_at net.first net.pools))
+    ⊎ (p ≡ SendingPart (sender_at net.first net.most net.pools))
     ⊎ ((k : ℕ) × (k < length net.macs) × (p ≡ NetworkPart (copier_at net.first k)))
     ⊎ ((k : ℕ) × (program : Program) × (mac : Mac) × (q : ClientPools)
     × IsClientOf net k program mac q
@@ -52,7 +52,7 @@ pub record HasWhole (rows : List QueueRow) (net : NetPlace) (cast : List Part) :
   pub device : HasPart cast (NetworkPart (device_at net.first (scene_of cast).frames))
   pub driver : HasPart cast (NetworkPart (driver_at net.first))
   pub receiver : HasPart cast (NetworkPart (receiver_at net.first net.pool net.macs))
-  pub sender : HasPart cast (SendingPart (sender_at net.first net.pools))
+  pub sender : HasPart cast (SendingPart (sender_at net.first net.most net.pools))
   pub copier : (k : ℕ) → k < length net.macs → HasPart cast (NetworkPart (copier_at net.first k))
   pub client : (k : ℕ) (program : Program) (mac : Mac) (q : ClientPools)
       → IsClientOf net k program mac q

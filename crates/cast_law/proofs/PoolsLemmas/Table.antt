@@ -70,8 +70,8 @@ module _ (rows : List QueueRow) (net : NetPlace) (cast : List Part) (whole : Has
   pub at_receiver : HasPart cast (NetworkPart (receiver_at 0 net.pool net.macs))
   at_receiver = subst (λ n. HasPart cast (NetworkPart (receiver_at n net.pool net.macs))) first whole.receiver
 
-  pub at_sender : HasPart cast (SendingPart (sender_at 0 net.pools))
-  at_sender = subst (λ n. HasPart cast (SendingPart (sender_at n net.pools))) first whole.sender
+  pub at_sender : HasPart cast (SendingPart (sender_at 0 net.most net.pools))
+  at_sender = subst (λ n. HasPart cast (SendingPart (sender_at n net.most net.pools))) first whole.sender
 
   pub at_copier : (k : ℕ) → k < length net.macs → HasPart cast (NetworkPart (copier_at 0 k))
   at_copier k lt = subst (λ n. HasPart cast (NetworkPart (copier_at n k))) first (whole.copier k lt)
@@ -141,13 +141,13 @@ module _ (rows : List QueueRow) (net : NetPlace) (cast : List Part) (whole : Has
     sent_from : HasEnd (client_first 0 k + 4) Consumer
     sent_from =
         let c = shipper_there 0 net.pools k pools_here.0 pools_here.1 in
-        let seat = pair_first (λ (x : Shipper). intake x.active) (λ x. outlet x.free) (shippers_from 0 0 net.pools) k c.0 c.1 in
+        let seat = pair_first (λ (x : Shipper). intake x.active) (λ x. outlet x.free) (shippers_from 0 net.most 0 net.pools) k c.0 c.1 in
         (at_sender.0, _, suc (suc (twice k)), at_sender.1, tt, seat ∙ ap (λ n. Some (intake n)) (plain 4 c.2))
 
     sent_back : HasEnd (client_first 0 k + 5) Producer
     sent_back =
         let c = shipper_there 0 net.pools k pools_here.0 pools_here.1 in
-        let seat = pair_second (λ (x : Shipper). intake x.active) (λ x. outlet x.free) (shippers_from 0 0 net.pools) k c.0 c.1 in
+        let seat = pair_second (λ (x : Shipper). intake x.active) (λ x. outlet x.free) (shippers_from 0 net.most 0 net.pools) k c.0 c.1 in
         (at_sender.0, _, suc (suc (suc (twice k))), at_sender.1, tt, seat ∙ ap (λ n. Some (outlet n)) (plain 5 c.3))
 
     copies : (i : ℕ) (n : ℕ) (r : Role) → slice_get (net_sheet scene (copier_at 0 k)).ends i ≡ Some (record { queue = n; role = r }) → HasEnd n r

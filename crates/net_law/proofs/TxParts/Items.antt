@@ -176,11 +176,11 @@ module _ (v : NetVirtTx) (passed : Passed) (m : Moved) (items : AreItemsOf (send
 
   sends_here : (k : ℕ) (s : Sender) (q r : QueueId) → slice_get ss k ≡ Some s → slice_get f k ≡ Some q → slice_get t k ≡ Some r → items_of (map (to_device s.base) (filter (is_good_of s) (row.turn q.0))) ≡ at_device (sender_pool s) (m.taken q.0)
   sends_here k s q r at at' at'' =
-      let c : Shipper = record { active = q.0; free = r.0; pool = sender_pool s } in
+      let c : Shipper = record { active = q.0; free = r.0; pool = sender_pool s; most = s.most } in
       let there = there_at ss f t k s q r at at' at'' in
       device_items s (filter (is_good_of s) (row.turn q.0)) ∙ ap (at_device (sender_pool s)) (ap (λ l. items_of (filter (is_good_of s) l)) (turn_is q.0) ∙ (ap items_of (all_same s (passed.taken q.0) (good k s q at at')) ∙ sym (came k c there)))
     where
-      there_at : (xs : List Sender) (from to : List QueueId) (j : ℕ) (s : Sender) (q r : QueueId) → slice_get xs j ≡ Some s → slice_get from j ≡ Some q → slice_get to j ≡ Some r → slice_get (shippers xs from to) j ≡ Some (record { active = q.0; free = r.0; pool = sender_pool s })
+      there_at : (xs : List Sender) (from to : List QueueId) (j : ℕ) (s : Sender) (q r : QueueId) → slice_get xs j ≡ Some s → slice_get from j ≡ Some q → slice_get to j ≡ Some r → slice_get (shippers xs from to) j ≡ Some (record { active = q.0; free = r.0; pool = sender_pool s; most = s.most })
       there_at [] from to j s q r at at' at'' = absurd cc
       there_at (x ∷ xs) [] to j s q r at at' at'' = absurd cc
       there_at (x ∷ xs) (y ∷ from) [] j s q r at at' at'' = absurd cc

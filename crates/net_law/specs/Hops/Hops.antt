@@ -50,7 +50,7 @@ pub record IsNetwork (scene : Scene) (hostile : Hostiles) (rows : List QueueRow)
   pub device : (net_sheet scene (device_at net.first scene.frames)).row m
   pub driver : (net_sheet scene (driver_at net.first)).row m
   pub receiver : (net_sheet scene (receiver_at net.first net.pool net.macs)).row m
-  pub sender : (send_sheet (sender_at net.first net.pools)).row m
+  pub sender : (send_sheet (sender_at net.first net.most net.pools)).row m
   pub copier : (k : ℕ) → k < length net.macs → (net_sheet scene (copier_at net.first k)).row m
   pub client : (k : ℕ) (program : Program) (mac : Mac) (q : ClientPools)
       → slice_get net.programs k ≡ Some program → slice_get net.macs k ≡ Some mac

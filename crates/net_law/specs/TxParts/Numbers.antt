@@ -26,14 +26,18 @@ own_pool p = record { number = p.number; base = 0; buffers = p.buffers; size = p
 abbrev pub own_pools : ClientPools → ClientPools
 own_pools q = record { rx = own_pool q.rx; tx = own_pool q.tx }
 
--- clients that send in these pools, from a number on
-abbrev pub shippers_from : (first k : ℕ) → List ClientPools → List Shipper
-shippers_from first k [] = []
-shippers_from first k (q ∷ qs) =
-    record { active = client_first first k + 4; free = client_first first k + 5; pool = q.tx }
-    ∷ shippers_from first (k + 1) qs
+-- clients that send frames of at most so many bytes in these pools, from a number on
+abbrev pub shippers_from : (first most k : ℕ) → List ClientPools → List Shipper
+shippers_from first most k [] = []
+shippers_from first most k (q ∷ qs) = record {
+  active = client_first first k + 4;
+  free = client_first first k + 5;
+  pool = q.tx;
+  most = most;
+}
+    ∷ shippers_from first most (k + 1) qs
 
 -- the sending virtualiser's part
-abbrev pub sender_at : (first : ℕ) → List ClientPools → SendPart
-sender_at first pools =
-    record { active = first + 6; free = first + 7; clients = shippers_from first 0 pools }
+abbrev pub sender_at : (first most : ℕ) → List ClientPools → SendPart
+sender_at first most pools =
+    record { active = first + 6; free = first + 7; clients = shippers_from first most 0 pools }

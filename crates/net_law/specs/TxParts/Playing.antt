@@ -21,7 +21,8 @@ shippers [] from to = []
 shippers (s ∷ ss) [] to = []
 shippers (s ∷ ss) (q ∷ from) [] = []
 shippers (s ∷ ss) (q ∷ from) (r ∷ to) =
-    record { active = q.0; free = r.0; pool = sender_pool s } ∷ shippers ss from to
+    record { active = q.0; free = r.0; pool = sender_pool s; most = s.most }
+    ∷ shippers ss from to
 
 -- a sending virtualiser's part
 abbrev pub send_part : NetVirtTx → SendPart

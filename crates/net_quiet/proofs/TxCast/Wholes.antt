@@ -110,21 +110,21 @@ module _ (net : NetPlace) (frames : List (List ℕ)) (passed : Passed) (h : IsWh
     abbrev v : NetVirtTx
     v = h.sender
 
-    virtualised : (v.ends.output.queue.0 ≡ net.first + 6) × (v.ends.input.queue.0 ≡ net.first + 7) × (shippers (senders v.work) (from_queues v.ends) (to_queues v.ends) ≡ shippers_from net.first 0 net.pools)
-    virtualised = sender_queues net.first net.pools v h.sender_at.part
+    virtualised : (v.ends.output.queue.0 ≡ net.first + 6) × (v.ends.input.queue.0 ≡ net.first + 7) × (shippers (senders v.work) (from_queues v.ends) (to_queues v.ends) ≡ shippers_from net.first net.most 0 net.pools)
+    virtualised = sender_queues net.first net.most net.pools v h.sender_at.part
 
-    shipped : (length (senders v.work) ≡ length net.pools) × ((k : ℕ) (s : Sender) (q r : QueueId) → slice_get (senders v.work) k ≡ Some s → slice_get (from_queues v.ends) k ≡ Some q → slice_get (to_queues v.ends) k ≡ Some r → (p : ClientPools) × (slice_get net.pools k ≡ Some p) × Ships net.first (0 + k) s q r p)
-    shipped = shippers_are net.first 0 (senders v.work) net.pools (from_queues v.ends) (to_queues v.ends) row.from_each row.to_each virtualised.2
+    shipped : (length (senders v.work) ≡ length net.pools) × ((k : ℕ) (s : Sender) (q r : QueueId) → slice_get (senders v.work) k ≡ Some s → slice_get (from_queues v.ends) k ≡ Some q → slice_get (to_queues v.ends) k ≡ Some r → (p : ClientPools) × (slice_get net.pools k ≡ Some p) × Ships net.first net.most (0 + k) s q r p)
+    shipped = shippers_are net.first net.most 0 (senders v.work) net.pools (from_queues v.ends) (to_queues v.ends) row.from_each row.to_each virtualised.2
 
     -- a client's place among the virtualiser's
-    ships_at : (k : ℕ) (s : Sender) (q r : QueueId) → slice_get (senders v.work) k ≡ Some s → slice_get (from_queues v.ends) k ≡ Some q → slice_get (to_queues v.ends) k ≡ Some r → (p : ClientPools) × (slice_get net.pools k ≡ Some p) × Ships net.first k s q r p
+    ships_at : (k : ℕ) (s : Sender) (q r : QueueId) → slice_get (senders v.work) k ≡ Some s → slice_get (from_queues v.ends) k ≡ Some q → slice_get (to_queues v.ends) k ≡ Some r → (p : ClientPools) × (slice_get net.pools k ≡ Some p) × Ships net.first net.most k s q r p
     ships_at k s q r at fat tat =
         let x = shipped.1 k s q r at fat tat in
         let plus : 0 + k ≡ k = omega arith in
-        (x.0, x.1, subst (λ n. Ships net.first n s q r x.0) plus x.2)
+        (x.0, x.1, subst (λ n. Ships net.first net.most n s q r x.0) plus x.2)
 
     -- the virtualiser's client of a number
-    place_of : (k : ℕ) (p : ClientPools) → slice_get net.pools k ≡ Some p → (s : Sender) × (q : QueueId) × (r : QueueId) × (slice_get (senders v.work) k ≡ Some s) × (slice_get (from_queues v.ends) k ≡ Some q) × (slice_get (to_queues v.ends) k ≡ Some r) × Ships net.first k s q r p
+    place_of : (k : ℕ) (p : ClientPools) → slice_get net.pools k ≡ Some p → (s : Sender) × (q : QueueId) × (r : QueueId) × (slice_get (senders v.work) k ≡ Some s) × (slice_get (from_queues v.ends) k ≡ Some q) × (slice_get (to_queues v.ends) k ≡ Some r) × Ships net.first net.most k s q r p
     place_of k p at =
         let below = there_below net.pools k p at in
         let many = shipped.0 in
@@ -135,18 +135,18 @@ module _ (net : NetPlace) (frames : List (List ℕ)) (passed : Passed) (h : IsWh
         let r = there_is (to_queues v.ends) k (omega (arith, below, many, to_each)) in
         let x = ships_at k s.0 q.0 r.0 s.1 q.1 r.1 in
         let same : x.0 ≡ p = some_is (sym x.1 ∙ at) in
-        (s.0, q.0, r.0, s.1, q.1, r.1, subst (Ships net.first k s.0 q.0 r.0) same x.2)
+        (s.0, q.0, r.0, s.1, q.1, r.1, subst (Ships net.first net.most k s.0 q.0 r.0) same x.2)
 
     module _ (send : AllSend net passed) where
-      goods : (k : ℕ) (p : ClientPools) → slice_get net.pools k ≡ Some p → (s : Sender) (q r : QueueId) → slice_get (senders v.work) k ≡ Some s → Ships net.first k s q r p → All (λ (c : Cargo). is_good_of s c ≡ true) (passed.sent q.0)
-      goods k p at s q r s_at ships = all_from (λ (c : Cargo). is_good_of s c ≡ true) (passed.sent q.0) (λ j c c_at. send_good s p.tx c ships.0 (subst (λ m. IsSend m p.tx c) (sym (h.sender_at.most k s s_at)) (send k p at j c (ap (λ n. slice_get (passed.sent n) j) (sym ships.1) ∙ c_at))))
+      goods : (k : ℕ) (p : ClientPools) → slice_get net.pools k ≡ Some p → (s : Sender) (q r : QueueId) → Ships net.first net.most k s q r p → All (λ (c : Cargo). is_good_of s c ≡ true) (passed.sent q.0)
+      goods k p at s q r ships = all_from (λ (c : Cargo). is_good_of s c ≡ true) (passed.sent q.0) (λ j c c_at. send_good s p.tx c ships.0 (subst (λ m. IsSend m p.tx c) (sym ships.3) (send k p at j c (ap (λ n. slice_get (passed.sent n) j) (sym ships.1) ∙ c_at))))
 
       from_hand : (k : ℕ) (s : Sender) (q r : QueueId) → slice_get (senders v.work) k ≡ Some s → slice_get (from_queues v.ends) k ≡ Some q → slice_get (to_queues v.ends) k ≡ Some r → SendsFromHand s (passed.sent q.0) (passed.taken r.0)
       from_hand k s q r at fat tat =
           let x = ships_at k s q r at fat tat in
           let of = client_there k x.0 x.1 in
           record {
-            good = goods k x.0 x.1 s q r at x.2;
+            good = goods k x.0 x.1 s q r x.2;
             in_hand = λ b lt.
                 let hand = client_hand k of.0 of.1 x.0 of.2 b in
                 let long : x.0.tx.size ≡ s.size = sym (ap (λ (p : PoolAt). p.size) x.2.0) in
@@ -188,7 +188,7 @@ module _ (net : NetPlace) (frames : List (List ℕ)) (passed : Passed) (h : IsWh
           nothing false = append-nil (row.turn n)
 
       -- what went back to a client it had put before
-      went_back : (k : ℕ) (p : ClientPools) → slice_get net.pools k ≡ Some p → (s : Sender) (q r : QueueId) → slice_get (senders v.work) k ≡ Some s → slice_get (from_queues v.ends) k ≡ Some q → slice_get (to_queues v.ends) k ≡ Some r → Ships net.first k s q r p → Each (IsSend net.most p.tx) (passed.sent r.0)
+      went_back : (k : ℕ) (p : ClientPools) → slice_get net.pools k ≡ Some p → (s : Sender) (q r : QueueId) → slice_get (senders v.work) k ≡ Some s → slice_get (from_queues v.ends) k ≡ Some q → slice_get (to_queues v.ends) k ≡ Some r → Ships net.first net.most k s q r p → Each (IsSend net.most p.tx) (passed.sent r.0)
       went_back k p at s q r s_at q_at r_at ships = each_begun (IsSend net.most p.tx) (bad_ones s (row.turn q.0) ∷ own_of s (row.turn v.ends.input.queue.0) ∷ []) (passed.sent r.0) served.gives_back both
         where
           input : ℕ
@@ -248,7 +248,7 @@ module _ (net : NetPlace) (frames : List (List ℕ)) (passed : Passed) (h : IsWh
             let of : IsClientOf net k f.0 f.1 x.0 = record { address = f.3; pools = x.1; plays = f.2 } in
             let begun = begun_is k f.0 f.1 x.0 of in
             record {
-              good = goods k x.0 x.1 s q r.0 at x.2;
+              good = goods k x.0 x.1 s q r.0 x.2;
               begun = subst (IsPrefix (map frame_of (passed.sent q.0))) f.4 (subst (λ n. IsPrefix (map frame_of (passed.sent n)) (sends_of f.0 f.1 frames)) (sym x.2.1) begun);
             };
       }

@@ -43,7 +43,7 @@ use Rattle.net_quiet.proofs.TxOwners.Windows.{pick_home}
 
 -- a client at a place
 abbrev Shipping : List Sender → (from to : List QueueId) → ℕ → Shipper → Type 0
-Shipping ss from to k c = (s : Sender) × (q : QueueId) × (r : QueueId) × (slice_get ss k ≡ Some s) × (slice_get from k ≡ Some q) × (slice_get to k ≡ Some r) × (c ≡ record { active = q.0; free = r.0; pool = sender_pool s })
+Shipping ss from to k c = (s : Sender) × (q : QueueId) × (r : QueueId) × (slice_get ss k ≡ Some s) × (slice_get from k ≡ Some q) × (slice_get to k ≡ Some r) × (c ≡ record { active = q.0; free = r.0; pool = sender_pool s; most = s.most })
 
 shipper_at : (ss : List Sender) (from to : List QueueId) (k : ℕ) (c : Shipper) → slice_get (shippers ss from to) k ≡ Some c → Shipping ss from to k c
 shipper_at [] from to k c at = cc
@@ -52,7 +52,7 @@ shipper_at (s ∷ ss) (q ∷ from) [] k c at = cc
 shipper_at (s ∷ ss) (q ∷ from) (r ∷ to) zero c at = (s, q, r, refl, refl, refl, sym (some_is at))
 shipper_at (s ∷ ss) (q ∷ from) (r ∷ to) (suc k) c at = shipper_at ss from to k c at
 
-shipper_of : (ss : List Sender) (from to : List QueueId) (k : ℕ) (s : Sender) (q r : QueueId) → slice_get ss k ≡ Some s → slice_get from k ≡ Some q → slice_get to k ≡ Some r → slice_get (shippers ss from to) k ≡ Some (record { active = q.0; free = r.0; pool = sender_pool s })
+shipper_of : (ss : List Sender) (from to : List QueueId) (k : ℕ) (s : Sender) (q r : QueueId) → slice_get ss k ≡ Some s → slice_get from k ≡ Some q → slice_get to k ≡ Some r → slice_get (shippers ss from to) k ≡ Some (record { active = q.0; free = r.0; pool = sender_pool s; most = s.most })
 shipper_of [] from to k s q r at q_at r_at = cc
 shipper_of (t ∷ ss) [] to k s q r at q_at r_at = cc
 shipper_of (t ∷ ss) (x ∷ from) [] k s q r at q_at r_at = cc
@@ -60,7 +60,7 @@ shipper_of (t ∷ ss) (x ∷ from) (y ∷ to) zero s q r at q_at r_at =
     let first = some_is at in
     let second = some_is q_at in
     let third = some_is r_at in
-    ap (λ (z : Shipper). Some z) (Rattle.std.proofs.Common.ap₂ (λ (a : ℕ) (b : ℕ). let z : Shipper = record { active = a; free = b; pool = sender_pool t } in z) (ap (λ (z : QueueId). z.0) second) (ap (λ (z : QueueId). z.0) third) ∙ ap (λ (u : Sender). let z : Shipper = record { active = q.0; free = r.0; pool = sender_pool u } in z) first)
+    ap (λ (z : Shipper). Some z) (Rattle.std.proofs.Common.ap₂ (λ (a : ℕ) (b : ℕ). let z : Shipper = record { active = a; free = b; pool = sender_pool t; most = t.most } in z) (ap (λ (z : QueueId). z.0) second) (ap (λ (z : QueueId). z.0) third) ∙ ap (λ (u : Sender). let z : Shipper = record { active = q.0; free = r.0; pool = sender_pool u; most = u.most } in z) first)
 shipper_of (t ∷ ss) (x ∷ from) (y ∷ to) (suc k) s q r at q_at r_at = shipper_of ss from to k s q r at q_at r_at
 
 -- the clients' ranges don't meet
@@ -134,7 +134,7 @@ module _ (naming : Naming) (passed : Passed) (m : Moved) (v : NetVirtTx) (names 
       let there : slice_get (own_of s (passed.sent o)) kept.0 ≡ Some (to_client s.base x) = map_get (to_client s.base) (filter (is_own s) (passed.sent o)) kept.0 x kept.1 in
       let came : slice_get (filter (is_good_of s) (row.turn q.0.0)) kept.0 ≡ Some (to_client s.base x) = ap (λ cs. slice_get cs kept.0) (sym served.sends.1) ∙ get_first (own_of s (passed.sent o)) served.sends.0 kept.0 (to_client s.base x) there in
       let good = (kept_is (is_good_of s) (row.turn q.0.0) kept.0 (to_client s.base x) came).0 in
-      let c : Shipper = record { active = q.0.0; free = r.0.0; pool = sender_pool s } in
+      let c : Shipper = record { active = q.0.0; free = r.0.0; pool = sender_pool s; most = s.most } in
       let c_at = shipper_of (senders v.work) (from_queues v.ends) (to_queues v.ends) is.0 s q.0 r.0 is.2 q.1 r.1 in
       good_page is.0 c c_at s (row.sized is.0 s is.2) refl x.0 x.1 is.3.0 is.3.1 is.3.2 good
 

@@ -10,8 +10,6 @@ use Rattle.client_programs.specs.declared.net.NetClient.{NetClient}
 use Rattle.net_virt_tx.specs.Descriptors.{is_good}
 use Rattle.net_virt_tx.specs.Sending.{TxRow}
 use Rattle.net_virt_tx.specs.declared.NetVirtTx.{NetVirtTx}
-use Rattle.net_virt_tx.specs.declared.descriptors.Sender.{Sender}
-use Rattle.net_virt_tx.specs.Traffics.{senders}
 use Rattle.net_law.specs.Receiving.{HasRoom}
 use Rattle.net_law.specs.Owners.Names.{PoolAt, ClientPools}
 use Rattle.net_law.specs.Parts.Numbers.{client_first, device_at, client_at}
@@ -53,11 +51,9 @@ pub record IsClientOf (net : NetPlace) (k : ℕ) (program : Program) (mac : Mac)
   pub pools : slice_get net.pools k ≡ Some q
   pub plays : slice_get net.programs k ≡ Some program
 
--- a sending virtualiser has the class's queues and its clients' pools, takes frames of at most so
--- many bytes, and its row holds
+-- a sending virtualiser has the class's queues and its clients' pools, and its row holds
 pub record IsSenderAt (net : NetPlace) (v : NetVirtTx) (passed : Passed) : Type 0 where
-  pub part : send_part v ≡ sender_at net.first net.pools
-  pub most : (k : ℕ) (s : Sender) → slice_get (senders v.work) k ≡ Some s → s.most ≡ net.most
+  pub part : send_part v ≡ sender_at net.first net.most net.pools
   pub row : TxRow v passed
 
 -- a client of a number has its queues, its program and its pools; it has buffers to receive in, and

@@ -159,7 +159,7 @@ job_apart plan trace scene EthDriver p is = subst (λ q. AreApart (sheet scene q
 job_apart plan trace scene NetReceiver p is = subst (λ q. AreApart (sheet scene q).ends) (some_is is)
     (rising (intake 4 ∷ outlet 5 ∷ flat_map lessee_ends (lessees_from 0 0 (net_place plan trace).macs)) 0 0 (omega arith, (omega arith, leases_rise 0 (net_place plan trace).macs 5 6 (omega arith) (omega arith))))
 job_apart plan trace scene NetSender p is = subst (λ q. AreApart (sheet scene q).ends) (some_is is)
-    (rising (intake 7 ∷ outlet 6 ∷ flat_map shipper_ends (shippers_from 0 0 (net_place plan trace).pools)) 0 0 (omega arith, (omega arith, sends_rise 0 (net_place plan trace).pools 8 7 (omega arith) (omega arith))))
+    (rising (intake 7 ∷ outlet 6 ∷ flat_map shipper_ends (shippers_from 0 (net_place plan trace).most 0 (net_place plan trace).pools)) 0 0 (omega arith, (omega arith, sends_rise 0 (net_place plan trace).pools 8 7 (omega arith) (omega arith))))
 job_apart plan trace scene (NetCopier c) p is = subst (λ q. AreApart (sheet scene q).ends) (some_is is) (by_twos (client_first 0 c) (client_first 0 c + 3) (client_first 0 c + 2) (client_first 0 c + 1) (λ e. omega (arith, e)) (λ e. omega (arith, e)))
 job_apart plan trace scene (NetClient c) p is = subst (λ q. AreApart (sheet scene q).ends) (some_is is) (by_turns (client_first 0 c + 2) (client_first 0 c + 3) (client_first 0 c + 5) (client_first 0 c + 4) (λ e. omega (arith, e)) (λ e. omega (arith, e)))
 job_apart plan trace scene UartDevice p is = subst (λ q. AreApart (sheet scene q).ends) (some_is is) (one_each (first_serial plan + 1) (first_serial plan))

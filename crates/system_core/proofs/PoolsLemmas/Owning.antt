@@ -107,10 +107,10 @@ module _ (plan : Plan) (valid : Valid plan) where
       by (inr more) (inr same) = ne (omega (arith, more, same))
 
   -- no two clients send in one range
-  senders_apart : (trace : Trace) → ArePoolsApart (shippers_from 0 0 (net_place plan trace).pools)
+  senders_apart : (trace : Trace) → ArePoolsApart (shippers_from 0 (net_place plan trace).most 0 (net_place plan trace).pools)
   senders_apart trace j k c d c_at d_at ne a here =
-      let x = shipper_from 0 0 (net_place plan trace).pools j c c_at in
-      let y = shipper_from 0 0 (net_place plan trace).pools k d d_at in
+      let x = shipper_from 0 (net_place plan trace).most 0 (net_place plan trace).pools j c c_at in
+      let y = shipper_from 0 (net_place plan trace).most 0 (net_place plan trace).pools k d d_at in
       let p : c.pool ≡ x.0.tx = ap (λ (s : Shipper). s.pool) (sym x.2) in
       let q : d.pool ≡ y.0.tx = ap (λ (s : Shipper). s.pool) (sym y.2) in
       let v = value_is (length (net_clients plan)) (client_pools plan) j x.0 x.1 in
@@ -146,11 +146,11 @@ module _ (plan : Plan) (trace : Trace) (s : Shown) (valid : Valid plan) (cast_is
   ends_apart k p at = let job = job_at plan trace s valid cast_is k p at in job_apart plan trace scene job.0 p job.2
 
   -- each may put only what was in its hand
-  sender_is : (net : NetPlace) → net.first ≡ 0 → (p : SendPart) → IsOfNetwork net scene.frames (SendingPart p) → sender_at 0 net.pools ≡ p
+  sender_is : (net : NetPlace) → net.first ≡ 0 → (p : SendPart) → IsOfNetwork net scene.frames (SendingPart p) → sender_at 0 net.most net.pools ≡ p
   sender_is net first p (inl e) = absurd cc
   sender_is net first p (inr (inl e)) = absurd cc
   sender_is net first p (inr (inr (inl e))) = absurd cc
-  sender_is net first p (inr (inr (inr (inl e)))) = let same : p ≡ sender_at net.first net.pools = cc in sym (same ∙ ap (λ n. sender_at n net.pools) first)
+  sender_is net first p (inr (inr (inr (inl e)))) = let same : p ≡ sender_at net.first net.most net.pools = cc in sym (same ∙ ap (λ n. sender_at n net.most net.pools) first)
   sender_is net first p (inr (inr (inr (inr (inl x))))) = let e = x.2 in absurd cc
   sender_is net first p (inr (inr (inr (inr (inr x))))) = let e = x.5 in absurd cc
 

@@ -47,7 +47,7 @@ module _ (rows : List QueueRow) (cast : List Part) (m : Moved) (net : NetPlace) 
     device = plays (NetworkPart (device_at net.first (scene_of cast).frames)) whole.device;
     driver = plays (NetworkPart (driver_at net.first)) whole.driver;
     receiver = plays (NetworkPart (receiver_at net.first net.pool net.macs)) whole.receiver;
-    sender = plays (SendingPart (sender_at net.first net.pools)) whole.sender;
+    sender = plays (SendingPart (sender_at net.first net.most net.pools)) whole.sender;
     copier = λ k lt. plays (NetworkPart (copier_at net.first k)) (whole.copier k lt);
     client = λ k program mac q of. plays (NetworkPart (client_at net.first k program mac (own_pools q))) (whole.client k program mac q of);
   }
