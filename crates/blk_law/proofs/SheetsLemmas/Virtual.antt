@@ -297,8 +297,8 @@ module _ (scene : Scene) (v : BlkVirt) (passed : Passed) (m : Moved) (turn : Vir
   pub virt_row : (blk_sheet scene (virt_part v)).row m
   virt_row = record {
     first =
-        let said : IsPrefix (items_of sent) (first_item (record { number = v.work.opening.own.pool.0; base = v.work.opening.base; buffers = 1 }) ∷ items_of later) = items_begin sent (first_read v.work.opening.base row.start ∷ later) row.reads in
-        subst (λ l. IsPrefix l (first_item (record { number = v.work.opening.own.pool.0; base = v.work.opening.base; buffers = 1 }) ∷ drop 1 l)) (sym gave) (subst (λ l. IsPrefix (items_of sent) (first_item (record { number = v.work.opening.own.pool.0; base = v.work.opening.base; buffers = 1 }) ∷ l)) (drop_items sent) said);
+        let said : IsPrefix (items_of sent) (first_item (record { number = v.work.opening.own.pool.0; base = v.work.opening.base; buffers = 1; size = 32768 }) ∷ items_of later) = items_begin sent (first_read v.work.opening.base row.start ∷ later) row.reads in
+        subst (λ l. IsPrefix l (first_item (record { number = v.work.opening.own.pool.0; base = v.work.opening.base; buffers = 1; size = 32768 }) ∷ drop 1 l)) (sym gave) (subst (λ l. IsPrefix (items_of sent) (first_item (record { number = v.work.opening.own.pool.0; base = v.work.opening.base; buffers = 1; size = 32768 }) ∷ l)) (drop_items sent) said);
     numbers = λ j x x_at.
         let f = map_from (λ (y : Cargo). y.0) sent j x (ap (λ l. slice_get l j) (sym gave) ∙ x_at) in
         subst (λ (y : Item). (request_of y).id ≡ j % 2 ^ 32) f.2 (row.numbers j f.0 f.1);

@@ -132,7 +132,7 @@ asked_pages pool id (a ∷ asks) (p ∷ pages) each j x at = by (needs_buffer a.
 
 module _ (naming : Naming) (scene : Scene) (passed : Passed) (m : Moved) (c : BlkClient) (names : NamesBlk naming (blk_client_part c)) where
   abbrev pool : PoolAt
-  pool = record { number = c.asking.pool.0; base = 0; buffers = c.asking.buffers }
+  pool = record { number = c.asking.pool.0; base = 0; buffers = c.asking.buffers; size = 32768 }
 
   abbrev ws : List Window
   ws = offset_window pool ∷ []

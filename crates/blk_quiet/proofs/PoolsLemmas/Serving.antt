@@ -104,7 +104,7 @@ module _ (naming : Naming) (scene : Scene) (passed : Passed) (m : Moved) (items 
   o = v.ends.output.queue.0
 
   abbrev pool : PoolAt
-  pool = record { number = v.work.opening.own.pool.0; base = v.work.opening.base; buffers = 1 }
+  pool = record { number = v.work.opening.own.pool.0; base = v.work.opening.base; buffers = 1; size = 32768 }
 
   abbrev hs : List Holder
   hs = holders v.work.desk
