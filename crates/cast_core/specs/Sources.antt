@@ -44,6 +44,7 @@ pool_at rows n = record {
   number = n;
   base = option_map_or (λ (row : PoolRow). row.base) (slice_get rows n) 0;
   buffers = option_map_or (λ (row : PoolRow). row.buffers) (slice_get rows n) 0;
+  size = option_map_or (λ (row : PoolRow). row.size) (slice_get rows n) 0;
 }
 
 -- the pools of the network client of a number: they stand behind the device's, two by two

@@ -112,22 +112,22 @@ client_actor first k program mac pools (Kinds.BlkDriver x) e = absurd cc
 client_actor first k program mac pools (Kinds.BlkVirt x) e = absurd cc
 client_actor first k program mac pools (Kinds.BlkClient x) e = absurd cc
 
-pub sender_actor : (first : ℕ) (pools : List ClientPools) (x : Actor) → part_of x ≡ SendingPart (sender_at first pools) → (v : NetVirtTx) × (x ≡ Kinds.NetVirtTx v) × (send_part v ≡ sender_at first pools)
-sender_actor first pools (Kinds.UartDevice x) e = absurd cc
-sender_actor first pools (Kinds.UartDriver x) e = absurd cc
-sender_actor first pools (Kinds.SerialVirtRx x) e = absurd cc
-sender_actor first pools (Kinds.SerialVirtTx x) e = absurd cc
-sender_actor first pools (Kinds.SerialClient x) e = absurd cc
-sender_actor first pools (Kinds.EthDevice x) e = absurd cc
-sender_actor first pools (Kinds.EthDriver x) e = absurd cc
-sender_actor first pools (Kinds.NetVirtRx x) e = absurd cc
-sender_actor first pools (Kinds.NetCopier x) e = absurd cc
-sender_actor first pools (Kinds.NetClient x) e = absurd cc
-sender_actor first pools (Kinds.NetVirtTx x) e = (x, refl, cc)
-sender_actor first pools (Kinds.DiskDevice x) e = absurd cc
-sender_actor first pools (Kinds.BlkDriver x) e = absurd cc
-sender_actor first pools (Kinds.BlkVirt x) e = absurd cc
-sender_actor first pools (Kinds.BlkClient x) e = absurd cc
+pub sender_actor : (first most : ℕ) (pools : List ClientPools) (x : Actor) → part_of x ≡ SendingPart (sender_at first most pools) → (v : NetVirtTx) × (x ≡ Kinds.NetVirtTx v) × (send_part v ≡ sender_at first most pools)
+sender_actor first most pools (Kinds.UartDevice x) e = absurd cc
+sender_actor first most pools (Kinds.UartDriver x) e = absurd cc
+sender_actor first most pools (Kinds.SerialVirtRx x) e = absurd cc
+sender_actor first most pools (Kinds.SerialVirtTx x) e = absurd cc
+sender_actor first most pools (Kinds.SerialClient x) e = absurd cc
+sender_actor first most pools (Kinds.EthDevice x) e = absurd cc
+sender_actor first most pools (Kinds.EthDriver x) e = absurd cc
+sender_actor first most pools (Kinds.NetVirtRx x) e = absurd cc
+sender_actor first most pools (Kinds.NetCopier x) e = absurd cc
+sender_actor first most pools (Kinds.NetClient x) e = absurd cc
+sender_actor first most pools (Kinds.NetVirtTx x) e = (x, refl, cc)
+sender_actor first most pools (Kinds.DiskDevice x) e = absurd cc
+sender_actor first most pools (Kinds.BlkDriver x) e = absurd cc
+sender_actor first most pools (Kinds.BlkVirt x) e = absurd cc
+sender_actor first most pools (Kinds.BlkClient x) e = absurd cc
 
 pub disk_actor : (place : BlkPlace) (x : Actor) → part_of x ≡ BlockPart (disk_at place) → (d : Disk) × (x ≡ Kinds.DiskDevice d) × (disk_part d.start.value d.device ≡ disk_at place)
 disk_actor place (Kinds.UartDevice x) e = absurd cc

@@ -16,7 +16,7 @@ use Rattle.net_law.specs.Parts.Parts.{NetPart, NetClient}
 use Rattle.net_law.specs.Parts.Numbers.{device_at, driver_at, receiver_at, copier_at, client_at}
 use Rattle.net_law.specs.TxParts.Parts.{SendPart}
 use Rattle.net_law.specs.TxParts.Numbers.{NetPlace, own_pools, sender_at}
-use Rattle.net_quiet.specs.TxCast.Casting.{AreFrames, AreSends, IsClientOf}
+use Rattle.net_quiet.specs.TxCast.Casting.{AllSend, AreFrames, IsClientOf}
 use Rattle.blk_law.specs.Sheets.Parts.{BlkPart, BlkClient}
 use Rattle.blk_law.specs.Sheets.Numbers.{BlkPlace, IsBlkClientOf, disk_at, blk_driver_at, virt_at}
 use Rattle.blk_law.specs.Sheets.Numbers.{blk_client_at}
@@ -44,8 +44,9 @@ IsOfNetwork net frames p =
     × (p ≡ NetworkPart (client_at net.first k program mac (own_pools q))))
 
 -- a cast has the whole network and no other actor of it; each client has buffers to receive in, and
--- an address of six bytes; the class's queues carry entries of the network; and each frame,
--- received or of a script, has 14 to 1,514 bytes
+-- an address of six bytes; the class's queues carry entries of the network; each frame, received or
+-- of a script, has 14 bytes to the most; and no frame is longer than a buffer of any pool, or than
+-- an entry can say
 pub record HasWhole (rows : List QueueRow) (net : NetPlace) (cast : List Part) : Type 0 where
   pub pools_many : length net.pools ≡ length net.macs
   pub programs_many : length net.programs ≡ length net.macs
@@ -65,9 +66,13 @@ pub record HasWhole (rows : List QueueRow) (net : NetPlace) (cast : List Part) :
       × (slice_get rows (net.first + i) ≡ Some row) × (row.kind ≡ Kind.Net)
   pub some : (k : ℕ) (q : ClientPools) → slice_get net.pools k ≡ Some q → 1 ≤ q.rx.buffers
   pub addresses : (k : ℕ) (mac : Mac) → slice_get net.macs k ≡ Some mac → length mac.0 ≡ 6
-  pub frames : AreFrames (scene_of cast).frames
+  pub frames : AreFrames net.most (scene_of cast).frames
   pub scripts : (k : ℕ) (script : List (List ℕ)) → slice_get net.programs k ≡ Some (Source script)
-      → AreFrames script
+      → AreFrames net.most script
+  pub told : net.most < 65536
+  pub fits : net.most ≤ net.pool.size
+  pub fits_client : (k : ℕ) (q : ClientPools) → slice_get net.pools k ≡ Some q
+      → (net.most ≤ q.rx.size) × (net.most ≤ q.tx.size)
 
 -- a cast has no actor of the network
 pub record HasNoNetwork (cast : List Part) : Type 0 where
@@ -122,17 +127,14 @@ ClientsAsk cast passed = (k req resp : ℕ) (asks : List Ask) (pool : PoolAt)
     → slice_get cast k ≡ Some (BlockPart (BlkClient req resp asks pool))
     → AreRequests pool (passed.sent req)
 
--- each network client put entries alone that send frames in buffers of its pool for sending
-abbrev pub NetClientsSend : List Part → Passed → Type 0
-NetClientsSend cast passed = (k : ℕ) (program : Program) (mac : Mac)
-    (rx_active rx_free tx_active tx_free : ℕ) (rx tx : PoolAt)
-    → slice_get cast k
-    ≡ Some (NetworkPart (NetClient program mac rx_active rx_free tx_active tx_free rx tx))
-    → AreSends tx (passed.sent tx_active)
+-- wherever the network stands in a cast, each of its clients put entries alone that send frames in
+-- buffers of its pool for sending
+abbrev pub NetClientsSend : List QueueRow → List Part → Passed → Type 0
+NetClientsSend rows cast passed = (net : NetPlace) → HasWhole rows net cast → AllSend net passed
 
--- both
-pub record ClientsSend (cast : List Part) (passed : Passed) : Type 0 where
-  pub frames : NetClientsSend cast passed
+-- so they did, and each block client put requests in its own buffers alone
+pub record ClientsSend (rows : List QueueRow) (cast : List Part) (passed : Passed) : Type 0 where
+  pub frames : NetClientsSend rows cast passed
   pub requests : ClientsAsk cast passed
 
 -- what was put to each queue is of the queue's kind

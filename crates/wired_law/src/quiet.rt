@@ -46,7 +46,7 @@ pub fn quiet_law()
         → HasWhole rows net (map part_of actors) → IsWired rows (map part_of actors)
         → HasPools net
         → HasRooms (hostiles (map part_of actors)) rows net
-        → AreAtWork ends rows actors passed → ClientsSend (map part_of actors) passed
+        → AreAtWork ends rows actors passed → ClientsSend rows (map part_of actors) passed
         → HaveItems passed (moved history journal)
         → IsStill (hostiles (map part_of actors)) history rows
         (needful (sheet (scene_of (map part_of actors))) (map part_of actors)
@@ -60,7 +60,7 @@ pub fn quiet_law()
         → HasWhole rows net (map part_of actors) → IsWired rows (map part_of actors)
         → HasPools net
         → HasRooms (hostiles (map part_of actors)) rows net
-        → AreAtWork ends rows actors passed → ClientsSend (map part_of actors) passed
+        → AreAtWork ends rows actors passed → ClientsSend rows (map part_of actors) passed
         → HaveItems passed (moved history journal)
         → IsStill (hostiles (map part_of actors)) history rows
         (needful (sheet (scene_of (map part_of actors))) (map part_of actors)
@@ -81,7 +81,7 @@ pub fn quiet_law()
         → HasBlk rows place (map part_of actors) → IsWired rows (map part_of actors)
         → HasClientPools place
         → HasBlkRooms (hostiles (map part_of actors)) rows place
-        → AreAtWork ends rows actors passed → ClientsSend (map part_of actors) passed
+        → AreAtWork ends rows actors passed → ClientsSend rows (map part_of actors) passed
         → HaveItems passed (moved history journal)
         → IsStill (hostiles (map part_of actors)) history rows
         (needful (sheet (scene_of (map part_of actors))) (map part_of actors)
