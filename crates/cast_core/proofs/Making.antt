@@ -47,7 +47,7 @@ use Rattle.net_law.specs.TxParts.Playing.{sender_pool, shippers, send_part}
 use Rattle.trace_text.specs.Traces.{per_client}
 use Rattle.actor_set.specs.StartStates.{IsNewLender, IsNewSender, IsNewClientOf}
 use Rattle.sdf_plan.specs.declared.plan.Plan.{Plan}
-use Rattle.play_core.proofs.Lists.{there_is, map_from}
+use Rattle.play_core.proofs.Lists.{there_below, there_is, map_from}
 use Rattle.cast_core.specs.Sources.{client_mac, pool_at, pools_at}
 use Rattle.cast_core.specs.Making.{new_page, lease_ends, tx_ends, tx_range, HaveRanges, HasPools, HasPool, HasNetPool, AreShort}
 use Rattle.cast_core.proofs.Listing.{value_count, value_at, value_is, take_from}
@@ -195,6 +195,14 @@ module _ (rows : List PoolRow) (clients most : ℕ) (ends : List TxEnds) (v : Ne
       ap (λ n. made n v.ends.input.queue.0 (shippers (senders v.work) (from_queues v.ends) (to_queues v.ends))) output
       ∙ (ap (λ n. made 6 n (shippers (senders v.work) (from_queues v.ends) (to_queues v.ends))) input
       ∙ ap (made 6 7) shippers_is)
+
+-- the rows of the class's pools are there
+pub net_rows : (rows : List PoolRow) (clients : ℕ) → HasPools rows clients → 1 + 2 * clients ≤ length rows
+net_rows rows zero pools = let below = there_below rows 0 pools.first.row pools.first.there in omega (arith, below)
+net_rows rows (suc n) pools =
+    let last = pools.tx n (omega arith) in
+    let below = there_below rows (2 + 2 * n) last.row last.there in
+    omega (arith, below)
 
 -- the clients fit where they are those of the rows
 pub tx_ranges : (rows : List PoolRow) (clients : ℕ) (ends : List TxEnds) → ends ≡ per_client clients (tx_ends rows) → HasPools rows clients → HaveRanges ends

@@ -1,5 +1,5 @@
 -- The pools of a valid plan are there, apart from each other, and end low.
-use Rattle.std.proofs.Common.{◌≡◌, ◌⊎◌, ◌+◌, ◌-◌, ◌*◌, ◌<◌, ◌≤◌, ◌^◌, ℕ, zero, suc, max, fold, true, Option, Some, None, List, [], ◌∷◌, codes, length, map, slice_get, refl, sym, ap, arith, inl, inr, ◌∙◌, ap₂, ◌++◌}
+use Rattle.std.proofs.Common.{subst, ◌≡◌, ◌⊎◌, ◌+◌, ◌-◌, ◌*◌, ◌<◌, ◌≤◌, ◌^◌, ℕ, zero, suc, max, fold, true, Option, Some, None, List, [], ◌∷◌, codes, length, map, slice_get, refl, sym, ap, arith, inl, inr, ◌∙◌, ap₂, ◌++◌}
 use Rattle.std.specs.List.{All}
 use Rattle.std.specs.Option.{option_map_or}
 use Rattle.std.proofs.Math.Nat.{div-mul-le_self, mul_comm}

@@ -66,7 +66,7 @@ module _ (ends : Role → ℕ → End) (history : History) (rows : List QueueRow
   module _ (still : IsStill (hostiles cast) history rows (needful (sheet (scene_of cast)) cast (moved history journal)) journal) where
     pub recorded_whole : (k c : ℕ) (x : Actor) (program : Program) (mac : Mac) (q : ClientPools) → slice_get actors k ≡ Some x → IsClientOf net c program mac q → part_of x ≡ NetworkPart (client_at net.first c program mac (own_pools q)) → frames_got x ≡ frames_for mac frames
     recorded_whole k c x program mac q at of part =
-        let begun = recorded ends rows actors passed net whole work k c x program mac (own_pools q) at part (whole.some c q of.pools) of.address in
+        let begun = recorded ends rows actors passed net whole work k c x program mac (own_pools q) at part (whole.some c q of.pools) (whole.fits_client c q of.pools).0 of.address in
         let got = frames_here passed x (work.stands k x at) ∙ ap (frames_by passed) part in
         record_whole (hostiles cast) history rows (needful (sheet (scene_of cast)) cast (moved history journal)) journal (scene_of cast) net still there passed items c mac of.address (frames_got x) (client_first net.first c + 2) refl got begun
 

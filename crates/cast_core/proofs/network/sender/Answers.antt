@@ -2,8 +2,11 @@ use Rattle.std.proofs.Common.{length, refl, ap, ◌∙◌, arith}
 use Rattle.trace_text.specs.Limits.{frame_most}
 use Rattle.cast_core.specs.Making.{tx_ends}
 use Rattle.cast_core.proofs.Listing.{value_count}
-use Rattle.cast_core.proofs.Making.{tx_ranges, tx_fits, tx_part}
+use Rattle.cast_core.proofs.Making.{net_rows, tx_ranges, tx_fits, tx_part}
 use Rattle.cast_core.proofs.network.sender.Goals as goal
+
+pub tx_ends-requires-clause-rows : goal.tx_ends-requires-clause-rows
+tx_ends-requires-clause-rows c = net_rows c.args.pools.now c.args.clients c.requires.pools
 
 pub ranges-requires-clause-ranges : goal.ranges-requires-clause-ranges
 ranges-requires-clause-ranges c = tx_ranges c.args.pools.now c.args.clients c.deref.result.now (c.deref.ensures.value ∙ c.in_ok-ends.ensures) c.requires.pools
