@@ -46,7 +46,6 @@ pub enum Actor {
 impl Actor {
     /// Whether nothing is to be done before a notification comes.
     pub fn at_rest(&self) -> bool
-        requires { IsWhole self.now }
         ensures { result ≡ actor_rests self.now }
     {
         match self {

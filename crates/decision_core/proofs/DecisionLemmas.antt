@@ -40,7 +40,7 @@ bad-same words k l h i = elim (cases_lt k l) [
 ]
 
 -- a command has no bad word
-bad-none : (words : List (List ℕ)) (k : ℕ) (command : Command) → IsBadWord words k → Spells words command → ⊥
+pub bad-none : (words : List (List ℕ)) (k : ℕ) (command : Command) → IsBadWord words k → Spells words command → ⊥
 bad-none words k command h s = elim (cases_lt k (length words)) [
   | inl lt ↦ h.here lt (drop (k + 1) words, command, subst (λ ws. Spells ws command) (sym (take-append-drop (k + 1) words)) s)
   | inr ge ↦ h.whole (omega (arith, h.within)) command s
@@ -52,7 +52,7 @@ asks-spell words desc trace _ (to_play o p) = (Do.Play o, (desc, trace, p))
 asks-spell words desc trace _ (to_run n p) = (Do.Run n, (desc, trace, p))
 
 -- words that name a description are a command
-names-spell : (words : List (List ℕ)) (desc : List ℕ) → NamesDescription words desc → (command : Command) × Spells words command
+pub names-spell : (words : List (List ℕ)) (desc : List ℕ) → NamesDescription words desc → (command : Command) × Spells words command
 names-spell words desc (inl c) = (Do.Check, (desc, c))
 names-spell words desc (inr (inl l)) = (Do.Layout, (desc, l))
 names-spell words desc (inr (inr p)) = asks-spell words desc p.0 p.1 p.2
@@ -162,7 +162,7 @@ one-text P Q one bytes _ _ (accepted p d l h q) (accepted p' d' m i q') =
     one p' d d' (subst (λ x. P x d) (same-accepted bytes p p' h i) q) q'
 
 -- no words are `gen` and another command
-gen-or-named : (words : List (List ℕ)) (n : ℕ) (desc : List ℕ) → IsGen words n → NamesDescription words desc → ⊥
+pub gen-or-named : (words : List (List ℕ)) (n : ℕ) (desc : List ℕ) → IsGen words n → NamesDescription words desc → ⊥
 gen-or-named words n desc g (inl c) = let e = sym g.words_are ∙ c.words_are in cc
 gen-or-named words n desc g (inr (inl l)) = let e = sym g.words_are ∙ l.words_are in cc
 gen-or-named words n desc g (inr (inr p)) = gen-or-traced p.1 p.2 where

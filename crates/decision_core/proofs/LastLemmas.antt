@@ -8,10 +8,11 @@ use Rattle.decision_core.specs.declared.showing.Asked.TheVariants as Ask
 use Rattle.decision_core.specs.declared.status.Status.{Status}
 use Rattle.decision_core.specs.declared.status.Status.TheVariants as Ended
 use Rattle.sdf_model.specs.Counts.{text_most}
-use Rattle.shelf_core.specs.Outside.{IsRead, read_most}
+use Rattle.shelf_core.specs.Outside.{IsRead, read_most, also_opened}
 use Rattle.decision_core.specs.Decisions.{Decision, asked_on, AsksFor, TextDecides, TraceDecides, GeneratedDecides, long_description, refused, accepted, long_trace, bad_trace, good_trace, NamesDescription, IsStatusOf}
-use Rattle.shelf_core.specs.Reading.{Behind}
-use Rattle.decision_core.specs.Readings.{IsLong, IsWithinLimit, IsOfText, IsOfPlay, IsUnread, LeavesPlay, LeavesPlan, LeavesText, ReadLast, read_description, read_trace}
+use Rattle.shelf_core.specs.Reading.{Behind, WasRead}
+use Rattle.decision_core.specs.Readings.{IsLong, IsWithinLimit, IsOfText, IsOfPlay, IsUnread, LeavesPlay, LeavesPlan, LeavesText, ReadLast, read_description, read_trace, OpensTrace, OpensText, OpensInTurn, opens_description, opens_trace}
+use Rattle.decision_core.specs.Judged.{IsAccepted}
 use Rattle.decision_core.proofs.DecisionLemmas.{same-desc}
 
 -- a text is too long, or within the limit, as the bytes are that were read of it
@@ -39,27 +40,42 @@ trace-status told plan a bytes _ s r (bad_trace k l b) h = inr (within-read told
 trace-status told plan a bytes _ s r (good_trace l g) h = inr (within-read told bytes r l, asked-leads plan _ a s h)
 
 -- what was asked of a trace leaves what a plan leaves
-pub play-leaves : (told : List ℕ → Option (List ℕ)) (words : List (List ℕ)) (desc trace : List ℕ) (options : Asked) (old new : Option (List ℕ)) (s : Status)
-    → AsksFor words desc trace options → LeavesPlay told trace old new s → LeavesPlan told words old new s
-play-leaves told words desc trace options old new s p h = inr (desc, trace, options, p, h.0, h.1)
+pub play-leaves : (told : List ℕ → Option (List ℕ)) (words : List (List ℕ)) (desc trace : List ℕ) (options : Asked) (old new : Option (List ℕ)) (before after : Option (List (List ℕ))) (s : Status)
+    → AsksFor words desc trace options → after ≡ also_opened before trace → LeavesPlay told trace old new s → LeavesPlan told words old new before after s
+play-leaves told words desc trace options old new before after s p o h = inr (desc, trace, options, p, h.0, h.1, o)
+
+-- the description was opened, and then the trace
+opened-both : (words : List (List ℕ)) (desc desc' trace : List ℕ) (asked : Asked) (start before after : Option (List (List ℕ))) → NamesDescription words desc → AsksFor words desc' trace asked
+    → before ≡ also_opened start desc → after ≡ also_opened before trace → after ≡ also_opened (also_opened start desc') trace
+opened-both words desc desc' trace asked start before after named asks o e =
+    e ∙ ap (λ names. also_opened names trace) (o ∙ ap (λ d. also_opened start d) (same-desc words desc desc' named (inr (inr (trace, asked, asks)))))
+
+-- what was opened, once the description was read
+pub text-opens : (told : List ℕ → Option (List ℕ)) (words : List (List ℕ)) (desc bytes : List ℕ) (start before after : Option (List (List ℕ))) → NamesDescription words desc → before ≡ also_opened start desc
+    → IsRead (told desc) bytes → OpensText words bytes before after → OpensInTurn (WasRead told) words start after
+text-opens told words desc bytes start before after named o r (inl e) = opens_description desc named (e ∙ o)
+text-opens told words desc bytes start before after named o r (inr h) = elim h.3 [
+  | inl e ↦ opens_description desc named (e ∙ o)
+  | inr t ↦ opens_trace t.0 t.1 bytes t.2 h.0 t.3 (subst (λ d. WasRead told d bytes) (same-desc words desc t.0 named (inr (inr (t.1, t.2, t.3)))) r) h.1 h.2 (opened-both words desc t.0 t.1 t.2 start before after named t.3 o t.4)
+]
 
 -- what was read last, once a description within the limit was read
-plan-read-last : (told told' : List ℕ → Option (List ℕ)) → ((n : List ℕ) → told' n ≡ told n) → (words : List (List ℕ)) (desc : List ℕ) (first old new : Option (List ℕ)) (s : Status)
-    → NamesDescription words desc → Behind told desc old → IsWithinLimit (told desc) → LeavesPlan told' words old new s → ReadLast told words first new s
+plan-read-last : (told told' : List ℕ → Option (List ℕ)) → ((n : List ℕ) → told' n ≡ told n) → (words : List (List ℕ)) (desc : List ℕ) (first old new : Option (List ℕ)) (start before after : Option (List (List ℕ))) (s : Status)
+    → NamesDescription words desc → Behind told desc old → before ≡ also_opened start desc → IsWithinLimit (told desc) → LeavesPlan told' words old new before after s → ReadLast told words first new start after s
 unfolding Behind
-plan-read-last told told' same words desc first old new s named behind within (inl h) = read_description desc named (h.1 ∙ behind) (inr (within, h.0))
-plan-read-last told told' same words desc first old new s named behind within (inr h) =
+plan-read-last told told' same words desc first old new start before after s named behind o within (inl h) = read_description desc named (h.1 ∙ behind) (h.2 ∙ o) (inr (within, h.0))
+plan-read-last told told' same words desc first old new start before after s named behind o within (inr h) =
     read_trace h.0 h.1 h.2 h.3 (subst (λ d. IsWithinLimit (told d)) (same-desc words desc h.0 named (inr (inr (h.1, h.2, h.3)))) within)
-    (h.4 ∙ ap (option_map (drop read_most)) (same h.1)) (subst (λ o. IsOfText o IsOfPlay s) (same h.1) h.5)
+    (h.4 ∙ ap (option_map (drop read_most)) (same h.1)) (opened-both words desc h.0 h.1 h.2 start before after named h.3 o h.6) (subst (λ o. IsOfText o IsOfPlay s) (same h.1) h.5)
 
 -- what was read last, once the description was read
-pub last-read : (told told' : List ℕ → Option (List ℕ)) → ((n : List ℕ) → told' n ≡ told n) → (words : List (List ℕ)) (desc bytes : List ℕ) (first old new : Option (List ℕ)) (s : Status)
-    → NamesDescription words desc → Behind told desc old → IsRead (told desc) bytes → LeavesText told' words bytes old new s → ReadLast told words first new s
+pub last-read : (told told' : List ℕ → Option (List ℕ)) → ((n : List ℕ) → told' n ≡ told n) → (words : List (List ℕ)) (desc bytes : List ℕ) (first old new : Option (List ℕ)) (start before after : Option (List (List ℕ))) (s : Status)
+    → NamesDescription words desc → Behind told desc old → before ≡ also_opened start desc → IsRead (told desc) bytes → LeavesText told' words bytes old new before after s → ReadLast told words first new start after s
 unfolding Behind
-last-read told told' same words desc bytes first old new s named behind r (inl h) =
-    read_description desc named (h.2 ∙ behind) (inl (long-read (told desc) bytes r h.0, h.1))
-last-read told told' same words desc bytes first old new s named behind r (inr h) =
-    plan-read-last told told' same words desc first old new s named behind (within-read (told desc) bytes r h.0) h.1
+last-read told told' same words desc bytes first old new start before after s named behind o r (inl h) =
+    read_description desc named (h.2 ∙ behind) (h.3 ∙ o) (inl (long-read (told desc) bytes r h.0, h.1))
+last-read told told' same words desc bytes first old new start before after s named behind o r (inr h) =
+    plan-read-last told told' same words desc first old new start before after s named behind o (within-read (told desc) bytes r h.0) h.1
 
 -- what `gen` decides is an answer to a command that reads no text
 asked-unread : (plan : Plan) (t : Trace) (a : Asked) (s : Status) → IsStatusOf (asked_on plan t a) s → IsUnread s

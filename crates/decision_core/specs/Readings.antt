@@ -1,12 +1,15 @@
--- Which text is read last, and how far.
+-- Which texts are opened, in which order, and how far the last is read.
 use Rattle.std.specs.Prelude.{◌≡◌, ◌≤◌, ◌<◌, ◌⊎◌, ℕ, Option, List, length, IfSome}
 use Rattle.command_words.specs.Words.{IsCheck, IsLayout, IsGen}
+use Rattle.sdf_plan.specs.declared.plan.Plan.{Plan}
 use Rattle.decision_core.specs.declared.status.Status.{Status}
 use Rattle.decision_core.specs.declared.status.Status.TheVariants as Ended
 use Rattle.sdf_model.specs.Counts.{text_most}
+use Rattle.shelf_core.specs.Outside.{also_opened}
 use Rattle.shelf_core.specs.Reading.{Behind}
 use Rattle.decision_core.specs.declared.showing.Asked.{Asked}
 use Rattle.decision_core.specs.Decisions.{NamesDescription, AsksFor}
+use Rattle.decision_core.specs.Judged.{IsAccepted}
 
 -- a text is too long, where it is told
 abbrev pub IsLong : Option (List ℕ) → Type 0
@@ -52,20 +55,21 @@ abbrev pub LeavesPlay : (List ℕ → Option (List ℕ)) → List ℕ → Option
 LeavesPlay told trace old new status =
     Behind told trace new × IsOfText (told trace) IsOfPlay status
 
--- the same of the words of a command whose description was read
+-- the same of the words of a command whose description was read, and what was opened for it
 abbrev pub LeavesPlan : (List ℕ → Option (List ℕ)) → List (List ℕ) → Option (List ℕ)
-    → Option (List ℕ) → Status → Type 0
-LeavesPlan told words old new status =
-    (IsOfPlan words status × (new ≡ old))
+    → Option (List ℕ) → Option (List (List ℕ)) → Option (List (List ℕ)) → Status → Type 0
+LeavesPlan told words old new before after status =
+    (IsOfPlan words status × (new ≡ old) × (after ≡ before))
     ⊎ ((desc : List ℕ) × (trace : List ℕ) × (asked : Asked) × AsksFor words desc trace asked
-    × Behind told trace new × IsOfText (told trace) IsOfPlay status)
+    × Behind told trace new × IsOfText (told trace) IsOfPlay status
+    × (after ≡ also_opened before trace))
 
 -- the same of these bytes of a description
 abbrev pub LeavesText : (List ℕ → Option (List ℕ)) → List (List ℕ) → List ℕ → Option (List ℕ)
-    → Option (List ℕ) → Status → Type 0
-LeavesText told words bytes old new status =
-    ((text_most < length bytes) × (status ≡ Ended.TooLong) × (new ≡ old))
-    ⊎ ((length bytes ≤ text_most) × LeavesPlan told words old new status)
+    → Option (List ℕ) → Option (List (List ℕ)) → Option (List (List ℕ)) → Status → Type 0
+LeavesText told words bytes old new before after status =
+    ((text_most < length bytes) × (status ≡ Ended.TooLong) × (new ≡ old) × (after ≡ before))
+    ⊎ ((length bytes ≤ text_most) × LeavesPlan told words old new before after status)
 
 -- an answer to a command that reads no text
 abbrev pub IsUnread : Status → Type 0
@@ -79,18 +83,51 @@ IsUnread Ended.ReadFault = ⊥
 IsUnread Ended.WriteFault = ⊥
 IsUnread (Ended.Memory memory) = ⊥
 
--- which text was read last, and how far, where this is the answer to the words: none for bad words
--- and for `gen`;
--- the description where it is too long or refused, or the words name no trace; else the trace. A
--- text that is too long is the one that was read last, and the trace is read where the description
--- is within the limit.
+-- what was opened behind the description: nothing, or the trace that the words name
+abbrev pub OpensTrace : List (List ℕ) → Option (List (List ℕ)) → Option (List (List ℕ)) → Type 0
+OpensTrace words before after =
+    (after ≡ before)
+    ⊎ ((desc : List ℕ) × (trace : List ℕ) × (asked : Asked) × AsksFor words desc trace asked
+    × (after ≡ also_opened before trace))
+
+-- the same of these bytes of the description: nothing where they aren't accepted
+abbrev pub OpensText : List (List ℕ) → List ℕ → Option (List (List ℕ)) → Option (List (List ℕ))
+    → Type 0
+OpensText words bytes before after =
+    (after ≡ before)
+    ⊎ ((plan : Plan) × (length bytes ≤ text_most) × IsAccepted bytes plan
+    × OpensTrace words before after)
+
+-- which texts are opened for the words, and in which order, however the call ends: none where they
+-- name no description; else the description; and next the trace, once the description was read and
+-- is accepted
+pub data OpensInTurn (reads : List ℕ → List ℕ → Type 0) (words : List (List ℕ))
+    (before after : Option (List (List ℕ))) : Type 0 where
+  opens_nothing : ((desc : List ℕ) → NamesDescription words desc → ⊥) → after ≡ before
+      → OpensInTurn reads words before after
+  opens_description : (desc : List ℕ) → NamesDescription words desc
+      → after ≡ also_opened before desc → OpensInTurn reads words before after
+  opens_trace : (desc trace bytes : List ℕ) (asked : Asked) (plan : Plan)
+      → AsksFor words desc trace asked → reads desc bytes → length bytes ≤ text_most
+      → IsAccepted bytes plan → after ≡ also_opened (also_opened before desc) trace
+      → OpensInTurn reads words before after
+
+-- which texts were opened, in which order, and how far the last was read, where this is the answer
+-- to the words: none for bad words and for `gen`; the description alone where it is too long or
+-- refused, or the words name no trace; else the description and then the trace. A text that is too
+-- long is the one that was read last, and the trace is read where the description is within the
+-- limit.
 pub data ReadLast (told : List ℕ → Option (List ℕ)) (words : List (List ℕ))
-    (old new : Option (List ℕ)) (status : Status) : Type 0 where
-  read_none : (k : ℕ) → status ≡ Ended.Usage k → new ≡ old → ReadLast told words old new status
-  read_no_text : (n : ℕ) → IsGen words n → IsUnread status → new ≡ old
-      → ReadLast told words old new status
+    (old new : Option (List ℕ)) (before after : Option (List (List ℕ))) (status : Status)
+    : Type 0 where
+  read_none : (k : ℕ) → status ≡ Ended.Usage k → new ≡ old → after ≡ before
+      → ReadLast told words old new before after status
+  read_no_text : (n : ℕ) → IsGen words n → IsUnread status → new ≡ old → after ≡ before
+      → ReadLast told words old new before after status
   read_description : (desc : List ℕ) → NamesDescription words desc → Behind told desc new
-      → IsOfText (told desc) (IsOfPlan words) status → ReadLast told words old new status
+      → after ≡ also_opened before desc → IsOfText (told desc) (IsOfPlan words) status
+      → ReadLast told words old new before after status
   read_trace : (desc trace : List ℕ) (asked : Asked) → AsksFor words desc trace asked
-      → IsWithinLimit (told desc) → Behind told trace new → IsOfText (told trace) IsOfPlay status
-      → ReadLast told words old new status
+      → IsWithinLimit (told desc) → Behind told trace new
+      → after ≡ also_opened (also_opened before desc) trace
+      → IsOfText (told trace) IsOfPlay status → ReadLast told words old new before after status

@@ -8,13 +8,14 @@ ghost use Rattle.report_text.specs.Answers.{usage_text, accepted_text, bad_trace
 ghost use Rattle.report_text.specs.Layouts.{layout_text};
 ghost use Rattle.command_words.specs.Words.{texts_of, IsGen, Spells, last_name};
 ghost use Rattle.command_words.specs.declared.command.Command.{Command};
-ghost use Rattle.shelf_core.specs.Outside.{Rose};
+ghost use Rattle.shelf_core.specs.Outside.{Rose, also_opened};
 ghost use Rattle.decision_core.specs.Judged.{IsAcceptedPlan};
 ghost use Rattle.decision_core.specs.Decided.{decision_of, OfEach};
 ghost use Rattle.decision_core.specs.Decisions.{Say, AsksFor, Decides, TextDecides, PlanDecides};
 ghost use Rattle.decision_core.specs.Decisions.{TraceDecides, GeneratedDecides, refuses, too_long};
 ghost use Rattle.shelf_core.specs.Reading.{WasRead};
 ghost use Rattle.decision_core.specs.Readings.{LeavesPlay, LeavesPlan, LeavesText, ReadLast};
+ghost use Rattle.decision_core.specs.Readings.{OpensTrace, OpensText, OpensInTurn};
 
 use crate::judging::judge;
 use crate::{Asked, Showing, Status};
@@ -162,6 +163,7 @@ fn decide_named<F: Shelf>(
         → PlanDecides (WasRead (F.text shelf.old)) words plan (decision_of d)) }
     ensures last { IfOk result (λ d. OfEach d (LeavesPlay (F.text shelf.old) trace.now
         (F.left shelf.old) (F.left shelf.new))) }
+    ensures opens { F.opens shelf.new ≡ also_opened (F.opens shelf.old) trace.now }
     ensures calm { OnOk result (F.faults shelf.new ≡ F.faults shelf.old) }
     ensures failed { result ≡ Err ReadStop.Failed → Rose (F.faults shelf.old) (F.faults shelf.new) }
     ensures starved { (memory : Memory) → result ≡ Err (ReadStop.Memory memory)
@@ -186,7 +188,8 @@ fn decide_plan<F: Shelf>(
     ensures decides { IfOk result (λ d. PlanDecides (WasRead (F.text shelf.old))
         (texts_of words.now) plan (decision_of d)) }
     ensures last { IfOk result (λ d. OfEach d (LeavesPlan (F.text shelf.old) (texts_of words.now)
-        (F.left shelf.old) (F.left shelf.new))) }
+        (F.left shelf.old) (F.left shelf.new) (F.opens shelf.old) (F.opens shelf.new))) }
+    ensures opens { OpensTrace (texts_of words.now) (F.opens shelf.old) (F.opens shelf.new) }
     ensures calm { OnOk result (F.faults shelf.new ≡ F.faults shelf.old) }
     ensures failed { result ≡ Err ReadStop.Failed → Rose (F.faults shelf.old) (F.faults shelf.new) }
     ensures starved { (memory : Memory) → result ≡ Err (ReadStop.Memory memory)
@@ -221,7 +224,10 @@ fn decide_text<F: Shelf>(
         (PlanDecides (WasRead (F.text shelf.old)) (texts_of words.now)) text.now
         (decision_of d)) }
     ensures last { IfOk result (λ d. OfEach d (LeavesText (F.text shelf.old) (texts_of words.now)
-        text.now (F.left shelf.old) (F.left shelf.new))) }
+        text.now (F.left shelf.old) (F.left shelf.new) (F.opens shelf.old)
+        (F.opens shelf.new))) }
+    ensures opens { OpensText (texts_of words.now) text.now (F.opens shelf.old)
+        (F.opens shelf.new) }
     ensures calm { OnOk result (F.faults shelf.new ≡ F.faults shelf.old) }
     ensures failed { result ≡ Err ReadStop.Failed → Rose (F.faults shelf.old) (F.faults shelf.new) }
     ensures starved { (memory : Memory) → result ≡ Err (ReadStop.Memory memory)
@@ -249,7 +255,9 @@ fn decide_command<F: Shelf>(
     ensures decides { IfOk result (λ d. Decides (WasRead (F.text shelf.old))
         (texts_of words.now) (decision_of d)) }
     ensures last { IfOk result (λ d. OfEach d (ReadLast (F.text shelf.old) (texts_of words.now)
-        (F.left shelf.old) (F.left shelf.new))) }
+        (F.left shelf.old) (F.left shelf.new) (F.opens shelf.old) (F.opens shelf.new))) }
+    ensures opens { OpensInTurn (WasRead (F.text shelf.old)) (texts_of words.now)
+        (F.opens shelf.old) (F.opens shelf.new) }
     ensures calm { OnOk result (F.faults shelf.new ≡ F.faults shelf.old) }
     ensures failed { result ≡ Err ReadStop.Failed → Rose (F.faults shelf.old) (F.faults shelf.new) }
     ensures starved { (memory : Memory) → result ≡ Err (ReadStop.Memory memory)
@@ -269,7 +277,9 @@ pub fn decide_words<F: Shelf>(
     ensures decides { IfOk result (λ d. Decides (WasRead (F.text shelf.old))
         (texts_of words.now) (decision_of d)) }
     ensures last { IfOk result (λ d. OfEach d (ReadLast (F.text shelf.old) (texts_of words.now)
-        (F.left shelf.old) (F.left shelf.new))) }
+        (F.left shelf.old) (F.left shelf.new) (F.opens shelf.old) (F.opens shelf.new))) }
+    ensures opens { OpensInTurn (WasRead (F.text shelf.old)) (texts_of words.now)
+        (F.opens shelf.old) (F.opens shelf.new) }
     ensures calm { OnOk result (F.faults shelf.new ≡ F.faults shelf.old) }
     ensures failed { result ≡ Err ReadStop.Failed → Rose (F.faults shelf.old) (F.faults shelf.new) }
     ensures starved { (memory : Memory) → result ≡ Err (ReadStop.Memory memory)

@@ -7,6 +7,7 @@ ghost use Rattle.std.specs.Prelude.{◌≡◌, ◌+◌, ℕ, List, [], map};
 ghost use Rattle.cargo_core.specs.Lists.{IsPrefix, PrefixMerge};
 ghost use Rattle.frame_core.specs.declared.mac.Mac.{Mac};
 ghost use Rattle.wire_core.specs.Lists.{Passed};
+ghost use Rattle.wire_core.specs.Queues.{items_of};
 ghost use Rattle.net_expect.specs.Expecting.{Program, sends_of};
 ghost use Rattle.buffer_kit.specs.Entries.{frame_of};
 ghost use Rattle.client_programs.specs.declared.net.NetClient.{NetClient};
@@ -16,13 +17,13 @@ ghost use Rattle.net_law.specs.Parts.Numbers.{client_first};
 ghost use Rattle.net_law.specs.TxParts.Numbers.{NetPlace};
 ghost use Rattle.net_law.specs.TxParts.Playing.{TakesGood};
 ghost use Rattle.net_quiet.specs.TxCast.Casting.{IsWholeCast, IsClientOf, IsSendingClient};
-ghost use Rattle.net_quiet.specs.TxCast.Casting.{AreSends, AllSend, sends_at};
+ghost use Rattle.net_quiet.specs.TxCast.Casting.{AreSends, AllSend, sends_at, wire_at};
 
 /// Where each client put good descriptors of its own buffers alone, nothing comes out of turn at
 /// the sending virtualiser, which takes good descriptors alone and gives such back alone; and the
-/// wire is a merge of beginnings of what the clients send. A client to which its buffers alone came
-/// back puts good descriptors of them alone; and the frames that it puts are a beginning of those
-/// that it sends.
+/// wire is a merge of beginnings of what the clients send: the frames that the items tell which the
+/// device took. A client to which its buffers alone came back puts good descriptors of them alone;
+/// and the frames that it puts are a beginning of those that it sends.
 pub fn whole_law()
     ensures turn { (net : NetPlace) (frames : List (List ℕ)) (passed : Passed)
         → (h : IsWholeCast net frames passed) → AllSend net passed
@@ -49,4 +50,7 @@ pub fn whole_law()
     ensures wire { (net : NetPlace) (frames : List (List ℕ)) (passed : Passed)
         → (h : IsWholeCast net frames passed) → AllSend net passed
         → PrefixMerge (sends_at net.programs net.macs frames) h.half.device.wire.tape.shown }
+    ensures told { (net : NetPlace) (frames : List (List ℕ)) (passed : Passed)
+        → (h : IsWholeCast net frames passed) → AllSend net passed → h.half.device.wire.tape.shown
+        ≡ wire_at net frames (items_of (passed.taken (net.first + 2))) }
 {}

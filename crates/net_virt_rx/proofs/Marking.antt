@@ -1,6 +1,5 @@
 -- Marks of clients, set one by one, and how many are set.
 use Rattle.std.proofs.Common.{◌≡◌, ◌+◌, ◌<◌, ◌≤◌, ℕ, zero, suc, Bool, true, false, Some, List, [], ◌∷◌, ◌++◌, length, map, take, drop, replicate, slice_get, slice_set, slice_index_or, refl, sym, ap, ◌∙◌, add-one, arith}
-use Rattle.std.proofs.lemmas.Option.{slice_get-get_or}
 use Rattle.wire_core.specs.Bells.{bit}
 use Rattle.net_virt_rx.specs.Sharing.{how_many}
 

@@ -1,9 +1,8 @@
 -- A frame came in turn, or a lease came back in turn: how it stands then, and which buffers it has.
-use Rattle.std.proofs.Common.{◌≡◌, ◌≢◌, ◌⊎◌, ◌+◌, ◌*◌, ◌-◌, ◌==◌, ◌<◌, ◌≤◌, ◌&&◌, ℕ, zero, suc, Bool, true, false, cond, nat_lt, inl, inr, Option, Some, None, List, [], ◌∷◌, ◌++◌, All, length, map, take, reverse, slice_get, slice_set, slice_index_or, if◌then◌else◌, refl, sym, ap, ◌∙◌, subst, add-zero, zero-add, arith}
+use Rattle.std.proofs.Common.{◌≡◌, ◌⊎◌, ◌+◌, ◌*◌, ◌-◌, ◌==◌, ◌<◌, ◌≤◌, ℕ, zero, suc, Bool, true, false, cond, nat_lt, inl, inr, Option, Some, None, List, [], ◌∷◌, ◌++◌, All, length, map, take, reverse, slice_get, slice_set, slice_index_or, if◌then◌else◌, refl, sym, ap, ◌∙◌, subst, add-zero, zero-add, arith}
 use Rattle.std.specs.Option.{option_to_list, option_map}
-use Rattle.std.proofs.lemmas.Bool.{eqb-true, lt-ltb, cases_eq, eq-eqb, ne_eqb}
-use Rattle.std.proofs.lemmas.Option.{slice_get_within}
-use Rattle.std.proofs.lemmas.List.{get_or-set_same, get_or-set_other, get_or-map}
+use Rattle.std.proofs.lemmas.Bool.{lt-ltb, cases_eq, eq-eqb, ne_eqb}
+use Rattle.std.proofs.lemmas.List.{get_or-set_same, get_or-set_other}
 use Rattle.std.proofs.lemmas.List.Elements.{All-nil, All-cons}
 use Rattle.cargo_core.specs.declared.item.PoolId.{PoolId}
 use Rattle.cargo_core.specs.declared.item.Item.{Item}
@@ -23,13 +22,12 @@ use Rattle.net_expect.specs.Expecting.{is_for_client}
 use Rattle.buffer_kit.specs.Entries.{addr_of, frame_of, len_of}
 use Rattle.buffer_kit.specs.Pools.{given_entry, page_bodies}
 use Rattle.buffer_kit.specs.Stocks.{stock_list, stock_hand}
-use Rattle.buffer_kit.specs.declared.stock.Stock.{Stock}
 use Rattle.net_virt_rx.specs.declared.sharer.Sharer.{Sharer}
-use Rattle.net_virt_rx.specs.Sharing.{IsSharer, IsLoan, IsBuffer, SharerStands, SameSharer, how_many, named, is_back, is_idle, is_out, is_owing, lease_of, lease_entry, leases_for, owed_to, owed_lease, loan_bodies, lent_bodies, sharer_hand, sharer_bodies, with_more}
-use Rattle.net_virt_rx.proofs.Marking.{all_clear, few_marked, one_less}
+use Rattle.net_virt_rx.specs.Sharing.{IsSharer, IsLoan, IsBuffer, SharerStands, how_many, named, is_back, is_idle, is_out, lease_of, lease_entry, leases_for, owed_to, owed_lease, loan_bodies, lent_bodies, sharer_hand, sharer_bodies, with_more}
+use Rattle.net_virt_rx.proofs.Marking.{all_clear, one_less}
 use Rattle.net_virt_rx.proofs.Naming.{buffer_named, given_named, lease_named, leases_one, offset_named, bit_same, bit_other}
 use Rattle.net_virt_rx.proofs.Standing.{takes, returns}
-use Rattle.net_virt_rx.proofs.Working.{idle_parts, no_next, no_stray, no_owed, no_list, none_work, back_parts, free_at, loan_at, lent_beside, lent_here, lends_work, back_work}
+use Rattle.net_virt_rx.proofs.Working.{no_next, no_owed, no_list, none_work, back_parts, free_at, loan_at, lent_beside, lent_here, lends_work, back_work}
 
 -- the clients that a frame is for
 abbrev pub marks_for : Sharer → Cargo → List Bool

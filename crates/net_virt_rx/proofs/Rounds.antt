@@ -1,5 +1,5 @@
 -- The turns of the virtualiser, its start, and its row.
-use Rattle.std.proofs.Common.{◌≡◌, ◌+◌, ◌*◌, ◌==◌, ◌<◌, ◌≤◌, ℕ, zero, suc, Bool, true, false, nat_lt, Option, Some, None, is_some, List, [], ◌∷◌, ◌++◌, All, length, map, slice_get, slice_index_or, refl, sym, ap, ◌∙◌, subst, arith}
+use Rattle.std.proofs.Common.{◌≡◌, ◌+◌, ◌==◌, ◌<◌, ◌≤◌, ℕ, Bool, true, false, nat_lt, Option, Some, None, is_some, List, [], ◌∷◌, ◌++◌, All, length, map, slice_get, slice_index_or, refl, sym, ap, ◌∙◌, subst, arith}
 use Rattle.std.specs.Option.{option_to_list}
 use Rattle.std.proofs.lemmas.Bool.{lt-ltb}
 use Rattle.std.proofs.lemmas.Option.{slice_get-get_or}
@@ -8,7 +8,6 @@ use Rattle.std.proofs.lemmas.List.Elements.{All-nil, All-cons, All-map}
 use Rattle.cargo_core.specs.declared.item.PoolId.{PoolId}
 use Rattle.cargo_core.specs.Bodies.{buffers_of}
 use Rattle.cargo_core.specs.Loans.{receivers_at}
-use Rattle.cargo_core.specs.Lists.{IsPrefix}
 use Rattle.cargo_core.specs.Pages.{Paged}
 use Rattle.frame_core.specs.declared.mac.Mac.{Mac}
 use Rattle.wire_core.specs.declared.names.QueueId.{QueueId}
@@ -21,16 +20,16 @@ use Rattle.turn_kit.specs.declared.turns.Turn.{Turn}
 use Rattle.turn_kit.specs.Hands.{bodies_of, bodies_at}
 use Rattle.turn_kit.specs.Turns.{PostedAt, Turned, Round, choice_of, chosen_place, last_after}
 use Rattle.turn_kit.proofs.Holding.{buffers-append}
-use Rattle.buffer_kit.specs.Pools.{given_entry, page_bodies}
+use Rattle.buffer_kit.specs.Pools.{given_entry}
 use Rattle.buffer_kit.specs.Stocks.{stock_list, stock_hand}
 use Rattle.buffer_kit.specs.declared.virt_ends.VirtEnd.{VirtEnd}
 use Rattle.buffer_kit.specs.declared.virt_ends.VirtEnds.{VirtEnds}
-use Rattle.buffer_kit.specs.Virtualising.{SameVirt, IsThere, from_queues, to_queues, virt_posts, virt_round, place_of, need_of}
+use Rattle.buffer_kit.specs.Virtualising.{IsThere, from_queues, to_queues, virt_posts, virt_round, place_of, need_of}
 use Rattle.buffer_kit.proofs.Counts.{stock_count, given_count}
-use Rattle.buffer_kit.proofs.VirtTurns.{turned, SameNeeds}
+use Rattle.buffer_kit.proofs.VirtTurns.{turned}
 use Rattle.net_virt_rx.specs.declared.NetVirtRx.{NetVirtRx}
 use Rattle.net_virt_rx.specs.declared.sharer.Sharer.{Sharer}
-use Rattle.net_virt_rx.specs.Sharing.{IsSharer, IsNewSharer, SharerStands, ClientStands, IsBuffer, is_idle, is_out, is_owing, how_many, named, leases_for, owed_to, owed_lease, sharer_hand, lent_bodies}
+use Rattle.net_virt_rx.specs.Sharing.{IsSharer, IsNewSharer, SharerStands, IsBuffer, is_idle, is_out, named, owed_to, owed_lease}
 use Rattle.net_virt_rx.specs.Receiving.{RxStands, RxStandsFor, RxRow, IsServed, IsOutOfTurn, SameRx, queue_at, rx_round}
 use Rattle.net_virt_rx.proofs.Marking.{all_clear}
 use Rattle.net_virt_rx.proofs.Naming.{named_append, named_once}

@@ -1,24 +1,21 @@
 -- How a virtualiser that shares frames stands after each thing that it does.
-use Rattle.std.proofs.Common.{◌≡◌, ◌≢◌, ◌⊎◌, ◌+◌, ◌*◌, ◌==◌, ◌<◌, ◌≤◌, ◌&&◌, ℕ, zero, suc, Bool, true, false, not, nat_lt, inl, inr, Option, Some, None, is_some, is_none, List, [], ◌∷◌, ◌++◌, All, length, map, slice_get, slice_set, slice_index_or, refl, sym, ap, ◌∙◌, subst, append_assoc, eq-eqb, ne_eqb, arith}
-use Rattle.std.specs.Option.{option_to_list}
-use Rattle.std.proofs.Math.Dec.{eqb}
+use Rattle.std.proofs.Common.{◌≡◌, ◌+◌, ◌==◌, ◌<◌, ℕ, nat_lt, Some, List, [], ◌∷◌, ◌++◌, All, length, map, slice_get, slice_index_or, refl, sym, ap, ◌∙◌, subst, append_assoc, arith}
 use Rattle.std.proofs.lemmas.Option.{slice_get_within}
-use Rattle.std.proofs.lemmas.List.{append-nil, length-append, get_or-set_same, get_or-set_other}
+use Rattle.std.proofs.lemmas.List.{append-nil}
 use Rattle.std.proofs.lemmas.List.Elements.{All-append, All-push}
 use Rattle.cargo_core.specs.Lists.{IsPrefix}
-use Rattle.cargo_core.specs.Loans.{Loan, receivers_at}
+use Rattle.cargo_core.specs.Loans.{receivers_at}
 use Rattle.cargo_core.specs.Pages.{Paged}
 use Rattle.frame_core.specs.declared.mac.Mac.{Mac}
 use Rattle.wire_core.specs.Bells.{bit}
 use Rattle.wire_core.specs.Deeds.{Cargo}
 use Rattle.wire_core.specs.Lists.{if_there}
-use Rattle.buffer_kit.specs.Entries.{frame_of}
 use Rattle.buffer_kit.specs.Pools.{given_entry}
 use Rattle.buffer_kit.specs.Stocks.{SameStock, stock_list}
 use Rattle.buffer_kit.specs.declared.stock.Stock.{Stock}
 use Rattle.net_virt_rx.specs.declared.sharer.Sharer.{Sharer}
 use Rattle.cargo_core.specs.declared.item.Body.TheVariants as Carried
-use Rattle.net_virt_rx.specs.Sharing.{SameSharer, ClientStands, SharerStands, IsBuffer, named, leases_for, owed_to, owed_lease, is_out, with_more}
+use Rattle.net_virt_rx.specs.Sharing.{SameSharer, ClientStands, SharerStands, IsBuffer, named, leases_for, owed_to, is_out, with_more}
 use Rattle.net_virt_rx.proofs.Naming.{named_append, leases_append}
 
 -- a beginning of a list is one of that list with more

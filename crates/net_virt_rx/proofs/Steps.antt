@@ -1,10 +1,10 @@
 -- What the virtualiser stands for after each call.
-use Rattle.std.proofs.Common.{◌≡◌, ◌≢◌, ◌⊎◌, ◌+◌, ◌*◌, ◌-◌, ◌==◌, ◌<◌, ◌≤◌, ◌^◌, ◌&&◌, ℕ, zero, suc, Bool, true, false, nat_lt, not, inl, inr, Option, Some, None, is_some, is_none, IsSome, List, [], ◌∷◌, ◌++◌, All, length, map, reverse, slice_get, slice_set, slice_index_or, refl, sym, ap, ◌∙◌, subst, append_assoc, add-zero, eq-eqb, ne_eqb, arith}
+use Rattle.std.proofs.Common.{◌≡◌, ◌⊎◌, ◌+◌, ◌*◌, ◌-◌, ◌/◌, ◌==◌, ◌<◌, ◌^◌, ◌&&◌, ℕ, zero, suc, Bool, true, false, nat_lt, not, inl, inr, Option, Some, None, is_some, is_none, IsSome, List, [], ◌∷◌, ◌++◌, length, map, reverse, slice_get, slice_set, slice_index_or, refl, sym, ap, ◌∙◌, subst, append_assoc, eq-eqb, ne_eqb, arith}
 use Rattle.std.specs.Option.{option_to_list}
-use Rattle.std.proofs.lemmas.Bool.{and_from, lt-ltb, ltb-true, cases_eq}
+use Rattle.std.proofs.Math.Nat.{mul-div_cancel}
+use Rattle.std.proofs.lemmas.Bool.{and_from, lt-ltb, cases_eq}
 use Rattle.std.proofs.lemmas.Option.{slice_get-get_or, slice_get_within, get_or_from_slice_get}
-use Rattle.std.proofs.lemmas.List.{append-nil, length-append, length-map, length-reverse, length-set, get_or-set_same, get_or-set_other}
-use Rattle.std.proofs.lemmas.List.Elements.{All-nil, All-push}
+use Rattle.std.proofs.lemmas.List.{append-nil, length-append, length-map, length-reverse, length-set, get_or-set_other}
 use Rattle.cargo_core.specs.declared.item.PoolId.{PoolId}
 use Rattle.cargo_core.specs.declared.item.Item.{Item}
 use Rattle.cargo_core.specs.declared.item.Body.TheVariants as Carried
@@ -16,7 +16,7 @@ use Rattle.wire_core.specs.declared.names.QueueId.{QueueId}
 use Rattle.wire_core.specs.Bells.{bit}
 use Rattle.wire_core.specs.declared.names.Event.{Event}
 use Rattle.wire_core.specs.Deeds.{Cargo, given, put_of}
-use Rattle.wire_core.specs.Lists.{Lists, Passed, with, if_there, nothing_passed}
+use Rattle.wire_core.specs.Lists.{Lists, Passed, with, if_there}
 use Rattle.wire_core.proofs.Places.{if_there_here}
 use Rattle.turn_kit.specs.Hands.{bodies_of, bodies_at}
 use Rattle.turn_kit.specs.ManyEnds.{AreApart}
@@ -30,11 +30,11 @@ use Rattle.buffer_kit.specs.Virtualising.{SameVirt, from_queues, to_queues}
 use Rattle.buffer_kit.proofs.Counts.{stock_count}
 use Rattle.buffer_kit.proofs.Passing.{none_more, beside, count_more, first_more, later_more}
 use Rattle.net_virt_rx.specs.declared.sharer.Sharer.{Sharer}
-use Rattle.net_virt_rx.specs.Sharing.{IsSharer, IsLoan, Owes, SameSharer, SharerStands, ClientStands, IsBuffer, IsFrameInTurn, IsLeaseInTurn, named, number_of, leases_for, lease_entry, is_back, is_returned, is_out, is_idle, is_owing, how_many, owed_to, owed_lease, sharer_hand, sharer_bodies, lent_bodies, with_more}
+use Rattle.net_virt_rx.specs.Sharing.{IsSharer, SameSharer, SharerStands, ClientStands, IsFrameInTurn, IsLeaseInTurn, named, is_back, is_returned, is_due_back, returned, IsDueBack, is_out, is_idle, is_owing, how_many, owed_to, owed_lease, sharer_hand, sharer_bodies, lent_bodies, with_more}
 use Rattle.net_virt_rx.specs.Receiving.{RxStands, IsOutOfTurn, queue_at}
 use Rattle.net_virt_rx.proofs.Marking.{one_less}
 use Rattle.net_virt_rx.proofs.Standing.{as_lists, gives}
-use Rattle.net_virt_rx.proofs.Working.{no_stray, no_list, owing_not}
+use Rattle.net_virt_rx.proofs.Working.{no_stray, no_list}
 
 some_eq : {X : Type 0} {a b : X} → Some a ≡ Some b → a ≡ b
 some_eq h = cc
@@ -260,21 +260,33 @@ frame_out w h idle (item, Carried.Page page) e start frames given shared back s 
     let no : true ≡ false = sym yes ∙ e in
     absurd cc
 
--- a lease that isn't out is out of turn
-pub lease_stray : (w : Sharer) → IsSharer w → (k : ℕ) (mac : Mac) → slice_get w.macs.items k ≡ Some mac → (x : Cargo) → is_returned w k x ≡ false → (frames earlier shared back : List Cargo) → ClientStands w k mac frames earlier shared back → IsLeaseInTurn w.stock mac frames back x → ⊥
-lease_stray w h k mac at (item, Carried.Page page) e frames earlier shared back s b = b
-lease_stray w h k mac at (item, Carried.Empty) e frames earlier shared back s b = b
-lease_stray w h k mac at (item, Carried.Lease l) e frames earlier shared back s b =
-    let was = s.backs l.no b.0 in
-    let less = b.2 in
-    let out = one_bit (is_out w l.no k) (λ z. omega (arith, was, less, z)) in
-    let yes : is_returned w k (item, Carried.Lease l) ≡ true = and_from _ _ (lt-ltb l.no w.stock.buffers b.0) (and_from _ _ (eq-eqb (addr_of item) (l.no * w.stock.size) b.1) out) in
+-- a lease that came back brings no buffer
+pub returned_bare : (w : Sharer) (k : ℕ) (x : Cargo) (n : ℕ) → returned w k x ≡ Some n → (pool : PoolId) → buffers_in pool x.1 ≡ 0
+returned_bare w k (item, Carried.Page page) n e pool = absurd cc
+returned_bare w k (item, Carried.Lease l) n e pool = refl
+returned_bare w k (item, Carried.Empty) n e pool = refl
+
+-- an item that names no buffer of which a lease is out names none that is due
+due_stray : (w : Sharer) → IsSharer w → (k : ℕ) (mac : Mac) (item : Item) → is_due_back w k item ≡ false → (frames earlier shared back : List Cargo) → ClientStands w k mac frames earlier shared back → IsDueBack w.stock mac frames back item → ⊥
+due_stray w h k mac item e frames earlier shared back s b =
+    let was = s.backs b.0 b.1 in
+    let less = b.3 in
+    let out = one_bit (is_out w b.0 k) (λ z. omega (arith, was, less, z)) in
+    let number : addr_of item / w.stock.size ≡ b.0 = ap (λ a. a / w.stock.size) b.2 ∙ mul-div_cancel b.0 h.some in
+    let by : nat_lt b.0 w.stock.buffers && ((addr_of item == b.0 * w.stock.size) && is_out w b.0 k) ≡ true = and_from _ _ (lt-ltb b.0 w.stock.buffers b.1) (and_from _ _ (eq-eqb (addr_of item) (b.0 * w.stock.size) b.2) out) in
+    let yes : is_due_back w k item ≡ true = ap (λ n. nat_lt n w.stock.buffers && ((addr_of item == n * w.stock.size) && is_out w n k)) number ∙ by in
     let no : true ≡ false = sym yes ∙ e in
     absurd cc
   where
     one_bit : (t : Bool) → (bit t ≡ 0 → ⊥) → t ≡ true
     one_bit true ne = refl
     one_bit false ne = absurd (ne refl)
+
+-- a lease that isn't out is out of turn
+pub lease_stray : (w : Sharer) → IsSharer w → (k : ℕ) (mac : Mac) → slice_get w.macs.items k ≡ Some mac → (x : Cargo) → is_returned w k x ≡ false → (frames earlier shared back : List Cargo) → ClientStands w k mac frames earlier shared back → IsLeaseInTurn w.stock mac frames back x → ⊥
+lease_stray w h k mac at (item, Carried.Page page) e frames earlier shared back s b = b
+lease_stray w h k mac at (item, Carried.Empty) e frames earlier shared back s b = due_stray w h k mac item e frames earlier shared back s b
+lease_stray w h k mac at (item, Carried.Lease l) e frames earlier shared back s b = due_stray w h k mac item e frames earlier shared back s b
 
 -- what was put is the load, or the load stays
 pub load_gone : (old p new : Option Cargo) → option_to_list old ≡ option_to_list p ++ option_to_list new → new ≡ None → option_to_list p ≡ option_to_list old

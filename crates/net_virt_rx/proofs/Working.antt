@@ -1,7 +1,6 @@
 -- What a virtualiser that shares frames keeps fits together, after each thing that it does.
-use Rattle.std.proofs.Common.{◌≡◌, ◌≢◌, ◌⊎◌, ◌+◌, ◌*◌, ◌-◌, ◌==◌, ◌<◌, ◌≤◌, ◌^◌, ◌&&◌, ℕ, zero, suc, Bool, true, false, not, nat_lt, inl, inr, Option, Some, None, is_some, is_none, List, [], ◌∷◌, ◌++◌, length, map, reverse, replicate, slice_get, slice_set, slice_index_or, if◌then◌else◌, refl, sym, ap, ◌∙◌, subst, arith}
+use Rattle.std.proofs.Common.{◌≡◌, ◌⊎◌, ◌+◌, ◌*◌, ◌-◌, ◌==◌, ◌<◌, ◌≤◌, ◌^◌, ◌&&◌, ℕ, zero, suc, Bool, true, false, not, nat_lt, inl, inr, Option, Some, None, is_some, is_none, List, [], length, map, reverse, replicate, slice_get, slice_set, slice_index_or, if◌then◌else◌, refl, sym, ap, ◌∙◌, subst, arith}
 use Rattle.std.specs.Option.{option_to_list, option_map}
-use Rattle.std.proofs.Math.Dec.{eqb}
 use Rattle.std.proofs.lemmas.Bool.{and_parts, eqb-true, ltb-true, lt-ltb, cases_eq, eq-eqb}
 use Rattle.std.proofs.lemmas.Option.{slice_get-get_or}
 use Rattle.std.proofs.lemmas.List.{length-append, length-map, length-reverse, length-replicate, length-set, get_or-replicate, get_or-set_same, get_or-set_other}
@@ -17,8 +16,8 @@ use Rattle.buffer_kit.specs.Pools.{given_entry}
 use Rattle.buffer_kit.specs.Stocks.{IsStock, IsStart, stock_list}
 use Rattle.buffer_kit.specs.declared.stock.Stock.{Stock}
 use Rattle.net_virt_rx.specs.declared.sharer.Sharer.{Sharer}
-use Rattle.net_virt_rx.specs.Sharing.{lent_bodies, IsSharer, IsLoan, Owes, how_many, is_owing, is_idle, is_back, is_out, owed_lease}
-use Rattle.net_virt_rx.proofs.Marking.{none_marked, one_less, all_clear}
+use Rattle.net_virt_rx.specs.Sharing.{lent_bodies, IsSharer, IsLoan, how_many, is_owing, is_idle, is_back, is_out}
+use Rattle.net_virt_rx.proofs.Marking.{none_marked, one_less}
 
 some_eq : {X : Type 0} {a b : X} → Some a ≡ Some b → a ≡ b
 some_eq h = cc

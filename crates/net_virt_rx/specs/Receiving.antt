@@ -1,5 +1,5 @@
 -- The receiving virtualiser: what it must fit, what it stands for, and its row.
-use Rattle.std.specs.Prelude.{◌≡◌, ◌⊎◌, ◌+◌, ◌==◌, ◌<◌, ◌≤◌, ℕ, is_some, Some, List, [], ◌∷◌, ◌++◌}
+use Rattle.std.specs.Prelude.{◌≡◌, ◌⊎◌, ◌+◌, ◌==◌, ◌<◌, ◌≤◌, ℕ, is_some, Some, List, ◌∷◌, ◌++◌}
 use Rattle.std.specs.Prelude.{All, length, map, slice_get, slice_index_or, false}
 use Rattle.std.specs.Option.{option_to_list}
 use Rattle.cargo_core.specs.Lists.{IsPrefix}

@@ -1,11 +1,12 @@
 -- What a receiving virtualiser has in its hand and has lent, and how it stands for the frames that
 -- came, the buffers that it gave and the leases that went to each client and came back.
-use Rattle.std.specs.Prelude.{◌≡◌, ◌+◌, ◌-◌, ◌*◌, ◌<◌, ◌≤◌, ◌^◌, ◌==◌, ◌&&◌, ℕ, zero, suc, Bool}
-use Rattle.std.specs.Prelude.{true, false, not, nat_lt, is_some, is_none, Option, Some, None, List}
-use Rattle.std.specs.Prelude.{[], ◌∷◌, ◌++◌, All, length, map, flat_map, take, slice_get}
-use Rattle.std.specs.Prelude.{slice_index_or}
+use Rattle.std.specs.Prelude.{◌≡◌, ◌+◌, ◌-◌, ◌*◌, ◌/◌, ◌<◌, ◌≤◌, ◌^◌, ◌==◌, ◌&&◌, ℕ, zero, suc}
+use Rattle.std.specs.Prelude.{Bool, true, false, if◌then◌else◌, not, nat_lt, is_some, is_none, Option}
+use Rattle.std.specs.Prelude.{Some, None, List, [], ◌∷◌, ◌++◌, All, length, map, flat_map, take}
+use Rattle.std.specs.Prelude.{slice_get, slice_index_or}
 use Rattle.std.specs.List.{filter}
 use Rattle.std.specs.Option.{option_to_list}
+use Rattle.cargo_core.specs.declared.item.Item.{Item}
 use Rattle.cargo_core.specs.declared.item.Item.TheVariants as ItemOf
 use Rattle.cargo_core.specs.declared.item.Body.{Body}
 use Rattle.cargo_core.specs.declared.item.Body.TheVariants as Carried
@@ -71,14 +72,17 @@ abbrev pub IsFrameInTurn : Stock → (frames given : List Cargo) → Cargo → T
 IsFrameInTurn s frames given c = IsBuffer s c × (named s.base s.size (number_of c.1) frames
     < named s.base s.size (number_of c.1) given)
 
--- a lease that comes back is in turn where it names, with its lease, a buffer of which a lease is
--- out to that client
+-- an item names, by its offset, a buffer of which a lease is out to the client of an address
+abbrev pub IsDueBack : Stock → Mac → (frames back : List Cargo) → Item → Type 0
+IsDueBack s mac frames back item = (b : ℕ) × (b < s.buffers) × (addr_of item ≡ b * s.size)
+    × (named 0 s.size b back < named 0 s.size b (leases_for s.size mac frames))
+
+-- a lease that comes back is in turn where its item names such a buffer, whatever lease it has, and
+-- also where it has none; but a page is no lease
 abbrev pub IsLeaseInTurn : Stock → Mac → (frames back : List Cargo) → Cargo → Type 0
-IsLeaseInTurn s mac frames back (item, Carried.Lease lease) =
-    (lease.no < s.buffers) × (addr_of item ≡ lease.no * s.size)
-    × (named 0 s.size lease.no back < named 0 s.size lease.no (leases_for s.size mac frames))
+IsLeaseInTurn s mac frames back (item, Carried.Lease lease) = IsDueBack s mac frames back item
 IsLeaseInTurn s mac frames back (item, Carried.Page page) = ⊥
-IsLeaseInTurn s mac frames back (item, Carried.Empty) = ⊥
+IsLeaseInTurn s mac frames back (item, Carried.Empty) = IsDueBack s mac frames back item
 
 -- some client is owed a lease
 abbrev pub is_owing : Sharer → Bool
@@ -114,13 +118,27 @@ is_back w (item, Carried.Page page) =
 is_back w (item, Carried.Lease lease) = false
 is_back w (item, Carried.Empty) = false
 
--- a lease came back that is out to the client at place k
+-- an item names, by its offset, a buffer of which a lease is out to the client at place k
+abbrev pub is_due_back : Sharer → ℕ → Item → Bool
+is_due_back w k item = nat_lt (addr_of item / w.stock.size) w.stock.buffers
+    && ((addr_of item == addr_of item / w.stock.size * w.stock.size)
+    && is_out w (addr_of item / w.stock.size) k)
+
+-- a lease came back that is out to the client at place k, and no page
 abbrev pub is_returned : Sharer → ℕ → Cargo → Bool
-is_returned w k (item, Carried.Lease lease) =
-    nat_lt lease.no w.stock.buffers && ((addr_of item == lease.no * w.stock.size)
-    && is_out w lease.no k)
+is_returned w k (item, Carried.Lease lease) = is_due_back w k item
 is_returned w k (item, Carried.Page page) = false
-is_returned w k (item, Carried.Empty) = false
+is_returned w k (item, Carried.Empty) = is_due_back w k item
+
+-- the buffer that an item names so
+abbrev pub due_back : Sharer → ℕ → Item → Option ℕ
+due_back w k item = if is_due_back w k item then Some (addr_of item / w.stock.size) else None
+
+-- the buffer of which such a lease came back
+abbrev pub returned : Sharer → ℕ → Cargo → Option ℕ
+returned w k (item, Carried.Lease lease) = due_back w k item
+returned w k (item, Carried.Page page) = None
+returned w k (item, Carried.Empty) = due_back w k item
 
 -- a page is lent under its own number, and to someone
 pub record IsLoan (s : Stock) (b : ℕ) (loan : Loan) : Type 0 where

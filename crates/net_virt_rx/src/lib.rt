@@ -107,7 +107,6 @@ impl NetVirtRx {
 
     /// Whether nothing is to be done before a notification comes.
     pub fn at_rest(&self) -> bool
-        requires { length self.now.work.owed < 2 ^ 32 }
         ensures { result ≡ is_at_rest (rx_round self.now) }
     {
         let idle = self.work.is_idle();
@@ -135,7 +134,6 @@ impl NetVirtRx {
     fn choose(&mut self) -> VirtEnd
         requires from_clients { length (from_queues self.old.ends) < 2 ^ 32 }
         requires to_clients { length (to_queues self.old.ends) < 2 ^ 32 }
-        requires owed { length self.old.work.owed < 2 ^ 32 }
         ensures place { place_of self.old.ends result
             ≡ chosen_place (choice_of (rx_round self.old)) }
         ensures there { IsThere self.old.ends result }

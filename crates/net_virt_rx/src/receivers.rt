@@ -1,6 +1,6 @@
 //! Which clients have a lease: a mark for each client, by its place.
-ghost use Rattle.std.specs.Prelude.{◌≡◌, ◌<◌, ◌≤◌, ◌^◌, false, true, IfOk, length, map, replicate};
-ghost use Rattle.std.specs.Prelude.{slice_index_or, slice_set};
+ghost use Rattle.std.specs.Prelude.{◌≡◌, ◌<◌, ◌≤◌, ◌^◌, false, true, nat_lt, IfOk, length, map};
+ghost use Rattle.std.specs.Prelude.{replicate, slice_index_or, slice_set};
 ghost use Rattle.frame_core.specs.declared.mac.Mac.{Mac};
 ghost use Rattle.net_expect.specs.Expecting.{is_for_client};
 ghost use Rattle.net_virt_rx.specs.Sharing.{how_many};
@@ -49,6 +49,19 @@ fn count(marks: &[bool]) -> u32
     count
 }
 
+// Whether some mark is set.
+fn any(marks: &[bool]) -> bool
+    ensures { result ≡ nat_lt 0 (how_many marks.now) }
+{
+    let mut some = false;
+    for mark in marks {
+        if *mark {
+            some = true;
+        }
+    }
+    some
+}
+
 impl Receivers {
     /// None of so many clients.
     pub fn new(alloc: Global, clients: usize) -> Result<Receivers, Memory>
@@ -73,6 +86,13 @@ impl Receivers {
             Some(mark) => *mark,
             None => false,
         }
+    }
+
+    /// Whether there is one.
+    pub fn any(&self) -> bool
+        ensures { result ≡ nat_lt 0 (how_many self.now) }
+    {
+        any(&self.marks)
     }
 
     /// How many there are.

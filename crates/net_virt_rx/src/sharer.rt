@@ -12,8 +12,8 @@ ghost use Rattle.buffer_kit.specs.Entries.{addr_of};
 ghost use Rattle.buffer_kit.specs.Pools.{ArePool, given_entry};
 ghost use Rattle.net_virt_rx.specs.Sharing.{IsSharer, IsNewSharer, SameSharer, SharerStands};
 ghost use Rattle.net_virt_rx.specs.Sharing.{how_many, is_owing, is_idle, is_back, is_returned};
-ghost use Rattle.net_virt_rx.specs.Sharing.{is_out, owed_lease, sharer_hand, sharer_bodies};
-ghost use Rattle.net_virt_rx.specs.Sharing.{with_more, lent_many};
+ghost use Rattle.net_virt_rx.specs.Sharing.{due_back, returned, is_out, owed_lease, sharer_hand};
+ghost use Rattle.net_virt_rx.specs.Sharing.{sharer_bodies, with_more, lent_many};
 
 use crate::Receivers;
 use buffer_kit::{Stock, address, frame, told_length};
@@ -79,15 +79,13 @@ impl Sharer {
 
     /// Whether some client is owed a lease.
     pub fn is_owing(&self) -> bool
-        requires { length self.now.owed < 2 ^ 32 }
         ensures { result ≡ is_owing self.now }
     {
-        self.owed.count() > 0
+        self.owed.any()
     }
 
     /// Whether it has no lease and no buffer in its hand.
     pub fn is_idle(&self) -> bool
-        requires { length self.now.owed < 2 ^ 32 }
         ensures { result ≡ is_idle self.now }
     {
         self.stock.next.is_none() && self.stray.is_none() && !self.is_owing()
@@ -176,18 +174,28 @@ impl Sharer {
         }
     }
 
-    // Whether a lease came back that is out to the client at a place.
-    fn is_returned(&self, client: usize, entry: &(Item, Body)) -> bool
+    // The buffer that an item names, where a lease of it is out to the client at a place.
+    fn due_back(&self, client: usize, item: &Item) -> Option<u32>
         requires { IsSharer self.now }
-        ensures { result ≡ is_returned self.now client entry.now }
+        ensures { result ≡ due_back self.now client item.now }
+    {
+        let no = address(item) / self.stock.size;
+        let names = no < self.stock.buffers as u64 && address(item) == self.offset(no as u32);
+        if names && self.out[no as usize].has(client) {
+            Some(no as u32)
+        } else {
+            None
+        }
+    }
+
+    // The buffer of which a lease came back that is out to the client at a place. A page is none.
+    fn returned(&self, client: usize, entry: &(Item, Body)) -> Option<u32>
+        requires { IsSharer self.now }
+        ensures { result ≡ returned self.now client entry.now }
     {
         match &entry.1 {
-            Body::Lease(lease) => {
-                lease.no() < self.stock.buffers
-                    && address(&entry.0) == self.offset(lease.no())
-                    && self.out[lease.no() as usize].has(client)
-            }
-            _ => false,
+            Body::Page(_) => None,
+            _ => self.due_back(client, &entry.0),
         }
     }
 
@@ -345,14 +353,9 @@ impl Sharer {
         ensures held { (pool : PoolId) → buffers_of pool (sharer_bodies self.new)
             ≡ buffers_of pool (sharer_bodies self.old) + buffers_in pool entry.1 }
     {
-        if !self.is_returned(client, &entry) {
-            self.stray = Some(entry);
-            return;
-        }
-        let (_, body) = entry;
-        match body {
-            Body::Lease(lease) => self.give_back(client, lease.no()),
-            _other => unreachable!(),
+        match self.returned(client, &entry) {
+            Some(no) => self.give_back(client, no),
+            None => self.stray = Some(entry),
         }
     }
 }

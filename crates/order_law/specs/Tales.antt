@@ -1,11 +1,13 @@
 -- What one actor did at its ends, call by call.
-use Rattle.std.specs.Prelude.{◌≡◌, List, [], ◌∷◌}
+use Rattle.std.specs.Prelude.{◌≡◌, Bool, true, false, List, [], ◌∷◌}
+use Rattle.wire_core.specs.declared.names.Op.{Op}
+use Rattle.wire_core.specs.declared.names.Op.TheVariants as Do
 use Rattle.wire_core.specs.Deeds.{Deed}
 use Rattle.wire_core.specs.Ends.{role_of}
 use Rattle.wire_core.specs.Lists.{Passed, with_deed}
 use Rattle.seat_wires.specs.Places.Are.{SeatsAre}
 use Rattle.seat_wires.specs.Places.{SeatDid, seat_end}
-use Rattle.actor_set.specs.Actors.{FitsActor, ActorStandsFor, ActorEnd, part_of}
+use Rattle.actor_set.specs.Actors.{FitsActor, ActorStandsFor, ActorEnd, actor_rests, part_of}
 use Rattle.actor_set.specs.declared.actor.Actor.{Actor}
 
 -- a call, with the actor and its ends as they are then
@@ -14,11 +16,26 @@ pub record Call : Type 0 where
   pub actor : Actor
   pub seats : SeatsAre
 
+-- a call that looks whether a notification is pending at one's own end, or wants none there
+abbrev pub is_waiting : Op → Bool
+is_waiting (Do.Wake s) = true
+is_waiting (Do.Waive s) = true
+is_waiting Do.See = false
+is_waiting Do.Room = false
+is_waiting Do.Take = false
+is_waiting Do.Put = false
+is_waiting (Do.Ask s) = false
+is_waiting (Do.Wanted s) = false
+is_waiting (Do.Settle s) = false
+is_waiting (Do.Ring s) = false
+
 -- an actor made this call at an end of its own, and fits its ends then: whatever it stood for, it
--- now stands for that with what the call moved
+-- now stands for that with what the call moved; at rest it only looked for a notification or wanted
+-- none
 pub record Made (x : Actor) (s : SeatsAre) (c : Call) : Type 0 where
   pub did : SeatDid s c.deed c.seats
   pub own : ActorEnd x (role_of c.deed.event.op) c.deed.event.queue.0
+  pub due : actor_rests x ≡ true → is_waiting c.deed.event.op ≡ true
   pub part : part_of c.actor ≡ part_of x
   pub kept : (p : Passed) → ActorStandsFor x p → ActorStandsFor c.actor (with_deed p c.deed)
   pub fits : FitsActor (seat_end c.seats) c.actor

@@ -13,7 +13,9 @@ ghost use Rattle.order_law.specs.Orders.{Seated, Turn, HaveRun, InOrder, actors_
 pub mod actor_parts;
 pub mod ended;
 
-pub use actor_parts::{Part, Parts, by_number, by_place, finish_apart, open_apart, opened_law};
+pub use actor_parts::{
+    Part, Parts, Worker, by_number, by_place, finish_apart, open_apart, opened_law,
+};
 
 /// Where actors began with nothing, each made its calls at its own ends, each put after all that
 /// had passed at its ends, and rings handed over entries with the times at which they were put, the

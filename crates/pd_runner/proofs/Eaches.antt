@@ -1,5 +1,8 @@
 -- Lists side by side.
-use Rattle.std.proofs.Common.{◌≡◌, ◌∙◌, List, [], ◌∷◌, ◌++◌, append_assoc, ap, sym, subst, inl, inr, ℕ, zero, suc, ◌<◌, length, get_or, arith, Result, Ok, Err, IfOk}
+use Rattle.std.proofs.Common.{◌≡◌, ◌∙◌, ◌⊎◌, ⊎_elim, ◌+◌, refl, List, [], ◌∷◌, ◌++◌, append_assoc, ap, sym, subst, inl, inr, ℕ, zero, suc, ◌<◌, length, get_or, arith, Result, Ok, Err, IfOk, Option, Some, None, slice_get}
+use Rattle.std.specs.Prelude.{IfNone}
+use Rattle.std.proofs.lemmas.Option.{slice_get_read}
+use Rattle.play_core.proofs.Lists.{some_is}
 use Rattle.pd_runner.specs.Each.{Each, Every, AnyOf}
 
 module _ {X Y : Type 0} (R : X → Y → Type 0) where
@@ -43,3 +46,30 @@ pub any_at : {X : Type 0} (P : X → Type 0) (xs : List X) (i : ℕ) (x : X) →
 any_at P [] i x below is h = absurd (omega (arith, below))
 any_at P (a ∷ xs) zero x below is h = inl (subst P is h)
 any_at P (a ∷ xs) (suc i) x below is h = inr (any_at P xs i x (omega (arith, below)) is h)
+
+pub every_of : {X : Type 0} (P : X → Type 0) (xs : List X) → ((n : ℕ) (x : X) → slice_get xs n ≡ Some x → P x) → Every P xs
+every_of P [] each = tt
+every_of P (x ∷ xs) each = (each 0 x refl, every_of P xs (λ n y at. each (suc n) y at))
+
+pub every_get : {X : Type 0} (P : X → Type 0) (xs : List X) → Every P xs → (n : ℕ) (x : X) → slice_get xs n ≡ Some x → P x
+every_get P [] h n x at = cc
+every_get P (a ∷ xs) h zero x at = subst P (some_is at) h.0
+every_get P (a ∷ xs) h (suc n) x at = every_get P xs h.1 n x at
+
+-- what holds of all before a place, and of what stands there, holds of all up to it
+pub up_to : {X : Type 0} (P : X → Type 0) (xs : List X) (i : ℕ) (x : X) → x ≡ get_or xs i x → i < length xs → ((n : ℕ) (y : X) → n < i → slice_get xs n ≡ Some y → P y) → P x → (n : ℕ) (y : X) → n < i + 1 → slice_get xs n ≡ Some y → P y
+up_to P xs i x is below before here n y lt at = by (lt_or_is n i lt)
+  where
+    lt_or_is : (n i : ℕ) → n < i + 1 → (n < i) ⊎ (n ≡ i)
+    lt_or_is zero zero lt = inr refl
+    lt_or_is zero (suc i) lt = inl (omega arith)
+    lt_or_is (suc n) zero lt = absurd (omega (arith, lt))
+    lt_or_is (suc n) (suc i) lt = ⊎_elim (λ h. inl (omega (arith, h))) (λ h. inr (ap suc h)) (lt_or_is n i (omega (arith, lt)))
+
+    by : (n < i) ⊎ (n ≡ i) → P y
+    by (inl less) = before n y less at
+    by (inr same) = subst P (some_is (sym (slice_get_read xs (length xs) i x refl below is) ∙ (ap (slice_get xs) (sym same) ∙ at))) here
+
+pub none_then : {V : Type 0} (P : Type 0) (r : Option V) → IfNone r P → r ≡ None → P
+none_then P None h is = h
+none_then P (Some v) h is = cc

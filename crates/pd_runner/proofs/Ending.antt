@@ -7,9 +7,9 @@ use Rattle.actor_set.specs.declared.actor.Actor.{Actor}
 use Rattle.order_law.proofs.Telling.{goes_then}
 use Rattle.pd_runner.specs.declared.part.Part.{Part}
 use Rattle.pd_runner.specs.declared.part.Ran.{Ran}
-use Rattle.pd_runner.specs.Running.{Comes, Came}
+use Rattle.pd_runner.specs.Running.{HasNoWant, Comes, Came, CameAtWork}
 use Rattle.pd_runner.specs.Begun.{RanOf}
-use Rattle.pd_runner.specs.Ends.{RanStands, SettledOf, LawfulOf, SpentOf, Rests}
+use Rattle.pd_runner.specs.Ends.{RanReady, SettledOf, LawfulOf, SpentOf, Rests}
 use Rattle.pd_runner.specs.Each.{Each, Every, AnyOf, AnyPair}
 use Rattle.pd_runner.proofs.Eaches.{each_then}
 
@@ -20,11 +20,15 @@ pub came_then : (rings : List RingIs) (a : Part) (n : ℕ) (b : Part) (m : ℕ) 
 came_then rings a n b m c h k = record { stands = k.stands; comes = comes_then _ _ n _ _ m _ _ h.comes k.comes; row = k.row }
 
 module _ (rings : List RingIs) (limit : ℕ) where
-  pub ran_stands : (old : Part) (ran : Ran) → RanOf rings limit old ran → RanStands rings limit ran
-  ran_stands old ran h = (h.0.stands, h.1)
+  -- a part that a thread left may be stepped where it met no want
+  pub rans_ready : (olds : List Part) (rans : List Ran) → Each (RanOf rings limit) olds rans → Every (λ (r : Ran). HasNoWant r.part) rans → Every (RanReady rings limit) rans
+  rans_ready [] [] h fine = tt
+  rans_ready [] (r ∷ rans) h fine = absurd h
+  rans_ready (x ∷ olds) [] h fine = absurd h
+  rans_ready (x ∷ olds) (r ∷ rans) h fine = ((record { stands = h.0.0.stands; fine = fine.0 }, h.0.1), rans_ready olds rans h.1 fine.1)
 
   pub lawful : (stop : Bool) (old : Part) (ran : Ran) (new : Part) → RanOf rings limit old ran → SettledOf rings limit stop ran new → LawfulOf rings limit old new
-  lawful stop old ran new h k = record { steps = ran.made + k.more; within = k.within; came = came_then rings old ran.made ran.part k.more new h.0 k.came }
+  lawful stop old ran new h k = record { steps = ran.made + k.more; within = k.within; came = came_then rings old ran.made ran.part k.more new h.0 k.came.came; fine = k.fine }
 
   spent : (old : Part) (n : ℕ) (new : Part) → Came rings old n new → limit ≤ n → SpentOf rings limit old new
   spent old n new h below = let e = h.comes.went.steps in omega (arith, e, below)
@@ -40,7 +44,7 @@ module _ (rings : List RingIs) (limit : ℕ) where
       (λ e. cc)
       (⊎_elim
       (λ rests. ⊎_elim (λ all. inl (rests, all)) (λ some. inr (inr some)) (all_passed olds rans news h.1 k.1))
-      (λ e. inr (inl (spent x (r.made + k.0.more) z (came_then rings x r.made r.part k.0.more z h.0.0 k.0.came) (omega (arith, e))))))
+      (λ e. inr (inl (spent x (r.made + k.0.more) z (came_then rings x r.made r.part k.0.more z h.0.0 k.0.came.came) (omega (arith, e))))))
       k.0.rests
 
   -- the last pass was left out, since one was spent
@@ -51,7 +55,7 @@ module _ (rings : List RingIs) (limit : ℕ) where
   one_stopped stop (x ∷ olds) [] news h k any = absurd h
   one_stopped stop (x ∷ olds) (r ∷ rans) [] h k any = absurd k
   one_stopped stop (x ∷ olds) (r ∷ rans) (z ∷ news) h k any = ⊎_elim
-      (λ below. inl (spent x (r.made + k.0.more) z (came_then rings x r.made r.part k.0.more z h.0.0 k.0.came) (omega (arith, below))))
+      (λ below. inl (spent x (r.made + k.0.more) z (came_then rings x r.made r.part k.0.more z h.0.0 k.0.came.came) (omega (arith, below))))
       (λ later. inr (one_stopped stop olds rans news h.1 k.1 later))
       any
 
@@ -59,11 +63,12 @@ module _ (rings : List RingIs) (limit : ℕ) where
   ends true olds rans news any h k = inr (one_stopped true olds rans news h k (any refl))
   ends false olds rans news any h k = all_passed olds rans news h k
 
-pub settled_of : (rings : List RingIs) (limit : ℕ) (stop : Bool) (ran : Ran) (new : Part) (made : ℕ) → ((n : ℕ) × (made ≡ ran.made + n) × Came rings ran.part n new) → made ≤ limit → ((stop ≡ true) ⊎ (Rests new ⊎ (made ≡ limit))) → SettledOf rings limit stop ran new
-settled_of rings limit stop ran new made came within rests = record {
+pub settled_of : (rings : List RingIs) (limit : ℕ) (stop : Bool) (ran : Ran) (new : Part) (made : ℕ) → ((n : ℕ) × (made ≡ ran.made + n) × CameAtWork rings ran.part n new) → HasNoWant new → made ≤ limit → ((stop ≡ true) ⊎ (Rests new ⊎ (made ≡ limit))) → SettledOf rings limit stop ran new
+settled_of rings limit stop ran new made came fine within rests = record {
   more = came.0;
   within = subst (λ (z : ℕ). z ≤ limit) came.1 within;
   came = came.2;
+  fine = fine;
   rests = subst (λ (z : ℕ). (stop ≡ true) ⊎ (Rests new ⊎ (z ≡ limit))) came.1 rests;
 }
 

@@ -1,25 +1,30 @@
 -- Actors apart that were seated, went and have the numbers of their ends again.
-use Rattle.std.proofs.Common.{◌≡◌, ◌∙◌, ◌≤◌, ◌⊎◌, inl, inr, ⊎_elim, ℕ, zero, suc, List, [], ◌∷◌, length, map, refl, sym, ap, subst, arith, Some, slice_get}
+use Rattle.std.proofs.Common.{Option, None, ◌≡◌, ◌∙◌, ◌≤◌, ◌⊎◌, inl, inr, ⊎_elim, ℕ, zero, suc, List, [], ◌∷◌, length, map, refl, sym, ap, subst, arith, Some, slice_get}
 use Rattle.std.proofs.lemmas.Slice.Zip.{AllZip-long}
 use Rattle.play_core.proofs.Lists.{some_is, map_get, map_from}
 use Rattle.wire_core.specs.declared.names.QueueRow.{QueueRow}
 use Rattle.wire_core.specs.Ends.{Role, Consumer, Producer, End}
 use Rattle.wire_core.specs.Lists.{Passed}
-use Rattle.spsc_queue.specs.Known.Ends.{RingIs}
-use Rattle.seat_wires.specs.Places.{EndsOn, ends_of}
-use Rattle.actor_set.specs.Actors.{FitsActor, ActorStandsFor, actor_rests}
+use Rattle.spsc_queue.specs.Known.Ends.{EndIs, RingIs}
+use Rattle.seat_wires.specs.Places.Are.{SeatsAre}
+use Rattle.seat_wires.specs.Places.{EndsOn, ends_of, stands_at}
+use Rattle.actor_set.specs.Actors.{FitsActor, ActorStandsFor, IsWhole, actor_rests}
 use Rattle.actor_set.specs.declared.actor.Actor.{Actor}
+use Rattle.order_law.specs.declared.actor_parts.worker.Worker.{Worker}
 use Rattle.order_law.specs.ActorParts.Given.{Kept, apart_of}
 use Rattle.order_law.specs.ActorParts.Going.{AreSeatsOf}
 use Rattle.order_law.specs.ActorParts.Numbered.{numbered}
-use Rattle.order_law.specs.ActorParts.Parting.{Apart, ends_at, StandsApart, HasItsEnds, AreApart, IsRingOf}
+use Rattle.order_law.specs.ActorParts.Placing.{placed}
+use Rattle.order_law.specs.ActorParts.Parting.{Apart, ends_at, end_in, apart_end, StandsApart, HasItsEnds, AreApart, IsRingOf}
 use Rattle.pd_runner.specs.declared.part.Part.{Part}
 use Rattle.pd_runner.specs.Each.{Each, Every, AnyPair}
 use Rattle.pd_runner.specs.Ends.{LawfulOf, SpentOf, Rests}
 use Rattle.pd_runner.specs.Facing.{CameApart, CameWithin, HasSpent, IsResting}
 use Rattle.pd_runner.specs.Running.{Comes, part_seats}
 use Rattle.pd_runner.specs.Seated.{IsApart, IsSeated, HasNumbers, IsNumbered}
-use Rattle.pd_runner.proofs.Eaches.{each_then}
+use Rattle.pd_runner.proofs.Eaches.{each_then, every_of}
+use Rattle.pd_runner.proofs.Seated.{stands_there}
+use Rattle.pd_runner.proofs.Stepping.{comes_none}
 use Rattle.pd_runner.proofs.Facing.{ends_same, passed_same, seats_numbered, numbered_once, numbered_on, own_ends}
 
 module _ (rings : List RingIs) (limit : ℕ) (k : Kept) (p q : Part) (l : Kept) (seated : IsSeated rings k p) (lawful : LawfulOf rings limit p q) (is : IsNumbered q l) where
@@ -40,7 +45,7 @@ module _ (rings : List RingIs) (limit : ℕ) (k : Kept) (p q : Part) (l : Kept) 
     after = part_seats rings q;
     began = seated.seats;
     ended = after_is;
-    comes = subst (λ (z : Actor × Actor). Comes z.0 (part_seats rings p) lawful.steps z.1 (part_seats rings q)) (λ i. (seated.actor i, sym is.actor i)) lawful.came.comes;
+    comes = subst (λ (z : Actor × Actor). Comes z.0 (part_seats rings p) lawful.steps z.1 (part_seats rings q)) (λ i. ((seated.worker i).actor, (sym is.worker i).actor)) lawful.came.comes;
   }
 
   pub came_within : CameWithin rings limit (apart_of k) (apart_of l)
@@ -53,8 +58,9 @@ module _ (rings : List RingIs) (limit : ℕ) (k : Kept) (p q : Part) (l : Kept) 
   still_apart = record {
     once = numbered_once (apart_of l) (part_seats rings q) numbers;
     on = numbered_on (apart_of l) (part_seats rings q) numbers ends_on;
-    fits = subst (λ (z : (Role → ℕ → End) × Actor). FitsActor z.0 z.1) (λ i. (ends_same rings (apart_of l) (part_seats rings q) after_is i, sym is.actor i)) lawful.came.stands.sits.fits;
-    stands = subst (λ (z : Actor × Passed). ActorStandsFor z.0 z.1) (λ i. (sym is.actor i, passed_same rings (apart_of l) (part_seats rings q) after_is i)) lawful.came.stands.sits.lists;
+    fits = subst (λ (z : (Role → ℕ → End) × Actor). FitsActor z.0 z.1) (λ i. (ends_same rings (apart_of l) (part_seats rings q) after_is i, (sym is.worker i).actor)) lawful.came.stands.sits.fits;
+    stands = subst (λ (z : Actor × Passed). ActorStandsFor z.0 z.1) (λ i. ((sym is.worker i).actor, passed_same rings (apart_of l) (part_seats rings q) after_is i)) lawful.came.stands.sits.lists;
+    fine = ap (λ (w : Worker). w.wanted) is.worker ∙ lawful.fine;
   }
 
   pub still_own : (rows : List QueueRow) (n : ℕ) → HasItsEnds rows n (apart_of k) → HasItsEnds rows n (apart_of l)
@@ -85,16 +91,69 @@ module _ {X Y : Type 0} (R : X → Y → Type 0) where
   each_long (a ∷ xs) [] h = absurd h
   each_long (a ∷ xs) (b ∷ ys) h = ap suc (each_long xs ys h.1)
 
-every_of : {X : Type 0} (P : X → Type 0) (xs : List X) → ((n : ℕ) (x : X) → slice_get xs n ≡ Some x → P x) → Every P xs
-every_of P [] each = tt
-every_of P (x ∷ xs) each = (each 0 x refl, every_of P xs (λ n y at. each (suc n) y at))
-
 -- the parts are apart, and there are no more rings than numbers
 pub all_apart : (rows : List QueueRow) (rings : List RingIs) (parts : List Kept) → AreApart rows rings (map apart_of parts) → Every (IsApart rings) parts
 all_apart rows rings parts apart = every_of (IsApart rings) parts (λ n k at. apart.stand n (apart_of k) (map_get apart_of parts n k at))
 
 pub few_rings : (rows : List QueueRow) (rings : List RingIs) (parts : List Apart) → AreApart rows rings parts → length rows ≤ 65536 → length rings ≤ 65536
 few_rings rows rings parts apart few = let e = AllZip-long IsRingOf rows rings apart.rings_are in omega (arith, e, few)
+
+-- no step of theirs wanted memory
+pub no_wants : (rows : List QueueRow) (rings : List RingIs) (parts : List Apart) → AreApart rows rings parts → (k : ℕ) (p : Apart) → slice_get parts k ≡ Some p → p.wanted ≡ None
+no_wants rows rings parts apart k p at = (apart.stand k p at).fine
+
+-- what each keeps fits together
+pub all_whole : (rows : List QueueRow) (rings : List RingIs) (parts : List Kept) → AreApart rows rings (map apart_of parts) → ((ends : Role → ℕ → End) (a : Actor) → FitsActor ends a → IsWhole a) → Every (λ (k : Kept). IsWhole k.0.actor) parts
+all_whole rows rings parts apart whole = every_of (λ (k : Kept). IsWhole k.0.actor) parts (λ n k at. whole (apart_end (apart_of k)) k.0.actor (apart.stand n (apart_of k) (map_get apart_of parts n k at)).fits)
+
+-- where no step is made each came to be what it was
+abbrev nones : ℕ → List (Option EndIs)
+nones zero = []
+nones (suc n) = None ∷ nones n
+
+nones_long : (n : ℕ) → length (nones n) ≡ n
+nones_long zero = refl
+nones_long (suc n) = ap suc (nones_long n)
+
+nones_none : (n k : ℕ) → stands_at (nones n) k ≡ None
+nones_none zero k = refl
+nones_none (suc n) zero = refl
+nones_none (suc n) (suc k) = nones_none n k
+
+module _ (rings : List RingIs) (limit : ℕ) (k : Kept) (apart : IsApart rings k) where
+  abbrev places : Role → List (Option EndIs)
+  places r = placed (ends_at (apart_of k) r) (nones (length rings))
+
+  abbrev sitting : SeatsAre
+  sitting = record { rings = rings; producers = places Producer; consumers = places Consumer }
+
+  sat_at : (r : Role) (n : ℕ) → stands_at (ends_of sitting r) n ≡ end_in (ends_at (apart_of k) r) n
+  sat_at Consumer n = stands_there rings k apart Consumer (places Consumer) (nones (length rings), nones_none (length rings), nones_long (length rings), refl) n
+  sat_at Producer n = stands_there rings k apart Producer (places Producer) (nones (length rings), nones_none (length rings), nones_long (length rings), refl) n
+
+  sat : AreSeatsOf rings (apart_of k) sitting
+  sat = record { rings_are = refl; same = sat_at }
+
+  stayed : CameApart rings 0 (apart_of k) (apart_of k)
+  stayed = record {
+    before = sitting;
+    after = sitting;
+    began = sat;
+    ended = sat;
+    comes = comes_none k.0.actor sitting record {
+      fits = subst (λ (z : Role → ℕ → End). FitsActor z k.0.actor) (sym (ends_same rings (apart_of k) sitting sat)) apart.fits;
+      lists = subst (ActorStandsFor k.0.actor) (sym (passed_same rings (apart_of k) sitting sat)) apart.stands;
+    };
+  }
+
+  stayed_within : CameWithin rings limit (apart_of k) (apart_of k)
+  stayed_within = (0, omega arith, stayed)
+
+pub all_stayed : (rows : List QueueRow) (rings : List RingIs) (limit : ℕ) (parts : List Kept) → AreApart rows rings (map apart_of parts)
+    → (k : ℕ) (old new : Apart) → slice_get (map apart_of parts) k ≡ Some old → slice_get (map apart_of parts) k ≡ Some new → CameWithin rings limit old new
+all_stayed rows rings limit parts apart k old new at there =
+    let x = map_from apart_of parts k old at in
+    subst (λ (z : Apart × Apart). CameWithin rings limit z.0 z.1) (λ i. (x.2 i, (x.2 ∙ some_is (sym at ∙ there)) i)) (stayed_within rings limit x.0 (apart.stand k (apart_of x.0) (map_get apart_of parts k x.0 x.1)))
 
 -- what came of one that was handed in
 pub record IsFrom (rings : List RingIs) (limit : ℕ) (k l : Kept) : Type 0 where
@@ -109,7 +168,7 @@ all_rest : (gone : List Part) (news : List Kept) → Each IsNumbered gone news �
 all_rest [] [] ended rest k l at = cc
 all_rest [] (b ∷ news) ended rest k l at = absurd ended
 all_rest (a ∷ gone) [] ended rest k l at = absurd ended
-all_rest (a ∷ gone) (b ∷ news) ended rest zero l at = subst (λ (z : Kept). IsResting (apart_of z)) (some_is at) (ap actor_rests ended.0.actor ∙ rest.0)
+all_rest (a ∷ gone) (b ∷ news) ended rest zero l at = subst (λ (z : Kept). IsResting (apart_of z)) (some_is at) (ap (λ (w : Worker). actor_rests w.actor) ended.0.worker ∙ rest.0)
 all_rest (a ∷ gone) (b ∷ news) ended rest (suc k) l at = all_rest gone news ended.1 rest.1 k l at
 
 -- one of them spent its steps

@@ -7,6 +7,7 @@ use Rattle.spsc_queue.specs.Known.Ends.{EndIs, RingIs}
 use Rattle.seat_wires.specs.Places.{stands_at, ends_of}
 use Rattle.actor_set.specs.Actors.{FitsActor, ActorStandsFor}
 use Rattle.actor_set.specs.declared.actor.Actor.{Actor}
+use Rattle.order_law.specs.declared.actor_parts.worker.Worker.{Worker}
 use Rattle.order_law.specs.ActorParts.Given.{Kept, apart_of}
 use Rattle.order_law.specs.ActorParts.Going.{AreSeatsOf}
 use Rattle.order_law.specs.ActorParts.Parting.{ends_at, end_in}
@@ -22,13 +23,13 @@ module _ (rings : List RingIs) (k : Kept) (apart : IsApart rings k) where
   pub ends_within : (r : Role) → AreWithin (length rings) (ends_at (apart_of k) r)
   ends_within r i x at = let on = apart.on r i x at in get_within rings x.0.0 on.0 on.1
 
-  stands_there : (r : Role) (places : List (Option EndIs)) → ArePlaced (length rings) (ends_at (apart_of k) r) places → (n : ℕ) → stands_at places n ≡ end_in (ends_at (apart_of k) r) n
+  pub stands_there : (r : Role) (places : List (Option EndIs)) → ArePlaced (length rings) (ends_at (apart_of k) r) places → (n : ℕ) → stands_at places n ≡ end_in (ends_at (apart_of k) r) n
   stands_there r places put n = ap (λ l. stands_at l n) put.3 ∙ stands_placed (ends_at (apart_of k) r) put.0 n (subst (λ many. AreWithin many (ends_at (apart_of k) r)) (sym put.2) (ends_within r)) (λ i j x y at there same. apart.once r i j x y at there same) put.1
 
   few_places : length rings ≤ 65536 → (ends : List (QueueId × EndIs)) (places : List (Option EndIs)) → ArePlaced (length rings) ends places → length places ≤ 65536
   few_places few ends places put = let e : length places ≡ length rings = ap length put.3 ∙ (length_placed ends put.0 ∙ put.2) in omega (arith, e, few)
 
-  module _ (few : length rings ≤ 65536) (p : Part) (same : p.actor ≡ k.0) (producers : ArePlaced (length rings) k.1.items p.producers.items) (consumers : ArePlaced (length rings) k.2.items p.consumers.items) where
+  module _ (few : length rings ≤ 65536) (p : Part) (same : p.worker ≡ k.0) (producers : ArePlaced (length rings) k.1.items p.producers.items) (consumers : ArePlaced (length rings) k.2.items p.consumers.items) where
     are_seats : AreSeatsOf rings (apart_of k) (part_seats rings p)
     are_seats = record { rings_are = refl; same = λ r n. at r n }
       where
@@ -43,10 +44,10 @@ module _ (rings : List RingIs) (k : Kept) (apart : IsApart rings k) where
       few_producers = few_places few k.1.items p.producers.items producers;
       few_consumers = few_places few k.2.items p.consumers.items consumers;
       sits = record {
-        fits = subst (λ (z : (Role → ℕ → End) × Actor). FitsActor z.0 z.1) (λ i. (sym (ends_same rings (apart_of k) (part_seats rings p) are_seats) i, sym same i)) apart.fits;
-        lists = subst (λ (z : Actor × Passed). ActorStandsFor z.0 z.1) (λ i. (sym same i, sym (passed_same rings (apart_of k) (part_seats rings p) are_seats) i)) apart.stands;
+        fits = subst (λ (z : (Role → ℕ → End) × Actor). FitsActor z.0 z.1) (λ i. (sym (ends_same rings (apart_of k) (part_seats rings p) are_seats) i, (sym same i).actor)) apart.fits;
+        lists = subst (λ (z : Actor × Passed). ActorStandsFor z.0 z.1) (λ i. ((sym same i).actor, sym (passed_same rings (apart_of k) (part_seats rings p) are_seats) i)) apart.stands;
       };
     }
 
     pub seated : IsSeated rings k p
-    seated = record { actor = same; seats = are_seats; stands = stand }
+    seated = record { worker = same; seats = are_seats; ready = record { stands = stand; fine = ap (λ (w : Worker). w.wanted) same ∙ apart.fine } }

@@ -9,6 +9,7 @@ use Rattle.spsc_queue.proofs.producer.Producer.TheSendSync as Producer
 use Rattle.spsc_queue.proofs.consumer.Consumer.TheSendSync as Consumer
 use Rattle.actor_set.specs.contracts.actor.Actor as Actor
 use Rattle.actor_set.specs.contracts.disk.Disk as Disk
+use Rattle.order_law.specs.contracts.actor_parts.worker.Worker as Worker
 use Rattle.device_model.proofs.UartDevice.TheSendSync as UartDevice
 use Rattle.uart_driver.proofs.UartDriver.TheSendSync as UartDriver
 use Rattle.serial_virt.proofs.rx.SerialVirtRx.TheSendSync as SerialVirtRx
@@ -76,8 +77,11 @@ actor_field_send = enum_send (shape Actor.the_type) (
 pub actor_send : IsSend Actor.the_row
 actor_send = recorded_send Actor.the_field.row _ _ Actor.the_type.to_one actor_field_send
 
+worker_field_send : IsSend Worker.the_field.row
+worker_field_send = let a = actor_field_send in search (crosses, sendable) depth 40
+
 pub part_field_send : IsSend Part.the_field.row
-part_field_send = let a = actor_field_send in let b = Producer.the_send in let c = Consumer.the_send in search (crosses, sendable) depth 40
+part_field_send = let a = worker_field_send in let b = Producer.the_send in let c = Consumer.the_send in search (crosses, sendable) depth 40
 
 pub part_send : IsSend Part.the_row
 part_send = recorded_send Part.the_field.row _ _ Part.the_type.to_one part_field_send

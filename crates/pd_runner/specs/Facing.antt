@@ -1,5 +1,5 @@
 -- How far actors apart came in a run.
-use Rattle.std.specs.Prelude.{◌≡◌, ◌≤◌, ℕ, true, List}
+use Rattle.std.specs.Prelude.{◌≡◌, ◌≤◌, ℕ, true, Some, List, slice_get}
 use Rattle.spsc_queue.specs.Known.Ends.{RingIs}
 use Rattle.seat_wires.specs.Places.Are.{SeatsAre}
 use Rattle.actor_set.specs.Actors.{actor_rests}
@@ -26,3 +26,7 @@ HasSpent rings limit old new = (steps : ℕ) × (limit ≤ steps) × CameApart r
 -- the actor is at rest
 abbrev pub IsResting : Apart → Type 0
 IsResting p = actor_rests p.actor ≡ true
+
+-- all of them are
+abbrev pub AreResting : List Apart → Type 0
+AreResting parts = (k : ℕ) (p : Apart) → slice_get parts k ≡ Some p → IsResting p

@@ -1,11 +1,11 @@
 -- What a run leaves of each part.
-use Rattle.std.specs.Prelude.{◌≡◌, ◌≤◌, ℕ, List, [], length}
+use Rattle.std.specs.Prelude.{◌≡◌, ◌≤◌, ℕ, false, None, List, [], ◌∷◌, length}
 use Rattle.wire_core.specs.Lists.{Passed}
 use Rattle.spsc_queue.specs.Known.Ends.{RingIs}
 use Rattle.seat_wires.specs.Places.Are.{SeatsAre}
 use Rattle.seat_wires.specs.Places.{EndsOn, seat_end, seats_taken, seats_sent}
 use Rattle.seat_wires.specs.Went.{Went}
-use Rattle.actor_set.specs.Actors.{FitsActor, ActorStandsFor, ActorRow, part_of}
+use Rattle.actor_set.specs.Actors.{FitsActor, ActorStandsFor, ActorRow, actor_rests, part_of}
 use Rattle.actor_set.specs.declared.actor.Actor.{Actor}
 use Rattle.order_law.specs.Tales.{Call, Goes}
 use Rattle.pd_runner.specs.declared.part.Part.{Part}
@@ -43,10 +43,30 @@ pub record Stands (rings : List RingIs) (p : Part) : Type 0 where
   pub consumers : EndsOn rings p.consumers.items
   pub few_producers : length p.producers.items ≤ 65536
   pub few_consumers : length p.consumers.items ≤ 65536
-  pub sits : Sits p.actor (part_seats rings p)
+  pub sits : Sits p.worker.actor (part_seats rings p)
+
+-- no step of its actor wanted memory
+abbrev pub HasNoWant : Part → Type 0
+HasNoWant p = p.worker.wanted ≡ None
+
+-- a part whose actor may be stepped
+pub record IsReady (rings : List RingIs) (p : Part) : Type 0 where
+  pub stands : Stands rings p
+  pub fine : HasNoWant p
 
 -- the part came of the old one by n steps, and its row holds
 pub record Came (rings : List RingIs) (old : Part) (n : ℕ) (new : Part) : Type 0 where
   pub stands : Stands rings new
-  pub comes : Comes old.actor (part_seats rings old) n new.actor (part_seats rings new)
-  pub row : ActorRow new.actor (passed_at (part_seats rings new))
+  pub comes : Comes old.worker.actor (part_seats rings old) n new.worker.actor
+      (part_seats rings new)
+  pub row : ActorRow new.worker.actor (passed_at (part_seats rings new))
+
+-- none of these calls was made at rest
+abbrev pub AreAtWork : Actor → List Call → Type 0
+AreAtWork a [] = Unit {0}
+AreAtWork a (c ∷ cs) = (actor_rests a ≡ false) × AreAtWork c.actor cs
+
+-- the same, and it made no step at rest
+pub record CameAtWork (rings : List RingIs) (old : Part) (n : ℕ) (new : Part) : Type 0 where
+  pub came : Came rings old n new
+  pub at_work : AreAtWork old.worker.actor came.comes.calls

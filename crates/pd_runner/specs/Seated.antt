@@ -9,7 +9,7 @@ use Rattle.order_law.specs.ActorParts.Numbered.{numbered}
 use Rattle.order_law.specs.ActorParts.Parting.{StandsApart}
 use Rattle.order_law.specs.ActorParts.Placing.{placed}
 use Rattle.pd_runner.specs.declared.part.Part.{Part}
-use Rattle.pd_runner.specs.Running.{Stands, part_seats}
+use Rattle.pd_runner.specs.Running.{IsReady, part_seats}
 
 -- each of these ends is at its queue's place, of so many at which nothing stood
 abbrev pub ArePlaced : (many : ℕ) → List (QueueId × EndIs) → List (Option EndIs) → Type 0
@@ -22,9 +22,9 @@ IsApart rings k = StandsApart rings (apart_of k)
 
 -- the actor at its ends by place: of each queue stands there the end that it has, if it has one
 pub record IsSeated (rings : List RingIs) (k : Kept) (p : Part) : Type 0 where
-  pub actor : p.actor ≡ k.0
+  pub worker : p.worker ≡ k.0
   pub seats : AreSeatsOf rings (apart_of k) (part_seats rings p)
-  pub stands : Stands rings p
+  pub ready : IsReady rings p
 
 -- it has no more places than there are numbers of queues
 pub record HasNumbers (p : Part) : Type 0 where
@@ -33,6 +33,6 @@ pub record HasNumbers (p : Part) : Type 0 where
 
 -- the actor with its ends, each with the number of its place
 pub record IsNumbered (p : Part) (k : Kept) : Type 0 where
-  pub actor : k.0 ≡ p.actor
+  pub worker : k.0 ≡ p.worker
   pub producers : k.1.items ≡ numbered 0 p.producers.items
   pub consumers : k.2.items ≡ numbered 0 p.consumers.items

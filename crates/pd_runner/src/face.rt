@@ -1,16 +1,19 @@
 //! Actors apart are given a thread each.
-ghost use Rattle.std.specs.Prelude.{◌≡◌, ◌≤◌, ◌⊎◌, ℕ, IfOk, Some, length, map, slice_get};
-ghost use Rattle.order_law.specs.ActorParts.Given.{apart_of};
+ghost use Rattle.std.specs.Prelude.{◌≡◌, ◌≤◌, ◌⊎◌, ℕ, IfOk, Some, None, Ok, true, length, map};
+ghost use Rattle.std.specs.Prelude.{slice_get};
+ghost use Rattle.actor_set.specs.Actors.{IsWhole};
+ghost use Rattle.order_law.specs.ActorParts.Given.{apart_of, Kept};
 ghost use Rattle.order_law.specs.ActorParts.Numbered.{numbered};
 ghost use Rattle.order_law.specs.ActorParts.Parting.{Apart, AreApart};
 ghost use Rattle.order_law.specs.ActorParts.Placing.{AreWithin};
 ghost use Rattle.pd_runner.specs.Each.{Each, Every};
-ghost use Rattle.pd_runner.specs.Facing.{CameWithin, HasSpent, IsResting};
+ghost use Rattle.pd_runner.specs.Facing.{CameWithin, HasSpent, IsResting, AreResting};
 ghost use Rattle.pd_runner.specs.Seated.{ArePlaced, IsApart, IsSeated, HasNumbers, IsNumbered};
 
 use crate::gate::Gate;
 use crate::part::Part;
 use crate::run::run_seated;
+use actor_set::laws::actor_law;
 use cargo_core::Memory;
 use order_law::actor_parts::{Parts, by_number, by_place};
 use region_layout::Layout;
@@ -60,15 +63,15 @@ fn seat(alloc: Global, rings: &[Ring], part: order_law::actor_parts::Part) -> Re
     requires few { length rings.now ≤ 65536 }
     ensures { IfOk result (IsSeated rings.now part) }
 {
-    let (actor, producers, consumers) = part;
+    let (worker, producers, consumers) = part;
     match ends_by_place(alloc, rings.len(), producers, consumers) {
         Ok((producers, consumers)) => Ok(Part {
-            actor,
+            worker,
             producers,
             consumers,
         }),
         Err(memory) => {
-            drop(actor);
+            drop(worker);
             Err(memory)
         }
     }
@@ -97,14 +100,14 @@ fn number(alloc: Global, part: Part) -> Result<order_law::actor_parts::Part, Mem
     ensures { IfOk result (IsNumbered part) }
 {
     let Part {
-        actor,
+        worker,
         producers,
         consumers,
     } = part;
     match ends_by_number(alloc, producers, consumers) {
-        Ok((producers, consumers)) => Ok((actor, producers, consumers)),
+        Ok((producers, consumers)) => Ok((worker, producers, consumers)),
         Err(memory) => {
-            drop(actor);
+            drop(worker);
             Err(memory)
         }
     }
@@ -122,19 +125,22 @@ fn number_all(alloc: Global, parts: Vec<Part>) -> Result<Vec<order_law::actor_pa
     Ok(all)
 }
 
-/// Steps each actor in a thread of its own, until all are idle, one has made `limit` steps, or a
-/// step wants memory. A thread waits where its actor is at rest and no notification is pending at
-/// its ends, and a ring wakes it; the layout tells whom. After the threads have ended, the caller
-/// steps each actor that isn't at rest until it is or has made `limit` steps, unless one made as
-/// many in its thread. An actor for which no thread could be started is stepped there alone. Each
-/// step passes the gate first.
-///
-/// What it answers can be adopted: the rings, and the actors that were handed in, in their order
-/// and at the same queues. What each of them took and sent begins with what it had taken and sent.
-/// Every actor is at rest, or the ends of one made at least `limit` word steps in this call. It may
-/// wait, so that it returns isn't promised. Err is the answer where a step or the run itself wanted
-/// memory.
-pub fn run_threads<R: Threads + Wait + Sync, G: Gate + Sync>(
+// Whether all of them are at rest.
+fn all_rest(parts: &[order_law::actor_parts::Part]) -> bool
+    requires { Every (λ (k : Kept). IsWhole k.0.actor) parts.now }
+    ensures yes { result ≡ true → AreResting (map apart_of parts.now) }
+    ensures no { AreResting (map apart_of parts.now) → result ≡ true }
+{
+    for part in parts {
+        if !part.0.at_rest() {
+            return false;
+        }
+    }
+    true
+}
+
+// The same as `run_threads`, whether or not all rest at the start.
+fn run_apart<R: Threads + Wait + Sync, G: Gate + Sync>(
     rt: &R,
     alloc: Global,
     layout: &Layout,
@@ -149,12 +155,13 @@ pub fn run_threads<R: Threads + Wait + Sync, G: Gate + Sync>(
     ensures many { IfOk result (λ p. length p.actors.items ≡ length parts.actors.items) }
     ensures apart { IfOk result (λ p. AreApart layout.now.queues p.rings.items
         (map apart_of p.actors.items)) }
+    ensures memory { IfOk result (λ p. (k : ℕ) (new : Apart)
+        → slice_get (map apart_of p.actors.items) k ≡ Some new → new.wanted ≡ None) }
     ensures came { IfOk result (λ p. (k : ℕ) (old new : Apart)
         → slice_get (map apart_of parts.actors.items) k ≡ Some old
         → slice_get (map apart_of p.actors.items) k ≡ Some new
         → CameWithin parts.rings.items limit old new) }
-    ensures ends { IfOk result (λ p. ((k : ℕ) (new : Apart)
-        → slice_get (map apart_of p.actors.items) k ≡ Some new → IsResting new)
+    ensures ends { IfOk result (λ p. AreResting (map apart_of p.actors.items)
         ⊎ ((k : ℕ) × (old : Apart) × (new : Apart)
         × (slice_get (map apart_of parts.actors.items) k ≡ Some old)
         × (slice_get (map apart_of p.actors.items) k ≡ Some new)
@@ -166,4 +173,53 @@ pub fn run_threads<R: Threads + Wait + Sync, G: Gate + Sync>(
     let seated = run_seated(rt, alloc, layout.queues(), shared, seated, limit, gate)?;
     let actors = number_all(alloc, seated)?;
     Ok(Parts { rings, actors })
+}
+
+/// Steps each actor in a thread of its own, until all are idle, one has made `limit` steps, or a
+/// step wants memory. A thread waits where its actor is at rest and no notification is pending at
+/// its ends, and a ring wakes it; the layout tells whom. After the threads have ended, the caller
+/// steps each actor that isn't at rest until it is or has made `limit` steps, unless one made as
+/// many in its thread. An actor for which no thread could be started is stepped there alone. Each
+/// step passes the gate first.
+///
+/// What it answers can be adopted: the rings, and the actors that were handed in, in their order
+/// and at the same queues. What each of them took and sent begins with what it had taken and sent.
+/// At rest an actor only looked for a notification, or waived one. Every actor is at rest, or the
+/// ends of one made at least `limit` word steps in this call. Where all rest at the start, no step
+/// is made, and the parts come back as they are. It may wait, so that it returns isn't promised.
+/// Err is the answer where a step of any actor wanted memory, or the run itself did.
+pub fn run_threads<R: Threads + Wait + Sync, G: Gate + Sync>(
+    rt: &R,
+    alloc: Global,
+    layout: &Layout,
+    parts: Parts,
+    limit: u64,
+    gate: &G,
+) -> Result<Parts, Memory>
+    requires apart { AreApart layout.now.queues parts.rings.items
+        (map apart_of parts.actors.items) }
+    requires few { length layout.now.queues ≤ 65536 }
+    ensures rested { AreResting (map apart_of parts.actors.items) → result ≡ Ok parts }
+    ensures rings { IfOk result (λ p. p.rings.items ≡ parts.rings.items) }
+    ensures many { IfOk result (λ p. length p.actors.items ≡ length parts.actors.items) }
+    ensures apart { IfOk result (λ p. AreApart layout.now.queues p.rings.items
+        (map apart_of p.actors.items)) }
+    ensures memory { IfOk result (λ p. (k : ℕ) (new : Apart)
+        → slice_get (map apart_of p.actors.items) k ≡ Some new → new.wanted ≡ None) }
+    ensures came { IfOk result (λ p. (k : ℕ) (old new : Apart)
+        → slice_get (map apart_of parts.actors.items) k ≡ Some old
+        → slice_get (map apart_of p.actors.items) k ≡ Some new
+        → CameWithin parts.rings.items limit old new) }
+    ensures ends { IfOk result (λ p. AreResting (map apart_of p.actors.items)
+        ⊎ ((k : ℕ) × (old : Apart) × (new : Apart)
+        × (slice_get (map apart_of parts.actors.items) k ≡ Some old)
+        × (slice_get (map apart_of p.actors.items) k ≡ Some new)
+        × HasSpent parts.rings.items limit old new)) }
+{
+    actor_law();
+    if all_rest(&parts.actors) {
+        Ok(parts)
+    } else {
+        run_apart(rt, alloc, layout, parts, limit, gate)
+    }
 }

@@ -1,9 +1,9 @@
 //! A thread for each actor.
-ghost use Rattle.std.specs.Prelude.{◌≡◌, ◌≤◌, ◌⊎◌, IfOk, true};
-ghost use Rattle.pd_runner.specs.Running.{Stands, Came};
+ghost use Rattle.std.specs.Prelude.{◌≡◌, ◌≤◌, ◌⊎◌, IfOk, IfNone, true};
+ghost use Rattle.pd_runner.specs.Running.{IsReady, HasNoWant, Came};
 ghost use Rattle.pd_runner.specs.Begun.{BegunOf, JoinedOf, RanOf};
 ghost use Rattle.pd_runner.specs.Each.{Each, Every, AnyOf, AnyPair};
-ghost use Rattle.pd_runner.specs.Ends.{RanStands, SettledOf, LawfulOf, SpentOf, Rests};
+ghost use Rattle.pd_runner.specs.Ends.{RanReady, SettledOf, LawfulOf, SpentOf, Rests};
 
 use crate::floor::Floor;
 use crate::gate::Gate;
@@ -42,7 +42,7 @@ pub fn begin<'s, E: 's, R: Threads + Wait + Sync, G: Gate + Sync>(
     part: Part,
     limit: u64,
 ) -> Begun<'s>
-    requires { Stands rings.now part }
+    requires { IsReady rings.now part }
     ensures { BegunOf rings.entry.now limit part result }
 {
     let task = Task {
@@ -51,7 +51,7 @@ pub fn begin<'s, E: 's, R: Threads + Wait + Sync, G: Gate + Sync>(
         limit,
     };
     let job = move || -> Ran
-        requires { Stands rings.now part }
+        requires { IsReady rings.now part }
         ensures { Came rings.entry.now part result.made result.part × (result.made ≤ limit) }
     { work(rt, rings, floor, gate, me, parker, part, limit) };
     match scope.spawn_with(task, job) {
@@ -84,7 +84,7 @@ fn begin_all<'s, E: 's, R: Threads + Wait + Sync, G: Gate + Sync>(
     parts: Vec<Part>,
     limit: u64,
 ) -> Result<Vec<Begun<'s>>, Memory>
-    requires { Every (Stands rings.now) parts.items }
+    requires { Every (IsReady rings.now) parts.items }
     ensures { IfOk result (λ v. Each (BegunOf rings.entry.now limit) parts.items v.items) }
 {
     let mut begun = Vec::new(alloc);
@@ -139,14 +139,14 @@ pub fn in_threads<R: Threads + Wait + Sync, G: Gate + Sync>(
     parts: Vec<Part>,
     limit: u64,
 ) -> Result<Vec<Ran>, Memory>
-    requires { Every (Stands rings.now) parts.items }
+    requires { Every (IsReady rings.now) parts.items }
     ensures { IfOk result (λ v. Each (RanOf rings.entry.now limit) parts.items v.items) }
 {
     thread::scope(
         thread::scope_env(),
         rt,
         move |scope| -> Result<Vec<Ran>, Memory>
-            requires { Every (Stands rings.now) parts.items }
+            requires { Every (IsReady rings.now) parts.items }
             ensures { IfOk result (λ v. Each (RanOf rings.entry.now limit) parts.items v.items) }
         {
             match begin_all(scope, rt, alloc, rings, floor, gate, parkers, parts, limit) {
@@ -173,10 +173,13 @@ fn is_spent(rans: &[Ran], limit: u64) -> bool
 }
 
 // The first want of memory that one of them met.
-fn first_want(rans: &[Ran]) -> Option<Memory> {
+fn first_want(rans: &[Ran]) -> Option<Memory>
+    ensures { IfNone result (Every (λ r. HasNoWant r.part) rans.now) }
+{
     for ran in rans {
-        if ran.want.is_some() {
-            return ran.want;
+        match ran.part.worker.wanted() {
+            Some(memory) => return Some(memory),
+            None => {}
         }
     }
     None
@@ -191,17 +194,13 @@ fn settle_all<G: Gate>(
     limit: u64,
     stop: bool,
 ) -> Result<Vec<Part>, Memory>
-    requires { Every (RanStands rings.now limit) rans.items }
+    requires { Every (RanReady rings.now limit) rans.items }
     ensures { IfOk result (λ v. Each (SettledOf rings.entry.now limit stop) rans.items v.items) }
 {
     let mut all = Vec::new(alloc);
     let mut me: u16 = 0;
     for ran in rans {
-        let Ran {
-            part,
-            made,
-            want: _,
-        } = ran;
+        let Ran { part, made } = ran;
         let (part, _) = settle(rings, gate, me, part, made, limit, stop)?;
         all.push(part)?;
         me = me.wrapping_add(1);
@@ -219,7 +218,7 @@ pub(crate) fn run_seated<R: Threads + Wait + Sync, G: Gate + Sync>(
     limit: u64,
     gate: &G,
 ) -> Result<Vec<Part>, Memory>
-    requires { Every (Stands rings.now) parts.items }
+    requires { Every (IsReady rings.now) parts.items }
     ensures came { IfOk result (λ v. Each (LawfulOf rings.entry.now limit)
         parts.items v.items) }
     ensures ends { IfOk result (λ v. Every Rests v.items

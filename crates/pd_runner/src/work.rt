@@ -1,7 +1,7 @@
 //! What a thread does with its actor, and what is left for the caller.
 ghost use Rattle.std.specs.Prelude.{◌≡◌, ◌≤◌, ◌+◌, ◌⊎◌, ℕ, IfOk, true};
 ghost use Rattle.actor_set.specs.Actors.{actor_rests};
-ghost use Rattle.pd_runner.specs.Running.{Stands, Came};
+ghost use Rattle.pd_runner.specs.Running.{IsReady, HasNoWant, Came, CameAtWork};
 
 use crate::floor::Floor;
 use crate::gate::Gate;
@@ -32,7 +32,8 @@ fn count_ends<T>(places: &[Option<T>]) -> u64 {
 }
 
 /// Steps the actor until the threads end. It waits where the actor is at rest and each of its ends
-/// has since then said that no notification is pending.
+/// has since then said that no notification is pending. Where a step wants memory it is the last,
+/// and the part's worker tells of it.
 pub(crate) fn work<R: Wait, G: Gate>(
     rt: &R,
     rings: &[Ring],
@@ -43,21 +44,20 @@ pub(crate) fn work<R: Wait, G: Gate>(
     part: Part,
     limit: u64,
 ) -> Ran
-    requires { Stands rings.now part }
+    requires { IsReady rings.now part }
     ensures came { Came rings.now part result.made result.part }
     ensures within { result.made ≤ limit }
 {
     actor_law();
     let ends = count_ends(&part.producers).wrapping_add(count_ends(&part.consumers));
     let Part {
-        mut actor,
+        mut worker,
         producers,
         consumers,
     } = part;
     let mut seats = Seats::of(rings, producers, consumers);
     let mut made: u64 = 0;
     let mut calm: u64 = 0;
-    let mut want = None;
     for _ in rt.forever() {
         if floor.is_unmanned(me) || floor.is_over() {
             break;
@@ -66,7 +66,7 @@ pub(crate) fn work<R: Wait, G: Gate>(
             floor.end();
             break;
         }
-        if calm >= ends && actor.at_rest() {
+        if calm >= ends && worker.at_rest() {
             calm = 0;
             floor.rest(rt, me, &parker);
             continue;
@@ -74,11 +74,10 @@ pub(crate) fn work<R: Wait, G: Gate>(
         if calm == 0 {
             floor.begin_round(me);
         }
-        gate.pass(ActorId(me), actor.recorded());
-        let event = match actor.step(&mut seats) {
+        gate.pass(ActorId(me), worker.recorded());
+        let event = match worker.step(&mut seats) {
             Ok(event) => event,
-            Err(memory) => {
-                want = Some(memory);
+            Err(_) => {
                 floor.end();
                 break;
             }
@@ -95,16 +94,16 @@ pub(crate) fn work<R: Wait, G: Gate>(
     let (producers, consumers) = seats.into_ends();
     Ran {
         part: Part {
-            actor,
+            worker,
             producers,
             consumers,
         },
         made,
-        want,
     }
 }
 
-/// Steps the actor until it is at rest or has made `limit` steps in all, or not at all.
+/// Steps the actor until it is at rest or has made `limit` steps in all, or not at all. It makes no
+/// step at rest.
 pub(crate) fn settle<G: Gate>(
     rings: &[Ring],
     gate: &G,
@@ -114,27 +113,29 @@ pub(crate) fn settle<G: Gate>(
     limit: u64,
     stop: bool,
 ) -> Result<(Part, u64), Memory>
-    requires stands { Stands rings.now part }
+    requires ready { IsReady rings.now part }
     requires within { before ≤ limit }
-    ensures came { IfOk result (λ r. (n : ℕ) × (r.1 ≡ before + n) × Came rings.now part n r.0) }
+    ensures came { IfOk result (λ r. (n : ℕ) × (r.1 ≡ before + n)
+        × CameAtWork rings.now part n r.0) }
+    ensures fine { IfOk result (λ r. HasNoWant r.0) }
     ensures within { IfOk result (λ r. r.1 ≤ limit) }
     ensures rests { IfOk result
-        (λ r. (stop ≡ true) ⊎ ((actor_rests r.0.actor ≡ true) ⊎ (r.1 ≡ limit))) }
+        (λ r. (stop ≡ true) ⊎ ((actor_rests r.0.worker.actor ≡ true) ⊎ (r.1 ≡ limit))) }
 {
     actor_law();
     let Part {
-        mut actor,
+        mut worker,
         producers,
         consumers,
     } = part;
     let mut seats = Seats::of(rings, producers, consumers);
     let mut made = before;
-    while !stop && made < limit && !actor.at_rest() {
-        gate.pass(ActorId(me), actor.recorded());
-        let _event = match actor.step(&mut seats) {
+    while !stop && made < limit && !worker.at_rest() {
+        gate.pass(ActorId(me), worker.recorded());
+        let _event = match worker.step(&mut seats) {
             Ok(event) => event,
             Err(memory) => {
-                drop(actor);
+                drop(worker);
                 return Err(memory);
             }
         };
@@ -144,7 +145,7 @@ pub(crate) fn settle<G: Gate>(
     let (producers, consumers) = seats.into_ends();
     Ok((
         Part {
-            actor,
+            worker,
             producers,
             consumers,
         },

@@ -13,37 +13,39 @@ use Rattle.shelf_core.specs.Outside.{Rose}
 use Rattle.decision_core.specs.Decisions.{Decides}
 use Rattle.shelf_core.specs.Reading.{WasRead}
 use Rattle.sddf_top.specs.Answers.{IsFault, no_reading, no_writing, no_memory}
-use Rattle.decision_core.specs.Readings.{ReadLast}
+use Rattle.decision_core.specs.Readings.{ReadLast, OpensInTurn}
 use Rattle.sddf_top.specs.Outcomes.{FollowsBy, HasTold}
 use Rattle.sddf_top.specs.Served.{IsServed}
 use Rattle.sddf_top.proofs.AnswerLemmas.{served-status, answer-not, not-instead}
 
 -- an answer that was written keeps its status, or is a fault
-pub last-written : (told : List ℕ → Option (List ℕ)) (words : List (List ℕ)) (old new : Option (List ℕ)) (s result : Status) → ReadLast told words old new s
-    → (result ≡ s) ⊎ (result ≡ Ended.WriteFault) → ReadLast told words old new result ⊎ IsFault result
-last-written told words old new s result h (inl e) = inl (subst (λ t. ReadLast told words old new t) (sym e) h)
-last-written told words old new s result h (inr e) = inr (subst (λ t. IsFault t) (sym e) no_writing)
+pub last-written : (told : List ℕ → Option (List ℕ)) (words : List (List ℕ)) (old new : Option (List ℕ)) (before after : Option (List (List ℕ))) (s result : Status) → ReadLast told words old new before after s
+    → (result ≡ s) ⊎ (result ≡ Ended.WriteFault) → ReadLast told words old new before after result ⊎ IsFault result
+last-written told words old new before after s result h (inl e) = inl (subst (λ t. ReadLast told words old new before after t) (sym e) h)
+last-written told words old new before after s result h (inr e) = inr (subst (λ t. IsFault t) (sym e) no_writing)
 
 -- what is known of an answer that was made over a shelf
-pub record IsAnswered {F : Type 0} (text : F → List ℕ → Option (List ℕ)) (left : F → Option (List ℕ)) (reads : F → ℕ) (words : List (List ℕ)) (shelf shelf' : F) (answer : Result Outcome ReadStop) : Type 0 where
+pub record IsAnswered {F : Type 0} (text : F → List ℕ → Option (List ℕ)) (left : F → Option (List ℕ)) (opens : F → Option (List (List ℕ))) (reads : F → ℕ) (words : List (List ℕ)) (shelf shelf' : F) (answer : Result Outcome ReadStop) : Type 0 where
   pub texts : (name : List ℕ) → text shelf' name ≡ text shelf name
   pub answers : IfOk answer (FollowsBy (Decides (WasRead (text shelf)) words))
-  pub last : IfOk answer (λ r. ReadLast (text shelf) words (left shelf) (left shelf') r.status)
+  pub last : IfOk answer (λ r. ReadLast (text shelf) words (left shelf) (left shelf') (opens shelf) (opens shelf') r.status)
+  pub opened : OpensInTurn (WasRead (text shelf)) words (opens shelf) (opens shelf')
   pub calm : OnOk answer (reads shelf' ≡ reads shelf)
   pub failed : answer ≡ Err Stop.Failed → Rose (reads shelf) (reads shelf')
   pub starved : (memory : Memory) → answer ≡ Err (Stop.Memory memory) → reads shelf' ≡ reads shelf
   pub command : answer ≡ Err Stop.Failed → (command : Command) × Spells words command
   pub unread : (n : ℕ) → IsGen words n → shelf' ≡ shelf
 
-module _ {F K : Type 0} (text : F → List ℕ → Option (List ℕ)) (left : F → Option (List ℕ)) (reads : F → ℕ) (written : K → Option (List ℕ)) (writes : K → ℕ) (words : List (List ℕ)) (shelf shelf' : F) (sink sink' : K) (status : Status)
+module _ {F K : Type 0} (text : F → List ℕ → Option (List ℕ)) (left : F → Option (List ℕ)) (opens : F → Option (List (List ℕ))) (reads : F → ℕ) (written : K → Option (List ℕ)) (writes : K → ℕ) (words : List (List ℕ)) (shelf shelf' : F) (sink sink' : K) (status : Status)
     (played : Played) where
   -- an answer that was told serves the words
-  pub served : (answer : Result Outcome ReadStop) → IsAnswered text left reads words shelf shelf' answer → HasTold written writes answer sink sink' status played
-      → IsServed text left reads written writes words shelf shelf' sink sink' status played
+  pub served : (answer : Result Outcome ReadStop) → IsAnswered text left opens reads words shelf shelf' answer → HasTold written writes answer sink sink' status played
+      → IsServed text left opens reads written writes words shelf shelf' sink sink' status played
   served (Ok r) a t = record {
     served = t.served (text shelf) words a.answers;
     exactly = λ decision h. served-status (text shelf) words _ _ _ _ decision h (t.served (text shelf) words a.answers);
-    last = last-written (text shelf) words _ _ _ _ a.last t.ends;
+    opened = a.opened;
+    last = last-written (text shelf) words _ _ _ _ _ _ a.last t.ends;
     read_fault = λ e. absurd (not-instead (WasRead (text shelf)) words _ _ _ _ _ a.answers t.ends no_reading (λ f. cc) e);
     read_always = λ l. absurd (omega (arith, l, a.calm));
     read_command = λ e. absurd (not-instead (WasRead (text shelf)) words _ _ _ _ _ a.answers t.ends no_reading (λ f. cc) e);
@@ -57,6 +59,7 @@ module _ {F K : Type 0} (text : F → List ℕ → Option (List ℕ)) (left : F 
   served (Err Stop.Failed) a t = record {
     served = t.served (text shelf) words tt;
     exactly = λ decision h. inr (rw t.ends no_reading);
+    opened = a.opened;
     last = inr (rw t.ends no_reading);
     read_fault = λ e. a.failed refl;
     read_always = λ l. t.ends;
@@ -71,6 +74,7 @@ module _ {F K : Type 0} (text : F → List ℕ → Option (List ℕ)) (left : F 
   served (Err (Stop.Memory memory)) a t = record {
     served = t.served (text shelf) words tt;
     exactly = λ decision h. inr (rw t.ends (no_memory memory));
+    opened = a.opened;
     last = inr (rw t.ends (no_memory memory));
     read_fault = λ e. let f = t.ends in cc;
     read_always = λ l. absurd (omega (arith, l, a.starved memory refl));

@@ -10,12 +10,12 @@ use Rattle.shelf_core.specs.Outside.{Rose}
 use Rattle.decision_core.specs.Decisions.{Decision, Decides, IsStatusOf}
 use Rattle.sddf_top.specs.Answers.{Serves, IsFault}
 use Rattle.shelf_core.specs.Reading.{WasRead, IsTold}
-use Rattle.decision_core.specs.Readings.{ReadLast}
+use Rattle.decision_core.specs.Readings.{ReadLast, OpensInTurn}
 
--- the words were served over a shelf, which tells texts, what is left of the open one and how often
--- it failed, and a sink, which tells what was written and how often it failed
+-- the words were served over a shelf, which tells texts, what is left of the open one, which were
+-- opened and how often it failed, and a sink, which tells what was written and how often it failed
 pub record IsServed {F K : Type 0} (text : F → List ℕ → Option (List ℕ))
-    (left : F → Option (List ℕ))
+    (left : F → Option (List ℕ)) (opens : F → Option (List (List ℕ)))
     (reads : F → ℕ) (written : K → Option (List ℕ)) (writes : K → ℕ) (words : List (List ℕ))
     (shelf shelf' : F) (sink sink' : K) (status : Status) (played : Played) : Type 0 where
   -- the status, what was written and what was played: each only for its cause
@@ -23,8 +23,12 @@ pub record IsServed {F K : Type 0} (text : F → List ℕ → Option (List ℕ))
   -- each status wherever its cause holds, but for faults and want of memory
   pub exactly : (decision : Decision) → Decides (IsTold (text shelf)) words decision
       → IsStatusOf decision status ⊎ IsFault status
-  -- what is read, in which order and how far: the text that was read last, and what is left of it
-  pub last : ReadLast (text shelf) words (left shelf) (left shelf') status ⊎ IsFault status
+  -- which texts are opened, and in which order, however the call ends: the description before the
+  -- trace, and the trace only where the description is accepted
+  pub opened : OpensInTurn (WasRead (text shelf)) words (opens shelf) (opens shelf')
+  -- where the answer is no fault: just these texts are opened, and this is left of the last
+  pub last : ReadLast (text shelf) words (left shelf) (left shelf') (opens shelf) (opens shelf')
+      status ⊎ IsFault status
   -- a fault of reading comes only where words that are a command let a text be read, and then
   -- nothing is written
   pub read_fault : status ≡ Ended.ReadFault → Rose (reads shelf) (reads shelf')

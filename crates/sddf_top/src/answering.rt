@@ -8,7 +8,7 @@ ghost use Rattle.decision_core.specs.Decided.{decision_of, IsSound, AsksToRun};
 ghost use Rattle.sddf_top.specs.Outcomes.{Follows, FollowsBy};
 ghost use Rattle.decision_core.specs.Decisions.{Decides};
 ghost use Rattle.shelf_core.specs.Reading.{WasRead};
-ghost use Rattle.decision_core.specs.Readings.{ReadLast};
+ghost use Rattle.decision_core.specs.Readings.{ReadLast, OpensInTurn};
 
 use crate::Played;
 use crate::playing::{play, run};
@@ -88,7 +88,9 @@ pub fn answer_words_alone<F: Shelf>(
     ensures answer { IfOk result (FollowsBy (Decides (WasRead (F.text shelf.old))
         (texts_of words.now))) }
     ensures last { IfOk result (λ r. ReadLast (F.text shelf.old) (texts_of words.now)
-        (F.left shelf.old) (F.left shelf.new) r.status) }
+        (F.left shelf.old) (F.left shelf.new) (F.opens shelf.old) (F.opens shelf.new) r.status) }
+    ensures opens { OpensInTurn (WasRead (F.text shelf.old)) (texts_of words.now)
+        (F.opens shelf.old) (F.opens shelf.new) }
     ensures calm { OnOk result (F.faults shelf.new ≡ F.faults shelf.old) }
     ensures failed { result ≡ Err ReadStop.Failed → Rose (F.faults shelf.old) (F.faults shelf.new) }
     ensures starved { (memory : Memory) → result ≡ Err (ReadStop.Memory memory)
@@ -113,7 +115,9 @@ pub fn answer_words<R: Threads + Wait + Sync, F: Shelf, G: Gate + Sync>(
     ensures answer { IfOk result (FollowsBy (Decides (WasRead (F.text shelf.old))
         (texts_of words.now))) }
     ensures last { IfOk result (λ r. ReadLast (F.text shelf.old) (texts_of words.now)
-        (F.left shelf.old) (F.left shelf.new) r.status) }
+        (F.left shelf.old) (F.left shelf.new) (F.opens shelf.old) (F.opens shelf.new) r.status) }
+    ensures opens { OpensInTurn (WasRead (F.text shelf.old)) (texts_of words.now)
+        (F.opens shelf.old) (F.opens shelf.new) }
     ensures calm { OnOk result (F.faults shelf.new ≡ F.faults shelf.old) }
     ensures failed { result ≡ Err ReadStop.Failed → Rose (F.faults shelf.old) (F.faults shelf.new) }
     ensures starved { (memory : Memory) → result ≡ Err (ReadStop.Memory memory)

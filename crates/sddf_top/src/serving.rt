@@ -65,7 +65,7 @@ pub fn serve_alone<F: Shelf, K: Sink>(
     played: &mut Played,
 ) -> Status
     requires { BeginsRun (texts_of words.now) → ⊥ }
-    ensures { IsServed F.text F.left F.faults K.written K.faults
+    ensures { IsServed F.text F.left F.opens F.faults K.written K.faults
         (texts_of words.now) shelf.old shelf.new
         sink.old sink.new result played.new }
 {
@@ -85,7 +85,7 @@ pub fn serve<R: Threads + Wait + Sync, F: Shelf, K: Sink, G: Gate + Sync>(
     gate: &G,
     played: &mut Played,
 ) -> Status
-    ensures { IsServed F.text F.left F.faults K.written K.faults
+    ensures { IsServed F.text F.left F.opens F.faults K.written K.faults
         (texts_of words.now) shelf.old shelf.new
         sink.old sink.new result played.new }
 {

@@ -1,6 +1,6 @@
 -- What a call to the outside may do: fail, give the next bytes, take some.
-use Rattle.std.specs.Prelude.{◌≡◌, ◌⊎◌, ◌+◌, ◌-◌, ◌^◌, ◌<◌, ◌≤◌, ℕ, Option, List, [], ◌++◌, length}
-use Rattle.std.specs.Prelude.{take, IfSome}
+use Rattle.std.specs.Prelude.{◌≡◌, ◌⊎◌, ◌+◌, ◌-◌, ◌^◌, ◌<◌, ◌≤◌, ℕ, Option, List, [], ◌∷◌, ◌++◌}
+use Rattle.std.specs.Prelude.{length, take, IfSome}
 use Rattle.std.specs.Option.{option_map}
 use Rattle.sdf_model.specs.Counts.{text_most}
 
@@ -22,6 +22,10 @@ IsAtEnd left = IfSome left (λ bytes. bytes ≡ [])
 -- what is written once these bytes were appended, where this is told
 abbrev pub appended : Option (List ℕ) → List ℕ → Option (List ℕ)
 appended written bytes = option_map (λ before. before ++ bytes) written
+
+-- the names of the texts that were opened once this one was opened too, where they are told
+abbrev pub also_opened : Option (List (List ℕ)) → List ℕ → Option (List (List ℕ))
+also_opened opens name = option_map (λ names. names ++ name ∷ []) opens
 
 -- how many bytes of a text are read at most: one more than it may have
 abbrev pub read_most : ℕ

@@ -8,7 +8,7 @@ use std::fs;
 use std::io::Read;
 use std::rt::Files;
 
-/// The texts of files, by their paths. It tells no bytes.
+/// The texts of files, by their paths. It tells no bytes and no names.
 #[derive(Drop)]
 pub struct FileShelf<'a, R: Files> {
     rt: &'a R,
@@ -33,6 +33,8 @@ impl<R: Files> Shelf for FileShelf<'_, R> {
     ghost text = { λ _ _. None };
 
     ghost left = { λ _. None };
+
+    ghost opens = { λ _. None };
 
     ghost faults = { λ s. s.faults };
 

@@ -155,6 +155,8 @@ impl Shelf for MemShelf {
 
     ghost left = { λ s. Some (left_of s.kept s.opened s.at) };
 
+    ghost opens = { λ _. None };
+
     ghost faults = { λ s. s.plan.faults };
 
     /// It counts the call, and fails where the call is listed or the name isn't there.

@@ -1,7 +1,7 @@
 //! A text is read from a shelf to its end.
 ghost use Rattle.std.specs.Prelude.{◌≡◌, ◌+◌, ◌<◌, ◌≤◌, ℕ, List, Err, OnOk, IfOk, IfSome, length};
 ghost use Rattle.cargo_core.specs.declared.memory.Memory.{Memory};
-ghost use Rattle.shelf_core.specs.Outside.{Rose, IsRead, read_most};
+ghost use Rattle.shelf_core.specs.Outside.{Rose, IsRead, read_most, also_opened};
 ghost use Rattle.shelf_core.specs.Reading.{ReadsOn, Behind};
 
 use crate::{Failed, Shelf};
@@ -47,6 +47,7 @@ impl From<Memory> for ReadStop {
 fn read_piece<F: Shelf>(shelf: &mut F, text: &mut Bytes, most: usize) -> Result<usize, ReadStop>
     requires { 0 < most }
     ensures texts { (n : List ℕ) → F.text shelf.new n ≡ F.text shelf.old n }
+    ensures opens { F.opens shelf.new ≡ F.opens shelf.old }
     ensures calm { OnOk result (F.faults shelf.new ≡ F.faults shelf.old) }
     ensures more { IfOk result (λ n. length text.new ≡ length text.old + n) }
     ensures within { IfOk result (λ n. n ≤ most) }
@@ -67,6 +68,7 @@ fn read_piece<F: Shelf>(shelf: &mut F, text: &mut Bytes, most: usize) -> Result<
 /// Reads the text of a name to its end, or its first 16,777,217 bytes.
 pub fn read_text<F: Shelf>(alloc: Global, shelf: &mut F, name: &str) -> Result<Bytes, ReadStop>
     ensures texts { (n : List ℕ) → F.text shelf.new n ≡ F.text shelf.old n }
+    ensures opens { F.opens shelf.new ≡ also_opened (F.opens shelf.old) name.now }
     ensures calm { OnOk result (F.faults shelf.new ≡ F.faults shelf.old) }
     ensures bytes { IfOk result (IsRead (F.text shelf.old name.now)) }
     ensures within { IfOk result (λ bytes. length bytes ≤ read_most) }

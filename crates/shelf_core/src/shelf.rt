@@ -2,7 +2,7 @@
 ghost use Rattle.std.specs.Prelude.{◌≡◌, ◌≤◌, ℕ, List, Option, length, drop, OnOk, OnErr, IfOk};
 ghost use Rattle.std.specs.Prelude.{IfSome};
 ghost use Rattle.std.specs.Option.{option_map};
-ghost use Rattle.shelf_core.specs.Outside.{Rose, GivesNext, IsAtEnd};
+ghost use Rattle.shelf_core.specs.Outside.{Rose, GivesNext, IsAtEnd, also_opened};
 
 /// The outside failed: a file, a stream.
 #[derive(Clone, Copy, Debug, PartialEq, Eq)]
@@ -17,6 +17,10 @@ pub trait Shelf {
     /// open there are none.
     ghost left: { Self → Option (List ℕ) };
 
+    /// The names of the texts that were opened so far, in order, where the shelf tells them. A text
+    /// that couldn't be opened is among them.
+    ghost opens: { Self → Option (List (List ℕ)) };
+
     /// How often the outside failed. The count never falls, and stands still at the end of its
     /// type, 2^64 - 1.
     ghost faults: { Self → ℕ };
@@ -26,6 +30,7 @@ pub trait Shelf {
     fn open(&mut self, name: &str) -> Result<(), Failed>
         ensures texts { (n : List ℕ) → text self.new n ≡ text self.old n }
         ensures rising { faults self.old ≤ faults self.new }
+        ensures opens { opens self.new ≡ also_opened (opens self.old) name.now }
         ensures opened { OnOk result (left self.new ≡ text self.old name.now) }
         ensures calm { OnOk result (faults self.new ≡ faults self.old) }
         ensures failed { OnErr result (Rose (faults self.old) (faults self.new)) }
@@ -36,6 +41,7 @@ pub trait Shelf {
     fn read(&mut self, into: &mut [u8]) -> Result<usize, Failed>
         ensures texts { (n : List ℕ) → text self.new n ≡ text self.old n }
         ensures rising { faults self.old ≤ faults self.new }
+        ensures opens { opens self.new ≡ opens self.old }
         ensures bound { IfOk result (λ n. n ≤ length into.new) }
         ensures bytes { IfOk result (λ n. IfSome (left self.old) (λ l. GivesNext l n into.new)) }
         ensures rest { IfOk result (λ n. left self.new ≡ option_map (drop n) (left self.old)) }

@@ -4,18 +4,19 @@
 //! of the block class, recorded at any moment and where nobody is runnable.
 #![tactic(auto)]
 
-ghost use Rattle.std.specs.Prelude.{◌≡◌, ◌≤◌, ℕ, Some, List, map, slice_get};
+ghost use Rattle.std.specs.Prelude.{◌≡◌, ◌+◌, ◌≤◌, ℕ, Some, List, map, slice_get};
 ghost use Rattle.cargo_core.specs.Lists.{IsPrefix, PrefixMerge};
 ghost use Rattle.frame_core.specs.declared.mac.Mac.{Mac};
 ghost use Rattle.wire_core.specs.declared.names.QueueRow.{QueueRow};
 ghost use Rattle.wire_core.specs.Deeds.{Deed};
 ghost use Rattle.wire_core.specs.Ends.{Role, End};
 ghost use Rattle.wire_core.specs.Lists.{Passed, nothing_passed, with_deed};
+ghost use Rattle.wire_core.specs.Queues.{items_of};
 ghost use Rattle.net_expect.specs.Expecting.{Program, frames_for};
 ghost use Rattle.net_law.specs.Owners.Names.{ClientPools};
 ghost use Rattle.net_law.specs.Parts.Numbers.{device_at, client_at};
 ghost use Rattle.net_law.specs.TxParts.Numbers.{NetPlace};
-ghost use Rattle.net_quiet.specs.TxCast.Casting.{sends_at};
+ghost use Rattle.net_quiet.specs.TxCast.Casting.{sends_at, wire_at};
 ghost use Rattle.actor_set.specs.Parts.{Part, NetworkPart};
 ghost use Rattle.actor_set.specs.Actors.{part_of};
 ghost use Rattle.actor_set.specs.declared.actor.Actor.{Actor};
@@ -31,7 +32,7 @@ pub mod quiet;
 /// descriptors and requests alone; so they did when nothing had passed yet, and after one more call
 /// they still have. A network client with buffers of its own recorded a beginning of the frames
 /// that are for its address; and the device a merge of beginnings of what the clients send by their
-/// programs.
+/// programs, which is what the items tell that it took.
 pub fn wired_law()
     ensures turns { (ends : Role → ℕ → End) (rows : List QueueRow) (actors : List Actor)
         (passed : Passed) → IsWired rows (map part_of actors) → AreAtWork ends rows actors passed
@@ -61,4 +62,12 @@ pub fn wired_law()
         ≡ NetworkPart (device_at net.first (scene_of (map part_of actors)).frames)
         → PrefixMerge (sends_at net.programs net.macs (scene_of (map part_of actors)).frames)
         (frames_got x) }
+    ensures told { (ends : Role → ℕ → End) (rows : List QueueRow) (actors : List Actor)
+        (passed : Passed) (net : NetPlace) → HasWhole rows net (map part_of actors)
+        → AreAtWork ends rows actors passed → ClientsSend (map part_of actors) passed
+        → (k : ℕ) (x : Actor) → slice_get actors k ≡ Some x
+        → part_of x
+        ≡ NetworkPart (device_at net.first (scene_of (map part_of actors)).frames)
+        → frames_got x ≡ wire_at net (scene_of (map part_of actors)).frames
+        (items_of (passed.taken (net.first + 2))) }
 {}

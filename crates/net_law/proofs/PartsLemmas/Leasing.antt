@@ -1,10 +1,10 @@
-use Rattle.std.proofs.Common.{◌≡◌, ◌≢◌, ◌⊎◌, ◌==◌, ◌+◌, ◌-◌, ◌*◌, ◌++◌, ◌<◌, ◌≤◌, ℕ, zero, suc, Bool, true, false, cond, Some, List, [], ◌∷◌, All, length, map, flat_map, slice_get, refl, sym, ap, ap₂, ◌∙◌, subst, arith, inl, inr}
+use Rattle.std.proofs.Common.{◌≡◌, ◌≢◌, ◌⊎◌, ◌==◌, ◌+◌, ◌-◌, ◌*◌, ◌++◌, ◌<◌, ◌≤◌, ℕ, zero, suc, Bool, true, false, cond, Some, List, [], ◌∷◌, All, length, length-append, map, flat_map, drop, slice_get, refl, sym, ap, ap₂, ◌∙◌, subst, arith, inl, inr}
 use Rattle.std.specs.List.{filter}
 use Rattle.std.proofs.Math.Dec.{eqb}
 use Rattle.std.proofs.Math.Nat.{add-sub_cancel_left}
 use Rattle.std.proofs.lemmas.Bool.{cases_lt}
 use Rattle.std.proofs.lemmas.Bool.Decides.{eqb_tells}
-use Rattle.std.proofs.lemmas.List.{append-nil}
+use Rattle.std.proofs.lemmas.List.{append-nil, map-append, take-append-le, take-append-drop}
 use Rattle.cargo_core.specs.Items.{kind_of}
 use Rattle.cargo_core.specs.Lists.{IsPrefix}
 use Rattle.cargo_core.specs.declared.item.Item.{Item}
@@ -18,7 +18,7 @@ use Rattle.wire_core.specs.Lists.{Passed, if_there}
 use Rattle.wire_core.specs.Queues.{items_of}
 use Rattle.play_core.specs.Moved.{Moved}
 use Rattle.play_core.specs.Sheets.{Scene}
-use Rattle.play_core.proofs.Lists.{some_is, map_from}
+use Rattle.play_core.proofs.Lists.{some_is, map_from, prefix_trans}
 use Rattle.owner_law.specs.Things.{Buffer, Window, names_in, times}
 use Rattle.net_expect.specs.Expecting.{is_for_client}
 use Rattle.buffer_kit.specs.Entries.{addr_of, frame_of}
@@ -36,11 +36,11 @@ use Rattle.net_law.specs.RxOwners.Virtualiser.{offset_window, rx_lender, borrowe
 use Rattle.net_law.proofs.RxOwners.Receivers.{rx_lends, leases_net}
 use Rattle.net_law.proofs.RxOwners.Virtualisers.{names_of, times_named, times_outside, leases_names}
 use Rattle.net_law.specs.Parts.Parts.{Lessee}
-use Rattle.net_law.specs.Parts.Rows.{IsIn, AreIn, frame_at, lease_item, leases_from, borrower_of, lender_of, SharesFrames}
+use Rattle.net_law.specs.Parts.Rows.{IsIn, AreIn, frame_at, lease_item, but_last, leases_from, borrower_of, lender_of, SharesFrames}
 use Rattle.net_law.specs.Parts.Table.{net_sheet, lessee_ends}
 use Rattle.net_law.specs.Parts.Playing.{receiver_part, stock_pool, lessees, lessees_of}
 use Rattle.net_law.proofs.PartsLemmas.Pairs.{twice, pair_first, pair_second}
-use Rattle.net_law.proofs.PartsLemmas.Items.{all_at, items_begin}
+use Rattle.net_law.proofs.PartsLemmas.Items.{all_at, items_begin, items_long}
 
 pub prefix_get : {X : Type 0} (xs ys : List X) → IsPrefix xs ys → (k : ℕ) (x : X) → slice_get xs k ≡ Some x → slice_get ys k ≡ Some x
 prefix_get xs ys h k x at = subst (λ l. slice_get l k ≡ Some x) h.1 (get_front xs h.0 k x at)
@@ -78,6 +78,25 @@ leases_items s frames mac place (c ∷ cs) within same =
     by : (t : Bool) → (lease_of s.size c).0 ≡ lease_item s.base (frame_at frames place) c.0 → items_of (leases_for s.size mac cs) ≡ leases_from frames s.base mac (place + 1) (items_of cs) → items_of (map (lease_of s.size) (cond t (c ∷ filter (λ d. is_for_client mac (frame_of d)) cs) (filter (λ d. is_for_client mac (frame_of d)) cs))) ≡ cond t (lease_item s.base (frame_at frames place) c.0 ∷ leases_from frames s.base mac (place + 1) (items_of cs)) (leases_from frames s.base mac (place + 1) (items_of cs))
     by true head tail = ap₂ (λ x xs. x ∷ xs) head tail
     by false head tail = tail
+
+-- the leases of some of the first frames are the first leases
+leases_more : (frames : List (List ℕ)) (base : ℕ) (mac : Mac) (place : ℕ) (xs rest : List Item) → IsPrefix (leases_from frames base mac place xs) (leases_from frames base mac place (xs ++ rest))
+leases_more frames base mac place [] rest = (leases_from frames base mac place rest, refl)
+leases_more frames base mac place (x ∷ xs) rest = by (is_for_client mac (frame_at frames place)) (leases_more frames base mac (place + 1) xs rest)
+  where
+    by : (t : Bool) → IsPrefix (leases_from frames base mac (place + 1) xs) (leases_from frames base mac (place + 1) (xs ++ rest)) → IsPrefix (cond t (lease_item base (frame_at frames place) x ∷ leases_from frames base mac (place + 1) xs) (leases_from frames base mac (place + 1) xs)) (cond t (lease_item base (frame_at frames place) x ∷ leases_from frames base mac (place + 1) (xs ++ rest)) (leases_from frames base mac (place + 1) (xs ++ rest)))
+    by true h = (h.0, ap (λ l. lease_item base (frame_at frames place) x ∷ l) h.1)
+    by false h = h
+
+leases_begin : (frames : List (List ℕ)) (base : ℕ) (mac : Mac) (xs ys : List Item) → IsPrefix xs ys → IsPrefix (leases_from frames base mac 0 xs) (leases_from frames base mac 0 ys)
+leases_begin frames base mac xs ys h = subst (λ l. IsPrefix (leases_from frames base mac 0 xs) (leases_from frames base mac 0 l)) h.1 (leases_more frames base mac 0 xs h.0)
+
+-- all but the last are among the first, where at most one follows these
+but_last_first : (xs ys : List Item) → length ys ≤ 1 → IsPrefix (but_last (xs ++ ys)) xs
+but_last_first xs ys few =
+    let n = length (xs ++ ys) - 1 in
+    let many = length-append xs ys in
+    (drop n xs, ap (λ l. l ++ drop n xs) (take-append-le n xs ys (omega (arith, few, many))) ∙ take-append-drop n xs)
 
 -- the clients as those to whom buffers are lent
 pub borrowers_are : (frames : List (List ℕ)) (macs : List Mac) (to from : List QueueId) → borrowers (frame_at frames) macs to from ≡ map (borrower_of frames) (lessees macs to from)
@@ -203,6 +222,18 @@ module _ (scene : Scene) (v : NetVirtRx) (passed : Passed) (m : Moved) (items : 
         let said = subst (IsPrefix (items_of (passed.sent c.active))) due (items_begin (passed.sent c.active) (leases_for s.size c.mac came) served.lends) in
         subst (λ l. IsPrefix l (leases_from scene.frames s.base c.mac 0 (m.taken v.ends.input.queue.0))) (sym lent_is) (subst (λ l. IsPrefix (items_of (passed.sent c.active)) (leases_from scene.frames s.base c.mac 0 l)) (sym came_is) said)
 
+    -- those of all frames but the last are given
+    prompt_items : IsPrefix (leases_from scene.frames s.base c.mac 0 (but_last (m.taken v.ends.input.queue.0))) (m.sent c.active)
+    prompt_items =
+        let split : row.earlier ++ row.latest ≡ came = sym row.split ∙ turn_is v.ends.input.queue.0 in
+        let there : (j : ℕ) (x : Cargo) → slice_get row.earlier j ≡ Some x → slice_get came j ≡ Some x = prefix_get row.earlier came (row.latest, split) in
+        let due = leases_items s scene.frames c.mac 0 row.earlier (λ j x is. came_within j x (there j x is)) (λ j x is. frames_at j x (there j x is)) in
+        let said = subst (λ l. IsPrefix l (items_of (passed.sent c.active))) due (items_begin (leases_for s.size c.mac row.earlier) (passed.sent c.active) served.prompt) in
+        let first : IsPrefix (but_last (items_of came)) (items_of row.earlier) = subst (λ l. IsPrefix (but_last l) (items_of row.earlier)) (sym (map-append (λ (x : Cargo). x.0) row.earlier row.latest) ∙ ap items_of split) (but_last_first (items_of row.earlier) (items_of row.latest) (omega (arith, items_long row.latest, row.few))) in
+        let leases = leases_begin scene.frames s.base c.mac (but_last (items_of came)) (items_of row.earlier) first in
+        let given = prefix_trans (leases_from scene.frames s.base c.mac 0 (but_last (items_of came))) (leases_from scene.frames s.base c.mac 0 (items_of row.earlier)) (items_of (passed.sent c.active)) leases said in
+        subst (IsPrefix (leases_from scene.frames s.base c.mac 0 (but_last (m.taken v.ends.input.queue.0)))) (sym lent_is) (subst (λ l. IsPrefix (leases_from scene.frames s.base c.mac 0 (but_last l)) (items_of (passed.sent c.active))) (sym came_is) given)
+
     abbrev test : ℕ → Bool
     test n = is_for_client c.mac (frame_at scene.frames n)
 
@@ -232,6 +263,7 @@ module _ (scene : Scene) (v : NetVirtRx) (passed : Passed) (m : Moved) (items : 
     sized = row.is_start.are_pool.some;
     within = subst (AreIn w) (sym came_is) (buffers_in came came_within takes.net);
     lends = lends_items;
+    prompt = prompt_items;
     gives = subst (AreIn w) (sym gave_is) (buffers_in gave gave_within takes.given_net);
     rising = λ k item lt at. rises k item lt (ap (λ l. slice_get l k) (sym gave_is) ∙ at);
     in_hand = lender_row.in_hand;

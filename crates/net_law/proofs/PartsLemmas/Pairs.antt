@@ -1,6 +1,7 @@
 use Rattle.std.proofs.Common.{◌≡◌, ◌≢◌, ◌⊎◌, ◌+◌, ◌++◌, ◌≤◌, ℕ, zero, suc, true, false, nat_lt, Some, List, [], ◌∷◌, length, map, flat_map, slice_get, length-append, refl, sym, ap, ◌∙◌, subst, arith, inl, inr}
 use Rattle.std.proofs.Math.Dec.{eqb}
 use Rattle.std.proofs.lemmas.Bool.Decides.{eqb_tells}
+use Rattle.std.proofs.lemmas.List.{append-nil}
 use Rattle.cargo_core.specs.Lists.{IsPrefix}
 use Rattle.cargo_core.specs.declared.item.Item.{Item}
 use Rattle.play_core.specs.Moved.{Moved, with_put}
@@ -66,6 +67,14 @@ module _ {X : Type 0} (xs : List X) (to : X → ℕ) (all : X → List Item) whe
 -- four lists told otherwise
 pub carry : (P : List Item → List Item → List Item → List Item → Type 0) (a b c d a_ b_ c_ d_ : List Item) → a ≡ a_ → b ≡ b_ → c ≡ c_ → d ≡ d_ → P a b c d → P a_ b_ c_ d_
 carry P a b c d a_ b_ c_ d_ e f g h p = subst (λ x. P x b_ c_ d_) e (subst (λ x. P a x c_ d_) f (subst (λ x. P a b x d_) g (subst (λ x. P a b c x) h p)))
+
+-- what was put is kept by one more put, wherever it goes
+pub put_grows : (m : Moved) (n : ℕ) (x : Item) (k : ℕ) → IsPrefix (m.sent k) ((with_put m n x).sent k)
+put_grows m n x k = by (eqb_tells n k)
+  where
+    by : ((eqb n k ≡ true) × (n ≡ k)) ⊎ ((eqb n k ≡ false) × (n ≢ k)) → IsPrefix (m.sent k) ((with_put m n x).sent k)
+    by (inl e) = subst (λ j. IsPrefix (m.sent j) ((with_put m n x).sent j)) e.1 (x ∷ [], sym (put_here m n x))
+    by (inr e) = ([], append-nil (m.sent k) ∙ sym (put_beside m n x k e.1))
 
 pub put_length : (m : Moved) (n : ℕ) (x : Item) → length ((with_put m n x).sent n) ≡ length (m.sent n) + 1
 put_length m n x = ap length (put_here m n x) ∙ length-append (m.sent n) (x ∷ [])

@@ -7,7 +7,7 @@ use Rattle.wire_core.specs.Marks.{sum_below}
 use Rattle.play_core.specs.Moved.{Moved, Seat, AreAlike, with_put}
 use Rattle.play_core.specs.Wants.{Want, intake, outlet, intake_want, outlet_want}
 use Rattle.play_core.specs.Sheets.{Scene, Sheet, Due, CouldPut, IsOwn, NeedsFollow, AreApart, due_want}
-use Rattle.play_core.proofs.Lists.{some_is, map_from}
+use Rattle.play_core.proofs.Lists.{some_is, map_from, prefix_trans}
 use Rattle.play_core.proofs.Puts.{put_here, put_beside, copy_shorter}
 use Rattle.owner_law.specs.Things.{Buffer, Window, is_same, names_in, buffer_of, is_named, times}
 use Rattle.owner_law.specs.Keeping.{at_start}
@@ -17,10 +17,10 @@ use Rattle.net_law.specs.Owners.Names.{PoolAt, by_address, by_offset}
 use Rattle.net_law.specs.Owners.Lending.{Borrower, Lender, names_where, leases_due, leases_back}
 use Rattle.net_law.proofs.RxOwners.Serving.{same_sums}
 use Rattle.net_law.specs.Parts.Parts.{NetReceiver, Lessee}
-use Rattle.net_law.specs.Parts.Rows.{IsIn, AreIn, given_item, leases_from, pool_hand, borrower_of, lender_of, is_lent, SharesFrames}
+use Rattle.net_law.specs.Parts.Rows.{IsIn, AreIn, given_item, but_last, leases_from, pool_hand, borrower_of, lender_of, is_lent, SharesFrames}
 use Rattle.net_law.specs.Parts.Table.{net_sheet, is_short, home_count, frees_due, leases_of, some_owed, is_busy, lessee_wants}
 use Rattle.net_law.proofs.PartsLemmas.Fits.{AllFit, intake_fits, outlet_fits, pairs_fit, sheet_follows}
-use Rattle.net_law.proofs.PartsLemmas.Pairs.{twice, twice_same, pair_first, pair_second, pair_seats, flat_alike, each_owed, put_length}
+use Rattle.net_law.proofs.PartsLemmas.Pairs.{twice, twice_same, pair_first, pair_second, pair_seats, flat_alike, each_owed, put_grows, put_length}
 use Rattle.net_law.proofs.PartsLemmas.Counting.{get_snoc, below_less, below_few, below_more, below_rest, bit_few, numbered, named_other, buffer_is, count_in, times_none, times_snoc, start_some, start_few, due_none}
 
 -- the receiving virtualiser
@@ -95,6 +95,7 @@ module _ (scene : Scene) (active free : ℕ) (pool : PoolAt) (clients : List Les
       sized = h.sized;
       within = subst (AreIn w) took h.within;
       lends = λ k c at. subst (λ xs. IsPrefix xs (leases_from scene.frames pool.base c.mac 0 (b.taken active))) (shared k c at) (subst (λ ys. IsPrefix (a.sent c.active) (leases_from scene.frames pool.base c.mac 0 ys)) took (h.lends k c at));
+      prompt = λ k c at. subst (IsPrefix (leases_from scene.frames pool.base c.mac 0 (but_last (b.taken active)))) (shared k c at) (subst (λ ys. IsPrefix (leases_from scene.frames pool.base c.mac 0 (but_last ys)) (a.sent c.active)) took (h.prompt k c at));
       gives = subst (AreIn w) gave h.gives;
       rising = λ k item lt at. h.rising k item lt (ap (λ xs. slice_get xs k) gave ∙ at);
       in_hand = λ x. omega (arith, h.in_hand x, ap bit (lent_same x), ap (λ xs. times x (names_in (w ∷ []) xs)) gave, ap (λ xs. times x (names_in (w ∷ []) xs)) took);
@@ -127,6 +128,10 @@ module _ (scene : Scene) (active free : ℕ) (pool : PoolAt) (clients : List Les
         let one = pair_first lent_to back_from clients k c at in
         let e : 1 ≡ suc (suc (twice k)) = apart 1 (suc (suc (twice k))) (outlet free) refl (one ∙ ap (λ n. Some (outlet n)) (sym same)) in
         omega (arith, e)
+
+    -- leases that were given are given after one more put
+    still_prompt : (n : ℕ) (x : Item) (k : ℕ) (c : Lessee) → slice_get clients k ≡ Some c → IsPrefix (leases_from scene.frames pool.base c.mac 0 (but_last (m.taken active))) ((with_put m n x).sent c.active)
+    still_prompt n x k c at = prefix_trans (leases_from scene.frames pool.base c.mac 0 (but_last (m.taken active))) (m.sent c.active) ((with_put m n x).sent c.active) (row.prompt k c at) (put_grows m n x c.active)
 
     abbrev S : ℕ → ℕ
     S n = times (numbered pool.number n) (names_in (w ∷ []) (m.sent free))
@@ -186,6 +191,7 @@ module _ (scene : Scene) (active free : ℕ) (pool : PoolAt) (clients : List Les
               sized = row.sized;
               within = row.within;
               lends = λ k c at. subst (λ xs. IsPrefix xs (leases_from scene.frames pool.base c.mac 0 (m.taken active))) (sym (put_beside m free item c.active (beside_free k c at))) (row.lends k c at);
+              prompt = λ k c at. still_prompt free item k c at;
               gives = subst (AreIn w) (sym put) snoc_in;
               rising = λ k x lt at. snoc_rises k x lt (ap (λ xs. slice_get xs k) (sym put) ∙ at);
               in_hand = λ b. omega (arith, ap (λ xs. times b (names_in (w ∷ []) xs)) put, snoc_hand b);
@@ -252,6 +258,7 @@ module _ (scene : Scene) (active free : ℕ) (pool : PoolAt) (clients : List Les
             sized = row.sized;
             within = row.within;
             lends = more.1;
+            prompt = λ j d is. still_prompt c.active more.0 j d is;
             gives = subst (AreIn w) (sym beside) row.gives;
             rising = λ j x few is. row.rising j x few (ap (λ xs. slice_get xs j) (sym beside) ∙ is);
             in_hand = λ b. omega (arith, ap (λ xs. times b (names_in (w ∷ []) xs)) beside, row.in_hand b);

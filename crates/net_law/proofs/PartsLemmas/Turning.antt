@@ -185,7 +185,7 @@ module _ (d : EthDevice) (p : Pipes (Pipes (Pipes Pipe))) (v : NetVirtRx) (copie
         let b = number_of f.0.1 in
         let begins : addr_of x.0 ≡ 0 + b * s.size = ap (λ (y : Cargo). addr_of y.0) (sym f.3) ∙ zero_first (b * s.size) in
         let more : named 0 s.size b (row.turn n) < named 0 s.size b leases = omega (arith, named_next 0 s.size b (row.turn n) x rest begins, named_few 0 s.size b (row.turn n ++ x ∷ rest) leases whole) in
-        let there : IsLeaseInTurn s mac (row.turn into) (row.turn n) (lease_of s.size f.0) = ((buffer_number s f.0 buffer).0, refl, more) in
+        let there : IsLeaseInTurn s mac (row.turn into) (row.turn n) (lease_of s.size f.0) = (b, (buffer_number s f.0 buffer).0, refl, more) in
         subst (λ j. IsLeaseInTurn s mac (row.turn into) (row.turn j) x) (sym here) (subst (IsLeaseInTurn s mac (row.turn into) (row.turn n)) f.3 there)
       where
         zero_first : (j : ℕ) → j ≡ 0 + j

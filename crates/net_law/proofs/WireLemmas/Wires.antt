@@ -45,7 +45,7 @@ maps_merge f lists all h =
     }
 
 -- an entry's frame doesn't depend on its address
-len_same : (n : ℕ) (item : Item) → len_of (with_addr n item) ≡ len_of item
+pub len_same : (n : ℕ) (item : Item) → len_of (with_addr n item) ≡ len_of item
 len_same n (ItemOf.Net d) = refl
 len_same n (ItemOf.Byte b) = refl
 len_same n (ItemOf.Req r) = refl
@@ -79,7 +79,7 @@ module _ (d : EthDevice) (p : Pipes (Pipes (Pipes Pipe))) (v : NetVirtTx) (passe
   good lists = all_good (senders v.work) (from_queues v.ends) lists
 
   -- the device took a beginning of what the virtualiser put
-  reached : IsPrefix (passed.taken (tx_active d)) went
+  pub reached : IsPrefix (passed.taken (tx_active d)) went
   reached =
       let o = p.rest.rest.first.output.queue.0 in
       let i = p.rest.rest.first.input.queue.0 in

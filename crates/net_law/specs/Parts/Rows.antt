@@ -146,16 +146,25 @@ abbrev pub is_lent : PoolAt → Lender → Moved → Buffer → Bool
 is_lent pool l m b = nat_lt (leases_back (by_offset pool ∷ []) l m b)
     (leases_due (by_address pool ∷ []) l m b)
 
+-- all of these but the last
+abbrev pub but_last : List Item → List Item
+but_last items = take (length items - 1) items
+
 -- what the receiving virtualiser may have put: to each client the leases of those frames that are
--- for it, in their order; and buffers of its own, the first in rising number, each of which was in
--- its hand, where a buffer isn't while it is lent. Each frame came in one of its buffers, and of a
--- buffer at most one lease is out to a client. No buffer is empty
+-- for it, in their order, and those of all frames but the last before another frame is taken; and
+-- buffers of its own, the first in rising number, each of which was in its hand, where a buffer
+-- isn't while it is lent. Each frame came in one of its buffers, and of a buffer at most one lease
+-- is out to a client. No buffer is empty
 pub record SharesFrames (frames : List (List ℕ)) (active free : ℕ) (pool : PoolAt)
     (clients : List Lessee) (m : Moved) : Type 0 where
   pub sized : 0 < pool.size
   pub within : AreIn (by_address pool) (m.taken active)
   pub lends : (k : ℕ) (c : Lessee) → slice_get clients k ≡ Some c
       → IsPrefix (m.sent c.active) (leases_from frames pool.base c.mac 0 (m.taken active))
+  -- a frame is taken only when no lease of the one before is owed
+  pub prompt : (k : ℕ) (c : Lessee) → slice_get clients k ≡ Some c
+      → IsPrefix (leases_from frames pool.base c.mac 0 (but_last (m.taken active)))
+      (m.sent c.active)
   pub gives : AreIn (by_address pool) (m.sent free)
   pub rising : (k : ℕ) (item : Item) → k < pool.buffers → slice_get (m.sent free) k ≡ Some item
       → addr_of item ≡ pool.base + k * pool.size

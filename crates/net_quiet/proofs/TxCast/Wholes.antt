@@ -1,6 +1,6 @@
 -- The actors of a whole cast are a sending half, so nothing comes out of turn at the sending
 -- virtualiser.
-use Rattle.std.proofs.Common.{ap₂, ◌≡◌, ◌==◌, ◌+◌, ◌*◌, ◌++◌, ◌≤◌, ℕ, zero, suc, Bool, true, false, Some, List, [], ◌∷◌, All, length, map, slice_get, refl, sym, ap, ◌∙◌, subst, arith}
+use Rattle.std.proofs.Common.{◌≡◌, ◌==◌, ◌+◌, ◌*◌, ◌++◌, ◌≤◌, ℕ, zero, suc, Bool, true, false, Some, List, [], ◌∷◌, All, length, map, slice_get, refl, sym, ap, ap₂, ◌∙◌, subst, arith}
 use Rattle.std.specs.List.{filter}
 use Rattle.std.proofs.lemmas.List.{append-nil}
 use Rattle.std.proofs.lemmas.List.Elements.{All-cons}
@@ -9,6 +9,7 @@ use Rattle.frame_core.specs.declared.mac.Mac.{Mac}
 use Rattle.wire_core.specs.declared.names.QueueId.{QueueId}
 use Rattle.wire_core.specs.Deeds.{Cargo}
 use Rattle.wire_core.specs.Lists.{Passed, if_there}
+use Rattle.wire_core.specs.Queues.{items_of}
 use Rattle.play_core.proofs.Lists.{some_is, there_is, there_below}
 use Rattle.net_expect.specs.Expecting.{Program, Source, frames_for, sends_of}
 use Rattle.buffer_kit.specs.Entries.{frame_of}
@@ -23,19 +24,21 @@ use Rattle.net_virt_tx.specs.Sending.{TxRow}
 use Rattle.net_virt_tx.specs.Traffics.{senders}
 use Rattle.net_law.proofs.Beginnings.{begins_map, begins_filter}
 use Rattle.net_law.specs.Wire.Sending.{AllSendGood}
+use Rattle.net_law.specs.Wire.Telling.{told_frames}
 use Rattle.net_law.proofs.WireLemmas.Wires.{wire_sends}
+use Rattle.net_law.proofs.WireLemmas.Telling.{wire_told}
 use Rattle.net_law.specs.Owners.Names.{PoolAt, ClientPools}
 use Rattle.net_law.specs.Parts.Numbers.{client_first}
 use Rattle.net_law.proofs.PartsLemmas.Leasing.{prefix_get}
 use Rattle.owner_law.proofs.PoolsLemmas.Merging.{Each, each_begun, kept_is}
 use Rattle.net_law.specs.TxParts.Numbers.{NetPlace, shippers_from}
-use Rattle.net_law.specs.TxParts.Playing.{TakesGood, shippers}
+use Rattle.net_law.specs.TxParts.Playing.{TakesGood, sender_pool, shippers}
 use Rattle.net_law.proofs.TxParts.Items.{none_bad}
 use Rattle.net_quiet.specs.Cast.Casting.{IsClientAt}
 use Rattle.net_quiet.proofs.CastLemmas.Casting.{cast_records}
 use Rattle.net_quiet.specs.TxTurns.Turning.{IsSendHalf, SendsFromHand}
 use Rattle.net_quiet.proofs.TxTurns.Turning.{comes_back, none_stray, takes_good}
-use Rattle.net_quiet.specs.TxCast.Casting.{AreSends, AreFrames, AllSend, IsSend, IsClientOf, IsSendingClient, IsWholeCast, sends_at}
+use Rattle.net_quiet.specs.TxCast.Casting.{AreSends, AreFrames, AllSend, IsSend, IsClientOf, IsSendingClient, IsWholeCast, sends_at, wire_at}
 use Rattle.net_quiet.proofs.TxCast.Numbers.{Ships, device_sends, driver_sends, client_queues, sender_queues, shippers_are, client_rx}
 use Rattle.net_quiet.proofs.TxCast.Entries.{send_good}
 use Rattle.net_quiet.proofs.TxCast.Sends as one
@@ -43,6 +46,13 @@ use Rattle.net_quiet.proofs.TxCast.Sends as one
 all_from : {X : Type 0} (P : X → Type 0) (xs : List X) → ((k : ℕ) (x : X) → slice_get xs k ≡ Some x → P x) → All P xs
 all_from P [] each = λ k d l. absurd (omega (arith, l))
 all_from P (x ∷ xs) each = All-cons P x xs (each 0 x refl) (all_from P xs (λ k y at. each (suc k) y at))
+
+-- what these are mapped to, where they agree one by one
+same_maps : {S T U : Type 0} (f : S → U) (g : T → U) (xs : List S) (ys : List T) → length xs ≡ length ys → ((k : ℕ) (x : S) (y : T) → slice_get xs k ≡ Some x → slice_get ys k ≡ Some y → f x ≡ g y) → map f xs ≡ map g ys
+same_maps f g [] [] n same = refl
+same_maps f g [] (y ∷ ys) n same = absurd (omega (arith, n))
+same_maps f g (x ∷ xs) [] n same = absurd (omega (arith, n))
+same_maps f g (x ∷ xs) (y ∷ ys) n same = ap₂ (λ z zs. z ∷ zs) (same 0 x y refl refl) (same_maps f g xs ys (omega (arith, n)) (λ k a b at there. same (suc k) a b at there))
 
 -- what the client of a number sends
 sends_there : (programs : List Program) (macs : List Mac) (frames : List (List ℕ)) (k : ℕ) (l : List (List ℕ)) → slice_get (sends_at programs macs frames) k ≡ Some l → (program : Program) × (mac : Mac) × (slice_get programs k ≡ Some program) × (slice_get macs k ≡ Some mac) × (sends_of program mac frames ≡ l)
@@ -255,3 +265,13 @@ module _ (net : NetPlace) (frames : List (List ℕ)) (passed : Passed) (h : IsWh
 
       pub wire_is : PrefixMerge (sends_at net.programs net.macs frames) h.half.device.wire.tape.shown
       wire_is = wire_sends h.half.device h.half.driver v passed half_with.sending (sends_at net.programs net.macs frames) all_good
+
+      -- the virtualiser's clients have these pools
+      pools_are : map sender_pool (senders v.work) ≡ map (λ (q : ClientPools). q.tx) net.pools
+      pools_are = same_maps sender_pool (λ (q : ClientPools). q.tx) (senders v.work) net.pools shipped.0 (λ k s q at there.
+          let x = place_of k q there in
+          let same : x.0 ≡ s = some_is (sym x.3 ∙ at) in
+          ap sender_pool (sym same) ∙ x.6.0)
+
+      pub wire_by : h.half.device.wire.tape.shown ≡ wire_at net frames (items_of (passed.taken (net.first + 2)))
+      wire_by = wire_told h.half.device h.half.driver v passed half_with.sending (sends_at net.programs net.macs frames) all_good ∙ ap₂ (λ ps n. told_frames ps (sends_at net.programs net.macs frames) (items_of (passed.taken n))) pools_are (device_sends net.first frames h.half.device h.device_at).0

@@ -1,6 +1,7 @@
 -- The whole network in a system: the receive half with the sending virtualiser and the clients, at
 -- the layout's queues, and what clients may put to be sent.
-use Rattle.std.specs.Prelude.{◌≡◌, ◌+◌, ◌≤◌, ℕ, true, Some, List, [], ◌∷◌, length, slice_get}
+use Rattle.std.specs.Prelude.{◌≡◌, ◌+◌, ◌≤◌, ℕ, true, Some, List, [], ◌∷◌, length, map, slice_get}
+use Rattle.cargo_core.specs.declared.item.Item.{Item}
 use Rattle.frame_core.specs.declared.mac.Mac.{Mac}
 use Rattle.wire_core.specs.Deeds.{Cargo}
 use Rattle.wire_core.specs.Lists.{Passed}
@@ -16,6 +17,7 @@ use Rattle.net_law.specs.Parts.Numbers.{client_first, device_at, client_at}
 use Rattle.net_law.specs.Parts.Playing.{device_part, client_part}
 use Rattle.net_law.specs.TxParts.Numbers.{NetPlace, own_pools, sender_at}
 use Rattle.net_law.specs.TxParts.Playing.{send_part}
+use Rattle.net_law.specs.Wire.Telling.{told_frames}
 use Rattle.net_quiet.specs.Cast.Casting.{IsCast}
 
 -- the bytes of a frame: 14 to the most that one has
@@ -43,6 +45,12 @@ sends_at [] macs frames = []
 sends_at (program ∷ programs) [] frames = []
 sends_at (program ∷ programs) (mac ∷ macs) frames =
     sends_of program mac frames ∷ sends_at programs macs frames
+
+-- the frames on the wire by the items that the device took: an item tells by its address whose
+-- buffer it has, and of each client the frames come in their order
+abbrev pub wire_at : NetPlace → (frames : List (List ℕ)) → (taken : List Item) → List (List ℕ)
+wire_at net frames taken = told_frames (map (λ (q : ClientPools). q.tx) net.pools)
+    (sends_at net.programs net.macs frames) taken
 
 -- the address, the pools and the program of the client of a number
 pub record IsClientOf (net : NetPlace) (k : ℕ) (program : Program) (mac : Mac) (q : ClientPools) :

@@ -24,7 +24,7 @@ use Rattle.actor_set.proofs.AdoptingLemmas.Looks.{fits_anew}
 use Rattle.order_law.specs.ActorParts.Parting.{Apart, ends_at, end_in, apart_end, apart_passed, StandsApart, HasItsEnds, AreApart}
 use Rattle.order_law.specs.ActorParts.Opening.{opened_from, IsForgotten}
 use Rattle.order_law.specs.ActorParts.Given.{Kept, apart_of}
-use Rattle.order_law.specs.ActorParts.Opened.{AreOpened, HaveNothing}
+use Rattle.order_law.specs.ActorParts.Opened.{AreOpened, HaveNothing, AreAsOpened}
 use Rattle.order_law.specs.ActorParts.Ready.{AreReady}
 use Rattle.order_law.proofs.ActorParts.Numbers.{fresh, fresh_empty, fresh_untimed, ComesFrom, comes_from, opened_once, opened_empty, end_opened, zip_there, ring_there}
 
@@ -58,18 +58,27 @@ module _ (rows : List QueueRow) (actors : List Actor) (rings : List RingIs) (par
         ap (λ (l : List (QueueId × EndIs)). times_known (end_in l n)) ends ∙ opened_empty times_known refl fresh_untimed r k 0 (zip rows rings) n,
       )
 
-  pub same_cast : map (λ (p : Kept). part_of p.0) parts ≡ map part_of actors
+  pub as_opened : AreAsOpened rows (map apart_of parts)
+  as_opened k q at r i x there =
+      let p = map_from apart_of parts k q at in
+      let ends : ends_at q r ≡ opened_from r k 0 (zip rows rings) = ap (λ (a : Apart). ends_at a r) (sym p.2) ∙ opened.ends k p.0 p.1 r in
+      let c = comes_from r k 0 (zip rows rings) i x (ap (λ (l : List (QueueId × EndIs)). slice_get l i) (sym ends) ∙ there) in
+      let e : x.0.0 ≡ c.place = (let m = c.number in omega (arith, m)) in
+      let z = zip_there rows rings x.0.0 c.pair (ap (slice_get (zip rows rings)) e ∙ c.there) in
+      (c.pair.0, z.0, ap (λ (y : EndIs). y.knows) c.is)
+
+  pub same_cast : map (λ (p : Kept). part_of p.0.actor) parts ≡ map part_of actors
   same_cast = alike actors parts opened.many (λ k p at. let x = opened.actors_are k p at in (x.0, x.1, x.2.part))
     where
-      alike : (actors : List Actor) (parts : List Kept) → length parts ≡ length actors → ((k : ℕ) (p : Kept) → slice_get parts k ≡ Some p → (x : Actor) × (slice_get actors k ≡ Some x) × (part_of p.0 ≡ part_of x)) → map (λ (p : Kept). part_of p.0) parts ≡ map part_of actors
+      alike : (actors : List Actor) (parts : List Kept) → length parts ≡ length actors → ((k : ℕ) (p : Kept) → slice_get parts k ≡ Some p → (x : Actor) × (slice_get actors k ≡ Some x) × (part_of p.0.actor ≡ part_of x)) → map (λ (p : Kept). part_of p.0.actor) parts ≡ map part_of actors
       alike [] [] many each = refl
       alike [] (p ∷ parts) many each = absurd (omega (arith, many))
       alike (x ∷ actors) [] many each = absurd (omega (arith, many))
       alike (x ∷ actors) (p ∷ parts) many each =
           let first = each 0 p refl in
           let is : x ≡ first.0 = same_actor x first.0 first.1 in
-          let head : part_of p.0 ≡ part_of x = first.2 ∙ ap part_of (sym is) in
-          ap (λ (q : Part). q ∷ map (λ (p : Kept). part_of p.0) parts) head ∙ ap (λ (l : List Part). part_of x ∷ l) (alike actors parts (omega (arith, many)) (λ k q at. each (suc k) q at))
+          let head : part_of p.0.actor ≡ part_of x = first.2 ∙ ap part_of (sym is) in
+          ap (λ (q : Part). q ∷ map (λ (p : Kept). part_of p.0.actor) parts) head ∙ ap (λ (l : List Part). part_of x ∷ l) (alike actors parts (omega (arith, many)) (λ k q at. each (suc k) q at))
 
 module _ (rows : List QueueRow) (actors : List Actor) (rings : List RingIs) (parts : List Kept) (opened : AreOpened rows actors rings parts) (ready : AreReady rows actors) where
   module _ (k : ℕ) (p : Kept) (at : slice_get parts k ≡ Some p) where
@@ -82,7 +91,7 @@ module _ (rows : List QueueRow) (actors : List Actor) (rings : List RingIs) (par
     ends_are : (r : Role) → ends_at a r ≡ opened_from r k 0 pairs
     ends_are r = opened.ends k p at r
 
-    was : (x : Actor) × (slice_get actors k ≡ Some x) × IsForgotten x p.0
+    was : (x : Actor) × (slice_get actors k ≡ Some x) × IsForgotten x p.0.actor
     was = opened.actors_are k p at
 
     from : (r : Role) (i : ℕ) (x : QueueId × EndIs) → slice_get (ends_at a r) i ≡ Some x → ComesFrom r k 0 pairs x
@@ -103,14 +112,14 @@ module _ (rows : List QueueRow) (actors : List Actor) (rings : List RingIs) (par
       all = λ r n row there own. let e = end_there r n row there own in (fresh r (row, e.0), e.1);
     }
 
-    whole : IsWhole p.0
-    whole = fits_whole (end_at (starts rows)) p.0 (was.2.fits (end_at (starts rows)) (ready.fits k was.0 was.1))
+    whole : IsWhole p.0.actor
+    whole = fits_whole (end_at (starts rows)) p.0.actor (was.2.fits (end_at (starts rows)) (ready.fits k was.0 was.1))
 
     -- one of its ends is one that it had
-    owned : (r : Role) (n : ℕ) → ActorEnd p.0 r n → (row : QueueRow) × (slice_get rows n ≡ Some row) × (owner_of row r ≡ k)
-    owned r n e = ready.owners k was.0 was.1 r n (from_part was.0 r n (subst (λ (q : Part). PartEnd q r n) was.2.part (to_part p.0 r n whole e)))
+    owned : (r : Role) (n : ℕ) → ActorEnd p.0.actor r n → (row : QueueRow) × (slice_get rows n ≡ Some row) × (owner_of row r ≡ k)
+    owned r n e = ready.owners k was.0 was.1 r n (from_part was.0 r n (subst (λ (q : Part). PartEnd q r n) was.2.part (to_part p.0.actor r n whole e)))
 
-    nothing_known : (r : Role) (n : ℕ) → ActorEnd p.0 r n → entries_known (end_in (ends_at a r) n) ≡ []
+    nothing_known : (r : Role) (n : ℕ) → ActorEnd p.0.actor r n → entries_known (end_in (ends_at a r) n) ≡ []
     nothing_known r n e = let o = owned r n e in let x = end_there r n o.0 o.1 o.2 in ap entries_known x.1 ∙ empty r o.0 x.0
       where
         empty : (r : Role) (row : QueueRow) (ring : RingIs) → (fresh r (row, ring)).knows.entries ≡ []
@@ -121,10 +130,11 @@ module _ (rows : List QueueRow) (actors : List Actor) (rings : List RingIs) (par
     stands_there = record {
       once = λ r i j x y h g same. opened_once r k 0 pairs i j x y (ap (λ (l : List (QueueId × EndIs)). slice_get l i) (sym (ends_are r)) ∙ h) (ap (λ (l : List (QueueId × EndIs)). slice_get l j) (sym (ends_are r)) ∙ g) same;
       on = λ r i x h. let c = from r i x h in let z = zip_there rows rings x.0.0 c.pair (number r i x h) in (c.pair.1, z.1, ap (λ (e : EndIs). e.ring) c.is);
-      fits = fits_anew (end_at (starts rows)) (apart_end a) was.0 p.0 was.2.forgot
+      fits = fits_anew (end_at (starts rows)) (apart_end a) was.0 p.0.actor was.2.forgot
           (λ r n e. let o = owned r n e in let x = end_there r n o.0 o.1 o.2 in subst (λ (y : Option EndIs). SameButLook (end_at (starts rows) r n) (end_known y)) (sym x.1) (fresh_end rows n o.0 x.0 r o.1))
           (was.2.fits (end_at (starts rows)) (ready.fits k was.0 was.1));
-      stands = stands_beside nothing_passed (apart_passed a) p.0 whole (λ n e. nothing_known Consumer n e) (λ n e. nothing_known Producer n e) (was.2.stands nothing_passed (ready.stands k was.0 was.1));
+      stands = stands_beside nothing_passed (apart_passed a) p.0.actor whole (λ n e. nothing_known Consumer n e) (λ n e. nothing_known Producer n e) (was.2.stands nothing_passed (ready.stands k was.0 was.1));
+      fine = opened.fine k p at;
     }
 
   pub are_apart : AreApart rows rings (map apart_of parts)

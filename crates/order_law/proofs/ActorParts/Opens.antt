@@ -11,6 +11,7 @@ use Rattle.spsc_queue.specs.Rule.{first_producer, first_consumer}
 use Rattle.actor_set.specs.declared.actor.Actor.{Actor}
 use Rattle.order_law.specs.ActorParts.Parting.{ends_at, IsRingOf}
 use Rattle.order_law.specs.ActorParts.Opening.{first_half, opened_at, opened_from, IsForgotten}
+use Rattle.order_law.specs.declared.actor_parts.worker.Worker.{Worker}
 use Rattle.order_law.specs.ActorParts.Given.{Kept, apart_of, given, IsAlone, GivesProducer, GivesConsumer}
 use Rattle.order_law.specs.ActorParts.Opened.{AreOpened}
 
@@ -53,6 +54,7 @@ none_opened rows actors parts all = record {
   rings_are = tt;
   many = long actors parts all;
   actors_are = λ k p at. let a = alone actors parts all k p at in (a.0, a.1, a.2.forgotten);
+  fine = λ k p at. (alone actors parts all k p at).2.fine;
   ends = λ k p at r. none r k p (alone actors parts all k p at).2;
 }
   where
@@ -86,7 +88,8 @@ opened_on rows actors rings old mid new row ring queue makes takes lt at number 
       let m = second.each k q there in
       let p = first.each k m.0 m.1 in
       let x = was.actors_are k p.0 p.1 in
-      (x.0, x.1, subst (IsForgotten x.0) (sym (m.2 ∙ p.2)) x.2);
+      (x.0, x.1, subst (λ (w : Worker). IsForgotten x.0 w.actor) (sym (m.2 ∙ p.2)) x.2);
+  fine = λ k q there. let m = second.each k q there in let p = first.each k m.0 m.1 in ap (λ (w : Worker). w.wanted) (m.2 ∙ p.2) ∙ was.fine k p.0 p.1;
   ends = λ k q there r. ends_on r k q there;
 }
   where

@@ -153,9 +153,9 @@ pub map_more : {X Y : Type 0} (f : X → Y) (xs : List X) (x : X) → map f (xs 
 map_more f [] x = refl
 map_more f (y ∷ xs) x = ap (λ l. f y ∷ l) (map_more f xs x)
 
-pub map_actors : (parts : List Kept) → map (λ (p : Kept). p.0) parts ≡ map (λ (p : Apart). p.actor) (map apart_of parts)
+pub map_actors : (parts : List Kept) → map (λ (p : Kept). p.0.actor) parts ≡ map (λ (p : Apart). p.actor) (map apart_of parts)
 map_actors [] = refl
-map_actors (p ∷ ps) = ap (λ l. p.0 ∷ l) (map_actors ps)
+map_actors (p ∷ ps) = ap (λ l. p.0.actor ∷ l) (map_actors ps)
 
 -- what stands at a place is what is found by its number
 pub stands_placed : (xs : List Numbered) (start : List (Option EndIs)) (n : ℕ) → AreWithin (length start) xs → AreOnce xs → ((m : ℕ) → stands_at start m ≡ None) → stands_at (placed xs start) n ≡ end_in xs n

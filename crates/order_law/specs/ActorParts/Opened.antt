@@ -1,14 +1,15 @@
 -- What actors are where they were set apart with new rings.
-use Rattle.std.specs.Prelude.{◌≡◌, ℕ, Some, List, [], length, slice_get}
+use Rattle.std.specs.Prelude.{◌≡◌, ℕ, Some, None, List, [], length, slice_get}
 use Rattle.std.specs.List.{AllZip, zip}
+use Rattle.wire_core.specs.declared.names.QueueId.{QueueId}
 use Rattle.wire_core.specs.declared.names.QueueRow.{QueueRow}
 use Rattle.wire_core.specs.Ends.{Role}
-use Rattle.spsc_queue.specs.Known.Ends.{RingIs}
+use Rattle.spsc_queue.specs.Known.Ends.{EndIs, RingIs}
 use Rattle.actor_set.specs.declared.actor.Actor.{Actor}
 use Rattle.seat_wires.specs.Places.{entries_known}
 use Rattle.seat_wires.specs.Times.{times_known}
 use Rattle.order_law.specs.ActorParts.Parting.{Apart, ends_at, end_in, IsRingOf}
-use Rattle.order_law.specs.ActorParts.Opening.{opened_from, IsForgotten}
+use Rattle.order_law.specs.ActorParts.Opening.{opened_from, first_half, IsForgotten}
 use Rattle.order_law.specs.ActorParts.Given.{Kept, apart_of}
 
 -- one new ring for each of these rows, and each actor with the ends of new rings that the rows give
@@ -18,7 +19,8 @@ pub record AreOpened (rows : List QueueRow) (actors : List Actor) (rings : List 
   pub rings_are : AllZip IsRingOf rows rings
   pub many : length parts ≡ length actors
   pub actors_are : (k : ℕ) (p : Kept) → slice_get parts k ≡ Some p → (x : Actor)
-      × (slice_get actors k ≡ Some x) × IsForgotten x p.0
+      × (slice_get actors k ≡ Some x) × IsForgotten x p.0.actor
+  pub fine : (k : ℕ) (p : Kept) → slice_get parts k ≡ Some p → p.0.wanted ≡ None
   pub ends : (k : ℕ) (p : Kept) → slice_get parts k ≡ Some p → (r : Role)
       → ends_at (apart_of p) r ≡ opened_from r k 0 (zip rows rings)
 
@@ -26,3 +28,10 @@ pub record AreOpened (rows : List QueueRow) (actors : List Actor) (rings : List 
 abbrev pub HaveNothing : List Apart → Type 0
 HaveNothing parts = (k : ℕ) (p : Apart) → slice_get parts k ≡ Some p → (r : Role) (n : ℕ)
     → (entries_known (end_in (ends_at p r) n) ≡ []) × (times_known (end_in (ends_at p r) n) ≡ [])
+
+-- each end knows what one of a new ring knows: nothing passed, no look answered no, no step was
+-- made, and it is not about either bell yet
+abbrev pub AreAsOpened : List QueueRow → List Apart → Type 0
+AreAsOpened rows parts = (k : ℕ) (p : Apart) → slice_get parts k ≡ Some p → (r : Role) (i : ℕ)
+    (x : QueueId × EndIs) → slice_get (ends_at p r) i ≡ Some x → (row : QueueRow)
+    × (slice_get rows x.0.0 ≡ Some row) × (x.1.knows ≡ first_half r row.kind)

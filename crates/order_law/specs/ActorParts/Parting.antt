@@ -2,6 +2,7 @@
 use Rattle.std.specs.Prelude.{◌≡◌, ◌==◌, if◌then◌else◌, ℕ, Option, Some, None, List, [], ◌∷◌}
 use Rattle.std.specs.Prelude.{slice_get}
 use Rattle.std.specs.List.{AllZip}
+use Rattle.cargo_core.specs.declared.memory.Memory.{Memory}
 use Rattle.wire_core.specs.declared.names.QueueId.{QueueId}
 use Rattle.wire_core.specs.declared.names.QueueRow.{QueueRow}
 use Rattle.wire_core.specs.Ends.{Role, Consumer, Producer, End}
@@ -12,9 +13,11 @@ use Rattle.seat_wires.specs.Places.{end_known, entries_known}
 use Rattle.actor_set.specs.Actors.{FitsActor, ActorStandsFor}
 use Rattle.actor_set.specs.declared.actor.Actor.{Actor}
 
--- an actor, and its producing and consuming ends with the numbers of their queues
+-- an actor, the want of memory that a step of it met since it was set apart, if one did, and its
+-- producing and consuming ends with the numbers of their queues
 pub record Apart : Type 0 where
   pub actor : Actor
+  pub wanted : Option Memory
   pub producers : List (QueueId × EndIs)
   pub consumers : List (QueueId × EndIs)
 
@@ -41,7 +44,7 @@ apart_passed p = record {
 }
 
 -- no two of an actor's ends on one side are of one queue, and each is of the ring at its queue's
--- place; the actor fits them and stands for what passed there
+-- place; the actor fits them and stands for what passed there, and no step of it wanted memory
 pub record StandsApart (rings : List RingIs) (p : Apart) : Type 0 where
   pub once : (r : Role) (i j : ℕ) (x y : QueueId × EndIs) → slice_get (ends_at p r) i ≡ Some x
       → slice_get (ends_at p r) j ≡ Some y → x.0.0 ≡ y.0.0 → i ≡ j
@@ -49,6 +52,7 @@ pub record StandsApart (rings : List RingIs) (p : Apart) : Type 0 where
       → (ring : RingIs) × (slice_get rings x.0.0 ≡ Some ring) × (x.1.ring ≡ ring.id)
   pub fits : FitsActor (apart_end p) p.actor
   pub stands : ActorStandsFor p.actor (apart_passed p)
+  pub fine : p.wanted ≡ None
 
 -- actor k has just the ends that the rows give it
 pub record HasItsEnds (rows : List QueueRow) (k : ℕ) (p : Apart) : Type 0 where

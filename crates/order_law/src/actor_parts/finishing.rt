@@ -101,8 +101,8 @@ pub fn finish_apart(
     let mut producers = empty_places(alloc, rings.len())?;
     let mut consumers = empty_places(alloc, rings.len())?;
     let mut actors = Vec::with_capacity(alloc, parts.len())?;
-    for (actor, sending, taking) in parts {
-        actors.push(actor)?;
+    for (worker, sending, taking) in parts {
+        actors.push(worker.into_actor())?;
         place_ends(&mut producers, sending);
         place_ends(&mut consumers, taking);
     }

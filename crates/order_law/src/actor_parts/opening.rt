@@ -11,6 +11,7 @@ ghost use Rattle.order_law.specs.ActorParts.Given.{GivesProducer, GivesConsumer,
 ghost use Rattle.order_law.specs.ActorParts.Opened.{AreOpened};
 
 use crate::actor_parts::parts::{Part, Parts};
+use crate::actor_parts::worker::Worker;
 use actor_set::Actor;
 use cargo_core::Memory;
 use spsc_queue::{Consumer, Producer, open};
@@ -24,7 +25,7 @@ fn each_alone(alloc: Global, actors: Vec<Actor>) -> Result<Vec<Part>, Memory>
     let mut parts = Vec::with_capacity(alloc, actors.len())?;
     for mut actor in actors {
         actor.forget();
-        parts.push((actor, Vec::new(alloc), Vec::new(alloc)))?;
+        parts.push((Worker::alone(actor), Vec::new(alloc), Vec::new(alloc)))?;
     }
     Ok(parts)
 }

@@ -124,12 +124,12 @@ module _ (s : Setting) (rings : List RingIs) (parts : List Apart) (come : HaveCo
         let le = spent.1 in
         (k, subst (λ (m : ℕ). k < m) (sym (length-map parts (λ (x : Apart). part_of x.actor)) ∙ (ap length is.cast ∙ sym (ap length cast_is))) (there_below parts k p here), omega (arith, steps, all, le))
 
-map_twice : (ps : List Kept) → map (λ (p : Apart). part_of p.actor) (map apart_of ps) ≡ map (λ (p : Kept). part_of p.0) ps
+map_twice : (ps : List Kept) → map (λ (p : Apart). part_of p.actor) (map apart_of ps) ≡ map (λ (p : Kept). part_of p.0.actor) ps
 map_twice [] = refl
-map_twice (p ∷ ps) = ap (λ (l : List Part). part_of p.0 ∷ l) (map_twice ps)
+map_twice (p ∷ ps) = ap (λ (l : List Part). part_of p.0.actor ∷ l) (map_twice ps)
 
 -- what the threads answered came from the system that was built
-module _ (plan : Plan) (trace : Trace) (built : Shown) (is : IsBuilt plan trace built) (stands : StandsLawful built) (rings rings' : List RingIs) (same : rings' ≡ rings) (olds news : List Kept) (apart : AreApart built.setting.rows rings (map apart_of olds)) (nothing : HaveNothing (map apart_of olds)) (cast : map (λ (p : Kept). part_of p.0) olds ≡ built.setting.cast) (many : length news ≡ length olds) (rows : List QueueRow) (rows_is : rows ≡ built.setting.rows) (apart' : AreApart rows rings' (map apart_of news)) (limit : ℕ)
+module _ (plan : Plan) (trace : Trace) (built : Shown) (is : IsBuilt plan trace built) (stands : StandsLawful built) (rings rings' : List RingIs) (same : rings' ≡ rings) (olds news : List Kept) (apart : AreApart built.setting.rows rings (map apart_of olds)) (nothing : HaveNothing (map apart_of olds)) (cast : map (λ (p : Kept). part_of p.0.actor) olds ≡ built.setting.cast) (many : length news ≡ length olds) (rows : List QueueRow) (rows_is : rows ≡ built.setting.rows) (apart' : AreApart rows rings' (map apart_of news)) (limit : ℕ)
     (came : (k : ℕ) (old new : Apart) → slice_get (map apart_of olds) k ≡ Some old → slice_get (map apart_of news) k ≡ Some new → CameWithin rings limit old new) where
   pub come : HaveComeFrom built.setting rings' (map apart_of news)
   come = record {

@@ -1,4 +1,4 @@
-use Rattle.wired_law.proofs.Wiring.{in_turn, recorded, sent_on, nothing_sent, sends_on}
+use Rattle.wired_law.proofs.Wiring.{in_turn, recorded, sent_on, sent_told, nothing_sent, sends_on}
 use Rattle.wired_law.proofs.wired_law.Goals as goal
 
 pub returns-clause-turns : goal.returns-clause-turns
@@ -15,3 +15,6 @@ returns-clause-records c = recorded
 
 pub returns-clause-wire : goal.returns-clause-wire
 returns-clause-wire c = sent_on
+
+pub returns-clause-told : goal.returns-clause-told
+returns-clause-told c = sent_told

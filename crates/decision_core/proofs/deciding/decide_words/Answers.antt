@@ -4,8 +4,9 @@ use Rattle.command_words.specs.Words.{texts_of, Spells}
 use Rattle.shelf_core.specs.Reading.{WasRead}
 use Rattle.decision_core.specs.Decisions.{IsStatusOf, TextDecides, GeneratedDecides, Decides, no_command, generated}
 use Rattle.decision_core.specs.Decided.{decision_of}
-use Rattle.decision_core.specs.Readings.{read_none, read_no_text}
+use Rattle.decision_core.specs.Readings.{read_none, read_no_text, opens_nothing}
 use Rattle.decision_core.proofs.LastLemmas.{gen-unread}
+use Rattle.decision_core.proofs.DecisionLemmas.{gen-or-named, names-spell, bad-none}
 use Rattle.decision_core.proofs.deciding.decide_words.Goals as goal
 
 pub returns-in_ok-decide_gen-in-Ok-Gen-clause-decides : goal.returns-in_ok-decide_gen-in-Ok-Gen-clause-decides
@@ -17,7 +18,7 @@ returns-in_ok-decide_gen-in-Ok-Gen-clause-decides g c =
 pub returns-in_ok-decide_gen-in-Ok-Gen-clause-last : goal.returns-in_ok-decide_gen-in-Ok-Gen-clause-last
 returns-in_ok-decide_gen-in-Ok-Gen-clause-last g c status e =
     let s : Spells (texts_of c.args.words.now) (Do.Gen c.in-Ok-Gen.number) = rw c.in-Ok-Gen.field-0-is at c.in-Ok-Gen.ensures.command in
-    read_no_text c.in-Ok-Gen.number s (gen-unread c.in-Ok-Gen.number _ (decision_of c.in_ok-decide_gen-in-Ok-Gen.field-0) status c.in_ok-decide_gen-in-Ok-Gen.ensures e) refl
+    read_no_text c.in-Ok-Gen.number s (gen-unread c.in-Ok-Gen.number _ (decision_of c.in_ok-decide_gen-in-Ok-Gen.field-0) status c.in_ok-decide_gen-in-Ok-Gen.ensures e) refl refl
 
 pub returns-in_ok-say_usage-in-Err-clause-decides : goal.returns-in_ok-say_usage-in-Err-clause-decides
 returns-in_ok-say_usage-in-Err-clause-decides g c =
@@ -25,4 +26,22 @@ returns-in_ok-say_usage-in-Err-clause-decides g c =
 
 pub returns-in_ok-say_usage-in-Err-clause-last : goal.returns-in_ok-say_usage-in-Err-clause-last
 returns-in_ok-say_usage-in-Err-clause-last g c status e =
-    read_none c.in-Err.k (subst (λ x. IsStatusOf x status) c.in_ok-say_usage-in-Err.ensures e) refl
+    read_none c.in-Err.k (subst (λ x. IsStatusOf x status) c.in_ok-say_usage-in-Err.ensures e) refl refl
+
+pub returns-in_ok-decide_gen-in-Ok-Gen-clause-opens : goal.returns-in_ok-decide_gen-in-Ok-Gen-clause-opens
+returns-in_ok-decide_gen-in-Ok-Gen-clause-opens g c =
+    let s : Spells (texts_of c.args.words.now) (Do.Gen c.in-Ok-Gen.number) = rw c.in-Ok-Gen.field-0-is at c.in-Ok-Gen.ensures.command in
+    opens_nothing (λ desc named. gen-or-named (texts_of c.args.words.now) c.in-Ok-Gen.number desc s named) refl
+
+pub returns-in_err-decide_gen-in-Ok-Gen-clause-opens : goal.returns-in_err-decide_gen-in-Ok-Gen-clause-opens
+returns-in_err-decide_gen-in-Ok-Gen-clause-opens g c =
+    let s : Spells (texts_of c.args.words.now) (Do.Gen c.in-Ok-Gen.number) = rw c.in-Ok-Gen.field-0-is at c.in-Ok-Gen.ensures.command in
+    opens_nothing (λ desc named. gen-or-named (texts_of c.args.words.now) c.in-Ok-Gen.number desc s named) refl
+
+pub returns-in_ok-say_usage-in-Err-clause-opens : goal.returns-in_ok-say_usage-in-Err-clause-opens
+returns-in_ok-say_usage-in-Err-clause-opens g c =
+    opens_nothing (λ desc named. let s = names-spell (texts_of c.args.words.now) desc named in bad-none (texts_of c.args.words.now) c.in-Err.k s.0 c.in-Err.ensures.bad s.1) refl
+
+pub returns-in_err-say_usage-in-Err-clause-opens : goal.returns-in_err-say_usage-in-Err-clause-opens
+returns-in_err-say_usage-in-Err-clause-opens g c =
+    opens_nothing (λ desc named. let s = names-spell (texts_of c.args.words.now) desc named in bad-none (texts_of c.args.words.now) c.in-Err.k s.0 c.in-Err.ensures.bad s.1) refl

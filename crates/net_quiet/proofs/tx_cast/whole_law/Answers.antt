@@ -1,4 +1,4 @@
-use Rattle.net_quiet.proofs.TxCast.Wholes.{none_out, good_taken, back_is, client_puts, begun_is, wire_is}
+use Rattle.net_quiet.proofs.TxCast.Wholes.{none_out, good_taken, back_is, client_puts, begun_is, wire_is, wire_by}
 use Rattle.net_quiet.proofs.tx_cast.whole_law.Goals as goal
 
 pub returns-clause-turn : goal.returns-clause-turn
@@ -18,3 +18,6 @@ returns-clause-begins c = λ net frames passed h send. begun_is net frames passe
 
 pub returns-clause-wire : goal.returns-clause-wire
 returns-clause-wire c = λ net frames passed h send. wire_is net frames passed h h.sender_at.row send
+
+pub returns-clause-told : goal.returns-clause-told
+returns-clause-told c = λ net frames passed h send. wire_by net frames passed h h.sender_at.row send

@@ -1,4 +1,4 @@
-use Rattle.std.proofs.Common.{◌≡◌, ◌==◌, ◌++◌, Option, None, Some, List, [], ◌∷◌, map, take, reverse, slice_index_or, is_none, false, sym, ap, ◌∙◌, subst, refl, append_assoc}
+use Rattle.std.proofs.Common.{◌≡◌, ◌==◌, ◌++◌, Option, None, [], ◌∷◌, map, take, reverse, slice_index_or, is_none, false, sym, ap, ◌∙◌, subst, refl, append_assoc}
 use Rattle.std.specs.Option.{option_map, option_to_list}
 use Rattle.cargo_core.specs.Loans.{page_at}
 use Rattle.wire_core.specs.Deeds.{put_of, deed_of, Cargo}

@@ -1,4 +1,4 @@
-use Rattle.std.proofs.Common.{◌≡◌, ◌+◌, ◌==◌, ◌++◌, Bool, Option, None, Some, List, [], ◌∷◌, is_none, is_some, true, false, length, slice_set, slice_index_or, sym, ap, ◌∙◌, subst, refl}
+use Rattle.std.proofs.Common.{◌≡◌, ◌+◌, ◌==◌, ◌++◌, Bool, Option, None, List, [], ◌∷◌, is_some, true, false, length, slice_set, slice_index_or, sym, ap, ◌∙◌, subst, refl}
 use Rattle.std.specs.Option.{option_map, option_to_list}
 use Rattle.std.proofs.lemmas.Bool.{cases_eq}
 use Rattle.cargo_core.specs.Bodies.{buffers_of}

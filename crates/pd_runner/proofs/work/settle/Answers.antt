@@ -1,24 +1,26 @@
-use Rattle.std.proofs.Common.{arith, refl, ◌+◌}
-use Rattle.pd_runner.proofs.Stepping.{comes_none, comes_same, comes_on, came_of}
+use Rattle.std.proofs.Common.{arith, refl, sym, ◌+◌, ◌∙◌}
+use Rattle.pd_runner.proofs.Stepping.{worked_none, worked_on, worked_of}
 use Rattle.pd_runner.specs.Running.{part_seats}
 use Rattle.pd_runner.proofs.work.settle.Goals as goal
 
-pub loop-actor-init : goal.loop-actor-init
-loop-actor-init g c = record {
+pub loop-worker-init : goal.loop-worker-init
+loop-worker-init g c = record {
   n = 0;
   made_is = omega arith;
-  comes = comes_same _ _ 0 _ _ _ _ refl c.of-seats.ensures (comes_none c.args.part.actor (part_seats c.args.rings.now c.args.part) c.requires.stands.sits);
+  worked = worked_none c.args.part.worker.actor (part_seats c.args.rings.now c.args.part) _ c.of-seats.ensures c.requires.ready.stands.sits;
+  fine = c.requires.ready.fine;
   within = c.requires.within;
 }
 
-pub loop-actor-preserved : goal.loop-actor-preserved
-loop-actor-preserved g c = let was = c.loop-actor.invariant in record {
+pub loop-worker-preserved : goal.loop-worker-preserved
+loop-worker-preserved g c = let was = c.loop-worker.invariant in record {
   n = was.n + 1;
   made_is = let e = was.made_is in omega (arith, e);
-  comes = comes_on _ _ was.n _ _ _ _ c.in-Ok.event was.comes c.in-Ok.ensures.fits c.in-Ok.ensures.part c.in-Ok.ensures.stepped c.in-Ok.ensures.own;
+  worked = worked_on _ _ was.n _ _ _ _ c.in-Ok.event was.worked c.in-Ok.ensures.fits c.in-Ok.ensures.part c.in-Ok.ensures.stepped c.in-Ok.ensures.own c.in-Ok.ensures.due (sym c.at_rest.ensures ∙ c.if-not-at_rest.true);
+  fine = c.in-Ok.ensures.fine;
   within = omega arith;
 }
 
 pub returns-clause-came : goal.returns-clause-came
-returns-clause-came g c = let was = c.loop-actor.invariant in let e = c.into_ends-producers.ensures in
-    (was.n, was.made_is, came_of _ _ was.n _ c.loop-actor.seats was.comes e.producers e.consumers c.row_law.ensures)
+returns-clause-came g c = let was = c.loop-worker.invariant in let e = c.into_ends-producers.ensures in
+    (was.n, was.made_is, worked_of _ _ was.n _ c.loop-worker.seats e.producers e.consumers c.row_law.ensures was.worked)

@@ -1,4 +1,5 @@
-use Rattle.std.proofs.Common.{arith, ◌∙◌}
+use Rattle.std.proofs.Common.{arith, ap, ◌∙◌}
+use Rattle.order_law.specs.declared.actor_parts.worker.Worker.{Worker}
 use Rattle.pd_runner.specs.Running.{Comes, part_seats}
 use Rattle.pd_runner.proofs.Stepping.{comes_on, comes_same, came_of}
 use Rattle.pd_runner.proofs.work.work.Goals.{in-None, in-Some+then-is_unmanned, in-Some+else-is_unmanned+else-is_over+then-made-limit, in-Some+else-is_unmanned+else-is_over+else-made-limit+else-calm-ends+in-Err}
@@ -8,16 +9,17 @@ pub loop-preserved : goal.loop-preserved
 loop-preserved g c = let was = c.loop.invariant in record {
   can_next = tt;
   is_finite = tt;
-  comes = comes_on _ _ c.loop.made _ _ _ _ c.in-Ok.event was.comes c.in-Ok.ensures.fits c.in-Ok.ensures.part c.in-Ok.ensures.stepped c.in-Ok.ensures.own;
+  comes = comes_on _ _ c.loop.made _ _ _ _ c.in-Ok.event was.comes c.in-Ok.ensures.fits c.in-Ok.ensures.part c.in-Ok.ensures.stepped c.in-Ok.ensures.own c.in-Ok.ensures.due;
+  fine = c.in-Ok.ensures.fine;
   within = omega arith;
 }
 
 pub returns-clause-came : goal.returns-clause-came
 returns-clause-came g c = let was = c.loop.invariant in let e = c.into_ends-producers.ensures in
-    let now : Comes c.args.part.actor (part_seats c.args.rings.now c.args.part) c.loop.made c.match-next.actor c.match-next.seats = elim c.match-next.branch [
-      | in-None w ↦ comes_same _ _ _ _ _ _ _ w.actor-is w.seats-is was.comes
-      | in-Some+then-is_unmanned w ↦ comes_same _ _ _ _ _ _ _ w.actor-is w.seats-is was.comes
-      | in-Some+else-is_unmanned+else-is_over+then-made-limit w ↦ comes_same _ _ _ _ _ _ _ w.actor-is w.seats-is was.comes
-      | in-Some+else-is_unmanned+else-is_over+else-made-limit+else-calm-ends+in-Err w ↦ comes_same _ _ _ _ _ _ _ (w.actor-is ∙ w.in-Err.ensures.unchanged) (w.seats-is ∙ w.in-Err.ensures.no_call) was.comes
+    let now : Comes c.args.part.worker.actor (part_seats c.args.rings.now c.args.part) c.loop.made c.match-next.worker.actor c.match-next.seats = elim c.match-next.branch [
+      | in-None w ↦ comes_same _ _ _ _ _ _ _ (ap (λ (z : Worker). z.actor) w.worker-is) w.seats-is was.comes
+      | in-Some+then-is_unmanned w ↦ comes_same _ _ _ _ _ _ _ (ap (λ (z : Worker). z.actor) w.worker-is) w.seats-is was.comes
+      | in-Some+else-is_unmanned+else-is_over+then-made-limit w ↦ comes_same _ _ _ _ _ _ _ (ap (λ (z : Worker). z.actor) w.worker-is) w.seats-is was.comes
+      | in-Some+else-is_unmanned+else-is_over+else-made-limit+else-calm-ends+in-Err w ↦ comes_same _ _ _ _ _ _ _ (ap (λ (z : Worker). z.actor) w.worker-is ∙ w.in-Err.ensures.unchanged) (w.seats-is ∙ w.in-Err.ensures.no_call) was.comes
     ] in
-    came_of _ _ c.loop.made _ c.match-next.seats now e.producers e.consumers c.row_law.ensures
+    came_of _ _ c.loop.made _ c.match-next.seats e.producers e.consumers c.row_law.ensures now

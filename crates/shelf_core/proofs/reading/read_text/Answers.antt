@@ -7,6 +7,7 @@ use Rattle.shelf_core.proofs.reading.read_text.Goals.{else-loop-text-test, then-
 pub loop-text-preserved : goal.loop-text-preserved
 loop-text-preserved g c = record {
   texts = λ n. c.in_ok-read_piece.ensures.texts n ∙ c.loop-text.invariant.texts n;
+  opens = c.in_ok-read_piece.ensures.opens ∙ c.loop-text.invariant.opens;
   calm = c.in_ok-read_piece.ensures.calm ∙ c.loop-text.invariant.calm;
   read = HasRead-more _ _ _ _ _ _ c.loop-text.invariant.read c.in_ok-read_piece.ensures.on;
   within = omega (arith, c.in_ok-read_piece.ensures.more, c.in_ok-read_piece.ensures.within, c.len-most.ensures, c.len.ensures);

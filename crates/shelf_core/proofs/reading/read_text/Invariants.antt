@@ -1,10 +1,12 @@
 use Rattle.std.proofs.Common.{◌≡◌, ◌≤◌, ◌-◌, ℕ, List, length}
+use Rattle.shelf_core.specs.Outside.{also_opened}
 use Rattle.shelf_core.proofs.ReadLemmas.{HasRead}
 use Rattle.shelf_core.proofs.reading.read_text.Given as goal
 
 abbrev pub invariant-loop-text : goal.invariant-loop-text
 invariant-loop-text g l = record {
   texts : (n : List ℕ) → g.F.Shelf.text l.shelf n ≡ g.F.Shelf.text l.fn.shelf n;
+  opens : g.F.Shelf.opens l.shelf ≡ also_opened (g.F.Shelf.opens l.fn.shelf) l.name;
   calm : g.F.Shelf.faults l.shelf ≡ g.F.Shelf.faults l.fn.shelf;
   read : HasRead (g.F.Shelf.text l.fn.shelf l.name) (g.F.Shelf.left l.shelf) l.text;
   within : length l.text ≤ 16777217;

@@ -2,6 +2,7 @@ use Rattle.std.proofs.Common.{List, map, sym, ap, ◌∙◌, subst}
 use Rattle.std.proofs.lemmas.Result.{IfOk-weaker}
 use Rattle.wire_core.specs.declared.names.QueueRow.{QueueRow}
 use Rattle.order_law.specs.ActorParts.Given.{apart_of}
+use Rattle.order_law.specs.ActorParts.Opened.{AreAsOpened}
 use Rattle.order_law.specs.ActorParts.Parting.{AreApart}
 use Rattle.order_law.specs.ActorParts.Ready.{AreReady}
 use Rattle.system_core.specs.Builds.{BeginsAnew}
@@ -24,6 +25,9 @@ returns-clause-apart c =
 
 pub returns-clause-nothing : goal.returns-clause-nothing
 returns-clause-nothing c = IfOk-weaker c.open_apart.result _ _ (λ p opened. c.opened_law.ensures.nothing c.deref.result.now c.self.inside.actors.items p.rings.items p.actors.items opened) c.open_apart.ensures
+
+pub returns-clause-opened : goal.returns-clause-opened
+returns-clause-opened c = IfOk-weaker c.open_apart.result _ _ (λ p opened. subst (λ (rows : List QueueRow). AreAsOpened rows (map apart_of p.actors.items)) (c.deref.ensures.value ∙ ap (λ (s : Shown). s.setting.rows) c.self.view_is) (c.opened_law.ensures.opened c.deref.result.now c.self.inside.actors.items p.rings.items p.actors.items opened)) c.open_apart.ensures
 
 pub returns-clause-cast : goal.returns-clause-cast
 returns-clause-cast c = IfOk-weaker c.open_apart.result _ _ (λ p opened. c.opened_law.ensures.cast c.deref.result.now c.self.inside.actors.items p.rings.items p.actors.items opened ∙ ap (λ (s : Shown). s.setting.cast) c.self.view_is) c.open_apart.ensures

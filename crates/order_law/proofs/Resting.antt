@@ -1,0 +1,37 @@
+-- What an actor at rest does: it only looks for a notification, or wants none.
+use Rattle.std.proofs.Common.{◌≡◌, ◌∙◌, Bool, true, false, Option, Some, None, refl, sym, ap, subst}
+use Rattle.wire_core.specs.declared.names.Event.{Event}
+use Rattle.wire_core.specs.declared.names.Side.{Side}
+use Rattle.wire_core.specs.declared.names.Waiter.{Waiter}
+use Rattle.wire_core.specs.declared.names.Waiter.TheVariants as Wait
+use Rattle.wire_core.specs.declared.names.Ringer.{Ringer}
+use Rattle.wire_core.specs.declared.names.Ringer.TheVariants as Rung
+use Rattle.wire_core.specs.Bells.{is_free}
+use Rattle.wire_core.specs.Ends.{is_clear}
+use Rattle.turn_kit.specs.declared.end_state.EndState.{EndState}
+use Rattle.turn_kit.specs.Table.{next_op, next_of, is_settled}
+use Rattle.turn_kit.specs.Turns.{Round, Turned, is_at_rest}
+use Rattle.turn_kit.proofs.Turning.{rest_at}
+use Rattle.actor_set.specs.Actors.{ActorTurned, actor_rests, actor_round}
+use Rattle.actor_set.specs.declared.actor.Actor.{Actor}
+use Rattle.order_law.specs.Tales.{is_waiting}
+
+settled_op : (r : Ringer) (w : Waiter) (l : Option Bool) (need : Bool) (s : Side) → is_settled (record { waiter = w; ringer = r; look = l }) need ≡ true → is_waiting (next_of r w need l s) ≡ true
+settled_op Rung.Put w l need s h = cc
+settled_op Rung.Hot w l need s h = cc
+settled_op Rung.Ringing w l need s h = cc
+settled_op Rung.Free Wait.Clear l need s h = refl
+settled_op Rung.Free Wait.Off l false s h = refl
+settled_op Rung.Free Wait.Busy l false s h = refl
+settled_op Rung.Free Wait.Asked l false s h = refl
+settled_op Rung.Free Wait.Off l true s h = cc
+settled_op Rung.Free Wait.Busy l true s h = cc
+settled_op Rung.Free Wait.Asked l true s h = cc
+
+rested_op : (r : Round) (e : Event) (m : Round) → Turned r e m → is_at_rest r ≡ true → is_waiting e.op ≡ true
+rested_op r e m t rest =
+    let p = t.posted.post in
+    ap is_waiting t.posted.posted.op ∙ settled_op p.state.ringer p.state.waiter p.state.look t.need p.side (rest_at r.posts r.needs t.place p t.need rest t.posted.there t.needed)
+
+pub due : (x : Actor) (e : Event) (y : Actor) → Turned (actor_round x) e (actor_round y) → actor_rests x ≡ is_at_rest (actor_round x) → actor_rests x ≡ true → is_waiting e.op ≡ true
+due x e y t is rest = rested_op (actor_round x) e (actor_round y) t (sym is ∙ rest)

@@ -1,0 +1,2 @@
+-- The plans that the generated traces are for.
+pub mod Clients
