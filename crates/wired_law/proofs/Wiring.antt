@@ -259,13 +259,13 @@ module _ (ends : Role → ℕ → End) (rows : List QueueRow) (actors : List Act
         let all = whole_with d.0 d.2 row sender_there.0 sender_there.1 in
         subst (λ a. PrefixMerge (sends_at net.programs net.macs frames) (frames_got a)) (sym d.1) (wire_is net frames passed all sender_there.1.row sends)
 
-    pub told_here : NetClientsSend cast passed → (k : ℕ) (x : Actor) → slice_get actors k ≡ Some x → part_of x ≡ NetworkPart (device_at net.first frames) → frames_got x ≡ wire_at net frames (items_of (passed.taken (net.first + 2)))
+    pub told_here : AllSend net passed → (k : ℕ) (x : Actor) → slice_get actors k ≡ Some x → part_of x ≡ NetworkPart (device_at net.first frames) → frames_got x ≡ wire_at net frames (items_of (passed.taken (net.first + 2)))
     unfolding whole_with half_with
     told_here sends k x at part =
         let d = device_actor net.first frames x part in
         let row = device_row_of d.0 passed (subst (λ a. ActorStandsFor a passed) d.1 (work.stands k x at)) in
         let all = whole_with d.0 d.2 row sender_there.0 sender_there.1 in
-        subst (λ a. frames_got a ≡ wire_at net frames (items_of (passed.taken (net.first + 2)))) (sym d.1) (wire_by net frames passed all sender_there.1.row (all_send sends))
+        subst (λ a. frames_got a ≡ wire_at net frames (items_of (passed.taken (net.first + 2)))) (sym d.1) (wire_by net frames passed all sender_there.1.row sends)
 
     -- what came back to a client is in its own buffers
     pub back_here : AllSend net passed → (k : ℕ) (program : Program) (mac : Mac) (q : ClientPools) → IsClientOf net k program mac q → AreSends net.most q.tx (passed.taken (client_first net.first k + 5))
@@ -308,9 +308,9 @@ pub sent_on : (ends : Role → ℕ → End) (rows : List QueueRow) (actors : Lis
     → PrefixMerge (sends_at net.programs net.macs (scene_of (map part_of actors)).frames) (frames_got x)
 sent_on ends rows actors passed net whole work sends = sent_here ends rows actors passed work net whole (sends.frames net whole)
 
-pub sent_told : (ends : Role → ℕ → End) (rows : List QueueRow) (actors : List Actor) (passed : Passed) (net : NetPlace) → HasWhole rows net (map part_of actors) → AreAtWork ends rows actors passed → ClientsSend (map part_of actors) passed → (k : ℕ) (x : Actor) → slice_get actors k ≡ Some x → part_of x ≡ NetworkPart (device_at net.first (scene_of (map part_of actors)).frames)
+pub sent_told : (ends : Role → ℕ → End) (rows : List QueueRow) (actors : List Actor) (passed : Passed) (net : NetPlace) → HasWhole rows net (map part_of actors) → AreAtWork ends rows actors passed → ClientsSend rows (map part_of actors) passed → (k : ℕ) (x : Actor) → slice_get actors k ≡ Some x → part_of x ≡ NetworkPart (device_at net.first (scene_of (map part_of actors)).frames)
     → frames_got x ≡ wire_at net (scene_of (map part_of actors)).frames (items_of (passed.taken (net.first + 2)))
-sent_told ends rows actors passed net whole work sends = told_here ends rows actors passed work net whole sends.frames
+sent_told ends rows actors passed net whole work sends = told_here ends rows actors passed work net whole (sends.frames net whole)
 
 -- nothing was put at the start
 pub nothing_sent : (rows : List QueueRow) (cast : List Part) → ClientsSend rows cast nothing_passed

@@ -64,7 +64,7 @@ pub fn wired_law()
         (frames_got x) }
     ensures told { (ends : Role → ℕ → End) (rows : List QueueRow) (actors : List Actor)
         (passed : Passed) (net : NetPlace) → HasWhole rows net (map part_of actors)
-        → AreAtWork ends rows actors passed → ClientsSend (map part_of actors) passed
+        → AreAtWork ends rows actors passed → ClientsSend rows (map part_of actors) passed
         → (k : ℕ) (x : Actor) → slice_get actors k ≡ Some x
         → part_of x
         ≡ NetworkPart (device_at net.first (scene_of (map part_of actors)).frames)
