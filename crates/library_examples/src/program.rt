@@ -15,7 +15,9 @@ fn status_of<R: Threads + Wait + Sync>(
     sink: &mut MemSink,
 ) -> u8 {
     let mut played = Played::Nothing;
-    serve(rt, alloc, words, shelf, sink, &OpenGate, &mut played).code()
+    let status = serve(rt, alloc, words, shelf, sink, &OpenGate, &mut played);
+    played.forget();
+    status.code()
 }
 
 // What was written, but for how many steps it took, and the status.

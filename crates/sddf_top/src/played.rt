@@ -7,3 +7,11 @@ pub enum Played {
     Nothing,
     Classes(System),
 }
+
+impl Played {
+    /// Gives up the system. What it holds is given back here, so that no caller has to prove that
+    /// of every kind of actor.
+    pub fn forget(self) {
+        drop(self);
+    }
+}
