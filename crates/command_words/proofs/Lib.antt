@@ -5,7 +5,7 @@ pub mod Letters
 mod Limits
 mod Names
 mod Numbers
-mod Once
+pub mod Once
 mod OneNumber
 mod SoFar
 mod Steps

@@ -18,7 +18,10 @@ use Rattle.workload.specs.Generated.{generated_text}
 use Rattle.workload.specs.declared.description.TheConstants.{FULL_EXAMPLE}
 use Rattle.decision_core.specs.Decisions.{Decision, Say, Play, Run, asked_on, AsksFor, to_play, to_run, TraceDecides, PlanDecides, TextDecides, GeneratedDecides, Decides, NamesDescription, refuses, long_trace, bad_trace, good_trace, checked, laid_out, traced, long_description, refused, accepted, no_command, described, generated}
 use Rattle.shelf_core.specs.Reading.{WasRead}
+use Rattle.command_words.specs.declared.command.Options.{Options}
+use Rattle.command_words.specs.Words.{IsPlay, IsRun}
 use Rattle.command_words.proofs.Letters.{run-or-gen}
+use Rattle.command_words.proofs.Once.{same-command}
 use Rattle.decision_core.proofs.JudgedLemmas.{same-accepted, accepted-or-refused, same-refused}
 
 -- fewer words begin a command too
@@ -91,27 +94,34 @@ layout-or-traced words desc desc' trace _ l (to_run n p) = let e = sym l.words_a
 check-or-layout : (words : List (List ℕ)) (desc desc' : List ℕ) → IsCheck words desc → IsLayout words desc' → ⊥
 check-or-layout words desc desc' c l = let e = sym c.words_are ∙ l.words_are in cc
 
--- two decisions agree where they say the same, or both play, or both run
+-- two decisions agree where they say, play or run the same
 abbrev pub Agrees : Decision → Decision → Type 0
 Agrees (Say s x) (Say s' x') = (s ≡ s') × (x ≡ x')
 Agrees (Say s x) (Play p t o) = ⊥
 Agrees (Say s x) (Run p t n) = ⊥
 Agrees (Play p t o) (Say s' x') = ⊥
-Agrees (Play p t o) (Play p' t' o') = Unit {0}
+Agrees (Play p t o) (Play p' t' o') = (p ≡ p') × (t ≡ t') × (o ≡ o')
 Agrees (Play p t o) (Run p' t' n) = ⊥
 Agrees (Run p t n) (Say s' x') = ⊥
 Agrees (Run p t n) (Play p' t' o) = ⊥
-Agrees (Run p t n) (Run p' t' n') = Unit {0}
+Agrees (Run p t n) (Run p' t' n') = (p ≡ p') × (t ≡ t') × (n ≡ n')
+
+-- the same words have the same options
+same-options : (words : List (List ℕ)) (desc trace desc' trace' : List ℕ) (o o' : Options) → IsPlay words desc trace o → IsPlay words desc' trace' o' → o ≡ o'
+same-options words desc trace desc' trace' o o' p q = let e = same-command words (Do.Play o) (Do.Play o') (desc, trace, p) (desc', trace', q) in cc
+
+same-limit : (words : List (List ℕ)) (desc trace desc' trace' : List ℕ) (n n' : Option ℕ) → IsRun words desc trace n → IsRun words desc' trace' n' → n ≡ n'
+same-limit words desc trace desc' trace' n n' p q = let e = same-command words (Do.Run n) (Do.Run n') (desc, trace, p) (desc', trace', q) in cc
 
 -- what the same words ask for
 play-or-run : (words : List (List ℕ)) (more less : List (List ℕ)) → words ≡ codes "play" ∷ more → words ≡ codes "run" ∷ less → ⊥
 play-or-run words more less e f = let g = sym e ∙ f in cc
 
 agrees-asked : (words : List (List ℕ)) (desc trace desc' trace' : List ℕ) (a b : Asked) → AsksFor words desc trace a → AsksFor words desc' trace' b → (plan : Plan) (t : Trace) → Agrees (asked_on plan t a) (asked_on plan t b)
-agrees-asked words desc trace desc' trace' _ _ (to_play o p) (to_play o' q) plan t = tt
+agrees-asked words desc trace desc' trace' _ _ (to_play o p) (to_play o' q) plan t = (refl, refl, ap (λ (x : Options). Show.Report x) (same-options words desc trace desc' trace' o o' p q))
 agrees-asked words desc trace desc' trace' _ _ (to_play o p) (to_run n q) plan t = absurd (play-or-run words _ _ p.words_are q.words_are)
 agrees-asked words desc trace desc' trace' _ _ (to_run n p) (to_play o q) plan t = absurd (play-or-run words _ _ q.words_are p.words_are)
-agrees-asked words desc trace desc' trace' _ _ (to_run n p) (to_run n' q) plan t = tt
+agrees-asked words desc trace desc' trace' _ _ (to_run n p) (to_run n' q) plan t = (refl, refl, same-limit words desc trace desc' trace' n n' p q)
 
 agrees-refused : (r r' : Refusal) → r ≡ r' → Agrees (refuses r) (refuses r')
 agrees-refused r r' e = let f = ap refuses e in (cc, cc)
@@ -205,7 +215,7 @@ module _ (R S : List ℕ → List ℕ → Type 0) (same : (name a b : List ℕ) 
   one-decision _ _ (described desc bytes d n r t) (generated m d' g t') = absurd (gen-or-named words m desc g n)
   one-decision _ _ (generated m d g t) (described desc bytes d' n r t') = absurd (gen-or-named words m desc g n)
   one-decision _ _ (generated n d g t) (generated m d' g' t') =
-      one-text (GeneratedDecides m) (GeneratedDecides m) (λ plan e e' a b. one-trace plan (Ask.Play Show.Summary) (Ask.Play Show.Summary) (λ t. tt) (generated_text m) e e' a b) FULL_EXAMPLE.now d d'
+      one-text (GeneratedDecides m) (GeneratedDecides m) (λ plan e e' a b. one-trace plan (Ask.Play Show.Summary) (Ask.Play Show.Summary) (λ t. (refl, refl, refl)) (generated_text m) e e' a b) FULL_EXAMPLE.now d d'
       (subst (λ k. TextDecides (GeneratedDecides k) FULL_EXAMPLE.now d) (gen-same words n m g g') t) t'
 
 -- what is decided where a text was read as it was before

@@ -1,4 +1,5 @@
 pub mod DecisionLemmas
+pub mod GenLemmas
 pub mod JudgedLemmas
 pub mod LastLemmas
 pub mod WordLemmas

@@ -2,5 +2,6 @@
 pub mod Codes
 pub mod Decided
 pub mod Decisions
+pub mod Generating
 pub mod Judged
 pub mod Readings

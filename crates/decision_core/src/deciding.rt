@@ -8,11 +8,12 @@ ghost use Rattle.report_text.specs.Answers.{usage_text, accepted_text, bad_trace
 ghost use Rattle.report_text.specs.Layouts.{layout_text};
 ghost use Rattle.command_words.specs.Words.{texts_of, IsGen, Spells, last_name};
 ghost use Rattle.command_words.specs.declared.command.Command.{Command};
-ghost use Rattle.shelf_core.specs.Outside.{Rose, also_opened};
+ghost use Rattle.shelf_core.specs.Outside.{FailsLast, also_opened};
 ghost use Rattle.decision_core.specs.Judged.{IsAcceptedPlan};
 ghost use Rattle.decision_core.specs.Decided.{decision_of, OfEach};
 ghost use Rattle.decision_core.specs.Decisions.{Say, AsksFor, Decides, TextDecides, PlanDecides};
 ghost use Rattle.decision_core.specs.Decisions.{TraceDecides, GeneratedDecides, refuses, too_long};
+ghost use Rattle.decision_core.specs.Generating.{IsSummary};
 ghost use Rattle.shelf_core.specs.Reading.{WasRead};
 ghost use Rattle.decision_core.specs.Readings.{LeavesPlay, LeavesPlan, LeavesText, ReadLast};
 ghost use Rattle.decision_core.specs.Readings.{OpensTrace, OpensText, OpensInTurn};
@@ -165,7 +166,8 @@ fn decide_named<F: Shelf>(
         (F.left shelf.old) (F.left shelf.new))) }
     ensures opens { F.opens shelf.new ≡ also_opened (F.opens shelf.old) trace.now }
     ensures calm { OnOk result (F.faults shelf.new ≡ F.faults shelf.old) }
-    ensures failed { result ≡ Err ReadStop.Failed → Rose (F.faults shelf.old) (F.faults shelf.new) }
+    ensures failed { result ≡ Err ReadStop.Failed → FailsLast (F.faults shelf.old)
+        (F.faults shelf.new) (F.failed shelf.new) }
     ensures starved { (memory : Memory) → result ≡ Err (ReadStop.Memory memory)
         → F.faults shelf.new ≡ F.faults shelf.old }
 {
@@ -191,7 +193,8 @@ fn decide_plan<F: Shelf>(
         (F.left shelf.old) (F.left shelf.new) (F.opens shelf.old) (F.opens shelf.new))) }
     ensures opens { OpensTrace (texts_of words.now) (F.opens shelf.old) (F.opens shelf.new) }
     ensures calm { OnOk result (F.faults shelf.new ≡ F.faults shelf.old) }
-    ensures failed { result ≡ Err ReadStop.Failed → Rose (F.faults shelf.old) (F.faults shelf.new) }
+    ensures failed { result ≡ Err ReadStop.Failed → FailsLast (F.faults shelf.old)
+        (F.faults shelf.new) (F.failed shelf.new) }
     ensures starved { (memory : Memory) → result ≡ Err (ReadStop.Memory memory)
         → F.faults shelf.new ≡ F.faults shelf.old }
 {
@@ -229,7 +232,8 @@ fn decide_text<F: Shelf>(
     ensures opens { OpensText (texts_of words.now) text.now (F.opens shelf.old)
         (F.opens shelf.new) }
     ensures calm { OnOk result (F.faults shelf.new ≡ F.faults shelf.old) }
-    ensures failed { result ≡ Err ReadStop.Failed → Rose (F.faults shelf.old) (F.faults shelf.new) }
+    ensures failed { result ≡ Err ReadStop.Failed → FailsLast (F.faults shelf.old)
+        (F.faults shelf.new) (F.failed shelf.new) }
     ensures starved { (memory : Memory) → result ≡ Err (ReadStop.Memory memory)
         → F.faults shelf.new ≡ F.faults shelf.old }
 {
@@ -259,7 +263,8 @@ fn decide_command<F: Shelf>(
     ensures opens { OpensInTurn (WasRead (F.text shelf.old)) (texts_of words.now)
         (F.opens shelf.old) (F.opens shelf.new) }
     ensures calm { OnOk result (F.faults shelf.new ≡ F.faults shelf.old) }
-    ensures failed { result ≡ Err ReadStop.Failed → Rose (F.faults shelf.old) (F.faults shelf.new) }
+    ensures failed { result ≡ Err ReadStop.Failed → FailsLast (F.faults shelf.old)
+        (F.faults shelf.new) (F.failed shelf.new) }
     ensures starved { (memory : Memory) → result ≡ Err (ReadStop.Memory memory)
         → F.faults shelf.new ≡ F.faults shelf.old }
 {
@@ -281,12 +286,15 @@ pub fn decide_words<F: Shelf>(
     ensures opens { OpensInTurn (WasRead (F.text shelf.old)) (texts_of words.now)
         (F.opens shelf.old) (F.opens shelf.new) }
     ensures calm { OnOk result (F.faults shelf.new ≡ F.faults shelf.old) }
-    ensures failed { result ≡ Err ReadStop.Failed → Rose (F.faults shelf.old) (F.faults shelf.new) }
+    ensures failed { result ≡ Err ReadStop.Failed → FailsLast (F.faults shelf.old)
+        (F.faults shelf.new) (F.failed shelf.new) }
     ensures starved { (memory : Memory) → result ≡ Err (ReadStop.Memory memory)
         → F.faults shelf.new ≡ F.faults shelf.old }
     ensures command { result ≡ Err ReadStop.Failed
         → (command : Command) × Spells (texts_of words.now) command }
     ensures unread { (n : ℕ) → IsGen (texts_of words.now) n → shelf.new ≡ shelf.old }
+    ensures plays { (n : ℕ) → IsGen (texts_of words.now) n
+        → IfOk result (λ d. IsSummary (decision_of d)) }
 {
     match read_words(words) {
         Ok(Command::Gen(number)) => Ok(decide_gen(alloc, FULL_EXAMPLE.as_bytes(), number)?),

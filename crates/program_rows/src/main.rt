@@ -119,6 +119,7 @@ fn told<R: Threads + Wait + Sync + Files + AllocGlobal>(
         gate,
         &mut played,
     );
+    played.forget();
     let mut text = String::new(rt.alloc());
     let written = std::str::from_utf8(sink.written()).unwrap_or("no text");
     add_lines(&mut text, written, row.starts_with("run "))?;

@@ -1,6 +1,10 @@
 //! `serve_alone` with failing shelves and sinks, with texts at the limit, and with real files.
 
-use sddf_top::{FileShelf, MemShelf, MemSink, OutSink, Played, read_text, serve_alone, write_text};
+use cargo_core::Text;
+use sddf_top::{
+    FileShelf, MemShelf, MemSink, OutSink, Played, SureShelf, SureSink, read_text, serve_alone,
+    serve_surely, write_text,
+};
 use std::alloc::Global;
 use std::test::Fail;
 
@@ -22,7 +26,9 @@ fn play(alloc: Global, shelf: &mut MemShelf, sink: &mut MemSink) -> Result<u8, F
         String::from_str(alloc, "T")?,
     ]?;
     let mut played = Played::Nothing;
-    Ok(serve_alone(alloc, &words, shelf, sink, &mut played).code())
+    let status = serve_alone(alloc, &words, shelf, sink, &mut played);
+    played.forget();
+    Ok(status.code())
 }
 
 /// How `play S T` ends, and what it writes, where the trace is so many bytes `#`.
@@ -51,6 +57,25 @@ fn a_failing_write_leaves_the_beginning(rt: HostRuntime) -> Result<(), Fail> {
     sink.fail_at(1)?;
     assert_eq!(rt; play(rt.alloc(), &mut shelf, &mut sink)?, 6);
     assert_eq!(rt; sink.written(), b"quie".as_slice());
+    Ok(())
+}
+
+#[test]
+fn a_sure_outside_has_no_faults(rt: HostRuntime) -> Result<(), Fail> {
+    let alloc = rt.alloc();
+    let words = vec![in alloc;
+        String::from_str(alloc, "play")?,
+        String::from_str(alloc, "S")?,
+        String::from_str(alloc, "T")?,
+    ]?;
+    let desc = Text::new(alloc, "protection_domain = []\n")?;
+    let mut shelf = SureShelf::new(Text::new(alloc, "S")?, desc, Text::new(alloc, "")?);
+    let mut sink = SureSink::new();
+    let mut played = Played::Nothing;
+    let status = serve_surely(alloc, &words, &mut shelf, &mut sink, &mut played);
+    played.forget();
+    assert_eq!(rt; status.code(), 0);
+    assert_eq!(rt; sink.bytes(), 20);
     Ok(())
 }
 

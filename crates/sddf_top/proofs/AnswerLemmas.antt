@@ -1,4 +1,4 @@
-use Rattle.std.proofs.Common.{◌≡◌, ◌⊎◌, inl, inr, ℕ, Bool, true, false, List, Option, sym, ◌∙◌, subst, Result, Ok, Err, IfOk}
+use Rattle.std.proofs.Common.{◌≡◌, ◌≤◌, ◌⊎◌, inl, inr, refl, ℕ, Bool, true, false, List, Option, sym, ◌∙◌, subst, Result, Ok, Err, IfOk}
 use Rattle.sdf_plan.specs.declared.plan.Plan.{Plan}
 use Rattle.trace_text.specs.declared.trace.Trace.{Trace}
 use Rattle.system_core.specs.Reports.{report_of}
@@ -10,8 +10,9 @@ use Rattle.decision_core.specs.declared.status.Status.{Status}
 use Rattle.decision_core.specs.declared.status.Status.TheVariants as Ended
 use Rattle.sddf_top.specs.declared.played.Played.{Played}
 use Rattle.decision_core.specs.Decisions.{Decision, Say, Play, Run, asked_on, Decides, TextDecides, PlanDecides, TraceDecides, GeneratedDecides, long_trace, bad_trace, good_trace, checked, laid_out, traced, long_description, refused, accepted, no_command, described, generated, IsStatusOf}
-use Rattle.sddf_top.specs.Shown.{ending_of}
-use Rattle.sddf_top.specs.Answers.{Answers, Comes, Shows, ShowsRun, Serves, IsFault, no_reading, no_writing, no_memory}
+use Rattle.expect_core.specs.Budgets.{budget_of}
+use Rattle.sddf_top.specs.Shown.{ending_of, limit_of, limit_or_budget}
+use Rattle.sddf_top.specs.Answers.{Answers, Comes, Shows, ShowsRun, Serves, IsEnough, IsFault, no_reading, no_writing, no_memory}
 use Rattle.shelf_core.specs.Reading.{WasRead, IsTold}
 use Rattle.shelf_core.specs.Outside.{appended}
 use Rattle.decision_core.proofs.DecisionLemmas.{Agrees, one-decision, plan-read, text-read}
@@ -49,6 +50,20 @@ agreed-status (Run q u n) (Say t' y') s x p a c = absurd a
 agreed-status (Run q u n) (Play q' u' o) s x p a c = absurd a
 agreed-status (Run q u n) (Run q' u' n') s x p a c = run-status q' u' n' s x p c
 
+-- an answer by a decision that agrees with one that is enough is `Ok`
+enough-status : (d d' : Decision) (s : Status) (x : List ℕ) (p : Played) → Agrees d d' → IsEnough d → Comes d' s x p → s ≡ Ended.Ok
+enough-status (Say t y) (Say t' y') s x p a e c = c.0 ∙ sym a.0 ∙ e
+enough-status (Say t y) (Play q u o) s x p a e c = absurd a
+enough-status (Play q u o) (Say t' y') s x p a e c = absurd a
+enough-status (Play q u o) (Play q' u' o') s x p a e c =
+    c.bounded (subst (λ z. budget_of z u' ≤ limit_of z u' o') a.0 (subst (λ z. budget_of q z ≤ limit_of q z o') a.1 (subst (λ z. budget_of q u ≤ limit_of q u z) a.2 e)))
+enough-status (Say t y) (Run q u n) s x p a e c = absurd a
+enough-status (Play q u o) (Run q' u' n) s x p a e c = absurd a
+enough-status (Run q u n) (Say t' y') s x p a e c = absurd a
+enough-status (Run q u n) (Play q' u' o) s x p a e c = absurd a
+enough-status (Run q u n) (Run q' u' n') s x p a e c =
+    c.bounded (subst (λ z. budget_of z u' ≤ limit_or_budget z u' n') a.0 (subst (λ z. budget_of q z ≤ limit_or_budget q z n') a.1 (subst (λ z. budget_of q u ≤ limit_or_budget q u z) a.2 e)))
+
 -- these aren't faults
 abbrev pub MayBeFault : Status → Type 0
 MayBeFault Ended.Ok = ⊥
@@ -83,6 +98,22 @@ module _ (told : List ℕ → Option (List ℕ)) (words : List (List ℕ)) where
   served-status old new (Ended.Spent n) played d h b = inl (told-status d (Ended.Spent n) b.0 played h b.1)
   served-status old new Ended.TooLong played d h b = inl (told-status d Ended.TooLong b.0 played h b.1)
   served-status old new (Ended.Memory memory) played d h b = inr (no_memory memory)
+
+  -- an answer that was written whole or in part is `Ok` where the told texts decide what is enough, or a fault
+  told-enough : (d : Decision) (s : Status) (x : List ℕ) (p : Played) → Decides (IsTold told) words d → IsEnough d → Answers (WasRead told) words s x p → s ≡ Ended.Ok
+  told-enough d s x p h e a = enough-status d a.0 s x p (one-decision (IsTold told) (WasRead told) (told-same told) words d a.0 h a.1) e a.2
+
+  pub served-enough : (old new : Option (List ℕ)) (result : Status) (played : Played) (d : Decision) → Decides (IsTold told) words d → IsEnough d
+      → Serves (WasRead told) words old new result played → (result ≡ Ended.Ok) ⊎ IsFault result
+  served-enough old new Ended.Ok played d h e b = inl refl
+  served-enough old new (Ended.Usage k) played d h e b = inl (told-enough d (Ended.Usage k) b.0 played h e b.1)
+  served-enough old new (Ended.Refused n) played d h e b = inl (told-enough d (Ended.Refused n) b.0 played h e b.1)
+  served-enough old new (Ended.BadTrace l) played d h e b = inl (told-enough d (Ended.BadTrace l) b.0 played h e b.1)
+  served-enough old new Ended.ReadFault played d h e b = inr no_reading
+  served-enough old new Ended.WriteFault played d h e b = inr no_writing
+  served-enough old new (Ended.Spent n) played d h e b = inl (told-enough d (Ended.Spent n) b.0 played h e b.1)
+  served-enough old new Ended.TooLong played d h e b = inl (told-enough d Ended.TooLong b.0 played h e b.1)
+  served-enough old new (Ended.Memory memory) played d h e b = inr (no_memory memory)
 
 -- a decision isn't a fault
 abbrev pub IsCalm : Decision → Type 0

@@ -47,6 +47,13 @@ pub record ShowsRun (plan : Plan) (trace : Trace) (steps : Option ℕ) (status :
   pub bounded : budget_of plan trace ≤ limit_or_budget plan trace steps → status ≡ Ended.Ok
   pub text_is : text ≡ report_text (report_of system)
 
+-- a decision that leads to `Ok`: it says so, or a play or a run may make as many steps as its
+-- budget
+abbrev pub IsEnough : Decision → Type 0
+IsEnough (Say status text) = status ≡ Ended.Ok
+IsEnough (Play plan trace showing) = budget_of plan trace ≤ limit_of plan trace showing
+IsEnough (Run plan trace steps) = budget_of plan trace ≤ limit_or_budget plan trace steps
+
 -- the answer that a decision leads to: its status, the whole text that is written, and the system
 -- that was played
 abbrev pub Comes : Decision → Status → List ℕ → Played → Type 0

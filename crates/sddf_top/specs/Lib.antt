@@ -6,4 +6,5 @@ pub mod Answers
 pub mod Outcomes
 pub mod Served
 pub mod Shown
+pub mod Sure
 pub mod SystemRun

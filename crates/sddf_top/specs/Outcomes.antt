@@ -1,13 +1,13 @@
 -- Which answer comes of what was decided.
 use Rattle.std.specs.Prelude.{◌≡◌, ◌⊎◌, ◌<◌, ℕ, Option, Result, Ok, Err, IfOk, OnErr, List}
-use Rattle.std.specs.Prelude.{string_bytes}
+use Rattle.std.specs.Prelude.{string_bytes, Bool}
 use Rattle.sddf_top.specs.declared.answering.Outcome.{Outcome}
 use Rattle.shelf_core.specs.declared.reading.ReadStop.{ReadStop}
 use Rattle.shelf_core.specs.declared.reading.ReadStop.TheVariants as Stop
 use Rattle.sddf_top.specs.declared.played.Played.{Played}
 use Rattle.decision_core.specs.declared.status.Status.{Status}
 use Rattle.decision_core.specs.declared.status.Status.TheVariants as Ended
-use Rattle.shelf_core.specs.Outside.{Rose}
+use Rattle.shelf_core.specs.Outside.{FailsLast}
 use Rattle.decision_core.specs.Decisions.{Decision, Decides}
 use Rattle.sddf_top.specs.Answers.{Comes, ComesBy, Serves}
 use Rattle.shelf_core.specs.Reading.{WasRead}
@@ -28,8 +28,9 @@ EndsAs (Ok outcome) status = (status ≡ outcome.status) ⊎ (status ≡ Ended.W
 EndsAs (Err Stop.Failed) status = status ≡ Ended.ReadFault
 EndsAs (Err (Stop.Memory memory)) status = status ≡ Ended.Memory memory
 
--- an answer was written to a sink, which tells what was written and how often it failed
-pub record HasTold {K : Type 0} (written : K → Option (List ℕ)) (writes : K → ℕ)
+-- an answer was written to a sink, which tells what was written, how often it failed, and whether
+-- it failed last
+pub record HasTold {K : Type 0} (written : K → Option (List ℕ)) (writes : K → ℕ) (failed : K → Bool)
     (answer : Result Outcome ReadStop) (sink sink' : K) (status : Status) (played : Played)
     : Type 0 where
   pub served : (told : List ℕ → Option (List ℕ)) (words : List (List ℕ))
@@ -38,5 +39,6 @@ pub record HasTold {K : Type 0} (written : K → Option (List ℕ)) (writes : K 
   pub ends : EndsAs answer status
   pub unwritten : OnErr answer (sink' ≡ sink)
   pub faulty : IfOk answer (λ r. r.status ≡ Ended.WriteFault → ⊥) → status ≡ Ended.WriteFault
-      → Rose (writes sink) (writes sink')
+      → FailsLast (writes sink) (writes sink') (failed sink')
+  pub calm : (status ≡ Ended.WriteFault → ⊥) → writes sink' ≡ writes sink
   pub always : writes sink < writes sink' → status ≡ Ended.WriteFault

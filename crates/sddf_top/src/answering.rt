@@ -3,7 +3,7 @@ ghost use Rattle.std.specs.Prelude.{◌≡◌, Err, IfOk, OnOk, ℕ, List, strin
 ghost use Rattle.cargo_core.specs.declared.memory.Memory.{Memory};
 ghost use Rattle.command_words.specs.declared.command.Command.{Command};
 ghost use Rattle.command_words.specs.Words.{texts_of, IsGen, Spells, BeginsRun};
-ghost use Rattle.shelf_core.specs.Outside.{Rose};
+ghost use Rattle.shelf_core.specs.Outside.{FailsLast};
 ghost use Rattle.decision_core.specs.Decided.{decision_of, IsSound, AsksToRun};
 ghost use Rattle.sddf_top.specs.Outcomes.{Follows, FollowsBy};
 ghost use Rattle.decision_core.specs.Decisions.{Decides};
@@ -92,7 +92,8 @@ pub fn answer_words_alone<F: Shelf>(
     ensures opens { OpensInTurn (WasRead (F.text shelf.old)) (texts_of words.now)
         (F.opens shelf.old) (F.opens shelf.new) }
     ensures calm { OnOk result (F.faults shelf.new ≡ F.faults shelf.old) }
-    ensures failed { result ≡ Err ReadStop.Failed → Rose (F.faults shelf.old) (F.faults shelf.new) }
+    ensures failed { result ≡ Err ReadStop.Failed → FailsLast (F.faults shelf.old)
+        (F.faults shelf.new) (F.failed shelf.new) }
     ensures starved { (memory : Memory) → result ≡ Err (ReadStop.Memory memory)
         → F.faults shelf.new ≡ F.faults shelf.old }
     ensures command { result ≡ Err ReadStop.Failed
@@ -119,7 +120,8 @@ pub fn answer_words<R: Threads + Wait + Sync, F: Shelf, G: Gate + Sync>(
     ensures opens { OpensInTurn (WasRead (F.text shelf.old)) (texts_of words.now)
         (F.opens shelf.old) (F.opens shelf.new) }
     ensures calm { OnOk result (F.faults shelf.new ≡ F.faults shelf.old) }
-    ensures failed { result ≡ Err ReadStop.Failed → Rose (F.faults shelf.old) (F.faults shelf.new) }
+    ensures failed { result ≡ Err ReadStop.Failed → FailsLast (F.faults shelf.old)
+        (F.faults shelf.new) (F.failed shelf.new) }
     ensures starved { (memory : Memory) → result ≡ Err (ReadStop.Memory memory)
         → F.faults shelf.new ≡ F.faults shelf.old }
     ensures command { result ≡ Err ReadStop.Failed

@@ -9,6 +9,7 @@ mod hosting;
 mod played;
 mod playing;
 mod serving;
+mod sure;
 pub mod system_run;
 
 pub use command_words::begins_run;
@@ -20,6 +21,7 @@ pub use sdf_model::TEXT_MOST;
 pub use serving::{serve, serve_alone};
 pub use shelf_core::{
     Failed, FileShelf, MemShelf, MemSink, NamedText, OutSink, READ_MOST, ReadStop, Shelf, Sink,
-    read_text, write_text,
+    SureShelf, SureSink, read_text, write_text,
 };
+pub use sure::serve_surely;
 pub use system_core::System;

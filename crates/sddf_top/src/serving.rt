@@ -1,7 +1,7 @@
 //! The program as one call: the answer is made whole, and then written.
 ghost use Rattle.std.specs.Prelude.{◌≡◌, ◌⊎◌, ◌<◌, ℕ, Option, List, string_bytes};
 ghost use Rattle.command_words.specs.Words.{texts_of, BeginsRun};
-ghost use Rattle.shelf_core.specs.Outside.{Rose};
+ghost use Rattle.shelf_core.specs.Outside.{FailsLast};
 ghost use Rattle.sddf_top.specs.Answers.{Answers, Serves};
 ghost use Rattle.shelf_core.specs.Reading.{WasRead};
 ghost use Rattle.sddf_top.specs.Outcomes.{HasTold};
@@ -23,7 +23,8 @@ fn write_outcome<K: Sink>(sink: &mut K, outcome: Outcome, played: &mut Played) -
         → Answers (WasRead told) words outcome.status (string_bytes outcome.text) outcome.played
         → Serves (WasRead told) words (K.written sink.old) (K.written sink.new) result played.new }
     ensures faulty { (outcome.status ≡ Status.WriteFault → ⊥) → result ≡ Status.WriteFault
-        → Rose (K.faults sink.old) (K.faults sink.new) }
+        → FailsLast (K.faults sink.old) (K.faults sink.new) (K.failed sink.new) }
+    ensures calm { (result ≡ Status.WriteFault → ⊥) → K.faults sink.new ≡ K.faults sink.old }
     ensures always { K.faults sink.old < K.faults sink.new → result ≡ Status.WriteFault }
     ensures other { (result ≡ outcome.status) ⊎ (result ≡ Status.WriteFault) }
 {
@@ -41,7 +42,7 @@ fn write_outcome<K: Sink>(sink: &mut K, outcome: Outcome, played: &mut Played) -
 
 /// Writes an answer, where there is one, and answers the status.
 fn tell<K: Sink>(sink: &mut K, answer: Result<Outcome, ReadStop>, played: &mut Played) -> Status
-    ensures { HasTold K.written K.faults answer sink.old sink.new result played.new }
+    ensures { HasTold K.written K.faults K.failed answer sink.old sink.new result played.new }
 {
     *played = Played::Nothing;
     match answer {
@@ -65,7 +66,7 @@ pub fn serve_alone<F: Shelf, K: Sink>(
     played: &mut Played,
 ) -> Status
     requires { BeginsRun (texts_of words.now) → ⊥ }
-    ensures { IsServed F.text F.left F.opens F.faults K.written K.faults
+    ensures { IsServed F.text F.left F.opens F.faults F.failed K.written K.faults K.failed
         (texts_of words.now) shelf.old shelf.new
         sink.old sink.new result played.new }
 {
@@ -85,7 +86,7 @@ pub fn serve<R: Threads + Wait + Sync, F: Shelf, K: Sink, G: Gate + Sync>(
     gate: &G,
     played: &mut Played,
 ) -> Status
-    ensures { IsServed F.text F.left F.opens F.faults K.written K.faults
+    ensures { IsServed F.text F.left F.opens F.faults F.failed K.written K.faults K.failed
         (texts_of words.now) shelf.old shelf.new
         sink.old sink.new result played.new }
 {

@@ -4,3 +4,4 @@ pub mod Names
 pub mod Outside
 pub mod Reading
 pub mod Sunk
+pub mod Sure

@@ -1,12 +1,18 @@
 -- What a call to the outside may do: fail, give the next bytes, take some.
-use Rattle.std.specs.Prelude.{◌≡◌, ◌⊎◌, ◌+◌, ◌-◌, ◌^◌, ◌<◌, ◌≤◌, ℕ, Option, List, [], ◌∷◌, ◌++◌}
-use Rattle.std.specs.Prelude.{length, take, IfSome}
+use Rattle.std.specs.Prelude.{◌≡◌, ◌⊎◌, ◌+◌, ◌-◌, ◌^◌, ◌≤◌, ℕ, Option, List, [], ◌∷◌, ◌++◌}
+use Rattle.std.specs.Prelude.{length, take, min, Bool, true, IfSome}
 use Rattle.std.specs.Option.{option_map}
 use Rattle.sdf_model.specs.Counts.{text_most}
 
--- a count of faults rose in a call: it is greater after the call, or stands at the end of its type
-abbrev pub Rose : ℕ → ℕ → Type 0
-Rose before after = (before < after) ⊎ (after ≡ 2 ^ 64 - 1)
+-- a count after one more: it stands still at the end of its type
+abbrev pub one_more : ℕ → ℕ
+one_more count = min (count + 1) (2 ^ 64 - 1)
+
+-- one call failed, and none was made after it: the count of faults is one more, and the last call
+-- failed
+pub record FailsLast (before after : ℕ) (last : Bool) : Type 0 where
+  pub counted : after ≡ one_more before
+  pub last_is : last ≡ true
 
 -- a call that answered n put the next n bytes of what was left into a piece, and none only where
 -- nothing is left or the piece has no room

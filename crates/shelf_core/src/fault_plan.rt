@@ -1,10 +1,10 @@
 //! Which calls of a shelf or a sink in memory fail, and how many bytes one moves at most.
-ghost use Rattle.std.specs.Prelude.{◌≡◌, ◌≤◌, ◌∷◌, ◌++◌, [], OnOk, OnErr};
-ghost use Rattle.shelf_core.specs.FaultPlans.{unplanned, next_call, is_due};
-ghost use Rattle.shelf_core.specs.Outside.{Rose};
+ghost use Rattle.std.specs.Prelude.{◌≡◌, ◌≤◌, ◌∷◌, ◌++◌, [], false, OnOk, OnErr};
+ghost use Rattle.shelf_core.specs.FaultPlans.{unplanned, is_due};
+ghost use Rattle.shelf_core.specs.Outside.{one_more, FailsLast};
 
 use crate::Failed;
-use crate::faults::one_more;
+use crate::faults::Faults;
 use cargo_core::Memory;
 use std::alloc::Global;
 use std::marker::Model;
@@ -16,7 +16,7 @@ pub struct FaultPlan {
     calls: u64,
     failing: Vec<u64>,
     piece: usize,
-    faults: u64,
+    faults: Faults,
 }
 
 impl Model for FaultPlan {
@@ -28,7 +28,8 @@ impl Model for FaultPlan {
       calls = s.calls;
       failing = s.failing.items;
       piece = s.piece;
-      faults = s.faults;
+      faults = s.faults.count;
+      failed = s.faults.last;
     } };
 }
 
@@ -41,7 +42,7 @@ impl FaultPlan {
             calls: 0,
             failing: Vec::new(alloc),
             piece: usize::MAX,
-            faults: 0,
+            faults: Faults::new(),
         }
     }
 
@@ -72,8 +73,10 @@ impl FaultPlan {
     /// Counts a call, and tells whether it fails.
     pub fn is_failing(&mut self) -> bool
         ensures due { result ≡ is_due self.old }
-        ensures counted { self.new ≡ record self.old { calls = next_call self.old.calls } }
+        ensures counted { self.new
+            ≡ record self.old { calls = one_more self.old.calls; failed = false } }
     {
+        self.faults.pass();
         let fails = self.failing.contains(&self.calls);
         self.calls = self.calls.saturating_add(1);
         fails
@@ -81,11 +84,11 @@ impl FaultPlan {
 
     /// Counts a fault.
     pub fn fail(&mut self) -> Failed
-        ensures same { self.new ≡ record self.old { faults = self.new.faults } }
-        ensures rose { Rose self.old.faults self.new.faults }
+        ensures same { self.new
+            ≡ record self.old { faults = self.new.faults; failed = self.new.failed } }
+        ensures fails { FailsLast self.old.faults self.new.faults self.new.failed }
         ensures rising { self.old.faults ≤ self.new.faults }
     {
-        self.faults = one_more(self.faults);
-        Failed
+        self.faults.fail()
     }
 }

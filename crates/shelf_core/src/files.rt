@@ -1,19 +1,47 @@
 //! A shelf of files and a sink on standard output: one call of the runtime each, whose answer is
-//! handed on.
-ghost use Rattle.std.specs.Prelude.{◌≡◌};
+//! handed on. A call that a signal interrupts is made again.
+ghost use Rattle.std.specs.Prelude.{◌≡◌, ◌≤◌, IfSome, length};
 
-use crate::faults::one_more;
+use crate::faults::Faults;
 use crate::{Failed, Shelf, Sink};
 use std::fs;
-use std::io::Read;
+use std::io::{ErrorKind, Read};
 use std::rt::Files;
+
+/// Reads once, however often a signal interrupts it; none where it fails.
+fn read_once<T: Read>(from: &mut T, into: &mut [u8]) -> Option<usize>
+    ensures { IfSome result (λ n. n ≤ length into.new) }
+{
+    for _ in 0..u64::MAX {
+        match from.read(into) {
+            Ok(n) => return Some(n),
+            Err(error) if error.kind() == ErrorKind::Interrupted => {}
+            Err(_) => return None,
+        }
+    }
+    None
+}
+
+/// Writes once, however often a signal interrupts it; none where it fails.
+fn write_once<R: Print>(rt: &R, from: &[u8]) -> Option<usize>
+    ensures { IfSome result (λ n. n ≤ length from.now) }
+{
+    for _ in 0..u64::MAX {
+        match rt.write_some(from) {
+            Ok(n) => return Some(n),
+            Err(error) if error.kind() == ErrorKind::Interrupted => {}
+            Err(_) => return None,
+        }
+    }
+    None
+}
 
 /// The texts of files, by their paths. It tells no bytes and no names.
 #[derive(Drop)]
 pub struct FileShelf<'a, R: Files> {
     rt: &'a R,
     open: Option<R::File>,
-    faults: u64,
+    faults: Faults,
 }
 
 impl<R: Files> FileShelf<'_, R> {
@@ -22,7 +50,7 @@ impl<R: Files> FileShelf<'_, R> {
         FileShelf {
             rt,
             open: None,
-            faults: 0,
+            faults: Faults::new(),
         }
     }
 }
@@ -36,34 +64,30 @@ impl<R: Files> Shelf for FileShelf<'_, R> {
 
     ghost opens = { λ _. None };
 
-    ghost faults = { λ s. s.faults };
+    ghost faults = { λ s. s.faults.count };
+
+    ghost failed = { λ s. s.faults.last };
 
     fn open(&mut self, name: &str) -> Result<(), Failed> {
-        match fs::open(self.rt, name) {
-            Ok(file) => {
-                self.open = Some(file);
-                Ok(())
-            }
-            Err(_) => {
-                self.open = None;
-                self.faults = one_more(self.faults);
-                Err(Failed)
-            }
+        self.open = fs::open(self.rt, name).ok();
+        if self.open.is_none() {
+            return Err(self.faults.fail());
         }
+        self.faults.pass();
+        Ok(())
     }
 
     fn read(&mut self, into: &mut [u8]) -> Result<usize, Failed> {
-        let Some(file) = &mut self.open else {
-            return Ok(0);
+        let read = match &mut self.open {
+            Some(file) => read_once(file, into),
+            None => Some(0),
         };
-        match file.read(into) {
-            Ok(n) => Ok(n),
-            Err(_) => {
-                self.open = None;
-                self.faults = one_more(self.faults);
-                Err(Failed)
-            }
-        }
+        let Some(n) = read else {
+            self.open = None;
+            return Err(self.faults.fail());
+        };
+        self.faults.pass();
+        Ok(n)
     }
 }
 
@@ -71,13 +95,16 @@ impl<R: Files> Shelf for FileShelf<'_, R> {
 #[derive(Drop)]
 pub struct OutSink<'a, R: Print> {
     rt: &'a R,
-    faults: u64,
+    faults: Faults,
 }
 
 impl<R: Print> OutSink<'_, R> {
     /// Standard output, to which nothing was written yet.
     pub fn new(rt: &R) -> OutSink<'_, R> {
-        OutSink { rt, faults: 0 }
+        OutSink {
+            rt,
+            faults: Faults::new(),
+        }
     }
 }
 
@@ -86,15 +113,17 @@ impl<R: Print> Sink for OutSink<'_, R> {
 
     ghost written = { λ _. None };
 
-    ghost faults = { λ s. s.faults };
+    ghost faults = { λ s. s.faults.count };
+
+    ghost failed = { λ s. s.faults.last };
 
     fn write(&mut self, from: &[u8]) -> Result<usize, Failed> {
-        match self.rt.write_some(from) {
-            Ok(n) if n > 0 || from.is_empty() => Ok(n),
-            _ => {
-                self.faults = one_more(self.faults);
-                Err(Failed)
+        match write_once(self.rt, from) {
+            Some(n) if n > 0 || from.is_empty() => {
+                self.faults.pass();
+                Ok(n)
             }
+            _ => Err(self.faults.fail()),
         }
     }
 }

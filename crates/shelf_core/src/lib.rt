@@ -10,6 +10,7 @@ mod memory_sink;
 mod reading;
 mod shelf;
 mod sink;
+mod sure;
 mod writing;
 
 pub use files::{FileShelf, OutSink};
@@ -18,4 +19,5 @@ pub use memory_sink::MemSink;
 pub use reading::{READ_MOST, ReadStop, read_text};
 pub use shelf::{Failed, Shelf};
 pub use sink::Sink;
+pub use sure::{SureShelf, SureSink};
 pub use writing::write_text;

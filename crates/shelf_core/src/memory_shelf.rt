@@ -1,7 +1,7 @@
 //! A shelf of texts in memory, which fails the calls that it is told to.
 ghost use Rattle.std.specs.Prelude.{◌≡◌, ◌≤◌, ◌<◌, ◌∷◌, ◌++◌, [], ℕ, None, length, OnOk, OnErr};
 ghost use Rattle.std.specs.Prelude.{◌+◌, ◌^◌, drop};
-ghost use Rattle.shelf_core.specs.Outside.{Rose};
+ghost use Rattle.shelf_core.specs.Outside.{FailsLast};
 ghost use Rattle.shelf_core.specs.Names.{place_under, left_of};
 ghost use Rattle.shelf_core.specs.FaultPlans.{unplanned};
 
@@ -98,9 +98,12 @@ impl MemShelf {
     fn fail(&mut self) -> Failed
         ensures kept { self.new.kept ≡ self.old.kept }
         ensures plan { self.new.plan
-            ≡ record self.old.plan { faults = self.new.plan.faults } }
+            ≡ record self.old.plan {
+              faults = self.new.plan.faults;
+              failed = self.new.plan.failed;
+            } }
         ensures closed { self.new.opened ≡ None }
-        ensures rose { Rose self.old.plan.faults self.new.plan.faults }
+        ensures fails { FailsLast self.old.plan.faults self.new.plan.faults self.new.plan.failed }
         ensures rising { self.old.plan.faults ≤ self.new.plan.faults }
     {
         self.opened = None;
@@ -145,7 +148,7 @@ impl MemShelf {
 }
 
 impl Shelf for MemShelf {
-    ghost use Rattle.std.specs.Prelude.{Some, List, IfOk, IfSome, is_ok, is_some, not, ◌&&◌};
+    ghost use Rattle.std.specs.Prelude.{Some, List, IfOk, IfSome, is_ok, is_some, not, false, ◌&&◌};
     ghost use Rattle.shelf_core.specs.Names.{text_under, left_of, bytes_given};
     ghost use Rattle.std.specs.Option.{option_map};
     ghost use Rattle.shelf_core.specs.FaultPlans.{Counted, is_due};
@@ -159,6 +162,8 @@ impl Shelf for MemShelf {
 
     ghost faults = { λ s. s.plan.faults };
 
+    ghost failed = { λ s. s.plan.failed };
+
     /// It counts the call, and fails where the call is listed or the name isn't there.
     fn open(&mut self, name: &str) -> Result<(), Failed>
         ensures texts { (n : List ℕ) → text_under self.new.kept n ≡ text_under self.old.kept n }
@@ -166,7 +171,9 @@ impl Shelf for MemShelf {
         ensures opened { OnOk result (Some (left_of self.new.kept self.new.opened self.new.at)
             ≡ text_under self.old.kept name.now) }
         ensures calm { OnOk result (self.new.plan.faults ≡ self.old.plan.faults) }
-        ensures failed { OnErr result (Rose self.old.plan.faults self.new.plan.faults) }
+        ensures passed { OnOk result (self.new.plan.failed ≡ false) }
+        ensures fault { OnErr result (FailsLast self.old.plan.faults self.new.plan.faults
+            self.new.plan.failed) }
         ensures ended { OnErr result (IsAtEnd (Some (left_of self.new.kept self.new.opened
             self.new.at))) }
         ensures counted { Counted self.old.plan self.new.plan }
@@ -195,7 +202,9 @@ impl Shelf for MemShelf {
         ensures rest { IfOk result (λ n. Some (left_of self.new.kept self.new.opened self.new.at)
             ≡ option_map (drop n) (Some (left_of self.old.kept self.old.opened self.old.at))) }
         ensures calm { OnOk result (self.new.plan.faults ≡ self.old.plan.faults) }
-        ensures failed { OnErr result (Rose self.old.plan.faults self.new.plan.faults) }
+        ensures passed { OnOk result (self.new.plan.failed ≡ false) }
+        ensures fault { OnErr result (FailsLast self.old.plan.faults self.new.plan.faults
+            self.new.plan.failed) }
         ensures ended { OnErr result (IsAtEnd (Some (left_of self.new.kept self.new.opened
             self.new.at))) }
         ensures counted { Counted self.old.plan self.new.plan }

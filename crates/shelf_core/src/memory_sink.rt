@@ -84,13 +84,15 @@ impl MemSink {
 }
 
 impl Sink for MemSink {
-    ghost use Rattle.std.specs.Prelude.{Some, is_ok, not, ◌&&◌, ◌||◌, ◌==◌, take};
+    ghost use Rattle.std.specs.Prelude.{Some, is_ok, not, false, ◌&&◌, ◌||◌, ◌==◌, take};
     ghost use Rattle.shelf_core.specs.FaultPlans.{Counted, is_due};
-    ghost use Rattle.shelf_core.specs.Outside.{Rose, appended};
+    ghost use Rattle.shelf_core.specs.Outside.{FailsLast, appended};
 
     ghost written = { λ s. Some s.written };
 
     ghost faults = { λ s. s.plan.faults };
+
+    ghost failed = { λ s. s.plan.failed };
 
     /// It counts the call, and fails where the call is listed, or nothing can be taken of a piece
     /// that has bytes. Else it takes as many bytes as it can, but no more than a piece.
@@ -101,7 +103,9 @@ impl Sink for MemSink {
         ensures appends { IfOk result (λ n. Some self.new.written
             ≡ appended (Some self.old.written) (take n from.now)) }
         ensures calm { OnOk result (self.new.plan.faults ≡ self.old.plan.faults) }
-        ensures failed { OnErr result (Rose self.old.plan.faults self.new.plan.faults) }
+        ensures passed { OnOk result (self.new.plan.failed ≡ false) }
+        ensures fault { OnErr result (FailsLast self.old.plan.faults self.new.plan.faults
+            self.new.plan.failed) }
         ensures unwritten { OnErr result (Some self.new.written ≡ Some self.old.written) }
         ensures counted { Counted self.old.plan self.new.plan }
         ensures fails { is_ok result ≡ not (is_due self.old.plan

@@ -1,7 +1,7 @@
 //! A text is read from a shelf to its end.
 ghost use Rattle.std.specs.Prelude.{◌≡◌, ◌+◌, ◌<◌, ◌≤◌, ℕ, List, Err, OnOk, IfOk, IfSome, length};
 ghost use Rattle.cargo_core.specs.declared.memory.Memory.{Memory};
-ghost use Rattle.shelf_core.specs.Outside.{Rose, IsRead, read_most, also_opened};
+ghost use Rattle.shelf_core.specs.Outside.{FailsLast, IsRead, read_most, also_opened};
 ghost use Rattle.shelf_core.specs.Reading.{ReadsOn, Behind};
 
 use crate::{Failed, Shelf};
@@ -53,7 +53,8 @@ fn read_piece<F: Shelf>(shelf: &mut F, text: &mut Bytes, most: usize) -> Result<
     ensures within { IfOk result (λ n. n ≤ most) }
     ensures on { IfOk result (λ n. ReadsOn (F.left shelf.old) text.old n (F.left shelf.new)
         text.new) }
-    ensures failed { result ≡ Err ReadStop.Failed → Rose (F.faults shelf.old) (F.faults shelf.new) }
+    ensures failed { result ≡ Err ReadStop.Failed → FailsLast (F.faults shelf.old)
+        (F.faults shelf.new) (F.failed shelf.new) }
     ensures starved { (memory : Memory) → result ≡ Err (ReadStop.Memory memory)
         → F.faults shelf.new ≡ F.faults shelf.old }
 {
@@ -73,7 +74,8 @@ pub fn read_text<F: Shelf>(alloc: Global, shelf: &mut F, name: &str) -> Result<B
     ensures bytes { IfOk result (IsRead (F.text shelf.old name.now)) }
     ensures within { IfOk result (λ bytes. length bytes ≤ read_most) }
     ensures left { OnOk result (Behind (F.text shelf.old) name.now (F.left shelf.new)) }
-    ensures failed { result ≡ Err ReadStop.Failed → Rose (F.faults shelf.old) (F.faults shelf.new) }
+    ensures failed { result ≡ Err ReadStop.Failed → FailsLast (F.faults shelf.old)
+        (F.faults shelf.new) (F.failed shelf.new) }
     ensures starved { (memory : Memory) → result ≡ Err (ReadStop.Memory memory)
         → F.faults shelf.new ≡ F.faults shelf.old }
 {

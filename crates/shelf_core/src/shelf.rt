@@ -1,8 +1,8 @@
 //! Where texts come from.
 ghost use Rattle.std.specs.Prelude.{◌≡◌, ◌≤◌, ℕ, List, Option, length, drop, OnOk, OnErr, IfOk};
-ghost use Rattle.std.specs.Prelude.{IfSome};
+ghost use Rattle.std.specs.Prelude.{IfSome, Bool, false};
 ghost use Rattle.std.specs.Option.{option_map};
-ghost use Rattle.shelf_core.specs.Outside.{Rose, GivesNext, IsAtEnd, also_opened};
+ghost use Rattle.shelf_core.specs.Outside.{FailsLast, GivesNext, IsAtEnd, also_opened};
 
 /// The outside failed: a file, a stream.
 #[derive(Clone, Copy, Debug, PartialEq, Eq)]
@@ -21,9 +21,11 @@ pub trait Shelf {
     /// that couldn't be opened is among them.
     ghost opens: { Self → Option (List (List ℕ)) };
 
-    /// How often the outside failed. The count never falls, and stands still at the end of its
-    /// type, 2^64 - 1.
+    /// How many calls failed. The count stands still at the end of its type, 2^64 - 1.
     ghost faults: { Self → ℕ };
+
+    /// Whether the last call failed.
+    ghost failed: { Self → Bool };
 
     /// Begins the text of a name. A name that isn't there is a fault. After `Failed` no text is
     /// open.
@@ -33,7 +35,9 @@ pub trait Shelf {
         ensures opens { opens self.new ≡ also_opened (opens self.old) name.now }
         ensures opened { OnOk result (left self.new ≡ text self.old name.now) }
         ensures calm { OnOk result (faults self.new ≡ faults self.old) }
-        ensures failed { OnErr result (Rose (faults self.old) (faults self.new)) }
+        ensures passed { OnOk result (failed self.new ≡ false) }
+        ensures fault { OnErr result (FailsLast (faults self.old) (faults self.new)
+            (failed self.new)) }
         ensures ended { OnErr result (IsAtEnd (left self.new)) };
 
     /// Gives the next bytes of the text that was opened last, and how many they are. After `Failed`
@@ -46,6 +50,8 @@ pub trait Shelf {
         ensures bytes { IfOk result (λ n. IfSome (left self.old) (λ l. GivesNext l n into.new)) }
         ensures rest { IfOk result (λ n. left self.new ≡ option_map (drop n) (left self.old)) }
         ensures calm { OnOk result (faults self.new ≡ faults self.old) }
-        ensures failed { OnErr result (Rose (faults self.old) (faults self.new)) }
+        ensures passed { OnOk result (failed self.new ≡ false) }
+        ensures fault { OnErr result (FailsLast (faults self.old) (faults self.new)
+            (failed self.new)) }
         ensures ended { OnErr result (IsAtEnd (left self.new)) };
 }

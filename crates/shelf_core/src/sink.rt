@@ -1,6 +1,7 @@
 //! Where the answer goes.
 ghost use Rattle.std.specs.Prelude.{◌≡◌, ◌≤◌, ℕ, List, [], Option, length, take, OnOk, OnErr, IfOk};
-ghost use Rattle.shelf_core.specs.Outside.{Rose, appended};
+ghost use Rattle.std.specs.Prelude.{Bool, false};
+ghost use Rattle.shelf_core.specs.Outside.{FailsLast, appended};
 
 use crate::Failed;
 
@@ -9,9 +10,11 @@ pub trait Sink {
     /// The bytes that were written, where the sink tells them.
     ghost written: { Self → Option (List ℕ) };
 
-    /// How often the outside failed. The count never falls, and stands still at the end of its
-    /// type, 2^64 - 1.
+    /// How many calls failed. The count stands still at the end of its type, 2^64 - 1.
     ghost faults: { Self → ℕ };
+
+    /// Whether the last call failed.
+    ghost failed: { Self → Bool };
 
     /// Writes the first bytes of a piece, and answers how many: at least one where the piece has
     /// any. After `Failed` nothing of the piece was written.
@@ -22,6 +25,8 @@ pub trait Sink {
         ensures appends { IfOk result (λ n. written self.new
             ≡ appended (written self.old) (take n from.now)) }
         ensures calm { OnOk result (faults self.new ≡ faults self.old) }
-        ensures failed { OnErr result (Rose (faults self.old) (faults self.new)) }
+        ensures passed { OnOk result (failed self.new ≡ false) }
+        ensures fault { OnErr result (FailsLast (faults self.old) (faults self.new)
+            (failed self.new)) }
         ensures unwritten { OnErr result (written self.new ≡ written self.old) };
 }

@@ -1,7 +1,7 @@
 //! A text is written to a sink to its end.
 ghost use Rattle.std.specs.Prelude.{◌≡◌, ◌≤◌, ℕ, List, OnOk, OnErr};
 ghost use Rattle.cargo_core.specs.Lists.{IsPrefix};
-ghost use Rattle.shelf_core.specs.Outside.{Rose, appended};
+ghost use Rattle.shelf_core.specs.Outside.{FailsLast, appended};
 
 use crate::{Failed, Sink};
 
@@ -10,7 +10,8 @@ use crate::{Failed, Sink};
 pub fn write_text<K: Sink>(sink: &mut K, text: &[u8]) -> Result<(), Failed>
     ensures ok { OnOk result (K.written sink.new ≡ appended (K.written sink.old) text.now) }
     ensures calm { OnOk result (K.faults sink.new ≡ K.faults sink.old) }
-    ensures failed { OnErr result (Rose (K.faults sink.old) (K.faults sink.new)) }
+    ensures failed { OnErr result (FailsLast (K.faults sink.old) (K.faults sink.new)
+        (K.failed sink.new)) }
     ensures begun { OnErr result ((begun : List ℕ) × IsPrefix begun text.now
         × (K.written sink.new ≡ appended (K.written sink.old) begun)) }
 {

@@ -21,7 +21,7 @@ use Rattle.std.proofs.lemmas.List.{length-map}
 use Rattle.system_core.proofs.Stepping.{runs_below}
 use Rattle.actor_set.proofs.LawsLemmas.Rows.{heard_here}
 use Rattle.system_core.proofs.RunsNow.{items_here}
-use Rattle.system_core.proofs.Recording.{records_at, wire_at, replies_at}
+use Rattle.system_core.proofs.Recording.{records_at, wire_here, replies_at}
 use Rattle.system_core.proofs.Lining.{kinds_hold, pool_lines, pool_lines_anew, without_pools, nothing_bad}
 
 module _ (history : History) (rows : List QueueRow) (w : List Queue) (actors : List Actor) (journal : List Entry) (h : Holds history rows w actors journal) where
@@ -44,7 +44,7 @@ module _ (a : Inside) (i : IsSystem a) where
     net = length-map a.net.clients (frames_from a.actors.items);
     frames = λ net whole. record {
       records = records_at (setting_of a).history a.rows.items a.world a.actors.items a.journal.items i.holds net whole a.net.clients;
-      wire = wire_at (setting_of a).history a.rows.items a.world a.actors.items a.journal.items i.holds net whole a.net.device;
+      wire = wire_here (setting_of a).history a.rows.items a.world a.actors.items a.journal.items i.holds net whole a.net.device;
     };
     blk = length-map a.blk.clients (replies_from a.actors.items);
     replies = λ blk whole. replies_at (setting_of a).history a.rows.items a.world a.actors.items a.journal.items i.holds blk whole a.blk.clients;

@@ -10,9 +10,11 @@ use Rattle.trace_text.specs.declared.trace.Trace.{Trace}
 use Rattle.trace_text.specs.Events.{net_clients}
 use Rattle.region_layout.specs.Rows.{eth_number}
 use Rattle.net_expect.specs.Expecting.{frames_for}
+use Rattle.net_law.specs.Owners.Names.{ClientPools}
 use Rattle.net_law.specs.Parts.Numbers.{client_first, device_at}
+use Rattle.net_law.proofs.WireLemmas.Telling.{told_long}
 use Rattle.net_law.specs.TxParts.Numbers.{NetPlace, own_pools}
-use Rattle.net_quiet.specs.TxCast.Casting.{sends_at}
+use Rattle.net_quiet.specs.TxCast.Casting.{sends_at, wire_at}
 use Rattle.layout_laws.specs.Jobs.Jobs as jobs
 use Rattle.play_core.specs.Sheets.{Scene}
 use Rattle.play_core.specs.Totals.{total}
@@ -72,17 +74,22 @@ module _ (plan : Plan) (net : Net) (trace : Trace) (s : Shown) (cast : IsCastOf 
       let is = tells.records c (number_named plan client.0.pd) c (client_program plan trace c) (client_mac plan c) (own_pools (client_pools plan c)) got number part some (value_at (length (net_clients plan)) (client_mac plan) c below) at in
       (subst (λ m. IsPrefix got (frames_for m trace.frames)) (sym a.1) (subst (λ fs. IsPrefix got (frames_for (client_mac plan c) fs)) frames is.0), is.1)
 
-  wire_is : (sent : List (List ℕ)) × (s.state.wire ≡ Some sent) × PrefixMerge (sends_at place.programs place.macs trace.frames) sent × (length sent ≡ length ((moved_in s.setting s.journal).taken 2))
+  -- the frames that the journal tells of the wire
+  abbrev sent : List (List ℕ)
+  sent = wire_at place trace.frames ((moved_in s.setting s.journal).taken 2)
+
+  wire_is : (s.state.wire ≡ Some sent) × PrefixMerge (sends_at place.programs place.macs trace.frames) sent
   wire_is =
       let part = cast.parts jobs.EthDevice (eth_number plan).0 named.device in
       let w = tells.wire (eth_number plan).0 (ap (λ (c : Crew). c.device) who) (part ∙ ap (λ fs. Some (NetworkPart (device_at 0 fs))) (sym frames)) in
-      (w.0, w.1, subst (λ fs. PrefixMerge (sends_at place.programs place.macs fs) w.0) frames w.2, w.3)
+      (w.0 ∙ ap (λ fs. Some (wire_at place fs ((moved_in s.setting s.journal).taken 2))) frames, subst (λ fs. PrefixMerge (sends_at place.programs place.macs fs) (wire_at place fs ((moved_in s.setting s.journal).taken 2))) frames w.1)
 
-  pub shows_frames : ShowsFrames place trace.frames s.state
+  pub shows_frames : ShowsFrames place trace.frames (moved_in s.setting s.journal) s.state
   shows_frames = record {
     count_is = told.net ∙ (ap (λ (c : Crew). length c.clients) who ∙ (length-map net.client (λ (k : Client). number_named plan k.pd) ∙ (sym many ∙ sym (value_count (length (net_clients plan)) (client_mac plan)))));
     records = λ c mac got address at. (record_is c mac got address at).0;
-    wire = (wire_is.0, wire_is.1, wire_is.2);
+    wire = wire_is.0;
+    merges = wire_is.1;
   }
 
   -- where all frames went through, all are seen
@@ -99,11 +106,11 @@ module _ (plan : Plan) (net : Net) (trace : Trace) (s : Shown) (cast : IsCastOf 
     shows_all_frames = record {
       records = record_whole;
       wire = (
+        sent,
         wire_is.0,
-        wire_is.1,
         (let all = sends.wire in
             let same = ap (λ fs. total (sends_at place.programs place.macs fs)) frames in
-            let long = wire_is.3 in
-            prefix_merge_whole (sends_at place.programs place.macs trace.frames) wire_is.0 wire_is.2 (omega (arith, long, all, same))),
+            let long : length sent ≡ length ((moved_in s.setting s.journal).taken 2) = told_long (map (λ (q : ClientPools). q.tx) place.pools) (sends_at place.programs place.macs trace.frames) [] ((moved_in s.setting s.journal).taken 2) in
+            prefix_merge_whole (sends_at place.programs place.macs trace.frames) sent wire_is.1 (omega (arith, long, all, same))),
       );
     }

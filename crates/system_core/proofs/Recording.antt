@@ -17,7 +17,7 @@ use Rattle.buffer_kit.specs.Entries.{frame_of}
 use Rattle.net_law.specs.Owners.Names.{PoolAt, ClientPools}
 use Rattle.net_law.specs.Parts.Numbers.{client_first, device_at, client_at}
 use Rattle.net_law.specs.TxParts.Numbers.{NetPlace}
-use Rattle.net_quiet.specs.TxCast.Casting.{sends_at}
+use Rattle.net_quiet.specs.TxCast.Casting.{sends_at, wire_at}
 use Rattle.actor_set.specs.Parts.{NetworkPart, BlockPart}
 use Rattle.actor_set.specs.Actors.{part_of}
 use Rattle.actor_set.specs.declared.actor.Actor.{Actor}
@@ -26,7 +26,7 @@ use Rattle.actor_set.specs.Laws.Records.{frames_got, frames_by, replies_got, rep
 use Rattle.actor_set.proofs.LawsLemmas.Rows.{frames_here, replies_here}
 use Rattle.client_programs.proofs.BlkLemmas.Asks.{replies_long}
 use Rattle.wired_law.specs.Wiring.{HasWhole, HasBlk, AreAtWork}
-use Rattle.wired_law.proofs.Wiring.{recorded, sent_on}
+use Rattle.wired_law.proofs.Wiring.{recorded, sent_on, sent_told}
 use Rattle.wired_law.proofs.BlkReplies.Casts.{replied}
 use Rattle.play_core.specs.Moved.{taken}
 use Rattle.play_core.proofs.Lists.{some_is, map_from}
@@ -59,14 +59,13 @@ module _ (history : History) (rows : List QueueRow) (w : List Queue) (actors : L
       subst (λ g. IsPrefix g (frames_for mac (scene_of (map part_of actors)).frames) × (length g ≡ length (taken history (client_first net.first j + 2) journal))) is (begun, long)
 
   -- what the device sent
-  pub wire_at : (net : NetPlace) → HasWhole rows net (map part_of actors) → (device : Option ℕ) (k : ℕ) → device ≡ Some k → slice_get (map part_of actors) k ≡ Some (NetworkPart (device_at net.first (scene_of (map part_of actors)).frames))
-      → (sent : List (List ℕ)) × (option_map (frames_from actors) device ≡ Some sent) × PrefixMerge (sends_at net.programs net.macs (scene_of (map part_of actors)).frames) sent × (length sent ≡ length (taken history (net.first + 2) journal))
-  wire_at net whole device k is part =
-      let x = map_from part_of actors k (NetworkPart (device_at net.first (scene_of (map part_of actors)).frames)) part in (
-        frames_got x.0,
-        ap (option_map (frames_from actors)) is ∙ ap Some (ap (λ o. option_map_or frames_got o []) x.1),
-        sent_on (end_at w) rows actors h.passed net whole at_work h.sends k x.0 x.1 x.2,
-        shown_long x.0 (net.first + 2) (frames_here h.passed x.0 (h.stands k x.0 x.1) ∙ ap (frames_by h.passed) x.2),
+  pub wire_here : (net : NetPlace) → HasWhole rows net (map part_of actors) → (device : Option ℕ) (k : ℕ) → device ≡ Some k → slice_get (map part_of actors) k ≡ Some (NetworkPart (device_at net.first (scene_of (map part_of actors)).frames))
+      → (option_map (frames_from actors) device ≡ Some (wire_at net (scene_of (map part_of actors)).frames (taken history (net.first + 2) journal))) × PrefixMerge (sends_at net.programs net.macs (scene_of (map part_of actors)).frames) (wire_at net (scene_of (map part_of actors)).frames (taken history (net.first + 2) journal))
+  wire_here net whole device k is part =
+      let x = map_from part_of actors k (NetworkPart (device_at net.first (scene_of (map part_of actors)).frames)) part in
+      let told : frames_got x.0 ≡ wire_at net (scene_of (map part_of actors)).frames (taken history (net.first + 2) journal) = sent_told (end_at w) rows actors h.passed net whole at_work h.sends k x.0 x.1 x.2 ∙ ap (wire_at net (scene_of (map part_of actors)).frames) (h.shows_taken (net.first + 2)) in (
+        ap (option_map (frames_from actors)) is ∙ ap Some (ap (λ o. option_map_or frames_got o []) x.1 ∙ told),
+        subst (PrefixMerge (sends_at net.programs net.macs (scene_of (map part_of actors)).frames)) told (sent_on (end_at w) rows actors h.passed net whole at_work h.sends k x.0 x.1 x.2),
       )
 
   -- a reply was recorded for each response that was taken

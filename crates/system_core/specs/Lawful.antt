@@ -18,7 +18,7 @@ use Rattle.net_expect.specs.Expecting.{Program, frames_for}
 use Rattle.net_law.specs.Owners.Names.{PoolAt, ClientPools}
 use Rattle.net_law.specs.Parts.Numbers.{client_first, device_at, client_at}
 use Rattle.net_law.specs.TxParts.Numbers.{NetPlace}
-use Rattle.net_quiet.specs.TxCast.Casting.{sends_at}
+use Rattle.net_quiet.specs.TxCast.Casting.{sends_at, wire_at}
 use Rattle.play_core.specs.Moved.{Seat}
 use Rattle.play_core.specs.Sheets.{AreSeated, IsSeat}
 use Rattle.play_core.specs.Still.{IsPeopled}
@@ -75,9 +75,14 @@ abbrev pub record_at : Shown → ℕ → List ℕ
 record_at s k = option_map_or (record_by (moved_in s.setting s.journal))
     (slice_get s.setting.cast k) []
 
+-- the frames on the wire as the journal tells them: those of the items that the device took
+abbrev pub wire_of : Shown → NetPlace → List (List ℕ)
+wire_of s net = wire_at net (scene_of s.setting.cast).frames
+    ((moved_in s.setting s.journal).taken (net.first + 2))
+
 -- at a place of the network the record of a client that has buffers is a beginning of the frames
--- for its address, a frame for each entry that it took; and what was sent on the device's wire is a
--- merge of beginnings of what the clients send, likewise a frame for each entry that it took
+-- for its address, a frame for each entry that it took; and what was sent on the device's wire is
+-- what the journal tells, a merge of beginnings of what the clients send
 pub record TellsFrames (s : Shown) (net : NetPlace) : Type 0 where
   pub records : (c k j : ℕ) (program : Program) (mac : Mac) (pools : ClientPools)
       (got : List (List ℕ)) → slice_get s.setting.net.clients c ≡ Some k
@@ -90,9 +95,9 @@ pub record TellsFrames (s : Shown) (net : NetPlace) : Type 0 where
   pub wire : (k : ℕ) → s.setting.net.device ≡ Some k
       → slice_get s.setting.cast k
       ≡ Some (NetworkPart (device_at net.first (scene_of s.setting.cast).frames))
-      → (sent : List (List ℕ)) × (s.state.wire ≡ Some sent)
-      × PrefixMerge (sends_at net.programs net.macs (scene_of s.setting.cast).frames) sent
-      × (length sent ≡ length ((moved_in s.setting s.journal).taken (net.first + 2)))
+      → (s.state.wire ≡ Some (wire_of s net))
+      × PrefixMerge (sends_at net.programs net.macs (scene_of s.setting.cast).frames)
+      (wire_of s net)
 
 -- at a place of the block class a client's record is a beginning of what it must get, a reply for
 -- each response that it took, where these are no more than its requests

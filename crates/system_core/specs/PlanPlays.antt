@@ -1,6 +1,6 @@
 -- What a system of a plan and a trace shows, however it was played, and what one play of it shows:
 -- all that a caller learns of it.
-use Rattle.std.specs.Prelude.{◌≡◌, ◌<◌, ◌≤◌, ℕ, Some, List, [], length, slice_get}
+use Rattle.std.specs.Prelude.{◌≡◌, ◌+◌, ◌<◌, ◌≤◌, ℕ, Some, List, [], length, slice_get}
 use Rattle.cargo_core.specs.Lists.{IsPrefix, Merge, PrefixMerge}
 use Rattle.wire_core.specs.Picks.{PickedFrom}
 use Rattle.wire_core.specs.Journal.{EachMoment}
@@ -8,9 +8,10 @@ use Rattle.serial_switch.specs.Switching.{input_of}
 use Rattle.frame_core.specs.declared.mac.Mac.{Mac}
 use Rattle.net_expect.specs.Expecting.{frames_for}
 use Rattle.net_law.specs.TxParts.Numbers.{NetPlace}
-use Rattle.net_quiet.specs.TxCast.Casting.{sends_at}
+use Rattle.net_quiet.specs.TxCast.Casting.{sends_at, wire_at}
 use Rattle.cast_core.specs.Casts.{net_place, blk_place}
 use Rattle.cast_core.specs.Sources.{first_serial}
+use Rattle.play_core.specs.Moved.{Moved}
 use Rattle.serial_law.specs.Serial.{ArrivesInPart}
 use Rattle.sdf_plan.specs.declared.plan.Plan.{Plan}
 use Rattle.sdf_plan.specs.declared.plan.Net.{Net}
@@ -49,13 +50,15 @@ pub record ShowsWhole (count : ℕ) (trace : Trace) (s : State) : Type 0 where
   pub line : (said : List ℕ) × (s.line ≡ Some said) × Merge trace.says said
 
 -- each network client recorded a beginning of the frames for its address, and what was sent on the
--- wire is a merge of beginnings of what the clients send
-pub record ShowsFrames (net : NetPlace) (frames : List (List ℕ)) (s : State) : Type 0 where
+-- wire is what the items tell that the device took, a merge of beginnings of what the clients send
+pub record ShowsFrames (net : NetPlace) (frames : List (List ℕ)) (m : Moved) (s : State) :
+    Type 0 where
   pub count_is : length s.net ≡ length net.macs
   pub records : (c : ℕ) (mac : Mac) (got : List (List ℕ)) → slice_get net.macs c ≡ Some mac
       → slice_get s.net c ≡ Some got → IsPrefix got (frames_for mac frames)
-  pub wire : (sent : List (List ℕ)) × (s.wire ≡ Some sent) × PrefixMerge
-      (sends_at net.programs net.macs frames) sent
+  pub wire : s.wire ≡ Some (wire_at net frames (m.taken (net.first + 2)))
+  pub merges : PrefixMerge (sends_at net.programs net.macs frames)
+      (wire_at net frames (m.taken (net.first + 2)))
 
 -- each network client recorded all frames for its address, and what was sent on the wire is a merge
 -- of all that the clients send
@@ -93,7 +96,7 @@ pub record IsSystemOf (plan : Plan) (trace : Trace) (s : Shown) : Type 0 where
   pub shows : (serial : Serial) → plan.serial ≡ Some serial
       → ShowsInPart (length serial.client) trace s.state
   pub shows_net : (net : Net) → plan.net ≡ Some net
-      → ShowsFrames (net_place plan trace) trace.frames s.state
+      → ShowsFrames (net_place plan trace) trace.frames (moved_in s.setting s.journal) s.state
   pub shows_blk : (blk : Blk) → plan.blk ≡ Some blk → ShowsReplies (blk_place plan trace) s.state
   -- where nobody is runnable, all bytes of the serial class arrived
   pub whole : runnable_now s ≡ [] → (serial : Serial) → plan.serial ≡ Some serial

@@ -1,5 +1,5 @@
 -- The full example is a valid plan.
-use Rattle.std.proofs.Common.{◌≡◌, refl, sym, ap, ℕ, suc, ◌+◌, ◌<◌, ◌≤◌, inl, inr, subst, arith}
+use Rattle.std.proofs.Common.{refl, ℕ, ◌+◌, ◌≤◌, inl, inr, subst, arith}
 use Rattle.std.proofs.lemmas.Bool.{cases_lt}
 use Rattle.frame_core.specs.Macs.{is_mac_text, mac_bytes, mac_of}
 use Rattle.sdf_plan.specs.Places.{walk, IsKept}

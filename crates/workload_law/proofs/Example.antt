@@ -1,11 +1,11 @@
 -- The document that the full example is.
-use Rattle.std.proofs.Common.{◌≡◌, ◌≤◌, refl, sym, ap, inl, inr, arith, drop, ◌∙◌, ℕ, zero, suc, ◌==◌, false, List, [], ◌∷◌, ◌++◌, true, Option, Some, option_map, length, codes, pos}
+use Rattle.std.proofs.Common.{◌≡◌, ◌≤◌, refl, ap, inl, inr, arith, drop, ◌∙◌, ℕ, suc, ◌==◌, false, List, [], ◌∷◌, ◌++◌, true, Option, Some, option_map, length, codes, pos}
 use Rattle.std.specs.Prelude.{⊤}
 use Rattle.std.proofs.lemmas.Bool.{cases_Bool, eqb-true}
 use Rattle.toml_parser.specs.Strings.{Key}
 use Rattle.toml_parser.specs.Lexical.{skip_blank, skip_from, skip_ws}
 use Rattle.toml.specs.Data.{Data, Items, no_items, item, push_item, Members, no_members, member, array, table, string, integer}
-use Rattle.toml.specs.Tables.{Nodes, no_nodes, node, value, open_table, header, Document, Expression, key_value, define, close}
+use Rattle.toml.specs.Tables.{Nodes, no_nodes, node, value, Document, Expression, key_value, define, close}
 use Rattle.toml.specs.Parse.{read_map, ends_line, val, items, expression, line, lines, skip_bom, parse_document}
 use Rattle.toml.proofs.OnLiterals.{toml_on_literals}
 use Rattle.sdf_model.specs.Counts.{text_most}

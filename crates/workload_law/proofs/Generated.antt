@@ -1,5 +1,5 @@
 -- No line of a generated trace is bad.
-use Rattle.std.proofs.Common.{◌≡◌, refl, ap, sym, ◌∙◌, ℕ, zero, suc, ◌+◌, ◌*◌, ◌/◌, ◌%◌, ◌^◌, ◌<◌, ◌≤◌, ◌⊎◌, inl, inr, Bool, true, false, ◌&&◌, cond, eqb, leb, List, [], ◌∷◌, ◌++◌, length, map, drop, replicate, subst, Option, Some, None, is_some, codes, arith, append_assoc, append-nil, length-append}
+use Rattle.std.proofs.Common.{◌≡◌, refl, ap, sym, ◌∙◌, ℕ, zero, suc, ◌+◌, ◌*◌, ◌%◌, ◌<◌, ◌≤◌, ◌⊎◌, inl, inr, true, false, eqb, List, [], ◌∷◌, ◌++◌, length, drop, replicate, subst, Some, is_some, codes, arith, append_assoc, append-nil, length-append}
 use Rattle.std.specs.Fmt.{decimal, digits}
 use Rattle.std.proofs.lemmas.Bool.{le-leb, cases_lt}
 use Rattle.std.proofs.lemmas.List.{length-replicate}
@@ -10,14 +10,14 @@ use Rattle.sdf_model.specs.Counts.{text_most}
 use Rattle.frame_core.specs.Frames.{is_frame_of, broadcast}
 use Rattle.sdf_plan.specs.declared.plan.Plan.{Plan}
 use Rattle.trace_text.specs.Texts.{words_of, number_of, piece_of, data_of}
-use Rattle.trace_text.specs.Events.{Event, meaning, is_source, is_speaker, is_blk_client, is_reach, bare_ask, words_say, is_skipped, kept_if, rx_line as rx_meaning, in_line as in_meaning, send_line as send_meaning, say_line as say_meaning, disk_line, bytes_line, blk_read_line, blk_write_line}
+use Rattle.trace_text.specs.Events.{Event, meaning, is_source, is_speaker, is_blk_client, is_reach, bare_ask, words_say, is_skipped, rx_line as rx_meaning, in_line as in_meaning, send_line as send_meaning, say_line as say_meaning, disk_line, bytes_line, blk_read_line, blk_write_line}
 use Rattle.trace_text.specs.Traces.{HasNoBadLine, trace_from}
 use Rattle.trace_text.specs.Reading.{reader_after}
 use Rattle.trace_text.proofs.Judged.{and_right}
 use Rattle.trace_text.proofs.SoFar.{so_far_none, so_far_good}
 use Rattle.wire_core.specs.Picks.{next_seed}
 use Rattle.trace_text.proofs.Forms.{write_ask, not_equal}
-use Rattle.trace_text.proofs.Words.{meaning_words, two_rx, two_in, two_disk, three_send, three_say, three_bytes, five_read, six_write}
+use Rattle.trace_text.proofs.Words.{meaning_words, two_rx, two_in, three_send, three_say, six_write}
 use Rattle.workload.specs.Draws.{moved, drawn, drawn_behind}
 use Rattle.workload.specs.Lines.{station, frame, destination, rx_line, send_line, letters, in_line, say_line, disk_lines, write_line, read_line, blk_lines}
 use Rattle.workload.specs.Generated.{numbered, generated_text}
@@ -238,7 +238,7 @@ unfolding in_line
 in_next plan text serial draws more rest f b a d l first second low at =
     let bytes = letters draws ++ 28 ∷ 49 ∷ 13 ∷ letters more in
     let is : IsBytes bytes = bytes_both (letters draws) (28 ∷ 49 ∷ 13 ∷ letters more) (letters_bytes draws)
-        (bytes_cons 28 (49 ∷ 13 ∷ letters more) (omega arith) (bytes_cons 49 (13 ∷ letters more) (omega arith) (bytes_cons 13 (letters more) (omega arith) (letters_bytes more)))) in
+    (bytes_cons 28 (49 ∷ 13 ∷ letters more) (omega arith) (bytes_cons 49 (13 ∷ letters more) (omega arith) (bytes_cons 13 (letters more) (omega arith) (letters_bytes more)))) in
     let long : length bytes ≡ 2051 = omega (arith, length-append (letters draws) (28 ∷ 49 ∷ 13 ∷ letters more), letters_long draws, letters_long more, first, second) in
     let whole = ap (λ rest'. codes "in " ++ rest') (append_assoc (encode_lower bytes) (codes "\n") rest) in
     weaken plan text rest f (b + length bytes) a f (b + 2051) a d l (omega arith) (omega (arith, long)) (omega arith)
@@ -458,8 +458,20 @@ generated_short n =
     let said = drawn_behind 2336 n 512 in
     let asks = drawn_behind 2848 n 32 in
     let last = numbered blk_lines 0 asks in
-    omega (arith, numbered_long rx_line rx_long 0 frames, numbered_long send_line send_long 0 sends, numbered_long blk_lines asks_long 0 asks, drawn_long (moved n 0) 256, drawn_long (moved n 256) 32, drawn_long (moved n 2848) 32,
-    in_long input more (drawn_long (moved n 288) 1024) (drawn_long (moved n 1312) 1024), say_long said (drawn_long (moved n 2336) 512), disk_long,
-    length-append (numbered rx_line 0 frames) (numbered send_line 0 sends ++ (in_line input more ++ (say_line said ++ (disk_lines ++ last)))),
-    length-append (numbered send_line 0 sends) (in_line input more ++ (say_line said ++ (disk_lines ++ last))),
-    length-append (in_line input more) (say_line said ++ (disk_lines ++ last)), length-append (say_line said) (disk_lines ++ last), length-append disk_lines last)
+    omega (
+      arith,
+      numbered_long rx_line rx_long 0 frames,
+      numbered_long send_line send_long 0 sends,
+      numbered_long blk_lines asks_long 0 asks,
+      drawn_long (moved n 0) 256,
+      drawn_long (moved n 256) 32,
+      drawn_long (moved n 2848) 32,
+      in_long input more (drawn_long (moved n 288) 1024) (drawn_long (moved n 1312) 1024),
+      say_long said (drawn_long (moved n 2336) 512),
+      disk_long,
+      length-append (numbered rx_line 0 frames) (numbered send_line 0 sends ++ (in_line input more ++ (say_line said ++ (disk_lines ++ last)))),
+      length-append (numbered send_line 0 sends) (in_line input more ++ (say_line said ++ (disk_lines ++ last))),
+      length-append (in_line input more) (say_line said ++ (disk_lines ++ last)),
+      length-append (say_line said) (disk_lines ++ last),
+      length-append disk_lines last,
+    )

@@ -1,16 +1,15 @@
 -- The full example keeps the rules on texts.
-use Rattle.std.proofs.Common.{◌≡◌, refl, ap, sym, ◌∙◌, ℕ, zero, suc, ◌+◌, ◌<◌, ◌≤◌, inl, inr, Bool, true, false, not, ◌&&◌, ltb, List, [], ◌∷◌, Option, Some, None, slice_get, subst, arith}
+use Rattle.std.proofs.Common.{◌≡◌, refl, ap, sym, ◌∙◌, ℕ, zero, suc, ◌≤◌, inl, inr, Bool, true, false, not, ltb, List, [], ◌∷◌, Option, Some, None, slice_get, subst, arith}
 use Rattle.std.specs.List.{list_all}
-use Rattle.std.specs.Str.{IsUtf8, IsAscii}
+use Rattle.std.specs.Str.{IsAscii}
 use Rattle.std.proofs.lemmas.Bool.{and_parts, ltb-true}
 use Rattle.std.proofs.lemmas.Option.{same_Some}
 use Rattle.std.proofs.lemmas.Str.{IsUtf8-from_ascii}
 use Rattle.toml.specs.Data.{Members}
-use Rattle.toml.specs.Parse.{parse_document}
 use Rattle.sdf_plan.specs.declared.place.Place.{Place}
 use Rattle.sdf_plan.specs.Places.{walk, KeepsRules}
 use Rattle.sdf_model.specs.Keys.{breaks_with}
-use Rattle.sdf_model.specs.Tree.{IsDocument, IsNoDocument, BreaksText, places_in, places_of, outline_of, element_at, breaks}
+use Rattle.sdf_model.specs.Tree.{IsDocument, BreaksText, places_in, places_of, outline_of, element_at, breaks}
 use Rattle.workload.specs.declared.description.TheConstants.{FULL_EXAMPLE}
 use Rattle.workload_law.proofs.Example.{root, whole_example, full_document}
 

@@ -1,5 +1,5 @@
 -- Refutations and proofs that are found by computing: none where the search fails.
-use Rattle.std.proofs.Common.{◌≡◌, refl, ap, sym, ◌∙◌, ℕ, zero, suc, ◌+◌, ◌*◌, ◌^◌, ◌<◌, ◌≤◌, ◌⊎◌, inl, inr, Bool, true, false, leb, ltb, eqb, List, [], ◌∷◌, ◌++◌, take, Option, Some, None, is_some, arith}
+use Rattle.std.proofs.Common.{◌≡◌, refl, sym, ◌∙◌, ℕ, zero, suc, ◌^◌, ◌<◌, ◌≤◌, ◌⊎◌, inl, inr, Bool, true, false, leb, ltb, eqb, List, [], ◌∷◌, Option, Some, None, is_some, arith}
 use Rattle.std.specs.Prelude.{slice_get, IsSomeAnd, IsNone, MatchBool, ⊤, bytes_eq}
 use Rattle.std.proofs.lemmas.Bool.{ltb-true, ltb-false, leb-true, leb-false, eqb-true, eqb-false}
 use Rattle.std.proofs.lemmas.Option.{same_Some}
@@ -37,7 +37,7 @@ found_both f (Some a) None = None
 -- ---- connectives
 
 abbrev pub no_sum : {P Q : Type 0} → No P → No Q → No (P ⊎ Q)
-no_sum (Some p) (Some q) = Some (λ h. elim h [ | inl a ↦ p a | inr b ↦ q b ])
+no_sum (Some p) (Some q) = Some (λ h. elim h [ inl a ↦ p a | inr b ↦ q b ])
 no_sum None q = None
 no_sum (Some p) None = None
 

@@ -1,13 +1,11 @@
 -- Each rule on plans, refuted at a place or of a class's element by computing.
-use Rattle.std.proofs.Common.{◌≡◌, refl, ap, sym, ◌∙◌, ℕ, zero, suc, ◌+◌, ◌-◌, ◌*◌, ◌/◌, ◌%◌, ◌^◌, ◌<◌, ◌≤◌, ◌⊎◌, inl, inr, Bool, true, false, leb, ltb, eqb, List, [], ◌∷◌, ◌++◌, length, map, take, Option, Some, None, subst, codes, arith}
-use Rattle.std.specs.Prelude.{slice_get, IsSomeAnd, IsNone, MatchBool, ⊤, nat_lt, ◌==◌, ◌≢◌, count_by}
+use Rattle.std.proofs.Common.{◌≡◌, refl, ap, sym, ◌∙◌, ℕ, zero, suc, ◌+◌, ◌*◌, ◌/◌, ◌^◌, ◌<◌, ◌≤◌, ◌⊎◌, inl, inr, Bool, true, leb, eqb, List, [], ◌∷◌, ◌++◌, length, map, take, Option, Some, None, subst, codes, arith}
+use Rattle.std.specs.Prelude.{slice_get, IsSomeAnd, nat_lt, ◌==◌}
 use Rattle.std.proofs.lemmas.Bool.{leb-true, eqb-true}
 use Rattle.std.proofs.lemmas.Option.{same_Some}
 use Rattle.std.specs.List.{flat_map}
-use Rattle.std.specs.Option.{option_map}
 use Rattle.frame_core.specs.declared.mac.Mac.{Mac}
 use Rattle.frame_core.specs.Macs.{mac_of}
-use Rattle.cargo_core.specs.Capacities.{IsCapacity}
 use Rattle.sdf_plan.specs.declared.place.Place.{Place}
 use Rattle.sdf_plan.specs.declared.place.Place.TheVariants as At
 use Rattle.sdf_plan.specs.declared.plan.Plan.{Plan}
@@ -20,7 +18,7 @@ use Rattle.sdf_plan.specs.declared.plan.End.{End}
 use Rattle.sdf_plan.specs.declared.plan.NetClient.{NetClient}
 use Rattle.sdf_plan.specs.declared.plan.BlkClient.{BlkClient}
 use Rattle.sdf_plan.specs.Places.{IsKept}
-use Rattle.sdf_plan.specs.Elements.{OfDomain, OfMap, OfEnd}
+use Rattle.sdf_plan.specs.Elements.{OfMap, OfEnd}
 use Rattle.class_table.specs.declared.role.Role.{Role}
 use Rattle.class_table.specs.declared.role.Role.TheVariants as For
 use Rattle.class_table.specs.declared.uses.Link.{Link}
@@ -36,11 +34,11 @@ use Rattle.class_table.specs.Order.{elements_before}
 use Rattle.class_table.specs.Roles.{IsProgramOf}
 use Rattle.class_table.specs.Sizes.{queue_end, pool_bytes}
 use Rattle.class_table.specs.Table.{Element, OfElement, net_element, net_client_element, serial_element, serial_client_element, blk_element, blk_client_element}
-use Rattle.sdf_check.specs.Names.{StandsBefore, region_names, domain_names, region_named, domain_named}
+use Rattle.sdf_check.specs.Names.{region_names, domain_names, region_named, domain_named}
 use Rattle.sdf_check.specs.Rules.{TakesName, IsPastLastDomain, HasPriorityTooHigh, HasPeriodTooShort, IsPageSize, IsMultiple, HasBadSize, HasBadPageSize, HasBadPhysAddr, Range, Meets, MeetsEarlier, given_range, MeetsGivenRange, NamesNoRegion, the_region, HasBadVaddr, map_range, MeetsMap, count_of, ArePermissions, HasBadPerms, NamesNoDomain, HasIdTooHigh, InterruptHas, IsEarlierEnd, EarlierEndHas, TakesId, JoinsOneDomain}
-use Rattle.sdf_check.specs.ClassRules.{SomeOf, OfLink, UsesNoRegion, UsesNoDomain, RepeatsName, the_domain, Plays, GivesWrongRole, NamesDomainAgain, class_domains, LacksRole, Joins, AreJoined, HasInterrupt, LacksChannel, AllowUse, Grants, IsGranted, QueueLacksRight, PoolLacksRight, LacksRight, IsStranger, HasStranger, allowed, IsSharedWithStranger, NamesRegionAgain, HasBadCapacity, HasLowCapacity, IsSmaller, LacksRoom, HasBadMac, HasBadPartition, IsClientCount, IsBufferCount, IsPastLimit}
-use Rattle.sdf_check.specs.Valid.{BreaksPlanRule, BreaksClassRule, BreaksAtPlace, BreaksByRows, broken}
-use Rattle.workload_law.proofs.Refuting.{found, found_both, yes_either, Yes, No, Lazy, never, no_sum, yes_sum, no_both, yes_both, no_not, no_match, yes_match, yes_true, no_and, yes_and, no_none, no_keyed, no_some, yes_some, no_before, no_less, yes_less, no_least, yes_least, no_equal, yes_equal, no_text, yes_text, yes_power, found_if, found_unless}
+use Rattle.sdf_check.specs.ClassRules.{SomeOf, OfLink, RepeatsName, the_domain, class_domains, LacksRole, Joins, AreJoined, IsGranted, HasStranger, allowed, IsSmaller, HasBadMac, HasBadPartition, IsClientCount, IsBufferCount, IsPastLimit}
+use Rattle.sdf_check.specs.Valid.{BreaksPlanRule, BreaksClassRule, BreaksByRows, broken}
+use Rattle.workload_law.proofs.Refuting.{found, found_both, yes_either, Yes, No, never, no_sum, yes_sum, no_both, yes_both, no_not, no_match, yes_match, yes_true, no_and, yes_and, no_none, no_keyed, no_some, yes_some, no_before, no_less, yes_less, no_least, yes_least, no_equal, yes_equal, no_text, yes_text, yes_power, found_if}
 
 abbrev no_not_page : (size : ℕ) → No (¬ IsPageSize size)
 no_not_page size = no_not (yes_sum (yes_equal size 4096) (yes_equal size 2097152))
@@ -239,6 +237,7 @@ earlier_of plan channel at d id none (c, e, before, h) = none (c, of (slice_get 
     inner : (o : Option End) → IsSomeAnd o (λ other. (domain_named plan other.pd ≡ Some d) × (other.id ≡ id)) → IsSomeAnd o (EndHas plan channel at d id c e)
     inner None h = h
     inner (Some end) h = (before, h)
+
     of : (o : Option Channel) → IsSomeAnd o (λ (this : Channel). IsSomeAnd (slice_get this.end e) (λ other. (domain_named plan other.pd ≡ Some d) × (other.id ≡ id))) → IsSomeAnd o (ChannelHas plan channel at d id c)
     of None h = h
     of (Some this) h = (e, inner (slice_get this.end e) h)

@@ -1,14 +1,13 @@
 -- Texts that a reader of traces cuts into words, numbers and bytes.
-use Rattle.std.proofs.Common.{◌≡◌, refl, ap, sym, ◌∙◌, ℕ, zero, suc, ◌+◌, ◌*◌, ◌/◌, ◌%◌, ◌<◌, ◌≤◌, inl, inr, Bool, true, false, not, ◌&&◌, cond, eqb, ltb, List, [], ◌∷◌, ◌++◌, length, get_or, replicate, All, Option, Some, None, codes, arith, append_assoc, append-nil, length-append}
+use Rattle.std.proofs.Common.{◌≡◌, refl, ap, sym, ◌∙◌, ℕ, zero, suc, ◌/◌, ◌%◌, ◌<◌, inl, inr, Bool, true, false, not, cond, eqb, ltb, List, [], ◌∷◌, ◌++◌, length, get_or, replicate, All, Some, None, codes, arith, append-nil}
 use Rattle.std.specs.List.{list_all}
-use Rattle.std.specs.Option.{option_map, option_and_then}
 use Rattle.std.specs.Result.{result_ok}
 use Rattle.std.proofs.lemmas.Bool.{and_parts, cases_Bool, eqb-true, ltb-true}
 use Rattle.std.proofs.lemmas.List.Elements.{All-cons, All-head, All-nil, All-tail}
 use Rattle.std.proofs.lemmas.List.Splits.{slice_split_at, slice_split_none}
-use Rattle.hex.specs.Hex.{IsBytes, decode_of, hex_digit_value, encode_lower, encode_with, lower_digits}
+use Rattle.hex.specs.Hex.{IsBytes, hex_digit_value, encode_lower, encode_with, lower_digits}
 use Rattle.hex.proofs.HexLemmas.{decode_of-encode_lower, decode_sized-encode_lower, IsDigits-lower_digits, length-encode_with}
-use Rattle.trace_text.specs.Texts.{parts_of, words_of, number_of, digits_meaning, repeated, piece_meaning, piece_of, data_of, all_pieces}
+use Rattle.trace_text.specs.Texts.{parts_of, words_of, number_of, repeated, piece_of, data_of}
 use Rattle.trace_text.proofs.Forms.{not_equal}
 use Rattle.trace_text.proofs.Pieces.{piece_of_digits, repeated_gives}
 
@@ -116,7 +115,7 @@ data_block v h =
     let bytes = bytes_cons v [] h bytes_none in
     let digits = encode_lower (v ∷ []) in
     let cut : parts_of 42 (codes "4096*" ++ digits) ≡ codes "4096" ∷ digits ∷ [] =
-        slice_split_at (λ b. eqb b 42) (codes "4096") 42 digits (lacks 42 (codes "4096") refl) refl
-        ∙ ap (λ rest. codes "4096" ∷ rest) (slice_split_none (λ b. eqb b 42) digits (hex_lacks 42 refl (v ∷ []) bytes)) in
+    slice_split_at (λ b. eqb b 42) (codes "4096") 42 digits (lacks 42 (codes "4096") refl) refl
+    ∙ ap (λ rest. codes "4096" ∷ rest) (slice_split_none (λ b. eqb b 42) digits (hex_lacks 42 refl (v ∷ []) bytes)) in
     one_piece (codes "4096*" ++ digits) (replicate 4096 v) (lacks_both 44 (codes "4096*") digits (lacks 44 (codes "4096*") refl) (hex_lacks 44 refl (v ∷ []) bytes))
     (piece_two (codes "4096*" ++ digits) (codes "4096") digits cut ∙ repeated_gives (codes "4096") digits 4096 (v ∷ []) many_is (omega arith) (decode_sized-encode_lower (v ∷ []) 1 refl bytes))

@@ -13,8 +13,8 @@ ghost use Rattle.workload_law.specs.Clients.{HasClients};
 
 use sdf_plan::Plan;
 
-/// The full example is a description: it is a document, it isn't too long, and it keeps the rules
-/// on texts; the plan that it spells keeps the rules on plans, and has the clients that the generated
+/// The full example is accepted: it isn't too long, it is a document, and it keeps the rules on
+/// texts; the plan that it spells keeps the rules on plans, and has the clients that the generated
 /// traces are for.
 pub fn example_law()
     ensures short { length FULL_EXAMPLE.now ≤ text_most }

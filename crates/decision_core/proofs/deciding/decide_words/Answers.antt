@@ -7,6 +7,7 @@ use Rattle.decision_core.specs.Decided.{decision_of}
 use Rattle.decision_core.specs.Readings.{read_none, read_no_text, opens_nothing}
 use Rattle.decision_core.proofs.LastLemmas.{gen-unread}
 use Rattle.decision_core.proofs.DecisionLemmas.{gen-or-named, names-spell, bad-none}
+use Rattle.decision_core.proofs.GenLemmas.{gen-plays}
 use Rattle.decision_core.proofs.deciding.decide_words.Goals as goal
 
 pub returns-in_ok-decide_gen-in-Ok-Gen-clause-decides : goal.returns-in_ok-decide_gen-in-Ok-Gen-clause-decides
@@ -45,3 +46,12 @@ returns-in_ok-say_usage-in-Err-clause-opens g c =
 pub returns-in_err-say_usage-in-Err-clause-opens : goal.returns-in_err-say_usage-in-Err-clause-opens
 returns-in_err-say_usage-in-Err-clause-opens g c =
     opens_nothing (λ desc named. let s = names-spell (texts_of c.args.words.now) desc named in bad-none (texts_of c.args.words.now) c.in-Err.k s.0 c.in-Err.ensures.bad s.1) refl
+
+pub returns-in_ok-decide_gen-in-Ok-Gen-clause-plays : goal.returns-in_ok-decide_gen-in-Ok-Gen-clause-plays
+returns-in_ok-decide_gen-in-Ok-Gen-clause-plays g c n is =
+    let d = decision_of c.in_ok-decide_gen-in-Ok-Gen.field-0 in
+    gen-plays c.in-Ok-Gen.number d (subst (λ x. TextDecides (GeneratedDecides c.in-Ok-Gen.number) x d) c.as_bytes.ensures.value c.in_ok-decide_gen-in-Ok-Gen.ensures)
+
+pub returns-in_ok-say_usage-in-Err-clause-plays : goal.returns-in_ok-say_usage-in-Err-clause-plays
+returns-in_ok-say_usage-in-Err-clause-plays g c n is =
+    absurd (bad-none (texts_of c.args.words.now) c.in-Err.k (Do.Gen n) c.in-Err.ensures.bad is)

@@ -1,4 +1,4 @@
-use Rattle.std.proofs.Common.{arith, refl, sym, ◌+◌, ◌∙◌}
+use Rattle.std.proofs.Common.{arith, rules, refl, ◌+◌}
 use Rattle.pd_runner.proofs.Stepping.{worked_none, worked_on, worked_of}
 use Rattle.pd_runner.specs.Running.{part_seats}
 use Rattle.pd_runner.proofs.work.settle.Goals as goal
@@ -16,7 +16,7 @@ pub loop-worker-preserved : goal.loop-worker-preserved
 loop-worker-preserved g c = let was = c.loop-worker.invariant in record {
   n = was.n + 1;
   made_is = let e = was.made_is in omega (arith, e);
-  worked = worked_on _ _ was.n _ _ _ _ c.in-Ok.event was.worked c.in-Ok.ensures.fits c.in-Ok.ensures.part c.in-Ok.ensures.stepped c.in-Ok.ensures.own c.in-Ok.ensures.due (sym c.at_rest.ensures ∙ c.if-not-at_rest.true);
+  worked = worked_on _ _ was.n _ _ _ _ c.in-Ok.event was.worked c.in-Ok.ensures.fits c.in-Ok.ensures.part c.in-Ok.ensures.stepped c.in-Ok.ensures.own c.in-Ok.ensures.due (search rules);
   fine = c.in-Ok.ensures.fine;
   within = omega arith;
 }
