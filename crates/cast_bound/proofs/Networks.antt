@@ -15,7 +15,8 @@ use Rattle.trace_text.specs.declared.trace.Trace.{Trace}
 use Rattle.trace_text.specs.Events.{net_clients}
 use Rattle.region_layout.specs.Rows.{queues_of, pools_of}
 use Rattle.buffer_kit.specs.Entries.{addr_of}
-use Rattle.net_law.specs.Owners.Names.{PoolAt, ClientPools}
+use Rattle.net_law.specs.Owners.Names.{ClientPools}
+use Rattle.owner_law.specs.Pools.Places.{PoolAt}
 use Rattle.net_law.specs.TxParts.Numbers.{NetPlace}
 use Rattle.net_law.specs.TxParts.Rows.{in_range}
 use Rattle.actor_set.specs.Parts.{Part}

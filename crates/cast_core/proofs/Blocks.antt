@@ -28,7 +28,7 @@ use Rattle.blk_virt.specs.declared.virtualiser.BlkVirt.{BlkVirt}
 use Rattle.client_programs.specs.Blk.Asking.{IsAsking}
 use Rattle.client_programs.specs.Blk.Clients.{IsNewBlkClient, BlkClientStandsFor}
 use Rattle.client_programs.specs.declared.blk.BlkClient.{BlkClient}
-use Rattle.net_law.specs.Owners.Names.{PoolAt}
+use Rattle.owner_law.specs.Pools.Places.{PoolAt}
 use Rattle.blk_law.specs.Sheets.Parts.{BlkVirt as VirtPart, BlkClient as ClientPart, Sharer}
 use Rattle.blk_law.specs.Sheets.Numbers.{sharers_from, blk_client_at}
 use Rattle.blk_law.specs.Sheets.Playing.{sharers, holder_pool, virt_part, blk_client_part}

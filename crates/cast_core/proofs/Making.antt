@@ -42,7 +42,8 @@ use Rattle.net_law.specs.Parts.Parts.{NetDriver, NetReceiver, NetClient as Clien
 use Rattle.net_law.specs.Parts.Numbers.{client_first, lessees_from, receiver_at, client_at}
 use Rattle.net_law.specs.Parts.Playing.{stock_pool, way_of, lessees, lessees_of, receiver_part, client_part}
 use Rattle.net_law.specs.TxParts.Parts.{SendPart, Shipper}
-use Rattle.net_law.specs.TxParts.Numbers.{own_pool, own_pools, shippers_from, sender_at}
+use Rattle.net_law.specs.TxParts.Numbers.{own_pools, shippers_from, sender_at}
+use Rattle.owner_law.specs.Pools.Places.{own_pool}
 use Rattle.net_law.specs.TxParts.Playing.{sender_pool, shippers, send_part}
 use Rattle.trace_text.specs.Traces.{per_client}
 use Rattle.actor_set.specs.StartStates.{IsNewLender, IsNewSender, IsNewClientOf}

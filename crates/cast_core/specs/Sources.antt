@@ -18,7 +18,8 @@ use Rattle.net_expect.specs.Expecting.{Program}
 use Rattle.client_programs.specs.Net.Programs.{program_with}
 use Rattle.client_programs.specs.declared.net.program.NetProgram.{NetProgram}
 use Rattle.client_programs.specs.declared.net.program.NetProgram.TheVariants as Programs
-use Rattle.net_law.specs.Owners.Names.{PoolAt, ClientPools}
+use Rattle.net_law.specs.Owners.Names.{ClientPools}
+use Rattle.owner_law.specs.Pools.Places.{PoolAt}
 
 -- so many queues, every second one from a number on
 abbrev pub every_second : ℕ → ℕ → List ℕ

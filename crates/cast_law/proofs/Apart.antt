@@ -16,7 +16,8 @@ use Rattle.net_virt_tx.specs.declared.client.Client.{Client as TxClient}
 use Rattle.net_virt_tx.specs.declared.descriptors.Sender.{Sender}
 use Rattle.net_virt_tx.specs.Traffics.{senders}
 use Rattle.net_law.specs.Parts.Parts.{NetPart, NetDevice, NetDriver, NetReceiver, NetCopier as CopierPart, NetClient as NetClientPart, Way, Lessee}
-use Rattle.net_law.specs.Owners.Names.{PoolAt, ClientPools}
+use Rattle.net_law.specs.Owners.Names.{ClientPools}
+use Rattle.owner_law.specs.Pools.Places.{PoolAt}
 use Rattle.net_law.specs.Parts.Numbers.{driver_at, receiver_at}
 use Rattle.net_law.specs.Parts.Playing.{lessees}
 use Rattle.net_law.specs.TxParts.Parts.{SendPart, Shipper}

@@ -22,8 +22,8 @@ use Rattle.play_core.proofs.Walks.{needs_as, drained, paid, roomy}
 use Rattle.net_expect.specs.Expecting.{Program}
 use Rattle.buffer_kit.specs.Entries.{addr_of}
 use Rattle.net_virt_tx.specs.Descriptors.{with_addr}
-use Rattle.net_law.specs.Owners.Names.{PoolAt, ClientPools, by_offset}
-use Rattle.net_law.specs.Owners.Ends.{numbers_from}
+use Rattle.net_law.specs.Owners.Names.{ClientPools}
+use Rattle.owner_law.specs.Pools.Places.{PoolAt, by_offset, numbers_from}
 use Rattle.net_law.specs.Parts.Parts.{Way}
 use Rattle.net_law.specs.Parts.Numbers.{client_first, device_at, driver_at, client_at}
 use Rattle.net_law.specs.Parts.Rows.{AllCopy, FillsFrames, ServesClient, given_item, given_items, sent_where}

@@ -12,7 +12,8 @@ use Rattle.play_core.specs.Still.{Plays, Holds}
 use Rattle.play_core.specs.Totals.{total}
 use Rattle.play_core.specs.Wants.{Needful}
 use Rattle.net_expect.specs.Expecting.{Program, frames_for, sends_of}
-use Rattle.net_law.specs.Owners.Names.{PoolAt, ClientPools}
+use Rattle.net_law.specs.Owners.Names.{ClientPools}
+use Rattle.owner_law.specs.Pools.Places.{PoolAt}
 use Rattle.net_law.specs.Parts.Numbers.{client_first, device_at, driver_at, receiver_at}
 use Rattle.net_law.specs.Parts.Numbers.{copier_at, client_at}
 use Rattle.net_law.specs.Parts.Rows.{leases_from}

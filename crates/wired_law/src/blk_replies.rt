@@ -7,7 +7,7 @@ ghost use Rattle.cargo_core.specs.declared.item.Ask.{Ask};
 ghost use Rattle.wire_core.specs.declared.names.QueueRow.{QueueRow};
 ghost use Rattle.wire_core.specs.Ends.{Role, End};
 ghost use Rattle.wire_core.specs.Lists.{Passed};
-ghost use Rattle.net_law.specs.Owners.Names.{PoolAt};
+ghost use Rattle.owner_law.specs.Pools.Places.{PoolAt};
 ghost use Rattle.blk_expect.specs.Replies.{replies_of};
 ghost use Rattle.blk_law.specs.Sheets.Numbers.{BlkPlace, blk_client_at};
 ghost use Rattle.actor_set.specs.Parts.{Part, BlockPart};

@@ -13,7 +13,8 @@ use Rattle.owner_law.specs.Owners.{Spot, InQueue, InHand, is_spot, Place, Nowher
 use Rattle.owner_law.specs.Owners.{leases_at, Move, Stays, Puts, Takes, move_of, after_move, replay}
 use Rattle.owner_law.specs.Keeping.{Keeper, start_table}
 use Rattle.owner_law.specs.Census.{Census, census}
-use Rattle.net_law.specs.Owners.Names.{PoolAt, ClientPools, net_names}
+use Rattle.net_law.specs.Owners.Names.{ClientPools, net_names}
+use Rattle.owner_law.specs.Pools.Places.{PoolAt}
 
 -- the pools in their order, each client's with two buffers, where the full example's regions lie
 abbrev pub rx_pool : PoolAt

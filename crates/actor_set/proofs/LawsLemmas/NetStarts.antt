@@ -49,8 +49,7 @@ use Rattle.client_programs.specs.declared.net.NetClient.{NetClient}
 use Rattle.client_programs.proofs.NetLemmas.Holding.{hand_count, outbox_count}
 use Rattle.client_programs.proofs.NetLemmas.Sending.{outbox_starts}
 use Rattle.client_programs.proofs.NetLemmas.Standing.{new_holds}
-use Rattle.net_law.specs.Owners.Ends.{numbers_from}
-use Rattle.net_law.specs.Parts.Rows.{pool_hand}
+use Rattle.owner_law.specs.Pools.Places.{numbers_from, pool_hand}
 use Rattle.net_law.specs.Parts.Table.{net_sheet}
 use Rattle.net_law.specs.Parts.Playing.{receiver_part, client_part, stock_pool}
 use Rattle.actor_set.specs.Actors.{IsWholeReceiver}

@@ -32,7 +32,7 @@ use Rattle.blk_virt.specs.declared.client.Client.{Client}
 use Rattle.blk_virt.specs.declared.requests.Holder.{Holder}
 use Rattle.blk_virt.specs.declared.virtualiser.BlkVirt.{BlkVirt}
 use Rattle.buffer_kit.specs.Virtualising.{from_queues, to_queues}
-use Rattle.net_law.specs.Owners.Names.{PoolAt}
+use Rattle.owner_law.specs.Pools.Places.{PoolAt}
 use Rattle.net_law.specs.Owners.Ends.{AreItemsOf}
 use Rattle.net_law.proofs.PartsLemmas.Items.{all_at, items_begin, items_long}
 use Rattle.net_law.proofs.PartsLemmas.Pairs.{twice, pair_first, pair_second}

@@ -17,7 +17,7 @@ use Rattle.blk_virt.specs.Requests.{is_bad, page_named, range_of}
 use Rattle.blk_virt.specs.Virtualising.{BlkVirtRow}
 use Rattle.blk_virt.specs.declared.requests.Holder.{Holder}
 use Rattle.blk_virt.specs.declared.virtualiser.BlkVirt.{BlkVirt}
-use Rattle.net_law.specs.Owners.Names.{PoolAt}
+use Rattle.owner_law.specs.Pools.Places.{PoolAt}
 use Rattle.net_law.specs.Parts.Playing.{way_of}
 use Rattle.blk_law.specs.Sheets.Parts.{BlkPart, DiskDevice as DiskPart, BlkDriver as DriverPart}
 use Rattle.blk_law.specs.Sheets.Parts.{BlkVirt as VirtPart, BlkClient as ClientPart, Sharer}

@@ -21,7 +21,7 @@ use Rattle.client_programs.specs.Blk.Asking.{needs_buffer, page_for, asked_in, a
 use Rattle.client_programs.specs.Blk.Clients.{BlkClientRow, req_queue, resp_queue}
 use Rattle.client_programs.specs.declared.blk.BlkClient.{BlkClient}
 use Rattle.owner_law.specs.Pools.Handing.{Carries, HandsOn}
-use Rattle.net_law.specs.Owners.Names.{PoolAt}
+use Rattle.owner_law.specs.Pools.Places.{PoolAt}
 use Rattle.net_law.proofs.OwnersLemmas.Clients.{at_address}
 use Rattle.net_quiet.proofs.PoolsLemmas.Carrying.{HasPage, page_carries, takes_here, puts_none, puts_in, puts_out}
 use Rattle.net_law.proofs.PartsLemmas.Leasing.{prefix_get}

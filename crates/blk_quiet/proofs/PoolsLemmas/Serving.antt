@@ -32,7 +32,7 @@ use Rattle.blk_virt.specs.declared.virtualiser.BlkVirt.{BlkVirt}
 use Rattle.play_core.specs.Rests.Showing.{HaveItems}
 use Rattle.owner_law.specs.Pools.Handing.{AllCarry, TakesPages, PutsPages, HandsOn}
 use Rattle.owner_law.proofs.PoolsLemmas.Merging.{kept_at, kept_is}
-use Rattle.net_law.specs.Owners.Names.{PoolAt}
+use Rattle.owner_law.specs.Pools.Places.{PoolAt}
 use Rattle.net_law.proofs.PartsLemmas.Items.{all_at}
 use Rattle.net_law.proofs.PartsLemmas.Leasing.{prefix_get}
 use Rattle.net_law.proofs.PartsLemmas.Pairs.{twice, pair_first}

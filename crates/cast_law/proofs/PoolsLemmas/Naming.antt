@@ -27,9 +27,9 @@ use Rattle.net_quiet.proofs.TxOwners.Owning.{send_own}
 use Rattle.net_quiet.proofs.TxOwners.Carrying.{pools_apart}
 use Rattle.net_virt_tx.proofs.Rounds.{row_of as sender_row}
 use Rattle.owner_law.proofs.PoolsLemmas.Casting.{nothing_kept}
-use Rattle.net_quiet.specs.Pools.Sizes.{sizes_of, AreNumbered}
+use Rattle.owner_law.specs.Pools.Places.{sizes_of, AreNumbered}
 use Rattle.net_quiet.proofs.PoolsLemmas.Listing.{past}
-use Rattle.net_quiet.proofs.PoolsLemmas.Sizing.{size_there}
+use Rattle.owner_law.proofs.PoolsLemmas.Sizing.{size_there}
 use Rattle.blk_law.specs.Sheets.Parts.{BlkPart, DiskDevice, BlkDriver, BlkVirt, BlkClient}
 use Rattle.blk_law.specs.Sheets.Numbers.{BlkPlace, disk_at}
 use Rattle.blk_law.specs.Sheets.Playing.{disk_part, blk_driver_part, virt_part, blk_client_part}

@@ -11,9 +11,9 @@ use Rattle.play_core.proofs.Lists.{there_is, there_below}
 use Rattle.frame_core.specs.declared.mac.Mac.{Mac}
 use Rattle.net_expect.specs.Expecting.{Program}
 use Rattle.buffer_kit.specs.Entries.{len_of}
-use Rattle.net_law.specs.Owners.Names.{ClientPools, by_offset}
+use Rattle.net_law.specs.Owners.Names.{ClientPools}
+use Rattle.owner_law.specs.Pools.Places.{by_offset, numbers_from}
 use Rattle.owner_law.proofs.Sums.{sum_none}
-use Rattle.net_law.specs.Owners.Ends.{numbers_from}
 use Rattle.net_law.specs.Parts.Rows.{FillsFrames, CopiesLeases, ServesClient, SharesFrames, given_item, given_items}
 use Rattle.net_law.proofs.PartsLemmas.Plain.{numbers_length}
 use Rattle.net_law.specs.Parts.Numbers.{client_first, lessees_from}

@@ -28,8 +28,8 @@ use Rattle.client_programs.specs.Net.Clients.{ClientRow, rx_active, rx_free, tx_
 use Rattle.client_programs.specs.declared.net.NetClient.{NetClient}
 use Rattle.net_copier.specs.Copying.{CopierRow, is_stray, leased_bytes}
 use Rattle.net_copier.specs.declared.NetCopier.{NetCopier}
-use Rattle.net_law.specs.Owners.Names.{by_offset}
-use Rattle.net_law.specs.Owners.Ends.{AreItemsOf, numbers_from}
+use Rattle.owner_law.specs.Pools.Places.{by_offset, numbers_from}
+use Rattle.net_law.specs.Owners.Ends.{AreItemsOf}
 use Rattle.net_law.proofs.Beginnings.{begins_map}
 use Rattle.net_law.proofs.Answering.{answers_are}
 use Rattle.net_law.specs.Parts.Parts.{Way}

@@ -29,7 +29,7 @@ use Rattle.buffer_kit.proofs.TwoLists.{get_front}
 use Rattle.net_virt_rx.specs.Sharing.{IsBuffer, lease_of, leases_for}
 use Rattle.net_virt_rx.specs.Receiving.{RxRow, IsServed}
 use Rattle.net_virt_rx.specs.declared.NetVirtRx.{NetVirtRx}
-use Rattle.net_law.specs.Owners.Names.{by_address, by_offset}
+use Rattle.owner_law.specs.Pools.Places.{by_address, by_offset}
 use Rattle.net_law.specs.Owners.Ends.{AreItemsOf, stock_window}
 use Rattle.net_law.specs.Owners.Lending.{Lender, LenderRow, borrower_ends, lender_ends, names_where}
 use Rattle.net_law.specs.RxOwners.Virtualiser.{offset_window, rx_lender, borrowers, AreNet, TakesFrames}
@@ -153,7 +153,7 @@ module _ (scene : Scene) (v : NetVirtRx) (passed : Passed) (m : Moved) (items : 
   offset_is = refl
 
   lender_is : rx_lender (frame_at scene.frames) v ≡ lender_of scene.frames v.ends.input.queue.0 v.ends.output.queue.0 (stock_pool s) (lessees_of v)
-  lender_is = ap (λ cs. let x : Lender = record { frames = v.ends.input.queue.0; free = v.ends.output.queue.0; clients = cs; hand = Rattle.net_law.specs.Parts.Rows.pool_hand (stock_pool s) } in x) (borrowers_are scene.frames v.work.macs.items (to_queues v.ends) (from_queues v.ends))
+  lender_is = ap (λ cs. let x : Lender = record { frames = v.ends.input.queue.0; free = v.ends.output.queue.0; clients = cs; hand = Rattle.owner_law.specs.Pools.Places.pool_hand (stock_pool s) } in x) (borrowers_are scene.frames v.work.macs.items (to_queues v.ends) (from_queues v.ends))
 
   all_ends : (net_sheet scene (receiver_part v)).ends ≡ lender_ends (rx_lender (frame_at scene.frames) v)
   all_ends = sym (ap lender_ends lender_is ∙ ap (λ l. Rattle.play_core.specs.Wants.intake v.ends.input.queue.0 ∷ Rattle.play_core.specs.Wants.outlet v.ends.output.queue.0 ∷ l) (ends_are scene.frames (lessees_of v)))

@@ -14,14 +14,13 @@ use Rattle.owner_law.proofs.Named.{carried, buffers_are, buffers_none, leases_ar
 use Rattle.net_expect.specs.Expecting.{Program, is_for_client}
 use Rattle.buffer_kit.specs.Entries.{addr_of, with_len}
 use Rattle.net_law.proofs.Beginnings.{begins_map}
-use Rattle.net_law.specs.Owners.Names.{PoolAt, by_address, by_offset}
-use Rattle.net_law.specs.Owners.Ends.{numbers_from}
+use Rattle.owner_law.specs.Pools.Places.{PoolAt, by_address, by_offset, numbers_from, pool_hand}
 use Rattle.net_law.specs.Owners.Lending.{Borrower, Lender, LenderRow, lender_ends, names_where}
 use Rattle.net_law.proofs.OwnersLemmas.Clients.{at_address, here_or_not}
 use Rattle.net_law.proofs.OwnersLemmas.Few.{address_still, either_are, either_none}
 use Rattle.net_law.proofs.OwnersLemmas.Lenders.{lender_keeps}
 use Rattle.net_law.specs.Parts.Parts.{NetPart, NetDevice, NetDriver, NetReceiver, NetCopier, NetClient, Way, Lessee}
-use Rattle.net_law.specs.Parts.Rows.{sent_where, AllCopy, IsIn, AreIn, sized_items, given_item, given_items, frame_at, lease_item, leases_from, pool_hand, borrower_of, lender_of}
+use Rattle.net_law.specs.Parts.Rows.{sent_where, AllCopy, IsIn, AreIn, sized_items, given_item, given_items, frame_at, lease_item, leases_from, borrower_of, lender_of}
 use Rattle.net_law.specs.Parts.Table.{net_sheet, way_ends}
 use Rattle.net_law.specs.Parts.Naming.{NamesPart, NameWay}
 use Rattle.net_law.proofs.PartsLemmas.Counting.{numbered, buffer_is}

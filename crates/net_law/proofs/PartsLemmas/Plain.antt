@@ -12,8 +12,7 @@ use Rattle.play_core.proofs.Lists.{some_is, map_from}
 use Rattle.play_core.proofs.Puts.{put_beside, copy_more, copy_shorter}
 use Rattle.play_core.proofs.Walks.{begins_few}
 use Rattle.buffer_kit.specs.Entries.{len_of}
-use Rattle.net_law.specs.Owners.Names.{PoolAt, by_offset}
-use Rattle.net_law.specs.Owners.Ends.{numbers_from}
+use Rattle.owner_law.specs.Pools.Places.{PoolAt, by_offset, numbers_from}
 use Rattle.net_law.specs.Parts.Parts.{NetDevice, NetDriver, NetCopier, NetClient, Way}
 use Rattle.net_law.specs.Parts.Rows.{FillsFrames, CopiesLeases, ServesClient, SendsItems, sent_where, sized_items, given_item, given_items}
 use Rattle.net_law.specs.Parts.Table.{net_sheet, is_short, way_wants, way_due, client_items}

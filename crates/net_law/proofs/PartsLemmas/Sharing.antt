@@ -13,11 +13,11 @@ use Rattle.owner_law.specs.Things.{Buffer, Window, is_same, names_in, buffer_of,
 use Rattle.owner_law.specs.Keeping.{at_start}
 use Rattle.owner_law.proofs.Sums.{same_is}
 use Rattle.owner_law.proofs.Counting.{below_plus, below_same}
-use Rattle.net_law.specs.Owners.Names.{PoolAt, by_address, by_offset}
+use Rattle.owner_law.specs.Pools.Places.{PoolAt, by_address, by_offset, pool_hand}
 use Rattle.net_law.specs.Owners.Lending.{Borrower, Lender, names_where, leases_due, leases_back}
 use Rattle.net_law.proofs.RxOwners.Serving.{same_sums}
 use Rattle.net_law.specs.Parts.Parts.{NetReceiver, Lessee}
-use Rattle.net_law.specs.Parts.Rows.{IsIn, AreIn, given_item, but_last, leases_from, pool_hand, borrower_of, lender_of, is_lent, SharesFrames}
+use Rattle.net_law.specs.Parts.Rows.{IsIn, AreIn, given_item, but_last, leases_from, borrower_of, lender_of, is_lent, SharesFrames}
 use Rattle.net_law.specs.Parts.Table.{net_sheet, is_short, home_count, frees_due, leases_of, some_owed, is_busy, lessee_wants}
 use Rattle.net_law.proofs.PartsLemmas.Fits.{AllFit, intake_fits, outlet_fits, pairs_fit, sheet_follows}
 use Rattle.net_law.proofs.PartsLemmas.Pairs.{twice, twice_same, pair_first, pair_second, pair_seats, flat_alike, each_owed, put_grows, put_length}

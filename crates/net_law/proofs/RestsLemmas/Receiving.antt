@@ -33,7 +33,7 @@ use Rattle.net_virt_rx.specs.Sharing.{ClientStands, IsBuffer, named, leases_for,
 use Rattle.net_virt_rx.specs.declared.NetVirtRx.{NetVirtRx}
 use Rattle.net_virt_rx.proofs.Rounds.{row_of}
 use Rattle.net_virt_rx.proofs.Steps.{queue_is}
-use Rattle.net_law.specs.Owners.Names.{PoolAt, by_address, by_offset}
+use Rattle.owner_law.specs.Pools.Places.{PoolAt, by_address, by_offset}
 use Rattle.net_law.specs.Owners.Ends.{stock_window}
 use Rattle.net_law.specs.Owners.Lending.{Borrower, Lender, leases_due, leases_back, names_where}
 use Rattle.net_law.specs.RxOwners.Virtualiser.{offset_window, AreNet}

@@ -24,7 +24,7 @@ use Rattle.net_virt_tx.specs.Descriptors.{to_client, to_device, with_addr}
 use Rattle.net_virt_tx.specs.Serving.{bad_ones, is_good_of, is_own, own_of}
 use Rattle.net_virt_tx.specs.Traffics.{senders}
 use Rattle.net_virt_tx.specs.Sending.{TxRow, all_good}
-use Rattle.net_law.specs.Owners.Names.{PoolAt}
+use Rattle.owner_law.specs.Pools.Places.{PoolAt}
 use Rattle.net_law.specs.Owners.Ends.{AreItemsOf}
 use Rattle.net_law.proofs.Beginnings.{begins_map}
 use Rattle.net_law.proofs.PartsLemmas.Items.{all_at}

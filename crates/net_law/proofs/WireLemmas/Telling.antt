@@ -28,7 +28,7 @@ use Rattle.net_law.proofs.PartsLemmas.Items.{all_at, items_long}
 use Rattle.net_law.proofs.PartsLemmas.Leasing.{prefix_get}
 use Rattle.net_law.proofs.TxParts.Items.{all_same, home_items}
 use Rattle.net_law.proofs.WireLemmas.Wires.{len_same, reached}
-use Rattle.net_law.specs.Owners.Names.{PoolAt}
+use Rattle.owner_law.specs.Pools.Places.{PoolAt}
 use Rattle.net_law.specs.Parts.Rows.{frame_at}
 use Rattle.net_law.specs.TxParts.Rows.{in_range}
 use Rattle.net_law.specs.TxParts.Playing.{sender_pool}

@@ -21,7 +21,7 @@ use Rattle.net_virt_rx.specs.Receiving.{RxRow}
 use Rattle.net_virt_rx.specs.declared.NetVirtRx.{NetVirtRx}
 use Rattle.net_law.specs.RxOwners.Virtualiser.{TakesFrames}
 use Rattle.net_expect.specs.Expecting.{frames_for}
-use Rattle.net_law.specs.Owners.Names.{PoolAt}
+use Rattle.owner_law.specs.Pools.Places.{PoolAt}
 use Rattle.net_law.specs.Parts.Rows.{frame_at}
 use Rattle.net_law.specs.Parts.Parts.{NetPart, NetDevice, NetDriver, NetReceiver}
 use Rattle.net_law.specs.Parts.Parts.{NetCopier as CopierPart, NetClient as ClientPart, Way}

@@ -14,8 +14,7 @@ use Rattle.owner_law.specs.Things.{Buffer, Window, names_in, times}
 use Rattle.owner_law.specs.Keeping.{at_start}
 use Rattle.net_expect.specs.Expecting.{Program, Sink, Source, Echo, is_for_client, answers_for}
 use Rattle.buffer_kit.specs.Entries.{addr_of, len_of, with_len}
-use Rattle.net_law.specs.Owners.Names.{PoolAt, by_address, by_offset}
-use Rattle.net_law.specs.Owners.Ends.{numbers_from}
+use Rattle.owner_law.specs.Pools.Places.{PoolAt, by_address, by_offset, numbers_from, pool_hand}
 use Rattle.net_law.specs.Owners.Lending.{Borrower, Lender, leases_due, leases_back, names_where}
 use Rattle.net_law.specs.Parts.Parts.{Way, Lessee}
 
@@ -119,10 +118,6 @@ leases_from frames base mac place (item ∷ items) =
     if is_for_client mac (frame_at frames place) then lease_item base (frame_at frames place) item
     ∷ leases_from frames base mac (place + 1) items else
     leases_from frames base mac (place + 1) items
-
--- of a pool, by its number, the buffers of this one
-abbrev pub pool_hand : PoolAt → ℕ → List ℕ
-pool_hand p pool = if p.number == pool then numbers_from 0 p.buffers else []
 
 -- a client as one to whom buffers are lent
 abbrev pub borrower_of : List (List ℕ) → Lessee → Borrower

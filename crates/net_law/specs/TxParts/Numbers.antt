@@ -3,7 +3,8 @@
 use Rattle.std.specs.Prelude.{◌+◌, ℕ, List, [], ◌∷◌}
 use Rattle.frame_core.specs.declared.mac.Mac.{Mac}
 use Rattle.net_expect.specs.Expecting.{Program}
-use Rattle.net_law.specs.Owners.Names.{PoolAt, ClientPools}
+use Rattle.net_law.specs.Owners.Names.{ClientPools}
+use Rattle.owner_law.specs.Pools.Places.{PoolAt, own_pool}
 use Rattle.net_law.specs.Parts.Numbers.{client_first}
 use Rattle.net_law.specs.TxParts.Parts.{SendPart, Shipper}
 
@@ -17,10 +18,6 @@ pub record NetPlace : Type 0 where
   pub pools : List ClientPools
   pub programs : List Program
   pub most : ℕ
-
--- a pool as its client has it: by offsets
-abbrev pub own_pool : PoolAt → PoolAt
-own_pool p = record { number = p.number; base = 0; buffers = p.buffers; size = p.size }
 
 -- a client's pools as the client has them
 abbrev pub own_pools : ClientPools → ClientPools

@@ -1,7 +1,7 @@
 -- The sending virtualiser as an actor, told by the queues that it has: these begin at no fixed
 -- number.
 use Rattle.std.specs.Prelude.{ℕ, List}
-use Rattle.net_law.specs.Owners.Names.{PoolAt}
+use Rattle.owner_law.specs.Pools.Places.{PoolAt}
 
 -- a client as the sending virtualiser has it: the queue on which its descriptors come, the one on
 -- which its buffers go back, its pool, and how many bytes a frame of its has at most

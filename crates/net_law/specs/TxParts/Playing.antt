@@ -8,7 +8,7 @@ use Rattle.net_virt_tx.specs.declared.NetVirtTx.{NetVirtTx}
 use Rattle.net_virt_tx.specs.declared.descriptors.Sender.{Sender}
 use Rattle.net_virt_tx.specs.Serving.{is_good_of}
 use Rattle.net_virt_tx.specs.Traffics.{senders}
-use Rattle.net_law.specs.Owners.Names.{PoolAt}
+use Rattle.owner_law.specs.Pools.Places.{PoolAt}
 use Rattle.net_law.specs.TxParts.Parts.{SendPart, Shipper}
 
 -- the pool of a client's buffers

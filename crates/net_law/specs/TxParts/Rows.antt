@@ -11,7 +11,7 @@ use Rattle.play_core.specs.Moved.{Moved}
 use Rattle.play_core.specs.Totals.{total}
 use Rattle.buffer_kit.specs.Entries.{addr_of}
 use Rattle.net_virt_tx.specs.Descriptors.{with_addr}
-use Rattle.net_law.specs.Owners.Names.{PoolAt}
+use Rattle.owner_law.specs.Pools.Places.{PoolAt}
 use Rattle.net_law.specs.TxParts.Parts.{SendPart, Shipper}
 
 -- items with the device addresses of their buffers, where the pool's range begins at its base

@@ -19,7 +19,7 @@ use Rattle.net_virt_rx.specs.Sharing.{IsBuffer}
 use Rattle.net_virt_rx.specs.Receiving.{RxRow}
 use Rattle.net_virt_rx.specs.declared.NetVirtRx.{NetVirtRx}
 use Rattle.net_law.specs.Receiving.{HasRoom, AreRoomy}
-use Rattle.net_law.specs.Owners.Names.{PoolAt}
+use Rattle.owner_law.specs.Pools.Places.{PoolAt}
 use Rattle.net_law.specs.RxOwners.Virtualiser.{TakesFrames, AreNet}
 use Rattle.net_law.specs.Parts.Rows.{frame_at}
 use Rattle.net_law.specs.Parts.Numbers.{client_first}

@@ -8,7 +8,7 @@ use Rattle.pipe_driver.specs.declared.pipes.Pipes.{Pipes}
 use Rattle.eth_driver.specs.Four.{four_pipes}
 use Rattle.net_copier.specs.declared.NetCopier.{NetCopier}
 use Rattle.net_virt_rx.specs.declared.NetVirtRx.{NetVirtRx}
-use Rattle.net_law.specs.Owners.Names.{PoolAt}
+use Rattle.owner_law.specs.Pools.Places.{PoolAt}
 use Rattle.net_law.specs.Parts.Parts.{Way, Lessee}
 use Rattle.net_law.specs.Parts.Numbers.{driver_at, client_first, lessees_from, receiver_at, copier_at}
 use Rattle.net_law.specs.Parts.Playing.{way_of, stock_pool, driver_part, copier_part, lessees, lessees_of, receiver_part}

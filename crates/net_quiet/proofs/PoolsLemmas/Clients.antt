@@ -16,11 +16,10 @@ use Rattle.buffer_kit.specs.declared.stock.Stock.{Stock}
 use Rattle.client_programs.specs.Net.Programs.{frames_out}
 use Rattle.client_programs.specs.Net.Clients.{rx_active, rx_free, tx_active, tx_free, ClientRow, ClientBalances, client_hand}
 use Rattle.client_programs.specs.declared.net.NetClient.{NetClient}
-use Rattle.net_law.specs.Owners.Names.{by_offset}
+use Rattle.owner_law.specs.Pools.Places.{by_offset, pool_hand}
 use Rattle.net_law.specs.Owners.Ends.{stock_window}
 use Rattle.net_law.specs.Parts.Naming.{NamesPart}
 use Rattle.net_law.specs.Parts.Playing.{client_part, stock_pool, HasBuffers}
-use Rattle.net_law.specs.Parts.Rows.{pool_hand}
 use Rattle.net_law.specs.Parts.Table.{net_sheet}
 use Rattle.owner_law.specs.Pools.Handing.{AllCarry, HandsOn}
 use Rattle.owner_law.specs.Pools.Lines.{HoldsIts}

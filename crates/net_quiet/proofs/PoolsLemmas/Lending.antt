@@ -25,8 +25,8 @@ use Rattle.buffer_kit.specs.declared.stock.Stock.{Stock}
 use Rattle.net_virt_rx.specs.Sharing.{lent_many, lent_bodies, sharer_hand}
 use Rattle.net_virt_rx.specs.Receiving.{RxStandsFor}
 use Rattle.net_virt_rx.specs.declared.NetVirtRx.{NetVirtRx}
-use Rattle.net_law.specs.Owners.Names.{by_address, by_offset}
-use Rattle.net_law.specs.Owners.Ends.{AreItemsOf, numbers_from, stock_window}
+use Rattle.owner_law.specs.Pools.Places.{by_address, by_offset, numbers_from}
+use Rattle.net_law.specs.Owners.Ends.{AreItemsOf, stock_window}
 use Rattle.net_law.specs.Owners.Lending.{Lender, lender_ends, LenderNames}
 use Rattle.net_law.specs.RxOwners.Virtualiser.{rx_lender, offset_window, TakesFrames, lent_now}
 use Rattle.net_law.proofs.RxOwners.Lending.{rx_out}
@@ -128,7 +128,7 @@ module _ (naming : Naming) (sizes : ℕ → ℕ) (scene : Scene) (v : NetVirtRx)
   offset_is = refl
 
   lender_is : lender_of scene.frames v.ends.input.queue.0 v.ends.output.queue.0 (stock_pool s) (lessees_of v) ≡ rx_lender frame v
-  lender_is = ap (λ cs. let y : Lender = record { frames = v.ends.input.queue.0; free = v.ends.output.queue.0; clients = cs; hand = Rattle.net_law.specs.Parts.Rows.pool_hand (stock_pool s) } in y) (sym (borrowers_are scene.frames v.work.macs.items (to_queues v.ends) (from_queues v.ends)))
+  lender_is = ap (λ cs. let y : Lender = record { frames = v.ends.input.queue.0; free = v.ends.output.queue.0; clients = cs; hand = Rattle.owner_law.specs.Pools.Places.pool_hand (stock_pool s) } in y) (sym (borrowers_are scene.frames v.work.macs.items (to_queues v.ends) (from_queues v.ends)))
 
   all_ends : ends ≡ lender_ends (rx_lender frame v)
   all_ends = sym (ap (λ l. intake v.ends.input.queue.0 ∷ outlet v.ends.output.queue.0 ∷ l) (ends_are scene.frames (lessees_of v))) ∙ ap lender_ends lender_is

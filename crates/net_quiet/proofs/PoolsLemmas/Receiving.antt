@@ -23,7 +23,7 @@ use Rattle.buffer_kit.specs.declared.stock.Stock.{Stock}
 use Rattle.net_virt_rx.specs.Sharing.{IsBuffer, lease_of, leases_for}
 use Rattle.net_virt_rx.specs.Receiving.{RxRow}
 use Rattle.net_virt_rx.specs.declared.NetVirtRx.{NetVirtRx}
-use Rattle.net_law.specs.Owners.Names.{by_address}
+use Rattle.owner_law.specs.Pools.Places.{by_address}
 use Rattle.net_law.specs.Owners.Ends.{stock_window}
 use Rattle.net_law.proofs.OwnersLemmas.Clients.{at_address}
 use Rattle.net_law.specs.RxOwners.Virtualiser.{AreNet}

@@ -19,7 +19,7 @@ use Rattle.net_virt_tx.specs.Descriptors.{is_good}
 use Rattle.net_virt_tx.specs.Serving.{is_good_of}
 use Rattle.net_virt_tx.specs.declared.descriptors.Sender.{Sender}
 use Rattle.net_virt_tx.proofs.Counting.{bit_same, bit_other, same_number}
-use Rattle.net_law.specs.Owners.Names.{PoolAt}
+use Rattle.owner_law.specs.Pools.Places.{PoolAt}
 use Rattle.net_law.proofs.PartsLemmas.Turning.{replaced_long}
 use Rattle.net_law.specs.TxParts.Playing.{sender_pool}
 use Rattle.net_quiet.specs.TxCast.Casting.{IsFrame, IsSend}

@@ -16,7 +16,8 @@ use Rattle.net_virt_tx.specs.declared.NetVirtTx.{NetVirtTx}
 use Rattle.net_virt_tx.specs.declared.descriptors.Sender.{Sender}
 use Rattle.net_virt_tx.specs.Traffics.{senders}
 use Rattle.buffer_kit.specs.Virtualising.{from_queues, to_queues}
-use Rattle.net_law.specs.Owners.Names.{PoolAt, ClientPools}
+use Rattle.net_law.specs.Owners.Names.{ClientPools}
+use Rattle.owner_law.specs.Pools.Places.{PoolAt}
 use Rattle.net_law.specs.Parts.Parts.{Way}
 use Rattle.net_law.specs.Parts.Numbers.{client_first, device_at, driver_at, client_at}
 use Rattle.net_law.specs.Parts.Playing.{way_of, device_part, driver_part, client_part, stock_pool}

@@ -27,7 +27,8 @@ use Rattle.net_law.specs.Wire.Sending.{AllSendGood}
 use Rattle.net_law.specs.Wire.Telling.{told_frames}
 use Rattle.net_law.proofs.WireLemmas.Wires.{wire_sends}
 use Rattle.net_law.proofs.WireLemmas.Telling.{wire_told}
-use Rattle.net_law.specs.Owners.Names.{PoolAt, ClientPools}
+use Rattle.net_law.specs.Owners.Names.{ClientPools}
+use Rattle.owner_law.specs.Pools.Places.{PoolAt}
 use Rattle.net_law.specs.Parts.Numbers.{client_first}
 use Rattle.net_law.proofs.PartsLemmas.Leasing.{prefix_get}
 use Rattle.owner_law.proofs.PoolsLemmas.Merging.{Each, each_begun, kept_is}

@@ -28,7 +28,7 @@ use Rattle.net_virt_tx.proofs.Counting.{ends_within}
 use Rattle.net_virt_tx.specs.Serving.{is_good_of, is_own, own_of, bad_ones}
 use Rattle.net_virt_tx.specs.Sending.{TxRow, IsAnyones}
 use Rattle.net_virt_tx.specs.Traffics.{senders}
-use Rattle.net_law.specs.Owners.Names.{by_offset}
+use Rattle.owner_law.specs.Pools.Places.{by_offset}
 use Rattle.net_law.proofs.OwnersLemmas.Clients.{at_address}
 use Rattle.net_law.specs.RxOwners.Virtualiser.{AreNet}
 use Rattle.net_law.proofs.PartsLemmas.Pairs.{twice, pair_first}
@@ -111,7 +111,7 @@ module _ (naming : Naming) (passed : Passed) (m : Moved) (v : NetVirtTx) (names 
           let a : ℕ = d.addr in
           let there : is_at c.pool a ≡ true =
           ap (λ p. is_at p a) pool ∙ rw (le-leb s.base a (omega (arith, place)), lt-ltb a (s.base + s.buffers * s.size) (let within = ends_within s.size b s.buffers lt in omega (arith, place, some, within))) refl in
-          let base : c.pool.base ≡ s.base = ap (λ (p : Rattle.net_law.specs.Owners.Names.PoolAt). p.base) pool in
+          let base : c.pool.base ≡ s.base = ap (λ (p : Rattle.owner_law.specs.Pools.Places.PoolAt). p.base) pool in
           let home : buffer_at ws a ≡ buffer_at (by_offset c.pool ∷ []) (a - c.pool.base) = pick_home clients (pools_apart v passed row) k c a at there in
           let at_home : a - c.pool.base ≡ 0 + page.no * s.size = omega (arith, offset, base) in
           let own : buffer_at (by_offset (sender_pool s) ∷ []) (0 + page.no * s.size) ≡ Some (record { pool = s.pool.0; no = page.no }) = at_address (by_offset (sender_pool s)) page.no some few in
@@ -142,7 +142,7 @@ module _ (naming : Naming) (passed : Passed) (m : Moved) (v : NetVirtTx) (names 
   home_page : (k : ℕ) (c : Shipper) → slice_get clients k ≡ Some c → (s : Sender) → c.pool ≡ sender_pool s → (z : Cargo) → kind_of z.0 ≡ Kind.Net → is_own s z ≡ true → HasPage ws z → HasPage (by_offset c.pool ∷ []) (to_client s.base z)
   home_page k c at s pool (ItemOf.Net d, body) kind own has b =
       let there : is_at c.pool d.addr ≡ true = ap (λ p. is_at p d.addr) pool ∙ own in
-      let base : c.pool.base ≡ s.base = ap (λ (p : Rattle.net_law.specs.Owners.Names.PoolAt). p.base) pool in
+      let base : c.pool.base ≡ s.base = ap (λ (p : Rattle.owner_law.specs.Pools.Places.PoolAt). p.base) pool in
       has b ∙ ap (is_named b) (pick_home clients (pools_apart v passed row) k c d.addr at there ∙ ap (λ n. buffer_at (by_offset c.pool ∷ []) (d.addr - n)) base)
   home_page k c at s pool (ItemOf.Byte x, body) kind own has b = cc
   home_page k c at s pool (ItemOf.Req x, body) kind own has b = cc

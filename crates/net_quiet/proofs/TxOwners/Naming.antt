@@ -3,7 +3,8 @@ use Rattle.frame_core.specs.declared.mac.Mac.{Mac}
 use Rattle.play_core.specs.Sheets.{Scene}
 use Rattle.play_core.proofs.Lists.{some_is}
 use Rattle.owner_law.specs.Things.{Buffers}
-use Rattle.net_law.specs.Owners.Names.{PoolAt, ClientPools, by_address, by_offset}
+use Rattle.net_law.specs.Owners.Names.{ClientPools}
+use Rattle.owner_law.specs.Pools.Places.{PoolAt, by_address, by_offset}
 use Rattle.net_law.specs.Parts.Numbers.{client_first, layout_naming}
 use Rattle.net_law.proofs.PartsLemmas.Numbering.{named_at}
 use Rattle.net_law.specs.TxParts.Numbers.{shippers_from, sender_at}

@@ -15,7 +15,7 @@ use Rattle.owner_law.proofs.Named.{carried, buffers_are, buffers_none, keeps_pla
 use Rattle.owner_law.proofs.Sums.{both, sum_none}
 use Rattle.buffer_kit.specs.Entries.{addr_of}
 use Rattle.net_virt_tx.specs.Descriptors.{with_addr}
-use Rattle.net_law.specs.Owners.Names.{PoolAt, by_offset}
+use Rattle.owner_law.specs.Pools.Places.{PoolAt, by_offset}
 use Rattle.net_law.specs.TxParts.Parts.{SendPart, Shipper}
 use Rattle.net_law.specs.TxParts.Rows.{at_device, in_range, at_home, IsOffset, all_sends, MergesSends}
 use Rattle.net_law.specs.TxParts.Table.{send_sheet, shipper_ends}

@@ -5,7 +5,7 @@ use Rattle.std.proofs.lemmas.Bool.Decides.{eqb_tells}
 use Rattle.play_core.proofs.Lists.{some_is}
 use Rattle.owner_law.specs.Things.{number_at, begins_at, buffer_at}
 use Rattle.owner_law.proofs.Sums.{both}
-use Rattle.net_law.specs.Owners.Names.{PoolAt, by_address, by_offset}
+use Rattle.owner_law.specs.Pools.Places.{PoolAt, by_address, by_offset}
 use Rattle.net_law.specs.TxParts.Parts.{Shipper}
 use Rattle.net_virt_tx.proofs.Counting.{ends_within}
 use Rattle.net_quiet.specs.TxOwners.Shipping.{device_windows, is_at, ArePoolsApart}

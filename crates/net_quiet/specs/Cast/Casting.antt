@@ -17,7 +17,7 @@ use Rattle.net_copier.specs.declared.NetCopier.{NetCopier}
 use Rattle.client_programs.specs.Net.Clients as client
 use Rattle.client_programs.specs.declared.net.NetClient.{NetClient}
 use Rattle.net_law.specs.Receiving.{HandsOver}
-use Rattle.net_law.specs.Owners.Names.{PoolAt}
+use Rattle.owner_law.specs.Pools.Places.{PoolAt}
 use Rattle.net_law.specs.RxOwners.Virtualiser.{AreNet}
 use Rattle.net_law.specs.Parts.Numbers.{driver_at, client_first, receiver_at, copier_at}
 use Rattle.net_law.specs.Parts.Playing.{driver_part, copier_part, receiver_part}

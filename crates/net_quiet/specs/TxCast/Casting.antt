@@ -12,7 +12,8 @@ use Rattle.net_virt_tx.specs.Descriptors.{is_good}
 use Rattle.net_virt_tx.specs.Sending.{TxRow}
 use Rattle.net_virt_tx.specs.declared.NetVirtTx.{NetVirtTx}
 use Rattle.net_law.specs.Receiving.{HasRoom}
-use Rattle.net_law.specs.Owners.Names.{PoolAt, ClientPools}
+use Rattle.net_law.specs.Owners.Names.{ClientPools}
+use Rattle.owner_law.specs.Pools.Places.{PoolAt}
 use Rattle.net_law.specs.Parts.Numbers.{client_first, device_at, client_at}
 use Rattle.net_law.specs.Parts.Playing.{device_part, client_part}
 use Rattle.net_law.specs.TxParts.Numbers.{NetPlace, own_pools, sender_at}

@@ -2,7 +2,7 @@
 use Rattle.std.specs.Prelude.{◌<◌, ◌≡◌, ◌+◌, ◌*◌, ◌&&◌, ℕ, Bool, true, false, nat_le, nat_lt, Some, List}
 use Rattle.std.specs.Prelude.{[], ◌∷◌, map, slice_get}
 use Rattle.owner_law.specs.Things.{Window, Buffers, Naming}
-use Rattle.net_law.specs.Owners.Names.{PoolAt, by_address, by_offset}
+use Rattle.owner_law.specs.Pools.Places.{PoolAt, by_address, by_offset}
 use Rattle.net_law.specs.TxParts.Parts.{SendPart, Shipper}
 
 -- the clients' buffers by device addresses

@@ -7,7 +7,8 @@ use Rattle.wire_core.specs.declared.names.QueueRow.{QueueRow}
 use Rattle.play_core.specs.Sheets.{Scene, AreApart}
 use Rattle.owner_law.specs.Things.{Naming}
 use Rattle.owner_law.proofs.Replays.{owners_hold}
-use Rattle.net_law.specs.Owners.Names.{PoolAt, ClientPools}
+use Rattle.net_law.specs.Owners.Names.{ClientPools}
+use Rattle.owner_law.specs.Pools.Places.{PoolAt}
 use Rattle.net_law.proofs.PartsLemmas.Owning.{net_puts}
 use Rattle.net_law.specs.TxParts.Parts.{SendPart, Shipper}
 use Rattle.net_law.specs.TxParts.Numbers.{NetPlace, shippers_from, sender_at}

@@ -18,7 +18,7 @@ use Rattle.play_core.specs.Wants.{Needful}
 use Rattle.play_core.proofs.OneQueue.{whole_prefix}
 use Rattle.play_core.proofs.Tables.{plays_there}
 use Rattle.play_core.specs.Rests.Showing.{HaveItems}
-use Rattle.net_law.specs.Owners.Names.{PoolAt}
+use Rattle.owner_law.specs.Pools.Places.{PoolAt}
 use Rattle.blk_mbr.specs.declared.part.Part.{Part as Partition}
 use Rattle.blk_expect.specs.Replies.{left_by, partition_bytes, partition_in, replies_from, replies_of, status_to}
 use Rattle.client_programs.specs.Blk.Asking.{replies_to}
