@@ -18,7 +18,7 @@ use wire_core::QueueId;
 // this size, where a frame has at most so many bytes.
 fn virtualiser(alloc: Global, size: u16, most: u16) -> Result<NetVirtTx, Memory>
     requires { 1 ≤ size }
-    ensures { IfOk result (λ v. IsNewAlone v) }
+    ensures { IfOk result (λ v. IsNewAlone size most v) }
 {
     let client = TxEnds {
         active: QueueId(2),
