@@ -71,8 +71,8 @@ HasFewClients v = length v.work.desk.clients.items < 2 ^ 31 - 2
 abbrev pub HasFirst : BlkVirt → Type 0
 HasFirst v = v.work.opening.own.no ≡ 0
 
--- the actor's ends are its own, and as it keeps them; a buffer of the network has 2,048 bytes, and
--- a block virtualiser few clients and the first buffer of its pool
+-- the actor's ends are its own, and as it keeps them; a network client's own buffers begin at offset
+-- 0, and a block virtualiser has few clients and the first buffer of its pool
 abbrev pub FitsActor : (Role → ℕ → End) → Actor → Type 0
 FitsActor ends (Kinds.UartDevice x) = FitsTerminal ends x.terminal
 FitsActor ends (Kinds.UartDriver x) = FitsPipes ends (two_pipes x.driver.pipes)
@@ -81,7 +81,7 @@ FitsActor ends (Kinds.SerialVirtTx x) = FitsTx ends x
 FitsActor ends (Kinds.SerialClient x) = FitsTerminal ends x.terminal
 FitsActor ends (Kinds.EthDevice x) = FitsDevice ends x
 FitsActor ends (Kinds.EthDriver x) = FitsPipes ends (four_pipes x.driver.pipes)
-FitsActor ends (Kinds.NetVirtRx x) = FitsNetRx ends x × (x.work.stock.size ≡ 2048)
+FitsActor ends (Kinds.NetVirtRx x) = FitsNetRx ends x
 FitsActor ends (Kinds.NetCopier x) = FitsCopier ends x
 FitsActor ends (Kinds.NetClient x) = FitsClient ends x × HasBuffers x
 FitsActor ends (Kinds.NetVirtTx x) = FitsNetTx ends x

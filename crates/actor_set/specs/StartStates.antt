@@ -50,32 +50,29 @@ pub record IsNewReceiving (d : EthDevice) : Type 0 where
       d.wire.pipe.output.queue d.frames d
   pub short : All (λ frame. length frame < 2 ^ 16) d.frames
 
--- a receiving virtualiser of the network in its start state, with all buffers of its pool, each of
--- 2,048 bytes
+-- a receiving virtualiser of the network in its start state, with all buffers of its pool
 pub record IsNewLender (v : NetVirtRx) : Type 0 where
   pub base : ℕ
   pub clients : List LeaseEnds
   pub pages : List Paged
   pub new : IsNewNetRx v.ends.input.queue v.ends.output.queue base clients pages v
   pub stands : NetRxStandsFor v nothing_passed
-  pub size : v.work.stock.size ≡ 2048
 
--- a network client in its start state, with all buffers of its two pools, which have 2,048 bytes;
--- each frame of its script has at most 65,535
+-- a network client in its start state, with all buffers of its two pools; each frame of its script
+-- has at most 65,535 bytes
 pub record IsNewClientOf (c : NetClient) : Type 0 where
   pub pages : List Paged
   pub spare : List Paged
   pub new : IsNewClient c.program.kind c.program.mac c.frames.pipe.input.queue
       c.frames.pipe.output.queue c.send.queue c.sent.queue pages spare c.program.script c
-  pub size : c.stock.size ≡ 2048
-  pub spare_size : c.outbox.stock.size ≡ 2048
   pub short : All (λ frame. length frame < 2 ^ 16) c.program.script
   pub few : length pages + length spare < 2 ^ 32 - 4
 
 -- a sending virtualiser of the network in its start state
 pub record IsNewSender (v : NetVirtTx) : Type 0 where
   pub clients : List TxEnds
-  pub new : IsNewNetTx v.ends.output.queue v.ends.input.queue clients v
+  pub most : ℕ
+  pub new : IsNewNetTx v.ends.output.queue v.ends.input.queue clients most v
   pub stands : NetTxStandsFor v nothing_passed
 
 -- a block virtualiser in its start state

@@ -6,7 +6,7 @@ ghost use Rattle.std.specs.Prelude.{ℕ, List};
 ghost use Rattle.cargo_core.specs.declared.item.Ask.{Ask};
 ghost use Rattle.play_core.specs.Sheets.{Scene};
 ghost use Rattle.owner_law.specs.Things.{Naming};
-ghost use Rattle.net_law.specs.Owners.Names.{PoolAt};
+ghost use Rattle.owner_law.specs.Pools.Places.{PoolAt};
 ghost use Rattle.net_law.specs.Parts.Parts.{Way};
 ghost use Rattle.blk_law.specs.Sheets.Parts.{DiskDevice, BlkDriver, BlkVirt, BlkClient, Sharer};
 ghost use Rattle.blk_law.specs.Sheets.Table.{blk_sheet};

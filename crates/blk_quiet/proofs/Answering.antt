@@ -21,13 +21,12 @@ use Rattle.play_core.proofs.Merges.{merge_total, prefix_merge_whole}
 use Rattle.play_core.proofs.Walks.{begins_few, needs_as, drained, paid}
 use Rattle.blk_expect.specs.Replies.{partition_in}
 use Rattle.blk_virt.specs.Requests.{request_of}
-use Rattle.net_law.specs.Owners.Names.{PoolAt}
+use Rattle.owner_law.specs.Pools.Places.{PoolAt, own_pool}
 use Rattle.net_law.specs.Parts.Parts.{Way}
 use Rattle.net_law.specs.Parts.Rows.{AllCopy}
 use Rattle.net_law.specs.Parts.Table.{is_short}
 use Rattle.net_law.proofs.PartsLemmas.Pairs.{twice, pair_first, pair_second}
 use Rattle.owner_law.proofs.PoolsLemmas.Merging.{kept_is}
-use Rattle.net_law.specs.TxParts.Numbers.{own_pool}
 use Rattle.net_quiet.proofs.Listing.{keeps}
 use Rattle.blk_law.specs.Sheets.Parts.{Sharer}
 use Rattle.blk_law.specs.Sheets.Numbers.{BlkPlace, IsBlkClientOf, disk_at, blk_driver_at, virt_at, blk_client_at}

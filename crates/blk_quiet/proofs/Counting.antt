@@ -12,7 +12,7 @@ use Rattle.cargo_core.specs.Ranges.{is_within}
 use Rattle.blk_mbr.specs.declared.part.Part.{Part}
 use Rattle.client_programs.specs.Blk.Asking.{needs_buffer, request_for}
 use Rattle.blk_virt.specs.Requests.{request_of, asked_of_disk, first_block, moves_blocks}
-use Rattle.net_law.specs.Owners.Names.{PoolAt}
+use Rattle.owner_law.specs.Pools.Places.{PoolAt}
 use Rattle.blk_law.specs.Sheets.Rows.{answer_items, asked_items, buffers_for, goes_on_item, is_item_at, item_for_disk, items_back, numbered_item, passed_item, refusal_item, IsRequestIn}
 use Rattle.blk_quiet.specs.Still.{range_of}
 

@@ -11,7 +11,7 @@ use Rattle.play_core.specs.Sheets.{Scene}
 use Rattle.play_core.specs.Still.{Plays, Holds}
 use Rattle.play_core.specs.Totals.{total}
 use Rattle.play_core.specs.Wants.{Needful}
-use Rattle.net_law.specs.Owners.Names.{PoolAt}
+use Rattle.owner_law.specs.Pools.Places.{PoolAt}
 use Rattle.blk_law.specs.Sheets.Numbers.{BlkPlace, IsBlkClientOf, disk_at, blk_driver_at, virt_at}
 use Rattle.blk_law.specs.Sheets.Numbers.{blk_client_at, sharers_from}
 use Rattle.blk_law.specs.Sheets.Rows.{all_requests}

@@ -12,7 +12,7 @@ ghost use Rattle.client_programs.specs.declared.blk.BlkClient.{BlkClient};
 ghost use Rattle.blk_virt.specs.Openings.{sector_of};
 ghost use Rattle.blk_virt.specs.Requests.{page_named};
 ghost use Rattle.blk_virt.specs.Virtualising.{BlkVirtRow};
-ghost use Rattle.net_law.specs.Owners.Names.{PoolAt};
+ghost use Rattle.owner_law.specs.Pools.Places.{PoolAt};
 ghost use Rattle.blk_law.specs.Sheets.Numbers.{BlkPlace, IsBlkClientOf};
 ghost use Rattle.blk_quiet.specs.Cast.Casting.{IsBlkCast, IsAskingClient, AllAsk, AreRequests};
 ghost use Rattle.blk_quiet.specs.Cast.Casting.{IsOfPool, IsWhole};

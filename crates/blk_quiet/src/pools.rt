@@ -23,7 +23,7 @@ ghost use Rattle.blk_virt.specs.declared.virtualiser.BlkVirt.{BlkVirt};
 ghost use Rattle.play_core.specs.Rests.Showing.{HaveItems};
 ghost use Rattle.owner_law.specs.Pools.Handing.{HandsOn};
 ghost use Rattle.owner_law.specs.Pools.Lines.{HoldsIts, NamesWithin};
-ghost use Rattle.net_law.specs.Owners.Names.{PoolAt};
+ghost use Rattle.owner_law.specs.Pools.Places.{PoolAt};
 ghost use Rattle.net_quiet.specs.Pools.Holders.{holder_of, no_lent};
 ghost use Rattle.blk_law.specs.Sheets.Numbers.{BlkPlace, disk_at, blk_driver_at, virt_at};
 ghost use Rattle.blk_law.specs.Sheets.Numbers.{blk_client_at};

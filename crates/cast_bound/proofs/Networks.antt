@@ -15,7 +15,8 @@ use Rattle.trace_text.specs.declared.trace.Trace.{Trace}
 use Rattle.trace_text.specs.Events.{net_clients}
 use Rattle.region_layout.specs.Rows.{queues_of, pools_of}
 use Rattle.buffer_kit.specs.Entries.{addr_of}
-use Rattle.net_law.specs.Owners.Names.{PoolAt, ClientPools}
+use Rattle.net_law.specs.Owners.Names.{ClientPools}
+use Rattle.owner_law.specs.Pools.Places.{PoolAt}
 use Rattle.net_law.specs.TxParts.Numbers.{NetPlace}
 use Rattle.net_law.specs.TxParts.Rows.{in_range}
 use Rattle.actor_set.specs.Parts.{Part}
@@ -32,10 +33,10 @@ use Rattle.cast_bound.specs.PlayBound.Standing.{NetMoves, without_net, with_net}
 use Rattle.cast_bound.proofs.Sources.{place_is}
 
 -- what is in a pool's range
-in_bounds : (p : PoolAt) (item : Item) → in_range p item ≡ true → (p.base ≤ addr_of item) × (addr_of item < p.base + p.buffers * 2048)
+in_bounds : (p : PoolAt) (item : Item) → in_range p item ≡ true → (p.base ≤ addr_of item) × (addr_of item < p.base + p.buffers * p.size)
 in_bounds p item h =
-    let parts = and_parts (nat_le p.base (addr_of item)) (nat_lt (addr_of item) (p.base + p.buffers * 2048)) h in
-    (leb-true p.base (addr_of item) parts.0, ltb-true (addr_of item) (p.base + p.buffers * 2048) parts.1)
+    let parts = and_parts (nat_le p.base (addr_of item)) (nat_lt (addr_of item) (p.base + p.buffers * p.size)) h in
+    (leb-true p.base (addr_of item) parts.0, ltb-true (addr_of item) (p.base + p.buffers * p.size) parts.1)
 
 module _ (plan : Plan) (valid : Valid plan) where
   -- two pools of the network by their numbers, of which the first is lower
@@ -47,14 +48,14 @@ module _ (plan : Plan) (valid : Valid plan) where
           let b = in_bounds (pool_at (pools_of plan) j) item here in
           let base : (pool_at (pools_of plan) j).base ≡ 0 = ap (λ (o : Option PoolRow). option_map_or (λ (row : PoolRow). row.base) o 0) first in
           let size : (pool_at (pools_of plan) j).buffers ≡ 0 = ap (λ (o : Option PoolRow). option_map_or (λ (row : PoolRow). row.buffers) o 0) first in
-          let lt = b.1 in
-          absurd (omega (arith, base, size, lt))
+          let lt : addr_of item < (pool_at (pools_of plan) j).base + 0 * (pool_at (pools_of plan) j).size = subst (λ n. addr_of item < (pool_at (pools_of plan) j).base + n * (pool_at (pools_of plan) j).size) size b.1 in
+          absurd (omega (arith, base, lt))
       by (Some one) first None second =
           let b = in_bounds (pool_at (pools_of plan) k) item there in
           let base : (pool_at (pools_of plan) k).base ≡ 0 = ap (λ (o : Option PoolRow). option_map_or (λ (row : PoolRow). row.base) o 0) second in
           let size : (pool_at (pools_of plan) k).buffers ≡ 0 = ap (λ (o : Option PoolRow). option_map_or (λ (row : PoolRow). row.buffers) o 0) second in
-          let lt = b.1 in
-          absurd (omega (arith, base, size, lt))
+          let lt : addr_of item < (pool_at (pools_of plan) k).base + 0 * (pool_at (pools_of plan) k).size = subst (λ n. addr_of item < (pool_at (pools_of plan) k).base + n * (pool_at (pools_of plan) k).size) size b.1 in
+          absurd (omega (arith, base, lt))
       by (Some one) first (Some other) second =
           let a = in_bounds (pool_at (pools_of plan) j) item here in
           let b = in_bounds (pool_at (pools_of plan) k) item there in
@@ -63,11 +64,13 @@ module _ (plan : Plan) (valid : Valid plan) where
           let other_base : (pool_at (pools_of plan) k).base ≡ other.base = ap (λ (o : Option PoolRow). option_map_or (λ (row : PoolRow). row.base) o 0) second in
           let other_size : (pool_at (pools_of plan) k).buffers ≡ other.buffers = ap (λ (o : Option PoolRow). option_map_or (λ (row : PoolRow). row.buffers) o 0) second in
           let from = a.0 in
-          let to = a.1 in
           let other_from = b.0 in
-          let other_to = b.1 in
           let sized : one.size ≡ 2048 = net_size plan j one (omega (arith, less, below)) first in
           let other_sized : other.size ≡ 2048 = net_size plan k other below second in
+          let told : (pool_at (pools_of plan) j).size ≡ 2048 = ap (λ (o : Option PoolRow). option_map_or (λ (row : PoolRow). row.size) o 0) first ∙ sized in
+          let other_told : (pool_at (pools_of plan) k).size ≡ 2048 = ap (λ (o : Option PoolRow). option_map_or (λ (row : PoolRow). row.size) o 0) second ∙ other_sized in
+          let to : addr_of item < (pool_at (pools_of plan) j).base + (pool_at (pools_of plan) j).buffers * 2048 = subst (λ z. addr_of item < (pool_at (pools_of plan) j).base + (pool_at (pools_of plan) j).buffers * z) told a.1 in
+          let other_to : addr_of item < (pool_at (pools_of plan) k).base + (pool_at (pools_of plan) k).buffers * 2048 = subst (λ z. addr_of item < (pool_at (pools_of plan) k).base + (pool_at (pools_of plan) k).buffers * z) other_told b.1 in
           let end : addr_of item < one.base + one.size * one.buffers = rw sized (omega (arith, base, size, to)) in
           let other_end : addr_of item < other.base + other.size * other.buffers = rw other_sized (omega (arith, other_base, other_size, other_to)) in
           pools_apart plan valid j k one other less first second (addr_of item) (omega (arith, base, from)) end (omega (arith, other_base, other_from)) other_end

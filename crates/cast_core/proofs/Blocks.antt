@@ -28,7 +28,7 @@ use Rattle.blk_virt.specs.declared.virtualiser.BlkVirt.{BlkVirt}
 use Rattle.client_programs.specs.Blk.Asking.{IsAsking}
 use Rattle.client_programs.specs.Blk.Clients.{IsNewBlkClient, BlkClientStandsFor}
 use Rattle.client_programs.specs.declared.blk.BlkClient.{BlkClient}
-use Rattle.net_law.specs.Owners.Names.{PoolAt}
+use Rattle.owner_law.specs.Pools.Places.{PoolAt}
 use Rattle.blk_law.specs.Sheets.Parts.{BlkVirt as VirtPart, BlkClient as ClientPart, Sharer}
 use Rattle.blk_law.specs.Sheets.Numbers.{sharers_from, blk_client_at}
 use Rattle.blk_law.specs.Sheets.Playing.{sharers, holder_pool, virt_part, blk_client_part}
@@ -60,6 +60,10 @@ block_fits rows n base many pool base_is many_is =
     let few = pool.few in
     let ends = pool.ends in
     (omega (arith, m, some), omega (arith, m, few), omega (arith, b, m, ends))
+
+-- the size that the row of a pool tells
+pub block_size : (rows : List PoolRow) (n : ℕ) → HasPool 32768 rows n → (pool_at rows n).size ≡ 32768
+block_size rows n pool = ap (λ (o : Option PoolRow). option_map_or (λ (r : PoolRow). r.size) o 0) pool.there ∙ pool.sized
 
 -- the clients fit where they are those of the rows
 module _ (plan : Plan) (rows : List PoolRow) (clients : ℕ) (ends : List BlkEnds) (are : ends ≡ per_client clients (blk_ends plan rows)) where
@@ -100,16 +104,17 @@ rows_enough plan rows (suc n) pools =
     let below = there_below rows (first_blk_pool plan + 1 + n) last.row last.there in
     omega (arith, below)
 
-sharers_are : (n k first : ℕ) (ends : ℕ → BlkEnds) (entry : ℕ → ℕ) (pool : ℕ → PoolAt)
+sharers_are : (n k first : ℕ) (ends : ℕ → BlkEnds) (entry : ℕ → ℕ) (pool : ℕ → PoolAt) → ((c : ℕ) → c < n → (pool c).size ≡ 32768)
     → ((c : ℕ) → ends c ≡ record { base = (pool c).base; buffers = (pool c).buffers; req = record { 0 = first + 4 + 2 * (k + c) }; resp = record { 0 = first + 5 + 2 * (k + c) }; pool = record { 0 = (pool c).number }; partition = entry c })
     → sharers (map holder_of (per_client n ends)) (map (λ (e : BlkEnds). e.req) (per_client n ends)) (map (λ (e : BlkEnds). e.resp) (per_client n ends)) ≡ sharers_from first k (per_client n entry) (per_client n pool)
-sharers_are zero k first ends entry pool each = refl
-sharers_are (suc n) k first ends entry pool each =
+sharers_are zero k first ends entry pool sized each = refl
+sharers_are (suc n) k first ends entry pool sized each =
     let made : ℕ → ℕ → BlkEnds = λ c m. record { base = (pool c).base; buffers = (pool c).buffers; req = record { 0 = first + 4 + 2 * m }; resp = record { 0 = first + 5 + 2 * m }; pool = record { 0 = (pool c).number }; partition = entry c } in
     let zero_more : k + 0 ≡ k = omega arith in
     let head : ends 0 ≡ made 0 k = each 0 ∙ ap (made 0) zero_more in
-    let tail = sharers_are n (k + 1) first (λ c. ends (suc c)) (λ c. entry (suc c)) (λ c. pool (suc c)) (λ c. let shift : k + suc c ≡ k + 1 + c = omega arith in each (suc c) ∙ ap (made (suc c)) shift) in
+    let tail = sharers_are n (k + 1) first (λ c. ends (suc c)) (λ c. entry (suc c)) (λ c. pool (suc c)) (λ c lt. sized (suc c) (omega (arith, lt))) (λ c. let shift : k + suc c ≡ k + 1 + c = omega arith in each (suc c) ∙ ap (made (suc c)) shift) in
     ap₂ (λ (e : BlkEnds) (l : List Sharer). record { req = e.req.0; resp = e.resp.0; entry = (holder_of e).partition; pool = holder_pool (holder_of e) } ∷ l) head tail
+    ∙ ap (λ z. record { req = first + 4 + 2 * k; resp = first + 5 + 2 * k; entry = entry 0; pool = record { number = (pool 0).number; base = (pool 0).base; buffers = (pool 0).buffers; size = z } } ∷ sharers_from first (k + 1) (per_client n (λ c. entry (suc c))) (per_client n (λ c. pool (suc c)))) (sym (sized 0 (omega arith)))
 
 -- a virtualiser
 module _ (plan : Plan) (rows : List PoolRow) (clients base sectors : ℕ) (ends : List BlkEnds) (page : Paged) (v : BlkVirt) (are : ends ≡ per_client clients (blk_ends plan rows))
@@ -138,14 +143,14 @@ module _ (plan : Plan) (rows : List PoolRow) (clients base sectors : ℕ) (ends 
       again [] = refl
       again (e ∷ es) = ap (λ l. holder_of e ∷ l) (again es)
 
-  pub virt_is : (first : ℕ) → first ≡ first_blk plan → req.0 ≡ first + 2 → resp.0 ≡ first + 3 → base ≡ (pool_at rows (first_blk_pool plan)).base → (pool_at rows (first_blk_pool plan)).buffers ≡ 1
+  pub virt_is : HasBlkPools plan rows clients → (first : ℕ) → first ≡ first_blk plan → req.0 ≡ first + 2 → resp.0 ≡ first + 3 → base ≡ (pool_at rows (first_blk_pool plan)).base → (pool_at rows (first_blk_pool plan)).buffers ≡ 1
       → virt_part v ≡ VirtPart (first_blk plan + 2) (first_blk plan + 3) sectors (pool_at rows (first_blk_pool plan)) (sharers_from (first_blk plan) 0 (per_client clients (client_entry plan)) (per_client clients (λ c. pool_at rows (first_blk_pool plan + 1 + c))))
-  virt_is first same out inp base_is single =
+  virt_is pools first same out inp base_is single =
       let output : v.ends.output.queue.0 ≡ first_blk plan + 2 = ap (λ (q : QueueId). q.0) (output_is resp req _ _ v.ends new.ends) ∙ (out ∙ ap (λ n. n + 2) same) in
       let input : v.ends.input.queue.0 ≡ first_blk plan + 3 = ap (λ (q : QueueId). q.0) (input_is resp req _ _ v.ends new.ends) ∙ (inp ∙ ap (λ n. n + 3) same) in
       let number : v.work.opening.own.pool.0 ≡ first_blk_pool plan = ap (λ (p : PoolId). p.0) (ap (λ o. o.pool) new.own) ∙ ap (λ (p : Paged). p.pool.0) page_is in
-      let own : ℕ → ℕ → ℕ → PoolAt = λ n b m. record { number = n; base = b; buffers = m } in
-      let pool : own v.work.opening.own.pool.0 v.work.opening.base 1 ≡ pool_at rows (first_blk_pool plan) = ap₂ (λ n b. own n b 1) number (new.base_is ∙ base_is) ∙ ap (own (first_blk_pool plan) (pool_at rows (first_blk_pool plan)).base) (sym single) in
+      let own : ℕ → ℕ → ℕ → PoolAt = λ n b m. record { number = n; base = b; buffers = m; size = 32768 } in
+      let pool : own v.work.opening.own.pool.0 v.work.opening.base 1 ≡ pool_at rows (first_blk_pool plan) = ap₂ (λ n b. own n b 1) number (new.base_is ∙ base_is) ∙ (ap (own (first_blk_pool plan) (pool_at rows (first_blk_pool plan)).base) (sym single) ∙ ap (λ z. let x : PoolAt = record { number = first_blk_pool plan; base = (pool_at rows (first_blk_pool plan)).base; buffers = (pool_at rows (first_blk_pool plan)).buffers; size = z } in x) (sym (block_size rows (first_blk_pool plan) pools.own))) in
       let from : from_queues v.ends ≡ map (λ (e : BlkEnds). e.req) (per_client clients (blk_ends plan rows)) = from_are resp req _ _ v.ends new.ends ∙ ap (map (λ (e : BlkEnds). e.req)) are in
       let to : to_queues v.ends ≡ map (λ (e : BlkEnds). e.resp) (per_client clients (blk_ends plan rows)) = to_are resp req _ _ v.ends new.ends ∙ ap (map (λ (e : BlkEnds). e.resp)) are in
       let made : ℕ → ℕ → BlkEnds = λ c m. record { base = (pool_at rows (first_blk_pool plan + 1 + c)).base; buffers = (pool_at rows (first_blk_pool plan + 1 + c)).buffers; req = record { 0 = first_blk plan + 4 + 2 * m }; resp = record { 0 = first_blk plan + 5 + 2 * m }; pool = record { 0 = first_blk_pool plan + 1 + c }; partition = client_entry plan c } in
@@ -153,7 +158,7 @@ module _ (plan : Plan) (rows : List PoolRow) (clients base sectors : ℕ) (ends 
       ap (λ l. sharers l (from_queues v.ends) (to_queues v.ends)) holders_is
       ∙ (ap (λ l. sharers (map holder_of (per_client clients (blk_ends plan rows))) l (to_queues v.ends)) from
       ∙ (ap (λ l. sharers (map holder_of (per_client clients (blk_ends plan rows))) (map (λ (e : BlkEnds). e.req) (per_client clients (blk_ends plan rows))) l) to
-      ∙ sharers_are clients 0 (first_blk plan) (blk_ends plan rows) (client_entry plan) (λ c. pool_at rows (first_blk_pool plan + 1 + c)) (λ c. let z : c ≡ 0 + c = omega arith in ap (made c) z))) in
+      ∙ sharers_are clients 0 (first_blk plan) (blk_ends plan rows) (client_entry plan) (λ c. pool_at rows (first_blk_pool plan + 1 + c)) (λ c lt. block_size rows (first_blk_pool plan + 1 + c) (pools.client c lt)) (λ c. let z : c ≡ 0 + c = omega arith in ap (made c) z))) in
       ap₂ (λ m n. VirtPart m n v.work.opening.disk_sectors (own v.work.opening.own.pool.0 v.work.opening.base 1) (sharers (holders v.work.desk) (from_queues v.ends) (to_queues v.ends))) output input
       ∙ (ap₂ (λ n p. VirtPart (first_blk plan + 2) (first_blk plan + 3) n p (sharers (holders v.work.desk) (from_queues v.ends) (to_queues v.ends))) new.sectors pool
       ∙ ap (VirtPart (first_blk plan + 2) (first_blk plan + 3) sectors (pool_at rows (first_blk_pool plan))) all)
@@ -179,13 +184,13 @@ module _ (rows : List PoolRow) (n many : ℕ) (req resp : QueueId) (pages : List
         stands = stands;
       }
 
-  pub asker_is : (first k : ℕ) → req.0 ≡ first + 4 + 2 * k → resp.0 ≡ first + 5 + 2 * k → n ≡ (pool_at rows n).number → many ≡ (pool_at rows n).buffers → blk_client_part c ≡ blk_client_at first k script (pool_at rows n)
-  asker_is first k out inp number many_is =
+  pub asker_is : (first k : ℕ) → req.0 ≡ first + 4 + 2 * k → resp.0 ≡ first + 5 + 2 * k → n ≡ (pool_at rows n).number → many ≡ (pool_at rows n).buffers → (pool_at rows n).size ≡ 32768 → blk_client_part c ≡ blk_client_at first k script (pool_at rows n)
+  asker_is first k out inp number many_is sized =
       let one : slice_get pages 0 ≡ Some (new_page 32768 n 0) = ap (λ l. slice_get l 0) pages_are ∙ value_at many (new_page 32768 n) 0 some in
       let p : c.requests.queue.0 ≡ first + 4 + 2 * k = ap (λ (o : Outlet). o.queue.0) new.requests ∙ out in
       let q : c.responses.queue.0 ≡ first + 5 + 2 * k = ap (λ (i : Intake). i.queue.0) new.responses ∙ inp in
       let pool : c.asking.pool.0 ≡ n = ap (λ (x : PoolId). x.0) (sym (new.is_start.are_pool.same_pool 0 (new_page 32768 n 0) one)) in
       let buffers : c.asking.buffers ≡ (pool_at rows n).buffers = sym new.is_start.many ∙ (ap length pages_are ∙ (value_count many (new_page 32768 n) ∙ many_is)) in
-      let own : ℕ → ℕ → PoolAt = λ x y. record { number = x; base = 0; buffers = y } in
+      let own : ℕ → ℕ → PoolAt = λ x y. record { number = x; base = 0; buffers = y; size = 32768 } in
       ap₂ (λ x y. ClientPart x y c.asking.script.items (own c.asking.pool.0 c.asking.buffers)) p q
-      ∙ ap₂ (λ l x. ClientPart (first + 4 + 2 * k) (first + 5 + 2 * k) l x) new.script_is (ap₂ own pool buffers)
+      ∙ ap₂ (λ l x. ClientPart (first + 4 + 2 * k) (first + 5 + 2 * k) l x) new.script_is (ap₂ own pool buffers ∙ ap (λ z. let x : PoolAt = record { number = n; base = 0; buffers = (pool_at rows n).buffers; size = z } in x) (sym sized))

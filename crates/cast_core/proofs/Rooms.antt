@@ -1,5 +1,5 @@
 -- The pools of a valid plan are there, apart from each other, and end low.
-use Rattle.std.proofs.Common.{◌≡◌, ◌⊎◌, ◌+◌, ◌-◌, ◌*◌, ◌<◌, ◌≤◌, ◌^◌, ℕ, zero, suc, max, fold, true, Option, Some, None, List, [], ◌∷◌, codes, length, map, slice_get, refl, sym, ap, arith, inl, inr, ◌∙◌, ap₂, ◌++◌}
+use Rattle.std.proofs.Common.{subst, ◌≡◌, ◌⊎◌, ◌+◌, ◌-◌, ◌*◌, ◌<◌, ◌≤◌, ◌^◌, ℕ, zero, suc, max, fold, true, Option, Some, None, List, [], ◌∷◌, codes, length, map, slice_get, refl, sym, ap, arith, inl, inr, ◌∙◌, ap₂, ◌++◌}
 use Rattle.std.specs.List.{All}
 use Rattle.std.specs.Option.{option_map_or}
 use Rattle.std.proofs.Math.Nat.{div-mul-le_self, mul_comm}
@@ -28,7 +28,7 @@ use Rattle.layout_laws.proofs.Rooms.{has_rooms}
 use Rattle.layout_laws.proofs.Spreads.{rows_apart}
 use Rattle.play_core.proofs.Lists.{some_is, map_get}
 use Rattle.cast_core.specs.Sources.{pool_at, first_blk_pool}
-use Rattle.cast_core.specs.Making.{HasPool, HasPools, HasBlkPools}
+use Rattle.cast_core.specs.Making.{HasPool, HasPools, HasBlkPools, HasNetPool}
 use Rattle.cast_core.proofs.Listing.{each_count}
 
 up_near : (number size : ℕ) → 1 ≤ size → round_up number size ≤ number + size
@@ -166,19 +166,22 @@ module _ (plan : Plan) where
         (row, ap (slice_get (pools_of plan)) e ∙ blk_at (1 + (c + 0)) row all)
 
 module _ (plan : Plan) (valid : Valid plan) where
-  pub has_net_pool : (n : ℕ) (row : PoolRow) → slice_get (pools_of plan) n ≡ Some row → HasPool 2048 (pools_of plan) n
-  has_net_pool n row at =
+  pub has_net_pool : (n : ℕ) (row : PoolRow) → n < first_blk_pool plan → slice_get (pools_of plan) n ≡ Some row → HasNetPool (pools_of plan) n
+  has_net_pool n row below at =
       let sound = all-at (IsSoundPool plan) (pools_of plan) (pools_sound plan valid) n row at in
       let low = base_low plan valid row.region row.base sound.base in
       let few = sound.buffers.1 in
-      record { row = row; there = at; some = sound.buffers.0; few = few; ends = omega (arith, low, few) }
+      let told : row.size ≡ (pool_at (pools_of plan) n).size = sym (ap (λ (o : Option PoolRow). option_map_or (λ (r : PoolRow). r.size) o 0) at) in
+      let size = net_size plan n row below at in
+      let ends : row.base + row.buffers * 2048 ≤ 2 ^ 62 = omega (arith, low, few) in
+      record { row = row; there = at; some = sound.buffers.0; few = few; sized = told; large = omega (arith, size, told); ends = subst (λ z. row.base + row.buffers * z ≤ 2 ^ 62) (sym size ∙ told) ends }
 
-  pub has_blk_pool : (n : ℕ) (row : PoolRow) → slice_get (pools_of plan) n ≡ Some row → HasPool 32768 (pools_of plan) n
-  has_blk_pool n row at =
+  pub has_blk_pool : (n : ℕ) (row : PoolRow) → first_blk_pool plan ≤ n → slice_get (pools_of plan) n ≡ Some row → HasPool 32768 (pools_of plan) n
+  has_blk_pool n row past at =
       let sound = all-at (IsSoundPool plan) (pools_of plan) (pools_sound plan valid) n row at in
       let low = base_low plan valid row.region row.base sound.base in
       let few = sound.buffers.1 in
-      record { row = row; there = at; some = sound.buffers.0; few = few; ends = omega (arith, low, few) }
+      record { row = row; there = at; some = sound.buffers.0; few = few; sized = blk_size plan n row past at; large = omega arith; ends = omega (arith, low, few) }
 
   -- no address is in two pools
   pub pools_apart : (j k : ℕ) (one other : PoolRow) → j < k → slice_get (pools_of plan) j ≡ Some one → slice_get (pools_of plan) k ≡ Some other
@@ -211,15 +214,19 @@ module _ (plan : Plan) (valid : Valid plan) where
       let product : (pool_at (pools_of plan) n).buffers * size ≡ row.size * row.buffers = ap₂ (λ x y. x * y) many (sym sized) ∙ mul_comm row.buffers row.size in
       (omega (arith, low, base), omega (arith, high, base, product))
 
-  ranges_apart : (size j k : ℕ) (one other : PoolRow) → j < k → slice_get (pools_of plan) j ≡ Some one → slice_get (pools_of plan) k ≡ Some other → one.size ≡ size → other.size ≡ size
-      → IsApart (record { base = (pool_at (pools_of plan) k).base; size = (pool_at (pools_of plan) k).buffers * size }) (record { base = (pool_at (pools_of plan) j).base; size = (pool_at (pools_of plan) j).buffers * size })
-  ranges_apart size j k one other less first second sized other_sized address within = elim (cases_Bool (is_within (record { base = (pool_at (pools_of plan) j).base; size = (pool_at (pools_of plan) j).buffers * size }) address)) [
+  ranges_apart : (size other_size j k : ℕ) (one other : PoolRow) → j < k → slice_get (pools_of plan) j ≡ Some one → slice_get (pools_of plan) k ≡ Some other → one.size ≡ size → other.size ≡ other_size
+      → IsApart (record { base = (pool_at (pools_of plan) k).base; size = (pool_at (pools_of plan) k).buffers * other_size }) (record { base = (pool_at (pools_of plan) j).base; size = (pool_at (pools_of plan) j).buffers * size })
+  ranges_apart size other_size j k one other less first second sized other_sized address within = elim (cases_Bool (is_within (record { base = (pool_at (pools_of plan) j).base; size = (pool_at (pools_of plan) j).buffers * size }) address)) [
     | inl holds ↦
         let a = within_row size j one address first sized holds in
-        let b = within_row size k other address second other_sized within in
+        let b = within_row other_size k other address second other_sized within in
         absurd (pools_apart j k one other less first second address a.0 a.1 b.0 b.1)
     | inr differs ↦ differs
   ]
+
+  -- the size that a row tells
+  told_size : (n : ℕ) (row : PoolRow) → slice_get (pools_of plan) n ≡ Some row → row.size ≡ (pool_at (pools_of plan) n).size
+  told_size n row at = sym (ap (λ (o : Option PoolRow). option_map_or (λ (r : PoolRow). r.size) o 0) at)
 
   -- the pools of the network class
   pub has_pools : (net : Net) → plan.net ≡ Some net → HasPools (pools_of plan) (length net.client)
@@ -227,14 +234,14 @@ module _ (plan : Plan) (valid : Valid plan) where
       let rooms = has_rooms plan valid net is in
       let many : first_blk_pool plan ≡ 1 + 2 * length net.client = ap (λ (o : Option Net). option_map_or (λ (x : Net). 1 + 2 * length x.client) o 0) is in
       record {
-        first = has_net_pool 0 rooms.free.1 rooms.free.3;
-        rx = λ c lt. has_net_pool (1 + 2 * c) (rooms.rx_free c lt).1 (rooms.rx_free c lt).3;
-        tx = λ c lt. has_net_pool (2 + 2 * c) (rooms.tx_free c lt).1 (rooms.tx_free c lt).3;
+        first = has_net_pool 0 rooms.free.1 (omega (arith, many)) rooms.free.3;
+        rx = λ c lt. has_net_pool (1 + 2 * c) (rooms.rx_free c lt).1 (omega (arith, many, lt)) (rooms.rx_free c lt).3;
+        tx = λ c lt. has_net_pool (2 + 2 * c) (rooms.tx_free c lt).1 (omega (arith, many, lt)) (rooms.tx_free c lt).3;
         apart = λ j k less lt.
             let below : j < length net.client = omega (arith, less, lt) in
             let one = rooms.tx_free j below in
             let other = rooms.tx_free k lt in
-            ranges_apart 2048 (2 + 2 * j) (2 + 2 * k) one.1 other.1 (omega (arith, less)) one.3 other.3 (net_size plan (2 + 2 * j) one.1 (omega (arith, many, below)) one.3) (net_size plan (2 + 2 * k) other.1 (omega (arith, many, lt)) other.3);
+            ranges_apart (pool_at (pools_of plan) (2 + 2 * j)).size (pool_at (pools_of plan) (2 + 2 * k)).size (2 + 2 * j) (2 + 2 * k) one.1 other.1 (omega (arith, less)) one.3 other.3 (told_size (2 + 2 * j) one.1 one.3) (told_size (2 + 2 * k) other.1 other.3);
       }
 
   -- the pools of the block class
@@ -242,11 +249,11 @@ module _ (plan : Plan) (valid : Valid plan) where
   has_blk_pools blk is =
       let own = own_there plan blk is in
       record {
-        own = has_blk_pool (first_blk_pool plan) own.0 own.1;
+        own = has_blk_pool (first_blk_pool plan) own.0 (omega arith) own.1;
         single = ap (λ (o : Option PoolRow). option_map_or (λ (r : PoolRow). r.buffers) o 0) own.1 ∙ own.2;
-        client = λ c lt. let row = client_there plan blk is c lt in has_blk_pool (first_blk_pool plan + 1 + c) row.0 row.1;
+        client = λ c lt. let row = client_there plan blk is c lt in has_blk_pool (first_blk_pool plan + 1 + c) row.0 (omega arith) row.1;
         apart = λ j k less lt.
             let one = client_there plan blk is j (omega (arith, less, lt)) in
             let other = client_there plan blk is k lt in
-            ranges_apart 32768 (first_blk_pool plan + 1 + j) (first_blk_pool plan + 1 + k) one.0 other.0 (omega (arith, less)) one.1 other.1 (blk_size plan (first_blk_pool plan + 1 + j) one.0 (omega arith) one.1) (blk_size plan (first_blk_pool plan + 1 + k) other.0 (omega arith) other.1);
+            ranges_apart 32768 32768 (first_blk_pool plan + 1 + j) (first_blk_pool plan + 1 + k) one.0 other.0 (omega (arith, less)) one.1 other.1 (blk_size plan (first_blk_pool plan + 1 + j) one.0 (omega arith) one.1) (blk_size plan (first_blk_pool plan + 1 + k) other.0 (omega arith) other.1);
       }

@@ -5,9 +5,11 @@ use Rattle.std.specs.Option.{option_map_or}
 use Rattle.sdf_plan.specs.declared.plan.Plan.{Plan}
 use Rattle.trace_text.specs.declared.trace.Trace.{Trace}
 use Rattle.trace_text.specs.Events.{net_clients, serial_clients, blk_clients}
+use Rattle.trace_text.specs.Limits.{frame_most}
 use Rattle.trace_text.specs.Traces.{per_client}
 use Rattle.region_layout.specs.Rows.{actors_of, pools_of}
-use Rattle.net_law.specs.Owners.Names.{PoolAt, ClientPools}
+use Rattle.net_law.specs.Owners.Names.{ClientPools}
+use Rattle.owner_law.specs.Pools.Places.{PoolAt}
 use Rattle.net_law.specs.Parts.Numbers.{device_at, driver_at, receiver_at, copier_at, client_at}
 use Rattle.net_law.specs.TxParts.Numbers.{NetPlace, own_pools, sender_at}
 use Rattle.blk_law.specs.Sheets.Numbers.{BlkPlace, disk_at, blk_driver_at, virt_at, blk_client_at}
@@ -29,7 +31,8 @@ use Rattle.layout_laws.specs.Jobs.Jobs.{DiskDriver, BlkVirtualiser, BlkClient, H
 abbrev pub client_pools : Plan → ℕ → ClientPools
 client_pools plan = pools_at (pools_of plan)
 
--- where the network class of a plan stands: its queues and its pools are the first
+-- where the network class of a plan stands: its queues and its pools are the first, and its frames
+-- are such as a trace gives
 abbrev pub net_place : Plan → Trace → NetPlace
 net_place plan trace = record {
   first = 0;
@@ -37,6 +40,7 @@ net_place plan trace = record {
   macs = per_client (length (net_clients plan)) (client_mac plan);
   pools = per_client (length (net_clients plan)) (client_pools plan);
   programs = per_client (length (net_clients plan)) (client_program plan trace);
+  most = frame_most;
 }
 
 -- the pool of the block client of a number: it stands behind the virtualiser's
@@ -60,7 +64,8 @@ job_part plan trace EthDevice = Some (NetworkPart (device_at 0 trace.frames))
 job_part plan trace EthDriver = Some (NetworkPart (driver_at 0))
 job_part plan trace NetReceiver = Some (NetworkPart
     (receiver_at 0 (net_place plan trace).pool (net_place plan trace).macs))
-job_part plan trace NetSender = Some (SendingPart (sender_at 0 (net_place plan trace).pools))
+job_part plan trace NetSender =
+    Some (SendingPart (sender_at 0 frame_most (net_place plan trace).pools))
 job_part plan trace (NetCopier c) = Some (NetworkPart (copier_at 0 c))
 job_part plan trace (NetClient c) = Some (NetworkPart
     (client_at 0 c (client_program plan trace c)

@@ -11,6 +11,7 @@ use Rattle.trace_text.specs.declared.trace.Trace.{Trace}
 use Rattle.net_law.specs.Parts.Numbers.{client_first}
 use Rattle.net_virt_rx.specs.declared.LeaseEnds.{LeaseEnds}
 use Rattle.net_virt_tx.specs.declared.TxEnds.{TxEnds}
+pub use Rattle.net_virt_tx.specs.Sending.{tx_range}
 use Rattle.blk_virt.specs.declared.virtualiser.BlkEnds.{BlkEnds}
 use Rattle.expect_core.specs.Expected.{client_entry}
 use Rattle.cast_core.specs.Sources.{client_mac, first_blk, first_blk_pool, pool_at}
@@ -36,32 +37,38 @@ tx_ends rows c = record {
   pool = record { 0 = 2 + 2 * c };
   buffers = (pool_at rows (2 + 2 * c)).buffers;
   base = (pool_at rows (2 + 2 * c)).base;
+  size = (pool_at rows (2 + 2 * c)).size;
 }
 
--- the device addresses of a client's buffers for sending
-abbrev pub tx_range : TxEnds → Range
-tx_range c = record { base = c.base; size = c.buffers * 2048 }
-
--- of these clients no two have an address in common, and each ends at most at 2^62
+-- of these clients no two have an address in common, no buffer is empty, and each ends at most at
+-- 2^62
 pub record HaveRanges (clients : List TxEnds) : Type 0 where
   pub apart : (j k : ℕ) (one other : TxEnds) → j < k → slice_get clients j ≡ Some one
       → slice_get clients k ≡ Some other → IsApart (tx_range other) (tx_range one)
-  pub ends : All (λ (c : TxEnds). c.base + c.buffers * 2048 ≤ 2 ^ 62) clients
+  pub sized : All (λ (c : TxEnds). 1 ≤ c.size) clients
+  pub ends : All (λ (c : TxEnds). c.base + c.buffers * c.size ≤ 2 ^ 62) clients
 
--- the pool of a number is there, with 1 to 512 buffers of this size, and ends at most at 2^62
+-- the pool of a number is there, with 1 to 512 buffers of this size, which isn't 0, and ends at most
+-- at 2^62
 pub record HasPool (size : ℕ) (rows : List PoolRow) (n : ℕ) : Type 0 where
   pub row : PoolRow
   pub there : slice_get rows n ≡ Some row
   pub some : 1 ≤ row.buffers
   pub few : row.buffers ≤ 512
+  pub sized : row.size ≡ size
+  pub large : 1 ≤ size
   pub ends : row.base + row.buffers * size ≤ 2 ^ 62
+
+-- a pool of the network is there, with buffers of the size that its row tells
+abbrev pub HasNetPool : List PoolRow → ℕ → Type 0
+HasNetPool rows n = HasPool (pool_at rows n).size rows n
 
 -- the pools of a network class with so many clients are there: the device's, and two of each
 -- client, and no two clients send in buffers at one address
 pub record HasPools (rows : List PoolRow) (clients : ℕ) : Type 0 where
-  pub first : HasPool 2048 rows (0)
-  pub rx : (c : ℕ) → c < clients → HasPool 2048 rows (1 + 2 * c)
-  pub tx : (c : ℕ) → c < clients → HasPool 2048 rows (2 + 2 * c)
+  pub first : HasNetPool rows 0
+  pub rx : (c : ℕ) → c < clients → HasNetPool rows (1 + 2 * c)
+  pub tx : (c : ℕ) → c < clients → HasNetPool rows (2 + 2 * c)
   pub apart : (j k : ℕ) → j < k → k < clients
       → IsApart (tx_range (tx_ends rows k)) (tx_range (tx_ends rows j))
 

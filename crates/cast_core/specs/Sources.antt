@@ -18,7 +18,8 @@ use Rattle.net_expect.specs.Expecting.{Program}
 use Rattle.client_programs.specs.Net.Programs.{program_with}
 use Rattle.client_programs.specs.declared.net.program.NetProgram.{NetProgram}
 use Rattle.client_programs.specs.declared.net.program.NetProgram.TheVariants as Programs
-use Rattle.net_law.specs.Owners.Names.{PoolAt, ClientPools}
+use Rattle.net_law.specs.Owners.Names.{ClientPools}
+use Rattle.owner_law.specs.Pools.Places.{PoolAt}
 
 -- so many queues, every second one from a number on
 abbrev pub every_second : ℕ → ℕ → List ℕ
@@ -44,6 +45,7 @@ pool_at rows n = record {
   number = n;
   base = option_map_or (λ (row : PoolRow). row.base) (slice_get rows n) 0;
   buffers = option_map_or (λ (row : PoolRow). row.buffers) (slice_get rows n) 0;
+  size = option_map_or (λ (row : PoolRow). row.size) (slice_get rows n) 0;
 }
 
 -- the pools of the network client of a number: they stand behind the device's, two by two

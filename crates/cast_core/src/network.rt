@@ -3,6 +3,7 @@ ghost use Rattle.std.specs.Prelude.{◌≡◌, ◌<◌, ◌≤◌, ◌+◌, ◌*
 ghost use Rattle.std.specs.Prelude.{IfOk};
 ghost use Rattle.region_layout.specs.Rows.{pools_of};
 ghost use Rattle.trace_text.specs.Events.{net_clients, is_source};
+ghost use Rattle.trace_text.specs.Limits.{frame_most};
 ghost use Rattle.trace_text.specs.Traces.{per_client};
 ghost use Rattle.turn_kit.specs.Pipes.{IsNewPipe};
 ghost use Rattle.pipe_driver.specs.Drivers.{EachPipe};
@@ -21,11 +22,11 @@ ghost use Rattle.cast_core.specs.Sources.{client_kind, client_mac, client_progra
 ghost use Rattle.cast_core.specs.Sources.{pool_at, pools_at};
 ghost use Rattle.cast_core.specs.Casts.{job_part};
 ghost use Rattle.cast_core.specs.Known.{net_job, net_within};
-ghost use Rattle.cast_core.specs.Making.{lease_ends, tx_ends, AreShort, HasPool, HasPools};
+ghost use Rattle.cast_core.specs.Making.{lease_ends, tx_ends, AreShort, HasNetPool, HasPools};
 ghost use Rattle.cast_core.specs.Making.{HasFrames};
 
 use crate::jobs::NetJob;
-use crate::pools::{NET_BUFFER, pages, pool_row, ranges, tx_ends};
+use crate::pools::{pages, pool_row, ranges, tx_ends};
 use actor_set::Actor;
 use cargo_core::{FrameLog, Memory};
 use client_programs::NetClient;
@@ -38,7 +39,7 @@ use net_virt_rx::{LeaseEnds, NetVirtRx};
 use net_virt_tx::NetVirtTx;
 use sdf_plan::Plan;
 use std::alloc::Global;
-use trace_text::{Trace, is_source, runs};
+use trace_text::{LONGEST_FRAME, Trace, is_source, runs};
 use wire_core::{PoolRow, QueueId};
 
 /// The address that no client of a valid plan has.
@@ -151,13 +152,13 @@ fn receiver(
     clients: u16,
 ) -> Result<NetVirtRx, Memory>
     requires few { clients ≤ 8 }
-    requires pool { HasPool 2048 pools.now 0 }
+    requires pool { HasNetPool pools.now 0 }
     ensures new { IfOk result IsNewLender }
     ensures part { IfOk result (λ v. receiver_part v
         ≡ receiver_at 0 (pool_at pools.now 0) (per_client clients (client_mac plan.now))) }
 {
     let row = pool_row(pools, 0);
-    let pages = pages(alloc, 0, row.buffers, NET_BUFFER)?;
+    let pages = pages(alloc, 0, row.buffers, row.size)?;
     let ends = lease_ends(alloc, plan, clients)?;
     Ok(NetVirtRx::new(alloc, QueueId(4), QueueId(5), ends, pages, row.base)?)
 }
@@ -168,11 +169,18 @@ fn sender(alloc: Global, pools: &[PoolRow], clients: u16) -> Result<NetVirtTx, M
     requires pools { HasPools pools.now clients }
     ensures new { IfOk result IsNewSender }
     ensures part { IfOk result (λ v. send_part v
-        ≡ sender_at 0 (per_client clients (pools_at pools.now))) }
+        ≡ sender_at 0 frame_most (per_client clients (pools_at pools.now))) }
 {
     let ends = tx_ends(alloc, pools, clients)?;
     let ranges = ranges(alloc, &ends)?;
-    Ok(NetVirtTx::new(alloc, QueueId(6), QueueId(7), ends, ranges)?)
+    Ok(NetVirtTx::new(
+        alloc,
+        QueueId(6),
+        QueueId(7),
+        ends,
+        ranges,
+        LONGEST_FRAME,
+    )?)
 }
 
 // The copier of the client of a number.
@@ -200,8 +208,8 @@ fn client(
     client: u16,
 ) -> Result<NetClient, Memory>
     requires few { client < 8 }
-    requires rx { HasPool 2048 pools.now (1 + 2 * client) }
-    requires tx { HasPool 2048 pools.now (2 + 2 * client) }
+    requires rx { HasNetPool pools.now (1 + 2 * client) }
+    requires tx { HasNetPool pools.now (2 + 2 * client) }
     requires there { client < length trace.now.sends }
     requires short { (frames : List (List ℕ)) → slice_get trace.now.sends client ≡ Some frames
         → AreShort frames }
@@ -213,8 +221,10 @@ fn client(
     let first = 8 + 6 * client;
     let rx = 1 + 2 * client;
     let tx = 2 + 2 * client;
-    let rx_pages = pages(alloc, rx, pool_row(pools, rx).buffers, NET_BUFFER)?;
-    let tx_pages = pages(alloc, tx, pool_row(pools, tx).buffers, NET_BUFFER)?;
+    let rx_row = pool_row(pools, rx);
+    let tx_row = pool_row(pools, tx);
+    let rx_pages = pages(alloc, rx, rx_row.buffers, rx_row.size)?;
+    let tx_pages = pages(alloc, tx, tx_row.buffers, tx_row.size)?;
     let script = copied_frames(alloc, trace.sends(client as u32))?;
     Ok(NetClient::new(
         alloc,

@@ -10,9 +10,6 @@ use net_virt_tx::TxEnds;
 use std::alloc::Global;
 use wire_core::{PoolRow, QueueId};
 
-/// How many bytes a network buffer has.
-pub const NET_BUFFER: u32 = 2048;
-
 /// How many bytes a block buffer has.
 pub const BLK_BUFFER: u32 = 32768;
 
@@ -21,6 +18,7 @@ pub fn pool_row(rows: &[PoolRow], number: u16) -> &PoolRow
     requires { number < length rows.now }
     ensures base { result.now.base ≡ (pool_at rows.now number).base }
     ensures buffers { result.now.buffers ≡ (pool_at rows.now number).buffers }
+    ensures size { result.now.size ≡ (pool_at rows.now number).size }
 {
     &rows[number as usize]
 }
@@ -53,6 +51,7 @@ pub fn tx_ends(alloc: Global, rows: &[PoolRow], clients: u16) -> Result<Vec<TxEn
             pool: PoolId(pool),
             buffers: row.buffers,
             base: row.base,
+            size: row.size,
         })?;
     }
     Ok(ends)
@@ -66,7 +65,7 @@ pub fn ranges(alloc: Global, clients: &[TxEnds]) -> Result<Ranges, Memory>
 {
     let mut ranges = Ranges::new(alloc);
     for client in clients {
-        ranges.add(client.base, client.buffers as u64 * NET_BUFFER as u64)?;
+        ranges.add(client.base, client.buffers as u64 * client.size as u64)?;
     }
     Ok(ranges)
 }

@@ -16,7 +16,8 @@ use Rattle.net_virt_tx.specs.declared.client.Client.{Client as TxClient}
 use Rattle.net_virt_tx.specs.declared.descriptors.Sender.{Sender}
 use Rattle.net_virt_tx.specs.Traffics.{senders}
 use Rattle.net_law.specs.Parts.Parts.{NetPart, NetDevice, NetDriver, NetReceiver, NetCopier as CopierPart, NetClient as NetClientPart, Way, Lessee}
-use Rattle.net_law.specs.Owners.Names.{PoolAt, ClientPools}
+use Rattle.net_law.specs.Owners.Names.{ClientPools}
+use Rattle.owner_law.specs.Pools.Places.{PoolAt}
 use Rattle.net_law.specs.Parts.Numbers.{driver_at, receiver_at}
 use Rattle.net_law.specs.Parts.Playing.{lessees}
 use Rattle.net_law.specs.TxParts.Parts.{SendPart, Shipper}
@@ -183,12 +184,12 @@ leases_apart pool macs = (
   λ k c a e. (let p = (lessee_numbers 0 macs k c a).1 in omega (arith, p, e)),
 )
 
-sends_apart : (pools : List ClientPools) → SendApart (sender_at 0 pools)
-sends_apart pools = (
-  λ k j c d a b e. (let p = (shipper_numbers 0 pools k c a).1 in let q = (shipper_numbers 0 pools j d b).1 in omega (arith, p, q, e)),
-  λ k j c d a b e. (let p = (shipper_numbers 0 pools k c a).2 in let q = (shipper_numbers 0 pools j d b).2 in omega (arith, p, q, e)),
-  λ k c a e. (let p = (shipper_numbers 0 pools k c a).1 in omega (arith, p, e)),
-  λ k c a e. (let p = (shipper_numbers 0 pools k c a).2 in omega (arith, p, e)),
+sends_apart : (most : ℕ) (pools : List ClientPools) → SendApart (sender_at 0 most pools)
+sends_apart most pools = (
+  λ k j c d a b e. (let p = (shipper_numbers most 0 pools k c a).1 in let q = (shipper_numbers most 0 pools j d b).1 in omega (arith, p, q, e)),
+  λ k j c d a b e. (let p = (shipper_numbers most 0 pools k c a).2 in let q = (shipper_numbers most 0 pools j d b).2 in omega (arith, p, q, e)),
+  λ k c a e. (let p = (shipper_numbers most 0 pools k c a).1 in omega (arith, p, e)),
+  λ k c a e. (let p = (shipper_numbers most 0 pools k c a).2 in omega (arith, p, e)),
 )
 
 asks_apart : (first : ℕ) (entries : List ℕ) (pools : List PoolAt) → AreOne (λ (c : Sharer). c.req) (sharers_from first 0 entries pools) × AreOne (λ (c : Sharer). c.resp) (sharers_from first 0 entries pools)
@@ -215,7 +216,7 @@ module _ (plan : Plan) (trace : Trace) where
   apart_in EthDevice p is = subst ApartIn (some_is is) (λ e. omega (arith, e), λ e. omega (arith, e))
   apart_in EthDriver p is = subst ApartIn (some_is is) driver_apart
   apart_in NetReceiver p is = subst ApartIn (some_is is) (leases_apart (net_place plan trace).pool (net_place plan trace).macs)
-  apart_in NetSender p is = subst ApartIn (some_is is) (sends_apart (net_place plan trace).pools)
+  apart_in NetSender p is = subst ApartIn (some_is is) (sends_apart (net_place plan trace).most (net_place plan trace).pools)
   apart_in (NetCopier c) p is = subst ApartIn (some_is is) (λ e. omega (arith, e), λ e. omega (arith, e))
   apart_in (NetClient c) p is = subst ApartIn (some_is is) (λ e. omega (arith, e), λ e. omega (arith, e))
   apart_in UartDevice p is = subst ApartIn (some_is is) tt

@@ -33,7 +33,7 @@ use Rattle.layout_laws.proofs.Lists.{all-at, each-at}
 use Rattle.layout_laws.proofs.Pools.{pools_sound}
 use Rattle.play_core.specs.Wants.{outlet}
 use Rattle.play_core.proofs.Lists.{map_get, there_is, there_below}
-use Rattle.net_law.specs.Owners.Names.{PoolAt}
+use Rattle.owner_law.specs.Pools.Places.{PoolAt}
 use Rattle.blk_law.specs.Replying.{IsSized, AreSized}
 use Rattle.blk_law.specs.Sheets.Parts.{BlkPart}
 use Rattle.blk_law.specs.Sheets.Numbers.{BlkPlace, IsBlkClientOf, disk_at, blk_driver_at, virt_at, blk_client_at}

@@ -9,7 +9,8 @@ use Rattle.sdf_plan.specs.declared.plan.Blk.{Blk}
 use Rattle.trace_text.specs.Events.{net_clients, serial_clients, blk_clients}
 use Rattle.play_core.specs.Wants.{intake, outlet}
 use Rattle.play_core.proofs.Lists.{some_is}
-use Rattle.net_law.specs.Owners.Names.{PoolAt, ClientPools}
+use Rattle.net_law.specs.Owners.Names.{ClientPools}
+use Rattle.owner_law.specs.Pools.Places.{PoolAt}
 use Rattle.net_law.specs.Parts.Parts.{Lessee}
 use Rattle.net_law.specs.Parts.Numbers.{client_first, lessees_from}
 use Rattle.net_law.specs.Parts.Table.{lessee_ends}
@@ -52,9 +53,9 @@ pub leases_end : (k : ℕ) (macs : List Mac) → flat_map lessee_ends (lessees_f
 leases_end k [] = refl
 leases_end k (mac ∷ macs) = ap (λ ends. lease_ends k ++ ends) (leases_end (k + 1) macs)
 
-pub sends_end : (k : ℕ) (pools : List ClientPools) → flat_map shipper_ends (shippers_from 0 k pools) ≡ ends_from send_ends k (length pools)
-sends_end k [] = refl
-sends_end k (q ∷ pools) = ap (λ ends. send_ends k ++ ends) (sends_end (k + 1) pools)
+pub sends_end : (most k : ℕ) (pools : List ClientPools) → flat_map shipper_ends (shippers_from 0 most k pools) ≡ ends_from send_ends k (length pools)
+sends_end most k [] = refl
+sends_end most k (q ∷ pools) = ap (λ ends. send_ends k ++ ends) (sends_end most (k + 1) pools)
 
 pub given_ends : (first k a count : ℕ) → a ≡ first + 4 + 2 * k → map outlet (every_second a count) ≡ ends_from (given_end first) k count
 given_ends first k a zero is = refl
@@ -74,14 +75,14 @@ lessee_numbers k (mac ∷ macs) zero x at =
     (omega arith, omega (arith, a), omega (arith, f))
 lessee_numbers k (mac ∷ macs) (suc c) x at = let h = lessee_numbers (k + 1) macs c x at in let lt = h.0 in let a = h.1 in let f = h.2 in (omega (arith, lt), omega (arith, a), omega (arith, f))
 
-pub shipper_numbers : (k : ℕ) (pools : List ClientPools) (c : ℕ) (x : Shipper) → slice_get (shippers_from 0 k pools) c ≡ Some x → (c < length pools) × (x.active ≡ 12 + 6 * (k + c)) × (x.free ≡ 13 + 6 * (k + c))
-shipper_numbers k [] c x at = absurd cc
-shipper_numbers k (q ∷ pools) zero x at =
-    let is : record { active = client_first 0 k + 4; free = client_first 0 k + 5; pool = q.tx } ≡ x = some_is at in
+pub shipper_numbers : (most k : ℕ) (pools : List ClientPools) (c : ℕ) (x : Shipper) → slice_get (shippers_from 0 most k pools) c ≡ Some x → (c < length pools) × (x.active ≡ 12 + 6 * (k + c)) × (x.free ≡ 13 + 6 * (k + c))
+shipper_numbers most k [] c x at = absurd cc
+shipper_numbers most k (q ∷ pools) zero x at =
+    let is : record { active = client_first 0 k + 4; free = client_first 0 k + 5; pool = q.tx; most = most } ≡ x = some_is at in
     let a : 8 + 6 * k + 4 ≡ x.active = ap (λ (y : Shipper). y.active) is in
     let f : 8 + 6 * k + 5 ≡ x.free = ap (λ (y : Shipper). y.free) is in
     (omega arith, omega (arith, a), omega (arith, f))
-shipper_numbers k (q ∷ pools) (suc c) x at = let h = shipper_numbers (k + 1) pools c x at in let lt = h.0 in let a = h.1 in let f = h.2 in (omega (arith, lt), omega (arith, a), omega (arith, f))
+shipper_numbers most k (q ∷ pools) (suc c) x at = let h = shipper_numbers most (k + 1) pools c x at in let lt = h.0 in let a = h.1 in let f = h.2 in (omega (arith, lt), omega (arith, a), omega (arith, f))
 
 pub second_get : (first count k m : ℕ) → slice_get (every_second first count) k ≡ Some m → (k < count) × (m ≡ first + 2 * k)
 second_get first zero k m h = absurd cc

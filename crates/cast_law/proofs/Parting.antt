@@ -49,7 +49,7 @@ module _ (plan : Plan) (trace : Trace) where
   ends_are NetReceiver p is = subst (λ q. part_ends q ≡ job_ends plan NetReceiver) (some_is is)
       (ap (λ ends. intake 4 ∷ outlet 5 ∷ ends) (leases_end 0 (net_place plan trace).macs ∙ ap (ends_from lease_ends 0) macs_counted))
   ends_are NetSender p is = subst (λ q. part_ends q ≡ job_ends plan NetSender) (some_is is)
-      (ap (λ ends. intake 7 ∷ outlet 6 ∷ ends) (sends_end 0 (net_place plan trace).pools ∙ ap (ends_from send_ends 0) pools_counted))
+      (ap (λ ends. intake 7 ∷ outlet 6 ∷ ends) (sends_end (net_place plan trace).most 0 (net_place plan trace).pools ∙ ap (ends_from send_ends 0) pools_counted))
   ends_are (NetCopier c) p is = subst (λ q. part_ends q ≡ job_ends plan (NetCopier c)) (some_is is) refl
   ends_are (NetClient c) p is = subst (λ q. part_ends q ≡ job_ends plan (NetClient c)) (some_is is) refl
   ends_are UartDevice p is = subst (λ q. part_ends q ≡ job_ends plan UartDevice) (some_is is) refl

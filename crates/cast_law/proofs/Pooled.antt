@@ -15,8 +15,8 @@ use Rattle.trace_text.specs.Events.{net_clients, blk_clients}
 use Rattle.trace_text.specs.Traces.{IsReadFor, per_client}
 use Rattle.region_layout.specs.Rows.{net_pools as net_pool_rows, blk_pools as blk_pool_rows, blk_client_pools, each_client, pools_of, queues_of}
 use Rattle.region_layout.proofs.SameLemmas.{pools_same}
-use Rattle.net_law.specs.Owners.Names.{PoolAt, ClientPools}
-use Rattle.net_quiet.specs.Pools.Sizes.{sizes_of}
+use Rattle.net_law.specs.Owners.Names.{ClientPools}
+use Rattle.owner_law.specs.Pools.Places.{PoolAt, sizes_of}
 use Rattle.blk_law.specs.Sheets.Parts.{Sharer}
 use Rattle.blk_law.specs.Sheets.Numbers.{BlkPlace, sharers_from}
 use Rattle.blk_law.specs.Owners.Answering.{block_range}

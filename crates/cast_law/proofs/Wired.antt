@@ -17,6 +17,7 @@ use Rattle.sdf_check.specs.Valid.{Valid}
 use Rattle.trace_text.specs.declared.trace.Trace.{Trace}
 use Rattle.trace_text.specs.Events.{net_clients}
 use Rattle.trace_text.specs.Traces.{IsReadFor}
+use Rattle.trace_text.specs.Limits.{frame_most}
 use Rattle.trace_text.specs.Shapes.{HasShapes, IsFrame as IsTraceFrame}
 use Rattle.trace_text.proofs.Shapes.{shapes-read}
 use Rattle.region_layout.specs.Rows.{queues_of, pools_of, actor_named, eth_number, disk_number}
@@ -48,7 +49,8 @@ use Rattle.layout_laws.proofs.SeatsLemmas.Having.{job_is_of}
 use Rattle.layout_laws.proofs.SeatsLemmas.Carrying.{net_kinds}
 use Rattle.layout_laws.proofs.SeatsLemmas.Naming.{net_named, blk_named}
 use Rattle.cast_core.specs.Casts.{client_pools, net_place, blk_place, job_part, scene_for, AreCast}
-use Rattle.cast_core.specs.Sources.{no_mac, client_mac, client_kind, client_program}
+use Rattle.cast_core.specs.Sources.{first_blk_pool, pool_at, no_mac, client_mac, client_kind, client_program}
+use Rattle.cast_core.proofs.Rooms.{net_size}
 use Rattle.cast_core.proofs.Listing.{value_count, value_at, value_is}
 
 -- what is made of a list, where at most one element gives anything
@@ -294,10 +296,10 @@ module _ (plan : Plan) (trace : Trace) (actors : List Actor) (valid : Valid plan
         ∙ (ap (λ m. Some (NetworkPart (client_at 0 k program m (own_pools (client_pools plan k))))) (sym b)
         ∙ ap (λ r. Some (NetworkPart (client_at 0 k program mac (own_pools r)))) (sym c))
 
-    sent_frames : (k : ℕ) → AreFrames (unwrap_or (slice_get trace.sends k) [])
+    sent_frames : (k : ℕ) → AreFrames frame_most (unwrap_or (slice_get trace.sends k) [])
     sent_frames k = by (slice_get trace.sends k) refl
       where
-        by : (o : Option (List (List ℕ))) → slice_get trace.sends k ≡ o → AreFrames (unwrap_or o [])
+        by : (o : Option (List (List ℕ))) → slice_get trace.sends k ≡ o → AreFrames frame_most (unwrap_or o [])
         by None at = λ j frame j_at. cc
         by (Some sent) at = λ j frame j_at. all_at IsTraceFrame sent (all_at (All IsTraceFrame) trace.sends shapes.sends k sent at) j frame j_at
 
@@ -338,8 +340,29 @@ module _ (plan : Plan) (trace : Trace) (actors : List Actor) (valid : Valid plan
       scripts = λ k script at.
           let v = value_is count (client_program plan trace) k (Source script) at in
           let same : script ≡ unwrap_or (slice_get trace.sends k) [] = script_is (client_kind plan k) (unwrap_or (slice_get trace.sends k) []) script v.1 in
-          subst AreFrames (sym same) (sent_frames k);
+          subst (AreFrames frame_most) (sym same) (sent_frames k);
+      told = omega arith;
+      fits = sized 0 (let long = front_long in omega (arith, long)) ((has_rooms plan valid net is).free.1) ((has_rooms plan valid net is).free.3);
+      fits_client = λ k q at.
+          let v = value_is count (client_pools plan) k q at in
+          let below : k < length net.client = (let lt = v.0 in let a = counted in omega (arith, lt, a)) in
+          let rx = (has_rooms plan valid net is).rx_free k below in
+          let tx = (has_rooms plan valid net is).tx_free k below in
+          let long = front_long in
+          (subst (λ (r : ClientPools). frame_most ≤ r.rx.size) (sym v.1) (sized (1 + 2 * k) (omega (arith, below, long)) rx.1 rx.3), subst (λ (r : ClientPools). frame_most ≤ r.tx.size) (sym v.1) (sized (2 + 2 * k) (omega (arith, below, long)) tx.1 tx.3));
     }
+      where
+        -- the network's pools stand first
+        front_long : first_blk_pool plan ≡ 1 + 2 * length net.client
+        front_long = ap (λ (o : Option Net). option_map_or (λ (x : Net). 1 + 2 * length x.client) o 0) is
+
+        -- the longest frame fits a buffer of each
+        sized : (n : ℕ) → n < first_blk_pool plan → (row : PoolRow) → slice_get (pools_of plan) n ≡ Some row → frame_most ≤ (pool_at (pools_of plan) n).size
+        sized n below row at =
+            let size = net_size plan n row below at in
+            let told : (pool_at (pools_of plan) n).size ≡ row.size = ap (λ (o : Option PoolRow). option_map_or (λ (r : PoolRow). r.size) o 0) at in
+            omega (arith, size, told)
+
 
   pub network_is : IsReadFor plan trace → HasNoNetwork cast ⊎ ((net : NetPlace) × HasWhole (queues_of plan) net cast)
   network_is read = by plan.net refl

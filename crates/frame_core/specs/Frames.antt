@@ -4,9 +4,9 @@ use Rattle.std.specs.Prelude.{take, drop}
 use Rattle.std.specs.List.{starts_with}
 use Rattle.frame_core.specs.declared.mac.Mac.{Mac}
 
--- whether so many bytes can be a frame
-abbrev pub is_frame_of : List ℕ → Bool
-is_frame_of bytes = nat_le 14 (length bytes) && nat_le (length bytes) 1514
+-- whether these bytes can be a frame, where one has at most so many
+abbrev pub is_frame_of : List ℕ → (most : ℕ) → Bool
+is_frame_of bytes most = nat_le 14 (length bytes) && nat_le (length bytes) most
 
 -- the address that every station listens to
 abbrev pub broadcast : List ℕ

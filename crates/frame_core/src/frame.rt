@@ -6,17 +6,14 @@ ghost use Rattle.frame_core.specs.Frames.{is_frame_of, is_frame_for, turned_roun
 
 use crate::Mac;
 
-/// The shortest and the longest frame, in bytes: a header of 14 bytes with 0 to 1,500 bytes after
-/// it.
+/// The shortest frame, in bytes: its header.
 const SHORTEST: usize = 14;
 
-const LONGEST: usize = 1514;
-
-/// Whether these bytes can be a frame, which their number alone decides.
-pub fn is_frame(bytes: &[u8]) -> bool
-    ensures { result ≡ is_frame_of bytes.now }
+/// Whether these bytes can be a frame, where the longest has `most`: their number alone decides.
+pub fn is_frame(bytes: &[u8], most: u16) -> bool
+    ensures { result ≡ is_frame_of bytes.now most }
 {
-    SHORTEST <= bytes.len() && bytes.len() <= LONGEST
+    SHORTEST <= bytes.len() && bytes.len() <= most as usize
 }
 
 /// The station to which a frame goes: its first six bytes.

@@ -24,7 +24,8 @@ ghost use Rattle.net_copier.specs.Copying.{CopierRow, leased_bytes};
 ghost use Rattle.net_copier.specs.declared.NetCopier.{NetCopier};
 ghost use Rattle.net_virt_rx.specs.Receiving.{RxRow};
 ghost use Rattle.net_virt_rx.specs.declared.NetVirtRx.{NetVirtRx};
-ghost use Rattle.net_law.specs.Owners.Names.{PoolAt, ClientPools};
+ghost use Rattle.net_law.specs.Owners.Names.{ClientPools};
+ghost use Rattle.owner_law.specs.Pools.Places.{PoolAt};
 ghost use Rattle.net_law.specs.Owners.Ends.{AreItemsOf};
 ghost use Rattle.net_law.specs.Parts.Parts.{NetPart};
 ghost use Rattle.net_law.specs.Parts.Rows.{frame_at};
@@ -46,8 +47,7 @@ pub fn table_law()
 
 /// The rows of the actors, of entries with their bodies, say of the items what the table says. A
 /// copier's does where it took leases alone, each as long as its item says; the virtualiser's where
-/// the frames that it took are those of their places and none came out of turn. A buffer of the
-/// network has 2,048 bytes.
+/// the frames that it took are those of their places and none came out of turn.
 pub fn row_law()
     ensures device { (scene : Scene) (d : EthDevice) (passed : Passed) (m : Moved)
         → AreItemsOf (net_sheet scene (device_part d)).ends passed m

@@ -13,7 +13,7 @@ use Rattle.play_core.proofs.Lists.{some_is}
 use Rattle.owner_law.specs.Things.{Buffer, Window, buffer_of, names_in, times}
 use Rattle.owner_law.proofs.Counting.{below_none}
 use Rattle.net_expect.specs.Expecting.{is_for_client, frames_for}
-use Rattle.net_law.specs.Owners.Names.{PoolAt, by_address, by_offset}
+use Rattle.owner_law.specs.Pools.Places.{PoolAt, by_address, by_offset}
 use Rattle.net_law.specs.Owners.Lending.{names_where, leases_due, leases_back}
 use Rattle.net_law.specs.Parts.Parts.{Lessee}
 use Rattle.net_law.specs.Parts.Rows.{IsIn, AreIn, frame_at, lease_item, leases_from, borrower_of, lender_of, is_lent}
@@ -38,9 +38,9 @@ leases_in pool frames mac place (x ∷ items) within k item at = by (is_for_clie
     by false here more j is = more j item is
 
 -- leases name the buffers in which their frames came
-pub lease_names : (pool : PoolAt) (frames : List (List ℕ)) (mac : Mac) (place : ℕ) (items : List Item) → AreIn (by_address pool) items → names_in (by_offset pool ∷ []) (leases_from frames pool.base mac place items) ≡ names_where (λ n. is_for_client mac (frame_at frames n)) place (names_in (by_address pool ∷ []) items)
-lease_names pool frames mac place [] within = refl
-lease_names pool frames mac place (x ∷ items) within = by (is_for_client mac (frame_at frames place)) same (lease_names pool frames mac (place + 1) items (λ k y at. within (suc k) y at))
+pub lease_names : (pool : PoolAt) → 0 < pool.size → (frames : List (List ℕ)) (mac : Mac) (place : ℕ) (items : List Item) → AreIn (by_address pool) items → names_in (by_offset pool ∷ []) (leases_from frames pool.base mac place items) ≡ names_where (λ n. is_for_client mac (frame_at frames n)) place (names_in (by_address pool ∷ []) items)
+lease_names pool some frames mac place [] within = refl
+lease_names pool some frames mac place (x ∷ items) within = by (is_for_client mac (frame_at frames place)) same (lease_names pool some frames mac (place + 1) items (λ k y at. within (suc k) y at))
   where
     at : IsIn (by_address pool) x
     at = within 0 x refl
@@ -49,7 +49,7 @@ lease_names pool frames mac place (x ∷ items) within = by (is_for_client mac (
     one = lease_item pool.base (frame_at frames place) x
 
     same : buffer_of (by_offset pool ∷ []) (lease_item pool.base (frame_at frames place) x) ≡ buffer_of (by_address pool ∷ []) x
-    same = buffer_is (by_offset pool) (omega arith) (lease_item pool.base (frame_at frames place) x) at.number (lease_in pool (frame_at frames place) x at) refl ∙ sym (buffer_is (by_address pool) (omega arith) x at.number at refl)
+    same = buffer_is (by_offset pool) some (lease_item pool.base (frame_at frames place) x) at.number (lease_in pool (frame_at frames place) x at) refl ∙ sym (buffer_is (by_address pool) some x at.number at refl)
 
     by : (t : Bool) → buffer_of (by_offset pool ∷ []) (lease_item pool.base (frame_at frames place) x) ≡ buffer_of (by_address pool ∷ []) x → names_in (by_offset pool ∷ []) (leases_from frames pool.base mac (place + 1) items) ≡ names_where (λ n. is_for_client mac (frame_at frames n)) (place + 1) (names_in (by_address pool ∷ []) items) → names_in (by_offset pool ∷ []) (cond t (lease_item pool.base (frame_at frames place) x ∷ leases_from frames pool.base mac (place + 1) items) (leases_from frames pool.base mac (place + 1) items)) ≡ cond t (buffer_of (by_address pool ∷ []) x ∷ names_where (λ n. is_for_client mac (frame_at frames n)) (place + 1) (names_in (by_address pool ∷ []) items)) (names_where (λ n. is_for_client mac (frame_at frames n)) (place + 1) (names_in (by_address pool ∷ []) items))
     by true h rest = ap₂ (λ y ys. y ∷ ys) h rest
@@ -59,22 +59,22 @@ begin_in : (w : Window) (xs ys : List Item) → IsPrefix xs ys → AreIn w ys �
 begin_in w xs ys begins within k item at = within k item (prefix_get xs ys begins k item at)
 
 -- at most as many leases are out to a client as there are buffers
-module _ (pool : PoolAt) (frames : List (List ℕ)) (mac : Mac) (items back : List Item) (within : AreIn (by_address pool) items) where
+module _ (pool : PoolAt) (some : 0 < pool.size) (frames : List (List ℕ)) (mac : Mac) (items back : List Item) (within : AreIn (by_address pool) items) where
   abbrev due : List Item
   due = leases_from frames pool.base mac 0 items
 
   module _ (begins : IsPrefix back due) (single : (b : Buffer) → times b (names_where (λ n. is_for_client mac (frame_at frames n)) 0 (names_in (by_address pool ∷ []) items)) ≤ times b (names_in (by_offset pool ∷ []) back) + 1) where
     few_more : (n : ℕ) → n < pool.buffers → times (numbered pool.number n) (names_in (by_offset pool ∷ []) due) ≤ 1 + times (numbered pool.number n) (names_in (by_offset pool ∷ []) back)
     few_more n lt =
-        let same = ap (times (numbered pool.number n)) (lease_names pool frames mac 0 items within) in
+        let same = ap (times (numbered pool.number n)) (lease_names pool some frames mac 0 items within) in
         let most = single (numbered pool.number n) in
         omega (arith, same, most)
 
     pub leases_few : length due ≤ length back + pool.buffers
     leases_few =
         let in_ = leases_in pool frames mac 0 items within in
-        let all = count_in (by_offset pool) (omega arith) due in_ in
-        let came = count_in (by_offset pool) (omega arith) back (begin_in (by_offset pool) back due begins in_) in
+        let all = count_in (by_offset pool) some due in_ in
+        let came = count_in (by_offset pool) some back (begin_in (by_offset pool) back due begins in_) in
         let few = below_few (λ n. times (numbered pool.number n) (names_in (by_offset pool ∷ []) due)) (λ n. 1 + times (numbered pool.number n) (names_in (by_offset pool ∷ []) back)) pool.buffers few_more in
         let more = below_more (λ n. times (numbered pool.number n) (names_in (by_offset pool ∷ []) back)) pool.buffers in
         omega (arith, all, came, few, more)
@@ -118,23 +118,23 @@ pub home_few : (t : ℕ → Bool) (n : ℕ) → sum_below (λ k. bit (not (t k))
 home_few t n = let both = below_rest t n in omega (arith, both)
 
 -- where all leases came back, all buffers are home
-back_same : (frames : List (List ℕ)) (pool : PoolAt) (active : ℕ) (m : Moved) (b : Buffer) (cs : List Lessee) → AreIn (by_address pool) (m.taken active) → ((k : ℕ) (c : Lessee) → slice_get cs k ≡ Some c → m.taken c.free ≡ leases_of frames pool active m c)
+back_same : (frames : List (List ℕ)) (pool : PoolAt) → 0 < pool.size → (active : ℕ) (m : Moved) (b : Buffer) (cs : List Lessee) → AreIn (by_address pool) (m.taken active) → ((k : ℕ) (c : Lessee) → slice_get cs k ≡ Some c → m.taken c.free ≡ leases_of frames pool active m c)
     → sum_by (λ c. times b (names_in (by_offset pool ∷ []) (m.taken c.free))) (map (borrower_of frames) cs) ≡ sum_by (λ c. times b (names_where c.is_for 0 (names_in (by_address pool ∷ []) (m.taken active)))) (map (borrower_of frames) cs)
-back_same frames pool active m b [] within back = refl
-back_same frames pool active m b (c ∷ cs) within back =
-    let here : times b (names_in (by_offset pool ∷ []) (m.taken c.free)) ≡ times b (names_where (λ n. is_for_client c.mac (frame_at frames n)) 0 (names_in (by_address pool ∷ []) (m.taken active))) = ap (λ l. times b (names_in (by_offset pool ∷ []) l)) (back 0 c refl) ∙ ap (times b) (lease_names pool frames c.mac 0 (m.taken active) within) in
-    let rest = back_same frames pool active m b cs within (λ k x at. back (suc k) x at) in
+back_same frames pool some active m b [] within back = refl
+back_same frames pool some active m b (c ∷ cs) within back =
+    let here : times b (names_in (by_offset pool ∷ []) (m.taken c.free)) ≡ times b (names_where (λ n. is_for_client c.mac (frame_at frames n)) 0 (names_in (by_address pool ∷ []) (m.taken active))) = ap (λ l. times b (names_in (by_offset pool ∷ []) l)) (back 0 c refl) ∙ ap (times b) (lease_names pool some frames c.mac 0 (m.taken active) within) in
+    let rest = back_same frames pool some active m b cs within (λ k x at. back (suc k) x at) in
     let one = sum_by-cons (λ x. times b (names_in (by_offset pool ∷ []) (m.taken x.free))) (borrower_of frames c) (map (borrower_of frames) cs) in
     let two = sum_by-cons (λ x. times b (names_where x.is_for 0 (names_in (by_address pool ∷ []) (m.taken active)))) (borrower_of frames c) (map (borrower_of frames) cs) in
     omega (arith, here, rest, one, two)
 
-pub all_home : (frames : List (List ℕ)) (active free : ℕ) (pool : PoolAt) (cs : List Lessee) (m : Moved) → AreIn (by_address pool) (m.taken active) → ((k : ℕ) (c : Lessee) → slice_get cs k ≡ Some c → m.taken c.free ≡ leases_of frames pool active m c) → home_count pool (lender_of frames active free pool cs) m ≡ pool.buffers
-all_home frames active free pool cs m within back =
+pub all_home : (frames : List (List ℕ)) (active free : ℕ) (pool : PoolAt) → 0 < pool.size → (cs : List Lessee) (m : Moved) → AreIn (by_address pool) (m.taken active) → ((k : ℕ) (c : Lessee) → slice_get cs k ≡ Some c → m.taken c.free ≡ leases_of frames pool active m c) → home_count pool (lender_of frames active free pool cs) m ≡ pool.buffers
+all_home frames active free pool some cs m within back =
     let none = below_none (λ k. bit (is_lent pool (lender_of frames active free pool cs) m (numbered pool.number k))) pool.buffers (λ n lt. ap bit (unlent n)) in
     let both = below_rest (λ k. is_lent pool (lender_of frames active free pool cs) m (numbered pool.number k)) pool.buffers in
     omega (arith, none, both)
   where
     unlent : (n : ℕ) → is_lent pool (lender_of frames active free pool cs) m (numbered pool.number n) ≡ false
     unlent n =
-        let same = back_same frames pool active m (numbered pool.number n) cs within back in
+        let same = back_same frames pool some active m (numbered pool.number n) cs within back in
         le-ltb (leases_back (by_offset pool ∷ []) (lender_of frames active free pool cs) m (numbered pool.number n)) (leases_due (by_address pool ∷ []) (lender_of frames active free pool cs) m (numbered pool.number n)) (omega (arith, same))

@@ -81,28 +81,28 @@ sized_few ns xs put begins =
     (omega (arith, few, most.0), omega (arith, few, most.1))
 
 -- the client of a number as the sending virtualiser has it, and as the receiving one has it
-abbrev pub ship_of : (first k : ℕ) → ClientPools → Shipper
-ship_of first k q = record { active = client_first first k + 4; free = client_first first k + 5; pool = q.tx }
+abbrev pub ship_of : (first most k : ℕ) → ClientPools → Shipper
+ship_of first most k q = record { active = client_first first k + 4; free = client_first first k + 5; pool = q.tx; most = most }
 
 abbrev pub lessee_of : (first k : ℕ) → Mac → Lessee
 lessee_of first k mac = record { active = client_first first k; free = client_first first k + 1; mac = mac }
 
-pub shipper_at : (first j : ℕ) (qs : List ClientPools) (k n : ℕ) (q : ClientPools) → n ≡ j + k → slice_get qs k ≡ Some q → slice_get (shippers_from first j qs) k ≡ Some (ship_of first n q)
-shipper_at first j [] k n q e at = cc
-shipper_at first j (p ∷ qs) zero n q e at = let same : j ≡ n = omega (arith, e) in ap₂ (λ i x. Some (ship_of first i x)) same (some_is at)
-shipper_at first j (p ∷ qs) (suc k) n q e at = shipper_at first (j + 1) qs k n q (omega (arith, e)) at
+pub shipper_at : (first most j : ℕ) (qs : List ClientPools) (k n : ℕ) (q : ClientPools) → n ≡ j + k → slice_get qs k ≡ Some q → slice_get (shippers_from first most j qs) k ≡ Some (ship_of first most n q)
+shipper_at first most j [] k n q e at = cc
+shipper_at first most j (p ∷ qs) zero n q e at = let same : j ≡ n = omega (arith, e) in ap₂ (λ i x. Some (ship_of first most i x)) same (some_is at)
+shipper_at first most j (p ∷ qs) (suc k) n q e at = shipper_at first most (j + 1) qs k n q (omega (arith, e)) at
 
-pub shipper_from : (first j : ℕ) (qs : List ClientPools) (k : ℕ) (c : Shipper) → slice_get (shippers_from first j qs) k ≡ Some c → (q : ClientPools) × (slice_get qs k ≡ Some q) × (ship_of first (j + k) q ≡ c)
-shipper_from first j [] k c at = cc
-shipper_from first j (p ∷ qs) zero c at = let same : j + 0 ≡ j = omega arith in (p, refl, ap (λ i. ship_of first i p) same ∙ some_is at)
-shipper_from first j (p ∷ qs) (suc k) c at =
-    let rest = shipper_from first (j + 1) qs k c at in
+pub shipper_from : (first most j : ℕ) (qs : List ClientPools) (k : ℕ) (c : Shipper) → slice_get (shippers_from first most j qs) k ≡ Some c → (q : ClientPools) × (slice_get qs k ≡ Some q) × (ship_of first most (j + k) q ≡ c)
+shipper_from first most j [] k c at = cc
+shipper_from first most j (p ∷ qs) zero c at = let same : j + 0 ≡ j = omega arith in (p, refl, ap (λ i. ship_of first most i p) same ∙ some_is at)
+shipper_from first most j (p ∷ qs) (suc k) c at =
+    let rest = shipper_from first most (j + 1) qs k c at in
     let same : j + suc k ≡ (j + 1) + k = omega arith in
-    (rest.0, rest.1, ap (λ i. ship_of first i rest.0) same ∙ rest.2)
+    (rest.0, rest.1, ap (λ i. ship_of first most i rest.0) same ∙ rest.2)
 
-pub shippers_long : (first j : ℕ) (qs : List ClientPools) → length (shippers_from first j qs) ≡ length qs
-shippers_long first j [] = refl
-shippers_long first j (q ∷ qs) = let rest = shippers_long first (j + 1) qs in omega (arith, rest)
+pub shippers_long : (first most j : ℕ) (qs : List ClientPools) → length (shippers_from first most j qs) ≡ length qs
+shippers_long first most j [] = refl
+shippers_long first most j (q ∷ qs) = let rest = shippers_long first most (j + 1) qs in omega (arith, rest)
 
 pub lessee_at : (first j : ℕ) (ms : List Mac) (k n : ℕ) (mac : Mac) → n ≡ j + k → slice_get ms k ≡ Some mac → slice_get (lessees_from first j ms) k ≡ Some (lessee_of first n mac)
 lessee_at first j [] k n mac e at = cc

@@ -6,4 +6,3 @@ pub mod Lending
 pub mod Clients
 pub mod Sizing
 pub mod Listing
-pub mod Spreading

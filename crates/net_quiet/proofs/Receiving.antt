@@ -253,7 +253,7 @@ module _ (hostile : Hostiles) (h : History) (rows : List QueueRow) (actors : Nee
         prefix_trans (got lf) (put lf) (due mac) back (prefix_trans (put lf) (got la) (due mac) given (prefix_trans (got la) (put la) (due mac) (begins_at la at_la) lent))
 
     few_leases : length (due mac) ≤ length (got lf) + net.pool.buffers
-    few_leases = leases_few net.pool scene.frames mac (got (net.first + 4)) (got lf) receiver_row.within came_back (receiver_row.single k (lessee_of net.first k mac) lessee)
+    few_leases = leases_few net.pool receiver_row.sized scene.frames mac (got (net.first + 4)) (got lf) receiver_row.within came_back (receiver_row.single k (lessee_of net.first k mac) lessee)
 
     -- no more frames came than are for the client, so an echo has answered all that came
     came_few : length (got ra) ≤ length (frames_for mac scene.frames)
@@ -367,7 +367,7 @@ module _ (hostile : Hostiles) (h : History) (rows : List QueueRow) (actors : Nee
           subst (λ (x : Lessee). is_short (put x.active) (leases_of scene.frames net.pool (net.first + 4) m x) ≡ false) (ap (λ i. lessee_of net.first i of.0) plus ∙ of.2) (lease_paid k of.0 of.1)
 
   all_back : home_count net.pool (lender_of scene.frames (net.first + 4) (net.first + 5) net.pool lessees) m ≡ net.pool.buffers
-  all_back = all_home scene.frames (net.first + 4) (net.first + 5) net.pool lessees m receiver_row.within each
+  all_back = all_home scene.frames (net.first + 4) (net.first + 5) net.pool receiver_row.sized lessees m receiver_row.within each
     where
       each : (k : ℕ) (c : Lessee) → slice_get lessees k ≡ Some c → got c.free ≡ leases_of scene.frames net.pool (net.first + 4) m c
       each k c at =
@@ -434,20 +434,20 @@ module _ (hostile : Hostiles) (h : History) (rows : List QueueRow) (actors : Nee
   puts_all k program mac q of = all_sent hostile h rows actors j scene net still w k program mac q of ∙ sends_long program mac scene.frames (length (got (client_first net.first k + 2))) (got_frames k mac of.address)
 
   wire_all : length (got (net.first + 2)) ≡ total (sends_at net.programs net.macs scene.frames)
-  wire_all = merge_total (all_sends (shippers_from net.first 0 net.pools) m) (got (net.first + 2)) (wire_merge hostile h rows actors j scene net still w) ∙ total_same (all_sends (shippers_from net.first 0 net.pools) m) (sends_at net.programs net.macs scene.frames) many each
+  wire_all = merge_total (all_sends (shippers_from net.first net.most 0 net.pools) m) (got (net.first + 2)) (wire_merge hostile h rows actors j scene net still w) ∙ total_same (all_sends (shippers_from net.first net.most 0 net.pools) m) (sends_at net.programs net.macs scene.frames) many each
     where
-      many : length (all_sends (shippers_from net.first 0 net.pools) m) ≡ length (sends_at net.programs net.macs scene.frames)
+      many : length (all_sends (shippers_from net.first net.most 0 net.pools) m) ≡ length (sends_at net.programs net.macs scene.frames)
       many =
-          let a = length-map (shippers_from net.first 0 net.pools) (λ (c : Shipper). at_device c.pool (got c.active)) in
-          let b = shippers_long net.first 0 net.pools in
+          let a = length-map (shippers_from net.first net.most 0 net.pools) (λ (c : Shipper). at_device c.pool (got c.active)) in
+          let b = shippers_long net.first net.most 0 net.pools in
           let c = sends_many net.programs net.macs scene.frames w.pools.programs_many in
           let d = w.pools.pools_many in
           omega (arith, a, b, c, d)
 
-      each : (k : ℕ) (x : List Item) (y : List (List ℕ)) → slice_get (all_sends (shippers_from net.first 0 net.pools) m) k ≡ Some x → slice_get (sends_at net.programs net.macs scene.frames) k ≡ Some y → length x ≡ length y
+      each : (k : ℕ) (x : List Item) (y : List (List ℕ)) → slice_get (all_sends (shippers_from net.first net.most 0 net.pools) m) k ≡ Some x → slice_get (sends_at net.programs net.macs scene.frames) k ≡ Some y → length x ≡ length y
       each k x y x_at y_at =
-          let c = map_from (λ (c : Shipper). at_device c.pool (got c.active)) (shippers_from net.first 0 net.pools) k x x_at in
-          let s = shipper_from net.first 0 net.pools k c.0 c.1 in
+          let c = map_from (λ (c : Shipper). at_device c.pool (got c.active)) (shippers_from net.first net.most 0 net.pools) k x x_at in
+          let s = shipper_from net.first net.most 0 net.pools k c.0 c.1 in
           let f = sends_there net.programs net.macs scene.frames k y y_at in
           let of : IsClientOf net k f.0 f.1 s.0 = record { address = f.3; pools = s.1; plays = f.2 } in
           let plus : k ≡ 0 + k = omega arith in

@@ -22,14 +22,15 @@ use Rattle.play_core.proofs.Walks.{needs_as, drained, paid, roomy}
 use Rattle.net_expect.specs.Expecting.{Program}
 use Rattle.buffer_kit.specs.Entries.{addr_of}
 use Rattle.net_virt_tx.specs.Descriptors.{with_addr}
-use Rattle.net_law.specs.Owners.Names.{PoolAt, ClientPools, by_offset}
-use Rattle.net_law.specs.Owners.Ends.{numbers_from}
+use Rattle.net_law.specs.Owners.Names.{ClientPools}
+use Rattle.owner_law.specs.Pools.Places.{PoolAt, by_offset, numbers_from}
 use Rattle.net_law.specs.Parts.Parts.{Way}
 use Rattle.net_law.specs.Parts.Numbers.{client_first, device_at, driver_at, client_at}
 use Rattle.net_law.specs.Parts.Rows.{AllCopy, FillsFrames, ServesClient, given_item, given_items, sent_where}
 use Rattle.net_law.specs.Parts.Table.{net_sheet, is_short, client_items}
 use Rattle.net_law.proofs.PartsLemmas.Pairs.{twice, pair_first, pair_second}
 use Rattle.net_law.proofs.PartsLemmas.Plain.{numbers_length}
+use Rattle.net_virt_tx.proofs.Counting.{ends_within}
 use Rattle.net_law.specs.TxParts.Parts.{Shipper}
 use Rattle.net_law.specs.TxParts.Numbers.{NetPlace, own_pools, sender_at, shippers_from}
 use Rattle.net_law.specs.TxParts.Rows.{MergesSends, IsOffset, all_sends, sends_due, at_device, at_home, in_range}
@@ -39,23 +40,23 @@ use Rattle.net_quiet.specs.Still.{IsNetwork}
 use Rattle.net_quiet.proofs.Listing.{keeps, sized_as, sized_few, ship_of, shipper_at, shipper_from}
 
 -- an item at a buffer of a pool is in the pool's range by its device address
-in_own : (p : PoolAt) (x : Item) → IsOffset p x → in_range p (with_addr (p.base + addr_of x) x) ≡ true
-in_own p (ItemOf.Net d) at = within (at.begins)
+in_own : (p : PoolAt) → 0 < p.size → (x : Item) → IsOffset p x → in_range p (with_addr (p.base + addr_of x) x) ≡ true
+in_own p some (ItemOf.Net d) at = within (at.begins)
   where
-    within : d.addr ≡ at.number * 2048 → (nat_le p.base (p.base + d.addr) && nat_lt (p.base + d.addr) (p.base + p.buffers * 2048)) ≡ true
+    within : d.addr ≡ at.number * p.size → (nat_le p.base (p.base + d.addr) && nat_lt (p.base + d.addr) (p.base + p.buffers * p.size)) ≡ true
     within e =
         let few = at.few in
         let low : nat_le p.base (p.base + d.addr) ≡ true = le-leb p.base (p.base + d.addr) (omega arith) in
-        let high : nat_lt (p.base + d.addr) (p.base + p.buffers * 2048) ≡ true = lt-ltb (p.base + d.addr) (p.base + p.buffers * 2048) (omega (arith, e, few)) in
+        let high : nat_lt (p.base + d.addr) (p.base + p.buffers * p.size) ≡ true = lt-ltb (p.base + d.addr) (p.base + p.buffers * p.size) (let inside = ends_within p.size at.number p.buffers few in omega (arith, e, some, inside)) in
         rw (low, high) refl
-in_own p (ItemOf.Byte b) at = let e = at.net in cc
-in_own p (ItemOf.Req r) at = let e = at.net in cc
-in_own p (ItemOf.Resp r) at = let e = at.net in cc
+in_own p some (ItemOf.Byte b) at = let e = at.net in cc
+in_own p some (ItemOf.Req r) at = let e = at.net in cc
+in_own p some (ItemOf.Resp r) at = let e = at.net in cc
 
-all_in_own : (p : PoolAt) (items : List Item) → ((j : ℕ) (x : Item) → slice_get items j ≡ Some x → IsOffset p x) → (j : ℕ) (x : Item) → slice_get (at_device p items) j ≡ Some x → in_range p x ≡ true
-all_in_own p items at j x x_at =
+all_in_own : (p : PoolAt) → 0 < p.size → (items : List Item) → ((j : ℕ) (x : Item) → slice_get items j ≡ Some x → IsOffset p x) → (j : ℕ) (x : Item) → slice_get (at_device p items) j ≡ Some x → in_range p x ≡ true
+all_in_own p some items at j x x_at =
     let from = map_from (λ i. with_addr (p.base + addr_of i) i) items j x x_at in
-    subst (λ y. in_range p y ≡ true) from.2 (in_own p from.0 (at j from.0 from.1))
+    subst (λ y. in_range p y ≡ true) from.2 (in_own p some from.0 (at j from.0 from.1))
 
 given_long : (tx : PoolAt) (back : List Item) → length (given_items (by_offset tx) ++ back) ≡ tx.buffers + length back
 given_long tx back =
@@ -101,11 +102,11 @@ module _ (hostile : Hostiles) (h : History) (rows : List QueueRow) (actors : Nee
   device_row : FillsFrames scene.frames (got net.first) (put (net.first + 1)) (got (net.first + 2)) (put (net.first + 3))
   device_row = w.device.row
 
-  sender_row : MergesSends (sender_at net.first net.pools) m
+  sender_row : MergesSends (sender_at net.first net.most net.pools) m
   sender_row = w.sender.row
 
   abbrev clients : List Shipper
-  clients = shippers_from net.first 0 net.pools
+  clients = shippers_from net.first net.most 0 net.pools
 
   want_driver : (place : ℕ) (x : Want) → slice_get ((net_sheet scene (driver_at net.first)).wants m) place ≡ Some x → HasWant hostile actors x
   want_driver = want_at (net_sheet scene (driver_at net.first)) w.driver
@@ -113,8 +114,8 @@ module _ (hostile : Hostiles) (h : History) (rows : List QueueRow) (actors : Nee
   want_device : (place : ℕ) (x : Want) → slice_get ((net_sheet scene (device_at net.first scene.frames)).wants m) place ≡ Some x → HasWant hostile actors x
   want_device = want_at (net_sheet scene (device_at net.first scene.frames)) w.device
 
-  want_sender : (place : ℕ) (x : Want) → slice_get ((send_sheet (sender_at net.first net.pools)).wants m) place ≡ Some x → HasWant hostile actors x
-  want_sender = want_at (send_sheet (sender_at net.first net.pools)) w.sender
+  want_sender : (place : ℕ) (x : Want) → slice_get ((send_sheet (sender_at net.first net.most net.pools)).wants m) place ≡ Some x → HasWant hostile actors x
+  want_sender = want_at (send_sheet (sender_at net.first net.most net.pools)) w.sender
 
   -- from the virtualiser's free buffers to the device's frames
 
@@ -203,23 +204,23 @@ module _ (hostile : Hostiles) (h : History) (rows : List QueueRow) (actors : Nee
   abbrev out_want : Shipper → Want
   out_want c = outlet_want c.free (is_short (put c.free) (at_home c.pool (got (net.first + 7))))
 
-  ship_at : (k : ℕ) (q : ClientPools) → slice_get net.pools k ≡ Some q → slice_get clients k ≡ Some (ship_of net.first k q)
-  ship_at k q at = shipper_at net.first 0 net.pools k k q (omega arith) at
+  ship_at : (k : ℕ) (q : ClientPools) → slice_get net.pools k ≡ Some q → slice_get clients k ≡ Some (ship_of net.first net.most k q)
+  ship_at k q at = shipper_at net.first net.most 0 net.pools k k q (omega arith) at
 
   others_fail : (k : ℕ) (q : ClientPools) → slice_get net.pools k ≡ Some q → (i : ℕ) (l : List Item) → slice_get (all_sends clients m) i ≡ Some l → (i ≡ k → ⊥) → (p : ℕ) (x : Item) → slice_get l p ≡ Some x → in_range q.tx x ≡ false
   others_fail k q at i l l_at away p x x_at =
       let c = map_from (λ (c : Shipper). at_device c.pool (got c.active)) clients i l l_at in
-      let of = shipper_from net.first 0 net.pools i c.0 c.1 in
+      let of = shipper_from net.first net.most 0 net.pools i c.0 c.1 in
       let pool_is : of.0.tx ≡ c.0.pool = ap (λ (s : Shipper). s.pool) of.2 in
-      let own : in_range c.0.pool x ≡ true = all_in_own c.0.pool (got c.0.active) (sender_row.came i c.0 c.1) p x (ap (λ z. slice_get z p) c.2 ∙ x_at) in
+      let own : in_range c.0.pool x ≡ true = all_in_own c.0.pool (sender_row.sized i c.0 c.1) (got c.0.active) (sender_row.came i c.0 c.1) p x (ap (λ z. slice_get z p) c.2 ∙ x_at) in
       w.pools.apart i k of.0 q of.1 at away (addr_of x) (ap (λ pool. in_range pool x) pool_is ∙ own)
 
   -- what is in a client's range is what came from the client
   home_long : (k : ℕ) (q : ClientPools) → slice_get net.pools k ≡ Some q → length (at_home q.tx (put (net.first + 6))) ≡ length (got (client_first net.first k + 4))
   home_long k q at =
       let ship = ship_at k q at in
-      let there = map_get (λ (c : Shipper). at_device c.pool (got c.active)) clients k (ship_of net.first k q) ship in
-      let kept = keeps (in_range q.tx) (all_sends clients m) (put (net.first + 6)) merged k (at_device q.tx (got (client_first net.first k + 4))) there (all_in_own q.tx (got (client_first net.first k + 4)) (sender_row.came k (ship_of net.first k q) ship)) (others_fail k q at) in
+      let there = map_get (λ (c : Shipper). at_device c.pool (got c.active)) clients k (ship_of net.first net.most k q) ship in
+      let kept = keeps (in_range q.tx) (all_sends clients m) (put (net.first + 6)) merged k (at_device q.tx (got (client_first net.first k + 4))) there (all_in_own q.tx (sender_row.sized k (ship_of net.first net.most k q) ship) (got (client_first net.first k + 4)) (sender_row.came k (ship_of net.first net.most k q) ship)) (others_fail k q at) in
       let long = length-map (filter (in_range q.tx) (put (net.first + 6))) (λ i. with_addr (addr_of i - q.tx.base) i) in
       let own = length-map (got (client_first net.first k + 4)) (λ i. with_addr (q.tx.base + addr_of i) i) in
       let same = ap length kept in
@@ -264,7 +265,7 @@ module _ (hostile : Hostiles) (h : History) (rows : List QueueRow) (actors : Nee
     ta_needs =
         let long = home_long k q of.pools in
         let none : is_short (at_home q.tx (put (net.first + 6))) (got ta) ≡ false = le-ltb (length (at_home q.tx (put (net.first + 6)))) (length (got ta)) (omega (arith, long)) in
-        let place = pair_first in_want out_want clients k (ship_of net.first k q) (ship_at k q of.pools) in
+        let place = pair_first in_want out_want clients k (ship_of net.first net.most k q) (ship_at k q of.pools) in
         needs_as hostile h rows actors j still ta _ true (ap not none) (want_sender (suc (suc (twice k))) _ place)
 
     ta_owes : Owes hostile actors ta (nat_lt (length (put ta)) (length items))
@@ -290,7 +291,7 @@ module _ (hostile : Hostiles) (h : History) (rows : List QueueRow) (actors : Nee
 
     tf_owes : Owes hostile actors tf (nat_lt (length (put tf)) (length (at_home q.tx (got (net.first + 7)))))
     tf_owes =
-        let place = pair_second in_want out_want clients k (ship_of net.first k q) (ship_at k q of.pools) in
+        let place = pair_second in_want out_want clients k (ship_of net.first net.most k q) (ship_at k q of.pools) in
         want_sender (suc (suc (suc (twice k)))) _ place
 
     at_tf : Holds hostile rows tf q.tx.buffers

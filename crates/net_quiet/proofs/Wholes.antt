@@ -25,8 +25,8 @@ use Rattle.net_law.specs.TxParts.Numbers.{NetPlace}
 use Rattle.net_quiet.specs.Cast.Casting.{IsClientAt}
 use Rattle.net_quiet.proofs.CastLemmas.Casting.{cast_records}
 use Rattle.net_quiet.specs.TxCast.Casting.{AllSend, IsClientOf, IsSendingClient, IsWholeCast, sends_at}
-use Rattle.net_quiet.proofs.TxCast.Numbers.{client_queues, device_sends}
-use Rattle.net_quiet.proofs.TxCast.Wholes.{wire_is}
+use Rattle.net_quiet.proofs.TxCast.Numbers.{client_queues, client_rx, device_sends}
+use Rattle.net_quiet.proofs.TxCast.Wholes.{client_long, wire_is}
 use Rattle.net_quiet.specs.Still.{IsNetwork}
 use Rattle.net_quiet.proofs.Receiving.{arrives_all, sends_all}
 
@@ -57,7 +57,7 @@ module _ (hostile : Hostiles) (h : History) (rows : List QueueRow) (actors : Nee
     pub cast_record : (k : ℕ) (program : Program) (mac : Mac) (q : ClientPools) → IsClientOf net k program mac q → (c : NetClient) → IsSendingClient net k program mac q c passed → c.frames.tape.shown ≡ frames_for mac scene.frames
     cast_record k program mac q of c is =
         let own = client_queues net.first k program mac q c is.part in
-        let at : IsClientAt net.first k c passed = record { active = own.0; free = own.1; size = is.size; some = is.some; row = is.row } in
+        let at : IsClientAt net.first k scene.frames c passed = record { active = own.0; free = own.1; long = λ j f f_at. client_long net scene.frames passed whole k q of.pools (client_rx net.first k program mac q c is.part) j f f_at; some = is.some; row = is.row } in
         record_whole k mac of.address c.frames.tape.shown (c.frames.pipe.input.queue.0) own.0 is.row.got (cast_records net.first scene.frames net.pool net.macs passed whole.half k mac of.address c at)
 
     pub cast_wire : AllSend net passed → Merge (sends_at net.programs net.macs scene.frames) whole.half.device.wire.tape.shown

@@ -12,7 +12,8 @@ use Rattle.play_core.specs.Still.{Plays, Holds}
 use Rattle.play_core.specs.Totals.{total}
 use Rattle.play_core.specs.Wants.{Needful}
 use Rattle.net_expect.specs.Expecting.{Program, frames_for, sends_of}
-use Rattle.net_law.specs.Owners.Names.{PoolAt, ClientPools}
+use Rattle.net_law.specs.Owners.Names.{ClientPools}
+use Rattle.owner_law.specs.Pools.Places.{PoolAt}
 use Rattle.net_law.specs.Parts.Numbers.{client_first, device_at, driver_at, receiver_at}
 use Rattle.net_law.specs.Parts.Numbers.{copier_at, client_at}
 use Rattle.net_law.specs.Parts.Rows.{leases_from}
@@ -23,7 +24,7 @@ use Rattle.net_quiet.specs.TxCast.Casting.{IsClientOf, sends_at}
 
 -- the device addresses of a pool's buffers
 abbrev pub range_of : PoolAt → Range
-range_of p = record { base = p.base; size = p.buffers * 2048 }
+range_of p = record { base = p.base; size = p.buffers * p.size }
 
 -- no two clients send in buffers at one address
 abbrev pub SendApart : List ClientPools → Type 0
@@ -62,7 +63,7 @@ pub record IsNetwork (hostile : Hostiles) (scene : Scene) (rows : List QueueRow)
   pub device : Plays hostile actors m (net_sheet scene (device_at net.first scene.frames))
   pub driver : Plays hostile actors m (net_sheet scene (driver_at net.first))
   pub receiver : Plays hostile actors m (net_sheet scene (receiver_at net.first net.pool net.macs))
-  pub sender : Plays hostile actors m (send_sheet (sender_at net.first net.pools))
+  pub sender : Plays hostile actors m (send_sheet (sender_at net.first net.most net.pools))
   pub copier : (k : ℕ) → k < length net.macs
       → Plays hostile actors m (net_sheet scene (copier_at net.first k))
   pub client : (k : ℕ) (program : Program) (mac : Mac) (q : ClientPools)

@@ -10,7 +10,7 @@ ghost use Rattle.wire_core.specs.Lists.{Passed};
 ghost use Rattle.net_expect.specs.Expecting.{frames_for};
 ghost use Rattle.client_programs.specs.declared.net.NetClient.{NetClient};
 ghost use Rattle.net_virt_rx.specs.Receiving.{RxRow};
-ghost use Rattle.net_law.specs.Owners.Names.{PoolAt};
+ghost use Rattle.owner_law.specs.Pools.Places.{PoolAt};
 ghost use Rattle.net_law.specs.RxOwners.Virtualiser.{TakesFrames};
 ghost use Rattle.net_law.specs.Parts.Rows.{frame_at};
 ghost use Rattle.net_law.specs.Parts.Numbers.{client_first};
@@ -32,6 +32,6 @@ pub fn cast_law()
         → AreLeases (passed.taken (client_first first k)) }
     ensures records { (first : ℕ) (frames : List (List ℕ)) (pool : PoolAt) (macs : List Mac)
         (passed : Passed) → IsCast first frames pool macs passed → (k : ℕ) (mac : Mac)
-        → slice_get macs k ≡ Some mac → (c : NetClient) → IsClientAt first k c passed
+        → slice_get macs k ≡ Some mac → (c : NetClient) → IsClientAt first k frames c passed
         → IsPrefix c.frames.tape.shown (frames_for mac frames) }
 {}

@@ -1,8 +1,8 @@
 //! The pools of the network: its actors hand pages on under the items that name them, and have of
 //! each pool what the table of owners says.
 
-ghost use Rattle.std.specs.Prelude.{◌≡◌, ◌⊎◌, ◌+◌, ◌*◌, ◌<◌, ◌≤◌, ◌++◌, ℕ, true, None, Some, List};
-ghost use Rattle.std.specs.Prelude.{[], length, slice_get};
+ghost use Rattle.std.specs.Prelude.{◌≡◌, ◌+◌, ◌*◌, ◌<◌, ◌≤◌, ℕ, true, None, Some, List};
+ghost use Rattle.std.specs.Prelude.{length, slice_get};
 ghost use Rattle.wire_core.specs.declared.names.QueueRow.{QueueRow};
 ghost use Rattle.wire_core.specs.Ends.{Consumer};
 ghost use Rattle.wire_core.specs.Journal.{Hostiles, is_calm, owner_of};
@@ -10,8 +10,7 @@ ghost use Rattle.wire_core.specs.Lists.{Passed};
 ghost use Rattle.play_core.specs.Moved.{Moved};
 ghost use Rattle.play_core.specs.Sheets.{Scene};
 ghost use Rattle.owner_law.specs.Things.{Naming};
-ghost use Rattle.owner_law.specs.Keeping.{Keeper, start_table, AreDealt, IsNaming};
-ghost use Rattle.owner_law.specs.Census.{IsPool};
+ghost use Rattle.owner_law.specs.Keeping.{IsNaming};
 ghost use Rattle.turn_kit.specs.declared.pipe.Pipe.{Pipe};
 ghost use Rattle.pipe_driver.specs.Drivers.{PipesRow, PipesBalance, pipes_hand};
 ghost use Rattle.device_model.specs.Ethernet.Devices.{DeviceRow, DeviceBalances, device_hand};
@@ -25,19 +24,19 @@ ghost use Rattle.net_virt_rx.specs.Sharing.{sharer_hand};
 ghost use Rattle.net_virt_rx.specs.Receiving.{RxRow, RxStandsFor};
 ghost use Rattle.net_virt_rx.specs.declared.NetVirtRx.{NetVirtRx};
 ghost use Rattle.frame_core.specs.declared.mac.Mac.{Mac};
-ghost use Rattle.net_law.specs.Owners.Names.{PoolAt, ClientPools};
+ghost use Rattle.net_law.specs.Owners.Names.{ClientPools};
+ghost use Rattle.owner_law.specs.Pools.Places.{PoolAt, sizes_of, AreNumbered};
 ghost use Rattle.net_law.specs.Owners.Ends.{AreItemsOf};
 ghost use Rattle.net_law.specs.RxOwners.Virtualiser.{AreNet, TakesFrames};
 ghost use Rattle.net_law.specs.Parts.Naming.{NamesPart};
 ghost use Rattle.net_law.specs.Parts.Numbers.{client_first, layout_naming};
 ghost use Rattle.net_law.specs.Parts.Playing.{device_part, driver_part, copier_part};
 ghost use Rattle.net_law.specs.Parts.Playing.{receiver_part, client_part, HasBuffers};
-ghost use Rattle.net_law.specs.Parts.Rows.{frame_at, pool_hand};
+ghost use Rattle.net_law.specs.Parts.Rows.{frame_at};
 ghost use Rattle.net_law.specs.Parts.Table.{net_sheet};
 ghost use Rattle.owner_law.specs.Pools.Handing.{HandsOn};
-ghost use Rattle.owner_law.specs.Pools.Lines.{HoldsIts, NamesWithin, HandWithin};
-ghost use Rattle.net_quiet.specs.Pools.Sizes.{net_pools, sizes_of, AreNumbered, AreSpread};
-ghost use Rattle.net_quiet.specs.Pools.Sizes.{share_of};
+ghost use Rattle.owner_law.specs.Pools.Lines.{HoldsIts, NamesWithin};
+ghost use Rattle.net_quiet.specs.Pools.Sizes.{net_pools};
 ghost use Rattle.net_quiet.specs.Pools.Holders.{holder_of, no_lent, rx_lent};
 
 /// Where what it took carries the pages that are named, so does what an actor of the network put:
@@ -55,7 +54,7 @@ pub fn hand_on_law()
         → NamesPart naming scene (copier_part c) → CopierRow c passed
         → HandsOn naming m passed (net_sheet scene (copier_part c)).ends }
     ensures receiver { (naming : Naming) (scene : Scene) (v : NetVirtRx) (passed : Passed)
-        (m : Moved) → NamesPart naming scene (receiver_part v) → v.work.stock.size ≡ 2048
+        (m : Moved) → NamesPart naming scene (receiver_part v)
         → AreNet (passed.sent v.ends.output.queue.0) → RxRow v passed
         → HandsOn naming m passed (net_sheet scene (receiver_part v)).ends }
     ensures client { (naming : Naming) (scene : Scene) (c : NetClient) (passed : Passed) (m : Moved)
@@ -81,7 +80,6 @@ pub fn hold_law()
         (holder_of (net_sheet scene (copier_part c)) (copier_hand c) no_lent) }
     ensures receiver { (naming : Naming) (sizes : ℕ → ℕ) (scene : Scene) (v : NetVirtRx)
         (passed : Passed) (m : Moved) → NamesPart naming scene (receiver_part v)
-        → v.work.stock.size ≡ 2048
         → AreItemsOf (net_sheet scene (receiver_part v)).ends passed m
         → TakesFrames (frame_at scene.frames) v passed → RxStandsFor v passed
         → v.work.stray ≡ None → length (to_queues v.ends) ≡ length v.work.macs.items
@@ -114,31 +112,4 @@ pub fn listing_law()
         → ((k : ℕ) (row : QueueRow) → k < length pools
         → slice_get queues (client_first 0 k + 1) ≡ Some row → owner_of row Consumer ≡ lender)
         → IsNaming (layout_naming scene pool macs pools) lender hostile queues }
-{}
-
-/// Where each pool's buffers are with one actor at the start, no buffer is in two hands then, each
-/// one that its pool has is in one, and each hand has its pools' own.
-pub fn spread_law()
-    ensures dealt { (sizes owner : ℕ → ℕ) (keepers : List Keeper) → AreSpread sizes owner keepers
-        → AreDealt keepers }
-    ensures pools { (sizes owner : ℕ → ℕ) (keepers : List Keeper) → AreSpread sizes owner keepers
-        → (pool : ℕ) → owner pool < length keepers
-        → IsPool (start_table keepers) pool (sizes pool) }
-    ensures within { (sizes owner : ℕ → ℕ) (keepers : List Keeper) → AreSpread sizes owner keepers
-        → (k : ℕ) (p : Keeper) → slice_get keepers k ≡ Some p → HandWithin sizes p }
-{}
-
-/// A hand at the start is one of pools that are spread: of an actor with one pool, of one with two,
-/// and of one with none.
-pub fn share_law()
-    ensures none { (sizes owner : ℕ → ℕ) (k pool : ℕ) → (owner pool ≡ k → ⊥)
-        → [] ≡ share_of sizes owner k pool }
-    ensures one { (sizes owner : ℕ → ℕ) (k : ℕ) (p : PoolAt) → sizes p.number ≡ p.buffers
-        → owner p.number ≡ k → ((n : ℕ) → owner n ≡ k → n ≡ p.number) → (pool : ℕ)
-        → pool_hand p pool ≡ share_of sizes owner k pool }
-    ensures two { (sizes owner : ℕ → ℕ) (k : ℕ) (p q : PoolAt) → sizes p.number ≡ p.buffers
-        → sizes q.number ≡ q.buffers → (p.number ≡ q.number → ⊥) → owner p.number ≡ k
-        → owner q.number ≡ k
-        → ((n : ℕ) → owner n ≡ k → (n ≡ p.number) ⊎ (n ≡ q.number)) → (pool : ℕ)
-        → pool_hand p pool ++ pool_hand q pool ≡ share_of sizes owner k pool }
 {}

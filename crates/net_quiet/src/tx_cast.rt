@@ -35,12 +35,12 @@ pub fn whole_law()
         → IsWholeCast net frames passed → AllSend net passed
         → (k : ℕ) (program : Program) (mac : Mac) (q : ClientPools)
         → IsClientOf net k program mac q
-        → AreSends q.tx (passed.taken (client_first net.first k + 5)) }
+        → AreSends net.most q.tx (passed.taken (client_first net.first k + 5)) }
     ensures puts { (net : NetPlace) (frames : List (List ℕ)) (passed : Passed)
         → IsWholeCast net frames passed → (k : ℕ) (program : Program) (mac : Mac) (q : ClientPools)
         → IsClientOf net k program mac q
-        → AreSends q.tx (passed.taken (client_first net.first k + 5))
-        → AreSends q.tx (passed.sent (client_first net.first k + 4)) }
+        → AreSends net.most q.tx (passed.taken (client_first net.first k + 5))
+        → AreSends net.most q.tx (passed.sent (client_first net.first k + 4)) }
     ensures begins { (net : NetPlace) (frames : List (List ℕ)) (passed : Passed)
         → IsWholeCast net frames passed → AllSend net passed
         → (k : ℕ) (program : Program) (mac : Mac) (q : ClientPools)

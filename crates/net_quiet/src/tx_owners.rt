@@ -12,7 +12,8 @@ ghost use Rattle.net_virt_tx.specs.declared.NetVirtTx.{NetVirtTx};
 ghost use Rattle.net_virt_tx.specs.Sending.{TxRow, TxBalances};
 ghost use Rattle.net_virt_tx.specs.Traffics.{senders, traffic_hand};
 ghost use Rattle.frame_core.specs.declared.mac.Mac.{Mac};
-ghost use Rattle.net_law.specs.Owners.Names.{PoolAt, ClientPools};
+ghost use Rattle.net_law.specs.Owners.Names.{ClientPools};
+ghost use Rattle.owner_law.specs.Pools.Places.{PoolAt};
 ghost use Rattle.net_law.specs.Parts.Numbers.{layout_naming};
 ghost use Rattle.net_law.specs.RxOwners.Virtualiser.{AreNet};
 ghost use Rattle.net_law.specs.TxParts.Numbers.{sender_at};
@@ -51,6 +52,6 @@ pub fn send_pool_law()
 /// By the layout's table, where the network's queues are the first, items name at the virtualiser's
 /// queues what the owners of buffers ask.
 pub fn send_name_law()
-    ensures { (scene : Scene) (pool : PoolAt) (macs : List Mac) (pools : List ClientPools)
-        → NamesSend (layout_naming scene pool macs pools) (sender_at 0 pools) }
+    ensures { (scene : Scene) (most : ℕ) (pool : PoolAt) (macs : List Mac) (pools : List ClientPools)
+        → NamesSend (layout_naming scene pool macs pools) (sender_at 0 most pools) }
 {}

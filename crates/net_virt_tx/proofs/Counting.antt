@@ -1,10 +1,11 @@
 -- How many entries are at an address, how many marks are set, and which descriptors of a list are
 -- good.
-use Rattle.std.proofs.Common.{◌≡◌, ◌⊎◌, ◌+◌, ◌-◌, ◌*◌, ◌==◌, ◌<◌, ◌≤◌, ◌&&◌, ◌||◌, ℕ, zero, suc, Bool, true, false, not, cond, inl, inr, Option, Some, None, is_none, List, [], ◌∷◌, ◌++◌, All, length, slice_set, refl, sym, ap, ◌∙◌, add-zero, eq-eqb, ne_eqb, arith}
+use Rattle.std.proofs.Common.{◌≡◌, ◌⊎◌, ◌+◌, ◌-◌, ◌*◌, ◌/◌, ◌==◌, ◌<◌, ◌≤◌, ◌&&◌, ◌||◌, ℕ, zero, suc, Bool, true, false, not, cond, inl, inr, Option, Some, None, is_none, List, [], ◌∷◌, ◌++◌, All, length, slice_set, refl, sym, ap, ◌∙◌, add-zero, eq-eqb, ne_eqb, arith}
 use Rattle.std.specs.List.{filter}
 use Rattle.std.specs.Option.{option_to_list}
 use Rattle.std.proofs.lemmas.Bool.{cases_eq, and_parts, eqb-true, ltb-true}
 use Rattle.std.proofs.lemmas.List.{append-nil}
+use Rattle.std.proofs.Math.Nat.{mul-div_cancel, mul-le-mul_right, le_of_mul-le-mul_right, le_of_eq}
 use Rattle.std.proofs.lemmas.List.Elements.{filter-append}
 use Rattle.std.proofs.lemmas.List.{get_or-set_same, get_or-set_other}
 use Rattle.cargo_core.specs.declared.item.Item.{Item}
@@ -46,18 +47,35 @@ pub bit_most : (t : Bool) → bit t ≤ 1
 bit_most true = omega arith
 bit_most false = omega arith
 
+-- buffers of one size have an address each
+pub same_number : (size n b : ℕ) → 1 ≤ size → n * size ≡ b * size → n ≡ b
+same_number size n b some e =
+    let low : n ≤ b = le_of_mul-le-mul_right (le_of_eq e) some in
+    let high : b ≤ n = le_of_mul-le-mul_right (le_of_eq (sym e)) some in
+    omega (arith, low, high)
+
+-- a buffer ends before the end of all
+pub ends_within : (size n many : ℕ) → n < many → n * size + size ≤ many * size
+ends_within size n many low =
+    let h : (n + 1) * size ≤ many * size = mul-le-mul_right size (omega (arith, low)) in
+    omega (arith, h)
+
+-- the number of a buffer, by its address
+pub number_back : (size n : ℕ) → 1 ≤ size → n * size / size ≡ n
+number_back size n some = mul-div_cancel n some
+
 -- an entry at a buffer is at that address and at no other buffer's
-pub one_at : (base n b : ℕ) (x : Cargo) → addr_of x.0 ≡ base + n * 2048 → (n ≡ b) → at_address (base + b * 2048) (x ∷ []) ≡ 1
-one_at base n b x at e = add-zero (bit (addr_of x.0 == base + b * 2048)) ∙ bit_same (addr_of x.0) (base + b * 2048) (omega (arith, at, e))
+pub one_at : (size : ℕ) (base n b : ℕ) (x : Cargo) → addr_of x.0 ≡ base + n * size → (n ≡ b) → at_address (base + b * size) (x ∷ []) ≡ 1
+one_at size base n b x at e = add-zero (bit (addr_of x.0 == base + b * size)) ∙ bit_same (addr_of x.0) (base + b * size) (at ∙ ap (λ k. base + k * size) e)
 
-pub none_at : (base n b : ℕ) (x : Cargo) → addr_of x.0 ≡ base + n * 2048 → (n ≡ b → ⊥) → at_address (base + b * 2048) (x ∷ []) ≡ 0
-none_at base n b x at ne = add-zero (bit (addr_of x.0 == base + b * 2048)) ∙ bit_other (addr_of x.0) (base + b * 2048) (λ e. ne (omega (arith, at, e)))
+pub none_at : (size : ℕ) → 1 ≤ size → (base n b : ℕ) (x : Cargo) → addr_of x.0 ≡ base + n * size → (n ≡ b → ⊥) → at_address (base + b * size) (x ∷ []) ≡ 0
+none_at size some base n b x at ne = add-zero (bit (addr_of x.0 == base + b * size)) ∙ bit_other (addr_of x.0) (base + b * size) (λ e. ne (same_number size n b some (omega (arith, at, e))))
 
-pub offset_at : (n b : ℕ) (x : Cargo) → addr_of x.0 ≡ n * 2048 → (n ≡ b) → at_address (b * 2048) (x ∷ []) ≡ 1
-offset_at n b x at e = add-zero (bit (addr_of x.0 == b * 2048)) ∙ bit_same (addr_of x.0) (b * 2048) (omega (arith, at, e))
+pub offset_at : (size : ℕ) (n b : ℕ) (x : Cargo) → addr_of x.0 ≡ n * size → (n ≡ b) → at_address (b * size) (x ∷ []) ≡ 1
+offset_at size n b x at e = add-zero (bit (addr_of x.0 == b * size)) ∙ bit_same (addr_of x.0) (b * size) (at ∙ ap (λ k. k * size) e)
 
-pub offset_off : (n b : ℕ) (x : Cargo) → addr_of x.0 ≡ n * 2048 → (n ≡ b → ⊥) → at_address (b * 2048) (x ∷ []) ≡ 0
-offset_off n b x at ne = add-zero (bit (addr_of x.0 == b * 2048)) ∙ bit_other (addr_of x.0) (b * 2048) (λ e. ne (omega (arith, at, e)))
+pub offset_off : (size : ℕ) → 1 ≤ size → (n b : ℕ) (x : Cargo) → addr_of x.0 ≡ n * size → (n ≡ b → ⊥) → at_address (b * size) (x ∷ []) ≡ 0
+offset_off size some n b x at ne = add-zero (bit (addr_of x.0 == b * size)) ∙ bit_other (addr_of x.0) (b * size) (λ e. ne (same_number size n b some (omega (arith, at, e))))
 
 pub where_at : (P : Cargo → Type 0) (a : ℕ) (xs : List Cargo) → All P xs → 0 < at_address a xs → (x : Cargo) × P x × (addr_of x.0 ≡ a)
 where_at P a [] h some = absurd (omega (arith, some))
@@ -120,12 +138,12 @@ pub back_again : (base : ℕ) (x : Cargo) → to_client base (to_device base x) 
 back_again base (item, body) = ap (λ i. (i, body)) (back_to base item)
 
 -- a good descriptor
-pub good_is : (s : Sender) (x : Cargo) → is_good_of s x ≡ true → (number_of x.1 < s.buffers) × (addr_of x.0 ≡ number_of x.1 * 2048)
+pub good_is : (s : Sender) (x : Cargo) → is_good_of s x ≡ true → (number_of x.1 < s.buffers) × (addr_of x.0 ≡ number_of x.1 * s.size)
 good_is s (item, Carried.Page page) h =
     let one = and_parts _ _ h in
     let two = and_parts _ _ one.1 in
     let three = and_parts _ _ two.1 in
-    (ltb-true page.no s.buffers two.0, eqb-true (addr_of item) (page.no * 2048) three.0)
+    (ltb-true page.no s.buffers two.0, eqb-true (addr_of item) (page.no * s.size) three.0)
 good_is s (item, Carried.Lease lease) h = absurd cc
 good_is s (item, Carried.Empty) h = absurd cc
 

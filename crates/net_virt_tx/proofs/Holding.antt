@@ -18,7 +18,7 @@ use Rattle.net_virt_tx.specs.declared.traffic.Traffic.{Traffic}
 use Rattle.net_virt_tx.specs.Queued.{returns_list}
 use Rattle.net_virt_tx.specs.Clients.{IsClient, IsFresh, carried, range_of}
 use Rattle.net_virt_tx.specs.Traffics.{IsTraffic, senders}
-use Rattle.net_virt_tx.specs.Sending.{FitsClients, sender_of}
+use Rattle.net_virt_tx.specs.Sending.{FitsClients, sender_of, tx_range}
 use Rattle.net_virt_tx.proofs.Counting.{few_marked}
 
 one_body : (pool : PoolId) (b : Body) → buffers_in pool b ≤ 1
@@ -58,24 +58,24 @@ pub none_fresh : (k : ℕ) (c : Client) → slice_get [] k ≡ Some c → IsFres
 none_fresh k c at = absurd cc
 
 -- what is kept of new clients fits together
-sums_same : (cs : List TxEnds) → sum_by (λ (s : Sender). s.buffers + 2) (map sender_of cs) ≡ sum_by (λ (c : TxEnds). c.buffers + 2) cs
-sums_same [] = refl
-sums_same (c ∷ cs) =
-    let a = sum_by-cons (λ (s : Sender). s.buffers + 2) (sender_of c) (map sender_of cs) in
+sums_same : (most : ℕ) (cs : List TxEnds) → sum_by (λ (s : Sender). s.buffers + 2) (map (sender_of most) cs) ≡ sum_by (λ (c : TxEnds). c.buffers + 2) cs
+sums_same most [] = refl
+sums_same most (c ∷ cs) =
+    let a = sum_by-cons (λ (s : Sender). s.buffers + 2) (sender_of most c) (map (sender_of most) cs) in
     let b = sum_by-cons (λ (x : TxEnds). x.buffers + 2) c cs in
-    let r = sums_same cs in
+    let r = sums_same most cs in
     omega (arith, a, b, r)
 
-ranges_same : (cs : List TxEnds) → map (λ (c : TxEnds). range_of (sender_of c)) cs ≡ map range_of (map sender_of cs)
-ranges_same [] = refl
-ranges_same (c ∷ cs) = ap (λ rs. range_of (sender_of c) ∷ rs) (ranges_same cs)
+ranges_same : (most : ℕ) (cs : List TxEnds) → map tx_range cs ≡ map range_of (map (sender_of most) cs)
+ranges_same most [] = refl
+ranges_same most (c ∷ cs) = ap (λ rs. tx_range c ∷ rs) (ranges_same most cs)
 
-pub new_traffic : (w : Traffic) (clients : List TxEnds) → FitsClients clients w.ranges → AreRanges w.ranges → senders w ≡ map sender_of clients → ((k : ℕ) (c : Client) → slice_get w.clients.items k ≡ Some c → IsFresh c) → IsTraffic w
-new_traffic w clients fits are same fresh = record {
+pub new_traffic : (most : ℕ) (w : Traffic) (clients : List TxEnds) → FitsClients clients w.ranges → AreRanges w.ranges → senders w ≡ map (sender_of most) clients → ((k : ℕ) (c : Client) → slice_get w.clients.items k ≡ Some c → IsFresh c) → IsTraffic w
+new_traffic most w clients fits are same fresh = record {
   each = λ k c at. (fresh k c at).work;
-  ranges_are = fits.ranges_are ∙ (ranges_same clients ∙ ap (map range_of) (sym same));
+  ranges_are = fits.ranges_are ∙ (ranges_same most clients ∙ ap (map range_of) (sym same));
   apart = are;
-  few = subst (λ (ss : List Sender). sum_by (λ (s : Sender). s.buffers + 2) ss < 2 ^ 32) (sym same) (let e = sums_same clients in let f = fits.few in omega (arith, e, f));
+  few = subst (λ (ss : List Sender). sum_by (λ (s : Sender). s.buffers + 2) ss < 2 ^ 32) (sym same) (let e = sums_same most clients in let f = fits.few in omega (arith, e, f));
 }
 
 abbrev pub places_of : Client → ℕ

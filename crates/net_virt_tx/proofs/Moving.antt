@@ -17,7 +17,7 @@ use Rattle.net_virt_tx.specs.Descriptors.{to_device, to_client}
 use Rattle.net_virt_tx.specs.Queued.{returns_list, IsReady}
 use Rattle.net_virt_tx.specs.Serving.{is_good_of, bad_ones}
 use Rattle.net_virt_tx.specs.Clients.{IsClient, ClientStands, Moved, IsReturn, at_address, is_marked, number_of, is_away, buffer_at, carried, capped}
-use Rattle.net_virt_tx.proofs.Counting.{at_append, one_at, none_at, offset_at, offset_off, bit_most, many_set, few_marked, marked_within, set_here, set_beside, kind_same, addr_with, back_again, good_is, good_more, bad_more, cargo_parts}
+use Rattle.net_virt_tx.proofs.Counting.{at_append, one_at, none_at, offset_at, offset_off, bit_most, many_set, few_marked, marked_within, set_here, set_beside, kind_same, addr_with, back_again, good_is, good_more, bad_more, cargo_parts, number_back}
 use Rattle.net_virt_tx.proofs.Merging.{merge_first, merge_second}
 
 -- the same lists
@@ -54,37 +54,38 @@ module _ (c : Client) (h : IsClient c) (x : Cargo) (leaving : c.leaving ≡ None
   abbrev cg : Client
   cg = record c { leaving = Some (to_device c.sender.base x); number = number_of x.1; inside = slice_set c.inside (number_of x.1) true }
 
-  up_at : addr_of up.0 ≡ base + n * 2048
+  up_at : addr_of up.0 ≡ base + n * c.sender.size
   up_at = addr_with (base + addr_of x.0) x.0 kind ∙ ap (λ m. base + m) (good_is c.sender x good).1
 
   within_marks : n < length c.inside
   within_marks = let g = (good_is c.sender x good).0 in let l = h.inside_long in omega (arith, g, l)
 
-  good_marks : (b : ℕ) → b < c.sender.buffers → bit (is_marked (slice_set c.inside n true) b) ≡ at_address (base + b * 2048) (up ∷ []) + (bit (is_marked c.away b) + at_address (b * 2048) (returns_list c.returns))
+  good_marks : (b : ℕ) → b < c.sender.buffers → bit (is_marked (slice_set c.inside n true) b) ≡ at_address (base + b * c.sender.size) (up ∷ []) + (bit (is_marked c.away b) + at_address (b * c.sender.size) (returns_list c.returns))
   good_marks b within = by_test (cases_eq n b)
     where
-      old : bit (is_marked c.inside b) ≡ bit (is_marked c.away b) + at_address (b * 2048) (returns_list c.returns)
-      old = let m = h.marks b within in let e = ap (at_address (base + b * 2048)) (none_list c.leaving leaving) in omega (arith, m, e)
+      old : bit (is_marked c.inside b) ≡ bit (is_marked c.away b) + at_address (b * c.sender.size) (returns_list c.returns)
+      old = let m = h.marks b within in let e = ap (at_address (base + b * c.sender.size)) (none_list c.leaving leaving) in omega (arith, m, e)
 
-      by_test : (n ≡ b) ⊎ (n ≡ b → ⊥) → bit (is_marked (slice_set c.inside n true) b) ≡ at_address (base + b * 2048) (up ∷ []) + (bit (is_marked c.away b) + at_address (b * 2048) (returns_list c.returns))
+      by_test : (n ≡ b) ⊎ (n ≡ b → ⊥) → bit (is_marked (slice_set c.inside n true) b) ≡ at_address (base + b * c.sender.size) (up ∷ []) + (bit (is_marked c.away b) + at_address (b * c.sender.size) (returns_list c.returns))
       by_test (inl e) =
           let now = set_here c.inside n b true within_marks e in
-          let one = one_at base n b up up_at e in
+          let one = one_at c.sender.size base n b up up_at e in
           let was = ap bit (ap (is_marked c.inside) (sym e) ∙ out) in
           let o = old in
           omega (arith, now, one, was, o)
       by_test (inr ne) =
           let now = set_beside c.inside n b true ne in
-          let none = none_at base n b up up_at ne in
+          let none = none_at c.sender.size h.sized base n b up up_at ne in
           let o = old in
           omega (arith, now, none, o)
 
   good_work : IsClient cg
   good_work = record {
+    sized = h.sized;
     room = h.room;
     inside_long = length-set c.inside n true ∙ h.inside_long;
     away_long = h.away_long;
-    leaves = λ y at. subst (λ (z : Cargo). (kind_of z.0 ≡ Kind.Net) × (n < c.sender.buffers) × (addr_of z.0 ≡ base + n * 2048)) (some_eq at) (kind_same (base + addr_of x.0) x.0 ∙ kind, (good_is c.sender x good).0, up_at);
+    leaves = λ y at. subst (λ (z : Cargo). (kind_of z.0 ≡ Kind.Net) × (n < c.sender.buffers) × (addr_of z.0 ≡ base + n * c.sender.size)) (some_eq at) (kind_same (base + addr_of x.0) x.0 ∙ kind, (good_is c.sender x good).0, up_at);
     bad_kind = h.bad_kind;
     backs = h.backs;
     places = h.places;
@@ -151,6 +152,7 @@ module _ (c : Client) (h : IsClient c) (x : Cargo) (bad : c.bad ≡ None) (kind 
   pub came_bad : Moved c cb (x ∷ []) [] [] []
   came_bad = record {
     work = record {
+      sized = h.sized;
       room = h.room;
       inside_long = h.inside_long;
       away_long = h.away_long;
@@ -179,11 +181,11 @@ module _ (c : Client) (h : IsClient c) (u : Cargo) (is : c.leaving ≡ Some u) w
   low : c.number < c.sender.buffers
   low = (h.leaves u is).1
 
-  u_at : addr_of u.0 ≡ c.sender.base + c.number * 2048
+  u_at : addr_of u.0 ≡ c.sender.base + c.number * c.sender.size
   u_at = (h.leaves u is).2
 
-  u_offset : addr_of (to_client c.sender.base u).0 ≡ c.number * 2048
-  u_offset = addr_with (addr_of u.0 - c.sender.base) u.0 (h.leaves u is).0 ∙ (let e = u_at in let r : addr_of u.0 - c.sender.base ≡ c.number * 2048 = omega (arith, e) in r)
+  u_offset : addr_of (to_client c.sender.base u).0 ≡ c.number * c.sender.size
+  u_offset = addr_with (addr_of u.0 - c.sender.base) u.0 (h.leaves u is).0 ∙ (let e = u_at in let r : addr_of u.0 - c.sender.base ≡ c.number * c.sender.size = omega (arith, e) in r)
 
   pub number_low : c.number < length c.away
   number_low = let g = low in let l = h.away_long in omega (arith, g, l)
@@ -191,51 +193,52 @@ module _ (c : Client) (h : IsClient c) (u : Cargo) (is : c.leaving ≡ Some u) w
   not_away : bit (is_marked c.away c.number) ≡ 0
   not_away =
       let m = h.marks c.number low in
-      let one = one_at c.sender.base c.number c.number u u_at refl in
-      let e = ap (at_address (c.sender.base + c.number * 2048)) (some_list c.leaving u is) in
+      let one = one_at c.sender.size c.sender.base c.number c.number u u_at refl in
+      let e = ap (at_address (c.sender.base + c.number * c.sender.size)) (some_list c.leaving u is) in
       let most = bit_most (is_marked c.inside c.number) in
       omega (arith, m, one, e, most)
 
-  sent_marks : (b : ℕ) → b < c.sender.buffers → bit (is_marked c.inside b) ≡ 0 + (bit (is_marked (slice_set c.away c.number true) b) + at_address (b * 2048) (returns_list c.returns))
+  sent_marks : (b : ℕ) → b < c.sender.buffers → bit (is_marked c.inside b) ≡ 0 + (bit (is_marked (slice_set c.away c.number true) b) + at_address (b * c.sender.size) (returns_list c.returns))
   sent_marks b within = by_test (cases_eq c.number b)
     where
-      old : bit (is_marked c.inside b) ≡ at_address (c.sender.base + b * 2048) (u ∷ []) + (bit (is_marked c.away b) + at_address (b * 2048) (returns_list c.returns))
-      old = h.marks b within ∙ ap (λ l. at_address (c.sender.base + b * 2048) l + (bit (is_marked c.away b) + at_address (b * 2048) (returns_list c.returns))) (some_list c.leaving u is)
+      old : bit (is_marked c.inside b) ≡ at_address (c.sender.base + b * c.sender.size) (u ∷ []) + (bit (is_marked c.away b) + at_address (b * c.sender.size) (returns_list c.returns))
+      old = h.marks b within ∙ ap (λ l. at_address (c.sender.base + b * c.sender.size) l + (bit (is_marked c.away b) + at_address (b * c.sender.size) (returns_list c.returns))) (some_list c.leaving u is)
 
-      by_test : (c.number ≡ b) ⊎ (c.number ≡ b → ⊥) → bit (is_marked c.inside b) ≡ 0 + (bit (is_marked (slice_set c.away c.number true) b) + at_address (b * 2048) (returns_list c.returns))
+      by_test : (c.number ≡ b) ⊎ (c.number ≡ b → ⊥) → bit (is_marked c.inside b) ≡ 0 + (bit (is_marked (slice_set c.away c.number true) b) + at_address (b * c.sender.size) (returns_list c.returns))
       by_test (inl e) =
           let now = set_here c.away c.number b true number_low e in
-          let one = one_at c.sender.base c.number b u u_at e in
+          let one = one_at c.sender.size c.sender.base c.number b u u_at e in
           let was = ap (λ m. bit (is_marked c.away m)) (sym e) ∙ not_away in
           let o = old in
           omega (arith, now, one, was, o)
       by_test (inr ne) =
           let now = set_beside c.away c.number b true ne in
-          let none = none_at c.sender.base c.number b u u_at ne in
+          let none = none_at c.sender.size h.sized c.sender.base c.number b u u_at ne in
           let o = old in
           omega (arith, now, none, o)
 
-  sent_counts : (ss rs : List Cargo) → ((b : ℕ) → b < c.sender.buffers → at_address (b * 2048) ss ≡ at_address (b * 2048) rs + bit (is_marked c.away b)) → (b : ℕ) → b < c.sender.buffers → at_address (b * 2048) (ss ++ to_client c.sender.base u ∷ []) ≡ at_address (b * 2048) rs + bit (is_marked (slice_set c.away c.number true) b)
+  sent_counts : (ss rs : List Cargo) → ((b : ℕ) → b < c.sender.buffers → at_address (b * c.sender.size) ss ≡ at_address (b * c.sender.size) rs + bit (is_marked c.away b)) → (b : ℕ) → b < c.sender.buffers → at_address (b * c.sender.size) (ss ++ to_client c.sender.base u ∷ []) ≡ at_address (b * c.sender.size) rs + bit (is_marked (slice_set c.away c.number true) b)
   sent_counts ss rs s b within = by_test (cases_eq c.number b)
     where
-      by_test : (c.number ≡ b) ⊎ (c.number ≡ b → ⊥) → at_address (b * 2048) (ss ++ to_client c.sender.base u ∷ []) ≡ at_address (b * 2048) rs + bit (is_marked (slice_set c.away c.number true) b)
+      by_test : (c.number ≡ b) ⊎ (c.number ≡ b → ⊥) → at_address (b * c.sender.size) (ss ++ to_client c.sender.base u ∷ []) ≡ at_address (b * c.sender.size) rs + bit (is_marked (slice_set c.away c.number true) b)
       by_test (inl e) =
-          let all = at_append (b * 2048) ss (to_client c.sender.base u ∷ []) in
+          let all = at_append (b * c.sender.size) ss (to_client c.sender.base u ∷ []) in
           let now = set_here c.away c.number b true number_low e in
-          let one = offset_at c.number b (to_client c.sender.base u) u_offset e in
+          let one = offset_at c.sender.size c.number b (to_client c.sender.base u) u_offset e in
           let was = ap (λ m. bit (is_marked c.away m)) (sym e) ∙ not_away in
           let o = s b within in
           omega (arith, all, now, one, was, o)
       by_test (inr ne) =
-          let all = at_append (b * 2048) ss (to_client c.sender.base u ∷ []) in
+          let all = at_append (b * c.sender.size) ss (to_client c.sender.base u ∷ []) in
           let now = set_beside c.away c.number b true ne in
-          let none = offset_off c.number b (to_client c.sender.base u) u_offset ne in
+          let none = offset_off c.sender.size h.sized c.number b (to_client c.sender.base u) u_offset ne in
           let o = s b within in
           omega (arith, all, now, none, o)
 
   pub went : Moved c cl [] (u ∷ []) [] []
   went = record {
     work = record {
+      sized = h.sized;
       room = h.room;
       inside_long = h.inside_long;
       away_long = length-set c.away c.number true ∙ h.away_long;
@@ -275,17 +278,17 @@ module _ (c : Client) (h : IsClient c) (x : Cargo) (kind : kind_of x.0 ≡ Kind.
   abbrev m : ℕ
   m = buffer_at c (addr_of x.0)
 
-  parts : (c.sender.base + m * 2048 ≡ addr_of x.0) × (is_marked c.away m ≡ true)
+  parts : (c.sender.base + m * c.sender.size ≡ addr_of x.0) × (is_marked c.away m ≡ true)
   parts =
-      let one = and_parts (nat_le c.sender.base (addr_of x.0)) ((c.sender.base + m * 2048 == addr_of x.0) && is_marked c.away m) away in
-      let two = and_parts (c.sender.base + m * 2048 == addr_of x.0) (is_marked c.away m) one.1 in
-      (eqb-true (c.sender.base + m * 2048) (addr_of x.0) two.0, two.1)
+      let one = and_parts (nat_le c.sender.base (addr_of x.0)) ((c.sender.base + m * c.sender.size == addr_of x.0) && is_marked c.away m) away in
+      let two = and_parts (c.sender.base + m * c.sender.size == addr_of x.0) (is_marked c.away m) one.1 in
+      (eqb-true (c.sender.base + m * c.sender.size) (addr_of x.0) two.0, two.1)
 
   pub m_low : m < length c.away
   m_low = marked_within c.away m parts.1
 
-  y_offset : addr_of (to_client c.sender.base x).0 ≡ m * 2048
-  y_offset = addr_with (addr_of x.0 - c.sender.base) x.0 kind ∙ (let e = parts.0 in let r : addr_of x.0 - c.sender.base ≡ m * 2048 = omega (arith, e) in r)
+  y_offset : addr_of (to_client c.sender.base x).0 ≡ m * c.sender.size
+  y_offset = addr_with (addr_of x.0 - c.sender.base) x.0 kind ∙ (let e = parts.0 in let r : addr_of x.0 - c.sender.base ≡ m * c.sender.size = omega (arith, e) in r)
 
   pub room_back : length (returns_list c.returns) < c.returns.later.places
   room_back =
@@ -301,32 +304,33 @@ module _ (c : Client) (h : IsClient c) (x : Cargo) (kind : kind_of x.0 ≡ Kind.
     abbrev cr : Client
     cr = record c { away = slice_set c.away (buffer_at c (addr_of x.0)) false; returns = r }
 
-    list_at : (b : ℕ) → at_address (b * 2048) (returns_list r) ≡ at_address (b * 2048) (returns_list c.returns) + at_address (b * 2048) (to_client c.sender.base x ∷ [])
-    list_at b = ap (at_address (b * 2048)) list ∙ at_append (b * 2048) (returns_list c.returns) (to_client c.sender.base x ∷ [])
+    list_at : (b : ℕ) → at_address (b * c.sender.size) (returns_list r) ≡ at_address (b * c.sender.size) (returns_list c.returns) + at_address (b * c.sender.size) (to_client c.sender.base x ∷ [])
+    list_at b = ap (at_address (b * c.sender.size)) list ∙ at_append (b * c.sender.size) (returns_list c.returns) (to_client c.sender.base x ∷ [])
 
-    moved_mark : (b : ℕ) → bit (is_marked (slice_set c.away m false) b) + at_address (b * 2048) (to_client c.sender.base x ∷ []) ≡ bit (is_marked c.away b)
+    moved_mark : (b : ℕ) → bit (is_marked (slice_set c.away m false) b) + at_address (b * c.sender.size) (to_client c.sender.base x ∷ []) ≡ bit (is_marked c.away b)
     moved_mark b = by_test (cases_eq m b)
       where
-        by_test : (m ≡ b) ⊎ (m ≡ b → ⊥) → bit (is_marked (slice_set c.away m false) b) + at_address (b * 2048) (to_client c.sender.base x ∷ []) ≡ bit (is_marked c.away b)
+        by_test : (m ≡ b) ⊎ (m ≡ b → ⊥) → bit (is_marked (slice_set c.away m false) b) + at_address (b * c.sender.size) (to_client c.sender.base x ∷ []) ≡ bit (is_marked c.away b)
         by_test (inl e) =
             let now = set_here c.away m b false m_low e in
-            let one = offset_at m b (to_client c.sender.base x) y_offset e in
+            let one = offset_at c.sender.size m b (to_client c.sender.base x) y_offset e in
             let was = ap (λ k. bit (is_marked c.away k)) (sym e) ∙ ap bit parts.1 in
             omega (arith, now, one, was)
         by_test (inr ne) =
             let now = set_beside c.away m b false ne in
-            let none = offset_off m b (to_client c.sender.base x) y_offset ne in
+            let none = offset_off c.sender.size h.sized m b (to_client c.sender.base x) y_offset ne in
             omega (arith, now, none)
 
     pub came_back : Moved c cr [] [] (x ∷ []) []
     came_back = record {
       work = record {
+        sized = h.sized;
         room = h.room;
         inside_long = h.inside_long;
         away_long = length-set c.away m false ∙ h.away_long;
         leaves = h.leaves;
         bad_kind = h.bad_kind;
-        backs = subst (λ l. All (IsReturn c.sender.buffers) l) (sym list) (All-push (IsReturn c.sender.buffers) (returns_list c.returns) (to_client c.sender.base x) h.backs (kind_same (addr_of x.0 - c.sender.base) x.0 ∙ kind, (m, (let l = m_low in let a = h.away_long in omega (arith, l, a)), y_offset)));
+        backs = subst (λ l. All (IsReturn c.sender.buffers c.sender.size) l) (sym list) (All-push (IsReturn c.sender.buffers c.sender.size) (returns_list c.returns) (to_client c.sender.base x) h.backs (kind_same (addr_of x.0 - c.sender.base) x.0 ∙ kind, (m, (let l = m_low in let a = h.away_long in omega (arith, l, a)), y_offset)));
         places = let p = h.places in omega (arith, p, places);
         ready = ready;
         marks = λ b within. let o = h.marks b within in let l = list_at b in let k = moved_mark b in omega (arith, o, l, k);
@@ -346,7 +350,7 @@ module _ (c : Client) (h : IsClient c) (x : Cargo) (kind : kind_of x.0 ≡ Kind.
         rets = s.rets;
         rets_are = ap (λ l. s.rets ++ l) list ∙ (sym (append_assoc s.rets (returns_list c.returns) (to_client c.sender.base x ∷ [])) ∙ ap (λ l. l ++ to_client c.sender.base x ∷ []) s.rets_are);
         merged = s.merged;
-        counts = λ b within. let o = s.counts b within in let a = at_append (b * 2048) rs (to_client c.sender.base x ∷ []) in let k = moved_mark b in omega (arith, o, a, k);
+        counts = λ b within. let o = s.counts b within in let a = at_append (b * c.sender.size) rs (to_client c.sender.base x ∷ []) in let k = moved_mark b in omega (arith, o, a, k);
         bad_many = s.bad_many;
       });
       held = λ pool.
@@ -367,6 +371,7 @@ module _ (c : Client) (h : IsClient c) (z : Cargo) (is : c.bad ≡ Some z) where
   pub gave_bad : Moved c cz [] [] [] (z ∷ [])
   gave_bad = record {
     work = record {
+      sized = h.sized;
       room = h.room;
       inside_long = h.inside_long;
       away_long = h.away_long;
@@ -399,74 +404,78 @@ module _ (c : Client) (h : IsClient c) (z : Cargo) (is : c.bad ≡ Some z) where
 -- a buffer that came back went on to the client
 module _ (c : Client) (h : IsClient c) (y : Cargo) (is : c.returns.next ≡ Some y) where
   abbrev o : ℕ
-  o = addr_of y.0 / 2048
+  o = addr_of y.0 / c.sender.size
 
   list_was : returns_list c.returns ≡ y ∷ c.returns.later.shown
   list_was = ap (λ l. l ++ c.returns.later.shown) (some_list c.returns.next y is)
 
-  all_was : All (IsReturn c.sender.buffers) (y ∷ c.returns.later.shown)
-  all_was = subst (λ l. All (IsReturn c.sender.buffers) l) list_was h.backs
+  all_was : All (IsReturn c.sender.buffers c.sender.size) (y ∷ c.returns.later.shown)
+  all_was = subst (λ l. All (IsReturn c.sender.buffers c.sender.size) l) list_was h.backs
 
-  y_is : IsReturn c.sender.buffers y
+  y_is : IsReturn c.sender.buffers c.sender.size y
   y_is = all_was zero y (omega arith)
 
   pub y_kind : kind_of y.0 ≡ Kind.Net
   y_kind = y_is.0
 
-  y_at : addr_of y.0 ≡ o * 2048
-  y_at = let e = y_is.1.2 in omega (arith, e)
+  o_is : o ≡ y_is.1.0
+  o_is = ap (λ a. a / c.sender.size) y_is.1.2 ∙ number_back c.sender.size y_is.1.0 h.sized
+
+  y_at : addr_of y.0 ≡ o * c.sender.size
+  y_at = y_is.1.2 ∙ ap (λ k. k * c.sender.size) (sym o_is)
 
   o_low : o < c.sender.buffers
-  o_low = let e = y_is.1.2 in let l = y_is.1.1 in omega (arith, e, l)
+  o_low = subst (λ k. k < c.sender.buffers) (sym o_is) y_is.1.1
 
   pub o_inside : o < length c.inside
   o_inside = let l = o_low in let e = h.inside_long in omega (arith, l, e)
 
-  list_at_b : (b : ℕ) → at_address (b * 2048) (returns_list c.returns) ≡ at_address (b * 2048) (y ∷ []) + at_address (b * 2048) c.returns.later.shown
-  list_at_b b = ap (at_address (b * 2048)) list_was ∙ at_append (b * 2048) (y ∷ []) c.returns.later.shown
+  list_at_b : (b : ℕ) → at_address (b * c.sender.size) (returns_list c.returns) ≡ at_address (b * c.sender.size) (y ∷ []) + at_address (b * c.sender.size) c.returns.later.shown
+  list_at_b b = ap (at_address (b * c.sender.size)) list_was ∙ at_append (b * c.sender.size) (y ∷ []) c.returns.later.shown
 
   was_inside : bit (is_marked c.inside o) ≡ 1
   was_inside =
       let k = h.marks o o_low in
       let l = list_at_b o in
-      let one = offset_at o o y y_at refl in
+      let one = offset_at c.sender.size o o y y_at refl in
       let most = bit_most (is_marked c.inside o) in
       omega (arith, k, l, one, most)
 
   module _ (r : Returns) (ready : IsReady r) (list : returns_list r ≡ c.returns.later.shown) (places : r.later.places ≡ c.returns.later.places) where
     abbrev cy : Client
-    cy = record c { inside = slice_set c.inside (addr_of y.0 / 2048) false; returns = r }
+    cy = record c { inside = slice_set c.inside (addr_of y.0 / c.sender.size) false; returns = r }
 
-    less_mark : (b : ℕ) → bit (is_marked (slice_set c.inside o false) b) + at_address (b * 2048) (y ∷ []) ≡ bit (is_marked c.inside b)
+    less_mark : (b : ℕ) → bit (is_marked (slice_set c.inside o false) b) + at_address (b * c.sender.size) (y ∷ []) ≡ bit (is_marked c.inside b)
     less_mark b = by_test (cases_eq o b)
       where
-        by_test : (o ≡ b) ⊎ (o ≡ b → ⊥) → bit (is_marked (slice_set c.inside o false) b) + at_address (b * 2048) (y ∷ []) ≡ bit (is_marked c.inside b)
+        by_test : (o ≡ b) ⊎ (o ≡ b → ⊥) → bit (is_marked (slice_set c.inside o false) b) + at_address (b * c.sender.size) (y ∷ []) ≡ bit (is_marked c.inside b)
         by_test (inl e) =
             let now = set_here c.inside o b false o_inside e in
-            let one = offset_at o b y y_at e in
+            let one = offset_at c.sender.size o b y y_at e in
             let was = ap (λ k. bit (is_marked c.inside k)) (sym e) ∙ was_inside in
             omega (arith, now, one, was)
         by_test (inr ne) =
             let now = set_beside c.inside o b false ne in
-            let none = offset_off o b y y_at ne in
+            let none = offset_off c.sender.size h.sized o b y y_at ne in
             omega (arith, now, none)
 
     pub gave_back : Moved c cy [] [] [] (y ∷ [])
     gave_back = record {
       work = record {
+        sized = h.sized;
         room = h.room;
         inside_long = length-set c.inside o false ∙ h.inside_long;
         away_long = h.away_long;
         leaves = h.leaves;
         bad_kind = h.bad_kind;
-        backs = subst (λ l. All (IsReturn c.sender.buffers) l) (sym list) (λ k d l. all_was (suc k) d (omega (arith, l)));
+        backs = subst (λ l. All (IsReturn c.sender.buffers c.sender.size) l) (sym list) (λ k d l. all_was (suc k) d (omega (arith, l)));
         places = let p = h.places in omega (arith, p, places);
         ready = ready;
         marks = λ b within.
             let k = h.marks b within in
             let l = list_at_b b in
             let e = less_mark b in
-            let f = ap (at_address (b * 2048)) list in
+            let f = ap (at_address (b * c.sender.size)) list in
             omega (arith, k, l, e, f);
         counts =
             let s = many_set c.inside o false o_inside in

@@ -15,26 +15,28 @@ use Rattle.net_virt_tx.specs.declared.client.Client.{Client}
 use Rattle.net_virt_tx.specs.declared.traffic.Traffic.{Traffic}
 use Rattle.net_virt_tx.specs.Clients.{IsClient, IsOf, is_away, is_marked, buffer_at, range_of}
 use Rattle.net_virt_tx.specs.Traffics.{IsTraffic, leaving_in, senders}
-use Rattle.net_virt_tx.proofs.Counting.{marked_within}
+use Rattle.net_virt_tx.proofs.Counting.{marked_within, ends_within}
 use Rattle.net_virt_tx.proofs.Serving.{range_at}
 
 -- a buffer that is away is in the client's range
 pub away_of : (c : Client) → IsClient c → (x : Cargo) → is_away c (addr_of x.0) ≡ true → IsOf c.sender x
 away_of c h x e =
-    let one = and_parts (nat_le c.sender.base (addr_of x.0)) ((c.sender.base + buffer_at c (addr_of x.0) * 2048 == addr_of x.0) && is_marked c.away (buffer_at c (addr_of x.0))) e in
-    let two = and_parts (c.sender.base + buffer_at c (addr_of x.0) * 2048 == addr_of x.0) (is_marked c.away (buffer_at c (addr_of x.0))) one.1 in
+    let one = and_parts (nat_le c.sender.base (addr_of x.0)) ((c.sender.base + buffer_at c (addr_of x.0) * c.sender.size == addr_of x.0) && is_marked c.away (buffer_at c (addr_of x.0))) e in
+    let two = and_parts (c.sender.base + buffer_at c (addr_of x.0) * c.sender.size == addr_of x.0) (is_marked c.away (buffer_at c (addr_of x.0))) one.1 in
     let low = marked_within c.away (buffer_at c (addr_of x.0)) two.1 in
     let long = h.away_long in
-    (buffer_at c (addr_of x.0), omega (arith, low, long), sym (eqb-true (c.sender.base + buffer_at c (addr_of x.0) * 2048) (addr_of x.0) two.0))
+    (buffer_at c (addr_of x.0), omega (arith, low, long), sym (eqb-true (c.sender.base + buffer_at c (addr_of x.0) * c.sender.size) (addr_of x.0) two.0))
 
 pub away_within : (c : Client) → IsClient c → (a : ℕ) → is_away c a ≡ true → is_within (range_of c.sender) a ≡ true
 away_within c h a e =
-    let one = and_parts (nat_le c.sender.base a) ((c.sender.base + buffer_at c a * 2048 == a) && is_marked c.away (buffer_at c a)) e in
-    let two = and_parts (c.sender.base + buffer_at c a * 2048 == a) (is_marked c.away (buffer_at c a)) one.1 in
+    let one = and_parts (nat_le c.sender.base a) ((c.sender.base + buffer_at c a * c.sender.size == a) && is_marked c.away (buffer_at c a)) e in
+    let two = and_parts (c.sender.base + buffer_at c a * c.sender.size == a) (is_marked c.away (buffer_at c a)) one.1 in
     let low = marked_within c.away (buffer_at c a) two.1 in
     let long = h.away_long in
-    let at = eqb-true (c.sender.base + buffer_at c a * 2048) a two.0 in
-    and_from (nat_le c.sender.base a) (nat_lt a (c.sender.base + c.sender.buffers * 2048)) one.0 (lt-ltb a (c.sender.base + c.sender.buffers * 2048) (omega (arith, low, long, at)))
+    let at = eqb-true (c.sender.base + buffer_at c a * c.sender.size) a two.0 in
+    let within = ends_within c.sender.size (buffer_at c a) c.sender.buffers (omega (arith, low, long)) in
+    let some = h.sized in
+    and_from (nat_le c.sender.base a) (nat_lt a (c.sender.base + c.sender.buffers * c.sender.size)) one.0 (lt-ltb a (c.sender.base + c.sender.buffers * c.sender.size) (omega (arith, some, within, at)))
 
 not_true : (b : Bool) → (b ≡ true → ⊥) → b ≡ false
 not_true true h = absurd (h refl)

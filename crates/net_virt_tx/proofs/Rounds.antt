@@ -1,5 +1,5 @@
 -- The turns of the virtualiser, its start, and its row.
-use Rattle.std.proofs.Common.{◌≡◌, ◌+◌, ◌==◌, ℕ, zero, suc, false, Option, Some, None, List, [], ◌∷◌, ◌++◌, length, map, flat_map, slice_get, slice_index_or, refl, sym, ap, ◌∙◌, subst, arith}
+use Rattle.std.proofs.Common.{◌≤◌, ◌≡◌, ◌+◌, ◌==◌, ℕ, zero, suc, false, Option, Some, None, List, [], ◌∷◌, ◌++◌, length, map, flat_map, slice_get, slice_index_or, refl, sym, ap, ◌∙◌, subst, arith}
 use Rattle.std.specs.List.{filter, sum_by}
 use Rattle.std.specs.Option.{option_to_list}
 use Rattle.std.proofs.lemmas.List.{length-map}
@@ -35,12 +35,12 @@ use Rattle.net_virt_tx.specs.declared.traffic.Traffic.{Traffic}
 use Rattle.net_virt_tx.specs.Descriptors.{to_client}
 use Rattle.net_virt_tx.specs.Queued.{returns_list}
 use Rattle.net_virt_tx.specs.Serving.{IsServed, is_good_of, own_of, bad_ones}
-use Rattle.net_virt_tx.specs.Clients.{IsFresh, ClientStands, capped, client_cargo, carried, is_marked}
+use Rattle.net_virt_tx.specs.Clients.{IsClient, IsFresh, ClientStands, capped, client_cargo, carried, is_marked}
 use Rattle.net_virt_tx.specs.Traffics.{IsTraffic, IsStill, IsSomeones, is_free, loaded_at, needs_at, owes, senders}
 use Rattle.net_virt_tx.specs.Sending.{TxStands, TxStandsFor, TxRow, AreAway, IsAnyones, IsNewTraffic, IsOutOfTurn, SameTx, bad_total, queue_at, sender_of, tx_round}
 use Rattle.net_virt_tx.proofs.Merging.{merge_nothing}
 use Rattle.net_virt_tx.proofs.Counting.{bit_most}
-use Rattle.net_virt_tx.proofs.Splitting.{merges}
+use Rattle.net_virt_tx.proofs.Splitting.{AreSized, merges}
 use Rattle.net_virt_tx.proofs.Steps.{stray_none, own_at}
 
 -- what is needed and loaded stays where the clients do
@@ -159,11 +159,11 @@ serves_at c came went returned back s = record {
     begins (suc zero) part whole at at' = (returns_list c.returns, ap (λ l. l ++ returns_list c.returns) (sym (some_eq at)) ∙ (s.rets_are ∙ some_eq at'))
     begins (suc (suc k)) part whole at at' = absurd cc
 
-away_at : (c : Client) (came went returned back : List Cargo) → ClientStands c came (own_of c.sender went) (own_of c.sender returned) back → AreAway c.sender went returned
-away_at c came went returned back s b low =
+away_at : (c : Client) → IsClient c → (came went returned back : List Cargo) → ClientStands c came (own_of c.sender went) (own_of c.sender returned) back → AreAway c.sender went returned
+away_at c h came went returned back s b low =
     let n = s.counts b low in
-    let one = own_at c.sender b low went in
-    let two = own_at c.sender b low returned in
+    let one = own_at c.sender h.sized b low went in
+    let two = own_at c.sender h.sized b low returned in
     let m = bit_most (is_marked c.away b) in
     (omega (arith, n, one, two), omega (arith, n, one, two, m))
 
@@ -175,6 +175,7 @@ row_of v passed h =
     let t = to_queues v.ends in
     record {
       apart = subst AreRanges h.work.ranges_are h.work.apart;
+      sized = sized;
       from_each = h.from_each ∙ sym (length-map v.work.clients.items (λ (c : Client). c.sender));
       to_each = h.to_each ∙ sym (length-map v.work.clients.items (λ (c : Client). c.sender));
       turn = h.turn;
@@ -183,13 +184,13 @@ row_of v passed h =
       taken = h.taken;
       few_stray = few_option v.work.stray;
       out_of_turn = all_option (IsOutOfTurn i o f t (senders v.work) h.turn passed.sent h.place) v.work.stray h.stray;
-      merges = merges (senders v.work) f h.turn (passed.sent o) (subst AreRanges h.work.ranges_are h.work.apart) (h.from_each ∙ sym (length-map v.work.clients.items (λ (c : Client). c.sender))) (λ n d l. anyones (slice_index_or (passed.sent o) n d) (h.stands.within n d l))
+      merges = merges (senders v.work) f h.turn (passed.sent o) sized (subst AreRanges h.work.ranges_are h.work.apart) (h.from_each ∙ sym (length-map v.work.clients.items (λ (c : Client). c.sender))) (λ n d l. anyones (slice_index_or (passed.sent o) n d) (h.stands.within n d l))
           (λ k s q at atq. let c = from_map v.work.clients.items k s at in
           subst (λ n. IsPrefix (own_of s (passed.sent o)) (filter (is_good_of s) (h.turn n))) (queue_is f k q atq)
           (subst (λ x. IsPrefix (own_of x (passed.sent o)) (filter (is_good_of x) (h.turn (queue_at f k)))) c.2 (serves_at c.0 (h.turn (queue_at f k)) (passed.sent o) (h.turn i) (passed.sent (queue_at t k)) (h.stands.clients k c.0 c.1)).sends));
       within = λ n d l. anyones (slice_index_or (passed.sent o) n d) (h.stands.within n d l);
       away = λ k s at. let c = from_map v.work.clients.items k s at in
-          subst (λ x. AreAway x (passed.sent o) (h.turn i)) c.2 (away_at c.0 (h.turn (queue_at f k)) (passed.sent o) (h.turn i) (passed.sent (queue_at t k)) (h.stands.clients k c.0 c.1));
+          subst (λ x. AreAway x (passed.sent o) (h.turn i)) c.2 (away_at c.0 (h.work.each k c.0 c.1) (h.turn (queue_at f k)) (passed.sent o) (h.turn i) (passed.sent (queue_at t k)) (h.stands.clients k c.0 c.1));
       serves = λ k s q r at atq atr. let c = from_map v.work.clients.items k s at in
           subst (λ n. IsServed s (h.turn n) (passed.sent o) (h.turn i) (passed.sent r.0)) (queue_is f k q atq)
           (subst (λ n. IsServed s (h.turn (queue_at f k)) (passed.sent o) (h.turn i) (passed.sent n)) (queue_is t k r atr)
@@ -198,13 +199,16 @@ row_of v passed h =
       strayed = refl;
     }
   where
+    sized : AreSized (senders v.work)
+    sized k s at = let c = from_map v.work.clients.items k s at in subst (λ (x : Sender). 1 ≤ x.size) c.2 (h.work.each k c.0 c.1).sized
+
     anyones : (x : Cargo) → IsSomeones v.work.clients.items x → IsAnyones (senders v.work) x
     anyones x (k, c, at, of) = (k, c.sender, get_map (λ (y : Client). y.sender) v.work.clients.items k c at, of)
 
-pub as_many : (queues qs ps : List QueueId) (cs clients ds : List TxEnds) (end_of : TxEnds → QueueId) → length queues ≡ length qs → qs ≡ ps → ps ≡ map end_of cs → cs ≡ clients → ds ≡ clients → length queues ≡ length (map sender_of ds)
-as_many queues qs ps cs clients ds end_of long same active are these =
+pub as_many : (most : ℕ) (queues qs ps : List QueueId) (cs clients ds : List TxEnds) (end_of : TxEnds → QueueId) → length queues ≡ length qs → qs ≡ ps → ps ≡ map end_of cs → cs ≡ clients → ds ≡ clients → length queues ≡ length (map (sender_of most) ds)
+as_many most queues qs ps cs clients ds end_of long same active are these =
     let d = length-map cs end_of in
-    let f = length-map ds sender_of in
+    let f = length-map ds (sender_of most) in
     let g = ap length same in
     let h = ap length active in
     let k = ap length are in

@@ -1,5 +1,5 @@
 -- All clients stand for what passed after one of them was served further.
-use Rattle.std.proofs.Common.{◌≡◌, ◌⊎◌, ◌+◌, ◌*◌, ◌<◌, ◌^◌, ℕ, zero, suc, true, nat_le, nat_lt, cond, inl, inr, Option, Some, List, [], ◌∷◌, ◌++◌, All, length, map, flat_map, slice_get, slice_index_or, refl, sym, ap, ◌∙◌, subst, arith}
+use Rattle.std.proofs.Common.{◌≤◌, ◌≡◌, ◌⊎◌, ◌+◌, ◌*◌, ◌<◌, ◌^◌, ℕ, zero, suc, true, nat_le, nat_lt, cond, inl, inr, Option, Some, List, [], ◌∷◌, ◌++◌, All, length, map, flat_map, slice_get, slice_index_or, refl, sym, ap, ◌∙◌, subst, arith}
 use Rattle.std.specs.List.{filter, sum_by}
 use Rattle.std.specs.Option.{option_to_list}
 use Rattle.std.proofs.Math.Seq.{map-set_same}
@@ -22,24 +22,25 @@ use Rattle.net_virt_tx.specs.Descriptors.{to_client}
 use Rattle.net_virt_tx.specs.Serving.{is_own, own_of}
 use Rattle.net_virt_tx.specs.Clients.{IsClient, ClientStands, IsOf, carried, client_cargo, range_of}
 use Rattle.net_virt_tx.specs.Traffics.{IsTraffic, IsSomeones, TrafficStands, OneMoved, senders, with_more, traffic_cargo}
+use Rattle.net_virt_tx.proofs.Counting.{ends_within}
 use Rattle.net_virt_tx.proofs.Moving.{same_lists}
 
 own_append : (s : Sender) (xs ys : List Cargo) → own_of s (xs ++ ys) ≡ own_of s xs ++ own_of s ys
 own_append s xs ys = ap (map (to_client s.base)) (filter-append (is_own s) xs ys) ∙ map-append (to_client s.base) (filter (is_own s) xs) (filter (is_own s) ys)
 
-pub is_within_own : (s : Sender) (x : Cargo) → IsOf s x → is_own s x ≡ true
-is_within_own s x (b, low, at) = and_from (nat_le s.base (addr_of x.0)) (nat_lt (addr_of x.0) (s.base + s.buffers * 2048)) (le-leb s.base (addr_of x.0) (omega (arith, at))) (lt-ltb (addr_of x.0) (s.base + s.buffers * 2048) (omega (arith, at, low)))
+pub is_within_own : (s : Sender) → 1 ≤ s.size → (x : Cargo) → IsOf s x → is_own s x ≡ true
+is_within_own s some x (b, low, at) = and_from (nat_le s.base (addr_of x.0)) (nat_lt (addr_of x.0) (s.base + s.buffers * s.size)) (le-leb s.base (addr_of x.0) (omega (arith, at))) (lt-ltb (addr_of x.0) (s.base + s.buffers * s.size) (let within = ends_within s.size b s.buffers low in omega (arith, at, some, within)))
 
 all_later : (P : Cargo → Type 0) (x : Cargo) (xs : List Cargo) → All P (x ∷ xs) → All P xs
 all_later P x xs h = λ k d l. h (suc k) d (omega (arith, l))
 
-own_all : (s : Sender) (xs : List Cargo) → All (IsOf s) xs → own_of s xs ≡ map (to_client s.base) xs
-own_all s [] h = refl
-own_all s (x ∷ xs) h = ap (λ b. map (to_client s.base) (cond b (x ∷ filter (is_own s) xs) (filter (is_own s) xs))) (is_within_own s x (h zero x (omega arith))) ∙ ap (λ l. to_client s.base x ∷ l) (own_all s xs (all_later (IsOf s) x xs h))
+own_all : (s : Sender) → 1 ≤ s.size → (xs : List Cargo) → All (IsOf s) xs → own_of s xs ≡ map (to_client s.base) xs
+own_all s some [] h = refl
+own_all s some (x ∷ xs) h = ap (λ b. map (to_client s.base) (cond b (x ∷ filter (is_own s) xs) (filter (is_own s) xs))) (is_within_own s some x (h zero x (omega arith))) ∙ ap (λ l. to_client s.base x ∷ l) (own_all s some xs (all_later (IsOf s) x xs h))
 
-own_none : (s r : Sender) (xs : List Cargo) → IsApart (range_of s) (range_of r) → All (IsOf s) xs → own_of r xs ≡ []
-own_none s r [] apart h = refl
-own_none s r (x ∷ xs) apart h = ap (λ b. map (to_client r.base) (cond b (x ∷ filter (is_own r) xs) (filter (is_own r) xs))) (apart (addr_of x.0) (is_within_own s x (h zero x (omega arith)))) ∙ own_none s r xs apart (all_later (IsOf s) x xs h)
+own_none : (s r : Sender) → 1 ≤ s.size → (xs : List Cargo) → IsApart (range_of s) (range_of r) → All (IsOf s) xs → own_of r xs ≡ []
+own_none s r some [] apart h = refl
+own_none s r some (x ∷ xs) apart h = ap (λ b. map (to_client r.base) (cond b (x ∷ filter (is_own r) xs) (filter (is_own r) xs))) (apart (addr_of x.0) (is_within_own s some x (h zero x (omega arith)))) ∙ own_none s r some xs apart (all_later (IsOf s) x xs h)
 
 pub range_at : (w : Traffic) → IsTraffic w → (k : ℕ) (c : Client) → slice_get w.clients.items k ≡ Some c → slice_get w.ranges k ≡ Some (range_of c.sender)
 range_at w h k c at = ap (λ rs. slice_get rs k) h.ranges_are ∙ get_map range_of (senders w) k c.sender (get_map (λ (x : Client). x.sender) w.clients.items k c at)
@@ -74,10 +75,10 @@ module _ (w w' : Traffic) (h : IsTraffic w) (k : ℕ) (came sent returned back :
   }
     where
       own_now : (xs more : List Cargo) → All (IsOf m.was.sender) more → own_of m.now.sender (xs ++ more) ≡ own_of m.was.sender xs ++ map (to_client m.was.sender.base) more
-      own_now xs more all = ap (λ (x : Sender). own_of x (xs ++ more)) m.moved.sender ∙ (own_append m.was.sender xs more ∙ ap (λ l. own_of m.was.sender xs ++ l) (own_all m.was.sender more all))
+      own_now xs more all = ap (λ (x : Sender). own_of x (xs ++ more)) m.moved.sender ∙ (own_append m.was.sender xs more ∙ ap (λ l. own_of m.was.sender xs ++ l) (own_all m.was.sender (h.each k m.was m.there).sized more all))
 
       own_other : (j : ℕ) (d : Client) → (k ≡ j → ⊥) → slice_get w.clients.items j ≡ Some d → (xs more : List Cargo) → All (IsOf m.was.sender) more → own_of d.sender (xs ++ more) ≡ own_of d.sender xs
-      own_other j d ne at xs more all = own_append d.sender xs more ∙ (ap (λ l. own_of d.sender xs ++ l) (own_none m.was.sender d.sender more (h.apart.apart k j (range_of m.was.sender) (range_of d.sender) (range_at w h k m.was m.there) (range_at w h j d at) ne) all) ∙ append-nil (own_of d.sender xs))
+      own_other j d ne at xs more all = own_append d.sender xs more ∙ (ap (λ l. own_of d.sender xs ++ l) (own_none m.was.sender d.sender (h.each k m.was m.there).sized more (h.apart.apart k j (range_of m.was.sender) (range_of d.sender) (range_at w h k m.was m.there) (range_at w h j d at) ne) all) ∙ append-nil (own_of d.sender xs))
 
       client_now : (j : ℕ) (d : Client) → ((k ≡ j) × (m.now ≡ d)) ⊎ ((k ≡ j → ⊥) × (slice_get w.clients.items j ≡ Some d)) → ClientStands d (with_more cs k came j) (own_of d.sender (ss ++ sent)) (own_of d.sender (rs ++ returned)) (with_more bs k back j)
       client_now j d (inl e) = subst (λ (y : Client). ClientStands y (with_more cs k came j) (own_of y.sender (ss ++ sent)) (own_of y.sender (rs ++ returned)) (with_more bs k back j)) e.1

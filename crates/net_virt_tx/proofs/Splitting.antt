@@ -51,13 +51,16 @@ none_owned [] k l at = absurd cc
 none_owned (s ∷ ss) zero l at = sym (some_eq at)
 none_owned (s ∷ ss) (suc k) l at = none_owned ss k l at
 
-pub split : (ss : List Sender) → AreRanges (map range_of ss) → (xs : List Cargo) → All (IsAnyones ss) xs → Merge (map (owned xs) ss) xs
-split ss apart [] h = merge_none (map (owned []) ss) (λ k l at. none_owned ss k l at)
-split ss apart (x ∷ xs) h = by_owner (h zero x (omega arith)) (split ss apart xs (later (IsAnyones ss) x xs h))
+abbrev pub AreSized : List Sender → Type 0
+AreSized ss = (k : ℕ) (s : Sender) → slice_get ss k ≡ Some s → 1 ≤ s.size
+
+pub split : (ss : List Sender) → AreSized ss → AreRanges (map range_of ss) → (xs : List Cargo) → All (IsAnyones ss) xs → Merge (map (owned xs) ss) xs
+split ss sized apart [] h = merge_none (map (owned []) ss) (λ k l at. none_owned ss k l at)
+split ss sized apart (x ∷ xs) h = by_owner (h zero x (omega arith)) (split ss sized apart xs (later (IsAnyones ss) x xs h))
   where
     by_owner : IsAnyones ss x → Merge (map (owned xs) ss) xs → Merge (map (owned (x ∷ xs)) ss) (x ∷ xs)
     by_owner (k, s, at, of) rest =
-        let own = is_within_own s x of in
+        let own = is_within_own s (sized k s at) x of in
         merge_next (map (owned (x ∷ xs)) ss) k x (owned xs s) xs (get_map (owned (x ∷ xs)) ss k s at ∙ ap (λ l. Some l) (owned_more s x xs own))
         (subst (λ ls. Merge ls xs) (sym (set_one (owned (x ∷ xs)) (owned xs) ss k s at (λ j r there ne. owned_same r x xs (apart_own ss apart k j s r at there ne x own)))) rest)
 
@@ -74,7 +77,7 @@ owned_again s (x ∷ xs) = by_own (owned_again s xs) (is_own s x) refl
   where
     by_own : map (to_device s.base) (own_of s xs) ≡ owned xs s → (t : Bool) → is_own s x ≡ t → map (to_device s.base) (map (to_client s.base) (cond (is_own s x) (x ∷ filter (is_own s) xs) (filter (is_own s) xs))) ≡ cond (is_own s x) (x ∷ filter (is_own s) xs) (filter (is_own s) xs)
     by_own rest true own =
-        let l = leb-true s.base (addr_of x.0) (and_parts (nat_le s.base (addr_of x.0)) (nat_lt (addr_of x.0) (s.base + s.buffers * 2048)) own).0 in
+        let l = leb-true s.base (addr_of x.0) (and_parts (nat_le s.base (addr_of x.0)) (nat_lt (addr_of x.0) (s.base + s.buffers * s.size)) own).0 in
         ap (λ b. map (to_device s.base) (map (to_client s.base) (cond b (x ∷ filter (is_own s) xs) (filter (is_own s) xs)))) own ∙ (ap (λ i. (i, x.1) ∷ map (to_device s.base) (own_of s xs)) (there_again s.base x.0 l) ∙ (ap (λ ys. x ∷ ys) rest ∙ sym (ap (λ b. cond b (x ∷ filter (is_own s) xs) (filter (is_own s) xs)) own)))
     by_own rest false own = ap (λ b. map (to_device s.base) (map (to_client s.base) (cond b (x ∷ filter (is_own s) xs) (filter (is_own s) xs)))) own ∙ (rest ∙ sym (ap (λ b. cond b (x ∷ filter (is_own s) xs) (filter (is_own s) xs)) own))
 
@@ -93,11 +96,11 @@ begun (s ∷ ss) (q ∷ qs) lists went h zero part whole at at' =
 begun (s ∷ ss) (q ∷ qs) lists went h (suc k) part whole at at' = begun ss qs lists went (λ j r t. h (suc j) r t) k part whole at at'
 
 -- what went to the driver is a merge of beginnings of what the clients sent well
-pub merges : (ss : List Sender) (qs : List QueueId) (lists : Lists) (went : List Cargo) → AreRanges (map range_of ss) → length qs ≡ length ss → All (IsAnyones ss) went → ((k : ℕ) (s : Sender) (q : QueueId) → slice_get ss k ≡ Some s → slice_get qs k ≡ Some q → IsPrefix (own_of s went) (filter (is_good_of s) (lists q.0)))
+pub merges : (ss : List Sender) (qs : List QueueId) (lists : Lists) (went : List Cargo) → AreSized ss → AreRanges (map range_of ss) → length qs ≡ length ss → All (IsAnyones ss) went → ((k : ℕ) (s : Sender) (q : QueueId) → slice_get ss k ≡ Some s → slice_get qs k ≡ Some q → IsPrefix (own_of s went) (filter (is_good_of s) (lists q.0)))
     → PrefixMerge (all_good ss qs lists) went
-merges ss qs lists went apart long within each = record {
+merges ss qs lists went sized apart long within each = record {
   parts = map (owned went) ss;
   as_many = length-map ss (owned went) ∙ sym (all_good_long ss qs lists long);
   begins = λ k part whole at at'. begun ss qs lists went each k part whole at at';
-  merged = split ss apart went within;
+  merged = split ss sized apart went within;
 }

@@ -1,5 +1,5 @@
 -- What the virtualiser stands for after each call.
-use Rattle.std.proofs.Common.{◌≡◌, ◌⊎◌, ◌+◌, ◌-◌, ◌*◌, ◌==◌, ◌<◌, ◌≤◌, ◌&&◌, ℕ, Bool, true, false, nat_le, nat_lt, cond, inl, inr, Option, Some, None, is_none, IsSome, List, [], ◌∷◌, ◌++◌, length, map, slice_get, slice_index_or, flat_map, refl, sym, ap, ◌∙◌, subst, add-zero, zero-add, eq-eqb, arith}
+use Rattle.std.proofs.Common.{◌/◌, ◌≡◌, ◌⊎◌, ◌+◌, ◌-◌, ◌*◌, ◌==◌, ◌<◌, ◌≤◌, ◌&&◌, ℕ, Bool, true, false, nat_le, nat_lt, cond, inl, inr, Option, Some, None, is_none, IsSome, List, [], ◌∷◌, ◌++◌, length, map, slice_get, slice_index_or, flat_map, refl, sym, ap, ◌∙◌, subst, add-zero, zero-add, eq-eqb, arith}
 use Rattle.std.specs.List.{filter}
 use Rattle.std.specs.Option.{option_to_list}
 use Rattle.std.proofs.lemmas.Bool.{and_from, and_parts, le-leb, lt-ltb, cases_eq, leb-true}
@@ -34,7 +34,7 @@ use Rattle.net_virt_tx.specs.Clients.{IsClient, ClientStands, at_address, buffer
 use Rattle.net_virt_tx.specs.Traffics.{IsTraffic, IsSomeones, OneMoved, TookBack, TookIn, TrafficStands, senders, with_more}
 use Rattle.net_virt_tx.specs.declared.NetVirtTx.{NetVirtTx}
 use Rattle.net_virt_tx.specs.Sending.{FitsTx, TxStands, IsOutOfTurn, IsBackInTurn, IsDescriptorInTurn, queue_at}
-use Rattle.net_virt_tx.proofs.Counting.{at_append, at_split, bit_same, bit_other, good_is, idle_parts, mark_true, where_at}
+use Rattle.net_virt_tx.proofs.Counting.{at_append, at_split, bit_same, bit_other, good_is, idle_parts, mark_true, where_at, ends_within, number_back}
 use Rattle.net_virt_tx.proofs.Merging.{merge_at}
 use Rattle.net_virt_tx.proofs.Serving.{as_lists, moved_traffic, moved_stands, moved_held, same_senders}
 
@@ -186,9 +186,9 @@ module _ (i o : ℕ) (f t : List QueueId) (w : Traffic) (x : Cargo) (passed : Pa
   })
 
 -- what is at a client's buffer is what is at its offset of what is the client's
-pub own_at : (s : Sender) (b : ℕ) → b < s.buffers → (xs : List Cargo) → at_address (s.base + b * 2048) xs ≡ at_address (b * 2048) (own_of s xs)
-own_at s b low [] = refl
-own_at s b low (x ∷ xs) = by_own (own_at s b low xs) (is_own s x) refl (cases_eq (addr_of x.0) (s.base + b * 2048))
+pub own_at : (s : Sender) → 1 ≤ s.size → (b : ℕ) → b < s.buffers → (xs : List Cargo) → at_address (s.base + b * s.size) xs ≡ at_address (b * s.size) (own_of s xs)
+own_at s some b low [] = refl
+own_at s some b low (x ∷ xs) = by_own (own_at s some b low xs) (is_own s x) refl (cases_eq (addr_of x.0) (s.base + b * s.size))
   where
     offset : (item : Item) → s.base ≤ addr_of item → addr_of (with_addr (addr_of item - s.base) item) ≡ addr_of item - s.base
     offset (ItemOf.Net d) l = refl
@@ -196,51 +196,53 @@ own_at s b low (x ∷ xs) = by_own (own_at s b low xs) (is_own s x) refl (cases_
     offset (ItemOf.Req r) l = omega arith
     offset (ItemOf.Resp r) l = omega arith
 
-    own_here : addr_of x.0 ≡ s.base + b * 2048 → is_own s x ≡ true
-    own_here e = and_from (nat_le s.base (addr_of x.0)) (nat_lt (addr_of x.0) (s.base + s.buffers * 2048)) (le-leb s.base (addr_of x.0) (omega (arith, e))) (lt-ltb (addr_of x.0) (s.base + s.buffers * 2048) (omega (arith, e, low)))
+    own_here : addr_of x.0 ≡ s.base + b * s.size → is_own s x ≡ true
+    own_here e = and_from (nat_le s.base (addr_of x.0)) (nat_lt (addr_of x.0) (s.base + s.buffers * s.size)) (le-leb s.base (addr_of x.0) (omega (arith, e))) (lt-ltb (addr_of x.0) (s.base + s.buffers * s.size) (let within = ends_within s.size b s.buffers low in omega (arith, e, some, within)))
 
-    by_own : at_address (s.base + b * 2048) xs ≡ at_address (b * 2048) (own_of s xs) → (t : Bool) → is_own s x ≡ t → (addr_of x.0 ≡ s.base + b * 2048) ⊎ (addr_of x.0 ≡ s.base + b * 2048 → ⊥) → at_address (s.base + b * 2048) (x ∷ xs) ≡ at_address (b * 2048) (map (to_client s.base) (cond (is_own s x) (x ∷ filter (is_own s) xs) (filter (is_own s) xs)))
+    by_own : at_address (s.base + b * s.size) xs ≡ at_address (b * s.size) (own_of s xs) → (t : Bool) → is_own s x ≡ t → (addr_of x.0 ≡ s.base + b * s.size) ⊎ (addr_of x.0 ≡ s.base + b * s.size → ⊥) → at_address (s.base + b * s.size) (x ∷ xs) ≡ at_address (b * s.size) (map (to_client s.base) (cond (is_own s x) (x ∷ filter (is_own s) xs) (filter (is_own s) xs)))
     by_own r true own (inl e) =
-        let one = bit_same (addr_of x.0) (s.base + b * 2048) e in
-        let l = leb-true s.base (addr_of x.0) (and_parts (nat_le s.base (addr_of x.0)) (nat_lt (addr_of x.0) (s.base + s.buffers * 2048)) own).0 in
+        let one = bit_same (addr_of x.0) (s.base + b * s.size) e in
+        let l = leb-true s.base (addr_of x.0) (and_parts (nat_le s.base (addr_of x.0)) (nat_lt (addr_of x.0) (s.base + s.buffers * s.size)) own).0 in
         let o = offset x.0 l in
-        let two = bit_same (addr_of (to_client s.base x).0) (b * 2048) (omega (arith, o, e)) in
-        let split = ap (λ c. at_address (b * 2048) (map (to_client s.base) (cond c (x ∷ filter (is_own s) xs) (filter (is_own s) xs)))) own in
+        let two = bit_same (addr_of (to_client s.base x).0) (b * s.size) (omega (arith, o, e)) in
+        let split = ap (λ c. at_address (b * s.size) (map (to_client s.base) (cond c (x ∷ filter (is_own s) xs) (filter (is_own s) xs)))) own in
         omega (arith, one, two, r, split)
     by_own r true own (inr ne) =
-        let none = bit_other (addr_of x.0) (s.base + b * 2048) ne in
-        let l = leb-true s.base (addr_of x.0) (and_parts (nat_le s.base (addr_of x.0)) (nat_lt (addr_of x.0) (s.base + s.buffers * 2048)) own).0 in
+        let none = bit_other (addr_of x.0) (s.base + b * s.size) ne in
+        let l = leb-true s.base (addr_of x.0) (and_parts (nat_le s.base (addr_of x.0)) (nat_lt (addr_of x.0) (s.base + s.buffers * s.size)) own).0 in
         let o = offset x.0 l in
-        let two = bit_other (addr_of (to_client s.base x).0) (b * 2048) (λ e. ne (omega (arith, o, e, l))) in
-        let split = ap (λ c. at_address (b * 2048) (map (to_client s.base) (cond c (x ∷ filter (is_own s) xs) (filter (is_own s) xs)))) own in
+        let two = bit_other (addr_of (to_client s.base x).0) (b * s.size) (λ e. ne (omega (arith, o, e, l))) in
+        let split = ap (λ c. at_address (b * s.size) (map (to_client s.base) (cond c (x ∷ filter (is_own s) xs) (filter (is_own s) xs)))) own in
         omega (arith, none, two, r, split)
     by_own r false own (inl e) = let no : true ≡ false = sym (own_here e) ∙ own in absurd cc
     by_own r false own (inr ne) =
-        let none = bit_other (addr_of x.0) (s.base + b * 2048) ne in
-        let split = ap (λ c. at_address (b * 2048) (map (to_client s.base) (cond c (x ∷ filter (is_own s) xs) (filter (is_own s) xs)))) own in
+        let none = bit_other (addr_of x.0) (s.base + b * s.size) ne in
+        let split = ap (λ c. at_address (b * s.size) (map (to_client s.base) (cond c (x ∷ filter (is_own s) xs) (filter (is_own s) xs)))) own in
         omega (arith, none, r, split)
 
 -- a buffer of the client that went once more than it came back is away
-away_here : (c : Client) (a b : ℕ) → a ≡ c.sender.base + b * 2048 → is_marked c.away b ≡ true → is_away c a ≡ true
-away_here c a b e m =
-    let same : buffer_at c a ≡ b = omega (arith, e) in
-    and_from (nat_le c.sender.base a) ((c.sender.base + buffer_at c a * 2048 == a) && is_marked c.away (buffer_at c a)) (le-leb c.sender.base a (omega (arith, e)))
-    (and_from (c.sender.base + buffer_at c a * 2048 == a) (is_marked c.away (buffer_at c a)) (eq-eqb (c.sender.base + buffer_at c a * 2048) a (omega (arith, e, same))) (ap (is_marked c.away) same ∙ m))
+away_here : (c : Client) → 1 ≤ c.sender.size → (a b : ℕ) → a ≡ c.sender.base + b * c.sender.size → is_marked c.away b ≡ true → is_away c a ≡ true
+away_here c some a b e m =
+    let off : a - c.sender.base ≡ b * c.sender.size = omega (arith, e) in
+    let same : buffer_at c a ≡ b = ap (λ n. n / c.sender.size) off ∙ number_back c.sender.size b some in
+    and_from (nat_le c.sender.base a) ((c.sender.base + buffer_at c a * c.sender.size == a) && is_marked c.away (buffer_at c a)) (le-leb c.sender.base a (omega (arith, e)))
+    (and_from (c.sender.base + buffer_at c a * c.sender.size == a) (is_marked c.away (buffer_at c a)) (eq-eqb (c.sender.base + buffer_at c a * c.sender.size) a (ap (λ k. c.sender.base + k * c.sender.size) same ∙ sym e)) (ap (is_marked c.away) same ∙ m))
 
 -- an entry that came back from the driver and is nobody's that is away is out of turn
-pub back_stray : (w : Traffic) (cs : ℕ → List Cargo) (ss rs : List Cargo) (bs : ℕ → List Cargo) → TrafficStands w cs ss rs bs → (x : Cargo) → ((k : ℕ) (c : Client) → slice_get w.clients.items k ≡ Some c → is_away c (addr_of x.0) ≡ false) → IsBackInTurn ss rs x → ⊥
-back_stray w cs ss rs bs s x off less = by_one (where_at (IsSomeones w.clients.items) (addr_of x.0) ss s.within (omega (arith, less)))
+pub back_stray : (w : Traffic) → IsTraffic w → (cs : ℕ → List Cargo) (ss rs : List Cargo) (bs : ℕ → List Cargo) → TrafficStands w cs ss rs bs → (x : Cargo) → ((k : ℕ) (c : Client) → slice_get w.clients.items k ≡ Some c → is_away c (addr_of x.0) ≡ false) → IsBackInTurn ss rs x → ⊥
+back_stray w work cs ss rs bs s x off less = by_one (where_at (IsSomeones w.clients.items) (addr_of x.0) ss s.within (omega (arith, less)))
   where
     by_one : (y : Cargo) × IsSomeones w.clients.items y × (addr_of y.0 ≡ addr_of x.0) → ⊥
     by_one (y, (k, c, at, (b, low, is)), same) =
-        let e : addr_of x.0 ≡ c.sender.base + b * 2048 = sym same ∙ is in
-        let one = own_at c.sender b low ss in
-        let two = own_at c.sender b low rs in
+        let e : addr_of x.0 ≡ c.sender.base + b * c.sender.size = sym same ∙ is in
+        let some = (work.each k c at).sized in
+        let one = own_at c.sender some b low ss in
+        let two = own_at c.sender some b low rs in
         let n = (s.clients k c at).counts b low in
         let p = ap (λ a. at_address a ss) e in
         let q = ap (λ a. at_address a rs) e in
         let m = mark_true (is_marked c.away b) (omega (arith, less, one, two, n, p, q)) in
-        let yes = away_here c (addr_of x.0) b e m in
+        let yes = away_here c some (addr_of x.0) b e m in
         let no : true ≡ false = sym yes ∙ off k c at in
         absurd cc
 
@@ -254,19 +256,19 @@ descriptor_stray c h came sent returned back s x idle good mark turn =
     let le = turn good in
     let p = ap (λ m. at_address m came) a in
     let q = ap (λ m. at_address m back) a in
-    let split = at_split (n * 2048) (is_good_of c.sender) came in
-    let sends = ap (at_address (n * 2048)) s.sends in
-    let sends' = at_append (n * 2048) sent (map (to_client c.sender.base) (option_to_list c.leaving)) in
-    let none = ap (λ (l : Option Cargo). at_address (n * 2048) (map (to_client c.sender.base) (option_to_list l))) free.0 in
+    let split = at_split (n * c.sender.size) (is_good_of c.sender) came in
+    let sends = ap (at_address (n * c.sender.size)) s.sends in
+    let sends' = at_append (n * c.sender.size) sent (map (to_client c.sender.base) (option_to_list c.leaving)) in
+    let none = ap (λ (l : Option Cargo). at_address (n * c.sender.size) (map (to_client c.sender.base) (option_to_list l))) free.0 in
     let counts = s.counts n g.0 in
-    let rets = ap (at_address (n * 2048)) s.rets_are in
-    let rets' = at_append (n * 2048) s.rets (returns_list c.returns) in
-    let bads = ap (at_address (n * 2048)) s.bads_are in
-    let bads' = at_append (n * 2048) s.bads (option_to_list c.bad) in
-    let good_none = ap (λ (l : Option Cargo). at_address (n * 2048) (option_to_list l)) free.1 in
-    let merge = merge_at (n * 2048) s.bads s.rets back s.merged in
+    let rets = ap (at_address (n * c.sender.size)) s.rets_are in
+    let rets' = at_append (n * c.sender.size) s.rets (returns_list c.returns) in
+    let bads = ap (at_address (n * c.sender.size)) s.bads_are in
+    let bads' = at_append (n * c.sender.size) s.bads (option_to_list c.bad) in
+    let good_none = ap (λ (l : Option Cargo). at_address (n * c.sender.size) (option_to_list l)) free.1 in
+    let merge = merge_at (n * c.sender.size) s.bads s.rets back s.merged in
     let marks = h.marks n g.0 in
-    let leaves = ap (λ (l : Option Cargo). at_address (c.sender.base + n * 2048) (option_to_list l)) free.0 in
+    let leaves = ap (λ (l : Option Cargo). at_address (c.sender.base + n * c.sender.size) (option_to_list l)) free.0 in
     let one = ap bit mark in
     omega (arith, le, p, q, split, sends, sends', none, counts, rets, rets', bads, bads', good_none, merge, marks, leaves, one)
 
@@ -276,7 +278,7 @@ pub tx_back : (i o : ℕ) (f t : List QueueId) (w w' : Traffic) (x : Cargo) (pas
 tx_back i o f t w w' x passed took put from_each to_each none h (inl (k, m)) apart takes puts = buffer_in i o f t w w' k passed took put from_each to_each none h x m apart takes puts
 tx_back i o f t w w' x passed took put from_each to_each none h (inr (off, is)) apart takes puts =
     subst (λ (v : Traffic). TxStands i o f t v (record { taken = with passed.taken took; sent = with passed.sent put; dropped = passed.dropped })) (sym is)
-    (strays i o f t w x passed took put i h none takes puts (inl (refl, back_stray w (λ k. h.turn (queue_at f k)) (passed.sent o) (h.turn i) (λ k. passed.sent (queue_at t k)) h.stands x off)) (λ pool. first_more pool took (x ∷ []) i f apart takes))
+    (strays i o f t w x passed took put i h none takes puts (inl (refl, back_stray w h.work (λ k. h.turn (queue_at f k)) (passed.sent o) (h.turn i) (λ k. passed.sent (queue_at t k)) h.stands x off)) (λ pool. first_more pool took (x ∷ []) i f apart takes))
 
 -- a descriptor came from a client, in turn or out of it
 pub tx_in : (i o : ℕ) (f t : List QueueId) (w w' : Traffic) (k : ℕ) (q : QueueId) (x : Cargo) (passed : Passed) (took put : Lists) → length f ≡ length w.clients.items → length t ≡ length w.clients.items → w.stray ≡ None → TxStands i o f t w passed → TookIn w w' k x → slice_get f k ≡ Some q → AreApart f → (i ≡ q.0 → ⊥)

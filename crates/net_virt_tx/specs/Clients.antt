@@ -43,11 +43,11 @@ number_of Carried.Empty = 0
 
 -- the device addresses of a client's buffers
 abbrev pub range_of : Sender → Range
-range_of s = record { base = s.base; size = s.buffers * 2048 }
+range_of s = record { base = s.base; size = s.buffers * s.size }
 
 -- an entry of the driver's queues is at a buffer of the client
 abbrev pub IsOf : Sender → Cargo → Type 0
-IsOf s x = (b : ℕ) × (b < s.buffers) × (addr_of x.0 ≡ s.base + b * 2048)
+IsOf s x = (b : ℕ) × (b < s.buffers) × (addr_of x.0 ≡ s.base + b * s.size)
 
 -- nothing that came from the client is still to be put
 abbrev pub is_idle : Client → Bool
@@ -76,11 +76,11 @@ comes_in_turn c x = not (is_good_of c.sender x) || not (is_marked c.inside (numb
 
 -- the number of the buffer at a device address
 abbrev pub buffer_at : Client → ℕ → ℕ
-buffer_at c a = (a - c.sender.base) / 2048
+buffer_at c a = (a - c.sender.base) / c.sender.size
 
 -- the client's buffer that begins at a device address is at the driver
 abbrev pub is_away : Client → ℕ → Bool
-is_away c a = nat_le c.sender.base a && ((c.sender.base + buffer_at c a * 2048 == a)
+is_away c a = nat_le c.sender.base a && ((c.sender.base + buffer_at c a * c.sender.size == a)
     && is_marked c.away (buffer_at c a))
 
 -- all entries that it has
@@ -88,25 +88,26 @@ abbrev pub client_cargo : Client → List Cargo
 client_cargo c = option_to_list c.leaving ++ (option_to_list c.bad ++ returns_list c.returns)
 
 -- an entry goes to the client at one of its buffers
-abbrev pub IsReturn : ℕ → Cargo → Type 0
-IsReturn buffers x =
-    (kind_of x.0 ≡ Kind.Net) × ((b : ℕ) × (b < buffers) × (addr_of x.0 ≡ b * 2048))
+abbrev pub IsReturn : (buffers size : ℕ) → Cargo → Type 0
+IsReturn buffers size x =
+    (kind_of x.0 ≡ Kind.Net) × ((b : ℕ) × (b < buffers) × (addr_of x.0 ≡ b * size))
 
 -- what it keeps fits together: a buffer is inside where it is in the entry that leaves, at the
 -- driver, or in one that came back
 pub record IsClient (c : Client) : Type 0 where
-  pub room : c.sender.base + c.sender.buffers * 2048 ≤ 2 ^ 62
+  pub sized : 1 ≤ c.sender.size
+  pub room : c.sender.base + c.sender.buffers * c.sender.size ≤ 2 ^ 62
   pub inside_long : length c.inside ≡ c.sender.buffers
   pub away_long : length c.away ≡ c.sender.buffers
   pub leaves : (x : Cargo) → c.leaving ≡ Some x → (kind_of x.0 ≡ Kind.Net)
-      × (c.number < c.sender.buffers) × (addr_of x.0 ≡ c.sender.base + c.number * 2048)
+      × (c.number < c.sender.buffers) × (addr_of x.0 ≡ c.sender.base + c.number * c.sender.size)
   pub bad_kind : (x : Cargo) → c.bad ≡ Some x → kind_of x.0 ≡ Kind.Net
-  pub backs : All (IsReturn c.sender.buffers) (returns_list c.returns)
+  pub backs : All (IsReturn c.sender.buffers c.sender.size) (returns_list c.returns)
   pub places : c.sender.buffers ≤ c.returns.later.places
   pub ready : IsReady c.returns
   pub marks : (b : ℕ) → b < c.sender.buffers → bit (is_marked c.inside b)
-      ≡ at_address (c.sender.base + b * 2048) (option_to_list c.leaving)
-      + (bit (is_marked c.away b) + at_address (b * 2048) (returns_list c.returns))
+      ≡ at_address (c.sender.base + b * c.sender.size) (option_to_list c.leaving)
+      + (bit (is_marked c.away b) + at_address (b * c.sender.size) (returns_list c.returns))
   pub counts : how_many c.inside ≡ length (option_to_list c.leaving)
       + (how_many c.away + length (returns_list c.returns))
 
@@ -123,8 +124,8 @@ pub record ClientStands (c : Client) (came sent returned back : List Cargo) : Ty
   pub rets : List Cargo
   pub rets_are : rets ++ returns_list c.returns ≡ returned
   pub merged : Merge (bads ∷ rets ∷ []) back
-  pub counts : (b : ℕ) → b < c.sender.buffers → at_address (b * 2048) sent
-      ≡ at_address (b * 2048) returned + bit (is_marked c.away b)
+  pub counts : (b : ℕ) → b < c.sender.buffers → at_address (b * c.sender.size) sent
+      ≡ at_address (b * c.sender.size) returned + bit (is_marked c.away b)
   pub bad_many : c.bad_many ≡ capped (length (bad_ones c.sender came))
 
 -- so much more came from the client, was sent for it, returned and went back to it; what is sent

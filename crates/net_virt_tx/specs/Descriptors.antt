@@ -10,14 +10,14 @@ use Rattle.buffer_kit.specs.Entries.{addr_of, len_of}
 
 -- a descriptor is good where its offset is that of one of the client's buffers, its length one of a
 -- frame, and its body the page of that offset; any other is bad: its offset is no multiple of the
--- buffer size, it lies past the last buffer, its length is outside 14 to 1,514, or its body isn't
--- the page of that offset
-abbrev pub is_good : PoolId → (buffers size : ℕ) → Cargo → Bool
-is_good pool buffers size (item, Carried.Page page) =
+-- buffer size, it lies past the last buffer, its length is outside 14 to the longest frame, or its
+-- body isn't the page of that offset
+abbrev pub is_good : PoolId → (buffers size most : ℕ) → Cargo → Bool
+is_good pool buffers size most (item, Carried.Page page) =
     (page.pool.0 == pool.0) && (nat_lt page.no buffers && ((addr_of item == page.no * size)
-    && (nat_le 14 (len_of item) && nat_le (len_of item) 1514)))
-is_good pool buffers size (item, Carried.Lease lease) = false
-is_good pool buffers size (item, Carried.Empty) = false
+    && (nat_le 14 (len_of item) && nat_le (len_of item) most)))
+is_good pool buffers size most (item, Carried.Lease lease) = false
+is_good pool buffers size most (item, Carried.Empty) = false
 
 -- the same item with another address
 abbrev pub with_addr : ℕ → Item → Item

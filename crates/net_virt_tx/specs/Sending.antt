@@ -98,16 +98,18 @@ IsAnyones ss c = (k : ℕ) × (s : Sender) × (slice_get ss k ≡ Some s) × IsO
 -- each buffer of the client went to the driver as often as it came back, or once more
 abbrev pub AreAway : Sender → (sent returned : List Cargo) → Type 0
 AreAway s sent returned = (b : ℕ) → b < s.buffers
-    → (at_address (s.base + b * 2048) returned ≤ at_address (s.base + b * 2048) sent)
-    × (at_address (s.base + b * 2048) sent ≤ at_address (s.base + b * 2048) returned + 1)
+    → (at_address (s.base + b * s.size) returned ≤ at_address (s.base + b * s.size) sent)
+    × (at_address (s.base + b * s.size) sent ≤ at_address (s.base + b * s.size) returned + 1)
 
--- its clients' ranges don't meet, and each client has a queue each way; of what it took in turn,
+-- its clients' ranges don't meet, no buffer is empty, and each client has a queue each way; of what
+-- it took in turn,
 -- which is all but for one entry that came last: what it gave the driver is a merge of beginnings
 -- of each client's good descriptors with their device addresses, each at a buffer of the client,
 -- which is at the driver at most once; it serves each client; it counts the bad descriptors; and
 -- the entry out of turn is in its hand
 pub record TxRow (v : NetVirtTx) (passed : Passed) : Type 0 where
   pub apart : AreRanges (map range_of (senders v.work))
+  pub sized : (k : ℕ) (s : Sender) → slice_get (senders v.work) k ≡ Some s → 1 ≤ s.size
   pub from_each : length (from_queues v.ends) ≡ length (senders v.work)
   pub to_each : length (to_queues v.ends) ≡ length (senders v.work)
   pub turn : Lists
@@ -143,9 +145,15 @@ pub record SameTx (old new : NetVirtTx) : Type 0 where
   pub ends : SameVirt old.ends new.ends
   pub work : senders new.work ≡ senders old.work
 
--- a client as it sends
-abbrev pub sender_of : TxEnds → Sender
-sender_of c = record { pool = c.pool; buffers = c.buffers; base = c.base }
+-- a client as it sends, where the longest frame has so many bytes
+abbrev pub sender_of : ℕ → TxEnds → Sender
+sender_of most c = record {
+  pool = c.pool; buffers = c.buffers; base = c.base; size = c.size; most = most;
+}
+
+-- the device addresses of a client's buffers
+abbrev pub tx_range : TxEnds → Range
+tx_range c = record { base = c.base; size = c.buffers * c.size }
 
 -- of these clients nothing came yet
 pub record IsNewTraffic (ss : List Sender) (w : Traffic) : Type 0 where
@@ -154,16 +162,17 @@ pub record IsNewTraffic (ss : List Sender) (w : Traffic) : Type 0 where
   pub none_stray : w.stray ≡ None
 
 -- a virtualiser in its start state
-pub record IsNewTx (active free : QueueId) (clients : List TxEnds) (v : NetVirtTx) : Type 0 where
+pub record IsNewTx (active free : QueueId) (clients : List TxEnds) (most : ℕ) (v : NetVirtTx) : Type 0 where
   pub ends : IsNewVirt free active (map (λ (c : TxEnds). c.active) clients)
       (map (λ (c : TxEnds). c.free) clients) v.ends
-  pub work : IsNewTraffic (map sender_of clients) v.work
+  pub work : IsNewTraffic (map (sender_of most) clients) v.work
 
--- these are the ranges of the clients' buffers, each ends at most at 2^62, and all clients together
--- have few
+-- these are the ranges of the clients' buffers, no buffer is empty, each range ends at most at 2^62,
+-- and all clients together have few
 pub record FitsClients (clients : List TxEnds) (ranges : List Range) : Type 0 where
-  pub ranges_are : ranges ≡ map (λ (c : TxEnds). range_of (sender_of c)) clients
-  pub ends : All (λ (c : TxEnds). c.base + c.buffers * 2048 ≤ 2 ^ 62) clients
+  pub ranges_are : ranges ≡ map tx_range clients
+  pub sized : All (λ (c : TxEnds). 1 ≤ c.size) clients
+  pub ends : All (λ (c : TxEnds). c.base + c.buffers * c.size ≤ 2 ^ 62) clients
   pub few : sum_by (λ (c : TxEnds). c.buffers + 2) clients < 2 ^ 32
 
 -- its ends: it needs buffers that come back, and the next descriptor of each client of which none

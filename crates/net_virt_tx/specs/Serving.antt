@@ -10,11 +10,11 @@ use Rattle.net_virt_tx.specs.declared.descriptors.Sender.{Sender}
 
 -- a descriptor of the client is good
 abbrev pub is_good_of : Sender → Cargo → Bool
-is_good_of s c = is_good s.pool s.buffers 2048 c
+is_good_of s c = is_good s.pool s.buffers s.size s.most c
 
 -- the buffer of an entry is in the client's range of device addresses
 abbrev pub is_own : Sender → Cargo → Bool
-is_own s c = nat_le s.base (addr_of c.0) && nat_lt (addr_of c.0) (s.base + s.buffers * 2048)
+is_own s c = nat_le s.base (addr_of c.0) && nat_lt (addr_of c.0) (s.base + s.buffers * s.size)
 
 -- of these entries of the driver's queues, those in the client's range, with their offsets there
 abbrev pub own_of : Sender → List Cargo → List Cargo

@@ -28,8 +28,6 @@ use std::alloc::Global;
 use turn_kit::count_held;
 use wire_core::{Event, Wires};
 
-const SIZE: u64 = 2048;
-
 /// What is kept of a client. `leaving` is a good descriptor on its way to the driver, at the buffer
 /// of `number`; `bad` is a bad one on its way back, and `bad_many` counts those that came;
 /// `returns` came back from the driver. `inside` marks the buffers that came and didn't go back,
@@ -57,12 +55,14 @@ fn page_number(body: &Body) -> u32
     }
 }
 
-// The number of the buffer of an entry that goes to the client; 0 where there is none.
-fn returned_number(entry: &Option<(Item, Body)>) -> usize
-    ensures { (x : Cargo) → entry.now ≡ Some x → result ≡ addr_of x.0 / 2048 }
+// The number of the buffer of an entry that goes to the client, where one has so many bytes; 0
+// where there is none.
+fn returned_number(entry: &Option<(Item, Body)>, size: u32) -> usize
+    requires { 1 ≤ size }
+    ensures { (x : Cargo) → entry.now ≡ Some x → result ≡ addr_of x.0 / size }
 {
     match entry {
-        Some(entry) => (address(&entry.0) / SIZE) as usize,
+        Some(entry) => (address(&entry.0) / size as u64) as usize,
         None => 0,
     }
 }
@@ -84,7 +84,8 @@ impl Served for Client {
 impl Client {
     /// A client of which nothing came yet, with the memory for all its buffers.
     pub fn new(alloc: Global, sender: Sender) -> Result<Client, Memory>
-        requires { sender.base + sender.buffers * 2048 ≤ 2 ^ 62 }
+        requires sized { 1 ≤ sender.size }
+        requires room { sender.base + sender.buffers * sender.size ≤ 2 ^ 62 }
         ensures sender { IfOk result (λ c. c.sender ≡ sender) }
         ensures fresh { IfOk result (λ c. IsFresh c) }
     {
@@ -137,14 +138,17 @@ impl Client {
 
     /// Whether its buffer that begins at a device address is at the driver.
     pub fn is_away(&self, address: u64) -> bool
-        requires { self.now.sender.base + self.now.sender.buffers * 2048 ≤ 2 ^ 62 }
+        requires sized { 1 ≤ self.now.sender.size }
+        requires room { self.now.sender.base + self.now.sender.buffers * self.now.sender.size
+            ≤ 2 ^ 62 }
         ensures { result ≡ is_away self.now address }
     {
         if address < self.sender.base {
             return false;
         }
-        let number = (address - self.sender.base) / SIZE;
-        self.sender.base + number * SIZE == address && self.away.has(number as usize)
+        let size = self.sender.size as u64;
+        let number = (address - self.sender.base) / size;
+        self.sender.base + number * size == address && self.away.has(number as usize)
     }
 
     // A good descriptor is on its way to the driver.
@@ -187,7 +191,7 @@ impl Client {
         ensures { Moved self.old self.new [] [] (entry ∷ []) [] }
     {
         let base = self.sender.base;
-        let number = (address(&entry.0) - base) / SIZE;
+        let number = (address(&entry.0) - base) / self.sender.size as u64;
         self.away.set(number as usize, false);
         self.returns.push(to_client(entry, base));
     }
@@ -267,7 +271,7 @@ impl Client {
         ensures moved { Moved self.old self.new [] [] []
             (option_to_list (put_of result self.old.returns.next)) }
     {
-        let number = returned_number(&self.returns.next);
+        let number = returned_number(&self.returns.next, self.sender.size);
         let event = ends.step_to_client::<NetCargo, _>(wires, place, &mut self.returns.next);
         if self.returns.next.is_none() {
             self.inside.set(number, false);

@@ -1,40 +1,38 @@
 //! Which descriptors of a client are good, and the addresses of their buffers on either side.
 ghost use Rattle.std.specs.Prelude.{◌≡◌, ◌+◌, ◌*◌, ◌≤◌, ◌<◌, ◌^◌};
 ghost use Rattle.buffer_kit.specs.Entries.{addr_of};
-ghost use Rattle.net_virt_tx.specs.Descriptors.{is_good, to_device, to_client, with_addr};
+ghost use Rattle.net_virt_tx.specs.Descriptors.{to_device, to_client, with_addr};
+ghost use Rattle.net_virt_tx.specs.Serving.{is_good_of};
 
 use buffer_kit::{address, told_length};
 use cargo_core::{Body, Item, NetDesc, PoolId};
 
-/// The size of a network buffer, in bytes.
-pub const BUFFER_SIZE: u64 = 2048;
-
-/// The shortest and the longest frame, in bytes.
+/// The shortest frame, in bytes.
 const SHORTEST: u16 = 14;
 
-const LONGEST: u16 = 1514;
-
-/// A client that sends: the pool of its buffers, how many there are, and the device address at
-/// which the first one begins.
+/// A client that sends: the pool of its buffers, how many there are, the device address at which
+/// the first one begins, the size of one and the longest frame, both in bytes.
 #[derive(Clone, Copy, Debug, PartialEq, Eq)]
 pub struct Sender {
     pub pool: PoolId,
     pub buffers: u32,
     pub base: u64,
+    pub size: u32,
+    pub most: u16,
 }
 
 impl Sender {
     /// Whether a descriptor of the client is good.
     pub fn is_good(&self, entry: &(Item, Body)) -> bool
-        ensures { result ≡ is_good self.now.pool self.now.buffers 2048 entry.now }
+        ensures { result ≡ is_good_of self.now entry.now }
     {
         match &entry.1 {
             Body::Page(page) => {
                 page.pool().0 == self.pool.0
                     && page.no() < self.buffers
-                    && address(&entry.0) == page.no() as u64 * BUFFER_SIZE
+                    && address(&entry.0) == page.no() as u64 * self.size as u64
                     && SHORTEST <= told_length(&entry.0)
-                    && told_length(&entry.0) <= LONGEST
+                    && told_length(&entry.0) <= self.most
             }
             _ => false,
         }

@@ -37,8 +37,8 @@ pub use traffic::{Loaded, Traffic, Wanting, serve_law};
 pub use waiting::Waiting;
 
 /// A client of the virtualiser: the queue on which its descriptors come, the one on which its
-/// buffers go back, and its buffers, of 2,048 bytes each, the first of which has the device address
-/// `base`.
+/// buffers go back, and its buffers, of `size` bytes each, the first of which has the device
+/// address `base`.
 #[derive(Clone, Copy, Debug, PartialEq, Eq)]
 pub struct TxEnds {
     pub active: QueueId,
@@ -46,6 +46,7 @@ pub struct TxEnds {
     pub pool: PoolId,
     pub buffers: u32,
     pub base: u64,
+    pub size: u32,
 }
 
 /// The sending virtualiser. While a descriptor of a client is still to be put, it takes no other of
@@ -57,14 +58,16 @@ pub struct NetVirtTx {
 }
 
 impl TxEnds {
-    /// The client as it sends.
-    pub fn sender(&self) -> Sender
-        ensures { result ≡ sender_of self.now }
+    /// The client as it sends, where the longest frame has `most` bytes.
+    pub fn sender(&self, most: u16) -> Sender
+        ensures { result ≡ sender_of most self.now }
     {
         Sender {
             pool: self.pool,
             buffers: self.buffers,
             base: self.base,
+            size: self.size,
+            most,
         }
     }
 }
@@ -93,23 +96,24 @@ fn free_of(alloc: Global, clients: &[TxEnds]) -> Result<Vec<QueueId>, Memory>
 
 impl NetVirtTx {
     /// A virtualiser in its start state. Descriptors go to the driver at `active` and come back at
-    /// `free`; `ranges` are the device addresses of the clients' buffers, in the same order. It
-    /// takes the memory for all buffers that it may hold.
+    /// `free`; `ranges` are the device addresses of the clients' buffers, in the same order, and
+    /// the longest frame has `most` bytes. It takes the memory for all buffers that it may hold.
     pub fn new(
         alloc: Global,
         active: QueueId,
         free: QueueId,
         clients: Vec<TxEnds>,
         ranges: Ranges,
+        most: u16,
     ) -> Result<NetVirtTx, Memory>
         requires { FitsClients clients.items ranges }
-        ensures new { IfOk result (λ v. IsNewTx active free clients.items v) }
+        ensures new { IfOk result (λ v. IsNewTx active free clients.items most v) }
         ensures stands { IfOk result (λ v. TxStandsFor v nothing_passed) }
     {
         let from_clients = active_of(alloc, &clients)?;
         let to_clients = free_of(alloc, &clients)?;
         let ends = VirtEnds::new(alloc, free, active, &from_clients, &to_clients)?;
-        let work = Traffic::new(alloc, &clients, ranges)?;
+        let work = Traffic::new(alloc, &clients, ranges, most)?;
         Ok(NetVirtTx { ends, work })
     }
 

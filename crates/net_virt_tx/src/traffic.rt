@@ -69,28 +69,34 @@ impl<'a> Needs for Loaded<'a> {
 }
 
 // Clients of which nothing came yet.
-fn served(alloc: Global, clients: &[TxEnds]) -> Result<Vec<Client>, Memory>
-    requires { All (λ (c : TxEnds). c.base + c.buffers * 2048 ≤ 2 ^ 62) clients.now }
+fn served(alloc: Global, clients: &[TxEnds], most: u16) -> Result<Vec<Client>, Memory>
+    requires sized { All (λ (c : TxEnds). 1 ≤ c.size) clients.now }
+    requires ends { All (λ (c : TxEnds). c.base + c.buffers * c.size ≤ 2 ^ 62) clients.now }
     ensures senders { IfOk result
-        (λ v. map (λ (c : Client). c.sender) v.items ≡ map sender_of clients.now) }
+        (λ v. map (λ (c : Client). c.sender) v.items ≡ map (sender_of most) clients.now) }
     ensures fresh { IfOk result (λ v. (k : ℕ) (c : Client) → slice_get v.items k ≡ Some c
         → IsFresh c) }
 {
     let mut served = Vec::with_capacity(alloc, clients.len())?;
     for client in clients {
-        served.push(Client::new(alloc, client.sender())?)?;
+        served.push(Client::new(alloc, client.sender(most))?)?;
     }
     Ok(served)
 }
 
 impl Traffic {
     /// Of these clients nothing came yet.
-    pub fn new(alloc: Global, clients: &[TxEnds], ranges: Ranges) -> Result<Traffic, Memory>
+    pub fn new(
+        alloc: Global,
+        clients: &[TxEnds],
+        ranges: Ranges,
+        most: u16,
+    ) -> Result<Traffic, Memory>
         requires { FitsClients clients.now ranges }
-        ensures new { IfOk result (λ w. IsNewTraffic (map sender_of clients.now) w) }
+        ensures new { IfOk result (λ w. IsNewTraffic (map (sender_of most) clients.now) w) }
         ensures work { IfOk result (λ w. IsTraffic w) }
     {
-        let clients = served(alloc, clients)?;
+        let clients = served(alloc, clients, most)?;
         Ok(Traffic {
             clients,
             ranges,

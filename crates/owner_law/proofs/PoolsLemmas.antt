@@ -5,3 +5,5 @@ pub mod Lasting
 pub mod Casting
 pub mod Plain
 pub mod Merging
+pub mod Sizing
+pub mod Spreading

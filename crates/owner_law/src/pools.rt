@@ -1,7 +1,9 @@
-//! The lines of pools in a report, of whatever class: what a program counts in its queues, in the
-//! hands of its actors and as lent is what the table of owners says after the journal.
+//! Pools and their lines in a report, of whatever class: what a program counts in its queues, in
+//! the hands of its actors and as lent is what the table of owners says after the journal; and with
+//! whom the buffers of pools are at the start.
 
-ghost use Rattle.std.specs.Prelude.{◌≡◌, ◌+◌, ℕ, List, [], sum_by};
+ghost use Rattle.std.specs.Prelude.{◌≡◌, ◌⊎◌, ◌<◌, ◌+◌, ◌++◌, ℕ, Some, List, [], length};
+ghost use Rattle.std.specs.Prelude.{slice_get, sum_by};
 ghost use Rattle.cargo_core.specs.Bodies.{buffers_of};
 ghost use Rattle.cargo_core.specs.Lists.{IsPrefix};
 ghost use Rattle.cargo_core.specs.declared.item.Body.{Body};
@@ -16,11 +18,13 @@ ghost use Rattle.turn_kit.specs.Hands.{Balances, bodies_of};
 ghost use Rattle.play_core.specs.Moved.{Moved, Seat, moved};
 ghost use Rattle.owner_law.specs.Things.{Naming};
 ghost use Rattle.owner_law.specs.Owners.{Table, replay};
-ghost use Rattle.owner_law.specs.Keeping.{Keeps, all_taken, all_put};
+ghost use Rattle.owner_law.specs.Keeping.{Keeper, Keeps, AreDealt, all_taken, all_put, start_table};
 ghost use Rattle.owner_law.specs.Pages.{CarryPages};
 ghost use Rattle.owner_law.specs.Census.{census, IsPool};
 ghost use Rattle.owner_law.specs.Pools.Handing.{IsOnward, NameNothing, TakesPages};
-ghost use Rattle.owner_law.specs.Pools.Lines.{Holder, AreLines, HoldsIts, came, went};
+ghost use Rattle.owner_law.specs.Pools.Lines.{Holder, AreLines, HoldsIts, HandWithin, came, went};
+ghost use Rattle.owner_law.specs.Pools.Places.{PoolAt, pool_hand};
+ghost use Rattle.owner_law.specs.Pools.Spread.{share_of, AreSpread};
 
 /// Entries carry the pages that their items name at the start, where there are none, and after each
 /// call of an actor that hands pages on. So do those that were taken.
@@ -88,4 +92,31 @@ pub fn nothing_law()
           hand = hand;
           lent = λ pool. 0;
         }) }
+{}
+
+/// Where each pool's buffers are with one actor at the start, no buffer is in two hands then, each
+/// one that its pool has is in one, and each hand has its pools' own.
+pub fn spread_law()
+    ensures dealt { (sizes owner : ℕ → ℕ) (keepers : List Keeper) → AreSpread sizes owner keepers
+        → AreDealt keepers }
+    ensures pools { (sizes owner : ℕ → ℕ) (keepers : List Keeper) → AreSpread sizes owner keepers
+        → (pool : ℕ) → owner pool < length keepers
+        → IsPool (start_table keepers) pool (sizes pool) }
+    ensures within { (sizes owner : ℕ → ℕ) (keepers : List Keeper) → AreSpread sizes owner keepers
+        → (k : ℕ) (p : Keeper) → slice_get keepers k ≡ Some p → HandWithin sizes p }
+{}
+
+/// A hand at the start is one of pools that are spread: of an actor with one pool, of one with two,
+/// and of one with none.
+pub fn share_law()
+    ensures none { (sizes owner : ℕ → ℕ) (k pool : ℕ) → (owner pool ≡ k → ⊥)
+        → [] ≡ share_of sizes owner k pool }
+    ensures one { (sizes owner : ℕ → ℕ) (k : ℕ) (p : PoolAt) → sizes p.number ≡ p.buffers
+        → owner p.number ≡ k → ((n : ℕ) → owner n ≡ k → n ≡ p.number) → (pool : ℕ)
+        → pool_hand p pool ≡ share_of sizes owner k pool }
+    ensures two { (sizes owner : ℕ → ℕ) (k : ℕ) (p q : PoolAt) → sizes p.number ≡ p.buffers
+        → sizes q.number ≡ q.buffers → (p.number ≡ q.number → ⊥) → owner p.number ≡ k
+        → owner q.number ≡ k
+        → ((n : ℕ) → owner n ≡ k → (n ≡ p.number) ⊎ (n ≡ q.number)) → (pool : ℕ)
+        → pool_hand p pool ++ pool_hand q pool ≡ share_of sizes owner k pool }
 {}

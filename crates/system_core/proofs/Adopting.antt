@@ -199,8 +199,8 @@ module _ (s : Setting) (rings : List RingIs) (parts : List Apart) (fitted : IsFi
   items : HaveItems passed (moved history [])
   items = record { taken = taken_shown ended; sent = sent_shown ended }
 
-  sends_now : ClientsSend (map part_of nows) passed
-  sends_now = subst (λ (c : List Part). ClientsSend c passed) (sym (parts_same actors nows forgotten)) held.sends
+  sends_now : ClientsSend rows (map part_of nows) passed
+  sends_now = subst (λ (c : List Part). ClientsSend rows c passed) (sym (parts_same actors nows forgotten)) held.sends
 
   work : AreAtWork (end_at world) rows nows passed
   work = record { fits = fits_now; stands = stands_now; hands_over = λ n. ((queue_at world n).entries, sym (stands_there n)); kinds = kinds }

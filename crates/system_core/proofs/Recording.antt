@@ -14,7 +14,8 @@ use Rattle.wire_core.specs.Queues.{Queue, queue_at, end_at}
 use Rattle.wire_core.specs.Journal.{History}
 use Rattle.net_expect.specs.Expecting.{Program, frames_for}
 use Rattle.buffer_kit.specs.Entries.{frame_of}
-use Rattle.net_law.specs.Owners.Names.{PoolAt, ClientPools}
+use Rattle.net_law.specs.Owners.Names.{ClientPools}
+use Rattle.owner_law.specs.Pools.Places.{PoolAt}
 use Rattle.net_law.specs.Parts.Numbers.{client_first, device_at, client_at}
 use Rattle.net_law.specs.TxParts.Numbers.{NetPlace}
 use Rattle.net_quiet.specs.TxCast.Casting.{sends_at, wire_at}

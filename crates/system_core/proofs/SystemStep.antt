@@ -267,7 +267,7 @@ module _ (history : History) (rows : List QueueRow) (w v : List Queue) (actors :
     kinds = λ n row at j c there. kinds' n row at j c there (eqb_tells e.queue.0 n);
   }
 
-  sends' : IsWired rows (map part_of actors) → FitsActor (end_at v) x' → part_of x' ≡ part_of x → ClientsSend (map part_of (slice_set actors k x')) passed'
+  sends' : IsWired rows (map part_of actors) → FitsActor (end_at v) x' → part_of x' ≡ part_of x → ClientsSend rows (map part_of (slice_set actors k x')) passed'
   unfolding passed'
   sends' wired new part = sends_on (end_at w) (end_at v) rows actors (slice_set actors k x') old.passed deed wired (all_parts part) works old.sends (works' new)
 

@@ -15,7 +15,8 @@ use Rattle.blk_expect.specs.Replies.{replies_of}
 use Rattle.blk_law.specs.Sheets.Numbers.{BlkPlace, blk_client_at}
 use Rattle.frame_core.specs.declared.mac.Mac.{Mac}
 use Rattle.net_expect.specs.Expecting.{Program, frames_for}
-use Rattle.net_law.specs.Owners.Names.{PoolAt, ClientPools}
+use Rattle.net_law.specs.Owners.Names.{ClientPools}
+use Rattle.owner_law.specs.Pools.Places.{PoolAt}
 use Rattle.net_law.specs.Parts.Numbers.{client_first, device_at, client_at}
 use Rattle.net_law.specs.TxParts.Numbers.{NetPlace}
 use Rattle.net_quiet.specs.TxCast.Casting.{sends_at, wire_at}

@@ -41,7 +41,7 @@ pub record Holds (history : History) (rows : List QueueRow) (world : List Queue)
       → CarryPages (cast_naming (scene_of (map part_of actors)) place) (moved history journal)
       passed
   -- the network's clients put good descriptors alone, those of the block class good requests
-  pub sends : ClientsSend (map part_of actors) passed
+  pub sends : ClientsSend rows (map part_of actors) passed
   -- nothing came out of turn at any actor
   pub in_turn : (k : ℕ) (x : Actor) → slice_get actors k ≡ Some x
       → InTurn (scene_of (map part_of actors)) x passed

@@ -5,10 +5,10 @@ const OWN: Mac = Mac([2, 0, 0, 0, 0, 1]);
 
 #[test]
 fn frames_have_14_to_1514_bytes(rt: HostRuntime) {
-    assert!(rt; !is_frame(&[0; 13]));
-    assert!(rt; is_frame(&[0; 14]));
-    assert!(rt; is_frame(&[0; 1514]));
-    assert!(rt; !is_frame(&[0; 1515]));
+    assert!(rt; !is_frame(&[0; 13], 1514));
+    assert!(rt; is_frame(&[0; 14], 1514));
+    assert!(rt; is_frame(&[0; 1514], 1514));
+    assert!(rt; !is_frame(&[0; 1515], 1514));
 }
 
 #[test]

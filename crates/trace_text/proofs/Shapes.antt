@@ -11,6 +11,7 @@ use Rattle.cargo_core.specs.declared.item.Ask.{Ask}
 use Rattle.cargo_core.specs.declared.item.Code.{Code}
 use Rattle.cargo_core.specs.declared.item.Code.TheVariants as Asked
 use Rattle.frame_core.specs.Frames.{is_frame_of}
+use Rattle.trace_text.specs.Limits.{frame_most}
 use Rattle.sdf_plan.specs.declared.plan.Plan.{Plan}
 use Rattle.sdf_plan.specs.declared.plan.Blk.{Blk}
 use Rattle.trace_text.specs.declared.trace.Trace.{Trace}
@@ -47,15 +48,15 @@ then-says : {T : Type 0} (P : Event → Type 0) (f : T → Option Event) (o : Op
 then-says P f None h = tt
 then-says P f (Some x) h = h x refl
 
-frame-shape : (frame : List ℕ) → is_frame_of frame ≡ true → IsFrame frame
+frame-shape : (frame : List ℕ) → is_frame_of frame frame_most ≡ true → IsFrame frame
 frame-shape frame h =
-    let both = and_parts (leb 14 (length frame)) (leb (length frame) 1514) h in
-    (leb-true 14 (length frame) both.0, leb-true (length frame) 1514 both.1)
+    let both = and_parts (leb 14 (length frame)) (leb (length frame) frame_most) h in
+    (leb-true 14 (length frame) both.0, leb-true (length frame) frame_most both.1)
 
 rx-shape : (plan : Plan) (word : List ℕ) → IfSome (rx_line plan word) (IsShaped plan)
 unfolding rx_line
 rx-shape plan word =
-    then-says (IsShaped plan) _ (data_of word) (λ frame _. kept-says (IsShaped plan) _ (Event.Rx frame) (λ h. frame-shape frame (and_parts (is_some plan.net) (is_frame_of frame) h).1))
+    then-says (IsShaped plan) _ (data_of word) (λ frame _. kept-says (IsShaped plan) _ (Event.Rx frame) (λ h. frame-shape frame (and_parts (is_some plan.net) (is_frame_of frame frame_most) h).1))
 
 in-shape : (plan : Plan) (word : List ℕ) → IfSome (in_line plan word) (IsShaped plan)
 unfolding in_line
@@ -65,7 +66,7 @@ send-shape : (plan : Plan) (client word : List ℕ) → IfSome (send_line plan c
 unfolding send_line
 send-shape plan client word =
     then-says (IsShaped plan) _ (number_of client) (λ c _. then-says (IsShaped plan) _ (data_of word) (λ frame _.
-    kept-says (IsShaped plan) _ (Event.Send c frame) (λ h. frame-shape frame (and_parts (is_source plan c) (is_frame_of frame) h).1)))
+    kept-says (IsShaped plan) _ (Event.Send c frame) (λ h. frame-shape frame (and_parts (is_source plan c) (is_frame_of frame frame_most) h).1)))
 
 say-shape : (plan : Plan) (client word : List ℕ) → IfSome (say_line plan client word) (IsShaped plan)
 unfolding say_line

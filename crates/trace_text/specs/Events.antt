@@ -14,6 +14,7 @@ use Rattle.sdf_plan.specs.declared.plan.NetClient.{NetClient}
 use Rattle.sdf_plan.specs.declared.plan.SerialClient.{SerialClient}
 use Rattle.sdf_plan.specs.declared.plan.BlkClient.{BlkClient}
 use Rattle.frame_core.specs.Frames.{is_frame_of}
+use Rattle.trace_text.specs.Limits.{frame_most}
 use Rattle.trace_text.specs.Texts.{words_of, number_of, data_of}
 
 -- what a line says
@@ -89,7 +90,7 @@ with_data word event = option_and_then event (data_of word)
 unfoldable pub rx_line : Plan → List ℕ → Option Event
 rx_line plan word =
     with_data word (λ frame.
-    kept_if (is_some plan.net && is_frame_of frame) (Some (Event.Rx frame)))
+    kept_if (is_some plan.net && is_frame_of frame frame_most) (Some (Event.Rx frame)))
 
 -- `in DATA`
 unfoldable pub in_line : Plan → List ℕ → Option Event
@@ -99,7 +100,7 @@ in_line plan word = with_data word (λ bytes. kept_if (is_some plan.serial) (Som
 unfoldable pub send_line : Plan → List ℕ → List ℕ → Option Event
 send_line plan client word =
     with_number client (λ c. with_data word (λ frame.
-    kept_if (is_source plan c && is_frame_of frame) (Some (Event.Send c frame))))
+    kept_if (is_source plan c && is_frame_of frame frame_most) (Some (Event.Send c frame))))
 
 -- `say C DATA`
 unfoldable pub say_line : Plan → List ℕ → List ℕ → Option Event

@@ -13,8 +13,9 @@ use frame_core::is_frame;
 use sdf_plan::Plan;
 use std::alloc::Global;
 
-/// The most bytes of a frame.
-const LONGEST_FRAME: usize = 1514;
+/// How many bytes a frame has at most: a header of 14 and 1,500 after it (IEEE 802.3, without its
+/// checksum).
+pub const LONGEST_FRAME: u16 = 1514;
 
 impl Reader {
     // `rx DATA`
@@ -27,11 +28,11 @@ impl Reader {
         if self.frame_lines >= LINES {
             return Ok(false);
         }
-        let frame = match read_data(alloc, word, LONGEST_FRAME)? {
+        let frame = match read_data(alloc, word, LONGEST_FRAME as usize)? {
             Some(frame) => frame,
             None => return Ok(false),
         };
-        if !is_frame(frame.as_slice()) {
+        if !is_frame(frame.as_slice(), LONGEST_FRAME) {
             return Ok(false);
         }
         self.trace.frames.push(frame.as_slice())?;
@@ -61,11 +62,11 @@ impl Reader {
         if self.frame_lines >= LINES {
             return Ok(false);
         }
-        let frame = match read_data(alloc, word, LONGEST_FRAME)? {
+        let frame = match read_data(alloc, word, LONGEST_FRAME as usize)? {
             Some(frame) => frame,
             None => return Ok(false),
         };
-        if !is_frame(frame.as_slice()) {
+        if !is_frame(frame.as_slice(), LONGEST_FRAME) {
             return Ok(false);
         }
         add_frame(

@@ -21,6 +21,7 @@ mod trace;
 
 pub use cargo_core::Ask;
 pub use clients::{is_source, runs};
+pub use frame_lines::LONGEST_FRAME;
 pub use laws::{limits_law, shapes_law};
 pub use read::{TraceFault, read_trace};
 pub use trace::Trace;

@@ -9,7 +9,8 @@ use Rattle.net_copier.specs.declared.NetCopier.{NetCopier}
 use Rattle.net_virt_rx.specs.declared.NetVirtRx.{NetVirtRx}
 use Rattle.net_virt_tx.specs.declared.NetVirtTx.{NetVirtTx}
 use Rattle.net_expect.specs.Expecting.{Program}
-use Rattle.net_law.specs.Owners.Names.{PoolAt, ClientPools}
+use Rattle.net_law.specs.Owners.Names.{ClientPools}
+use Rattle.owner_law.specs.Pools.Places.{PoolAt}
 use Rattle.net_law.specs.Parts.Numbers.{device_at, driver_at, receiver_at, copier_at, client_at}
 use Rattle.net_law.specs.Parts.Playing.{device_part, driver_part, receiver_part, copier_part, client_part}
 use Rattle.net_law.specs.TxParts.Numbers.{sender_at}
@@ -112,22 +113,22 @@ client_actor first k program mac pools (Kinds.BlkDriver x) e = absurd cc
 client_actor first k program mac pools (Kinds.BlkVirt x) e = absurd cc
 client_actor first k program mac pools (Kinds.BlkClient x) e = absurd cc
 
-pub sender_actor : (first : ℕ) (pools : List ClientPools) (x : Actor) → part_of x ≡ SendingPart (sender_at first pools) → (v : NetVirtTx) × (x ≡ Kinds.NetVirtTx v) × (send_part v ≡ sender_at first pools)
-sender_actor first pools (Kinds.UartDevice x) e = absurd cc
-sender_actor first pools (Kinds.UartDriver x) e = absurd cc
-sender_actor first pools (Kinds.SerialVirtRx x) e = absurd cc
-sender_actor first pools (Kinds.SerialVirtTx x) e = absurd cc
-sender_actor first pools (Kinds.SerialClient x) e = absurd cc
-sender_actor first pools (Kinds.EthDevice x) e = absurd cc
-sender_actor first pools (Kinds.EthDriver x) e = absurd cc
-sender_actor first pools (Kinds.NetVirtRx x) e = absurd cc
-sender_actor first pools (Kinds.NetCopier x) e = absurd cc
-sender_actor first pools (Kinds.NetClient x) e = absurd cc
-sender_actor first pools (Kinds.NetVirtTx x) e = (x, refl, cc)
-sender_actor first pools (Kinds.DiskDevice x) e = absurd cc
-sender_actor first pools (Kinds.BlkDriver x) e = absurd cc
-sender_actor first pools (Kinds.BlkVirt x) e = absurd cc
-sender_actor first pools (Kinds.BlkClient x) e = absurd cc
+pub sender_actor : (first most : ℕ) (pools : List ClientPools) (x : Actor) → part_of x ≡ SendingPart (sender_at first most pools) → (v : NetVirtTx) × (x ≡ Kinds.NetVirtTx v) × (send_part v ≡ sender_at first most pools)
+sender_actor first most pools (Kinds.UartDevice x) e = absurd cc
+sender_actor first most pools (Kinds.UartDriver x) e = absurd cc
+sender_actor first most pools (Kinds.SerialVirtRx x) e = absurd cc
+sender_actor first most pools (Kinds.SerialVirtTx x) e = absurd cc
+sender_actor first most pools (Kinds.SerialClient x) e = absurd cc
+sender_actor first most pools (Kinds.EthDevice x) e = absurd cc
+sender_actor first most pools (Kinds.EthDriver x) e = absurd cc
+sender_actor first most pools (Kinds.NetVirtRx x) e = absurd cc
+sender_actor first most pools (Kinds.NetCopier x) e = absurd cc
+sender_actor first most pools (Kinds.NetClient x) e = absurd cc
+sender_actor first most pools (Kinds.NetVirtTx x) e = (x, refl, cc)
+sender_actor first most pools (Kinds.DiskDevice x) e = absurd cc
+sender_actor first most pools (Kinds.BlkDriver x) e = absurd cc
+sender_actor first most pools (Kinds.BlkVirt x) e = absurd cc
+sender_actor first most pools (Kinds.BlkClient x) e = absurd cc
 
 pub disk_actor : (place : BlkPlace) (x : Actor) → part_of x ≡ BlockPart (disk_at place) → (d : Disk) × (x ≡ Kinds.DiskDevice d) × (disk_part d.start.value d.device ≡ disk_at place)
 disk_actor place (Kinds.UartDevice x) e = absurd cc

@@ -13,8 +13,7 @@ use Rattle.play_core.proofs.Lists.{map_get, map_from, there_is, there_below}
 use Rattle.pipe_driver.proofs.Holding.{row_of as driver_row}
 use Rattle.pipe_driver.specs.Drivers.{PipesRow}
 use Rattle.pipe_driver.specs.Lengths.{two_pipes}
-use Rattle.net_law.specs.Owners.Names.{PoolAt}
-use Rattle.net_law.specs.TxParts.Numbers.{own_pool}
+use Rattle.owner_law.specs.Pools.Places.{PoolAt, own_pool}
 use Rattle.device_model.specs.declared.disk.DiskDevice.{DiskDevice}
 use Rattle.device_model.specs.Disk.Disks.{DiskRow, DiskStandsFor}
 use Rattle.device_model.specs.Disk.Serving.{is_stray}

@@ -21,11 +21,12 @@ use Rattle.net_virt_tx.specs.declared.NetVirtTx.{NetVirtTx}
 use Rattle.net_copier.specs.declared.NetCopier.{NetCopier}
 use Rattle.client_programs.specs.declared.net.NetClient.{NetClient}
 use Rattle.client_programs.proofs.NetLemmas.Standing.{row_of as client_row}
-use Rattle.net_law.specs.Owners.Names.{PoolAt, ClientPools}
+use Rattle.net_law.specs.Owners.Names.{ClientPools}
+use Rattle.owner_law.specs.Pools.Places.{PoolAt}
 use Rattle.net_law.specs.Parts.Parts.{NetClient as ClientPart}
 use Rattle.net_law.specs.Parts.Numbers.{device_at, driver_at, client_first, receiver_at, copier_at, client_at}
 use Rattle.net_law.specs.Parts.Playing.{device_part, receiver_part, copier_part, client_part, stock_pool, AreLeases, ReceivesInTurn}
-use Rattle.net_law.specs.TxParts.Numbers.{NetPlace, own_pool, own_pools, sender_at}
+use Rattle.net_law.specs.TxParts.Numbers.{NetPlace, own_pools, sender_at}
 use Rattle.net_law.specs.TxParts.Playing.{send_part}
 use Rattle.net_quiet.specs.Cast.Casting.{IsCast, IsReceiverAt, IsCopierAt, IsClientAt}
 use Rattle.net_quiet.proofs.CastLemmas.Numbers.{copier_queues}
@@ -45,13 +46,6 @@ use Rattle.wired_law.specs.Wiring.{IsOfNetwork, HasWhole, HasNoNetwork, HasBlk, 
 use Rattle.wired_law.proofs.Acting.{device_actor, driver_actor, receiver_actor, sender_actor, copier_actor, client_actor}
 use Rattle.wired_law.proofs.Deeds.{puts_or_takes}
 use Rattle.wired_law.proofs.Blocks.{disk_by, virt_by, client_by, nothing_asked, asks_by}
-
--- a pool's entries are the same whether told by offsets or by device addresses
-own_sends : (pool : PoolAt) (passed : Passed) (n : ℕ) → AreSends pool (passed.sent n) → AreSends (own_pool pool) (passed.sent n)
-own_sends pool passed n send k c at = let h = send k c at in record { good = h.good; long = h.long }
-
-sends_own : (pool : PoolAt) (passed : Passed) (n : ℕ) → AreSends (own_pool pool) (passed.sent n) → AreSends pool (passed.sent n)
-sends_own pool passed n send k c at = let h = send k c at in record { good = h.good; long = h.long }
 
 -- what a part is where it is one of the network's
 client_is : (net : NetPlace) (frames : List (List ℕ)) (program : Program) (mac : Mac) (rx_active rx_free tx_active tx_free : ℕ) (rx tx : PoolAt) → IsOfNetwork net frames (NetworkPart (ClientPart program mac rx_active rx_free tx_active tx_free rx tx)) → (k : ℕ) × (p : Program) × (m : Mac) × (q : ClientPools) × IsClientOf net k p m q × (ClientPart program mac rx_active rx_free tx_active tx_free rx tx ≡ client_at net.first k p m (own_pools q))
@@ -78,7 +72,7 @@ copier_is net frames c (inr (inr (inr (inl e)))) = absurd cc
 copier_is net frames c (inr (inr (inr (inr (inl k))))) = let e = k.2 in (k.0, k.1, cc)
 copier_is net frames c (inr (inr (inr (inr (inr k))))) = let e = k.5 in absurd cc
 
-sender_is : (net : NetPlace) (frames : List (List ℕ)) (v : NetVirtTx) → IsOfNetwork net frames (SendingPart (send_part v)) → send_part v ≡ sender_at net.first net.pools
+sender_is : (net : NetPlace) (frames : List (List ℕ)) (v : NetVirtTx) → IsOfNetwork net frames (SendingPart (send_part v)) → send_part v ≡ sender_at net.first net.most net.pools
 sender_is net frames v (inl e) = absurd cc
 sender_is net frames v (inr (inl e)) = absurd cc
 sender_is net frames v (inr (inr (inl e))) = absurd cc
@@ -99,7 +93,7 @@ module _ (ends : Role → ℕ → End) (rows : List QueueRow) (actors : List Act
 
   module _ (net : NetPlace) (whole : HasWhole rows net cast) where
     receiver_at_work : (v : NetVirtRx) → receiver_part v ≡ receiver_at net.first net.pool net.macs → FitsActor ends (Kinds.NetVirtRx v) → ActorStandsFor (Kinds.NetVirtRx v) passed → IsReceiverAt net.first net.pool net.macs v passed
-    receiver_at_work v part fits stands = record { part = part; size = fits.1; to_each = fits.0.to_each; from_each = fits.0.from_each; row = receiver_row v passed stands }
+    receiver_at_work v part fits stands = record { part = part; to_each = fits.to_each; from_each = fits.from_each; row = receiver_row v passed stands }
 
     copier_there : (k : ℕ) → k < length net.macs → (c : NetCopier) × IsCopierAt net.first k c passed
     copier_there k lt =
@@ -108,8 +102,8 @@ module _ (ends : Role → ℕ → End) (rows : List QueueRow) (actors : List Act
         let stands : ActorStandsFor (Kinds.NetCopier c.0) passed = subst (λ a. ActorStandsFor a passed) c.1 x.3 in
         (c.0, record { part = c.2; row = copier_row c.0 passed stands })
 
-    short_frames : (k : ℕ) (frame : List ℕ) → slice_get frames k ≡ Some frame → length frame ≤ 2048
-    short_frames k frame at = let high = (whole.frames k frame at).1 in omega (arith, high)
+    short_frames : (k : ℕ) (frame : List ℕ) → slice_get frames k ≡ Some frame → (length frame ≤ net.pool.size) × (length frame < 65536)
+    short_frames k frame at = let high = (whole.frames k frame at).1 in let fits = whole.fits in let told = whole.told in (omega (arith, high, fits), omega (arith, high, told))
 
     -- the receive half with this device and this receiving virtualiser
     half_with : (d : EthDevice) → device_part d ≡ device_at net.first frames → DeviceRow d passed → (v : NetVirtRx) → IsReceiverAt net.first net.pool net.macs v passed → IsCast net.first frames net.pool net.macs passed
@@ -145,8 +139,8 @@ module _ (ends : Role → ℕ → End) (rows : List QueueRow) (actors : List Act
 
     sender_there : (v : NetVirtTx) × IsSenderAt net v passed
     sender_there =
-        let x = actor_of (SendingPart (sender_at net.first net.pools)) whole.sender in
-        let v = sender_actor net.first net.pools x.0 x.1 in
+        let x = actor_of (SendingPart (sender_at net.first net.most net.pools)) whole.sender in
+        let v = sender_actor net.first net.most net.pools x.0 x.1 in
         (v.0, record { part = v.2; row = sender_row v.0 passed (subst (λ a. ActorStandsFor a passed) v.1 x.3) })
 
     half_there : IsCast net.first frames net.pool net.macs passed
@@ -157,7 +151,7 @@ module _ (ends : Role → ℕ → End) (rows : List QueueRow) (actors : List Act
     client_at_work k program mac q c part some fits stands =
         let own : stock_pool c.stock ≡ (own_pools q).rx = cc in
         let many : c.stock.buffers ≡ q.rx.buffers = ap (λ (p : PoolAt). p.buffers) own in
-        record { part = part; size = fits.1.size; spare_size = fits.1.spare_size; some = omega (arith, many, some); row = client_row c passed stands }
+        record { part = part; some = omega (arith, many, some); row = client_row c passed stands }
 
     client_there : (k : ℕ) (program : Program) (mac : Mac) (q : ClientPools) → IsClientOf net k program mac q → (c : NetClient) × IsSendingClient net k program mac q c passed
     client_there k program mac q of =
@@ -179,30 +173,32 @@ module _ (ends : Role → ℕ → End) (rows : List QueueRow) (actors : List Act
       addresses = whole.addresses;
       received = whole.frames;
       scripts = whole.scripts;
+      fits = whole.fits;
+      fits_client = whole.fits_client;
     }
 
     whole_there : IsWholeCast net frames passed
     whole_there = whole_with device_there.0 device_there.1 device_there.2 sender_there.0 sender_there.1
 
-    receiver_turns : (v : NetVirtRx) → IsReceiverAt net.first net.pool net.macs v passed → v.work.stock.size ≡ 2048 → ReceivesInTurn frames v passed
+    receiver_turns : (v : NetVirtRx) → IsReceiverAt net.first net.pool net.macs v passed → ReceivesInTurn frames v passed
     unfolding half_with
-    receiver_turns v is size =
+    receiver_turns v is =
         let half = half_with device_there.0 device_there.1 device_there.2 v is in
         record {
-          size = size;
           takes = cast_takes net.first frames net.pool net.macs passed half;
           in_turn = cast_in_turn net.first frames net.pool net.macs passed half;
         }
 
     -- a client recorded a beginning of the frames for its address
-    client_records : (k : ℕ) (program : Program) (mac : Mac) (pools : ClientPools) (c : NetClient) → client_part c ≡ client_at net.first k program mac pools → 1 ≤ pools.rx.buffers → slice_get net.macs k ≡ Some mac → FitsActor ends (Kinds.NetClient c) → ActorStandsFor (Kinds.NetClient c) passed → IsPrefix c.frames.tape.shown (frames_for mac frames)
-    client_records k program mac pools c part some address fits stands =
+    client_records : (k : ℕ) (program : Program) (mac : Mac) (pools : ClientPools) (c : NetClient) → client_part c ≡ client_at net.first k program mac pools → 1 ≤ pools.rx.buffers → net.most ≤ pools.rx.size → slice_get net.macs k ≡ Some mac → FitsActor ends (Kinds.NetClient c) → ActorStandsFor (Kinds.NetClient c) passed → IsPrefix c.frames.tape.shown (frames_for mac frames)
+    client_records k program mac pools c part some enough address fits stands =
         let own : stock_pool c.stock ≡ pools.rx = cc in
         let many : c.stock.buffers ≡ pools.rx.buffers = ap (λ (p : PoolAt). p.buffers) own in
-        let client : IsClientAt net.first k c passed = record {
+        let size : c.stock.size ≡ pools.rx.size = ap (λ (p : PoolAt). p.size) own in
+        let client : IsClientAt net.first k frames c passed = record {
           active = cc;
           free = cc;
-          size = fits.1.size;
+          long = λ j frame f_at. let high = (whole.frames j frame f_at).1 in omega (arith, high, enough, size);
           some = omega (arith, many, some);
           row = client_row c passed stands;
         } in
@@ -212,29 +208,17 @@ module _ (ends : Role → ℕ → End) (rows : List QueueRow) (actors : List Act
     client_of : (k : ℕ) (c : NetClient) → slice_get actors k ≡ Some (Kinds.NetClient c) → (j : ℕ) × (p : Program) × (m : Mac) × (q : ClientPools) × IsClientOf net j p m q × (client_part c ≡ client_at net.first j p m (own_pools q))
     client_of k c at = client_is net frames _ _ _ _ _ _ _ _ (whole.only k (client_part c) (map_get part_of actors k (Kinds.NetClient c) at))
 
-    -- what the clients put, by their numbers
-    all_send : NetClientsSend cast passed → AllSend net passed
-    all_send sends k q at =
-        let below = there_below net.pools k q at in
-        let pools_many = whole.pools_many in
-        let programs_many = whole.programs_many in
-        let mac = there_is net.macs k (omega (arith, below, pools_many)) in
-        let program = there_is net.programs k (omega (arith, below, pools_many, programs_many)) in
-        let of : IsClientOf net k program.0 mac.0 q = record { address = mac.1; pools = at; plays = program.1 } in
-        let has = whole.client k program.0 mac.0 q of in
-        sends_own q.tx passed (client_first net.first k + 4) (sends has.0 program.0 mac.0 (client_first net.first k + 2) (client_first net.first k + 3) (client_first net.first k + 4) (client_first net.first k + 5) (own_pool q.rx) (own_pool q.tx) has.1)
-
-    sender_turns : NetClientsSend cast passed → (v : NetVirtTx) → IsSenderAt net v passed → SendsInTurn v passed
+    sender_turns : AllSend net passed → (v : NetVirtTx) → IsSenderAt net v passed → SendsInTurn v passed
     unfolding whole_with
     sender_turns sends v is =
         let all = whole_with device_there.0 device_there.1 device_there.2 v is in
-        let send = all_send sends in
+        let send = sends in
         record {
           good = good_taken net frames passed all is.row send;
           in_turn = λ row. none_out net frames passed all row send;
         }
 
-    whole_turns : NetClientsSend cast passed → HasNoBlock cast ⊎ ((place : BlkPlace) × HasBlk rows place cast) → ClientsAsk cast passed → (k : ℕ) (x : Actor) → slice_get actors k ≡ Some x → FitsActor ends x → ActorStandsFor x passed → InTurn (scene_of cast) x passed
+    whole_turns : AllSend net passed → HasNoBlock cast ⊎ ((place : BlkPlace) × HasBlk rows place cast) → ClientsAsk cast passed → (k : ℕ) (x : Actor) → slice_get actors k ≡ Some x → FitsActor ends x → ActorStandsFor x passed → InTurn (scene_of cast) x passed
     whole_turns sends block ask k (Kinds.UartDevice x) at fits stands = tt
     whole_turns sends block ask k (Kinds.UartDriver x) at fits stands = tt
     whole_turns sends block ask k (Kinds.SerialVirtRx x) at fits stands = tt
@@ -242,7 +226,7 @@ module _ (ends : Role → ℕ → End) (rows : List QueueRow) (actors : List Act
     whole_turns sends block ask k (Kinds.SerialClient x) at fits stands = tt
     whole_turns sends block ask k (Kinds.EthDevice x) at fits stands = tt
     whole_turns sends block ask k (Kinds.EthDriver x) at fits stands = tt
-    whole_turns sends block ask k (Kinds.NetVirtRx v) at fits stands = receiver_turns v (receiver_at_work v (receiver_is net frames v (whole.only k (receiver_part v) (map_get part_of actors k (Kinds.NetVirtRx v) at))) fits stands) fits.1
+    whole_turns sends block ask k (Kinds.NetVirtRx v) at fits stands = receiver_turns v (receiver_at_work v (receiver_is net frames v (whole.only k (receiver_part v) (map_get part_of actors k (Kinds.NetVirtRx v) at))) fits stands)
     whole_turns sends block ask k (Kinds.NetCopier c) at fits stands =
         let is = copier_is net frames c (whole.only k (copier_part c) (map_get part_of actors k (Kinds.NetCopier c) at)) in
         let own = copier_queues net.first is.0 c is.2 in
@@ -251,7 +235,7 @@ module _ (ends : Role → ℕ → End) (rows : List QueueRow) (actors : List Act
         let is = client_of k c at in
         let part = is.5 in
         let own : c.program.mac ≡ is.2 = cc in
-        let records = client_records is.0 is.1 is.2 (own_pools is.3) c part (whole.some is.0 is.3 is.4.pools) is.4.address fits stands in
+        let records = client_records is.0 is.1 is.2 (own_pools is.3) c part (whole.some is.0 is.3 is.4.pools) (whole.fits_client is.0 is.3 is.4.pools).0 is.4.address fits stands in
         (fits.1, λ echo. subst (λ m. IsPrefix c.frames.tape.shown (frames_for m frames)) (sym own) records)
     whole_turns sends block ask k (Kinds.NetVirtTx v) at fits stands =
         let part = sender_is net frames v (whole.only_sender k (send_part v) (map_get part_of actors k (Kinds.NetVirtTx v) at)) in
@@ -261,36 +245,36 @@ module _ (ends : Role → ℕ → End) (rows : List QueueRow) (actors : List Act
     whole_turns sends block ask k (Kinds.BlkVirt x) at fits stands = virt_by ends rows actors passed work block ask k x at
     whole_turns sends block ask k (Kinds.BlkClient x) at fits stands = client_by ends rows actors passed work block k x at
 
-    pub recorded_here : (k c : ℕ) (x : Actor) (program : Program) (mac : Mac) (pools : ClientPools) → slice_get actors k ≡ Some x → part_of x ≡ NetworkPart (client_at net.first c program mac pools) → 1 ≤ pools.rx.buffers → slice_get net.macs c ≡ Some mac → IsPrefix (frames_got x) (frames_for mac frames)
-    recorded_here k c x program mac pools at part some address =
+    pub recorded_here : (k c : ℕ) (x : Actor) (program : Program) (mac : Mac) (pools : ClientPools) → slice_get actors k ≡ Some x → part_of x ≡ NetworkPart (client_at net.first c program mac pools) → 1 ≤ pools.rx.buffers → net.most ≤ pools.rx.size → slice_get net.macs c ≡ Some mac → IsPrefix (frames_got x) (frames_for mac frames)
+    recorded_here k c x program mac pools at part some enough address =
         let y = client_actor net.first c program mac pools x part in
         let fits : FitsActor ends (Kinds.NetClient y.0) = subst (FitsActor ends) y.1 (work.fits k x at) in
         let stands : ActorStandsFor (Kinds.NetClient y.0) passed = subst (λ a. ActorStandsFor a passed) y.1 (work.stands k x at) in
-        subst (λ a. IsPrefix (frames_got a) (frames_for mac frames)) (sym y.1) (client_records c program mac pools y.0 y.2 some address fits stands)
+        subst (λ a. IsPrefix (frames_got a) (frames_for mac frames)) (sym y.1) (client_records c program mac pools y.0 y.2 some enough address fits stands)
 
-    pub sent_here : NetClientsSend cast passed → (k : ℕ) (x : Actor) → slice_get actors k ≡ Some x → part_of x ≡ NetworkPart (device_at net.first frames) → PrefixMerge (sends_at net.programs net.macs frames) (frames_got x)
+    pub sent_here : AllSend net passed → (k : ℕ) (x : Actor) → slice_get actors k ≡ Some x → part_of x ≡ NetworkPart (device_at net.first frames) → PrefixMerge (sends_at net.programs net.macs frames) (frames_got x)
     unfolding whole_with half_with
     sent_here sends k x at part =
         let d = device_actor net.first frames x part in
         let row = device_row_of d.0 passed (subst (λ a. ActorStandsFor a passed) d.1 (work.stands k x at)) in
         let all = whole_with d.0 d.2 row sender_there.0 sender_there.1 in
-        subst (λ a. PrefixMerge (sends_at net.programs net.macs frames) (frames_got a)) (sym d.1) (wire_is net frames passed all sender_there.1.row (all_send sends))
+        subst (λ a. PrefixMerge (sends_at net.programs net.macs frames) (frames_got a)) (sym d.1) (wire_is net frames passed all sender_there.1.row sends)
 
-    pub told_here : NetClientsSend cast passed → (k : ℕ) (x : Actor) → slice_get actors k ≡ Some x → part_of x ≡ NetworkPart (device_at net.first frames) → frames_got x ≡ wire_at net frames (items_of (passed.taken (net.first + 2)))
+    pub told_here : AllSend net passed → (k : ℕ) (x : Actor) → slice_get actors k ≡ Some x → part_of x ≡ NetworkPart (device_at net.first frames) → frames_got x ≡ wire_at net frames (items_of (passed.taken (net.first + 2)))
     unfolding whole_with half_with
     told_here sends k x at part =
         let d = device_actor net.first frames x part in
         let row = device_row_of d.0 passed (subst (λ a. ActorStandsFor a passed) d.1 (work.stands k x at)) in
         let all = whole_with d.0 d.2 row sender_there.0 sender_there.1 in
-        subst (λ a. frames_got a ≡ wire_at net frames (items_of (passed.taken (net.first + 2)))) (sym d.1) (wire_by net frames passed all sender_there.1.row (all_send sends))
+        subst (λ a. frames_got a ≡ wire_at net frames (items_of (passed.taken (net.first + 2)))) (sym d.1) (wire_by net frames passed all sender_there.1.row sends)
 
     -- what came back to a client is in its own buffers
-    pub back_here : NetClientsSend cast passed → (k : ℕ) (program : Program) (mac : Mac) (q : ClientPools) → IsClientOf net k program mac q → AreSends q.tx (passed.taken (client_first net.first k + 5))
+    pub back_here : AllSend net passed → (k : ℕ) (program : Program) (mac : Mac) (q : ClientPools) → IsClientOf net k program mac q → AreSends net.most q.tx (passed.taken (client_first net.first k + 5))
     unfolding whole_with
-    back_here sends = back_is net frames passed (whole_with device_there.0 device_there.1 device_there.2 sender_there.0 sender_there.1) sender_there.1.row (all_send sends)
+    back_here sends = back_is net frames passed (whole_with device_there.0 device_there.1 device_there.2 sender_there.0 sender_there.1) sender_there.1.row sends
 
     -- and then what it puts sends frames in them
-    pub puts_here : (k : ℕ) (program : Program) (mac : Mac) (q : ClientPools) → IsClientOf net k program mac q → AreSends q.tx (passed.taken (client_first net.first k + 5)) → AreSends q.tx (passed.sent (client_first net.first k + 4))
+    pub puts_here : (k : ℕ) (program : Program) (mac : Mac) (q : ClientPools) → IsClientOf net k program mac q → AreSends net.most q.tx (passed.taken (client_first net.first k + 5)) → AreSends net.most q.tx (passed.sent (client_first net.first k + 4))
     puts_here = client_puts net frames passed whole_there
 
   none_turns : HasNoNetwork cast → HasNoBlock cast ⊎ ((place : BlkPlace) × HasBlk rows place cast) → ClientsAsk cast passed → (k : ℕ) (x : Actor) → slice_get actors k ≡ Some x → InTurn (scene_of cast) x passed
@@ -310,61 +294,55 @@ module _ (ends : Role → ℕ → End) (rows : List QueueRow) (actors : List Act
   none_turns empty block ask k (Kinds.BlkVirt x) at = virt_by ends rows actors passed work block ask k x at
   none_turns empty block ask k (Kinds.BlkClient x) at = client_by ends rows actors passed work block k x at
 
-  turns_by : HasNoNetwork cast ⊎ ((net : NetPlace) × HasWhole rows net cast) → HasNoBlock cast ⊎ ((place : BlkPlace) × HasBlk rows place cast) → ClientsSend cast passed → (k : ℕ) (x : Actor) → slice_get actors k ≡ Some x → InTurn (scene_of cast) x passed
+  turns_by : HasNoNetwork cast ⊎ ((net : NetPlace) × HasWhole rows net cast) → HasNoBlock cast ⊎ ((place : BlkPlace) × HasBlk rows place cast) → ClientsSend rows cast passed → (k : ℕ) (x : Actor) → slice_get actors k ≡ Some x → InTurn (scene_of cast) x passed
   turns_by (inl empty) block sends k x at = none_turns empty block sends.requests k x at
-  turns_by (inr net) block sends k x at = whole_turns net.0 net.1 sends.frames block sends.requests k x at (work.fits k x at) (work.stands k x at)
+  turns_by (inr net) block sends k x at = whole_turns net.0 net.1 (sends.frames net.0 net.1) block sends.requests k x at (work.fits k x at) (work.stands k x at)
 
-pub in_turn : (ends : Role → ℕ → End) (rows : List QueueRow) (actors : List Actor) (passed : Passed) → IsWired rows (map part_of actors) → AreAtWork ends rows actors passed → ClientsSend (map part_of actors) passed → (k : ℕ) (x : Actor) → slice_get actors k ≡ Some x → InTurn (scene_of (map part_of actors)) x passed
+pub in_turn : (ends : Role → ℕ → End) (rows : List QueueRow) (actors : List Actor) (passed : Passed) → IsWired rows (map part_of actors) → AreAtWork ends rows actors passed → ClientsSend rows (map part_of actors) passed → (k : ℕ) (x : Actor) → slice_get actors k ≡ Some x → InTurn (scene_of (map part_of actors)) x passed
 in_turn ends rows actors passed wired work = turns_by ends rows actors passed work wired.network wired.block
 
-pub recorded : (ends : Role → ℕ → End) (rows : List QueueRow) (actors : List Actor) (passed : Passed) (net : NetPlace) → HasWhole rows net (map part_of actors) → AreAtWork ends rows actors passed → (k c : ℕ) (x : Actor) (program : Program) (mac : Mac) (pools : ClientPools) → slice_get actors k ≡ Some x → part_of x ≡ NetworkPart (client_at net.first c program mac pools) → 1 ≤ pools.rx.buffers → slice_get net.macs c ≡ Some mac
+pub recorded : (ends : Role → ℕ → End) (rows : List QueueRow) (actors : List Actor) (passed : Passed) (net : NetPlace) → HasWhole rows net (map part_of actors) → AreAtWork ends rows actors passed → (k c : ℕ) (x : Actor) (program : Program) (mac : Mac) (pools : ClientPools) → slice_get actors k ≡ Some x → part_of x ≡ NetworkPart (client_at net.first c program mac pools) → 1 ≤ pools.rx.buffers → net.most ≤ pools.rx.size → slice_get net.macs c ≡ Some mac
     → IsPrefix (frames_got x) (frames_for mac (scene_of (map part_of actors)).frames)
 recorded ends rows actors passed net whole work = recorded_here ends rows actors passed work net whole
 
-pub sent_on : (ends : Role → ℕ → End) (rows : List QueueRow) (actors : List Actor) (passed : Passed) (net : NetPlace) → HasWhole rows net (map part_of actors) → AreAtWork ends rows actors passed → ClientsSend (map part_of actors) passed → (k : ℕ) (x : Actor) → slice_get actors k ≡ Some x → part_of x ≡ NetworkPart (device_at net.first (scene_of (map part_of actors)).frames)
+pub sent_on : (ends : Role → ℕ → End) (rows : List QueueRow) (actors : List Actor) (passed : Passed) (net : NetPlace) → HasWhole rows net (map part_of actors) → AreAtWork ends rows actors passed → ClientsSend rows (map part_of actors) passed → (k : ℕ) (x : Actor) → slice_get actors k ≡ Some x → part_of x ≡ NetworkPart (device_at net.first (scene_of (map part_of actors)).frames)
     → PrefixMerge (sends_at net.programs net.macs (scene_of (map part_of actors)).frames) (frames_got x)
-sent_on ends rows actors passed net whole work sends = sent_here ends rows actors passed work net whole sends.frames
+sent_on ends rows actors passed net whole work sends = sent_here ends rows actors passed work net whole (sends.frames net whole)
 
-pub sent_told : (ends : Role → ℕ → End) (rows : List QueueRow) (actors : List Actor) (passed : Passed) (net : NetPlace) → HasWhole rows net (map part_of actors) → AreAtWork ends rows actors passed → ClientsSend (map part_of actors) passed → (k : ℕ) (x : Actor) → slice_get actors k ≡ Some x → part_of x ≡ NetworkPart (device_at net.first (scene_of (map part_of actors)).frames)
+pub sent_told : (ends : Role → ℕ → End) (rows : List QueueRow) (actors : List Actor) (passed : Passed) (net : NetPlace) → HasWhole rows net (map part_of actors) → AreAtWork ends rows actors passed → ClientsSend rows (map part_of actors) passed → (k : ℕ) (x : Actor) → slice_get actors k ≡ Some x → part_of x ≡ NetworkPart (device_at net.first (scene_of (map part_of actors)).frames)
     → frames_got x ≡ wire_at net (scene_of (map part_of actors)).frames (items_of (passed.taken (net.first + 2)))
-sent_told ends rows actors passed net whole work sends = told_here ends rows actors passed work net whole sends.frames
+sent_told ends rows actors passed net whole work sends = told_here ends rows actors passed work net whole (sends.frames net whole)
 
 -- nothing was put at the start
-pub nothing_sent : (cast : List Part) → ClientsSend cast nothing_passed
-nothing_sent cast = record {
-  frames = λ k program mac rx_active rx_free tx_active tx_free rx tx at j c there. cc;
+pub nothing_sent : (rows : List QueueRow) (cast : List Part) → ClientsSend rows cast nothing_passed
+nothing_sent rows cast = record {
+  frames = λ net whole k q at j c there. cc;
   requests = nothing_asked cast;
 }
 
 -- a client's entries after one more call: where it puts one, nothing came back to it in this call
-module _ (ends ends' : Role → ℕ → End) (rows : List QueueRow) (actors actors' : List Actor) (passed : Passed) (deed : Deed) (same : map part_of actors' ≡ map part_of actors) (work : AreAtWork ends rows actors passed) (sends : NetClientsSend (map part_of actors) passed) (later : AreAtWork ends' rows actors' (with_deed passed deed)) where
+module _ (ends ends' : Role → ℕ → End) (rows : List QueueRow) (actors actors' : List Actor) (passed : Passed) (deed : Deed) (same : map part_of actors' ≡ map part_of actors) (work : AreAtWork ends rows actors passed) (sends : NetClientsSend rows (map part_of actors) passed) (later : AreAtWork ends' rows actors' (with_deed passed deed)) where
   module _ (net : NetPlace) (whole : HasWhole rows net (map part_of actors)) where
-    client_sends_on : (k : ℕ) (program : Program) (mac : Mac) (q : ClientPools) → IsClientOf net k program mac q → AreSends q.tx (passed.sent (client_first net.first k + 4)) → AreSends q.tx ((with_deed passed deed).sent (client_first net.first k + 4))
+    client_sends_on : (k : ℕ) (program : Program) (mac : Mac) (q : ClientPools) → IsClientOf net k program mac q → AreSends net.most q.tx (passed.sent (client_first net.first k + 4)) → AreSends net.most q.tx ((with_deed passed deed).sent (client_first net.first k + 4))
     client_sends_on k program mac q of old = by (puts_or_takes passed deed)
       where
-        by : ((n : ℕ) → (with_deed passed deed).sent n ≡ passed.sent n) ⊎ ((n : ℕ) → (with_deed passed deed).taken n ≡ passed.taken n) → AreSends q.tx ((with_deed passed deed).sent (client_first net.first k + 4))
-        by (inl still) = subst (AreSends q.tx) (sym (still (client_first net.first k + 4))) old
+        by : ((n : ℕ) → (with_deed passed deed).sent n ≡ passed.sent n) ⊎ ((n : ℕ) → (with_deed passed deed).taken n ≡ passed.taken n) → AreSends net.most q.tx ((with_deed passed deed).sent (client_first net.first k + 4))
+        by (inl still) = subst (AreSends net.most q.tx) (sym (still (client_first net.first k + 4))) old
         by (inr still) =
-            let back = back_here ends rows actors passed work net whole sends k program mac q of in
-            puts_here ends' rows actors' (with_deed passed deed) later net (subst (HasWhole rows net) (sym same) whole) k program mac q of (subst (AreSends q.tx) (sym (still (client_first net.first k + 5))) back)
+            let back = back_here ends rows actors passed work net whole (sends net whole) k program mac q of in
+            puts_here ends' rows actors' (with_deed passed deed) later net (subst (HasWhole rows net) (sym same) whole) k program mac q of (subst (AreSends net.most q.tx) (sym (still (client_first net.first k + 5))) back)
 
-    whole_sends_on : NetClientsSend (map part_of actors) (with_deed passed deed)
-    whole_sends_on k program mac rx_active rx_free tx_active tx_free rx tx at =
-        let is = client_is net (scene_of (map part_of actors)).frames program mac rx_active rx_free tx_active tx_free rx tx (whole.only k (ClientPart program mac rx_active rx_free tx_active tx_free rx tx) at) in
-        let e = is.5 in
-        let queue : tx_active ≡ client_first net.first is.0 + 4 = cc in
-        let pool : tx ≡ own_pool is.3.tx = cc in
-        let now = sends k program mac rx_active rx_free tx_active tx_free rx tx at in
-        let old = sends_own is.3.tx passed (client_first net.first is.0 + 4) (subst (λ p. AreSends p (passed.sent (client_first net.first is.0 + 4))) pool (subst (λ n. AreSends tx (passed.sent n)) queue now)) in
-        let new = own_sends is.3.tx (with_deed passed deed) (client_first net.first is.0 + 4) (client_sends_on is.0 is.1 is.2 is.3 is.4 old) in
-        subst (λ n. AreSends tx ((with_deed passed deed).sent n)) (sym queue) (subst (λ p. AreSends p ((with_deed passed deed).sent (client_first net.first is.0 + 4))) (sym pool) new)
+    whole_sends_on : AllSend net (with_deed passed deed)
+    whole_sends_on k q at =
+        let below = there_below net.pools k q at in
+        let pools_many = whole.pools_many in
+        let programs_many = whole.programs_many in
+        let mac = there_is net.macs k (omega (arith, below, pools_many)) in
+        let program = there_is net.programs k (omega (arith, below, pools_many, programs_many)) in
+        client_sends_on k program.0 mac.0 q (record { address = mac.1; pools = at; plays = program.1 }) (sends net whole k q at)
 
-  sends_by : HasNoNetwork (map part_of actors) ⊎ ((net : NetPlace) × HasWhole rows net (map part_of actors)) → NetClientsSend (map part_of actors) (with_deed passed deed)
-  sends_by (inl empty) = λ k program mac rx_active rx_free tx_active tx_free rx tx at. absurd (empty.none k (ClientPart program mac rx_active rx_free tx_active tx_free rx tx) at)
-  sends_by (inr net) = whole_sends_on net.0 net.1
-
-pub sends_on : (ends ends' : Role → ℕ → End) (rows : List QueueRow) (actors actors' : List Actor) (passed : Passed) (deed : Deed) → IsWired rows (map part_of actors) → map part_of actors' ≡ map part_of actors → AreAtWork ends rows actors passed → ClientsSend (map part_of actors) passed → AreAtWork ends' rows actors' (with_deed passed deed) → ClientsSend (map part_of actors') (with_deed passed deed)
-sends_on ends ends' rows actors actors' passed deed wired same work sends later = subst (λ c. ClientsSend c (with_deed passed deed)) (sym same) (record {
-  frames = sends_by ends ends' rows actors actors' passed deed same work sends.frames later wired.network;
+pub sends_on : (ends ends' : Role → ℕ → End) (rows : List QueueRow) (actors actors' : List Actor) (passed : Passed) (deed : Deed) → IsWired rows (map part_of actors) → map part_of actors' ≡ map part_of actors → AreAtWork ends rows actors passed → ClientsSend rows (map part_of actors) passed → AreAtWork ends' rows actors' (with_deed passed deed) → ClientsSend rows (map part_of actors') (with_deed passed deed)
+sends_on ends ends' rows actors actors' passed deed wired same work sends later = subst (λ c. ClientsSend rows c (with_deed passed deed)) (sym same) (record {
+  frames = λ net whole. whole_sends_on ends ends' rows actors actors' passed deed same work sends.frames later net whole;
   requests = asks_by ends ends' rows actors actors' passed deed same work sends.requests later wired.block;
 })

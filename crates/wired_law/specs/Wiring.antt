@@ -11,12 +11,13 @@ use Rattle.wire_core.specs.Ends.{Role, End}
 use Rattle.wire_core.specs.Lists.{Passed}
 use Rattle.net_law.specs.Receiving.{HandsOver}
 use Rattle.net_expect.specs.Expecting.{Program, Source}
-use Rattle.net_law.specs.Owners.Names.{PoolAt, ClientPools}
+use Rattle.net_law.specs.Owners.Names.{ClientPools}
+use Rattle.owner_law.specs.Pools.Places.{PoolAt}
 use Rattle.net_law.specs.Parts.Parts.{NetPart, NetClient}
 use Rattle.net_law.specs.Parts.Numbers.{device_at, driver_at, receiver_at, copier_at, client_at}
 use Rattle.net_law.specs.TxParts.Parts.{SendPart}
 use Rattle.net_law.specs.TxParts.Numbers.{NetPlace, own_pools, sender_at}
-use Rattle.net_quiet.specs.TxCast.Casting.{AreFrames, AreSends, IsClientOf}
+use Rattle.net_quiet.specs.TxCast.Casting.{AllSend, AreFrames, IsClientOf}
 use Rattle.blk_law.specs.Sheets.Parts.{BlkPart, BlkClient}
 use Rattle.blk_law.specs.Sheets.Numbers.{BlkPlace, IsBlkClientOf, disk_at, blk_driver_at, virt_at}
 use Rattle.blk_law.specs.Sheets.Numbers.{blk_client_at}
@@ -37,22 +38,23 @@ abbrev pub IsOfNetwork : NetPlace → (frames : List (List ℕ)) → Part → Ty
 IsOfNetwork net frames p =
     (p ≡ NetworkPart (device_at net.first frames)) ⊎ (p ≡ NetworkPart (driver_at net.first))
     ⊎ (p ≡ NetworkPart (receiver_at net.first net.pool net.macs))
-    ⊎ (p ≡ SendingPart (sender_at net.first net.pools))
+    ⊎ (p ≡ SendingPart (sender_at net.first net.most net.pools))
     ⊎ ((k : ℕ) × (k < length net.macs) × (p ≡ NetworkPart (copier_at net.first k)))
     ⊎ ((k : ℕ) × (program : Program) × (mac : Mac) × (q : ClientPools)
     × IsClientOf net k program mac q
     × (p ≡ NetworkPart (client_at net.first k program mac (own_pools q))))
 
 -- a cast has the whole network and no other actor of it; each client has buffers to receive in, and
--- an address of six bytes; the class's queues carry entries of the network; and each frame,
--- received or of a script, has 14 to 1,514 bytes
+-- an address of six bytes; the class's queues carry entries of the network; each frame, received or
+-- of a script, has 14 bytes to the most; and no frame is longer than a buffer of any pool, or than
+-- an entry can say
 pub record HasWhole (rows : List QueueRow) (net : NetPlace) (cast : List Part) : Type 0 where
   pub pools_many : length net.pools ≡ length net.macs
   pub programs_many : length net.programs ≡ length net.macs
   pub device : HasPart cast (NetworkPart (device_at net.first (scene_of cast).frames))
   pub driver : HasPart cast (NetworkPart (driver_at net.first))
   pub receiver : HasPart cast (NetworkPart (receiver_at net.first net.pool net.macs))
-  pub sender : HasPart cast (SendingPart (sender_at net.first net.pools))
+  pub sender : HasPart cast (SendingPart (sender_at net.first net.most net.pools))
   pub copier : (k : ℕ) → k < length net.macs → HasPart cast (NetworkPart (copier_at net.first k))
   pub client : (k : ℕ) (program : Program) (mac : Mac) (q : ClientPools)
       → IsClientOf net k program mac q
@@ -65,9 +67,13 @@ pub record HasWhole (rows : List QueueRow) (net : NetPlace) (cast : List Part) :
       × (slice_get rows (net.first + i) ≡ Some row) × (row.kind ≡ Kind.Net)
   pub some : (k : ℕ) (q : ClientPools) → slice_get net.pools k ≡ Some q → 1 ≤ q.rx.buffers
   pub addresses : (k : ℕ) (mac : Mac) → slice_get net.macs k ≡ Some mac → length mac.0 ≡ 6
-  pub frames : AreFrames (scene_of cast).frames
+  pub frames : AreFrames net.most (scene_of cast).frames
   pub scripts : (k : ℕ) (script : List (List ℕ)) → slice_get net.programs k ≡ Some (Source script)
-      → AreFrames script
+      → AreFrames net.most script
+  pub told : net.most < 65536
+  pub fits : net.most ≤ net.pool.size
+  pub fits_client : (k : ℕ) (q : ClientPools) → slice_get net.pools k ≡ Some q
+      → (net.most ≤ q.rx.size) × (net.most ≤ q.tx.size)
 
 -- a cast has no actor of the network
 pub record HasNoNetwork (cast : List Part) : Type 0 where
@@ -122,17 +128,14 @@ ClientsAsk cast passed = (k req resp : ℕ) (asks : List Ask) (pool : PoolAt)
     → slice_get cast k ≡ Some (BlockPart (BlkClient req resp asks pool))
     → AreRequests pool (passed.sent req)
 
--- each network client put entries alone that send frames in buffers of its pool for sending
-abbrev pub NetClientsSend : List Part → Passed → Type 0
-NetClientsSend cast passed = (k : ℕ) (program : Program) (mac : Mac)
-    (rx_active rx_free tx_active tx_free : ℕ) (rx tx : PoolAt)
-    → slice_get cast k
-    ≡ Some (NetworkPart (NetClient program mac rx_active rx_free tx_active tx_free rx tx))
-    → AreSends tx (passed.sent tx_active)
+-- wherever the network stands in a cast, each of its clients put entries alone that send frames in
+-- buffers of its pool for sending
+abbrev pub NetClientsSend : List QueueRow → List Part → Passed → Type 0
+NetClientsSend rows cast passed = (net : NetPlace) → HasWhole rows net cast → AllSend net passed
 
--- both
-pub record ClientsSend (cast : List Part) (passed : Passed) : Type 0 where
-  pub frames : NetClientsSend cast passed
+-- so they did, and each block client put requests in its own buffers alone
+pub record ClientsSend (rows : List QueueRow) (cast : List Part) (passed : Passed) : Type 0 where
+  pub frames : NetClientsSend rows cast passed
   pub requests : ClientsAsk cast passed
 
 -- what was put to each queue is of the queue's kind

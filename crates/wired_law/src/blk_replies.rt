@@ -7,7 +7,7 @@ ghost use Rattle.cargo_core.specs.declared.item.Ask.{Ask};
 ghost use Rattle.wire_core.specs.declared.names.QueueRow.{QueueRow};
 ghost use Rattle.wire_core.specs.Ends.{Role, End};
 ghost use Rattle.wire_core.specs.Lists.{Passed};
-ghost use Rattle.net_law.specs.Owners.Names.{PoolAt};
+ghost use Rattle.owner_law.specs.Pools.Places.{PoolAt};
 ghost use Rattle.blk_expect.specs.Replies.{replies_of};
 ghost use Rattle.blk_law.specs.Sheets.Numbers.{BlkPlace, blk_client_at};
 ghost use Rattle.actor_set.specs.Parts.{Part, BlockPart};
@@ -22,7 +22,7 @@ ghost use Rattle.wired_law.specs.Wiring.{HasBlk, ClientsSend, AreAtWork};
 pub fn replied_law()
     ensures { (ends : Role → ℕ → End) (rows : List QueueRow) (actors : List Actor)
         (passed : Passed) (place : BlkPlace) → HasBlk rows place (map part_of actors)
-        → AreAtWork ends rows actors passed → ClientsSend (map part_of actors) passed
+        → AreAtWork ends rows actors passed → ClientsSend rows (map part_of actors) passed
         → (k c : ℕ) (x : Actor) (asks : List Ask) (pool : PoolAt) (entry : ℕ)
         → slice_get actors k ≡ Some x
         → part_of x ≡ BlockPart (blk_client_at place.first c asks pool)

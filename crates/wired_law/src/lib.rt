@@ -36,27 +36,27 @@ pub mod quiet;
 pub fn wired_law()
     ensures turns { (ends : Role → ℕ → End) (rows : List QueueRow) (actors : List Actor)
         (passed : Passed) → IsWired rows (map part_of actors) → AreAtWork ends rows actors passed
-        → ClientsSend (map part_of actors) passed → (k : ℕ) (x : Actor)
+        → ClientsSend rows (map part_of actors) passed → (k : ℕ) (x : Actor)
         → slice_get actors k ≡ Some x → InTurn (scene_of (map part_of actors)) x passed }
-    ensures starts { (cast : List Part) → ClientsSend cast nothing_passed }
+    ensures starts { (rows : List QueueRow) (cast : List Part) → ClientsSend rows cast nothing_passed }
     ensures goes_on { (ends later : Role → ℕ → End) (rows : List QueueRow)
         (actors moved : List Actor) (passed : Passed) (deed : Deed)
         → IsWired rows (map part_of actors) → map part_of moved ≡ map part_of actors
-        → AreAtWork ends rows actors passed → ClientsSend (map part_of actors) passed
+        → AreAtWork ends rows actors passed → ClientsSend rows (map part_of actors) passed
         → AreAtWork later rows moved (with_deed passed deed)
-        → ClientsSend (map part_of moved) (with_deed passed deed) }
+        → ClientsSend rows (map part_of moved) (with_deed passed deed) }
     ensures records { (ends : Role → ℕ → End) (rows : List QueueRow) (actors : List Actor)
         (passed : Passed) (net : NetPlace) → HasWhole rows net (map part_of actors)
         → AreAtWork ends rows actors passed
         → (k c : ℕ) (x : Actor) (program : Program) (mac : Mac) (pools : ClientPools)
         → slice_get actors k ≡ Some x
         → part_of x ≡ NetworkPart (client_at net.first c program mac pools)
-        → 1 ≤ pools.rx.buffers
+        → 1 ≤ pools.rx.buffers → net.most ≤ pools.rx.size
         → slice_get net.macs c ≡ Some mac
         → IsPrefix (frames_got x) (frames_for mac (scene_of (map part_of actors)).frames) }
     ensures wire { (ends : Role → ℕ → End) (rows : List QueueRow) (actors : List Actor)
         (passed : Passed) (net : NetPlace) → HasWhole rows net (map part_of actors)
-        → AreAtWork ends rows actors passed → ClientsSend (map part_of actors) passed
+        → AreAtWork ends rows actors passed → ClientsSend rows (map part_of actors) passed
         → (k : ℕ) (x : Actor) → slice_get actors k ≡ Some x
         → part_of x
         ≡ NetworkPart (device_at net.first (scene_of (map part_of actors)).frames)
@@ -64,7 +64,7 @@ pub fn wired_law()
         (frames_got x) }
     ensures told { (ends : Role → ℕ → End) (rows : List QueueRow) (actors : List Actor)
         (passed : Passed) (net : NetPlace) → HasWhole rows net (map part_of actors)
-        → AreAtWork ends rows actors passed → ClientsSend (map part_of actors) passed
+        → AreAtWork ends rows actors passed → ClientsSend rows (map part_of actors) passed
         → (k : ℕ) (x : Actor) → slice_get actors k ≡ Some x
         → part_of x
         ≡ NetworkPart (device_at net.first (scene_of (map part_of actors)).frames)

@@ -15,7 +15,8 @@ ghost use Rattle.play_core.specs.Sheets.{RowsHold, needful};
 ghost use Rattle.play_core.specs.Still.{IsStill};
 ghost use Rattle.play_core.specs.Rests.Showing.{HaveItems};
 ghost use Rattle.net_expect.specs.Expecting.{Program, frames_for};
-ghost use Rattle.net_law.specs.Owners.Names.{PoolAt, ClientPools};
+ghost use Rattle.net_law.specs.Owners.Names.{ClientPools};
+ghost use Rattle.owner_law.specs.Pools.Places.{PoolAt};
 ghost use Rattle.net_law.specs.Parts.Numbers.{device_at, client_at};
 ghost use Rattle.net_law.specs.TxParts.Numbers.{NetPlace, own_pools};
 ghost use Rattle.net_quiet.specs.TxCast.Casting.{IsClientOf, sends_at};
@@ -46,7 +47,7 @@ pub fn quiet_law()
         → HasWhole rows net (map part_of actors) → IsWired rows (map part_of actors)
         → HasPools net
         → HasRooms (hostiles (map part_of actors)) rows net
-        → AreAtWork ends rows actors passed → ClientsSend (map part_of actors) passed
+        → AreAtWork ends rows actors passed → ClientsSend rows (map part_of actors) passed
         → HaveItems passed (moved history journal)
         → IsStill (hostiles (map part_of actors)) history rows
         (needful (sheet (scene_of (map part_of actors))) (map part_of actors)
@@ -60,7 +61,7 @@ pub fn quiet_law()
         → HasWhole rows net (map part_of actors) → IsWired rows (map part_of actors)
         → HasPools net
         → HasRooms (hostiles (map part_of actors)) rows net
-        → AreAtWork ends rows actors passed → ClientsSend (map part_of actors) passed
+        → AreAtWork ends rows actors passed → ClientsSend rows (map part_of actors) passed
         → HaveItems passed (moved history journal)
         → IsStill (hostiles (map part_of actors)) history rows
         (needful (sheet (scene_of (map part_of actors))) (map part_of actors)
@@ -81,7 +82,7 @@ pub fn quiet_law()
         → HasBlk rows place (map part_of actors) → IsWired rows (map part_of actors)
         → HasClientPools place
         → HasBlkRooms (hostiles (map part_of actors)) rows place
-        → AreAtWork ends rows actors passed → ClientsSend (map part_of actors) passed
+        → AreAtWork ends rows actors passed → ClientsSend rows (map part_of actors) passed
         → HaveItems passed (moved history journal)
         → IsStill (hostiles (map part_of actors)) history rows
         (needful (sheet (scene_of (map part_of actors))) (map part_of actors)

@@ -36,7 +36,7 @@ outlet_one q o zero at = sym (some_is at)
 outlet_one q o (suc k) at = absurd cc
 
 -- a virtualiser in its start state fits queues in their start state
-module _ (w : List Queue) (v : NetVirtTx) (b : AreQueues Kind.Net 4 w) (n : IsNewAlone v) where
+module _ (size most : ℕ) (w : List Queue) (v : NetVirtTx) (b : AreQueues Kind.Net 4 w) (n : IsNewAlone size most v) where
   froms : from_queues v.ends ≡ queue 2 ∷ []
   froms = ap (map (λ (i : Intake). i.queue)) n.new.ends.from_is
 

@@ -1,5 +1,5 @@
 -- The virtualiser of these tests and its queues.
-use Rattle.std.specs.Prelude.{◌≡◌, List, [], ◌∷◌, length}
+use Rattle.std.specs.Prelude.{◌≡◌, ℕ, List, [], ◌∷◌, length}
 use Rattle.cargo_core.specs.declared.item.QueueKind.TheVariants as Kind
 use Rattle.wire_core.specs.Ends.{Producer}
 use Rattle.wire_core.specs.Lists.{nothing_passed}
@@ -10,19 +10,20 @@ use Rattle.net_virt_tx.specs.declared.TxEnds.{TxEnds}
 use Rattle.net_virt_tx.specs.Sending.{FitsTx, IsNewTx, TxStandsFor}
 use Rattle.actor_rows.specs.Standings.{queue}
 
--- the one client
-abbrev pub client : TxEnds
-client = record {
+-- the one client, whose two buffers have so many bytes
+abbrev pub client : (size : ℕ) → TxEnds
+client size = record {
   active = queue 2;
   free = queue 3;
   pool = record { 0 = 7 };
   buffers = 2;
   base = 8192;
+  size = size;
 }
 
--- a virtualiser of that client in its start state
-pub record IsNewAlone (v : NetVirtTx) : Type 0 where
-  pub new : IsNewTx (queue 0) (queue 1) (client ∷ []) v
+-- a virtualiser of that client in its start state, where a frame has at most so many bytes
+pub record IsNewAlone (size most : ℕ) (v : NetVirtTx) : Type 0 where
+  pub new : IsNewTx (queue 0) (queue 1) (client size ∷ []) most v
   pub stands : TxStandsFor v nothing_passed
 
 -- it stands at the queues 0 to 3, and queue 2 is filled by hand

@@ -13,24 +13,25 @@ use Rattle.owner_law.specs.Owners.{Spot, InQueue, InHand, is_spot, Place, Nowher
 use Rattle.owner_law.specs.Owners.{leases_at, Move, Stays, Puts, Takes, move_of, after_move, replay}
 use Rattle.owner_law.specs.Keeping.{Keeper, start_table}
 use Rattle.owner_law.specs.Census.{Census, census}
-use Rattle.net_law.specs.Owners.Names.{PoolAt, ClientPools, net_names}
+use Rattle.net_law.specs.Owners.Names.{ClientPools, net_names}
+use Rattle.owner_law.specs.Pools.Places.{PoolAt}
 
 -- the pools in their order, each client's with two buffers, where the full example's regions lie
 abbrev pub rx_pool : PoolAt
-rx_pool = record { number = 0; base = 0x10000000; buffers = 1 }
+rx_pool = record { number = 0; base = 0x10000000; buffers = 1; size = 2048 }
 
 -- the recording client's pools
 abbrev pub first_client : ClientPools
 first_client = record {
-  rx = record { number = 1; base = 0x40018000; buffers = 2 };
-  tx = record { number = 2; base = 0x40222000; buffers = 2 };
+  rx = record { number = 1; base = 0x40018000; buffers = 2; size = 2048 };
+  tx = record { number = 2; base = 0x40222000; buffers = 2; size = 2048 };
 }
 
 -- the answering client's pools
 abbrev pub second_client : ClientPools
 second_client = record {
-  rx = record { number = 3; base = 0x40118000; buffers = 2 };
-  tx = record { number = 4; base = 0x40322000; buffers = 2 };
+  rx = record { number = 3; base = 0x40118000; buffers = 2; size = 2048 };
+  tx = record { number = 4; base = 0x40322000; buffers = 2; size = 2048 };
 }
 
 -- what items name, where each frame is for both clients

@@ -65,7 +65,7 @@ module _ (ends ends' : Role → ℕ → End) where
   fits_beside (Kinds.UartDriver x) same f = fits_pipes ends ends' (two_pipes x.driver.pipes) same f
   fits_beside (Kinds.EthDevice x) same f = fits_device ends ends' x same f
   fits_beside (Kinds.EthDriver x) same f = fits_pipes ends ends' (four_pipes x.driver.pipes) same f
-  fits_beside (Kinds.NetVirtRx x) same f = (fits_receiver ends ends' x same f.0, f.1)
+  fits_beside (Kinds.NetVirtRx x) same f = fits_receiver ends ends' x same f
   fits_beside (Kinds.NetCopier x) same f = fits_copier ends ends' x same f
   fits_beside (Kinds.NetClient x) same f = (fits_client ends ends' x same f.0, f.1)
   fits_beside (Kinds.NetVirtTx x) same f = fits_sender ends ends' x same f

@@ -162,7 +162,7 @@ new_server_hand scene v new pool =
     let came = nothing_at pool (virt_came v.ends) in
     let went = nothing_at pool (virt_went v.ends) in
     let own : v.work.opening.own.pool ≡ st.start.pool = ap (λ n. n.pool) st.stands.is_start in
-    let one = pages_are v.work.opening.own.pool.0 v.work.opening.base 1 st.start.pool pool (st.start ∷ []) (ap (λ (p : PoolId). p.0) own) refl (λ k p at. ap (λ (q : Paged). q.pool) (sym (only k p at))) in
+    let one = pages_are v.work.opening.own.pool.0 v.work.opening.base 1 32768 st.start.pool pool (st.start ∷ []) (ap (λ (p : PoolId). p.0) own) refl (λ k p at. ap (λ (q : Paged). q.pool) (sym (only k p at))) in
     omega (arith, all, came, went, one)
   where
     only : (k : ℕ) (p : Paged) → slice_get (new.stands.start ∷ []) k ≡ Some p → new.stands.start ≡ p
@@ -173,5 +173,5 @@ pub new_asker_hand : (scene : Scene) (c : BlkClient) → IsNewAsker c → (pool 
 new_asker_hand scene c new pool =
     let st = new.stands in
     let all = st.balances pool in
-    let own = pages_are c.asking.pool.0 0 c.asking.buffers c.asking.pool pool st.start refl st.is_start.many st.is_start.are_pool.same_pool in
+    let own = pages_are c.asking.pool.0 0 c.asking.buffers 32768 c.asking.pool pool st.start refl st.is_start.many st.is_start.are_pool.same_pool in
     omega (arith, all, own)

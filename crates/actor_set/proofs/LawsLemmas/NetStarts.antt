@@ -49,8 +49,7 @@ use Rattle.client_programs.specs.declared.net.NetClient.{NetClient}
 use Rattle.client_programs.proofs.NetLemmas.Holding.{hand_count, outbox_count}
 use Rattle.client_programs.proofs.NetLemmas.Sending.{outbox_starts}
 use Rattle.client_programs.proofs.NetLemmas.Standing.{new_holds}
-use Rattle.net_law.specs.Owners.Ends.{numbers_from}
-use Rattle.net_law.specs.Parts.Rows.{pool_hand}
+use Rattle.owner_law.specs.Pools.Places.{numbers_from, pool_hand}
 use Rattle.net_law.specs.Parts.Table.{net_sheet}
 use Rattle.net_law.specs.Parts.Playing.{receiver_part, client_part, stock_pool}
 use Rattle.actor_set.specs.Actors.{IsWholeReceiver}
@@ -253,10 +252,10 @@ pages_none pool of_pool (p ∷ pages) off all =
     let parts = buffers-cons of_pool (Carried.Page p) (page_bodies pages) in
     omega (arith, none, rest, parts)
 
-pub pages_are : (number base buffers : ℕ) (pool of_pool : PoolId) (pages : List Paged) → number ≡ pool.0 → length pages ≡ buffers → ((k : ℕ) (p : Paged) → slice_get pages k ≡ Some p → p.pool ≡ pool) → buffers_of of_pool (page_bodies pages) ≡ length (pool_hand (record { number = number; base = base; buffers = buffers }) of_pool.0)
-pages_are number base buffers pool of_pool pages is many all = by (eqb_tells number of_pool.0)
+pub pages_are : (number base buffers size : ℕ) (pool of_pool : PoolId) (pages : List Paged) → number ≡ pool.0 → length pages ≡ buffers → ((k : ℕ) (p : Paged) → slice_get pages k ≡ Some p → p.pool ≡ pool) → buffers_of of_pool (page_bodies pages) ≡ length (pool_hand (record { number = number; base = base; buffers = buffers; size = size }) of_pool.0)
+pages_are number base buffers size pool of_pool pages is many all = by (eqb_tells number of_pool.0)
   where
-    by : ((eqb number of_pool.0 ≡ true) × (number ≡ of_pool.0)) ⊎ ((eqb number of_pool.0 ≡ false) × (number ≢ of_pool.0)) → buffers_of of_pool (page_bodies pages) ≡ length (pool_hand (record { number = number; base = base; buffers = buffers }) of_pool.0)
+    by : ((eqb number of_pool.0 ≡ true) × (number ≡ of_pool.0)) ⊎ ((eqb number of_pool.0 ≡ false) × (number ≢ of_pool.0)) → buffers_of of_pool (page_bodies pages) ≡ length (pool_hand (record { number = number; base = base; buffers = buffers; size = size }) of_pool.0)
     by (inl h) = pages_all pool of_pool pages (sym is ∙ h.1) all ∙ (many ∙ sym (ap (λ b. length (if b then numbers_from 0 buffers else [])) h.0 ∙ numbers_long 0 buffers))
     by (inr h) = pages_none pool of_pool pages (λ e. h.1 (is ∙ e)) all ∙ sym (ap (λ b. length (if b then numbers_from 0 buffers else [])) h.0)
 
@@ -268,7 +267,7 @@ new_receiver_hand scene v new pool =
     let stock = stock_count pool v.work.stock in
     let list = ap (λ l. buffers_of pool (bodies_of l)) w.stock in
     let given = given_count pool new.base v.work.stock.size new.pages in
-    let pages = pages_are v.work.stock.pool.0 v.work.stock.base v.work.stock.buffers v.work.stock.pool pool new.pages refl w.is_start.many w.is_start.are_pool.same_pool in
+    let pages = pages_are v.work.stock.pool.0 v.work.stock.base v.work.stock.buffers v.work.stock.size v.work.stock.pool pool new.pages refl w.is_start.many w.is_start.are_pool.same_pool in
     omega (arith, parts, none, stock, list, given, pages)
 
 pub new_client_hand : (scene : Scene) (c : NetClient) → IsNewClientOf c → (pool : PoolId) → buffers_of pool (client_hand c) ≡ length ((net_sheet scene (client_part c)).hand pool.0)
@@ -278,13 +277,13 @@ new_client_hand scene c new pool =
     let stock = stock_count pool c.stock in
     let list = ap (λ l. buffers_of pool (bodies_of l)) new.new.stock in
     let given = given_count pool 0 c.stock.size new.pages in
-    let own = pages_are c.stock.pool.0 c.stock.base c.stock.buffers c.stock.pool pool new.pages refl new.new.is_start.many new.new.is_start.are_pool.same_pool in
+    let own = pages_are c.stock.pool.0 c.stock.base c.stock.buffers c.stock.size c.stock.pool pool new.pages refl new.new.is_start.many new.new.is_start.are_pool.same_pool in
     let o = c.outbox in
     let out = outbox_count pool o in
     let out_none = ap (λ l. buffers_of pool (bodies_of (option_to_list l))) new.new.outbox.load in
     let out_stock = stock_count pool o.stock in
     let out_list = ap (λ l. buffers_of pool (bodies_of l)) new.new.outbox.stock in
     let out_given = given_count pool 0 o.stock.size new.spare in
-    let out_own = pages_are o.stock.pool.0 o.stock.base o.stock.buffers o.stock.pool pool new.spare refl new.new.outbox.is_start.many new.new.outbox.is_start.are_pool.same_pool in
+    let out_own = pages_are o.stock.pool.0 o.stock.base o.stock.buffers o.stock.size o.stock.pool pool new.spare refl new.new.outbox.is_start.many new.new.outbox.is_start.are_pool.same_pool in
     let all = length-append (pool_hand (stock_pool c.stock) pool.0) (pool_hand (stock_pool o.stock) pool.0) in
     omega (arith, parts, none, stock, list, given, own, out, out_none, out_stock, out_list, out_given, out_own, all)

@@ -176,7 +176,7 @@ module _ (history : History) (journal : List Entry) (w : List Queue) (bells : Ha
   rest_of (Kinds.UartDriver x) turn f st = settled_so (Kinds.UartDriver x) (driver_meets scene w passed (moved history journal) has x f st)
   rest_of (Kinds.EthDevice x) turn f st = device_rest scene history journal w passed has bells x f st
   rest_of (Kinds.EthDriver x) turn f st = driver_rest scene history journal w passed has bells (four_pipes x.driver.pipes) x.driver.turn.last f st
-  rest_of (Kinds.NetVirtRx x) turn f st = receiver_rest scene history journal w passed has bells x turn f.0 st
+  rest_of (Kinds.NetVirtRx x) turn f st = receiver_rest scene history journal w passed has bells x turn f st
   rest_of (Kinds.NetCopier x) turn f st = copier_rest scene history journal w passed has bells x turn f st
   rest_of (Kinds.NetClient x) turn f st = client_rest scene history journal w passed has bells x turn.1 f.0 st
   rest_of (Kinds.NetVirtTx x) turn f st = sender_rest history journal w passed has bells x turn.good turn.in_turn f st

@@ -119,7 +119,7 @@ module _ (scene : Scene) (passed : Passed) (items : Moved) (h : HaveItems passed
   actor_row (Kinds.UartDriver x) turn f = (pipe_row x.driver.pipes.first f.0, pipe_row x.driver.pipes.rest f.1.0)
   actor_row (Kinds.EthDevice x) turn f = device_row scene x passed items (items_at (net_sheet scene (device_part x)).ends passed items h) (device_row_of x passed f)
   actor_row (Kinds.EthDriver x) turn f = driver_row scene (four_pipes x.driver.pipes) passed items (items_at (net_sheet scene (driver_part (four_pipes x.driver.pipes))).ends passed items h) (pipes_row_of (four_pipes x.driver.pipes) passed f)
-  actor_row (Kinds.NetVirtRx x) turn f = let row = receiver_row_of x passed f in receiver_row scene x passed items turn.size (items_at (net_sheet scene (receiver_part x)).ends passed items h) turn.takes row (turn.in_turn row)
+  actor_row (Kinds.NetVirtRx x) turn f = let row = receiver_row_of x passed f in receiver_row scene x passed items (items_at (net_sheet scene (receiver_part x)).ends passed items h) turn.takes row (turn.in_turn row)
   actor_row (Kinds.NetCopier x) turn f = copier_row scene x passed items (items_at (net_sheet scene (copier_part x)).ends passed items h) turn (copier_row_of x passed f)
   actor_row (Kinds.NetClient x) turn f = client_row scene x passed items turn.0 turn.1 (items_at (net_sheet scene (client_part x)).ends passed items h) (row_of x passed f)
   actor_row (Kinds.NetVirtTx x) turn f = let row = sender_row_of x passed f in send_row x passed items (items_at (send_sheet (send_part x)).ends passed items h) turn.good row (turn.in_turn row)

@@ -163,9 +163,9 @@ module _ (rows : List QueueRow) (k : ℕ) where
   new_fits (Kinds.SerialVirtTx x) new apart seats = tx_fits x new apart seats
   new_fits (Kinds.EthDevice x) new apart seats = new_device_fits ends x new apart.0 apart.1 (net_seats (ActorEnd (Kinds.EthDevice x)) seats)
   new_fits (Kinds.EthDriver x) new apart seats = new_pipes_fit ends (four_pipes x.driver.pipes) new apart.0 apart.1 (net_seats (ActorEnd (Kinds.EthDriver x)) seats)
-  new_fits (Kinds.NetVirtRx x) new apart seats = (new_receiver_fits ends x new (new_receiver_whole x new) apart (net_seats (ActorEnd (Kinds.NetVirtRx x)) seats), new.size)
+  new_fits (Kinds.NetVirtRx x) new apart seats = new_receiver_fits ends x new (new_receiver_whole x new) apart (net_seats (ActorEnd (Kinds.NetVirtRx x)) seats)
   new_fits (Kinds.NetCopier x) new apart seats = new_copier_fits ends x new apart.0 apart.1 (new_copier_work x new) (net_seats (ActorEnd (Kinds.NetCopier x)) seats)
-  new_fits (Kinds.NetClient x) new apart seats = (new_client_fits ends x new (new_client_few x new) apart.0 apart.1 (net_seats (ActorEnd (Kinds.NetClient x)) seats), record { base = new.new.base; size = new.size; spare_base = new.new.outbox.base; spare_size = new.spare_size })
+  new_fits (Kinds.NetClient x) new apart seats = (new_client_fits ends x new (new_client_few x new) apart.0 apart.1 (net_seats (ActorEnd (Kinds.NetClient x)) seats), record { base = new.new.base; spare_base = new.new.outbox.base })
   new_fits (Kinds.NetVirtTx x) new apart seats = new_sender_fits ends x new (new_sender_whole x new) apart (net_seats (ActorEnd (Kinds.NetVirtTx x)) seats)
   new_fits (Kinds.DiskDevice x) new apart seats = new_disk_fits ends x.start.value x.device new (carried_seats (kind_at (Kinds.DiskDevice x)) (ActorEnd (Kinds.DiskDevice x)) seats)
   new_fits (Kinds.BlkDriver x) new apart seats = new_blk_driver_fits ends x new.0 new.1 apart.0 apart.1 (carried_seats (kind_at (Kinds.BlkDriver x)) (ActorEnd (Kinds.BlkDriver x)) seats)
@@ -236,7 +236,7 @@ fits_whole ends (Kinds.SerialVirtRx x) f = tt
 fits_whole ends (Kinds.SerialVirtTx x) f = tt
 fits_whole ends (Kinds.EthDevice x) f = tt
 fits_whole ends (Kinds.EthDriver x) f = tt
-fits_whole ends (Kinds.NetVirtRx x) f = record { work = f.0.work; from_each = f.0.from_each; to_each = f.0.to_each }
+fits_whole ends (Kinds.NetVirtRx x) f = record { work = f.work; from_each = f.from_each; to_each = f.to_each }
 fits_whole ends (Kinds.NetCopier x) f = tt
 fits_whole ends (Kinds.NetClient x) f = f.0.few
 fits_whole ends (Kinds.NetVirtTx x) f = record { work = f.work; from_each = f.from_each; to_each = f.to_each }

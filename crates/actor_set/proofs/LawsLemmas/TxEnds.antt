@@ -26,7 +26,7 @@ client_there (c ∷ cs) Producer n (suc zero) at = (0, c, refl, inl (queue_of (o
 client_there (c ∷ cs) r n (suc (suc i)) at = let rest = client_there cs r n i at in (suc rest.0, rest.1, rest.2, rest.3)
 
 -- the sheet's client at a place has the sender and the queues at that place
-there_at : (ss : List Sender) (from to : List QueueId) (k : ℕ) (s : Sender) (q r : QueueId) → slice_get ss k ≡ Some s → slice_get from k ≡ Some q → slice_get to k ≡ Some r → slice_get (shippers ss from to) k ≡ Some (record { active = q.0; free = r.0; pool = sender_pool s })
+there_at : (ss : List Sender) (from to : List QueueId) (k : ℕ) (s : Sender) (q r : QueueId) → slice_get ss k ≡ Some s → slice_get from k ≡ Some q → slice_get to k ≡ Some r → slice_get (shippers ss from to) k ≡ Some (record { active = q.0; free = r.0; pool = sender_pool s; most = s.most })
 there_at [] from to k s q r at at' at'' = absurd cc
 there_at (x ∷ ss) [] to k s q r at at' at'' = absurd cc
 there_at (x ∷ ss) (y ∷ from) [] k s q r at at' at'' = absurd cc

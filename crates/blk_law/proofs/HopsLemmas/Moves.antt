@@ -16,7 +16,7 @@ use Rattle.blk_mbr.specs.declared.part.Part.{Part}
 use Rattle.blk_expect.specs.Replies.{partition_in}
 use Rattle.client_programs.specs.Blk.Asking.{needs_buffer, request_for}
 use Rattle.blk_virt.specs.Requests.{request_of}
-use Rattle.net_law.specs.TxParts.Numbers.{own_pool}
+use Rattle.owner_law.specs.Pools.Places.{own_pool}
 use Rattle.net_law.proofs.HopsLemmas.Sums.{sum_parts, below_list}
 use Rattle.net_law.proofs.HopsLemmas.Queues.{merge_few}
 use Rattle.blk_law.specs.Sheets.Parts.{Sharer}

@@ -18,10 +18,8 @@ use Rattle.owner_law.specs.Keeping.{Keeps, at_start, all_taken, all_put, things_
 use Rattle.owner_law.proofs.Sums.{sum_flat}
 use Rattle.owner_law.proofs.Named.{carried, buffers_are, buffers_none, keeps_plain}
 use Rattle.client_programs.specs.Blk.Asking.{needs_buffer, request_for}
-use Rattle.net_law.specs.Owners.Names.{PoolAt}
-use Rattle.net_law.specs.Owners.Ends.{numbers_from}
+use Rattle.owner_law.specs.Pools.Places.{PoolAt, numbers_from, pool_hand}
 use Rattle.net_law.proofs.OwnersLemmas.Clients.{at_address, here_or_not}
-use Rattle.net_law.specs.Parts.Rows.{pool_hand}
 use Rattle.blk_law.specs.Sheets.Parts.{BlkClient}
 use Rattle.blk_law.specs.Sheets.Rows.{asked_items, buffers_for, AsksInOrder}
 use Rattle.blk_law.specs.Sheets.Table.{blk_sheet}

@@ -20,8 +20,7 @@ use Rattle.owner_law.proofs.Named.{carried, buffers_are, buffers_none, keeps_pla
 use Rattle.blk_mbr.specs.declared.part.Part.{Part}
 use Rattle.blk_expect.specs.Replies.{partition_in}
 use Rattle.blk_virt.specs.Requests.{request_of}
-use Rattle.net_law.specs.Owners.Names.{PoolAt}
-use Rattle.net_law.specs.Parts.Rows.{pool_hand}
+use Rattle.owner_law.specs.Pools.Places.{PoolAt, pool_hand}
 use Rattle.blk_law.specs.Sheets.Parts.{BlkVirt, Sharer}
 use Rattle.blk_law.specs.Sheets.Rows.{goes_on_item, item_for_disk, numbered_item, refusal_item, passed_item, is_item_at, items_back, answer_items, requests_on, answers_due, first_item, IsRequestIn, ServesRequests}
 use Rattle.blk_law.specs.Sheets.Table.{blk_sheet, sharer_ends}

@@ -15,9 +15,8 @@ use Rattle.owner_law.specs.Keeping.{at_start}
 use Rattle.owner_law.proofs.Sums.{both}
 use Rattle.blk_mbr.specs.declared.part.Part.{Part}
 use Rattle.blk_virt.specs.Requests.{request_of, first_block, asked_of_disk, moves_blocks}
-use Rattle.net_law.specs.Owners.Names.{PoolAt}
+use Rattle.owner_law.specs.Pools.Places.{PoolAt, pool_hand}
 use Rattle.net_law.proofs.OwnersLemmas.Clients.{at_address}
-use Rattle.net_law.specs.Parts.Rows.{pool_hand}
 use Rattle.blk_law.specs.Sheets.Parts.{Sharer}
 use Rattle.blk_law.specs.Sheets.Rows.{item_for_disk, is_item_at, first_item, IsRequestIn}
 use Rattle.blk_law.specs.Owners.Answering.{block_window, offset_window, disk_windows, block_range, ArePoolsApart}

@@ -161,7 +161,7 @@ module _ (scene : Scene) (w : List Queue) (passed : Passed) (m : Moved) (h : Hav
         by (Some x) = omega arith
 
     abbrev due : List Item
-    due = client_requests script (record { number = asking.pool.0; base = 0; buffers = asking.buffers }) (length (m.taken (client.resp_queue c)))
+    due = client_requests script (record { number = asking.pool.0; base = 0; buffers = asking.buffers; size = 32768 }) (length (m.taken (client.resp_queue c)))
 
     -- so many requests can be made, with the buffers that it had and those that came
     due_is : length due ≡ length (asked_from 0 script (st.start ++ pages_in st.came))

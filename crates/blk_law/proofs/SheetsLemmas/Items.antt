@@ -245,10 +245,10 @@ module _ (c : BlkClient) (passed : Passed) (turn : ClientInTurn c passed) (row :
       let long = length-append row.start (pages_in came) in
       let start = start_many in
       let plus : (j : ℕ) (p : Paged) → slice_get hand j ≡ Some p → p.no ≡ (0 + j) % buffers = λ j p at. let zero_first : j ≡ 0 + j = omega arith in numbered_below (suc j) j (omega arith) p at ∙ ap (λ k. k % buffers) zero_first in
-      let all : items_of (asked_from 0 asks hand) ≡ client_requests asks (record { number = c.asking.pool.0; base = 0; buffers = buffers }) (length came) = requests_are 0 0 (buffers + buffers_for (take (length came) asks)) buffers asks hand (omega (arith, many, long, start)) plus in
-      let said : AsksInOrder asks (record { number = c.asking.pool.0; base = 0; buffers = buffers }) (items_of came) (items_of put) = record {
-        begins = subst (λ n. IsPrefix (items_of put) (client_requests asks (record { number = c.asking.pool.0; base = 0; buffers = buffers }) n)) (sym (items_long came)) (subst (IsPrefix (items_of put)) all (items_begin put (asked_from 0 asks hand) row.asks));
+      let all : items_of (asked_from 0 asks hand) ≡ client_requests asks (record { number = c.asking.pool.0; base = 0; buffers = buffers; size = 32768 }) (length came) = requests_are 0 0 (buffers + buffers_for (take (length came) asks)) buffers asks hand (omega (arith, many, long, start)) plus in
+      let said : AsksInOrder asks (record { number = c.asking.pool.0; base = 0; buffers = buffers; size = 32768 }) (items_of came) (items_of put) = record {
+        begins = subst (λ n. IsPrefix (items_of put) (client_requests asks (record { number = c.asking.pool.0; base = 0; buffers = buffers; size = 32768 }) n)) (sym (items_long came)) (subst (IsPrefix (items_of put)) all (items_begin put (asked_from 0 asks hand) row.asks));
         answered = (let a = items_long came in let b = items_long put in let few = row.answered in omega (arith, a, b, few));
       } in
-      subst (λ xs. AsksInOrder asks (record { number = c.asking.pool.0; base = 0; buffers = buffers }) (m.taken (resp_queue c)) xs) (sym (items 1 _ refl))
-      (subst (λ ys. AsksInOrder asks (record { number = c.asking.pool.0; base = 0; buffers = buffers }) ys (items_of put)) (ap items_of (sym came_is) ∙ sym (items 0 _ refl)) said)
+      subst (λ xs. AsksInOrder asks (record { number = c.asking.pool.0; base = 0; buffers = buffers; size = 32768 }) (m.taken (resp_queue c)) xs) (sym (items 1 _ refl))
+      (subst (λ ys. AsksInOrder asks (record { number = c.asking.pool.0; base = 0; buffers = buffers; size = 32768 }) ys (items_of put)) (ap items_of (sym came_is) ∙ sym (items 0 _ refl)) said)

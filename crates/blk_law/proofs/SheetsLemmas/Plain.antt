@@ -9,7 +9,7 @@ use Rattle.play_core.specs.Wants.{intake, outlet, intake_want, outlet_want}
 use Rattle.play_core.specs.Sheets.{Scene, Sheet, Due, CouldPut, IsOwn, NeedsFollow, due_want}
 use Rattle.play_core.proofs.Lists.{some_is}
 use Rattle.play_core.proofs.Puts.{copy_more, copy_shorter}
-use Rattle.net_law.specs.Owners.Names.{PoolAt}
+use Rattle.owner_law.specs.Pools.Places.{PoolAt}
 use Rattle.net_law.specs.Parts.Table.{is_short}
 use Rattle.net_law.proofs.PartsLemmas.Fits.{AllFit, intake_fits, outlet_fits, sheet_follows}
 use Rattle.net_law.proofs.PartsLemmas.Pairs.{put_length}

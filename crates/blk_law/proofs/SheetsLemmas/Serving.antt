@@ -17,7 +17,7 @@ use Rattle.play_core.specs.Wants.{Want, intake, outlet, intake_want, outlet_want
 use Rattle.play_core.specs.Sheets.{Scene, Sheet, Due, CouldPut, IsOwn, NeedsFollow, AreApart, due_want}
 use Rattle.play_core.proofs.Lists.{map_alike, map_from, some_is}
 use Rattle.play_core.proofs.Puts.{put_here, put_beside, copy_shorter}
-use Rattle.net_law.specs.Owners.Names.{PoolAt}
+use Rattle.owner_law.specs.Pools.Places.{PoolAt}
 use Rattle.net_law.specs.Parts.Table.{is_short}
 use Rattle.net_law.proofs.PartsLemmas.Fits.{AllFit, intake_fits, outlet_fits, pairs_fit, sheet_follows}
 use Rattle.net_law.proofs.PartsLemmas.Pairs.{twice, twice_same, pair_first, pair_second, pair_seats, flat_alike, each_owed, put_length}

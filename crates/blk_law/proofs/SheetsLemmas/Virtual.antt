@@ -32,7 +32,7 @@ use Rattle.blk_virt.specs.declared.client.Client.{Client}
 use Rattle.blk_virt.specs.declared.requests.Holder.{Holder}
 use Rattle.blk_virt.specs.declared.virtualiser.BlkVirt.{BlkVirt}
 use Rattle.buffer_kit.specs.Virtualising.{from_queues, to_queues}
-use Rattle.net_law.specs.Owners.Names.{PoolAt}
+use Rattle.owner_law.specs.Pools.Places.{PoolAt}
 use Rattle.net_law.specs.Owners.Ends.{AreItemsOf}
 use Rattle.net_law.proofs.PartsLemmas.Items.{all_at, items_begin, items_long}
 use Rattle.net_law.proofs.PartsLemmas.Pairs.{twice, pair_first, pair_second}
@@ -297,8 +297,8 @@ module _ (scene : Scene) (v : BlkVirt) (passed : Passed) (m : Moved) (turn : Vir
   pub virt_row : (blk_sheet scene (virt_part v)).row m
   virt_row = record {
     first =
-        let said : IsPrefix (items_of sent) (first_item (record { number = v.work.opening.own.pool.0; base = v.work.opening.base; buffers = 1 }) ∷ items_of later) = items_begin sent (first_read v.work.opening.base row.start ∷ later) row.reads in
-        subst (λ l. IsPrefix l (first_item (record { number = v.work.opening.own.pool.0; base = v.work.opening.base; buffers = 1 }) ∷ drop 1 l)) (sym gave) (subst (λ l. IsPrefix (items_of sent) (first_item (record { number = v.work.opening.own.pool.0; base = v.work.opening.base; buffers = 1 }) ∷ l)) (drop_items sent) said);
+        let said : IsPrefix (items_of sent) (first_item (record { number = v.work.opening.own.pool.0; base = v.work.opening.base; buffers = 1; size = 32768 }) ∷ items_of later) = items_begin sent (first_read v.work.opening.base row.start ∷ later) row.reads in
+        subst (λ l. IsPrefix l (first_item (record { number = v.work.opening.own.pool.0; base = v.work.opening.base; buffers = 1; size = 32768 }) ∷ drop 1 l)) (sym gave) (subst (λ l. IsPrefix (items_of sent) (first_item (record { number = v.work.opening.own.pool.0; base = v.work.opening.base; buffers = 1; size = 32768 }) ∷ l)) (drop_items sent) said);
     numbers = λ j x x_at.
         let f = map_from (λ (y : Cargo). y.0) sent j x (ap (λ l. slice_get l j) (sym gave) ∙ x_at) in
         subst (λ (y : Item). (request_of y).id ≡ j % 2 ^ 32) f.2 (row.numbers j f.0 f.1);

@@ -11,7 +11,7 @@ use Rattle.play_core.specs.Moved.{Moved}
 use Rattle.play_core.specs.Sheets.{Sheet, AreApart}
 use Rattle.owner_law.specs.Things.{Window, Buffers, Answers, Naming}
 use Rattle.owner_law.specs.Keeping.{Keeps, all_taken, all_put}
-use Rattle.net_law.specs.Owners.Names.{PoolAt}
+use Rattle.owner_law.specs.Pools.Places.{PoolAt}
 use Rattle.net_law.specs.Parts.Parts.{Way}
 use Rattle.blk_law.specs.Sheets.Parts.{BlkPart, DiskDevice, BlkDriver, BlkVirt, BlkClient, Sharer}
 

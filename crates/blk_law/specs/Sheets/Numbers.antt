@@ -2,8 +2,7 @@
 -- at the disk, two at the driver's other side, and then two for each client.
 use Rattle.std.specs.Prelude.{◌≡◌, ◌+◌, ◌*◌, ◌/◌, ℕ, Some, List, [], ◌∷◌, length, slice_get}
 use Rattle.cargo_core.specs.declared.item.Ask.{Ask}
-use Rattle.net_law.specs.Owners.Names.{PoolAt}
-use Rattle.net_law.specs.TxParts.Numbers.{own_pool}
+use Rattle.owner_law.specs.Pools.Places.{PoolAt, own_pool}
 use Rattle.blk_law.specs.Sheets.Parts.{BlkPart, DiskDevice, BlkDriver, BlkVirt, BlkClient, Sharer}
 
 -- where the block class stands: its first queue, the disk's image at the start, the pool of the

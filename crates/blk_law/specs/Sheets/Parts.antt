@@ -2,7 +2,7 @@
 -- fixed number.
 use Rattle.std.specs.Prelude.{ℕ, List}
 use Rattle.cargo_core.specs.declared.item.Ask.{Ask}
-use Rattle.net_law.specs.Owners.Names.{PoolAt}
+use Rattle.owner_law.specs.Pools.Places.{PoolAt}
 use Rattle.net_law.specs.Parts.Parts.{Way}
 
 -- a client as the virtualiser has it: the queue on which its requests come, the one on which its

@@ -17,7 +17,7 @@ use Rattle.blk_virt.specs.Requests.{is_bad, page_named, range_of}
 use Rattle.blk_virt.specs.Virtualising.{BlkVirtRow}
 use Rattle.blk_virt.specs.declared.requests.Holder.{Holder}
 use Rattle.blk_virt.specs.declared.virtualiser.BlkVirt.{BlkVirt}
-use Rattle.net_law.specs.Owners.Names.{PoolAt}
+use Rattle.owner_law.specs.Pools.Places.{PoolAt}
 use Rattle.net_law.specs.Parts.Playing.{way_of}
 use Rattle.blk_law.specs.Sheets.Parts.{BlkPart, DiskDevice as DiskPart, BlkDriver as DriverPart}
 use Rattle.blk_law.specs.Sheets.Parts.{BlkVirt as VirtPart, BlkClient as ClientPart, Sharer}
@@ -32,7 +32,7 @@ blk_driver_part ps = DriverPart (map way_of ps)
 
 -- the pool of a client's buffers
 abbrev pub holder_pool : Holder → PoolAt
-holder_pool h = record { number = h.pool.0; base = h.base; buffers = h.buffers }
+holder_pool h = record { number = h.pool.0; base = h.base; buffers = h.buffers; size = 32768 }
 
 -- clients with these pools and queues
 abbrev pub sharers : List Holder → (from to : List QueueId) → List Sharer
@@ -49,14 +49,14 @@ virt_part v = VirtPart v.ends.output.queue.0 v.ends.input.queue.0 v.work.opening
     (record {
       number = v.work.opening.own.pool.0;
       base = v.work.opening.base;
-      buffers = 1;
+      buffers = 1; size = 32768;
     })
     (sharers (holders v.work.desk) (from_queues v.ends) (to_queues v.ends))
 
 -- a client's part
 abbrev pub blk_client_part : BlkClient → BlkPart
 blk_client_part c = ClientPart (req_queue c) (resp_queue c) c.asking.script.items
-    (record { number = c.asking.pool.0; base = 0; buffers = c.asking.buffers })
+    (record { number = c.asking.pool.0; base = 0; buffers = c.asking.buffers; size = 32768 })
 
 -- a disk with this image at the start took nothing out of turn
 pub record DiskInTurn (start : List ℕ) (d : DiskDevice) (passed : Passed) : Type 0 where

@@ -19,7 +19,7 @@ use Rattle.blk_expect.specs.Replies.{partition_in}
 use Rattle.client_programs.specs.Blk.Asking.{needs_buffer, request_for}
 use Rattle.blk_virt.specs.Requests.{request_of, response_of, is_ok, first_block, asked_of_disk}
 use Rattle.blk_virt.specs.Requests.{moves_blocks}
-use Rattle.net_law.specs.Owners.Names.{PoolAt}
+use Rattle.owner_law.specs.Pools.Places.{PoolAt}
 use Rattle.blk_law.specs.Sheets.Parts.{Sharer}
 
 -- the response of a disk to a request; an item that is none is never answered

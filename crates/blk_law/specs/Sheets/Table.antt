@@ -5,7 +5,7 @@ use Rattle.play_core.specs.Moved.{Moved, Seat}
 use Rattle.play_core.specs.Wants.{Want, intake, outlet, intake_want, outlet_want}
 use Rattle.play_core.specs.Sheets.{Scene, Sheet}
 use Rattle.net_law.specs.Parts.Parts.{NetDriver}
-use Rattle.net_law.specs.Parts.Rows.{pool_hand}
+use Rattle.owner_law.specs.Pools.Places.{pool_hand}
 use Rattle.net_law.specs.Parts.Table.{is_short, net_sheet}
 use Rattle.blk_law.specs.Sheets.Parts.{BlkPart, DiskDevice, BlkDriver, BlkVirt, BlkClient, Sharer}
 use Rattle.blk_law.specs.Sheets.Rows.{answer_item, AsksInOrder, client_requests, ServesRequests}

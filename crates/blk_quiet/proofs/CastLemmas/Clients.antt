@@ -17,7 +17,7 @@ use Rattle.wire_core.specs.Lists.{Passed}
 use Rattle.play_core.proofs.Lists.{some_is, map_get, there_is, there_below}
 use Rattle.play_core.proofs.Walks.{begins_few}
 use Rattle.buffer_kit.specs.Virtualising.{from_queues, to_queues}
-use Rattle.net_law.specs.Owners.Names.{PoolAt}
+use Rattle.owner_law.specs.Pools.Places.{PoolAt}
 use Rattle.net_law.proofs.PartsLemmas.Leasing.{prefix_get}
 use Rattle.blk_mbr.specs.declared.part.Part.{Part}
 use Rattle.device_model.specs.Disk.Serving.{answer_to}

@@ -14,10 +14,9 @@ use Rattle.blk_virt.specs.Desks.{holders}
 use Rattle.blk_virt.specs.declared.requests.Holder.{Holder}
 use Rattle.blk_virt.specs.declared.virtualiser.BlkVirt.{BlkVirt}
 use Rattle.buffer_kit.specs.Virtualising.{from_queues, to_queues}
-use Rattle.net_law.specs.Owners.Names.{PoolAt}
+use Rattle.owner_law.specs.Pools.Places.{PoolAt, own_pool}
 use Rattle.net_law.specs.Parts.Parts.{Way}
 use Rattle.net_law.specs.Parts.Playing.{way_of}
-use Rattle.net_law.specs.TxParts.Numbers.{own_pool}
 use Rattle.blk_law.specs.Sheets.Parts.{Sharer}
 use Rattle.blk_law.specs.Sheets.Numbers.{BlkPlace, disk_at, blk_driver_at, sharers_from, virt_at, blk_client_at}
 use Rattle.blk_law.specs.Sheets.Playing.{disk_part, blk_driver_part, holder_pool, sharers, virt_part, blk_client_part}
@@ -39,7 +38,7 @@ client_queues first k asks pool c e = (cc, cc, cc)
 
 pub client_pool : (first k : ℕ) (asks : List Ask) (pool : PoolAt) (c : BlkClient) → blk_client_part c ≡ blk_client_at first k asks pool → (c.asking.pool.0 ≡ pool.number) × (c.asking.buffers ≡ pool.buffers)
 client_pool first k asks pool c e =
-    let own : record { number = c.asking.pool.0; base = 0; buffers = c.asking.buffers } ≡ own_pool pool = cc in
+    let own : record { number = c.asking.pool.0; base = 0; buffers = c.asking.buffers; size = 32768 } ≡ own_pool pool = cc in
     (ap (λ (p : PoolAt). p.number) own, ap (λ (p : PoolAt). p.buffers) own)
 
 -- the client of a number at its queues

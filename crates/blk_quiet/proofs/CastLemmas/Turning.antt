@@ -9,7 +9,7 @@ use Rattle.play_core.proofs.Lists.{some_is, map_get, map_from, prefix_trans, the
 use Rattle.play_core.proofs.Walks.{begins_few}
 use Rattle.owner_law.proofs.PoolsLemmas.Merging.{kept_at, kept_is}
 use Rattle.buffer_kit.specs.Virtualising.{from_queues, to_queues}
-use Rattle.net_law.specs.Owners.Names.{PoolAt}
+use Rattle.owner_law.specs.Pools.Places.{PoolAt}
 use Rattle.net_law.proofs.PartsLemmas.Leasing.{prefix_get}
 use Rattle.net_law.proofs.PartsLemmas.Items.{all_at}
 use Rattle.blk_mbr.specs.declared.part.Part.{Part}

@@ -21,7 +21,7 @@ use Rattle.client_programs.specs.Blk.Asking.{needs_buffer, page_for, asked_in, a
 use Rattle.client_programs.specs.Blk.Clients.{BlkClientRow, req_queue, resp_queue}
 use Rattle.client_programs.specs.declared.blk.BlkClient.{BlkClient}
 use Rattle.owner_law.specs.Pools.Handing.{Carries, HandsOn}
-use Rattle.net_law.specs.Owners.Names.{PoolAt}
+use Rattle.owner_law.specs.Pools.Places.{PoolAt}
 use Rattle.net_law.proofs.OwnersLemmas.Clients.{at_address}
 use Rattle.net_quiet.proofs.PoolsLemmas.Carrying.{HasPage, page_carries, takes_here, puts_none, puts_in, puts_out}
 use Rattle.net_law.proofs.PartsLemmas.Leasing.{prefix_get}
@@ -132,7 +132,7 @@ asked_pages pool id (a ∷ asks) (p ∷ pages) each j x at = by (needs_buffer a.
 
 module _ (naming : Naming) (scene : Scene) (passed : Passed) (m : Moved) (c : BlkClient) (names : NamesBlk naming (blk_client_part c)) where
   abbrev pool : PoolAt
-  pool = record { number = c.asking.pool.0; base = 0; buffers = c.asking.buffers }
+  pool = record { number = c.asking.pool.0; base = 0; buffers = c.asking.buffers; size = 32768 }
 
   abbrev ws : List Window
   ws = offset_window pool ∷ []

@@ -4,7 +4,7 @@ use Rattle.std.specs.Prelude.{slice_index_or}
 use Rattle.cargo_core.specs.declared.item.Ask.{Ask}
 use Rattle.play_core.proofs.Lists.{some_is}
 use Rattle.owner_law.specs.Things.{Window, NoBuffers, Buffers, Answers, Naming}
-use Rattle.net_law.specs.Owners.Names.{PoolAt}
+use Rattle.owner_law.specs.Pools.Places.{PoolAt}
 use Rattle.net_law.proofs.PartsLemmas.Pairs.{twice}
 use Rattle.blk_law.specs.Sheets.Parts.{Sharer}
 use Rattle.blk_law.specs.Sheets.Numbers.{BlkPlace, disk_at, blk_driver_at, sharers_from, virt_at, blk_client_at}

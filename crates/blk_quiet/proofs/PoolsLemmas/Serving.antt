@@ -32,7 +32,7 @@ use Rattle.blk_virt.specs.declared.virtualiser.BlkVirt.{BlkVirt}
 use Rattle.play_core.specs.Rests.Showing.{HaveItems}
 use Rattle.owner_law.specs.Pools.Handing.{AllCarry, TakesPages, PutsPages, HandsOn}
 use Rattle.owner_law.proofs.PoolsLemmas.Merging.{kept_at, kept_is}
-use Rattle.net_law.specs.Owners.Names.{PoolAt}
+use Rattle.owner_law.specs.Pools.Places.{PoolAt}
 use Rattle.net_law.proofs.PartsLemmas.Items.{all_at}
 use Rattle.net_law.proofs.PartsLemmas.Leasing.{prefix_get}
 use Rattle.net_law.proofs.PartsLemmas.Pairs.{twice, pair_first}
@@ -104,7 +104,7 @@ module _ (naming : Naming) (scene : Scene) (passed : Passed) (m : Moved) (items 
   o = v.ends.output.queue.0
 
   abbrev pool : PoolAt
-  pool = record { number = v.work.opening.own.pool.0; base = v.work.opening.base; buffers = 1 }
+  pool = record { number = v.work.opening.own.pool.0; base = v.work.opening.base; buffers = 1; size = 32768 }
 
   abbrev hs : List Holder
   hs = holders v.work.desk

@@ -6,15 +6,11 @@ use Rattle.play_core.proofs.Lists.{some_is, map_from, there_is}
 use Rattle.owner_law.specs.Things.{Window, NoBuffers, Answers, naming_of}
 use Rattle.owner_law.specs.Keeping.{is_lending}
 use Rattle.owner_law.specs.Pools.Lines.{IsWithin, NamesWithin}
-use Rattle.net_law.specs.Owners.Names.{PoolAt}
+use Rattle.owner_law.specs.Pools.Places.{PoolAt}
 use Rattle.blk_law.specs.Sheets.Numbers.{BlkPlace}
 use Rattle.blk_law.specs.Owners.Answering.{block_window, offset_window}
 use Rattle.blk_quiet.specs.Pools.Naming.{disk_side, client_names, blk_names}
-
-all_from : {T : Type 0} (P : T → Type 0) (xs : List T) → ((k : ℕ) (x : T) → slice_get xs k ≡ Some x → P x) → All P xs
-all_from P xs each k d lt =
-    let x = there_is xs k lt in
-    subst P (sym (get_or_from_slice_get xs k x.0 d x.1)) (each k x.0 x.1)
+use Rattle.owner_law.proofs.PoolsLemmas.Sizing.{all_from}
 
 -- all buffers that items name are of the class's pools
 module _ (sizes : ℕ → ℕ) (place : BlkPlace) (own : place.pool.buffers ≤ sizes place.pool.number) (each : (k : ℕ) (p : PoolAt) → slice_get place.pools k ≡ Some p → p.buffers ≤ sizes p.number) where

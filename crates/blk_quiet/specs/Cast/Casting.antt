@@ -15,7 +15,7 @@ use Rattle.pipe_driver.specs.Lengths.{two_pipes}
 use Rattle.pipe_driver.specs.declared.pipes.Pipes.{Pipes}
 use Rattle.buffer_kit.specs.Virtualising.{from_queues, to_queues}
 use Rattle.net_law.specs.Receiving.{HandsOver}
-use Rattle.net_law.specs.Owners.Names.{PoolAt}
+use Rattle.owner_law.specs.Pools.Places.{PoolAt}
 use Rattle.device_model.specs.Disk.Disks.{DiskRow}
 use Rattle.device_model.specs.declared.disk.DiskDevice.{DiskDevice}
 use Rattle.client_programs.specs.Blk.Clients.{BlkClientRow}

@@ -1,7 +1,7 @@
 -- What the items of the block class's queues name, by the number of its first queue, and its pools.
 use Rattle.std.specs.Prelude.{◌≡◌, ◌+◌, ◌*◌, ◌-◌, ℕ, List, [], ◌∷◌, map}
 use Rattle.owner_law.specs.Things.{Window, Names, Buffers, Answers, Naming, naming_of}
-use Rattle.net_law.specs.Owners.Names.{PoolAt}
+use Rattle.owner_law.specs.Pools.Places.{PoolAt}
 use Rattle.blk_law.specs.Sheets.Parts.{BlkPart, DiskDevice, BlkDriver, BlkVirt, BlkClient}
 use Rattle.blk_law.specs.Sheets.Numbers.{BlkPlace, sharers_from}
 use Rattle.blk_law.specs.Owners.Answering.{block_window, offset_window, NamesBlk, ArePoolsApart}

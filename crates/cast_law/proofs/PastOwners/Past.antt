@@ -20,7 +20,7 @@ use Rattle.owner_law.proofs.Starts.{start_counted}
 use Rattle.owner_law.specs.Counts.Keeping.{KeepTheirs}
 use Rattle.owner_law.proofs.CountsLemmas.Tables.{pools_stay, nobody_shown, table_past}
 use Rattle.net_law.specs.TxParts.Numbers.{NetPlace}
-use Rattle.net_quiet.proofs.PoolsLemmas.Sizing.{spread_dealt}
+use Rattle.owner_law.proofs.PoolsLemmas.Sizing.{spread_dealt}
 use Rattle.blk_law.specs.Owners.Answering.{IsInOrder, PutsItsOwnInOrder}
 use Rattle.actor_set.specs.Parts.{Part}
 use Rattle.actor_set.specs.Actors.{part_of}

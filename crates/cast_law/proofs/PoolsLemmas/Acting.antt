@@ -112,7 +112,7 @@ module _ (naming : Naming) (scene : Scene) (passed : Passed) (m : Moved) (items 
   actor_on order (Kinds.SerialClient x) names net whole turn st = terminal_on naming passed m x.terminal names (terminal_row x.terminal passed st)
   actor_on order (Kinds.EthDevice x) names net whole turn st = device_on naming scene passed m x names (device_row_of x passed st)
   actor_on order (Kinds.EthDriver x) names net whole turn st = driver_on naming scene passed m (four_pipes x.driver.pipes) names (pipes_row (four_pipes x.driver.pipes) passed st)
-  actor_on order (Kinds.NetVirtRx x) names net whole turn st = receiver_on naming scene passed m x names turn.size turn.takes.given_net (receiver_row x passed st)
+  actor_on order (Kinds.NetVirtRx x) names net whole turn st = receiver_on naming scene passed m x names turn.takes.given_net (receiver_row x passed st)
   actor_on order (Kinds.NetCopier x) names net whole turn st = copier_on naming scene passed m x names (copier_row x passed st)
   actor_on order (Kinds.NetClient x) names net whole turn st = client_on naming scene passed m x names turn.0 (client_row x passed st)
   actor_on order (Kinds.NetVirtTx x) names net whole turn st = sender_on naming passed m x names net (sender_row x passed st)
@@ -125,7 +125,7 @@ module _ (naming : Naming) (scene : Scene) (passed : Passed) (m : Moved) (items 
     lender_holds : (v : NetVirtRx) → NamesAt naming scene (part_of (Kinds.NetVirtRx v)) → IsSized sizes (part_of (Kinds.NetVirtRx v)) → IsWhole (Kinds.NetVirtRx v) → ReceivesInTurn scene.frames v passed → NetRxStandsFor v passed → HoldsIts naming sizes m passed (actor_holder scene (Kinds.NetVirtRx v))
     lender_holds v names sized whole turn st =
         let row = receiver_row v passed st in
-        receiver_holds naming sizes scene v passed m names turn.size (items_at (net_sheet scene (receiver_part v)).ends passed m items) turn.takes st (none_of v.work.stray (sym row.strayed ∙ turn.in_turn row)) whole.to_each whole.from_each sized
+        receiver_holds naming sizes scene v passed m names (items_at (net_sheet scene (receiver_part v)).ends passed m items) turn.takes st (none_of v.work.stray (sym row.strayed ∙ turn.in_turn row)) whole.to_each whole.from_each sized
 
     -- of each pool it had at the start and took what it put, has in its hand and has lent
     pub actor_holds : (x : Actor) → NamesAt naming scene (part_of x) → IsSized sizes (part_of x) → IsWhole x → InTurn scene x passed → ActorStandsFor x passed → TakesPages naming m passed (sheet scene (part_of x)).ends → HoldsIts naming sizes m passed (actor_holder scene x)

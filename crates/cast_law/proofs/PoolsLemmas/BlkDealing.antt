@@ -9,11 +9,10 @@ use Rattle.wire_core.specs.declared.names.QueueRow.{QueueRow}
 use Rattle.play_core.specs.Sheets.{Scene, AreSeated}
 use Rattle.play_core.specs.Wants.{intake}
 use Rattle.play_core.proofs.Lists.{some_is, there_is, there_below}
-use Rattle.net_law.specs.Owners.Names.{PoolAt}
-use Rattle.net_quiet.specs.Pools.Sizes.{sizes_of, AreNumbered, share_of}
-use Rattle.net_quiet.proofs.PoolsLemmas.Sizing.{size_there}
-use Rattle.net_quiet.proofs.PoolsLemmas.Spreading.{its_none, its_one}
-use Rattle.net_law.specs.TxParts.Numbers.{own_pool}
+use Rattle.owner_law.specs.Pools.Places.{PoolAt, sizes_of, AreNumbered, own_pool}
+use Rattle.owner_law.specs.Pools.Spread.{share_of}
+use Rattle.owner_law.proofs.PoolsLemmas.Sizing.{size_there}
+use Rattle.owner_law.proofs.PoolsLemmas.Spreading.{its_none, its_one}
 use Rattle.blk_law.specs.Sheets.Numbers.{BlkPlace, virt_at, blk_client_at}
 use Rattle.blk_law.specs.Sheets.Parts.{BlkPart}
 use Rattle.blk_quiet.specs.Pools.Naming.{blk_pools}

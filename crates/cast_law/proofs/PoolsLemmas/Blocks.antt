@@ -7,7 +7,7 @@ use Rattle.wire_core.specs.Ends.{Role, Consumer, Producer}
 use Rattle.play_core.specs.Sheets.{Scene}
 use Rattle.play_core.specs.Wants.{intake, outlet}
 use Rattle.play_core.proofs.Lists.{there_is, there_below}
-use Rattle.net_law.specs.Owners.Names.{PoolAt}
+use Rattle.owner_law.specs.Pools.Places.{PoolAt}
 use Rattle.net_law.proofs.PartsLemmas.Pairs.{twice, pair_first, pair_second}
 use Rattle.blk_law.specs.Sheets.Parts.{BlkPart, Sharer}
 use Rattle.blk_law.specs.Sheets.Numbers.{BlkPlace, sharers_from, blk_client_at}

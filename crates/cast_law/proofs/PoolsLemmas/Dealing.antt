@@ -5,7 +5,8 @@ use Rattle.play_core.specs.Sheets.{Scene, AreSeated}
 use Rattle.play_core.proofs.Lists.{map_from}
 use Rattle.owner_law.specs.Keeping.{Keeper, keeper_of}
 use Rattle.net_law.specs.TxParts.Numbers.{NetPlace}
-use Rattle.net_quiet.specs.Pools.Sizes.{sizes_of, AreNumbered, AreSpread, share_of}
+use Rattle.owner_law.specs.Pools.Places.{sizes_of, AreNumbered}
+use Rattle.owner_law.specs.Pools.Spread.{AreSpread, share_of}
 use Rattle.blk_law.specs.Sheets.Numbers.{BlkPlace}
 use Rattle.actor_set.specs.Parts.{Part, UartPart, DriverPart, RxPart, TxPart, ClientPart, NetworkPart, SendingPart, BlockPart}
 use Rattle.actor_set.specs.Laws.Kinds.{sheet, scene_of}

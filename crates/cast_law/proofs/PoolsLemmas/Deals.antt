@@ -6,11 +6,10 @@ use Rattle.std.proofs.lemmas.Bool.Decides.{eqb_tells}
 use Rattle.play_core.specs.Sheets.{Scene}
 use Rattle.play_core.proofs.Lists.{there_below}
 use Rattle.owner_law.proofs.Carrying.{get_first}
-use Rattle.net_law.specs.Owners.Names.{PoolAt}
-use Rattle.net_law.specs.Owners.Ends.{numbers_from}
-use Rattle.net_quiet.specs.Pools.Sizes.{sizes_of, AreNumbered, share_of}
-use Rattle.net_quiet.proofs.PoolsLemmas.Sizing.{size_there}
-use Rattle.net_quiet.proofs.PoolsLemmas.Spreading.{its_none}
+use Rattle.owner_law.specs.Pools.Places.{PoolAt, numbers_from, sizes_of, AreNumbered}
+use Rattle.owner_law.specs.Pools.Spread.{share_of}
+use Rattle.owner_law.proofs.PoolsLemmas.Sizing.{size_there}
+use Rattle.owner_law.proofs.PoolsLemmas.Spreading.{its_none}
 use Rattle.actor_set.specs.Parts.{Part}
 use Rattle.actor_set.specs.Laws.Kinds.{sheet}
 

@@ -27,9 +27,9 @@ use Rattle.net_quiet.proofs.TxOwners.Owning.{send_own}
 use Rattle.net_quiet.proofs.TxOwners.Carrying.{pools_apart}
 use Rattle.net_virt_tx.proofs.Rounds.{row_of as sender_row}
 use Rattle.owner_law.proofs.PoolsLemmas.Casting.{nothing_kept}
-use Rattle.net_quiet.specs.Pools.Sizes.{sizes_of, AreNumbered}
+use Rattle.owner_law.specs.Pools.Places.{sizes_of, AreNumbered}
 use Rattle.net_quiet.proofs.PoolsLemmas.Listing.{past}
-use Rattle.net_quiet.proofs.PoolsLemmas.Sizing.{size_there}
+use Rattle.owner_law.proofs.PoolsLemmas.Sizing.{size_there}
 use Rattle.blk_law.specs.Sheets.Parts.{BlkPart, DiskDevice, BlkDriver, BlkVirt, BlkClient}
 use Rattle.blk_law.specs.Sheets.Numbers.{BlkPlace, disk_at}
 use Rattle.blk_law.specs.Sheets.Playing.{disk_part, blk_driver_part, virt_part, blk_client_part}
@@ -157,7 +157,7 @@ module _ (rows : List QueueRow) (cast : List Part) (seated : AreSeated (sheet (s
     network_named net whole first a so p (inl e) = subst (NamesAt a scene) (sym (e ∙ ap (λ q. NetworkPart (device_at q scene.frames)) first)) (part_so a _ so scene (device_at 0 scene.frames) (device_named scene net.pool net.macs net.pools scene.frames))
     network_named net whole first a so p (inr (inl e)) = subst (NamesAt a scene) (sym (e ∙ ap (λ q. NetworkPart (driver_at q)) first)) (part_so a _ so scene (driver_at 0) (driver_named scene net.pool net.macs net.pools))
     network_named net whole first a so p (inr (inr (inl e))) = subst (NamesAt a scene) (sym (e ∙ ap (λ q. NetworkPart (receiver_at q net.pool net.macs)) first)) (part_so a _ so scene (receiver_at 0 net.pool net.macs) (receiver_named scene net.pool net.macs net.pools (sym whole.pools_many)))
-    network_named net whole first a so p (inr (inr (inr (inl e)))) = subst (NamesAt a scene) (sym (e ∙ ap (λ q. SendingPart (sender_at q net.pools)) first)) (send_so a _ so (sender_at 0 net.pools) (sender_named scene net.pool net.macs net.pools))
+    network_named net whole first a so p (inr (inr (inr (inl e)))) = subst (NamesAt a scene) (sym (e ∙ ap (λ q. SendingPart (sender_at q net.most net.pools)) first)) (send_so a _ so (sender_at 0 net.most net.pools) (sender_named scene net.most net.pool net.macs net.pools))
     network_named net whole first a so p (inr (inr (inr (inr (inl x))))) =
         let q = there_is net.pools x.0 (omega (arith, x.1, whole.pools_many)) in
         subst (NamesAt a scene) (sym (x.2 ∙ ap (λ f. NetworkPart (copier_at f x.0)) first)) (part_so a _ so scene (copier_at 0 x.0) (copier_named scene net.pool net.macs net.pools x.0 q.0 q.1))
@@ -245,7 +245,7 @@ module _ (rows : List QueueRow) (cast : List Part) (seated : AreSeated (sheet (s
       sender_input net first p (inl e) = absurd cc
       sender_input net first p (inr (inl e)) = absurd cc
       sender_input net first p (inr (inr (inl e))) = absurd cc
-      sender_input net first p (inr (inr (inr (inl e)))) = let same : p ≡ sender_at net.first net.pools = cc in ap (λ (x : SendPart). x.free) same ∙ ap (λ q. q + 7) first
+      sender_input net first p (inr (inr (inr (inl e)))) = let same : p ≡ sender_at net.first net.most net.pools = cc in ap (λ (x : SendPart). x.free) same ∙ ap (λ q. q + 7) first
       sender_input net first p (inr (inr (inr (inr (inl x))))) = let e = x.2 in absurd cc
       sender_input net first p (inr (inr (inr (inr (inr x))))) = let e = x.5 in absurd cc
 

@@ -10,13 +10,15 @@ use Rattle.wire_core.specs.declared.names.QueueRow.{QueueRow}
 use Rattle.play_core.specs.Sheets.{Scene, AreSeated}
 use Rattle.play_core.specs.Wants.{intake}
 use Rattle.play_core.proofs.Lists.{some_is, there_is, there_below}
-use Rattle.net_law.specs.Owners.Names.{PoolAt, ClientPools}
+use Rattle.net_law.specs.Owners.Names.{ClientPools}
+use Rattle.owner_law.specs.Pools.Places.{PoolAt, sizes_of, AreNumbered}
 use Rattle.net_law.specs.Parts.Numbers.{client_first, receiver_at, client_at}
 use Rattle.net_law.proofs.PartsLemmas.Pairs.{twice, pair_first, pair_second}
 use Rattle.net_law.specs.TxParts.Numbers.{NetPlace, own_pools}
-use Rattle.net_quiet.specs.Pools.Sizes.{net_pools, sizes_of, AreNumbered, share_of}
-use Rattle.net_quiet.proofs.PoolsLemmas.Sizing.{size_there}
-use Rattle.net_quiet.proofs.PoolsLemmas.Spreading.{its_none, its_one, its_two}
+use Rattle.net_quiet.specs.Pools.Sizes.{net_pools}
+use Rattle.owner_law.specs.Pools.Spread.{share_of}
+use Rattle.owner_law.proofs.PoolsLemmas.Sizing.{size_there}
+use Rattle.owner_law.proofs.PoolsLemmas.Spreading.{its_none, its_one, its_two}
 use Rattle.actor_set.specs.Parts.{Part, UartPart, DriverPart, RxPart, TxPart, ClientPart, NetworkPart, SendingPart, BlockPart}
 use Rattle.actor_set.specs.Laws.Kinds.{sheet, scene_of}
 use Rattle.wired_law.specs.Wiring.{HasWhole, IsOfNetwork}

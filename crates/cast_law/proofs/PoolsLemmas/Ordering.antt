@@ -16,10 +16,10 @@ use Rattle.play_core.proofs.Walks.{begins_few}
 use Rattle.owner_law.specs.Things.{Window, Answers, Naming}
 use Rattle.client_programs.specs.Blk.Asking.{needs_buffer, request_for}
 use Rattle.blk_expect.specs.Replies.{partition_in}
-use Rattle.net_law.specs.Owners.Names.{PoolAt}
+use Rattle.owner_law.specs.Pools.Places.{PoolAt, own_pool}
 use Rattle.net_law.specs.Parts.Parts.{Way}
 use Rattle.net_law.proofs.PartsLemmas.Leasing.{prefix_get}
-use Rattle.net_law.specs.TxParts.Numbers.{NetPlace, own_pool}
+use Rattle.net_law.specs.TxParts.Numbers.{NetPlace}
 use Rattle.net_quiet.proofs.PoolsLemmas.Listing.{never_answers}
 use Rattle.blk_law.specs.Sheets.Numbers.{BlkPlace, disk_at, blk_driver_at, sharers_from, virt_at, blk_client_at}
 use Rattle.blk_law.specs.Sheets.Rows.{answer_item, answers_due, asked_items, AsksInOrder, ServesRequests, items_back}

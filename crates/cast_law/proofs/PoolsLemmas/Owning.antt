@@ -20,9 +20,9 @@ use Rattle.owner_law.proofs.Casts.{cast_keepers}
 use Rattle.owner_law.proofs.Starts.{start_shown}
 use Rattle.net_law.specs.Parts.Numbers.{client_first}
 use Rattle.net_law.specs.TxParts.Numbers.{NetPlace}
-use Rattle.net_quiet.specs.Pools.Sizes.{AreNumbered}
+use Rattle.owner_law.specs.Pools.Places.{AreNumbered}
 use Rattle.net_quiet.proofs.PoolsLemmas.Listing.{layout_names, past}
-use Rattle.net_quiet.proofs.PoolsLemmas.Sizing.{spread_dealt}
+use Rattle.owner_law.proofs.PoolsLemmas.Sizing.{spread_dealt}
 use Rattle.blk_law.specs.Sheets.Numbers.{BlkPlace}
 use Rattle.blk_law.specs.Owners.Answering.{IsInOrder, PutsItsOwnInOrder}
 use Rattle.blk_quiet.proofs.PoolsLemmas.Sizing.{IsAnswer, blk_past, blk_keeps}

@@ -32,8 +32,8 @@ use Rattle.cast_law.specs.PoolLines.PoolLines.{table_lines, counted_lines}
 use Rattle.cast_law.proofs.PoolLines.Counting.{lines_are}
 use Rattle.net_law.specs.Owners.Names.{ClientPools}
 use Rattle.net_law.specs.TxParts.Numbers.{NetPlace}
-use Rattle.net_quiet.specs.Pools.Sizes.{AreNumbered}
-use Rattle.net_quiet.proofs.PoolsLemmas.Sizing.{spread_pools, spread_within}
+use Rattle.owner_law.specs.Pools.Places.{AreNumbered}
+use Rattle.owner_law.proofs.PoolsLemmas.Sizing.{spread_pools, spread_within}
 use Rattle.blk_law.specs.Sheets.Numbers.{BlkPlace}
 use Rattle.blk_law.specs.Owners.Answering.{IsInOrder, PutsItsOwnInOrder}
 use Rattle.actor_set.specs.Parts.{Part}

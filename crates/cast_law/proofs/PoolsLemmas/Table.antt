@@ -27,11 +27,11 @@ lessee_there from (m ∷ macs) (suc k) mac at =
     let x = lessee_there (from + 1) macs k mac at in
     (x.0, x.1, omega (arith, x.2), omega (arith, x.3))
 
-shipper_there : (from : ℕ) (pools : List ClientPools) (k : ℕ) (p : ClientPools) → slice_get pools k ≡ Some p → (c : Shipper) × (slice_get (shippers_from 0 from pools) k ≡ Some c) × (c.active ≡ client_first 0 (from + k) + 4) × (c.free ≡ client_first 0 (from + k) + 5)
-shipper_there from [] k p at = cc
-shipper_there from (q ∷ pools) zero p at = (record { active = client_first 0 from + 4; free = client_first 0 from + 5; pool = q.tx }, refl, omega arith, omega arith)
-shipper_there from (q ∷ pools) (suc k) p at =
-    let x = shipper_there (from + 1) pools k p at in
+shipper_there : (most from : ℕ) (pools : List ClientPools) (k : ℕ) (p : ClientPools) → slice_get pools k ≡ Some p → (c : Shipper) × (slice_get (shippers_from 0 most from pools) k ≡ Some c) × (c.active ≡ client_first 0 (from + k) + 4) × (c.free ≡ client_first 0 (from + k) + 5)
+shipper_there most from [] k p at = cc
+shipper_there most from (q ∷ pools) zero p at = (record { active = client_first 0 from + 4; free = client_first 0 from + 5; pool = q.tx; most = most }, refl, omega arith, omega arith)
+shipper_there most from (q ∷ pools) (suc k) p at =
+    let x = shipper_there most (from + 1) pools k p at in
     (x.0, x.1, omega (arith, x.2), omega (arith, x.3))
 
 -- the client and the place there of one of the clients' queues
@@ -70,8 +70,8 @@ module _ (rows : List QueueRow) (net : NetPlace) (cast : List Part) (whole : Has
   pub at_receiver : HasPart cast (NetworkPart (receiver_at 0 net.pool net.macs))
   at_receiver = subst (λ n. HasPart cast (NetworkPart (receiver_at n net.pool net.macs))) first whole.receiver
 
-  pub at_sender : HasPart cast (SendingPart (sender_at 0 net.pools))
-  at_sender = subst (λ n. HasPart cast (SendingPart (sender_at n net.pools))) first whole.sender
+  pub at_sender : HasPart cast (SendingPart (sender_at 0 net.most net.pools))
+  at_sender = subst (λ n. HasPart cast (SendingPart (sender_at n net.most net.pools))) first whole.sender
 
   pub at_copier : (k : ℕ) → k < length net.macs → HasPart cast (NetworkPart (copier_at 0 k))
   at_copier k lt = subst (λ n. HasPart cast (NetworkPart (copier_at n k))) first (whole.copier k lt)
@@ -140,14 +140,14 @@ module _ (rows : List QueueRow) (net : NetPlace) (cast : List Part) (whole : Has
 
     sent_from : HasEnd (client_first 0 k + 4) Consumer
     sent_from =
-        let c = shipper_there 0 net.pools k pools_here.0 pools_here.1 in
-        let seat = pair_first (λ (x : Shipper). intake x.active) (λ x. outlet x.free) (shippers_from 0 0 net.pools) k c.0 c.1 in
+        let c = shipper_there net.most 0 net.pools k pools_here.0 pools_here.1 in
+        let seat = pair_first (λ (x : Shipper). intake x.active) (λ x. outlet x.free) (shippers_from 0 net.most 0 net.pools) k c.0 c.1 in
         (at_sender.0, _, suc (suc (twice k)), at_sender.1, tt, seat ∙ ap (λ n. Some (intake n)) (plain 4 c.2))
 
     sent_back : HasEnd (client_first 0 k + 5) Producer
     sent_back =
-        let c = shipper_there 0 net.pools k pools_here.0 pools_here.1 in
-        let seat = pair_second (λ (x : Shipper). intake x.active) (λ x. outlet x.free) (shippers_from 0 0 net.pools) k c.0 c.1 in
+        let c = shipper_there net.most 0 net.pools k pools_here.0 pools_here.1 in
+        let seat = pair_second (λ (x : Shipper). intake x.active) (λ x. outlet x.free) (shippers_from 0 net.most 0 net.pools) k c.0 c.1 in
         (at_sender.0, _, suc (suc (suc (twice k))), at_sender.1, tt, seat ∙ ap (λ n. Some (outlet n)) (plain 5 c.3))
 
     copies : (i : ℕ) (n : ℕ) (r : Role) → slice_get (net_sheet scene (copier_at 0 k)).ends i ≡ Some (record { queue = n; role = r }) → HasEnd n r

@@ -5,10 +5,10 @@ use Rattle.play_core.specs.Sheets.{Scene}
 use Rattle.owner_law.specs.Things.{Window, Names, NoBuffers, Buffers, Frames, Leases, Returns, Answers}
 use Rattle.owner_law.proofs.Carrying.{get_first}
 use Rattle.owner_law.specs.Pools.Lines.{IsWithin, NamesWithin}
-use Rattle.net_law.specs.Owners.Names.{PoolAt}
+use Rattle.owner_law.specs.Pools.Places.{PoolAt, sizes_of, AreNumbered}
 use Rattle.net_law.specs.TxParts.Numbers.{NetPlace}
-use Rattle.net_quiet.specs.Pools.Sizes.{sizes_of, AreNumbered}
-use Rattle.net_quiet.proofs.PoolsLemmas.Sizing.{layout_within, size_there}
+use Rattle.net_quiet.proofs.PoolsLemmas.Sizing.{layout_within}
+use Rattle.owner_law.proofs.PoolsLemmas.Sizing.{size_there}
 use Rattle.blk_law.specs.Sheets.Numbers.{BlkPlace}
 use Rattle.blk_quiet.proofs.PoolsLemmas.Sizing.{blk_within}
 use Rattle.cast_law.specs.Pools.Places.{first_naming, behind, pools_first, pools_behind}

@@ -14,7 +14,7 @@ use Rattle.region_layout.specs.Rows.{queues_of, pools_of}
 use Rattle.layout_laws.specs.Sound.{IsSoundQueue}
 use Rattle.layout_laws.proofs.Lists.{all-at}
 use Rattle.layout_laws.proofs.Queues.{queues_sound}
-use Rattle.net_law.specs.Owners.Names.{PoolAt}
+use Rattle.owner_law.specs.Pools.Places.{PoolAt}
 use Rattle.blk_law.specs.Sheets.Numbers.{BlkPlace}
 use Rattle.blk_quiet.specs.Still.{HasClientPools, HasBlkRooms, range_of}
 use Rattle.actor_set.specs.Parts.{Part}

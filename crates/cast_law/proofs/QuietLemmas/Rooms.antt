@@ -28,7 +28,7 @@ use Rattle.actor_set.proofs.LawsLemmas.Calm.{calm_row}
 use Rattle.wired_law.specs.Wiring.{HasWhole}
 use Rattle.cast_core.specs.Casts.{client_pools, net_place}
 use Rattle.cast_core.specs.Sources.{pool_at, client_mac, client_program}
-use Rattle.cast_core.specs.Making.{HasPool, HasPools as HasPoolRows}
+use Rattle.cast_core.specs.Making.{HasPool, HasPools as HasPoolRows, HasNetPool}
 use Rattle.cast_core.proofs.Listing.{value_count, value_is}
 use Rattle.cast_core.proofs.Rooms.{has_pools}
 
@@ -60,7 +60,7 @@ module _ (plan : Plan) (trace : Trace) where
     macs_many : length place.macs ≡ count
     macs_many = value_count count (client_mac plan)
 
-    pool_some : (n : ℕ) → HasPool 2048 (pools_of plan) n → 1 ≤ (pool_at (pools_of plan) n).buffers
+    pool_some : (n : ℕ) → HasNetPool (pools_of plan) n → 1 ≤ (pool_at (pools_of plan) n).buffers
     pool_some n has =
         let same : (pool_at (pools_of plan) n).buffers ≡ has.row.buffers = ap (λ (o : Option PoolRow). option_map_or (λ (r : PoolRow). r.buffers) o 0) has.there in
         let some = has.some in

@@ -59,7 +59,7 @@ record Stands (rows : List QueueRow) (cast : List Part) (actors : List Actor) (p
   pub fits : (k : ℕ) (x : Actor) → slice_get actors k ≡ Some x → FitsActor (each k) x
   pub stands : (k : ℕ) (x : Actor) → slice_get actors k ≡ Some x → ActorStandsFor x passed
   pub over : (n : ℕ) → IsPrefix (passed.taken n) (passed.sent n)
-  pub sends : ClientsSend cast passed
+  pub sends : ClientsSend rows cast passed
   pub carry : (place : PoolPlace) → IsPlaced rows place cast → CarryPages (cast_naming (scene_of cast) place) (moved_of passed) passed
 
 module _ (rows : List QueueRow) (cast : List Part) (wired : IsWired rows cast) (seated : AreSeated (sheet (scene_of cast)) rows cast) (split : (n : ℕ) (row : QueueRow) → slice_get rows n ≡ Some row → row.producer.0 ≡ row.consumer.0 → ⊥) where
@@ -90,7 +90,7 @@ module _ (rows : List QueueRow) (cast : List Part) (wired : IsWired rows cast) (
     }
 
     turns_of : AreOfKind rows passed → (k : ℕ) (x : Actor) → slice_get actors k ≡ Some x → InTurn (scene_of (map part_of actors)) x passed
-    turns_of kinds k x at = in_turn ends rows actors passed (subst (IsWired rows) (sym st.parts) wired) (work kinds) (subst (λ (c : List Part). ClientsSend c passed) (sym st.parts) st.sends) k x at
+    turns_of kinds k x at = in_turn ends rows actors passed (subst (IsWired rows) (sym st.parts) wired) (work kinds) (subst (λ (c : List Part). ClientsSend rows c passed) (sym st.parts) st.sends) k x at
 
     rows_of : AreOfKind rows passed → RowsHold (sheet (scene_of cast)) (hostiles cast) cast (moved_of passed)
     rows_of kinds = subst (λ (c : List Part). RowsHold (sheet (scene_of c)) (hostiles c) c (moved_of passed)) st.parts (rows_at rows actors passed (moved_of passed) (have_items passed) (turns_of kinds) st.stands)
@@ -155,11 +155,11 @@ module _ (rows : List QueueRow) (cast : List Part) (wired : IsWired rows cast) (
       kinds = kinds';
     }
 
-    sends' : ClientsSend cast passed'
-    sends' = subst (λ (c : List Part). ClientsSend c passed') (parts' ∙ st.parts) (sends_on (ends actors passed st) ends' rows actors actors' passed t.deed (subst (IsWired rows) (sym st.parts) wired) parts' (work actors passed st kinds) (subst (λ (c : List Part). ClientsSend c passed) (sym st.parts) st.sends) work')
+    sends' : ClientsSend rows cast passed'
+    sends' = subst (λ (c : List Part). ClientsSend rows c passed') (parts' ∙ st.parts) (sends_on (ends actors passed st) ends' rows actors actors' passed t.deed (subst (IsWired rows) (sym st.parts) wired) parts' (work actors passed st kinds) (subst (λ (c : List Part). ClientsSend rows c passed) (sym st.parts) st.sends) work')
 
     turns' : (j : ℕ) (y : Actor) → slice_get actors' j ≡ Some y → InTurn (scene_of cast) y passed'
-    turns' j y at = subst (λ (c : List Part). InTurn (scene_of c) y passed') (parts' ∙ st.parts) (in_turn ends' rows actors' passed' (subst (IsWired rows) (sym (parts' ∙ st.parts)) wired) work' (subst (λ (c : List Part). ClientsSend c passed') (sym (parts' ∙ st.parts)) sends') j y at)
+    turns' j y at = subst (λ (c : List Part). InTurn (scene_of c) y passed') (parts' ∙ st.parts) (in_turn ends' rows actors' passed' (subst (IsWired rows) (sym (parts' ∙ st.parts)) wired) work' (subst (λ (c : List Part). ClientsSend rows c passed') (sym (parts' ∙ st.parts)) sends') j y at)
 
     rows' : RowsHold (sheet (scene_of cast)) (hostiles cast) cast (moved_of passed')
     rows' = subst (λ (c : List Part). RowsHold (sheet (scene_of c)) (hostiles c) c (moved_of passed')) (parts' ∙ st.parts) (rows_at rows actors' passed' (moved_of passed') (have_items passed') (λ j y at. subst (λ (c : List Part). InTurn (scene_of c) y passed') (sym (parts' ∙ st.parts)) (turns' j y at)) stands')
@@ -204,14 +204,14 @@ have_held rows olds news turns passed ready order kinds =
       fits = ready.fits;
       stands = ready.stands;
       over = λ n. ([], refl);
-      sends = nothing_sent cast;
+      sends = nothing_sent rows cast;
       carry = λ place placed. record { sent = λ n. refl; taken = λ n. refl; bodies = λ n k c at. cc };
     } in
     let st = held rows cast ready.wired ready.seated ready.split turns olds news nothing_passed passed begin order kinds in record {
       parts = st.parts;
       stands = st.stands;
       in_turn = turns_of rows cast ready.wired ready.seated ready.split news passed st kinds;
-      sends = subst (λ (c : List Part). ClientsSend c passed) (sym st.parts) st.sends;
+      sends = subst (λ (c : List Part). ClientsSend rows c passed) (sym st.parts) st.sends;
       carry = λ place placed m items. (
           let has = st.carry place (subst (IsPlaced rows place) st.parts placed) in
           let same : moved_of passed ≡ m = (λ i. record { sent = λ n. items.sent n i; taken = λ n. items.taken n i }) in

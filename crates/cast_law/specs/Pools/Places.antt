@@ -6,10 +6,10 @@ use Rattle.wire_core.specs.declared.names.QueueRow.{QueueRow}
 use Rattle.play_core.specs.Sheets.{Scene}
 use Rattle.owner_law.specs.Things.{NoBuffers, Naming}
 use Rattle.cast_law.specs.PoolLines.PoolLines.{AreSized}
-use Rattle.net_law.specs.Owners.Names.{PoolAt}
+use Rattle.owner_law.specs.Pools.Places.{PoolAt, sizes_of, AreNumbered}
 use Rattle.net_law.specs.Parts.Numbers.{layout_naming}
 use Rattle.net_law.specs.TxParts.Numbers.{NetPlace}
-use Rattle.net_quiet.specs.Pools.Sizes.{net_pools, sizes_of, AreNumbered}
+use Rattle.net_quiet.specs.Pools.Sizes.{net_pools}
 use Rattle.blk_law.specs.Sheets.Numbers.{BlkPlace}
 use Rattle.blk_quiet.specs.Pools.Naming.{blk_naming, blk_pools, HasApartPools}
 use Rattle.actor_set.specs.Parts.{Part}

@@ -35,7 +35,7 @@ pub record HaveHeld (rows : List QueueRow) (olds news : List Actor) (passed : Pa
   pub stands : (k : ℕ) (x : Actor) → slice_get news k ≡ Some x → ActorStandsFor x passed
   pub in_turn : (k : ℕ) (x : Actor) → slice_get news k ≡ Some x
       → InTurn (scene_of (map part_of news)) x passed
-  pub sends : ClientsSend (map part_of news) passed
+  pub sends : ClientsSend rows (map part_of news) passed
   pub carry : (place : PoolPlace) → IsPlaced rows place (map part_of news) → (m : Moved)
       → HaveItems passed m
       → CarryPages (cast_naming (scene_of (map part_of news)) place) m passed

@@ -11,9 +11,9 @@ use Rattle.play_core.proofs.Lists.{there_is, there_below}
 use Rattle.frame_core.specs.declared.mac.Mac.{Mac}
 use Rattle.net_expect.specs.Expecting.{Program}
 use Rattle.buffer_kit.specs.Entries.{len_of}
-use Rattle.net_law.specs.Owners.Names.{ClientPools, by_offset}
+use Rattle.net_law.specs.Owners.Names.{ClientPools}
+use Rattle.owner_law.specs.Pools.Places.{by_offset, numbers_from}
 use Rattle.owner_law.proofs.Sums.{sum_none}
-use Rattle.net_law.specs.Owners.Ends.{numbers_from}
 use Rattle.net_law.specs.Parts.Rows.{FillsFrames, CopiesLeases, ServesClient, SharesFrames, given_item, given_items}
 use Rattle.net_law.proofs.PartsLemmas.Plain.{numbers_length}
 use Rattle.net_law.specs.Parts.Numbers.{client_first, lessees_from}
@@ -158,7 +158,7 @@ module _ (scene : Scene) (hostile : Hostiles) (history : History) (rows : List Q
         let f = came k mac there in
         omega (arith, a, b, e, f)
 
-  sends_row : MergesSends (sender_at net.first net.pools) m
+  sends_row : MergesSends (sender_at net.first net.most net.pools) m
   sends_row = w.sender
 
   mac_of : (k : ℕ) → k < count → (mac : Mac) × (slice_get net.macs k ≡ Some mac)
@@ -230,8 +230,8 @@ module _ (scene : Scene) (hostile : Hostiles) (history : History) (rows : List Q
   -- the sending virtualiser passes on what came from the clients
   merged : put 6 ≤ all 4
   merged =
-      let a = merge_few (all_sends (sender_at net.first net.pools).clients m) (m.sent (net.first + 6)) sends_row.merges in
-      let b = sends_total net.first m 0 net.pools in
+      let a = merge_few (all_sends (sender_at net.first net.most net.pools).clients m) (m.sent (net.first + 6)) sends_row.merges in
+      let b = sends_total net.first net.most m 0 net.pools in
       let size : sum_below (came_from net.first m) (0 + length net.pools) ≡ sum_below (came_from net.first m) count = ap (sum_below (came_from net.first m)) (let e = w.pools_many in omega (arith, e)) in
       let c : sum_below (came_from net.first m) count ≤ all 4 = below_few (came_from net.first m) (λ k. put (at 4 k)) count (λ k there. let e = got_at 4 k in let f = client_flow 4 k (omega arith) there in omega (arith, e, f)) in
       omega (arith, a, b, size, c)
@@ -247,7 +247,7 @@ module _ (scene : Scene) (hostile : Hostiles) (history : History) (rows : List Q
     where
       back_to : (k : ℕ) (q : ClientPools) → slice_get net.pools k ≡ Some q → put (at 5 (0 + k)) ≤ length (filter (in_range q.tx) (m.taken (net.first + 7))) + 0
       back_to k q pooled =
-          let c = shipper_there net.first 0 net.pools k q pooled in
+          let c = shipper_there net.first net.most 0 net.pools k q pooled in
           let a = begins_few _ _ (sends_row.returns k c.0 c.1) in
           let b = home_few c.0.pool (m.taken (net.first + 7)) in
           let pool : length (filter (in_range c.0.pool) (m.taken (net.first + 7))) ≡ length (filter (in_range q.tx) (m.taken (net.first + 7))) = ap (λ p. length (filter (in_range p) (m.taken (net.first + 7)))) c.3 in

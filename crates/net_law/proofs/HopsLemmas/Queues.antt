@@ -14,7 +14,8 @@ use Rattle.play_core.proofs.Merges.{merge_total}
 use Rattle.owner_law.specs.Things.{names_in, times}
 use Rattle.owner_law.proofs.Sums.{sum_both, sum_none}
 use Rattle.net_expect.specs.Expecting.{Program, Sink, Source, Echo, is_for_client, answers_for}
-use Rattle.net_law.specs.Owners.Names.{PoolAt, ClientPools, by_address}
+use Rattle.net_law.specs.Owners.Names.{ClientPools}
+use Rattle.owner_law.specs.Pools.Places.{PoolAt, by_address}
 use Rattle.net_law.specs.Parts.Parts.{Lessee}
 use Rattle.net_law.specs.Parts.Rows.{sized_items, sent_where, leases_from, lease_item, frame_at, SharesFrames}
 use Rattle.net_law.specs.Parts.Numbers.{client_first, lessees_from}
@@ -87,12 +88,12 @@ lessee_there first j (x ∷ macs) (suc k) mac at =
     (h.0, h.1, h.2 ∙ shift, h.3)
 
 -- a client of the sending virtualiser has the queues of its number, and its pool
-pub shipper_there : (first j : ℕ) (pools : List ClientPools) (k : ℕ) (q : ClientPools) → slice_get pools k ≡ Some q → (c : Shipper) × (slice_get (shippers_from first j pools) k ≡ Some c) × (c.free ≡ client_first first (j + k) + 5) × (c.pool ≡ q.tx)
-shipper_there first j [] k q at = cc
-shipper_there first j (x ∷ pools) zero q at =
-    (record { active = client_first first j + 4; free = client_first first j + 5; pool = x.tx }, refl, omega arith, ap (λ (z : ClientPools). z.tx) (some_is at))
-shipper_there first j (x ∷ pools) (suc k) q at =
-    let h = shipper_there first (j + 1) pools k q at in
+pub shipper_there : (first most j : ℕ) (pools : List ClientPools) (k : ℕ) (q : ClientPools) → slice_get pools k ≡ Some q → (c : Shipper) × (slice_get (shippers_from first most j pools) k ≡ Some c) × (c.free ≡ client_first first (j + k) + 5) × (c.pool ≡ q.tx)
+shipper_there first most j [] k q at = cc
+shipper_there first most j (x ∷ pools) zero q at =
+    (record { active = client_first first j + 4; free = client_first first j + 5; pool = x.tx; most = most }, refl, omega arith, ap (λ (z : ClientPools). z.tx) (some_is at))
+shipper_there first most j (x ∷ pools) (suc k) q at =
+    let h = shipper_there first most (j + 1) pools k q at in
     let shift : client_first first (j + 1 + k) + 5 ≡ client_first first (j + suc k) + 5 = omega arith in
     (h.0, h.1, h.2 ∙ shift, h.3)
 
@@ -101,10 +102,10 @@ abbrev pub came_from : (first : ℕ) → Moved → ℕ → ℕ
 came_from first m k = length (m.taken (client_first first k + 4))
 
 -- how many came from all
-pub sends_total : (first : ℕ) (m : Moved) (j : ℕ) (pools : List ClientPools) → total (all_sends (shippers_from first j pools) m) + sum_below (came_from first m) j ≡ sum_below (came_from first m) (j + length pools)
-sends_total first m j [] = let e : sum_below (came_from first m) j ≡ sum_below (came_from first m) (j + 0) = ap (sum_below (came_from first m)) (let z : j ≡ j + 0 = omega arith in z) in omega (arith, e)
-sends_total first m j (q ∷ pools) =
-    let h = sends_total first m (j + 1) pools in
+pub sends_total : (first most : ℕ) (m : Moved) (j : ℕ) (pools : List ClientPools) → total (all_sends (shippers_from first most j pools) m) + sum_below (came_from first m) j ≡ sum_below (came_from first m) (j + length pools)
+sends_total first most m j [] = let e : sum_below (came_from first m) j ≡ sum_below (came_from first m) (j + 0) = ap (sum_below (came_from first m)) (let z : j ≡ j + 0 = omega arith in z) in omega (arith, e)
+sends_total first most m j (q ∷ pools) =
+    let h = sends_total first most m (j + 1) pools in
     let one : length (at_device q.tx (m.taken (client_first first j + 4))) ≡ came_from first m j = length-map (m.taken (client_first first j + 4)) (λ i. with_addr (q.tx.base + addr_of i) i) in
     let step : sum_below (came_from first m) (j + 1) ≡ sum_below (came_from first m) (suc j) = ap (sum_below (came_from first m)) (let z : j + 1 ≡ suc j = omega arith in z) in
     let size : sum_below (came_from first m) (j + 1 + length pools) ≡ sum_below (came_from first m) (j + suc (length pools)) = ap (sum_below (came_from first m)) (let z : j + 1 + length pools ≡ j + suc (length pools) = omega arith in z) in

@@ -17,7 +17,8 @@ use Rattle.buffer_kit.specs.declared.stock.Stock.{Stock}
 use Rattle.client_programs.specs.Net.Programs.{frames_out}
 use Rattle.client_programs.specs.Net.Clients.{ClientRow, rx_active, rx_free, tx_active, tx_free}
 use Rattle.client_programs.specs.declared.net.NetClient.{NetClient}
-use Rattle.net_law.specs.Owners.Ends.{AreItemsOf, client_ends, ClientNames, stock_window, numbers_from, stock_numbers, client_start}
+use Rattle.net_law.specs.Owners.Ends.{AreItemsOf, client_ends, ClientNames, stock_window, stock_numbers, client_start}
+use Rattle.owner_law.specs.Pools.Places.{numbers_from}
 use Rattle.net_law.proofs.OwnersLemmas.Few.{few, filled_few, named}
 
 -- a buffer is named by the address at which it begins

@@ -13,13 +13,12 @@ use Rattle.owner_law.specs.Things.{Buffer, Window, buffer_at, buffer_of, names_i
 use Rattle.owner_law.specs.Keeping.{at_start}
 use Rattle.owner_law.proofs.Counting.{below_plus, below_same, below_one}
 use Rattle.owner_law.proofs.Sums.{sum_none}
-use Rattle.net_law.specs.Owners.Names.{PoolAt}
-use Rattle.net_law.specs.Owners.Ends.{numbers_from}
+use Rattle.owner_law.specs.Pools.Places.{PoolAt, numbers_from, pool_hand}
 use Rattle.net_law.specs.Owners.Lending.{Borrower, Lender, names_where, frames_taken, leases_due}
 use Rattle.net_law.proofs.OwnersLemmas.Clients.{at_address}
-use Rattle.net_law.proofs.RxOwners.Serving.{number_there}
+use Rattle.owner_law.proofs.PoolsLemmas.Sizing.{number_there}
 use Rattle.net_law.proofs.RxOwners.Virtualisers.{where_few}
-use Rattle.net_law.specs.Parts.Rows.{IsIn, AreIn, pool_hand}
+use Rattle.net_law.specs.Parts.Rows.{IsIn, AreIn}
 
 -- of a list with one element more, an element
 pub get_snoc : {X : Type 0} (xs : List X) (x y : X) (k : ℕ) → slice_get (xs ++ x ∷ []) k ≡ Some y → (slice_get xs k ≡ Some y) ⊎ ((k ≡ length xs) × (x ≡ y))

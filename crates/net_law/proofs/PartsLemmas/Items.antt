@@ -28,8 +28,8 @@ use Rattle.client_programs.specs.Net.Clients.{ClientRow, rx_active, rx_free, tx_
 use Rattle.client_programs.specs.declared.net.NetClient.{NetClient}
 use Rattle.net_copier.specs.Copying.{CopierRow, is_stray, leased_bytes}
 use Rattle.net_copier.specs.declared.NetCopier.{NetCopier}
-use Rattle.net_law.specs.Owners.Names.{by_offset}
-use Rattle.net_law.specs.Owners.Ends.{AreItemsOf, numbers_from}
+use Rattle.owner_law.specs.Pools.Places.{by_offset, numbers_from}
+use Rattle.net_law.specs.Owners.Ends.{AreItemsOf}
 use Rattle.net_law.proofs.Beginnings.{begins_map}
 use Rattle.net_law.proofs.Answering.{answers_are}
 use Rattle.net_law.specs.Parts.Parts.{Way}
@@ -122,10 +122,10 @@ given_are w (p ∷ pages) first numbered =
     shift i = omega arith
 
 -- a stock's start entries have the items of its window
-stock_items : (s : Stock) (pages : List Paged) → s.base ≡ 0 → s.size ≡ 2048 → IsStart s pages → items_of (map (given_entry s.base s.size) pages) ≡ given_items (by_offset (stock_pool s))
-stock_items s pages base size is =
+stock_items : (s : Stock) (pages : List Paged) → s.base ≡ 0 → IsStart s pages → items_of (map (given_entry s.base s.size) pages) ≡ given_items (by_offset (stock_pool s))
+stock_items s pages base is =
     let w : Window = by_offset (stock_pool s) in
-    ap items_of (ap₂ (λ b n. map (given_entry b n) pages) base size) ∙ (given_are w pages 0 (λ i p at. is.are_pool.numbered i p at ∙ first i) ∙ ap (λ n. map (given_item w) (numbers_from 0 n)) is.many)
+    ap items_of (ap (λ b. map (given_entry b s.size) pages) base) ∙ (given_are w pages 0 (λ i p at. is.are_pool.numbered i p at ∙ first i) ∙ ap (λ n. map (given_item w) (numbers_from 0 n)) is.many)
   where
     first : (i : ℕ) → i ≡ 0 + i
     first i = omega arith
@@ -158,14 +158,16 @@ client_row scene c passed m has turn items row =
     let tx : Window = by_offset (stock_pool c.outbox.stock) in
     let first = map (given_entry c.stock.base c.stock.size) row.start in
     let spare = map (given_entry c.outbox.stock.base c.outbox.stock.size) row.spare in
-    let all : items_of (first ++ came) ≡ given_items rx ++ items_of came = items_more first came ∙ ap (λ l. l ++ items_of came) (stock_items c.stock row.start has.base has.size row.is_start) in
-    let all_spare : items_of (spare ++ back) ≡ given_items tx ++ items_of back = items_more spare back ∙ ap (λ l. l ++ items_of back) (stock_items c.outbox.stock row.spare has.spare_base has.spare_size row.is_spare) in
+    let all : items_of (first ++ came) ≡ given_items rx ++ items_of came = items_more first came ∙ ap (λ l. l ++ items_of came) (stock_items c.stock row.start has.base row.is_start) in
+    let all_spare : items_of (spare ++ back) ≡ given_items tx ++ items_of back = items_more spare back ∙ ap (λ l. l ++ items_of back) (stock_items c.outbox.stock row.spare has.spare_base row.is_spare) in
     let frames = sent_where (program_of c.program) c.program.mac scene.frames (length (items_of came)) in
     let many : length (map frame_of came) ≡ length (items_of came) = length-map came frame_of ∙ sym (items_long came) in
     let same : frames_out c.program (map frame_of came) ≡ frames = sent_by c.program.kind c.program.script c.program.mac (map frame_of came) scene.frames (length (items_of came)) (λ echo. subst (λ l. IsPrefix l (frames_for c.program.mac scene.frames)) row.got (turn echo)) many in
     let spare_long : length spare ≡ c.outbox.stock.buffers = length-map row.spare (given_entry c.outbox.stock.base c.outbox.stock.size) ∙ row.is_spare.many in
     let sent : SendsFrames frames spare back put = subst (λ fs. SendsFrames fs spare back put) same row.sends in
     let said : ServesClient (program_of c.program) c.program.mac scene.frames rx tx (items_of came) (items_of gave) (items_of back) (items_of put) = record {
+      sized = row.is_start.are_pool.some;
+      spare_sized = row.is_spare.are_pool.some;
       given = subst (IsPrefix (items_of gave)) all (items_begin gave (first ++ came) row.given);
       sends = record {
         filled = subst (IsPrefix (items_of put)) (sized_is frames (spare ++ back) ∙ ap (sized_items (map (λ f. length f) frames)) all_spare) (items_begin put (all_filled frames (spare ++ back)) sent.filled);

@@ -29,7 +29,7 @@ use Rattle.buffer_kit.proofs.TwoLists.{get_front}
 use Rattle.net_virt_rx.specs.Sharing.{IsBuffer, lease_of, leases_for}
 use Rattle.net_virt_rx.specs.Receiving.{RxRow, IsServed}
 use Rattle.net_virt_rx.specs.declared.NetVirtRx.{NetVirtRx}
-use Rattle.net_law.specs.Owners.Names.{by_address, by_offset}
+use Rattle.owner_law.specs.Pools.Places.{by_address, by_offset}
 use Rattle.net_law.specs.Owners.Ends.{AreItemsOf, stock_window}
 use Rattle.net_law.specs.Owners.Lending.{Lender, LenderRow, borrower_ends, lender_ends, names_where}
 use Rattle.net_law.specs.RxOwners.Virtualiser.{offset_window, rx_lender, borrowers, AreNet, TakesFrames}
@@ -122,7 +122,7 @@ served_at (mac ∷ macs) (q ∷ to) (r ∷ from) zero c at =
     (q, r, ap (λ (d : Lessee). Some d.mac) e, refl, refl, ap (λ (d : Lessee). d.active) e, ap (λ (d : Lessee). d.free) e)
 served_at (mac ∷ macs) (q ∷ to) (r ∷ from) (suc k) c at = served_at macs to from k c at
 
-module _ (scene : Scene) (v : NetVirtRx) (passed : Passed) (m : Moved) (size : v.work.stock.size ≡ 2048) (items : AreItemsOf (net_sheet scene (receiver_part v)).ends passed m) (takes : TakesFrames (frame_at scene.frames) v passed) (row : RxRow v passed) (none : row.stray ≡ []) where
+module _ (scene : Scene) (v : NetVirtRx) (passed : Passed) (m : Moved) (items : AreItemsOf (net_sheet scene (receiver_part v)).ends passed m) (takes : TakesFrames (frame_at scene.frames) v passed) (row : RxRow v passed) (none : row.stray ≡ []) where
   abbrev s : Stock
   s = v.work.stock
 
@@ -147,13 +147,13 @@ module _ (scene : Scene) (v : NetVirtRx) (passed : Passed) (m : Moved) (size : v
       empty false = refl
 
   window_is : stock_window s ≡ w
-  window_is = ap (λ n. let x : Window = record { pool = s.pool.0; base = s.base; size = n; buffers = s.buffers } in x) size
+  window_is = refl
 
   offset_is : offset_window s ≡ o
-  offset_is = ap (λ n. let x : Window = record { pool = s.pool.0; base = 0; size = n; buffers = s.buffers } in x) size
+  offset_is = refl
 
   lender_is : rx_lender (frame_at scene.frames) v ≡ lender_of scene.frames v.ends.input.queue.0 v.ends.output.queue.0 (stock_pool s) (lessees_of v)
-  lender_is = ap (λ cs. let x : Lender = record { frames = v.ends.input.queue.0; free = v.ends.output.queue.0; clients = cs; hand = Rattle.net_law.specs.Parts.Rows.pool_hand (stock_pool s) } in x) (borrowers_are scene.frames v.work.macs.items (to_queues v.ends) (from_queues v.ends))
+  lender_is = ap (λ cs. let x : Lender = record { frames = v.ends.input.queue.0; free = v.ends.output.queue.0; clients = cs; hand = Rattle.owner_law.specs.Pools.Places.pool_hand (stock_pool s) } in x) (borrowers_are scene.frames v.work.macs.items (to_queues v.ends) (from_queues v.ends))
 
   all_ends : (net_sheet scene (receiver_part v)).ends ≡ lender_ends (rx_lender (frame_at scene.frames) v)
   all_ends = sym (ap lender_ends lender_is ∙ ap (λ l. Rattle.play_core.specs.Wants.intake v.ends.input.queue.0 ∷ Rattle.play_core.specs.Wants.outlet v.ends.output.queue.0 ∷ l) (ends_are scene.frames (lessees_of v)))
@@ -174,7 +174,7 @@ module _ (scene : Scene) (v : NetVirtRx) (passed : Passed) (m : Moved) (size : v
   buffers_in : (cs : List Cargo) → ((k : ℕ) (c : Cargo) → slice_get cs k ≡ Some c → IsBuffer s c) → AreNet cs → AreIn w (items_of cs)
   buffers_in cs within net k item at =
       let f = map_from (λ (c : Cargo). c.0) cs k item at in
-      subst (IsIn w) f.2 (in_of s w refl (sym size) refl f.0 (within k f.0 f.1) (net k f.0 f.1))
+      subst (IsIn w) f.2 (in_of s w refl refl refl f.0 (within k f.0 f.1) (net k f.0 f.1))
 
   came_within : (k : ℕ) (c : Cargo) → slice_get came k ≡ Some c → IsBuffer s c
   came_within k c at = all_at (IsBuffer s) (row.turn v.ends.input.queue.0) row.within k c (ap (λ l. slice_get l k) (turn_is v.ends.input.queue.0) ∙ at)
@@ -183,7 +183,7 @@ module _ (scene : Scene) (v : NetVirtRx) (passed : Passed) (m : Moved) (size : v
   gave_within k c at = all_at (IsBuffer s) gave row.given_within k c at
 
   -- the first buffers that it gave are in rising number
-  rises : (k : ℕ) (item : Item) → k < s.buffers → slice_get (items_of gave) k ≡ Some item → addr_of item ≡ s.base + k * 2048
+  rises : (k : ℕ) (item : Item) → k < s.buffers → slice_get (items_of gave) k ≡ Some item → addr_of item ≡ s.base + k * s.size
   rises k item lt at =
       let f = map_from (λ (c : Cargo). c.0) gave k item at in
       let whole = prefix_get gave (map (given_entry s.base s.size) row.start ++ row.later) row.gives k f.0 f.1 in
@@ -191,7 +191,7 @@ module _ (scene : Scene) (v : NetVirtRx) (passed : Passed) (m : Moved) (size : v
       let given = get_front (map (given_entry s.base s.size) row.start) row.later k (given_entry s.base s.size page.0) (Rattle.play_core.proofs.Lists.map_get (given_entry s.base s.size) row.start k page.0 page.1) in
       let same : given_entry s.base s.size page.0 ≡ f.0 = some_is (sym given ∙ whole) in
       let number : page.0.no ≡ k = row.is_start.are_pool.numbered k page.0 page.1 in
-      ap addr_of (sym f.2) ∙ (ap (λ (c : Cargo). addr_of c.0) (sym same) ∙ ap₂ (λ n z. s.base + n * z) number size)
+      ap addr_of (sym f.2) ∙ (ap (λ (c : Cargo). addr_of c.0) (sym same) ∙ ap (λ n. s.base + n * s.size) number)
 
   frames_at : (k : ℕ) (c : Cargo) → slice_get came k ≡ Some c → frame_of c ≡ frame_at scene.frames (0 + k)
   frames_at k c at = takes.frames k c at ∙ ap (frame_at scene.frames) (plus k)
@@ -260,6 +260,7 @@ module _ (scene : Scene) (v : NetVirtRx) (passed : Passed) (m : Moved) (size : v
 
   pub receiver_row : (net_sheet scene (receiver_part v)).row m
   receiver_row = record {
+    sized = row.is_start.are_pool.some;
     within = subst (AreIn w) (sym came_is) (buffers_in came came_within takes.net);
     lends = lends_items;
     prompt = prompt_items;

@@ -14,14 +14,13 @@ use Rattle.owner_law.proofs.Named.{carried, buffers_are, buffers_none, leases_ar
 use Rattle.net_expect.specs.Expecting.{Program, is_for_client}
 use Rattle.buffer_kit.specs.Entries.{addr_of, with_len}
 use Rattle.net_law.proofs.Beginnings.{begins_map}
-use Rattle.net_law.specs.Owners.Names.{PoolAt, by_address, by_offset}
-use Rattle.net_law.specs.Owners.Ends.{numbers_from}
+use Rattle.owner_law.specs.Pools.Places.{PoolAt, by_address, by_offset, numbers_from, pool_hand}
 use Rattle.net_law.specs.Owners.Lending.{Borrower, Lender, LenderRow, lender_ends, names_where}
 use Rattle.net_law.proofs.OwnersLemmas.Clients.{at_address, here_or_not}
 use Rattle.net_law.proofs.OwnersLemmas.Few.{address_still, either_are, either_none}
 use Rattle.net_law.proofs.OwnersLemmas.Lenders.{lender_keeps}
 use Rattle.net_law.specs.Parts.Parts.{NetPart, NetDevice, NetDriver, NetReceiver, NetCopier, NetClient, Way, Lessee}
-use Rattle.net_law.specs.Parts.Rows.{sent_where, AllCopy, IsIn, AreIn, sized_items, given_item, given_items, frame_at, lease_item, leases_from, pool_hand, borrower_of, lender_of}
+use Rattle.net_law.specs.Parts.Rows.{sent_where, AllCopy, IsIn, AreIn, sized_items, given_item, given_items, frame_at, lease_item, leases_from, borrower_of, lender_of}
 use Rattle.net_law.specs.Parts.Table.{net_sheet, way_ends}
 use Rattle.net_law.specs.Parts.Naming.{NamesPart, NameWay}
 use Rattle.net_law.proofs.PartsLemmas.Counting.{numbered, buffer_is}
@@ -171,8 +170,8 @@ module _ (naming : Naming) (scene : Scene) (program : Program) (mac : Mac) (rx_a
         sized_few b (spare ∷ []) (map (λ frame. length frame) frames) (m.sent tx_active) (given_items spare ++ m.taken tx_free) row.sends.filled,
         split b (own ∷ []) (given_items own) (m.taken rx_active),
         split b (spare ∷ []) (given_items spare) (m.taken tx_free),
-        given_few own b 0 rx.buffers (omega arith) (omega arith),
-        given_few spare b 0 tx.buffers (omega arith) (omega arith),
+        given_few own b 0 rx.buffers row.sized (omega arith),
+        given_few spare b 0 tx.buffers row.spare_sized (omega arith),
         sum_by-append (λ x. cond {A = ℕ} (x == b.no) 1 0) (pool_hand rx b.pool) (pool_hand tx b.pool),
       )
 
@@ -184,18 +183,18 @@ module _ (naming : Naming) (scene : Scene) (program : Program) (mac : Mac) (rx_a
       (λ b. omega (arith, client_went (as_lease b), buffers_none naming m rx_free (m.sent rx_free) (own ∷ []) (as_lease b) names.0.1 refl (λ d. refl), buffers_none naming m tx_active (m.sent tx_active) (spare ∷ []) (as_lease b) names.1.0 refl (λ d. refl)))
 
 -- a lease names the buffer of its frame
-lease_name : (pool : PoolAt) (frame : List ℕ) (x : Item) → IsIn (by_address pool) x → buffer_of (by_offset pool ∷ []) (lease_item pool.base frame x) ≡ buffer_of (by_address pool ∷ []) x
-lease_name pool frame x at =
-    let offset : addr_of x - pool.base ≡ 0 + at.number * 2048 = ap (λ a. a - pool.base) at.begins ∙ (add-sub_cancel_left pool.base (at.number * 2048) ∙ zero_first (at.number * 2048)) in
-    ap (buffer_at (by_offset pool ∷ [])) offset ∙ (at_address (by_offset pool) at.number (omega arith) at.few ∙ sym (buffer_is (by_address pool) (omega arith) x at.number at refl))
+lease_name : (pool : PoolAt) → 0 < pool.size → (frame : List ℕ) (x : Item) → IsIn (by_address pool) x → buffer_of (by_offset pool ∷ []) (lease_item pool.base frame x) ≡ buffer_of (by_address pool ∷ []) x
+lease_name pool some frame x at =
+    let offset : addr_of x - pool.base ≡ 0 + at.number * pool.size = ap (λ a. a - pool.base) at.begins ∙ (add-sub_cancel_left pool.base (at.number * pool.size) ∙ zero_first (at.number * pool.size)) in
+    ap (buffer_at (by_offset pool ∷ [])) offset ∙ (at_address (by_offset pool) at.number some at.few ∙ sym (buffer_is (by_address pool) some x at.number at refl))
   where
     zero_first : (n : ℕ) → n ≡ 0 + n
     zero_first n = omega arith
 
 -- and so do a client's
-lease_names : (pool : PoolAt) (frames : List (List ℕ)) (mac : Mac) (place : ℕ) (items : List Item) → AreIn (by_address pool) items → names_in (by_offset pool ∷ []) (leases_from frames pool.base mac place items) ≡ names_where (λ n. is_for_client mac (frame_at frames n)) place (names_in (by_address pool ∷ []) items)
-lease_names pool frames mac place [] within = refl
-lease_names pool frames mac place (x ∷ items) within = by (is_for_client mac (frame_at frames place)) (lease_name pool (frame_at frames place) x (within 0 x refl)) (lease_names pool frames mac (place + 1) items (λ k y at. within (suc k) y at))
+lease_names : (pool : PoolAt) → 0 < pool.size → (frames : List (List ℕ)) (mac : Mac) (place : ℕ) (items : List Item) → AreIn (by_address pool) items → names_in (by_offset pool ∷ []) (leases_from frames pool.base mac place items) ≡ names_where (λ n. is_for_client mac (frame_at frames n)) place (names_in (by_address pool ∷ []) items)
+lease_names pool some frames mac place [] within = refl
+lease_names pool some frames mac place (x ∷ items) within = by (is_for_client mac (frame_at frames place)) (lease_name pool some (frame_at frames place) x (within 0 x refl)) (lease_names pool some frames mac (place + 1) items (λ k y at. within (suc k) y at))
   where
     by : (t : Bool) → buffer_of (by_offset pool ∷ []) (lease_item pool.base (frame_at frames place) x) ≡ buffer_of (by_address pool ∷ []) x → names_in (by_offset pool ∷ []) (leases_from frames pool.base mac (place + 1) items) ≡ names_where (λ n. is_for_client mac (frame_at frames n)) (place + 1) (names_in (by_address pool ∷ []) items) → names_in (by_offset pool ∷ []) (cond t (lease_item pool.base (frame_at frames place) x ∷ leases_from frames pool.base mac (place + 1) items) (leases_from frames pool.base mac (place + 1) items)) ≡ cond t (buffer_of (by_address pool ∷ []) x ∷ names_where (λ n. is_for_client mac (frame_at frames n)) (place + 1) (names_in (by_address pool ∷ []) items)) (names_where (λ n. is_for_client mac (frame_at frames n)) (place + 1) (names_in (by_address pool ∷ []) items))
     by true h rest = ap₂ (λ y ys. y ∷ ys) h rest
@@ -211,7 +210,7 @@ module _ (naming : Naming) (scene : Scene) (active free : ℕ) (pool : PoolAt) (
       let f = map_from (borrower_of scene.frames) clients k c at in
       let due = leases_from scene.frames pool.base f.0.mac 0 (m.taken active) in
       let one = begins_map (buffer_of (by_offset pool ∷ [])) (m.sent f.0.active) due (row.lends k f.0 f.1) in
-      let two = subst (IsPrefix (names_in (by_offset pool ∷ []) (m.sent f.0.active))) (lease_names pool scene.frames f.0.mac 0 (m.taken active) row.within) one in
+      let two = subst (IsPrefix (names_in (by_offset pool ∷ []) (m.sent f.0.active))) (lease_names pool row.sized scene.frames f.0.mac 0 (m.taken active) row.within) one in
       subst (λ (d : Borrower). IsPrefix (names_in (by_offset pool ∷ []) (m.sent d.active)) (names_where d.is_for 0 (names_in (by_address pool ∷ []) (m.taken active)))) f.2 two
 
   lends_row : LenderRow (by_address pool ∷ []) (by_offset pool ∷ []) l m

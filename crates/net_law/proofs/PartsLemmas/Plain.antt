@@ -12,8 +12,7 @@ use Rattle.play_core.proofs.Lists.{some_is, map_from}
 use Rattle.play_core.proofs.Puts.{put_beside, copy_more, copy_shorter}
 use Rattle.play_core.proofs.Walks.{begins_few}
 use Rattle.buffer_kit.specs.Entries.{len_of}
-use Rattle.net_law.specs.Owners.Names.{PoolAt, by_offset}
-use Rattle.net_law.specs.Owners.Ends.{numbers_from}
+use Rattle.owner_law.specs.Pools.Places.{PoolAt, by_offset, numbers_from}
 use Rattle.net_law.specs.Parts.Parts.{NetDevice, NetDriver, NetCopier, NetClient, Way}
 use Rattle.net_law.specs.Parts.Rows.{FillsFrames, CopiesLeases, ServesClient, SendsItems, sent_where, sized_items, given_item, given_items}
 use Rattle.net_law.specs.Parts.Table.{net_sheet, is_short, way_wants, way_due, client_items}
@@ -242,6 +241,8 @@ module _ (scene : Scene) (program : Program) (mac : Mac) (rx_active rx_free tx_a
         let still = sym (put_beside m rx_free more.0 tx_active client_away) in (
           more.0,
           record {
+            sized = row.sized;
+            spare_sized = row.spare_sized;
             given = more.1;
             sends = subst (λ l. SendsItems (sent_where program mac scene.frames (length (m.taken rx_active))) (by_offset tx) (m.taken tx_free) l) still row.sends;
             answered = λ echo. subst (λ l. length (m.taken rx_active) ≤ length l + 1) still (row.answered echo);
@@ -257,6 +258,8 @@ module _ (scene : Scene) (program : Program) (mac : Mac) (rx_active rx_free tx_a
         let longer = put_length m tx_active more.0 in (
           more.0,
           record {
+            sized = row.sized;
+            spare_sized = row.spare_sized;
             given = subst (λ l. IsPrefix l due) (sym (put_beside m tx_active more.0 rx_free (λ same. client_away (sym same)))) row.given;
             sends = record {
               filled = more.1;

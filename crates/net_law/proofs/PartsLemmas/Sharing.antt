@@ -13,11 +13,11 @@ use Rattle.owner_law.specs.Things.{Buffer, Window, is_same, names_in, buffer_of,
 use Rattle.owner_law.specs.Keeping.{at_start}
 use Rattle.owner_law.proofs.Sums.{same_is}
 use Rattle.owner_law.proofs.Counting.{below_plus, below_same}
-use Rattle.net_law.specs.Owners.Names.{PoolAt, by_address, by_offset}
+use Rattle.owner_law.specs.Pools.Places.{PoolAt, by_address, by_offset, pool_hand}
 use Rattle.net_law.specs.Owners.Lending.{Borrower, Lender, names_where, leases_due, leases_back}
 use Rattle.net_law.proofs.RxOwners.Serving.{same_sums}
 use Rattle.net_law.specs.Parts.Parts.{NetReceiver, Lessee}
-use Rattle.net_law.specs.Parts.Rows.{IsIn, AreIn, given_item, but_last, leases_from, pool_hand, borrower_of, lender_of, is_lent, SharesFrames}
+use Rattle.net_law.specs.Parts.Rows.{IsIn, AreIn, given_item, but_last, leases_from, borrower_of, lender_of, is_lent, SharesFrames}
 use Rattle.net_law.specs.Parts.Table.{net_sheet, is_short, home_count, frees_due, leases_of, some_owed, is_busy, lessee_wants}
 use Rattle.net_law.proofs.PartsLemmas.Fits.{AllFit, intake_fits, outlet_fits, pairs_fit, sheet_follows}
 use Rattle.net_law.proofs.PartsLemmas.Pairs.{twice, twice_same, pair_first, pair_second, pair_seats, flat_alike, each_owed, put_grows, put_length}
@@ -92,6 +92,7 @@ module _ (scene : Scene) (active free : ℕ) (pool : PoolAt) (clients : List Les
 
     row_same : Receiver.row a → Receiver.row b
     row_same h = record {
+      sized = h.sized;
       within = subst (AreIn w) took h.within;
       lends = λ k c at. subst (λ xs. IsPrefix xs (leases_from scene.frames pool.base c.mac 0 (b.taken active))) (shared k c at) (subst (λ ys. IsPrefix (a.sent c.active) (leases_from scene.frames pool.base c.mac 0 ys)) took (h.lends k c at));
       prompt = λ k c at. subst (IsPrefix (leases_from scene.frames pool.base c.mac 0 (but_last (b.taken active)))) (shared k c at) (subst (λ ys. IsPrefix (leases_from scene.frames pool.base c.mac 0 (but_last ys)) (a.sent c.active)) took (h.prompt k c at));
@@ -150,7 +151,7 @@ module _ (scene : Scene) (active free : ℕ) (pool : PoolAt) (clients : List Les
       item_in = record { number = n; few = few; net = refl; begins = refl }
 
       names_this : buffer_of (w ∷ []) item ≡ Some (numbered pool.number n)
-      names_this = let at : IsIn w item = record { number = n; few = few; net = refl; begins = refl } in buffer_is w (omega arith) item n at refl
+      names_this = let at : IsIn w item = record { number = n; few = few; net = refl; begins = refl } in buffer_is w row.sized item n at refl
 
       snoc_in : AreIn w (m.sent free ++ item ∷ [])
       snoc_in k x at = by (get_snoc (m.sent free) item x k at)
@@ -159,14 +160,14 @@ module _ (scene : Scene) (active free : ℕ) (pool : PoolAt) (clients : List Les
           by (inl h) = row.gives k x h
           by (inr h) = subst (IsIn w) h.1 item_in
 
-      snoc_rises : (k : ℕ) (x : Item) → k < pool.buffers → slice_get (m.sent free ++ item ∷ []) k ≡ Some x → Rattle.buffer_kit.specs.Entries.addr_of x ≡ pool.base + k * 2048
+      snoc_rises : (k : ℕ) (x : Item) → k < pool.buffers → slice_get (m.sent free ++ item ∷ []) k ≡ Some x → Rattle.buffer_kit.specs.Entries.addr_of x ≡ pool.base + k * pool.size
       snoc_rises k x lt at = by (get_snoc (m.sent free) item x k at)
         where
-          by : (slice_get (m.sent free) k ≡ Some x) ⊎ ((k ≡ length (m.sent free)) × (item ≡ x)) → Rattle.buffer_kit.specs.Entries.addr_of x ≡ pool.base + k * 2048
+          by : (slice_get (m.sent free) k ≡ Some x) ⊎ ((k ≡ length (m.sent free)) × (item ≡ x)) → Rattle.buffer_kit.specs.Entries.addr_of x ≡ pool.base + k * pool.size
           by (inl h) = row.rising k x lt h
           by (inr h) =
               let same : n ≡ k = next (omega (arith, lt, h.0)) ∙ sym h.0 in
-              ap Rattle.buffer_kit.specs.Entries.addr_of (sym h.1) ∙ ap (λ j. pool.base + j * 2048) same
+              ap Rattle.buffer_kit.specs.Entries.addr_of (sym h.1) ∙ ap (λ j. pool.base + j * pool.size) same
 
       snoc_hand : (b : Buffer) → times b (names_in (w ∷ []) (m.sent free ++ item ∷ [])) + bit (is_lent pool l m b) ≤ at_start (pool_hand pool) b + times b (names_in (w ∷ []) (m.taken active))
       snoc_hand b = by (is_same (numbered pool.number n) b) refl
@@ -187,6 +188,7 @@ module _ (scene : Scene) (active free : ℕ) (pool : PoolAt) (clients : List Les
           let put = put_here m free item in (
             item,
             record {
+              sized = row.sized;
               within = row.within;
               lends = λ k c at. subst (λ xs. IsPrefix xs (leases_from scene.frames pool.base c.mac 0 (m.taken active))) (sym (put_beside m free item c.active (beside_free k c at))) (row.lends k c at);
               prompt = λ k c at. still_prompt free item k c at;
@@ -208,10 +210,10 @@ module _ (scene : Scene) (active free : ℕ) (pool : PoolAt) (clients : List Les
             omega (arith, ap bit not_lent)
 
     sent_count : sum_below S pool.buffers ≡ length (m.sent free)
-    sent_count = count_in w (omega arith) (m.sent free) row.gives
+    sent_count = count_in w row.sized (m.sent free) row.gives
 
     taken_count : sum_below T pool.buffers ≡ length (m.taken active)
-    taken_count = count_in w (omega arith) (m.taken active) row.within
+    taken_count = count_in w row.sized (m.taken active) row.within
 
     home_is : sum_below L pool.buffers + home_count pool l m ≡ pool.buffers
     home_is = below_rest (λ n. is_lent pool l m (numbered pool.number n)) pool.buffers
@@ -224,7 +226,7 @@ module _ (scene : Scene) (active free : ℕ) (pool : PoolAt) (clients : List Les
         each k x at =
             let below = Rattle.play_core.proofs.Lists.there_below (m.sent free) k x at in
             let is : IsIn w x = record { number = k; few = omega (arith, lt, below); net = (row.gives k x at).net; begins = row.rising k x (omega (arith, lt, below)) at } in
-            ap (is_named (numbered pool.number (length (m.sent free)))) (buffer_is w (omega arith) x k is refl) ∙ named_other pool.number k (length (m.sent free)) (λ e. omega (arith, e, below))
+            ap (is_named (numbered pool.number (length (m.sent free)))) (buffer_is w row.sized x k is refl) ∙ named_other pool.number k (length (m.sent free)) (λ e. omega (arith, e, below))
 
     frees : nat_lt (length (m.sent free)) (frees_due pool l m) ≡ true → CouldPut Receiver m free
     frees lt = by (cases_lt (length (m.sent free)) pool.buffers)
@@ -241,7 +243,7 @@ module _ (scene : Scene) (active free : ℕ) (pool : PoolAt) (clients : List Les
     frees_only : CouldPut Receiver m free → nat_lt (length (m.sent free)) (frees_due pool l m) ≡ true
     frees_only put =
         let after = (with_put m free put.0).sent free in
-        let all = count_in w (omega arith) after put.1.gives in
+        let all = count_in w row.sized after put.1.gives in
         let few = below_few (λ n. times (numbered pool.number n) (names_in (w ∷ []) after) + L n) (λ n. 1 + T n) pool.buffers (λ n lt. omega (arith, put.1.in_hand (numbered pool.number n), start_few pool n)) in
         let sums = below_plus (λ n. times (numbered pool.number n) (names_in (w ∷ []) after)) L pool.buffers in
         let start = below_more T pool.buffers in
@@ -253,6 +255,7 @@ module _ (scene : Scene) (active free : ℕ) (pool : PoolAt) (clients : List Les
         let beside = put_beside m c.active more.0 free (λ e. beside_free k c at (sym e)) in (
           more.0,
           record {
+            sized = row.sized;
             within = row.within;
             lends = more.1;
             prompt = λ j d is. still_prompt c.active more.0 j d is;

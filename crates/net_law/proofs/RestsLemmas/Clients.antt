@@ -23,8 +23,7 @@ use Rattle.client_programs.proofs.NetLemmas.Sending.{echo_long}
 use Rattle.net_law.specs.Parts.Rows.{sized_items, sent_where, sent_items, is_answering, given_item, given_items}
 use Rattle.net_law.specs.Parts.Table.{net_sheet, client_items}
 use Rattle.net_law.specs.Parts.Playing.{client_part, AnswersInTurn, stock_pool}
-use Rattle.net_law.specs.Owners.Names.{by_offset}
-use Rattle.net_law.specs.Owners.Ends.{numbers_from}
+use Rattle.owner_law.specs.Pools.Places.{by_offset, numbers_from}
 use Rattle.net_law.proofs.PartsLemmas.Items.{sent_by, echo_is}
 use Rattle.net_law.proofs.PartsLemmas.Plain.{numbers_length}
 use Rattle.play_core.specs.Rests.Showing.{HaveItems}

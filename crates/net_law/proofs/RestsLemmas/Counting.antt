@@ -14,7 +14,7 @@ use Rattle.buffer_kit.specs.Entries.{addr_of}
 use Rattle.buffer_kit.specs.declared.stock.Stock.{Stock}
 use Rattle.net_virt_rx.specs.Sharing.{named, number_of, IsBuffer, how_many}
 use Rattle.net_virt_rx.proofs.Naming.{buffer_named, bit_same, bit_other}
-use Rattle.net_law.specs.Owners.Names.{PoolAt}
+use Rattle.owner_law.specs.Pools.Places.{PoolAt}
 use Rattle.net_law.specs.Owners.Lending.{Borrower}
 use Rattle.net_law.specs.Parts.Parts.{Lessee}
 use Rattle.net_law.specs.Parts.Table.{is_short, leases_of, some_owed}

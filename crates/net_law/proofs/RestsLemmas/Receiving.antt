@@ -33,7 +33,7 @@ use Rattle.net_virt_rx.specs.Sharing.{ClientStands, IsBuffer, named, leases_for,
 use Rattle.net_virt_rx.specs.declared.NetVirtRx.{NetVirtRx}
 use Rattle.net_virt_rx.proofs.Rounds.{row_of}
 use Rattle.net_virt_rx.proofs.Steps.{queue_is}
-use Rattle.net_law.specs.Owners.Names.{PoolAt, by_address, by_offset}
+use Rattle.owner_law.specs.Pools.Places.{PoolAt, by_address, by_offset}
 use Rattle.net_law.specs.Owners.Ends.{stock_window}
 use Rattle.net_law.specs.Owners.Lending.{Borrower, Lender, leases_due, leases_back, names_where}
 use Rattle.net_law.specs.RxOwners.Virtualiser.{offset_window, AreNet}
@@ -107,10 +107,10 @@ module _ (scene : Scene) (passed : Passed) (m : Moved) (h : HaveItems passed m) 
   frames_at k c at = turn.takes.frames k c at ∙ ap (frame_at scene.frames) (plus k)
 
   window_is : stock_window s ≡ w
-  window_is = ap (λ n. let x : Window = record { pool = s.pool.0; base = s.base; size = n; buffers = s.buffers } in x) turn.size
+  window_is = refl
 
   offset_is : offset_window s ≡ o
-  offset_is = ap (λ n. let x : Window = record { pool = s.pool.0; base = 0; size = n; buffers = s.buffers } in x) turn.size
+  offset_is = refl
 
   -- of one client
   module _ (k : ℕ) (c : Lessee) (at : slice_get (lessees_of v) k ≡ Some c) where

@@ -28,7 +28,8 @@ use Rattle.net_law.specs.Owners.Lending.{Borrower, Lender, lender_ends, names_wh
 use Rattle.net_law.specs.RxOwners.Virtualiser.{offset_window, rx_lender, AreNet, TakesFrames}
 use Rattle.net_law.proofs.OwnersLemmas.Few.{named_begins}
 use Rattle.net_law.proofs.RxOwners.Virtualisers.{names_of, times_named, times_outside, leases_names, where_begins, where_few}
-use Rattle.net_law.proofs.RxOwners.Serving.{where_split, names_parts, Client, client_at, some_less, same_sums, ends_at, number_there}
+use Rattle.net_law.proofs.RxOwners.Serving.{where_split, names_parts, Client, client_at, some_less, same_sums, ends_at}
+use Rattle.owner_law.proofs.PoolsLemmas.Sizing.{number_there}
 
 get_first : {T : Type 0} (xs ys : List T) (k : ℕ) (x : T) → slice_get xs k ≡ Some x → slice_get (xs ++ ys) k ≡ Some x
 get_first [] ys k x at = cc

@@ -10,7 +10,7 @@ use Rattle.play_core.specs.Moved.{Seat}
 use Rattle.play_core.specs.Wants.{intake, outlet}
 use Rattle.owner_law.specs.Things.{Buffer, Window, buffer_of}
 use Rattle.net_expect.specs.Expecting.{is_for_client}
-use Rattle.net_law.specs.Owners.Ends.{numbers_from}
+use Rattle.owner_law.specs.Pools.Places.{numbers_from}
 use Rattle.net_law.specs.Owners.Lending.{Borrower, borrower_ends, names_where}
 use Rattle.net_law.specs.RxOwners.Virtualiser.{borrowers}
 use Rattle.net_law.proofs.RxOwners.Virtualisers.{names_of}
@@ -62,14 +62,3 @@ pub ends_at : (E : Seat → Type 0) (cs : List Borrower) → ((i : ℕ) (s : Sea
 ends_at E [] each k c at = cc
 ends_at E (d ∷ cs) each zero c at = subst (λ (x : Borrower). E (outlet x.active) × E (intake x.free)) (Rattle.play_core.proofs.Lists.some_is at) (each 0 (outlet d.active) refl, each 1 (intake d.free) refl)
 ends_at E (d ∷ cs) each (suc k) c at = ends_at E cs (λ i s is. each (suc (suc i)) s is) k c at
-
--- the stock's numbers are in its hand at the start
-pub number_there : (first count n : ℕ) → first ≤ n → n < first + count → 1 ≤ count_by (λ x. x == n) (numbers_from first count)
-number_there first zero n le lt = absurd (omega (arith, le, lt))
-number_there first (suc count) n le lt = by (eqb_tells first n) (λ off. number_there (first + 1) count n (omega (arith, le, off)) (omega (arith, lt)))
-  where
-    by : ((eqb first n ≡ true) × (first ≡ n)) ⊎ ((eqb first n ≡ false) × (first ≢ n)) → (first ≢ n → 1 ≤ count_by (λ x. x == n) (numbers_from (first + 1) count)) → 1 ≤ count_by (λ x. x == n) (numbers_from first (suc count))
-    by (inl h) rest =
-        let one : cond {A = ℕ} (first == n) 1 0 ≡ 1 = ap (λ b. cond {A = ℕ} b 1 0) h.0 in
-        omega (arith, one, sum_by-cons (λ x. cond {A = ℕ} (x == n) 1 0) first (numbers_from (first + 1) count))
-    by (inr h) rest = omega (arith, rest h.1, sum_by-cons (λ x. cond {A = ℕ} (x == n) 1 0) first (numbers_from (first + 1) count))

@@ -57,6 +57,7 @@ module _ (p : SendPart) where
 
     row_same : S.row a → S.row b
     row_same h = record {
+      sized = h.sized;
       came = λ k c at j item is. h.came k c at j item (ap (λ xs. slice_get xs j) (came k c at) ∙ is);
       merges = subst (λ xs. PrefixMerge (all_sends p.clients b) xs) gave (subst (λ ls. PrefixMerge ls (a.sent p.active)) sends_same h.merges);
       returns = λ k c at. subst (λ xs. IsPrefix xs (at_home c.pool (b.taken p.free))) (went_back k c at) (subst (λ ys. IsPrefix (a.sent c.free) (at_home c.pool ys)) came_back (h.returns k c at));
@@ -95,6 +96,7 @@ module _ (p : SendPart) where
         let more = merge_grows (all_sends p.clients m) (m.sent p.active) row.merges short in (
           more.0,
           record {
+            sized = row.sized;
             came = row.came;
             merges = subst (λ xs. PrefixMerge (all_sends p.clients m) xs) (sym (put_here m p.active more.0)) more.1;
             returns = λ k c at. subst (λ xs. IsPrefix xs (at_home c.pool (m.taken p.free))) (sym (put_beside m p.active more.0 c.free (beside k c at))) (row.returns k c at);
@@ -112,6 +114,7 @@ module _ (p : SendPart) where
         let more = each_owed p.clients (λ (d : Shipper). d.free) (λ d. at_home d.pool (m.taken p.free)) m row.returns frees_apart k c at lt in (
           more.0,
           record {
+            sized = row.sized;
             came = row.came;
             merges = subst (λ xs. PrefixMerge (all_sends p.clients m) xs) (sym (put_beside m c.free more.0 p.active (λ e. beside k c at (sym e)))) row.merges;
             returns = more.1;

@@ -1,5 +1,5 @@
 -- The virtualiser's row, of items.
-use Rattle.std.proofs.Common.{◌≡◌, ◌==◌, ◌+◌, ◌-◌, ◌*◌, ◌++◌, ℕ, zero, suc, Bool, true, false, nat_le, not, cond, Some, List, [], ◌∷◌, All, length, map, slice_get, refl, sym, ap, ◌∙◌, subst, arith}
+use Rattle.std.proofs.Common.{◌<◌, ◌≡◌, ◌==◌, ◌+◌, ◌-◌, ◌*◌, ◌++◌, ℕ, zero, suc, Bool, true, false, nat_le, not, cond, Some, List, [], ◌∷◌, All, length, map, slice_get, refl, sym, ap, ◌∙◌, subst, arith}
 use Rattle.std.specs.List.{filter}
 use Rattle.std.proofs.lemmas.Bool.{and_parts, eqb-true, leb-true, ltb-true}
 use Rattle.std.proofs.lemmas.List.{append-nil}
@@ -24,7 +24,7 @@ use Rattle.net_virt_tx.specs.Descriptors.{to_client, to_device, with_addr}
 use Rattle.net_virt_tx.specs.Serving.{bad_ones, is_good_of, is_own, own_of}
 use Rattle.net_virt_tx.specs.Traffics.{senders}
 use Rattle.net_virt_tx.specs.Sending.{TxRow, all_good}
-use Rattle.net_law.specs.Owners.Names.{PoolAt}
+use Rattle.owner_law.specs.Pools.Places.{PoolAt}
 use Rattle.net_law.specs.Owners.Ends.{AreItemsOf}
 use Rattle.net_law.proofs.Beginnings.{begins_map}
 use Rattle.net_law.proofs.PartsLemmas.Items.{all_at}
@@ -53,7 +53,7 @@ good_offset s (item, Carried.Page page) h =
       number = page.no;
       few = ltb-true page.no s.buffers two.0;
       net = net_of item four.0;
-      begins = eqb-true (addr_of item) (page.no * 2048) three.0;
+      begins = eqb-true (addr_of item) (page.no * s.size) three.0;
     }
 good_offset s (item, Carried.Lease lease) h = absurd cc
 good_offset s (item, Carried.Empty) h = absurd cc
@@ -154,6 +154,9 @@ module _ (v : NetVirtTx) (passed : Passed) (m : Moved) (items : AreItemsOf (send
     all_good_here : All (λ (x : Cargo). is_good_of h.sender x ≡ true) (passed.taken h.active.0)
     all_good_here = good k h.sender h.active h.there h.comes
 
+    sized : 0 < c.pool.size
+    sized = subst (λ (p : PoolAt). 0 < p.size) (sym h.pool_is) (row.sized k h.sender h.there)
+
     offsets : (j : ℕ) (item : Item) → slice_get (m.taken c.active) j ≡ Some item → IsOffset c.pool item
     offsets j item is =
         let x = map_from (λ (y : Cargo). y.0) (passed.taken h.active.0) j item (ap (λ n. slice_get (items_of (passed.taken n)) j) (sym h.active_is) ∙ (ap (λ l. slice_get l j) (sym came) ∙ is)) in
@@ -173,11 +176,11 @@ module _ (v : NetVirtTx) (passed : Passed) (m : Moved) (items : AreItemsOf (send
 
   sends_here : (k : ℕ) (s : Sender) (q r : QueueId) → slice_get ss k ≡ Some s → slice_get f k ≡ Some q → slice_get t k ≡ Some r → items_of (map (to_device s.base) (filter (is_good_of s) (row.turn q.0))) ≡ at_device (sender_pool s) (m.taken q.0)
   sends_here k s q r at at' at'' =
-      let c : Shipper = record { active = q.0; free = r.0; pool = sender_pool s } in
+      let c : Shipper = record { active = q.0; free = r.0; pool = sender_pool s; most = s.most } in
       let there = there_at ss f t k s q r at at' at'' in
       device_items s (filter (is_good_of s) (row.turn q.0)) ∙ ap (at_device (sender_pool s)) (ap (λ l. items_of (filter (is_good_of s) l)) (turn_is q.0) ∙ (ap items_of (all_same s (passed.taken q.0) (good k s q at at')) ∙ sym (came k c there)))
     where
-      there_at : (xs : List Sender) (from to : List QueueId) (j : ℕ) (s : Sender) (q r : QueueId) → slice_get xs j ≡ Some s → slice_get from j ≡ Some q → slice_get to j ≡ Some r → slice_get (shippers xs from to) j ≡ Some (record { active = q.0; free = r.0; pool = sender_pool s })
+      there_at : (xs : List Sender) (from to : List QueueId) (j : ℕ) (s : Sender) (q r : QueueId) → slice_get xs j ≡ Some s → slice_get from j ≡ Some q → slice_get to j ≡ Some r → slice_get (shippers xs from to) j ≡ Some (record { active = q.0; free = r.0; pool = sender_pool s; most = s.most })
       there_at [] from to j s q r at at' at'' = absurd cc
       there_at (x ∷ xs) [] to j s q r at at' at'' = absurd cc
       there_at (x ∷ xs) (y ∷ from) [] j s q r at at' at'' = absurd cc
@@ -186,6 +189,7 @@ module _ (v : NetVirtTx) (passed : Passed) (m : Moved) (items : AreItemsOf (send
 
   pub send_row : (send_sheet (send_part v)).row m
   send_row = record {
+    sized = λ k c at. sized k c at;
     came = λ k c at j item is. offsets k c at j item is;
     merges = subst (λ xs. PrefixMerge (all_sends (shippers ss f t) m) xs) (sym gave) (subst (λ ls. PrefixMerge ls (items_of (passed.sent v.ends.output.queue.0))) (sends_are ss f t row.turn m row.from_each row.to_each sends_here) (maps_merge (λ (c : Cargo). c.0) (all_good ss f row.turn) (passed.sent v.ends.output.queue.0) row.merges));
     returns = λ k c at. returns k c at;

@@ -49,7 +49,7 @@ module _ (history : History) (journal : List Entry) (world : List Queue) (bells 
   clients_settle p m needs loads c (s ∷ ss) [] os a b ins outs each = absurd (omega (arith, a))
   clients_settle p m needs loads c (s ∷ ss) (i ∷ is) [] a b ins outs each = absurd (omega (arith, b))
   clients_settle p m needs loads c (s ∷ ss) (i ∷ is) (x ∷ os) a b ins outs each =
-      let ship : Shipper = record { active = i.queue.0; free = x.queue.0; pool = sender_pool s } in
+      let ship : Shipper = record { active = i.queue.0; free = x.queue.0; pool = sender_pool s; most = s.most } in
       let z : c + 0 ≡ c = omega arith in
       let first = each 0 ship refl in
       let comes = settled_here history journal world bells (intake_post i) (needs c) (intake_want i.queue.0 (not (is_short (at_home ship.pool (m.sent p.active)) (m.taken ship.active)))) (record { needs = ap needs (sym z) ∙ first.0; agrees = ins 0 i refl }) in

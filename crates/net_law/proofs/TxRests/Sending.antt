@@ -195,7 +195,7 @@ module _ (passed : Passed) (m : Moved) (h : HaveItems passed m) (v : NetVirtTx) 
 
   pub owes_is : owes v.work ≡ nat_lt (length (m.sent p.active)) (sends_due p.clients m)
   owes_is =
-      let all = merge_total (map (owned sent) (senders v.work)) sent (split (senders v.work) ranges sent anyones) in
+      let all = merge_total (map (owned sent) (senders v.work)) sent (split (senders v.work) (row_of v passed st).sized ranges sent anyones) in
       let due = due_sum sent m cs from to from_each to_each (λ k c q at comes. let r = there_is to k (let lt = there_below cs k c at in omega (arith, lt, to_each)) in went_is k c at q r.0 comes r.1) in
       ap (λ o. is_none o && list_any is_leaving cs) stray_none ∙ (any_is cs ∙ less_by (length (m.sent p.active)) (leaving_sum cs) (sends_due p.clients m) (omega (arith, all, due, put passed m h v.ends.output.queue.0)))
 

@@ -28,7 +28,7 @@ use Rattle.net_law.proofs.PartsLemmas.Items.{all_at, items_long}
 use Rattle.net_law.proofs.PartsLemmas.Leasing.{prefix_get}
 use Rattle.net_law.proofs.TxParts.Items.{all_same, home_items}
 use Rattle.net_law.proofs.WireLemmas.Wires.{len_same, reached}
-use Rattle.net_law.specs.Owners.Names.{PoolAt}
+use Rattle.owner_law.specs.Pools.Places.{PoolAt}
 use Rattle.net_law.specs.Parts.Rows.{frame_at}
 use Rattle.net_law.specs.TxParts.Rows.{in_range}
 use Rattle.net_law.specs.TxParts.Playing.{sender_pool}
@@ -128,7 +128,7 @@ module _ (d : EthDevice) (p : Pipes (Pipes (Pipes Pipe))) (v : NetVirtTx) (passe
     entry_told =
         let there : slice_get went (length ys) ≡ Some x = ap (λ l. slice_get l (length ys)) went_is ∙ behind_there ys (zs ++ reach.0) x in
         let of = all_at (IsAnyones (senders v.work)) went h.virtualiser.within (length ys) x there in
-        first_told (senders v.work) (from_queues v.ends) sends h.virtualiser.from_each all.as_many ys x one_told of.0 of.1 of.2 (is_within_own of.1 x of.3)
+        first_told (senders v.work) (from_queues v.ends) sends h.virtualiser.from_each all.as_many ys x one_told of.0 of.1 of.2 (is_within_own of.1 (h.virtualiser.sized of.0 of.1 of.2) x of.3)
 
   pub wire_told : d.wire.tape.shown ≡ told_frames (map sender_pool (senders v.work)) sends (items_of got)
   wire_told = h.device.wire ∙ sym (all_told (map sender_pool (senders v.work)) sends [] got (λ ys zs x e. entry_told ys zs x e))

@@ -10,7 +10,8 @@ use Rattle.play_core.specs.Moved.{Moved}
 use Rattle.play_core.specs.Sheets.{Scene}
 use Rattle.play_core.specs.Still.{Holds}
 use Rattle.net_expect.specs.Expecting.{Program, Sink, Source, Echo}
-use Rattle.net_law.specs.Owners.Names.{PoolAt, ClientPools}
+use Rattle.net_law.specs.Owners.Names.{ClientPools}
+use Rattle.owner_law.specs.Pools.Places.{PoolAt}
 use Rattle.net_law.specs.Parts.Numbers.{device_at, driver_at, receiver_at, copier_at, client_at}
 use Rattle.net_law.specs.Parts.Table.{net_sheet}
 use Rattle.net_law.specs.TxParts.Numbers.{NetPlace, own_pools, sender_at}
@@ -50,7 +51,7 @@ pub record IsNetwork (scene : Scene) (hostile : Hostiles) (rows : List QueueRow)
   pub device : (net_sheet scene (device_at net.first scene.frames)).row m
   pub driver : (net_sheet scene (driver_at net.first)).row m
   pub receiver : (net_sheet scene (receiver_at net.first net.pool net.macs)).row m
-  pub sender : (send_sheet (sender_at net.first net.pools)).row m
+  pub sender : (send_sheet (sender_at net.first net.most net.pools)).row m
   pub copier : (k : ℕ) → k < length net.macs → (net_sheet scene (copier_at net.first k)).row m
   pub client : (k : ℕ) (program : Program) (mac : Mac) (q : ClientPools)
       → slice_get net.programs k ≡ Some program → slice_get net.macs k ≡ Some mac

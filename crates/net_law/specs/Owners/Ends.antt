@@ -8,6 +8,7 @@ use Rattle.wire_core.specs.Queues.{items_of}
 use Rattle.play_core.specs.Moved.{Moved, Seat, went}
 use Rattle.play_core.specs.Wants.{intake, outlet}
 use Rattle.owner_law.specs.Things.{Window, Names, Buffers, Frames, Leases, Returns, Naming}
+use Rattle.owner_law.specs.Pools.Places.{numbers_from}
 use Rattle.turn_kit.specs.declared.pipe.Pipe.{Pipe}
 use Rattle.pipe_driver.specs.Drivers.{EachPipe}
 use Rattle.buffer_kit.specs.declared.stock.Stock.{Stock}
@@ -85,11 +86,6 @@ pub record ClientNames (naming : Naming) (c : NetClient) : Type 0 where
   pub free : naming (client.rx_free c) ≡ Buffers (stock_window c.stock ∷ [])
   pub sends : naming (client.tx_active c) ≡ Buffers (stock_window c.outbox.stock ∷ [])
   pub sent : naming (client.tx_free c) ≡ Buffers (stock_window c.outbox.stock ∷ [])
-
--- so many numbers from one on
-abbrev pub numbers_from : ℕ → ℕ → List ℕ
-numbers_from first zero = []
-numbers_from first (suc count) = first ∷ numbers_from (first + 1) count
 
 -- the numbers of a stock's buffers in a pool
 abbrev pub stock_numbers : Stock → ℕ → List ℕ

@@ -1,20 +1,7 @@
 -- What the items of the network's queues name, queue by queue in the order of the layout's table.
 use Rattle.std.specs.Prelude.{ℕ, List, [], ◌∷◌, map, flat_map}
-use Rattle.owner_law.specs.Things.{Window, Names, Buffers, Frames, Leases, Returns}
-
--- a pool: its number among the pools, the device address of its first buffer, and how many it has
-pub record PoolAt : Type 0 where
-  pub number : ℕ
-  pub base : ℕ
-  pub buffers : ℕ
-
--- its buffers by device addresses; a buffer of the network has 2,048 bytes
-abbrev pub by_address : PoolAt → Window
-by_address p = record { pool = p.number; base = p.base; size = 2048; buffers = p.buffers }
-
--- its buffers by offsets
-abbrev pub by_offset : PoolAt → Window
-by_offset p = record { pool = p.number; base = 0; size = 2048; buffers = p.buffers }
+use Rattle.owner_law.specs.Things.{Names, Buffers, Frames, Leases, Returns}
+use Rattle.owner_law.specs.Pools.Places.{PoolAt, by_address, by_offset}
 
 -- a client's pools: the buffers in which it receives, and those in which it sends
 pub record ClientPools : Type 0 where

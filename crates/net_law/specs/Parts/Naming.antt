@@ -2,7 +2,7 @@
 use Rattle.std.specs.Prelude.{◌≡◌, ℕ, Some, List, [], ◌∷◌, slice_get}
 use Rattle.play_core.specs.Sheets.{Scene}
 use Rattle.owner_law.specs.Things.{Window, Buffers, Leases, Returns, Naming}
-use Rattle.net_law.specs.Owners.Names.{by_address, by_offset}
+use Rattle.owner_law.specs.Pools.Places.{by_address, by_offset}
 use Rattle.net_law.specs.Owners.Ends.{NameBuffers}
 use Rattle.net_law.specs.Owners.Lending.{LenderNames}
 use Rattle.net_law.specs.Parts.Parts.{NetPart, NetDevice, NetDriver, NetReceiver, NetCopier}

@@ -5,7 +5,8 @@ use Rattle.frame_core.specs.declared.mac.Mac.{Mac}
 use Rattle.owner_law.specs.Things.{Naming, naming_of}
 use Rattle.play_core.specs.Sheets.{Scene}
 use Rattle.net_expect.specs.Expecting.{Program}
-use Rattle.net_law.specs.Owners.Names.{PoolAt, ClientPools, net_names}
+use Rattle.net_law.specs.Owners.Names.{ClientPools, net_names}
+use Rattle.owner_law.specs.Pools.Places.{PoolAt}
 use Rattle.net_law.specs.Owners.Lending.{receivers_of}
 use Rattle.net_law.specs.Parts.Parts.{NetPart, NetDevice, NetDriver, NetReceiver, NetCopier}
 use Rattle.net_law.specs.Parts.Parts.{NetClient, Lessee}

@@ -21,7 +21,7 @@ use Rattle.net_virt_rx.specs.Receiving.{RxRow}
 use Rattle.net_virt_rx.specs.declared.NetVirtRx.{NetVirtRx}
 use Rattle.net_law.specs.RxOwners.Virtualiser.{TakesFrames}
 use Rattle.net_expect.specs.Expecting.{frames_for}
-use Rattle.net_law.specs.Owners.Names.{PoolAt}
+use Rattle.owner_law.specs.Pools.Places.{PoolAt}
 use Rattle.net_law.specs.Parts.Rows.{frame_at}
 use Rattle.net_law.specs.Parts.Parts.{NetPart, NetDevice, NetDriver, NetReceiver}
 use Rattle.net_law.specs.Parts.Parts.{NetCopier as CopierPart, NetClient as ClientPart, Way}
@@ -47,7 +47,7 @@ copier_part c = CopierPart c.lease_input.queue.0 c.lease_output.queue.0 c.buffer
 
 -- the pool of which a stock has the buffers
 abbrev pub stock_pool : Stock → PoolAt
-stock_pool s = record { number = s.pool.0; base = s.base; buffers = s.buffers }
+stock_pool s = record { number = s.pool.0; base = s.base; buffers = s.buffers; size = s.size }
 
 -- a client's part
 abbrev pub client_part : NetClient → NetPart
@@ -81,20 +81,16 @@ pub record IsLease (c : Cargo) : Type 0 where
 abbrev pub AreLeases : List Cargo → Type 0
 AreLeases cs = (k : ℕ) (c : Cargo) → slice_get cs k ≡ Some c → IsLease c
 
--- a receiving virtualiser, whose buffers have 2,048 bytes, took the frames of their places, and
--- nothing out of turn
+-- a receiving virtualiser took the frames of their places, and nothing out of turn
 pub record ReceivesInTurn (frames : List (List ℕ)) (v : NetVirtRx) (passed : Passed) :
     Type 0 where
-  pub size : v.work.stock.size ≡ 2048
   pub takes : TakesFrames (frame_at frames) v passed
   pub in_turn : (row : RxRow v passed) → row.stray ≡ []
 
--- a client's own buffers begin at offset 0, and have 2,048 bytes
+-- a client's own buffers begin at offset 0
 pub record HasBuffers (c : NetClient) : Type 0 where
   pub base : c.stock.base ≡ 0
-  pub size : c.stock.size ≡ 2048
   pub spare_base : c.outbox.stock.base ≡ 0
-  pub spare_size : c.outbox.stock.size ≡ 2048
 
 -- what an echo recorded is a beginning of those of the device's frames that are for it
 abbrev pub AnswersInTurn : List (List ℕ) → NetClient → Type 0

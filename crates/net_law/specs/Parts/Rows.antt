@@ -14,8 +14,7 @@ use Rattle.owner_law.specs.Things.{Buffer, Window, names_in, times}
 use Rattle.owner_law.specs.Keeping.{at_start}
 use Rattle.net_expect.specs.Expecting.{Program, Sink, Source, Echo, is_for_client, answers_for}
 use Rattle.buffer_kit.specs.Entries.{addr_of, len_of, with_len}
-use Rattle.net_law.specs.Owners.Names.{PoolAt, by_address, by_offset}
-use Rattle.net_law.specs.Owners.Ends.{numbers_from}
+use Rattle.owner_law.specs.Pools.Places.{PoolAt, by_address, by_offset, numbers_from, pool_hand}
 use Rattle.net_law.specs.Owners.Lending.{Borrower, Lender, leases_due, leases_back, names_where}
 use Rattle.net_law.specs.Parts.Parts.{Way, Lessee}
 
@@ -83,9 +82,11 @@ pub record SendsItems (frames : List (List ℕ)) (own : Window) (back put : List
 
 -- what a client may have put: its own buffers in rising number and then those that it took, as they
 -- came; and the frames of its program, where an echo takes a frame only after its answer to the one
--- before
+-- before. No buffer is empty
 pub record ServesClient (program : Program) (mac : Mac) (frames : List (List ℕ)) (rx tx : Window)
     (came gave back put : List Item) : Type 0 where
+  pub sized : 0 < rx.size
+  pub spare_sized : 0 < tx.size
   pub given : IsPrefix gave (given_items rx ++ came)
   pub sends : SendsItems (sent_where program mac frames (length came)) tx back put
   pub answered : is_answering program ≡ true → length came ≤ length put + 1
@@ -118,10 +119,6 @@ leases_from frames base mac place (item ∷ items) =
     ∷ leases_from frames base mac (place + 1) items else
     leases_from frames base mac (place + 1) items
 
--- of a pool, by its number, the buffers of this one
-abbrev pub pool_hand : PoolAt → ℕ → List ℕ
-pool_hand p pool = if p.number == pool then numbers_from 0 p.buffers else []
-
 -- a client as one to whom buffers are lent
 abbrev pub borrower_of : List (List ℕ) → Lessee → Borrower
 borrower_of frames c = record {
@@ -152,9 +149,10 @@ but_last items = take (length items - 1) items
 -- for it, in their order, and those of all frames but the last before another frame is taken; and
 -- buffers of its own, the first in rising number, each of which was in its hand, where a buffer
 -- isn't while it is lent. Each frame came in one of its buffers, and of a buffer at most one lease
--- is out to a client
+-- is out to a client. No buffer is empty
 pub record SharesFrames (frames : List (List ℕ)) (active free : ℕ) (pool : PoolAt)
     (clients : List Lessee) (m : Moved) : Type 0 where
+  pub sized : 0 < pool.size
   pub within : AreIn (by_address pool) (m.taken active)
   pub lends : (k : ℕ) (c : Lessee) → slice_get clients k ≡ Some c
       → IsPrefix (m.sent c.active) (leases_from frames pool.base c.mac 0 (m.taken active))
@@ -164,7 +162,7 @@ pub record SharesFrames (frames : List (List ℕ)) (active free : ℕ) (pool : P
       (m.sent c.active)
   pub gives : AreIn (by_address pool) (m.sent free)
   pub rising : (k : ℕ) (item : Item) → k < pool.buffers → slice_get (m.sent free) k ≡ Some item
-      → addr_of item ≡ pool.base + k * 2048
+      → addr_of item ≡ pool.base + k * pool.size
   pub in_hand : (b : Buffer) → times b (names_in (by_address pool ∷ []) (m.sent free))
       + bit (is_lent pool (lender_of frames active free pool clients) m b)
       ≤ at_start (pool_hand pool) b + times b (names_in (by_address pool ∷ []) (m.taken active))

@@ -10,13 +10,13 @@ use Rattle.play_core.specs.Wants.{Want, intake, outlet, intake_want, outlet_want
 use Rattle.play_core.specs.Sheets.{Scene, Sheet, Due}
 use Rattle.frame_core.specs.declared.mac.Mac.{Mac}
 use Rattle.net_expect.specs.Expecting.{Program}
-use Rattle.net_law.specs.Owners.Names.{PoolAt, by_offset}
+use Rattle.owner_law.specs.Pools.Places.{PoolAt, by_offset, pool_hand}
 use Rattle.net_law.specs.Owners.Lending.{Lender}
 use Rattle.net_law.specs.Parts.Parts.{NetPart, NetDevice, NetDriver, NetReceiver, NetCopier}
 use Rattle.net_law.specs.Parts.Parts.{NetClient, Way, Lessee}
 use Rattle.net_law.specs.Parts.Rows.{FillsFrames, AllCopy, CopiesLeases, ServesClient}
 use Rattle.net_law.specs.Parts.Rows.{sent_where, sent_items, is_answering, SharesFrames}
-use Rattle.net_law.specs.Parts.Rows.{leases_from, lender_of, is_lent, pool_hand}
+use Rattle.net_law.specs.Parts.Rows.{leases_from, lender_of, is_lent}
 
 -- the first list is shorter than the second
 abbrev pub is_short : {T U : Type 0} → List T → List U → Bool

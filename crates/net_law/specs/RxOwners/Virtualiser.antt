@@ -15,7 +15,7 @@ use Rattle.buffer_kit.specs.Entries.{frame_of}
 use Rattle.buffer_kit.specs.declared.stock.Stock.{Stock}
 use Rattle.buffer_kit.specs.Virtualising.{from_queues, to_queues}
 use Rattle.net_virt_rx.specs.declared.NetVirtRx.{NetVirtRx}
-use Rattle.net_law.specs.Owners.Ends.{numbers_from}
+use Rattle.owner_law.specs.Pools.Places.{numbers_from}
 use Rattle.net_law.specs.Owners.Lending.{Borrower, Lender}
 
 -- a stock's buffers by offsets

@@ -3,35 +3,38 @@
 use Rattle.std.specs.Prelude.{◌+◌, ℕ, List, [], ◌∷◌}
 use Rattle.frame_core.specs.declared.mac.Mac.{Mac}
 use Rattle.net_expect.specs.Expecting.{Program}
-use Rattle.net_law.specs.Owners.Names.{PoolAt, ClientPools}
+use Rattle.net_law.specs.Owners.Names.{ClientPools}
+use Rattle.owner_law.specs.Pools.Places.{PoolAt, own_pool}
 use Rattle.net_law.specs.Parts.Numbers.{client_first}
 use Rattle.net_law.specs.TxParts.Parts.{SendPart, Shipper}
 
 -- where the network class stands: its first queue, the pool in which the device receives, and of
--- each client its address, its pools by device addresses, and its program
+-- each client its address, its pools by device addresses, and its program; and how many bytes a
+-- frame has at most
 pub record NetPlace : Type 0 where
   pub first : ℕ
   pub pool : PoolAt
   pub macs : List Mac
   pub pools : List ClientPools
   pub programs : List Program
-
--- a pool as its client has it: by offsets
-abbrev pub own_pool : PoolAt → PoolAt
-own_pool p = record { number = p.number; base = 0; buffers = p.buffers }
+  pub most : ℕ
 
 -- a client's pools as the client has them
 abbrev pub own_pools : ClientPools → ClientPools
 own_pools q = record { rx = own_pool q.rx; tx = own_pool q.tx }
 
--- clients that send in these pools, from a number on
-abbrev pub shippers_from : (first k : ℕ) → List ClientPools → List Shipper
-shippers_from first k [] = []
-shippers_from first k (q ∷ qs) =
-    record { active = client_first first k + 4; free = client_first first k + 5; pool = q.tx }
-    ∷ shippers_from first (k + 1) qs
+-- clients that send frames of at most so many bytes in these pools, from a number on
+abbrev pub shippers_from : (first most k : ℕ) → List ClientPools → List Shipper
+shippers_from first most k [] = []
+shippers_from first most k (q ∷ qs) = record {
+  active = client_first first k + 4;
+  free = client_first first k + 5;
+  pool = q.tx;
+  most = most;
+}
+    ∷ shippers_from first most (k + 1) qs
 
 -- the sending virtualiser's part
-abbrev pub sender_at : (first : ℕ) → List ClientPools → SendPart
-sender_at first pools =
-    record { active = first + 6; free = first + 7; clients = shippers_from first 0 pools }
+abbrev pub sender_at : (first most : ℕ) → List ClientPools → SendPart
+sender_at first most pools =
+    record { active = first + 6; free = first + 7; clients = shippers_from first most 0 pools }

@@ -8,12 +8,12 @@ use Rattle.net_virt_tx.specs.declared.NetVirtTx.{NetVirtTx}
 use Rattle.net_virt_tx.specs.declared.descriptors.Sender.{Sender}
 use Rattle.net_virt_tx.specs.Serving.{is_good_of}
 use Rattle.net_virt_tx.specs.Traffics.{senders}
-use Rattle.net_law.specs.Owners.Names.{PoolAt}
+use Rattle.owner_law.specs.Pools.Places.{PoolAt}
 use Rattle.net_law.specs.TxParts.Parts.{SendPart, Shipper}
 
 -- the pool of a client's buffers
 abbrev pub sender_pool : Sender → PoolAt
-sender_pool s = record { number = s.pool.0; base = s.base; buffers = s.buffers }
+sender_pool s = record { number = s.pool.0; base = s.base; buffers = s.buffers; size = s.size }
 
 -- clients with these pools and queues
 abbrev pub shippers : List Sender → (from to : List QueueId) → List Shipper
@@ -21,7 +21,8 @@ shippers [] from to = []
 shippers (s ∷ ss) [] to = []
 shippers (s ∷ ss) (q ∷ from) [] = []
 shippers (s ∷ ss) (q ∷ from) (r ∷ to) =
-    record { active = q.0; free = r.0; pool = sender_pool s } ∷ shippers ss from to
+    record { active = q.0; free = r.0; pool = sender_pool s; most = s.most }
+    ∷ shippers ss from to
 
 -- a sending virtualiser's part
 abbrev pub send_part : NetVirtTx → SendPart

@@ -11,7 +11,7 @@ use Rattle.play_core.specs.Moved.{Moved}
 use Rattle.play_core.specs.Totals.{total}
 use Rattle.buffer_kit.specs.Entries.{addr_of}
 use Rattle.net_virt_tx.specs.Descriptors.{with_addr}
-use Rattle.net_law.specs.Owners.Names.{PoolAt}
+use Rattle.owner_law.specs.Pools.Places.{PoolAt}
 use Rattle.net_law.specs.TxParts.Parts.{SendPart, Shipper}
 
 -- items with the device addresses of their buffers, where the pool's range begins at its base
@@ -20,7 +20,7 @@ at_device p items = map (λ i. with_addr (p.base + addr_of i) i) items
 
 -- the buffer of an item is in the pool's range of device addresses
 abbrev pub in_range : PoolAt → Item → Bool
-in_range p i = nat_le p.base (addr_of i) && nat_lt (addr_of i) (p.base + p.buffers * 2048)
+in_range p i = nat_le p.base (addr_of i) && nat_lt (addr_of i) (p.base + p.buffers * p.size)
 
 -- of these items, those in the pool's range, with their offsets there
 abbrev pub at_home : PoolAt → List Item → List Item
@@ -31,7 +31,7 @@ pub record IsOffset (p : PoolAt) (item : Item) : Type 0 where
   pub number : ℕ
   pub few : number < p.buffers
   pub net : kind_of item ≡ Kind.Net
-  pub begins : addr_of item ≡ number * 2048
+  pub begins : addr_of item ≡ number * p.size
 
 -- what came from each client, with device addresses
 abbrev pub all_sends : List Shipper → Moved → List (List Item)
@@ -43,8 +43,9 @@ sends_due clients m = total (all_sends clients m)
 
 -- what it may have put: to the driver a merge of beginnings of what came from each client, each
 -- with its device address; and to each client a beginning of what came back in its range. Each
--- descriptor came at a buffer of its client
+-- descriptor came at a buffer of its client, and no buffer is empty
 pub record MergesSends (p : SendPart) (m : Moved) : Type 0 where
+  pub sized : (k : ℕ) (c : Shipper) → slice_get p.clients k ≡ Some c → 0 < c.pool.size
   pub came : (k : ℕ) (c : Shipper) → slice_get p.clients k ≡ Some c → (j : ℕ) (item : Item)
       → slice_get (m.taken c.active) j ≡ Some item → IsOffset c.pool item
   pub merges : PrefixMerge (all_sends p.clients m) (m.sent p.active)

@@ -3,7 +3,7 @@
 use Rattle.std.specs.Prelude.{◌++◌, ℕ, if◌then◌else◌, List, [], ◌∷◌, length}
 use Rattle.std.specs.List.{filter}
 use Rattle.cargo_core.specs.declared.item.Item.{Item}
-use Rattle.net_law.specs.Owners.Names.{PoolAt}
+use Rattle.owner_law.specs.Pools.Places.{PoolAt}
 use Rattle.net_law.specs.Parts.Rows.{frame_at}
 use Rattle.net_law.specs.TxParts.Rows.{in_range}
 

@@ -19,7 +19,7 @@ use Rattle.net_virt_rx.specs.Sharing.{IsBuffer}
 use Rattle.net_virt_rx.specs.Receiving.{RxRow}
 use Rattle.net_virt_rx.specs.declared.NetVirtRx.{NetVirtRx}
 use Rattle.net_law.specs.Receiving.{HasRoom, AreRoomy}
-use Rattle.net_law.specs.Owners.Names.{PoolAt}
+use Rattle.owner_law.specs.Pools.Places.{PoolAt}
 use Rattle.net_law.specs.RxOwners.Virtualiser.{TakesFrames, AreNet}
 use Rattle.net_law.specs.Parts.Rows.{frame_at}
 use Rattle.net_law.specs.Parts.Numbers.{client_first}
@@ -29,7 +29,7 @@ use Rattle.net_law.proofs.PartsLemmas.Items.{all_at}
 use Rattle.net_law.proofs.PartsLemmas.Leasing.{prefix_get}
 use Rattle.net_law.proofs.PartsLemmas.Turning.{all_in_turn, frames_of_places, copiers_take, copiers_read, records_begin}
 use Rattle.net_quiet.specs.Cast.Casting.{IsCast, IsCopierAt, IsClientAt}
-use Rattle.net_quiet.proofs.CastLemmas.Numbers.{driver_queues, copier_queues, receiver_queues, lessees_are}
+use Rattle.net_quiet.proofs.CastLemmas.Numbers.{driver_queues, copier_queues, receiver_long, receiver_queues, lessees_are}
 use Rattle.net_quiet.proofs.CastLemmas.Rooms.{IsLong, AreLong, roomy, back_long}
 
 -- what is there for each number below one is a list of as many
@@ -46,10 +46,10 @@ list_of P (suc n) j f =
     let many : length (one.0 ∷ rest.0) ≡ suc n = (let e = rest.1 in omega (arith, e)) in
     (one.0 ∷ rest.0, many, each_of P j one.0 rest.0 (subst (λ m. P m one.0) plus one.1) rest.2)
 
-buffer_long : (s : Stock) (c : Cargo) → s.size ≡ 2048 → IsBuffer s c → HasRoom 2048 c.1
-buffer_long s (item, Carried.Page page) size is = let e : length page.bytes ≡ s.size = is.3 in omega (arith, e, size)
-buffer_long s (item, Carried.Empty) size is = absurd is
-buffer_long s (item, Carried.Lease lease) size is = absurd is
+buffer_long : (s : Stock) (c : Cargo) → IsBuffer s c → HasRoom s.size c.1
+buffer_long s (item, Carried.Page page) is = let e : length page.bytes ≡ s.size = is.3 in omega (arith, e)
+buffer_long s (item, Carried.Empty) is = absurd is
+buffer_long s (item, Carried.Lease lease) is = absurd is
 
 module _ (first : ℕ) (frames : List (List ℕ)) (pool : PoolAt) (macs : List Mac) (passed : Passed) (h : IsCast first frames pool macs passed) where
   abbrev v : NetVirtRx
@@ -88,11 +88,11 @@ module _ (first : ℕ) (frames : List (List ℕ)) (pool : PoolAt) (macs : List M
       prefix_trans free out (passed.sent v.ends.output.queue.0) (subst (λ n. IsPrefix free (passed.sent n)) to_device (h.hands_over h.device.free.queue.0))
       (prefix_trans out into (passed.sent v.ends.output.queue.0) h.driver_at.row.0 (subst (λ n. IsPrefix into (passed.sent n)) to_driver (h.hands_over h.driver.first.input.queue.0)))
 
-  device_long : AreLong (passed.taken h.device.free.queue.0)
+  device_long : AreLong pool.size (passed.taken h.device.free.queue.0)
   device_long k c at =
       let plus : h.device.free.queue.0 ≡ first + 0 = (let e = h.device_at.free in omega (arith, e)) in
       let buffer = all_at (IsBuffer v.work.stock) (passed.sent v.ends.output.queue.0) h.receiver_at.row.given_within k c (prefix_get (passed.taken h.device.free.queue.0) (passed.sent v.ends.output.queue.0) free_given k c at) in
-      (net_taken 0 h.device.free.queue.0 (omega arith) plus k c at, buffer_long v.work.stock c h.receiver_at.size buffer)
+      (net_taken 0 h.device.free.queue.0 (omega arith) plus k c at, subst (λ n. HasRoom n c.1) (receiver_long first pool macs v h.receiver_at.part) (buffer_long v.work.stock c buffer))
 
   macs_long : length v.work.macs.items ≡ length macs
   macs_long = ap length served.0
@@ -135,8 +135,8 @@ module _ (first : ℕ) (frames : List (List ℕ)) (pool : PoolAt) (macs : List M
     client_of = λ k c at. there_is v.work.macs.items k (let lt = copier_below k c at in let e = macs_long in omega (arith, lt, e));
     to_copier = to_copier;
     from_copier = from_copier;
-    room_at_device = roomy h.device.frames (passed.taken h.device.free.queue.0) (λ k f at. h.short k f (subst (λ fs. slice_get fs k ≡ Some f) h.device_at.frames_are at)) device_long;
-    short = λ k f at. let le = h.short k f (subst (λ fs. slice_get fs k ≡ Some f) h.device_at.frames_are at) in omega (arith, le);
+    room_at_device = roomy pool.size h.device.frames (passed.taken h.device.free.queue.0) (λ k f at. (h.short k f (subst (λ fs. slice_get fs k ≡ Some f) h.device_at.frames_are at)).0) device_long;
+    short = λ k f at. (h.short k f (subst (λ fs. slice_get fs k ≡ Some f) h.device_at.frames_are at)).1;
   }
 
   half : IsReceiveHalf h.device h.driver v copiers passed
@@ -163,7 +163,7 @@ module _ (first : ℕ) (frames : List (List ℕ)) (pool : PoolAt) (macs : List M
       let own = copier_queues first k c.0 (copier_at k c.0 c.1).part in
       subst (λ n. AreLeases (passed.taken n)) own.0 (copiers_take h.device h.driver v copiers passed half k c.0 c.1)
 
-  pub cast_records : (k : ℕ) (mac : Mac) → slice_get macs k ≡ Some mac → (c : NetClient) → IsClientAt first k c passed → IsPrefix c.frames.tape.shown (frames_for mac frames)
+  pub cast_records : (k : ℕ) (mac : Mac) → slice_get macs k ≡ Some mac → (c : NetClient) → IsClientAt first k frames c passed → IsPrefix c.frames.tape.shown (frames_for mac frames)
   cast_records k mac at c x =
       let y = copier_there k (there_below macs k mac at) in
       let place = copier_at k y.0 y.1 in
@@ -175,11 +175,11 @@ module _ (first : ℕ) (frames : List (List ℕ)) (pool : PoolAt) (macs : List M
         copier = y.0;
         there = y.1;
         to_client = own.2 ∙ sym x.active;
-        room = roomy (map leased_bytes leases) (passed.taken y.0.buffer_input.queue.0)
+        room = roomy c.stock.size (map leased_bytes leases) (passed.taken y.0.buffer_input.queue.0)
             (λ j f is.
             let lease = map_from leased_bytes leases j f is in
             let read = copiers_read h.device h.driver v copiers passed half k y.0 y.1 j lease.0 lease.1 in
-            subst (λ (g : List ℕ). length g ≤ 2048) lease.2 (h.short read.0 (leased_bytes lease.0) (subst (λ fs. slice_get fs read.0 ≡ Some (leased_bytes lease.0)) h.device_at.frames_are read.1)))
-            (back_long c y.0 passed h.hands_over x.size x.some x.row place.row (own.2 ∙ sym x.active) (own.3 ∙ sym x.free));
+            subst (λ (g : List ℕ). length g ≤ c.stock.size) lease.2 (x.long read.0 (leased_bytes lease.0) (subst (λ fs. slice_get fs read.0 ≡ Some (leased_bytes lease.0)) h.device_at.frames_are read.1)))
+            (back_long c y.0 passed h.hands_over x.some x.row place.row (own.2 ∙ sym x.active) (own.3 ∙ sym x.free));
       } in
       subst (λ fs. IsPrefix c.frames.tape.shown (frames_for mac fs)) h.device_at.frames_are (records_begin h.device h.driver v copiers passed half k mac c is_client)

@@ -8,10 +8,10 @@ use Rattle.pipe_driver.specs.declared.pipes.Pipes.{Pipes}
 use Rattle.eth_driver.specs.Four.{four_pipes}
 use Rattle.net_copier.specs.declared.NetCopier.{NetCopier}
 use Rattle.net_virt_rx.specs.declared.NetVirtRx.{NetVirtRx}
-use Rattle.net_law.specs.Owners.Names.{PoolAt}
+use Rattle.owner_law.specs.Pools.Places.{PoolAt}
 use Rattle.net_law.specs.Parts.Parts.{Way, Lessee}
 use Rattle.net_law.specs.Parts.Numbers.{driver_at, client_first, lessees_from, receiver_at, copier_at}
-use Rattle.net_law.specs.Parts.Playing.{way_of, driver_part, copier_part, lessees, lessees_of, receiver_part}
+use Rattle.net_law.specs.Parts.Playing.{way_of, stock_pool, driver_part, copier_part, lessees, lessees_of, receiver_part}
 
 pub driver_queues : (first : ℕ) (p : Pipes (Pipes (Pipes Pipe))) → driver_part (four_pipes p) ≡ driver_at first → (p.first.input.queue.0 ≡ first + 5) × (p.first.output.queue.0 ≡ first) × (p.rest.first.input.queue.0 ≡ first + 1) × (p.rest.first.output.queue.0 ≡ first + 4)
 driver_queues first p e =
@@ -21,6 +21,12 @@ driver_queues first p e =
 
 pub copier_queues : (first k : ℕ) (c : NetCopier) → copier_part c ≡ copier_at first k → (c.lease_input.queue.0 ≡ client_first first k) × (c.lease_output.queue.0 ≡ client_first first k + 1) × (c.buffer_output.queue.0 ≡ client_first first k + 2) × (c.buffer_input.queue.0 ≡ client_first first k + 3)
 copier_queues first k c e = (cc, cc, cc, cc)
+
+-- a receiving virtualiser's buffers are as long as its pool's
+pub receiver_long : (first : ℕ) (pool : PoolAt) (macs : List Mac) (v : NetVirtRx) → receiver_part v ≡ receiver_at first pool macs → v.work.stock.size ≡ pool.size
+receiver_long first pool macs v e =
+    let own : stock_pool v.work.stock ≡ pool = cc in
+    ap (λ (p : PoolAt). p.size) own
 
 pub receiver_queues : (first : ℕ) (pool : PoolAt) (macs : List Mac) (v : NetVirtRx) → receiver_part v ≡ receiver_at first pool macs → (v.ends.input.queue.0 ≡ first + 4) × (v.ends.output.queue.0 ≡ first + 5) × (lessees_of v ≡ lessees_from first 0 macs)
 receiver_queues first pool macs v e = (cc, cc, cc)

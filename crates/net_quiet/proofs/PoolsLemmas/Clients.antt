@@ -16,11 +16,10 @@ use Rattle.buffer_kit.specs.declared.stock.Stock.{Stock}
 use Rattle.client_programs.specs.Net.Programs.{frames_out}
 use Rattle.client_programs.specs.Net.Clients.{rx_active, rx_free, tx_active, tx_free, ClientRow, ClientBalances, client_hand}
 use Rattle.client_programs.specs.declared.net.NetClient.{NetClient}
-use Rattle.net_law.specs.Owners.Names.{by_offset}
+use Rattle.owner_law.specs.Pools.Places.{by_offset, pool_hand}
 use Rattle.net_law.specs.Owners.Ends.{stock_window}
 use Rattle.net_law.specs.Parts.Naming.{NamesPart}
 use Rattle.net_law.specs.Parts.Playing.{client_part, stock_pool, HasBuffers}
-use Rattle.net_law.specs.Parts.Rows.{pool_hand}
 use Rattle.net_law.specs.Parts.Table.{net_sheet}
 use Rattle.owner_law.specs.Pools.Handing.{AllCarry, HandsOn}
 use Rattle.owner_law.specs.Pools.Lines.{HoldsIts}
@@ -49,11 +48,9 @@ each_filled ws fs cs all k c at =
     let x = filled_at fs cs k c at in
     subst (HasPage ws) x.3 (filled_page ws x.0 x.1 (all k x.1 x.2))
 
--- a stock whose buffers begin at offset 0, and have 2,048 bytes
-window_is : (s : Stock) → s.base ≡ 0 → s.size ≡ 2048 → stock_window s ≡ by_offset (stock_pool s)
-window_is s base size =
-    ap (λ n. let y : Window = record { pool = s.pool.0; base = n; size = s.size; buffers = s.buffers } in y) base
-    ∙ ap (λ n. let y : Window = record { pool = s.pool.0; base = 0; size = n; buffers = s.buffers } in y) size
+-- a stock whose buffers begin at offset 0
+window_is : (s : Stock) → s.base ≡ 0 → stock_window s ≡ by_offset (stock_pool s)
+window_is s base = ap (λ n. let y : Window = record { pool = s.pool.0; base = n; size = s.size; buffers = s.buffers } in y) base
 
 module _ (naming : Naming) (scene : Scene) (passed : Passed) (m : Moved) (c : NetClient) (names : NamesPart naming scene (client_part c)) where
   abbrev rx : List Window
@@ -71,7 +68,7 @@ module _ (naming : Naming) (scene : Scene) (passed : Passed) (m : Moved) (c : Ne
   -- what it gives are its own buffers, and then those that came
   gives_on : HasBuffers c → ClientRow c passed → AllCarry naming m (rx_active c) (passed.taken (rx_active c)) → AllCarry naming m (rx_free c) (passed.sent (rx_free c))
   gives_on has row came =
-      let own : Each (HasPage rx) (map (given_entry c.stock.base c.stock.size) row.start) = subst (λ (w : Window). Each (HasPage (w ∷ [])) (map (given_entry c.stock.base c.stock.size) row.start)) (window_is c.stock has.base has.size) (start_page c.stock row.start row.is_start) in
+      let own : Each (HasPage rx) (map (given_entry c.stock.base c.stock.size) row.start) = subst (λ (w : Window). Each (HasPage (w ∷ [])) (map (given_entry c.stock.base c.stock.size) row.start)) (window_is c.stock has.base) (start_page c.stock row.start row.is_start) in
       let all = each_joined (HasPage rx) (map (given_entry c.stock.base c.stock.size) row.start) (passed.taken (rx_active c)) own (all_carried rx (rx_active c) names.0.0 (passed.taken (rx_active c)) came) in
       carry_all rx (rx_free c) names.0.1 (passed.sent (rx_free c)) (each_first (HasPage rx) (passed.sent (rx_free c)) (map (given_entry c.stock.base c.stock.size) row.start ++ passed.taken (rx_active c)) row.given all)
 
@@ -80,7 +77,7 @@ module _ (naming : Naming) (scene : Scene) (passed : Passed) (m : Moved) (c : Ne
   sends_on has row back =
       let spare = map (given_entry c.outbox.stock.base c.outbox.stock.size) row.spare in
       let frames : List (List ℕ) = frames_out c.program (map frame_of (passed.taken (rx_active c))) in
-      let own : Each (HasPage tx) spare = subst (λ (w : Window). Each (HasPage (w ∷ [])) spare) (window_is c.outbox.stock has.spare_base has.spare_size) (start_page c.outbox.stock row.spare row.is_spare) in
+      let own : Each (HasPage tx) spare = subst (λ (w : Window). Each (HasPage (w ∷ [])) spare) (window_is c.outbox.stock has.spare_base) (start_page c.outbox.stock row.spare row.is_spare) in
       let all = each_joined (HasPage tx) spare (passed.taken (tx_free c)) own (all_carried tx (tx_free c) names.1.1 (passed.taken (tx_free c)) back) in
       carry_all tx (tx_active c) names.1.0 (passed.sent (tx_active c)) (each_first (HasPage tx) (passed.sent (tx_active c)) (all_filled frames (spare ++ passed.taken (tx_free c))) row.sends.filled (each_filled tx frames (spare ++ passed.taken (tx_free c)) all))
 

@@ -25,8 +25,8 @@ use Rattle.buffer_kit.specs.declared.stock.Stock.{Stock}
 use Rattle.net_virt_rx.specs.Sharing.{lent_many, lent_bodies, sharer_hand}
 use Rattle.net_virt_rx.specs.Receiving.{RxStandsFor}
 use Rattle.net_virt_rx.specs.declared.NetVirtRx.{NetVirtRx}
-use Rattle.net_law.specs.Owners.Names.{by_address, by_offset}
-use Rattle.net_law.specs.Owners.Ends.{AreItemsOf, numbers_from, stock_window}
+use Rattle.owner_law.specs.Pools.Places.{by_address, by_offset, numbers_from}
+use Rattle.net_law.specs.Owners.Ends.{AreItemsOf, stock_window}
 use Rattle.net_law.specs.Owners.Lending.{Lender, lender_ends, LenderNames}
 use Rattle.net_law.specs.RxOwners.Virtualiser.{rx_lender, offset_window, TakesFrames, lent_now}
 use Rattle.net_law.proofs.RxOwners.Lending.{rx_out}
@@ -111,7 +111,7 @@ lessees_went passed (mac ∷ macs) [] from t f = absurd (omega (arith, t))
 lessees_went passed (mac ∷ macs) (q ∷ to) [] t f = absurd (omega (arith, f))
 lessees_went passed (mac ∷ macs) (q ∷ to) (r ∷ from) t f = ap (λ xs. bodies_of (passed.sent q.0) ++ xs) (lessees_went passed macs to from (omega (arith, t)) (omega (arith, f)))
 
-module _ (naming : Naming) (sizes : ℕ → ℕ) (scene : Scene) (v : NetVirtRx) (passed : Passed) (m : Moved) (names : NamesPart naming scene (receiver_part v)) (size : v.work.stock.size ≡ 2048) (items : AreItemsOf (net_sheet scene (receiver_part v)).ends passed m) (takes : TakesFrames (frame_at scene.frames) v passed) (x : RxStandsFor v passed) (none : v.work.stray ≡ None) (to_each : length (to_queues v.ends) ≡ length v.work.macs.items) (from_each : length (from_queues v.ends) ≡ length v.work.macs.items) (sized : sizes v.work.stock.pool.0 ≡ v.work.stock.buffers) where
+module _ (naming : Naming) (sizes : ℕ → ℕ) (scene : Scene) (v : NetVirtRx) (passed : Passed) (m : Moved) (names : NamesPart naming scene (receiver_part v)) (items : AreItemsOf (net_sheet scene (receiver_part v)).ends passed m) (takes : TakesFrames (frame_at scene.frames) v passed) (x : RxStandsFor v passed) (none : v.work.stray ≡ None) (to_each : length (to_queues v.ends) ≡ length v.work.macs.items) (from_each : length (from_queues v.ends) ≡ length v.work.macs.items) (sized : sizes v.work.stock.pool.0 ≡ v.work.stock.buffers) where
   abbrev s : Stock
   s = v.work.stock
 
@@ -122,13 +122,13 @@ module _ (naming : Naming) (sizes : ℕ → ℕ) (scene : Scene) (v : NetVirtRx)
   ends = (net_sheet scene (receiver_part v)).ends
 
   window_is : by_address (stock_pool s) ≡ stock_window s
-  window_is = ap (λ n. let y : Window = record { pool = s.pool.0; base = s.base; size = n; buffers = s.buffers } in y) (sym size)
+  window_is = refl
 
   offset_is : by_offset (stock_pool s) ≡ offset_window s
-  offset_is = ap (λ n. let y : Window = record { pool = s.pool.0; base = 0; size = n; buffers = s.buffers } in y) (sym size)
+  offset_is = refl
 
   lender_is : lender_of scene.frames v.ends.input.queue.0 v.ends.output.queue.0 (stock_pool s) (lessees_of v) ≡ rx_lender frame v
-  lender_is = ap (λ cs. let y : Lender = record { frames = v.ends.input.queue.0; free = v.ends.output.queue.0; clients = cs; hand = Rattle.net_law.specs.Parts.Rows.pool_hand (stock_pool s) } in y) (sym (borrowers_are scene.frames v.work.macs.items (to_queues v.ends) (from_queues v.ends)))
+  lender_is = ap (λ cs. let y : Lender = record { frames = v.ends.input.queue.0; free = v.ends.output.queue.0; clients = cs; hand = Rattle.owner_law.specs.Pools.Places.pool_hand (stock_pool s) } in y) (sym (borrowers_are scene.frames v.work.macs.items (to_queues v.ends) (from_queues v.ends)))
 
   all_ends : ends ≡ lender_ends (rx_lender frame v)
   all_ends = sym (ap (λ l. intake v.ends.input.queue.0 ∷ outlet v.ends.output.queue.0 ∷ l) (ends_are scene.frames (lessees_of v))) ∙ ap lender_ends lender_is

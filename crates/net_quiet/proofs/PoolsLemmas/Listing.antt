@@ -10,7 +10,8 @@ use Rattle.play_core.specs.Still.{Holds}
 use Rattle.play_core.proofs.Lists.{there_is}
 use Rattle.owner_law.specs.Things.{Window, NoBuffers, Answers, Naming}
 use Rattle.owner_law.specs.Keeping.{is_lending, IsNaming}
-use Rattle.net_law.specs.Owners.Names.{PoolAt, ClientPools, client_names}
+use Rattle.net_law.specs.Owners.Names.{ClientPools, client_names}
+use Rattle.owner_law.specs.Pools.Places.{PoolAt}
 use Rattle.net_law.specs.Parts.Numbers.{client_first, layout_naming}
 
 -- at the clients' queues

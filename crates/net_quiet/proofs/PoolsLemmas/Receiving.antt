@@ -23,7 +23,7 @@ use Rattle.buffer_kit.specs.declared.stock.Stock.{Stock}
 use Rattle.net_virt_rx.specs.Sharing.{IsBuffer, lease_of, leases_for}
 use Rattle.net_virt_rx.specs.Receiving.{RxRow}
 use Rattle.net_virt_rx.specs.declared.NetVirtRx.{NetVirtRx}
-use Rattle.net_law.specs.Owners.Names.{by_address}
+use Rattle.owner_law.specs.Pools.Places.{by_address}
 use Rattle.net_law.specs.Owners.Ends.{stock_window}
 use Rattle.net_law.proofs.OwnersLemmas.Clients.{at_address}
 use Rattle.net_law.specs.RxOwners.Virtualiser.{AreNet}
@@ -57,7 +57,7 @@ lease_none size mac cs k c at b =
     let x = map_from (lease_of size) (Rattle.std.specs.List.filter (λ d. Rattle.net_expect.specs.Expecting.is_for_client mac (Rattle.buffer_kit.specs.Entries.frame_of d)) cs) k c at in
     ap (λ (d : Cargo). as_page b d.1) (sym x.2)
 
-module _ (naming : Naming) (scene : Scene) (passed : Passed) (m : Moved) (v : NetVirtRx) (names : NamesPart naming scene (receiver_part v)) (size : v.work.stock.size ≡ 2048) (net : AreNet (passed.sent v.ends.output.queue.0)) (row : RxRow v passed) where
+module _ (naming : Naming) (scene : Scene) (passed : Passed) (m : Moved) (v : NetVirtRx) (names : NamesPart naming scene (receiver_part v)) (net : AreNet (passed.sent v.ends.output.queue.0)) (row : RxRow v passed) where
   abbrev s : Stock
   s = v.work.stock
 
@@ -65,7 +65,7 @@ module _ (naming : Naming) (scene : Scene) (passed : Passed) (m : Moved) (v : Ne
   gave = passed.sent v.ends.output.queue.0
 
   window_is : stock_window s ≡ by_address (stock_pool s)
-  window_is = ap (λ n. let x : Window = record { pool = s.pool.0; base = s.base; size = n; buffers = s.buffers } in x) size
+  window_is = refl
 
   own_carry : AllCarry naming m v.ends.output.queue.0 gave
   own_carry k c at =

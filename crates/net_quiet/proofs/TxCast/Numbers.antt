@@ -16,7 +16,8 @@ use Rattle.net_virt_tx.specs.declared.NetVirtTx.{NetVirtTx}
 use Rattle.net_virt_tx.specs.declared.descriptors.Sender.{Sender}
 use Rattle.net_virt_tx.specs.Traffics.{senders}
 use Rattle.buffer_kit.specs.Virtualising.{from_queues, to_queues}
-use Rattle.net_law.specs.Owners.Names.{PoolAt, ClientPools}
+use Rattle.net_law.specs.Owners.Names.{ClientPools}
+use Rattle.owner_law.specs.Pools.Places.{PoolAt}
 use Rattle.net_law.specs.Parts.Parts.{Way}
 use Rattle.net_law.specs.Parts.Numbers.{client_first, device_at, driver_at, client_at}
 use Rattle.net_law.specs.Parts.Playing.{way_of, device_part, driver_part, client_part, stock_pool}
@@ -39,62 +40,68 @@ client_queues first k program mac q c e = (cc, cc, cc, cc)
 pub client_plays : (first k : ℕ) (program : Program) (mac : Mac) (q : ClientPools) (c : NetClient) → client_part c ≡ client_at first k program mac (own_pools q) → (program_of c.program ≡ program) × (c.program.mac ≡ mac)
 client_plays first k program mac q c e = (cc, cc)
 
-pub client_ships : (first k : ℕ) (program : Program) (mac : Mac) (q : ClientPools) (c : NetClient) → client_part c ≡ client_at first k program mac (own_pools q) → (c.outbox.stock.pool.0 ≡ q.tx.number) × (c.outbox.stock.base ≡ 0) × (c.outbox.stock.buffers ≡ q.tx.buffers)
+pub client_ships : (first k : ℕ) (program : Program) (mac : Mac) (q : ClientPools) (c : NetClient) → client_part c ≡ client_at first k program mac (own_pools q) → (c.outbox.stock.pool.0 ≡ q.tx.number) × (c.outbox.stock.base ≡ 0) × (c.outbox.stock.buffers ≡ q.tx.buffers) × (c.outbox.stock.size ≡ q.tx.size)
 client_ships first k program mac q c e =
     let own : stock_pool c.outbox.stock ≡ (own_pools q).tx = cc in
-    (ap (λ (p : PoolAt). p.number) own, ap (λ (p : PoolAt). p.base) own, ap (λ (p : PoolAt). p.buffers) own)
+    (ap (λ (p : PoolAt). p.number) own, ap (λ (p : PoolAt). p.base) own, ap (λ (p : PoolAt). p.buffers) own, ap (λ (p : PoolAt). p.size) own)
 
-pub sender_queues : (first : ℕ) (pools : List ClientPools) (v : NetVirtTx) → send_part v ≡ sender_at first pools → (v.ends.output.queue.0 ≡ first + 6) × (v.ends.input.queue.0 ≡ first + 7) × (shippers (senders v.work) (from_queues v.ends) (to_queues v.ends) ≡ shippers_from first 0 pools)
-sender_queues first pools v e = (ap (λ (p : SendPart). p.active) e, ap (λ (p : SendPart). p.free) e, ap (λ (p : SendPart). p.clients) e)
+-- a client's buffers for receiving are as long as its pool's
+pub client_rx : (first k : ℕ) (program : Program) (mac : Mac) (q : ClientPools) (c : NetClient) → client_part c ≡ client_at first k program mac (own_pools q) → c.stock.size ≡ q.rx.size
+client_rx first k program mac q c e =
+    let own : stock_pool c.stock ≡ (own_pools q).rx = cc in
+    ap (λ (p : PoolAt). p.size) own
+
+pub sender_queues : (first most : ℕ) (pools : List ClientPools) (v : NetVirtTx) → send_part v ≡ sender_at first most pools → (v.ends.output.queue.0 ≡ first + 6) × (v.ends.input.queue.0 ≡ first + 7) × (shippers (senders v.work) (from_queues v.ends) (to_queues v.ends) ≡ shippers_from first most 0 pools)
+sender_queues first most pools v e = (ap (λ (p : SendPart). p.active) e, ap (λ (p : SendPart). p.free) e, ap (λ (p : SendPart). p.clients) e)
 
 -- the client of a number has these pools, and the virtualiser these queues for it
-abbrev pub Ships : (first n : ℕ) → Sender → (q r : QueueId) → ClientPools → Type 0
-Ships first n s q r p = (sender_pool s ≡ p.tx) × (q.0 ≡ client_first first n + 4) × (r.0 ≡ client_first first n + 5)
+abbrev pub Ships : (first most n : ℕ) → Sender → (q r : QueueId) → ClientPools → Type 0
+Ships first most n s q r p = (sender_pool s ≡ p.tx) × (q.0 ≡ client_first first n + 4) × (r.0 ≡ client_first first n + 5) × (s.most ≡ most)
 
 shipper : Sender → QueueId → QueueId → Shipper
-shipper s q r = record { active = q.0; free = r.0; pool = sender_pool s }
+shipper s q r = record { active = q.0; free = r.0; pool = sender_pool s; most = s.most }
 
-ships : (first n : ℕ) (s : Sender) (q r : QueueId) (p : ClientPools) → shipper s q r ≡ record { active = client_first first n + 4; free = client_first first n + 5; pool = p.tx } → Ships first n s q r p
+ships : (first most n : ℕ) (s : Sender) (q r : QueueId) (p : ClientPools) → shipper s q r ≡ record { active = client_first first n + 4; free = client_first first n + 5; pool = p.tx; most = most } → Ships first most n s q r p
 unfolding shipper
-ships first n s q r p e = (ap (λ (c : Shipper). c.pool) e, ap (λ (c : Shipper). c.active) e, ap (λ (c : Shipper). c.free) e)
+ships first most n s q r p e = (ap (λ (c : Shipper). c.pool) e, ap (λ (c : Shipper). c.active) e, ap (λ (c : Shipper). c.free) e, ap (λ (c : Shipper). c.most) e)
 
 -- what is there of one after the first
-next_ships : (first j k : ℕ) (s : Sender) (q r : QueueId) (p : ClientPools) → Ships first (j + 1 + k) s q r p → Ships first (j + suc k) s q r p
-next_ships first j k s q r p h =
+next_ships : (first most j k : ℕ) (s : Sender) (q r : QueueId) (p : ClientPools) → Ships first most (j + 1 + k) s q r p → Ships first most (j + suc k) s q r p
+next_ships first most j k s q r p h =
     let shift : j + 1 + k ≡ j + suc k = omega arith in
-    (h.0, h.1 ∙ ap (λ n. client_first first n + 4) shift, h.2 ∙ ap (λ n. client_first first n + 5) shift)
+    (h.0, h.1 ∙ ap (λ n. client_first first n + 4) shift, h.2 ∙ ap (λ n. client_first first n + 5) shift, h.3)
 
-first_ships : (first j : ℕ) (s : Sender) (q r : QueueId) (p : ClientPools) → Ships first j s q r p → Ships first (j + 0) s q r p
-first_ships first j s q r p h =
+first_ships : (first most j : ℕ) (s : Sender) (q r : QueueId) (p : ClientPools) → Ships first most j s q r p → Ships first most (j + 0) s q r p
+first_ships first most j s q r p h =
     let plus : j ≡ j + 0 = omega arith in
-    (h.0, h.1 ∙ ap (λ n. client_first first n + 4) plus, h.2 ∙ ap (λ n. client_first first n + 5) plus)
+    (h.0, h.1 ∙ ap (λ n. client_first first n + 4) plus, h.2 ∙ ap (λ n. client_first first n + 5) plus, h.3)
 
 -- clients with a queue each way have the pools and the queues that their list tells
-pub shippers_are : (first j : ℕ) (ss : List Sender) (ps : List ClientPools) (from to : List QueueId) → length from ≡ length ss → length to ≡ length ss → shippers ss from to ≡ shippers_from first j ps
-    → (length ss ≡ length ps) × ((k : ℕ) (s : Sender) (q r : QueueId) → slice_get ss k ≡ Some s → slice_get from k ≡ Some q → slice_get to k ≡ Some r → (p : ClientPools) × (slice_get ps k ≡ Some p) × Ships first (j + k) s q r p)
+pub shippers_are : (first most j : ℕ) (ss : List Sender) (ps : List ClientPools) (from to : List QueueId) → length from ≡ length ss → length to ≡ length ss → shippers ss from to ≡ shippers_from first most j ps
+    → (length ss ≡ length ps) × ((k : ℕ) (s : Sender) (q r : QueueId) → slice_get ss k ≡ Some s → slice_get from k ≡ Some q → slice_get to k ≡ Some r → (p : ClientPools) × (slice_get ps k ≡ Some p) × Ships first most (j + k) s q r p)
 unfolding shipper
-shippers_are first j [] [] from to lf lt e = (refl, λ k s q r at fat tat. cc)
-shippers_are first j [] (p ∷ ps) from to lf lt e = absurd cc
-shippers_are first j (s ∷ ss) ps [] to lf lt e = absurd (omega (arith, lf))
-shippers_are first j (s ∷ ss) ps (q ∷ from) [] lf lt e = absurd (omega (arith, lt))
-shippers_are first j (s ∷ ss) [] (q ∷ from) (r ∷ to) lf lt e = absurd cc
-shippers_are first j (s ∷ ss) (p ∷ ps) (q ∷ from) (r ∷ to) lf lt e =
-    let rest = shippers_are first (j + 1) ss ps from to (omega (arith, lf)) (omega (arith, lt)) cc in
+shippers_are first most j [] [] from to lf lt e = (refl, λ k s q r at fat tat. cc)
+shippers_are first most j [] (p ∷ ps) from to lf lt e = absurd cc
+shippers_are first most j (s ∷ ss) ps [] to lf lt e = absurd (omega (arith, lf))
+shippers_are first most j (s ∷ ss) ps (q ∷ from) [] lf lt e = absurd (omega (arith, lt))
+shippers_are first most j (s ∷ ss) [] (q ∷ from) (r ∷ to) lf lt e = absurd cc
+shippers_are first most j (s ∷ ss) (p ∷ ps) (q ∷ from) (r ∷ to) lf lt e =
+    let rest = shippers_are first most (j + 1) ss ps from to (omega (arith, lf)) (omega (arith, lt)) cc in
     let many = rest.0 in
-    (omega (arith, many), each (ships first j s q r p (head e)) rest.1)
+    (omega (arith, many), each (ships first most j s q r p (head e)) rest.1)
   where
-    head : shippers (s ∷ ss) (q ∷ from) (r ∷ to) ≡ shippers_from first j (p ∷ ps) → shipper s q r ≡ record { active = client_first first j + 4; free = client_first first j + 5; pool = p.tx }
+    head : shippers (s ∷ ss) (q ∷ from) (r ∷ to) ≡ shippers_from first most j (p ∷ ps) → shipper s q r ≡ record { active = client_first first j + 4; free = client_first first j + 5; pool = p.tx; most = most }
     head h = cc
 
-    each : Ships first j s q r p
-        → ((k : ℕ) (s' : Sender) (q' r' : QueueId) → slice_get ss k ≡ Some s' → slice_get from k ≡ Some q' → slice_get to k ≡ Some r' → (p' : ClientPools) × (slice_get ps k ≡ Some p') × Ships first (j + 1 + k) s' q' r' p')
-        → (k : ℕ) (s' : Sender) (q' r' : QueueId) → slice_get (s ∷ ss) k ≡ Some s' → slice_get (q ∷ from) k ≡ Some q' → slice_get (r ∷ to) k ≡ Some r' → (p' : ClientPools) × (slice_get (p ∷ ps) k ≡ Some p') × Ships first (j + k) s' q' r' p'
+    each : Ships first most j s q r p
+        → ((k : ℕ) (s' : Sender) (q' r' : QueueId) → slice_get ss k ≡ Some s' → slice_get from k ≡ Some q' → slice_get to k ≡ Some r' → (p' : ClientPools) × (slice_get ps k ≡ Some p') × Ships first most (j + 1 + k) s' q' r' p')
+        → (k : ℕ) (s' : Sender) (q' r' : QueueId) → slice_get (s ∷ ss) k ≡ Some s' → slice_get (q ∷ from) k ≡ Some q' → slice_get (r ∷ to) k ≡ Some r' → (p' : ClientPools) × (slice_get (p ∷ ps) k ≡ Some p') × Ships first most (j + k) s' q' r' p'
     each here rest zero s' q' r' at fat tat =
         let a : s ≡ s' = some_is at in
         let b : q ≡ q' = some_is fat in
         let c : r ≡ r' = some_is tat in
-        let h = first_ships first j s q r p here in
-        (p, refl, (ap sender_pool (sym a) ∙ h.0, ap (λ (x : QueueId). x.0) (sym b) ∙ h.1, ap (λ (x : QueueId). x.0) (sym c) ∙ h.2))
+        let h = first_ships first most j s q r p here in
+        (p, refl, (ap sender_pool (sym a) ∙ h.0, ap (λ (x : QueueId). x.0) (sym b) ∙ h.1, ap (λ (x : QueueId). x.0) (sym c) ∙ h.2, ap (λ (x : Sender). x.most) (sym a) ∙ h.3))
     each here rest (suc k) s' q' r' at fat tat =
         let h = rest k s' q' r' at fat tat in
-        (h.0, h.1, next_ships first j k s' q' r' h.0 h.2)
+        (h.0, h.1, next_ships first most j k s' q' r' h.0 h.2)

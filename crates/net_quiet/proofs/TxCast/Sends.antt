@@ -42,26 +42,26 @@ turned_long frame mac six long =
     let whole : length (turned_round frame mac) ≡ length ((take 6 (drop 6 frame) ++ mac.0) ++ drop 12 frame) = refl in
     omega (arith, source, rest, parts, own, whole, six, long)
 
-answer_frame : (frame : List ℕ) (mac : Mac) → length mac.0 ≡ 6 → IsFrame frame → IsFrame (answer_to mac frame)
-answer_frame frame mac six is =
+answer_frame : (most : ℕ) (frame : List ℕ) (mac : Mac) → length mac.0 ≡ 6 → IsFrame most frame → IsFrame most (answer_to mac frame)
+answer_frame most frame mac six is =
     let same = turned_long frame mac six is.0 in
-    let turned : IsFrame (turned_round frame mac) = (let low = is.0 in omega (arith, same, low), let high = is.1 in omega (arith, same, high)) in
-    subst (λ (b : Bool). IsFrame (cond b (turned_round frame mac) frame)) (sym (le-leb 14 (length frame) is.0)) turned
+    let turned : IsFrame most (turned_round frame mac) = (let low = is.0 in omega (arith, same, low), let high = is.1 in omega (arith, same, high)) in
+    subst (λ (b : Bool). IsFrame most (cond b (turned_round frame mac) frame)) (sym (le-leb 14 (length frame) is.0)) turned
 
 -- what is for a client are some of the frames
-for_frames : (mac : Mac) (frames : List (List ℕ)) → AreFrames frames → AreFrames (frames_for mac frames)
-for_frames mac frames are k frame at = let kept = kept_is (is_for_client mac) frames k frame at in are kept.1.0 frame kept.1.1
+for_frames : (most : ℕ) (mac : Mac) (frames : List (List ℕ)) → AreFrames most frames → AreFrames most (frames_for mac frames)
+for_frames most mac frames are k frame at = let kept = kept_is (is_for_client mac) frames k frame at in are kept.1.0 frame kept.1.1
 
-begun_frames : (xs ys : List (List ℕ)) → IsPrefix xs ys → AreFrames ys → AreFrames xs
-begun_frames xs ys begins are k frame at = are k frame (prefix_get xs ys begins k frame at)
+begun_frames : (most : ℕ) (xs ys : List (List ℕ)) → IsPrefix xs ys → AreFrames most ys → AreFrames most xs
+begun_frames most xs ys begins are k frame at = are k frame (prefix_get xs ys begins k frame at)
 
 -- what a client sends where these came
-pub out_frames : (program : Program) (mac : Mac) (came : List (List ℕ)) → length mac.0 ≡ 6 → AreFrames came → ((script : List (List ℕ)) → program ≡ Source script → AreFrames script) → AreFrames (sent_for program mac came)
-out_frames Sink mac came six are scripts k frame at = absurd cc
-out_frames (Source script) mac came six are scripts k frame at = scripts script refl k frame at
-out_frames Echo mac came six are scripts k frame at =
+pub out_frames : (most : ℕ) (program : Program) (mac : Mac) (came : List (List ℕ)) → length mac.0 ≡ 6 → AreFrames most came → ((script : List (List ℕ)) → program ≡ Source script → AreFrames most script) → AreFrames most (sent_for program mac came)
+out_frames most Sink mac came six are scripts k frame at = absurd cc
+out_frames most (Source script) mac came six are scripts k frame at = scripts script refl k frame at
+out_frames most Echo mac came six are scripts k frame at =
     let f = map_from (answer_to mac) came k frame at in
-    subst IsFrame f.2 (answer_frame f.0 mac six (are k f.0 f.1))
+    subst (IsFrame most) f.2 (answer_frame most f.0 mac six (are k f.0 f.1))
 
 -- the frame with which an entry is filled is one of those
 pub filled_from : (fs : List (List ℕ)) (cs : List Cargo) (k : ℕ) (c : Cargo) → slice_get (all_filled fs cs) k ≡ Some c → (f : List ℕ) × (y : Cargo) × (slice_get fs k ≡ Some f) × (slice_get cs k ≡ Some y) × (filled f y ≡ c)
@@ -72,7 +72,7 @@ filled_from (f ∷ fs) (y ∷ cs) (suc k) c at = filled_from fs cs k c at
 
 -- a client of a number, with what it recorded
 module _ (net : NetPlace) (k : ℕ) (program : Program) (mac : Mac) (q : ClientPools) (frames : List (List ℕ)) (c : NetClient) (passed : Passed) (h : IsSendingClient net k program mac q c passed)
-    (six : length mac.0 ≡ 6) (received : AreFrames frames) (scripts : (script : List (List ℕ)) → program ≡ Source script → AreFrames script) (records : IsPrefix c.frames.tape.shown (frames_for mac frames)) where
+    (six : length mac.0 ≡ 6) (received : AreFrames net.most frames) (scripts : (script : List (List ℕ)) → program ≡ Source script → AreFrames net.most script) (records : IsPrefix c.frames.tape.shown (frames_for mac frames)) (fits : net.most ≤ q.tx.size) where
   abbrev put : List Cargo
   put = passed.sent (client.tx_active c)
 
@@ -94,38 +94,41 @@ module _ (net : NetPlace) (k : ℕ) (program : Program) (mac : Mac) (q : ClientP
   plays : (program_of c.program ≡ program) × (c.program.mac ≡ mac)
   plays = client_plays net.first k program mac q c h.part
 
-  ships : (c.outbox.stock.pool.0 ≡ q.tx.number) × (c.outbox.stock.base ≡ 0) × (c.outbox.stock.buffers ≡ q.tx.buffers)
+  ships : (c.outbox.stock.pool.0 ≡ q.tx.number) × (c.outbox.stock.base ≡ 0) × (c.outbox.stock.buffers ≡ q.tx.buffers) × (c.outbox.stock.size ≡ q.tx.size)
   ships = client_ships net.first k program mac q c h.part
 
-  -- the frames that it sends
-  out_are : AreFrames out
-  out_are = subst (λ p. AreFrames (sent_for p c.program.mac came)) (sym plays.0) (subst (λ m. AreFrames (sent_for program m came)) (sym plays.1)
-      (out_frames program mac came six (begun_frames came (frames_for mac frames) (subst (λ l. IsPrefix l (frames_for mac frames)) h.row.got records) (for_frames mac frames received)) scripts))
+  some : 1 ≤ q.tx.size
+  some = let e = ships.3 in let s = h.row.is_spare.are_pool.some in omega (arith, e, s)
 
-  had_is : had ≡ map (given_entry 0 2048) spare
-  had_is = ap₂ (λ b n. map (given_entry b n) spare) ships.1 h.spare_size
+  -- the frames that it sends
+  out_are : AreFrames net.most out
+  out_are = subst (λ p. AreFrames net.most (sent_for p c.program.mac came)) (sym plays.0) (subst (λ m. AreFrames net.most (sent_for program m came)) (sym plays.1)
+      (out_frames net.most program mac came six (begun_frames net.most came (frames_for mac frames) (subst (λ l. IsPrefix l (frames_for mac frames)) h.row.got records) (for_frames net.most mac frames received)) scripts))
+
+  had_is : had ≡ map (given_entry 0 q.tx.size) spare
+  had_is = ap₂ (λ b n. map (given_entry b n) spare) ships.1 ships.3
 
   -- its own buffers
   had_at : (j : ℕ) (x : Cargo) → slice_get had j ≡ Some x → IsAtBuffer q.tx x
   had_at j x at =
-      let f = map_from (given_entry 0 2048) spare j x (ap (λ l. slice_get l j) (sym had_is) ∙ at) in
+      let f = map_from (given_entry 0 q.tx.size) spare j x (ap (λ l. slice_get l j) (sym had_is) ∙ at) in
       let page : Paged = f.0 in
       let start = h.row.is_spare in
       let below = there_below spare j page f.1 in
       let few : page.no < q.tx.buffers = (let n = start.are_pool.numbered j page f.1 in let m = start.many in let e = ships.2 in omega (arith, below, n, m, e)) in
-      subst (IsAtBuffer q.tx) f.2 (given_at q.tx c.outbox.stock.pool page ships.0 (start.are_pool.same_pool j page f.1) few (start.are_pool.sized j page f.1 ∙ h.spare_size))
+      subst (IsAtBuffer q.tx) f.2 (given_at q.tx c.outbox.stock.pool page ships.0 (start.are_pool.same_pool j page f.1) few (start.are_pool.sized j page f.1 ∙ ships.3))
 
   -- a buffer is in its hand when it is put
-  pub in_hand : (b : ℕ) → at_address (b * 2048) put ≤ at_address (b * 2048) back + 1
+  pub in_hand : (b : ℕ) → at_address (b * q.tx.size) put ≤ at_address (b * q.tx.size) back + 1
   in_hand b =
-      let first = at_few (b * 2048) put (all_filled out (had ++ back)) h.row.sends.filled in
-      let second = filled_few (b * 2048) out (had ++ back) in
-      let parts = at_append (b * 2048) had back in
-      let once = numbered_once 0 b spare (λ j p at. let n = h.row.is_spare.are_pool.numbered j p at in omega (arith, n)) in
-      let own = ap (at_address (b * 2048)) had_is in
+      let first = at_few (b * q.tx.size) put (all_filled out (had ++ back)) h.row.sends.filled in
+      let second = filled_few (b * q.tx.size) out (had ++ back) in
+      let parts = at_append (b * q.tx.size) had back in
+      let once = numbered_once q.tx.size some 0 b spare (λ j p at. let n = h.row.is_spare.are_pool.numbered j p at in omega (arith, n)) in
+      let own = ap (at_address (b * q.tx.size)) had_is in
       omega (arith, first, second, parts, once, own)
 
-  module _ (good : AreSends q.tx back) where
+  module _ (good : AreSends net.most q.tx back) where
     -- the buffers in which it sends
     all_at : (j : ℕ) (x : Cargo) → slice_get (had ++ back) j ≡ Some x → IsAtBuffer q.tx x
     all_at j x at = by (cases_lt j (length had))
@@ -139,12 +142,12 @@ module _ (net : NetPlace) (k : ℕ) (program : Program) (mac : Mac) (q : ClientP
             let i = j - length had in
             let parts : j ≡ length had + i = omega (arith, past) in
             let behind : slice_get back i ≡ Some x = sym (get_behind had back i) ∙ (ap (slice_get (had ++ back)) (sym parts) ∙ at) in
-            send_buffer q.tx x (good i x behind)
+            send_buffer net.most q.tx x (good i x behind)
 
-    pub puts : AreSends q.tx put
+    pub puts : AreSends net.most q.tx put
     puts j x at =
         let f = filled_from out (had ++ back) j x (prefix_get put (all_filled out (had ++ back)) h.row.sends.filled j x at) in
-        subst (IsSend q.tx) f.4 (filled_sends q.tx f.0 f.1 (out_are j f.0 f.2) (all_at j f.1 f.3))
+        subst (IsSend net.most q.tx) f.4 (filled_sends net.most q.tx fits f.0 f.1 (out_are j f.0 f.2) (all_at j f.1 f.3))
 
     pub begins : IsPrefix (map frame_of put) (sends_of program mac frames)
     begins =
@@ -153,10 +156,10 @@ module _ (net : NetPlace) (k : ℕ) (program : Program) (mac : Mac) (q : ClientP
           row = h.row;
           address = plays.1;
           came = records;
-          room = roomy out (had ++ back) (λ j f at. let high = (out_are j f at).1 in omega (arith, high)) (λ j x at. long_at x (all_at j x at));
+          room = roomy q.tx.size out (had ++ back) (λ j f at. let high = (out_are j f at).1 in omega (arith, high, fits)) (λ j x at. long_at x (all_at j x at));
         }))
       where
-        long_at : (x : Cargo) → IsAtBuffer q.tx x → IsLong x
+        long_at : (x : Cargo) → IsAtBuffer q.tx x → IsLong q.tx.size x
         long_at (item, Carried.Page page) is = (is.0, is.4)
         long_at (item, Carried.Empty) is = absurd is
         long_at (item, Carried.Lease lease) is = absurd is

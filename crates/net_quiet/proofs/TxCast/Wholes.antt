@@ -28,6 +28,7 @@ use Rattle.net_law.specs.Wire.Telling.{told_frames}
 use Rattle.net_law.proofs.WireLemmas.Wires.{wire_sends}
 use Rattle.net_law.proofs.WireLemmas.Telling.{wire_told}
 use Rattle.net_law.specs.Owners.Names.{ClientPools}
+use Rattle.owner_law.specs.Pools.Places.{PoolAt}
 use Rattle.net_law.specs.Parts.Numbers.{client_first}
 use Rattle.net_law.proofs.PartsLemmas.Leasing.{prefix_get}
 use Rattle.owner_law.proofs.PoolsLemmas.Merging.{Each, each_begun, kept_is}
@@ -39,7 +40,7 @@ use Rattle.net_quiet.proofs.CastLemmas.Casting.{cast_records}
 use Rattle.net_quiet.specs.TxTurns.Turning.{IsSendHalf, SendsFromHand}
 use Rattle.net_quiet.proofs.TxTurns.Turning.{comes_back, none_stray, takes_good}
 use Rattle.net_quiet.specs.TxCast.Casting.{AreSends, AreFrames, AllSend, IsSend, IsClientOf, IsSendingClient, IsWholeCast, sends_at, wire_at}
-use Rattle.net_quiet.proofs.TxCast.Numbers.{Ships, device_sends, driver_sends, client_queues, sender_queues, shippers_are}
+use Rattle.net_quiet.proofs.TxCast.Numbers.{Ships, device_sends, driver_sends, client_queues, sender_queues, shippers_are, client_rx}
 use Rattle.net_quiet.proofs.TxCast.Entries.{send_good}
 use Rattle.net_quiet.proofs.TxCast.Sends as one
 
@@ -68,38 +69,42 @@ sends_many (p ∷ ps) [] frames e = absurd (omega (arith, e))
 sends_many (p ∷ ps) (m ∷ ms) frames e = let rest = sends_many ps ms frames (omega (arith, e)) in omega (arith, rest)
 
 module _ (net : NetPlace) (frames : List (List ℕ)) (passed : Passed) (h : IsWholeCast net frames passed) where
+  -- no frame is longer than a buffer of a client's
+  pub client_long : (k : ℕ) (q : ClientPools) → slice_get net.pools k ≡ Some q → {size : ℕ} → size ≡ q.rx.size → (j : ℕ) (f : List ℕ) → slice_get frames j ≡ Some f → length f ≤ size
+  client_long k q at is j f f_at = let high = (h.received j f f_at).1 in let fits = (h.fits_client k q at).0 in omega (arith, high, fits, is)
+
   -- what the client of a number recorded
   recorded : (k : ℕ) (program : Program) (mac : Mac) (q : ClientPools) → IsClientOf net k program mac q → (c : NetClient) → IsSendingClient net k program mac q c passed → IsPrefix c.frames.tape.shown (frames_for mac frames)
   recorded k program mac q of c is =
       let own = client_queues net.first k program mac q c is.part in
-      let at : IsClientAt net.first k c passed = record { active = own.0; free = own.1; size = is.size; some = is.some; row = is.row } in
+      let at : IsClientAt net.first k frames c passed = record { active = own.0; free = own.1; long = λ j f f_at. client_long k q of.pools (client_rx net.first k program mac q c is.part) j f f_at; some = is.some; row = is.row } in
       cast_records net.first frames net.pool net.macs passed h.half k mac of.address c at
 
-  scripts_of : (k : ℕ) (program : Program) (mac : Mac) (q : ClientPools) → IsClientOf net k program mac q → (script : List (List ℕ)) → program ≡ Source script → AreFrames script
+  scripts_of : (k : ℕ) (program : Program) (mac : Mac) (q : ClientPools) → IsClientOf net k program mac q → (script : List (List ℕ)) → program ≡ Source script → AreFrames net.most script
   scripts_of k program mac q of script is = h.scripts k script (of.plays ∙ ap (λ (p : Program). Some p) is)
 
-  pub client_puts : (k : ℕ) (program : Program) (mac : Mac) (q : ClientPools) → IsClientOf net k program mac q → AreSends q.tx (passed.taken (client_first net.first k + 5)) → AreSends q.tx (passed.sent (client_first net.first k + 4))
+  pub client_puts : (k : ℕ) (program : Program) (mac : Mac) (q : ClientPools) → IsClientOf net k program mac q → AreSends net.most q.tx (passed.taken (client_first net.first k + 5)) → AreSends net.most q.tx (passed.sent (client_first net.first k + 4))
   client_puts k program mac q of back =
       let c = h.clients k program mac q of in
       let own = client_queues net.first k program mac q c.0 c.1.part in
-      subst (λ n. AreSends q.tx (passed.sent n)) own.2
-      (one.puts net k program mac q frames c.0 passed c.1 (h.addresses k mac of.address) h.received (scripts_of k program mac q of) (recorded k program mac q of c.0 c.1) (subst (λ n. AreSends q.tx (passed.taken n)) (sym own.3) back))
+      subst (λ n. AreSends net.most q.tx (passed.sent n)) own.2
+      (one.puts net k program mac q frames c.0 passed c.1 (h.addresses k mac of.address) h.received (scripts_of k program mac q of) (recorded k program mac q of c.0 c.1) (h.fits_client k q of.pools).1 (subst (λ n. AreSends net.most q.tx (passed.taken n)) (sym own.3) back))
 
-  client_hand : (k : ℕ) (program : Program) (mac : Mac) (q : ClientPools) → IsClientOf net k program mac q → (b : ℕ) → at_address (b * 2048) (passed.sent (client_first net.first k + 4)) ≤ at_address (b * 2048) (passed.taken (client_first net.first k + 5)) + 1
+  client_hand : (k : ℕ) (program : Program) (mac : Mac) (q : ClientPools) → IsClientOf net k program mac q → (b : ℕ) → at_address (b * q.tx.size) (passed.sent (client_first net.first k + 4)) ≤ at_address (b * q.tx.size) (passed.taken (client_first net.first k + 5)) + 1
   client_hand k program mac q of b =
       let c = h.clients k program mac q of in
       let own = client_queues net.first k program mac q c.0 c.1.part in
-      let hand = one.in_hand net k program mac q frames c.0 passed c.1 (h.addresses k mac of.address) h.received (scripts_of k program mac q of) (recorded k program mac q of c.0 c.1) b in
-      let put = ap (λ n. at_address (b * 2048) (passed.sent n)) own.2 in
-      let back = ap (λ n. at_address (b * 2048) (passed.taken n)) own.3 in
+      let hand = one.in_hand net k program mac q frames c.0 passed c.1 (h.addresses k mac of.address) h.received (scripts_of k program mac q of) (recorded k program mac q of c.0 c.1) (h.fits_client k q of.pools).1 b in
+      let put = ap (λ n. at_address (b * q.tx.size) (passed.sent n)) own.2 in
+      let back = ap (λ n. at_address (b * q.tx.size) (passed.taken n)) own.3 in
       omega (arith, hand, put, back)
 
-  client_begins : (k : ℕ) (program : Program) (mac : Mac) (q : ClientPools) → IsClientOf net k program mac q → AreSends q.tx (passed.taken (client_first net.first k + 5)) → IsPrefix (map frame_of (passed.sent (client_first net.first k + 4))) (sends_of program mac frames)
+  client_begins : (k : ℕ) (program : Program) (mac : Mac) (q : ClientPools) → IsClientOf net k program mac q → AreSends net.most q.tx (passed.taken (client_first net.first k + 5)) → IsPrefix (map frame_of (passed.sent (client_first net.first k + 4))) (sends_of program mac frames)
   client_begins k program mac q of back =
       let c = h.clients k program mac q of in
       let own = client_queues net.first k program mac q c.0 c.1.part in
       subst (λ n. IsPrefix (map frame_of (passed.sent n)) (sends_of program mac frames)) own.2
-      (one.begins net k program mac q frames c.0 passed c.1 (h.addresses k mac of.address) h.received (scripts_of k program mac q of) (recorded k program mac q of c.0 c.1) (subst (λ n. AreSends q.tx (passed.taken n)) (sym own.3) back))
+      (one.begins net k program mac q frames c.0 passed c.1 (h.addresses k mac of.address) h.received (scripts_of k program mac q of) (recorded k program mac q of c.0 c.1) (h.fits_client k q of.pools).1 (subst (λ n. AreSends net.most q.tx (passed.taken n)) (sym own.3) back))
 
   -- the client of a number is there
   client_there : (k : ℕ) (q : ClientPools) → slice_get net.pools k ≡ Some q → (program : Program) × (mac : Mac) × IsClientOf net k program mac q
@@ -116,21 +121,21 @@ module _ (net : NetPlace) (frames : List (List ℕ)) (passed : Passed) (h : IsWh
     abbrev v : NetVirtTx
     v = h.sender
 
-    virtualised : (v.ends.output.queue.0 ≡ net.first + 6) × (v.ends.input.queue.0 ≡ net.first + 7) × (shippers (senders v.work) (from_queues v.ends) (to_queues v.ends) ≡ shippers_from net.first 0 net.pools)
-    virtualised = sender_queues net.first net.pools v h.sender_at.part
+    virtualised : (v.ends.output.queue.0 ≡ net.first + 6) × (v.ends.input.queue.0 ≡ net.first + 7) × (shippers (senders v.work) (from_queues v.ends) (to_queues v.ends) ≡ shippers_from net.first net.most 0 net.pools)
+    virtualised = sender_queues net.first net.most net.pools v h.sender_at.part
 
-    shipped : (length (senders v.work) ≡ length net.pools) × ((k : ℕ) (s : Sender) (q r : QueueId) → slice_get (senders v.work) k ≡ Some s → slice_get (from_queues v.ends) k ≡ Some q → slice_get (to_queues v.ends) k ≡ Some r → (p : ClientPools) × (slice_get net.pools k ≡ Some p) × Ships net.first (0 + k) s q r p)
-    shipped = shippers_are net.first 0 (senders v.work) net.pools (from_queues v.ends) (to_queues v.ends) row.from_each row.to_each virtualised.2
+    shipped : (length (senders v.work) ≡ length net.pools) × ((k : ℕ) (s : Sender) (q r : QueueId) → slice_get (senders v.work) k ≡ Some s → slice_get (from_queues v.ends) k ≡ Some q → slice_get (to_queues v.ends) k ≡ Some r → (p : ClientPools) × (slice_get net.pools k ≡ Some p) × Ships net.first net.most (0 + k) s q r p)
+    shipped = shippers_are net.first net.most 0 (senders v.work) net.pools (from_queues v.ends) (to_queues v.ends) row.from_each row.to_each virtualised.2
 
     -- a client's place among the virtualiser's
-    ships_at : (k : ℕ) (s : Sender) (q r : QueueId) → slice_get (senders v.work) k ≡ Some s → slice_get (from_queues v.ends) k ≡ Some q → slice_get (to_queues v.ends) k ≡ Some r → (p : ClientPools) × (slice_get net.pools k ≡ Some p) × Ships net.first k s q r p
+    ships_at : (k : ℕ) (s : Sender) (q r : QueueId) → slice_get (senders v.work) k ≡ Some s → slice_get (from_queues v.ends) k ≡ Some q → slice_get (to_queues v.ends) k ≡ Some r → (p : ClientPools) × (slice_get net.pools k ≡ Some p) × Ships net.first net.most k s q r p
     ships_at k s q r at fat tat =
         let x = shipped.1 k s q r at fat tat in
         let plus : 0 + k ≡ k = omega arith in
-        (x.0, x.1, subst (λ n. Ships net.first n s q r x.0) plus x.2)
+        (x.0, x.1, subst (λ n. Ships net.first net.most n s q r x.0) plus x.2)
 
     -- the virtualiser's client of a number
-    place_of : (k : ℕ) (p : ClientPools) → slice_get net.pools k ≡ Some p → (s : Sender) × (q : QueueId) × (r : QueueId) × (slice_get (senders v.work) k ≡ Some s) × (slice_get (from_queues v.ends) k ≡ Some q) × (slice_get (to_queues v.ends) k ≡ Some r) × Ships net.first k s q r p
+    place_of : (k : ℕ) (p : ClientPools) → slice_get net.pools k ≡ Some p → (s : Sender) × (q : QueueId) × (r : QueueId) × (slice_get (senders v.work) k ≡ Some s) × (slice_get (from_queues v.ends) k ≡ Some q) × (slice_get (to_queues v.ends) k ≡ Some r) × Ships net.first net.most k s q r p
     place_of k p at =
         let below = there_below net.pools k p at in
         let many = shipped.0 in
@@ -141,11 +146,11 @@ module _ (net : NetPlace) (frames : List (List ℕ)) (passed : Passed) (h : IsWh
         let r = there_is (to_queues v.ends) k (omega (arith, below, many, to_each)) in
         let x = ships_at k s.0 q.0 r.0 s.1 q.1 r.1 in
         let same : x.0 ≡ p = some_is (sym x.1 ∙ at) in
-        (s.0, q.0, r.0, s.1, q.1, r.1, subst (Ships net.first k s.0 q.0 r.0) same x.2)
+        (s.0, q.0, r.0, s.1, q.1, r.1, subst (Ships net.first net.most k s.0 q.0 r.0) same x.2)
 
     module _ (send : AllSend net passed) where
-      goods : (k : ℕ) (p : ClientPools) → slice_get net.pools k ≡ Some p → (s : Sender) (q r : QueueId) → Ships net.first k s q r p → All (λ (c : Cargo). is_good_of s c ≡ true) (passed.sent q.0)
-      goods k p at s q r ships = all_from (λ (c : Cargo). is_good_of s c ≡ true) (passed.sent q.0) (λ j c c_at. send_good s p.tx c ships.0 (send k p at j c (ap (λ n. slice_get (passed.sent n) j) (sym ships.1) ∙ c_at)))
+      goods : (k : ℕ) (p : ClientPools) → slice_get net.pools k ≡ Some p → (s : Sender) (q r : QueueId) → Ships net.first net.most k s q r p → All (λ (c : Cargo). is_good_of s c ≡ true) (passed.sent q.0)
+      goods k p at s q r ships = all_from (λ (c : Cargo). is_good_of s c ≡ true) (passed.sent q.0) (λ j c c_at. send_good s p.tx c ships.0 (subst (λ m. IsSend m p.tx c) (sym ships.3) (send k p at j c (ap (λ n. slice_get (passed.sent n) j) (sym ships.1) ∙ c_at))))
 
       from_hand : (k : ℕ) (s : Sender) (q r : QueueId) → slice_get (senders v.work) k ≡ Some s → slice_get (from_queues v.ends) k ≡ Some q → slice_get (to_queues v.ends) k ≡ Some r → SendsFromHand s (passed.sent q.0) (passed.taken r.0)
       from_hand k s q r at fat tat =
@@ -155,8 +160,9 @@ module _ (net : NetPlace) (frames : List (List ℕ)) (passed : Passed) (h : IsWh
             good = goods k x.0 x.1 s q r x.2;
             in_hand = λ b lt.
                 let hand = client_hand k of.0 of.1 x.0 of.2 b in
-                let put = ap (λ n. at_address (b * 2048) (passed.sent n)) x.2.1 in
-                let back = ap (λ n. at_address (b * 2048) (passed.taken n)) x.2.2 in
+                let long : x.0.tx.size ≡ s.size = sym (ap (λ (p : PoolAt). p.size) x.2.0) in
+                let put = ap₂ (λ z n. at_address (b * z) (passed.sent n)) (sym long) x.2.1 in
+                let back = ap₂ (λ z n. at_address (b * z) (passed.taken n)) (sym long) x.2.2 in
                 omega (arith, hand, put, back);
           }
 
@@ -193,8 +199,8 @@ module _ (net : NetPlace) (frames : List (List ℕ)) (passed : Passed) (h : IsWh
           nothing false = append-nil (row.turn n)
 
       -- what went back to a client it had put before
-      went_back : (k : ℕ) (p : ClientPools) → slice_get net.pools k ≡ Some p → (s : Sender) (q r : QueueId) → slice_get (senders v.work) k ≡ Some s → slice_get (from_queues v.ends) k ≡ Some q → slice_get (to_queues v.ends) k ≡ Some r → Ships net.first k s q r p → Each (IsSend p.tx) (passed.sent r.0)
-      went_back k p at s q r s_at q_at r_at ships = each_begun (IsSend p.tx) (bad_ones s (row.turn q.0) ∷ own_of s (row.turn v.ends.input.queue.0) ∷ []) (passed.sent r.0) served.gives_back both
+      went_back : (k : ℕ) (p : ClientPools) → slice_get net.pools k ≡ Some p → (s : Sender) (q r : QueueId) → slice_get (senders v.work) k ≡ Some s → slice_get (from_queues v.ends) k ≡ Some q → slice_get (to_queues v.ends) k ≡ Some r → Ships net.first net.most k s q r p → Each (IsSend net.most p.tx) (passed.sent r.0)
+      went_back k p at s q r s_at q_at r_at ships = each_begun (IsSend net.most p.tx) (bad_ones s (row.turn q.0) ∷ own_of s (row.turn v.ends.input.queue.0) ∷ []) (passed.sent r.0) served.gives_back both
         where
           input : ℕ
           input = v.ends.input.queue.0
@@ -213,7 +219,7 @@ module _ (net : NetPlace) (frames : List (List ℕ)) (passed : Passed) (h : IsWh
               let returned = subst (λ l. IsPrefix l (passed.sent output)) (sym (turn_is input)) (comes_back h.half.device h.half.driver v passed half_with) in
               begins_map (to_client s.base) (filter (is_own s) (row.turn input)) (filter (is_own s) (passed.sent output)) (begins_filter (is_own s) (row.turn input) (passed.sent output) returned)
 
-          owned : Each (IsSend p.tx) (own_of s (row.turn input))
+          owned : Each (IsSend net.most p.tx) (own_of s (row.turn input))
           owned j c c_at =
               let went = prefix_get (own_of s (row.turn input)) (own_of s (passed.sent output)) begun j c c_at in
               let came = prefix_get (own_of s (passed.sent output)) (filter (is_good_of s) (row.turn q.0)) served.sends j c went in
@@ -222,12 +228,12 @@ module _ (net : NetPlace) (frames : List (List ℕ)) (passed : Passed) (h : IsWh
               let sent = prefix_get (passed.taken q.0) (passed.sent q.0) (h.half.hands_over q.0) kept.0 c taken in
               send k p at kept.0 c (ap (λ n. slice_get (passed.sent n) kept.0) (sym ships.1) ∙ sent)
 
-          both : Each (Each (IsSend p.tx)) (bad_ones s (row.turn q.0) ∷ own_of s (row.turn input) ∷ [])
-          both zero l l_at = subst (Each (IsSend p.tx)) (sym bads ∙ some_is l_at) (λ j c c_at. cc)
-          both (suc zero) l l_at = subst (Each (IsSend p.tx)) (some_is l_at) owned
+          both : Each (Each (IsSend net.most p.tx)) (bad_ones s (row.turn q.0) ∷ own_of s (row.turn input) ∷ [])
+          both zero l l_at = subst (Each (IsSend net.most p.tx)) (sym bads ∙ some_is l_at) (λ j c c_at. cc)
+          both (suc zero) l l_at = subst (Each (IsSend net.most p.tx)) (some_is l_at) owned
           both (suc (suc j)) l l_at = cc
 
-      pub back_is : (k : ℕ) (program : Program) (mac : Mac) (q : ClientPools) → IsClientOf net k program mac q → AreSends q.tx (passed.taken (client_first net.first k + 5))
+      pub back_is : (k : ℕ) (program : Program) (mac : Mac) (q : ClientPools) → IsClientOf net k program mac q → AreSends net.most q.tx (passed.taken (client_first net.first k + 5))
       back_is k program mac q of j c at =
           let x = place_of k q of.pools in
           let n = client_first net.first k + 5 in

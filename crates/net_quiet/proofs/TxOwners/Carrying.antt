@@ -24,10 +24,11 @@ use Rattle.net_virt_tx.specs.declared.NetVirtTx.{NetVirtTx}
 use Rattle.net_virt_tx.specs.declared.descriptors.Sender.{Sender}
 use Rattle.net_virt_tx.specs.Descriptors.{with_addr, to_client}
 use Rattle.net_virt_tx.specs.Clients.{range_of}
+use Rattle.net_virt_tx.proofs.Counting.{ends_within}
 use Rattle.net_virt_tx.specs.Serving.{is_good_of, is_own, own_of, bad_ones}
 use Rattle.net_virt_tx.specs.Sending.{TxRow, IsAnyones}
 use Rattle.net_virt_tx.specs.Traffics.{senders}
-use Rattle.net_law.specs.Owners.Names.{by_offset}
+use Rattle.owner_law.specs.Pools.Places.{by_offset}
 use Rattle.net_law.proofs.OwnersLemmas.Clients.{at_address}
 use Rattle.net_law.specs.RxOwners.Virtualiser.{AreNet}
 use Rattle.net_law.proofs.PartsLemmas.Pairs.{twice, pair_first}
@@ -42,7 +43,7 @@ use Rattle.net_quiet.proofs.TxOwners.Windows.{pick_home}
 
 -- a client at a place
 abbrev Shipping : List Sender → (from to : List QueueId) → ℕ → Shipper → Type 0
-Shipping ss from to k c = (s : Sender) × (q : QueueId) × (r : QueueId) × (slice_get ss k ≡ Some s) × (slice_get from k ≡ Some q) × (slice_get to k ≡ Some r) × (c ≡ record { active = q.0; free = r.0; pool = sender_pool s })
+Shipping ss from to k c = (s : Sender) × (q : QueueId) × (r : QueueId) × (slice_get ss k ≡ Some s) × (slice_get from k ≡ Some q) × (slice_get to k ≡ Some r) × (c ≡ record { active = q.0; free = r.0; pool = sender_pool s; most = s.most })
 
 shipper_at : (ss : List Sender) (from to : List QueueId) (k : ℕ) (c : Shipper) → slice_get (shippers ss from to) k ≡ Some c → Shipping ss from to k c
 shipper_at [] from to k c at = cc
@@ -51,7 +52,7 @@ shipper_at (s ∷ ss) (q ∷ from) [] k c at = cc
 shipper_at (s ∷ ss) (q ∷ from) (r ∷ to) zero c at = (s, q, r, refl, refl, refl, sym (some_is at))
 shipper_at (s ∷ ss) (q ∷ from) (r ∷ to) (suc k) c at = shipper_at ss from to k c at
 
-shipper_of : (ss : List Sender) (from to : List QueueId) (k : ℕ) (s : Sender) (q r : QueueId) → slice_get ss k ≡ Some s → slice_get from k ≡ Some q → slice_get to k ≡ Some r → slice_get (shippers ss from to) k ≡ Some (record { active = q.0; free = r.0; pool = sender_pool s })
+shipper_of : (ss : List Sender) (from to : List QueueId) (k : ℕ) (s : Sender) (q r : QueueId) → slice_get ss k ≡ Some s → slice_get from k ≡ Some q → slice_get to k ≡ Some r → slice_get (shippers ss from to) k ≡ Some (record { active = q.0; free = r.0; pool = sender_pool s; most = s.most })
 shipper_of [] from to k s q r at q_at r_at = cc
 shipper_of (t ∷ ss) [] to k s q r at q_at r_at = cc
 shipper_of (t ∷ ss) (x ∷ from) [] k s q r at q_at r_at = cc
@@ -59,16 +60,24 @@ shipper_of (t ∷ ss) (x ∷ from) (y ∷ to) zero s q r at q_at r_at =
     let first = some_is at in
     let second = some_is q_at in
     let third = some_is r_at in
-    ap (λ (z : Shipper). Some z) (Rattle.std.proofs.Common.ap₂ (λ (a : ℕ) (b : ℕ). let z : Shipper = record { active = a; free = b; pool = sender_pool t } in z) (ap (λ (z : QueueId). z.0) second) (ap (λ (z : QueueId). z.0) third) ∙ ap (λ (u : Sender). let z : Shipper = record { active = q.0; free = r.0; pool = sender_pool u } in z) first)
+    ap (λ (z : Shipper). Some z) (Rattle.std.proofs.Common.ap₂ (λ (a : ℕ) (b : ℕ). let z : Shipper = record { active = a; free = b; pool = sender_pool t; most = t.most } in z) (ap (λ (z : QueueId). z.0) second) (ap (λ (z : QueueId). z.0) third) ∙ ap (λ (u : Sender). let z : Shipper = record { active = q.0; free = r.0; pool = sender_pool u; most = u.most } in z) first)
 shipper_of (t ∷ ss) (x ∷ from) (y ∷ to) (suc k) s q r at q_at r_at = shipper_of ss from to k s q r at q_at r_at
 
 -- the clients' ranges don't meet
 pub pools_apart : (v : NetVirtTx) (passed : Passed) → TxRow v passed → ArePoolsApart (send_part v).clients
-pools_apart v passed row j k c d c_at d_at ne a in_range =
-    let x = shipper_at (senders v.work) (from_queues v.ends) (to_queues v.ends) j c c_at in
-    let y = shipper_at (senders v.work) (from_queues v.ends) (to_queues v.ends) k d d_at in
-    let off = row.apart.apart j k (range_of x.0) (range_of y.0) (map_get range_of (senders v.work) j x.0 x.3) (map_get range_of (senders v.work) k y.0 y.3) ne a (ap (λ (z : Shipper). is_at z.pool a) (sym x.6) ∙ in_range) in
-    ap (λ (z : Shipper). is_at z.pool a) y.6 ∙ off
+pools_apart v passed row = record { sized = λ k c at. sized k c at; apart = λ j k c d c_at d_at ne a in_range. apart j k c d c_at d_at ne a in_range }
+  where
+    sized : (k : ℕ) (c : Shipper) → slice_get (send_part v).clients k ≡ Some c → 0 < c.pool.size
+    sized k c at =
+        let x = shipper_at (senders v.work) (from_queues v.ends) (to_queues v.ends) k c at in
+        subst (λ (z : Shipper). 0 < z.pool.size) (sym x.6) (row.sized k x.0 x.3)
+
+    apart : (j k : ℕ) (c d : Shipper) → slice_get (send_part v).clients j ≡ Some c → slice_get (send_part v).clients k ≡ Some d → (j ≡ k → ⊥) → (address : ℕ) → is_at c.pool address ≡ true → is_at d.pool address ≡ false
+    apart j k c d c_at d_at ne a in_range =
+        let x = shipper_at (senders v.work) (from_queues v.ends) (to_queues v.ends) j c c_at in
+        let y = shipper_at (senders v.work) (from_queues v.ends) (to_queues v.ends) k d d_at in
+        let off = row.apart.apart j k (range_of x.0) (range_of y.0) (map_get range_of (senders v.work) j x.0 x.3) (map_get range_of (senders v.work) k y.0 y.3) ne a (ap (λ (z : Shipper). is_at z.pool a) (sym x.6) ∙ in_range) in
+        ap (λ (z : Shipper). is_at z.pool a) y.6 ∙ off
 
 module _ (naming : Naming) (passed : Passed) (m : Moved) (v : NetVirtTx) (names : NamesSend naming (send_part v)) (net : AreNet (passed.taken v.ends.input.queue.0)) (row : TxRow v passed) where
   abbrev i : ℕ
@@ -87,26 +96,26 @@ module _ (naming : Naming) (passed : Passed) (m : Moved) (v : NetVirtTx) (names 
   in_turn n k c at = (k, ap (λ cs. slice_get cs k) (row.taken n) ∙ get_first (row.turn n) (if_there (row.place == n) row.stray) k c at)
 
   -- a good descriptor at its device address
-  good_page : (k : ℕ) (c : Shipper) → slice_get clients k ≡ Some c → (s : Sender) → c.pool ≡ sender_pool s → (item : Item) (body : Body) (b : ℕ) → b < s.buffers → addr_of item ≡ s.base + b * 2048 → is_good_of s (to_client s.base (item, body)) ≡ true → HasPage ws (item, body)
-  good_page k c at s pool item Carried.Empty b lt address good = cc
-  good_page k c at s pool item (Carried.Lease lease) b lt address good = cc
-  good_page k c at s pool item (Carried.Page page) b lt address good =
-      let one = both (page.pool.0 == s.pool.0) (nat_lt page.no s.buffers && ((addr_of (with_addr (addr_of item - s.base) item) == page.no * 2048) && (nat_le 14 (len_of (with_addr (addr_of item - s.base) item)) && nat_le (len_of (with_addr (addr_of item - s.base) item)) 1514))) good in
-      let two = both (nat_lt page.no s.buffers) ((addr_of (with_addr (addr_of item - s.base) item) == page.no * 2048) && (nat_le 14 (len_of (with_addr (addr_of item - s.base) item)) && nat_le (len_of (with_addr (addr_of item - s.base) item)) 1514)) one.1 in
-      let three = both (addr_of (with_addr (addr_of item - s.base) item) == page.no * 2048) (nat_le 14 (len_of (with_addr (addr_of item - s.base) item)) && nat_le (len_of (with_addr (addr_of item - s.base) item)) 1514) two.1 in
-      let four = both (nat_le 14 (len_of (with_addr (addr_of item - s.base) item))) (nat_le (len_of (with_addr (addr_of item - s.base) item)) 1514) three.1 in
-      by item address (eqb-true page.pool.0 s.pool.0 one.0) (ltb-true page.no s.buffers two.0) (eqb-true (addr_of (with_addr (addr_of item - s.base) item)) (page.no * 2048) three.0) four.0
+  good_page : (k : ℕ) (c : Shipper) → slice_get clients k ≡ Some c → (s : Sender) → 1 ≤ s.size → c.pool ≡ sender_pool s → (item : Item) (body : Body) (b : ℕ) → b < s.buffers → addr_of item ≡ s.base + b * s.size → is_good_of s (to_client s.base (item, body)) ≡ true → HasPage ws (item, body)
+  good_page k c at s some pool item Carried.Empty b lt address good = cc
+  good_page k c at s some pool item (Carried.Lease lease) b lt address good = cc
+  good_page k c at s some pool item (Carried.Page page) b lt address good =
+      let one = both (page.pool.0 == s.pool.0) (nat_lt page.no s.buffers && ((addr_of (with_addr (addr_of item - s.base) item) == page.no * s.size) && (nat_le 14 (len_of (with_addr (addr_of item - s.base) item)) && nat_le (len_of (with_addr (addr_of item - s.base) item)) s.most))) good in
+      let two = both (nat_lt page.no s.buffers) ((addr_of (with_addr (addr_of item - s.base) item) == page.no * s.size) && (nat_le 14 (len_of (with_addr (addr_of item - s.base) item)) && nat_le (len_of (with_addr (addr_of item - s.base) item)) s.most)) one.1 in
+      let three = both (addr_of (with_addr (addr_of item - s.base) item) == page.no * s.size) (nat_le 14 (len_of (with_addr (addr_of item - s.base) item)) && nat_le (len_of (with_addr (addr_of item - s.base) item)) s.most) two.1 in
+      let four = both (nat_le 14 (len_of (with_addr (addr_of item - s.base) item))) (nat_le (len_of (with_addr (addr_of item - s.base) item)) s.most) three.1 in
+      by item address (eqb-true page.pool.0 s.pool.0 one.0) (ltb-true page.no s.buffers two.0) (eqb-true (addr_of (with_addr (addr_of item - s.base) item)) (page.no * s.size) three.0) four.0
     where
-      by : (it : Item) → addr_of it ≡ s.base + b * 2048 → page.pool.0 ≡ s.pool.0 → page.no < s.buffers → addr_of (with_addr (addr_of it - s.base) it) ≡ page.no * 2048 → nat_le 14 (len_of (with_addr (addr_of it - s.base) it)) ≡ true → HasPage ws (it, Carried.Page page)
+      by : (it : Item) → addr_of it ≡ s.base + b * s.size → page.pool.0 ≡ s.pool.0 → page.no < s.buffers → addr_of (with_addr (addr_of it - s.base) it) ≡ page.no * s.size → nat_le 14 (len_of (with_addr (addr_of it - s.base) it)) ≡ true → HasPage ws (it, Carried.Page page)
       by (ItemOf.Net d) place same few offset long buffer =
           let a : ℕ = d.addr in
           let there : is_at c.pool a ≡ true =
-          ap (λ p. is_at p a) pool ∙ rw (le-leb s.base a (omega (arith, place)), lt-ltb a (s.base + s.buffers * 2048) (omega (arith, place, lt))) refl in
-          let base : c.pool.base ≡ s.base = ap (λ (p : Rattle.net_law.specs.Owners.Names.PoolAt). p.base) pool in
+          ap (λ p. is_at p a) pool ∙ rw (le-leb s.base a (omega (arith, place)), lt-ltb a (s.base + s.buffers * s.size) (let within = ends_within s.size b s.buffers lt in omega (arith, place, some, within))) refl in
+          let base : c.pool.base ≡ s.base = ap (λ (p : Rattle.owner_law.specs.Pools.Places.PoolAt). p.base) pool in
           let home : buffer_at ws a ≡ buffer_at (by_offset c.pool ∷ []) (a - c.pool.base) = pick_home clients (pools_apart v passed row) k c a at there in
-          let at_home : a - c.pool.base ≡ 0 + page.no * 2048 = omega (arith, offset, base) in
-          let own : buffer_at (by_offset (sender_pool s) ∷ []) (0 + page.no * 2048) ≡ Some (record { pool = s.pool.0; no = page.no }) = at_address (by_offset (sender_pool s)) page.no (omega arith) few in
-          let name : buffer_at ws a ≡ Some (record { pool = s.pool.0; no = page.no }) = home ∙ (ap (buffer_at (by_offset c.pool ∷ [])) at_home ∙ (ap (λ p. buffer_at (by_offset p ∷ []) (0 + page.no * 2048)) pool ∙ own)) in
+          let at_home : a - c.pool.base ≡ 0 + page.no * s.size = omega (arith, offset, base) in
+          let own : buffer_at (by_offset (sender_pool s) ∷ []) (0 + page.no * s.size) ≡ Some (record { pool = s.pool.0; no = page.no }) = at_address (by_offset (sender_pool s)) page.no some few in
+          let name : buffer_at ws a ≡ Some (record { pool = s.pool.0; no = page.no }) = home ∙ (ap (buffer_at (by_offset c.pool ∷ [])) at_home ∙ (ap (λ p. buffer_at (by_offset p ∷ []) (0 + page.no * s.size)) pool ∙ own)) in
           ap (λ p. bit ((p == buffer.pool) && (page.no == buffer.no))) same ∙ sym (ap (is_named buffer) name)
       by (ItemOf.Byte x) place same few offset long buffer = cc
       by (ItemOf.Req x) place same few offset long buffer = cc
@@ -120,20 +129,20 @@ module _ (naming : Naming) (passed : Passed) (m : Moved) (v : NetVirtTx) (names 
       let q = there_is (from_queues v.ends) is.0 (omega (arith, below, row.from_each)) in
       let r = there_is (to_queues v.ends) is.0 (omega (arith, below, row.to_each)) in
       let served = row.serves is.0 s q.0 r.0 is.2 q.1 r.1 in
-      let own : is_own s x ≡ true = rw (le-leb s.base (addr_of x.0) (omega (arith, is.3.2)), lt-ltb (addr_of x.0) (s.base + s.buffers * 2048) (omega (arith, is.3.2, is.3.1))) refl in
+      let own : is_own s x ≡ true = rw (le-leb s.base (addr_of x.0) (omega (arith, is.3.2)), lt-ltb (addr_of x.0) (s.base + s.buffers * s.size) (let within = ends_within s.size is.3.0 s.buffers is.3.1 in let some = row.sized is.0 s is.2 in let at = is.3.2 in omega (arith, at, some, within))) refl in
       let kept = kept_at (is_own s) (passed.sent o) k x at own in
       let there : slice_get (own_of s (passed.sent o)) kept.0 ≡ Some (to_client s.base x) = map_get (to_client s.base) (filter (is_own s) (passed.sent o)) kept.0 x kept.1 in
       let came : slice_get (filter (is_good_of s) (row.turn q.0.0)) kept.0 ≡ Some (to_client s.base x) = ap (λ cs. slice_get cs kept.0) (sym served.sends.1) ∙ get_first (own_of s (passed.sent o)) served.sends.0 kept.0 (to_client s.base x) there in
       let good = (kept_is (is_good_of s) (row.turn q.0.0) kept.0 (to_client s.base x) came).0 in
-      let c : Shipper = record { active = q.0.0; free = r.0.0; pool = sender_pool s } in
+      let c : Shipper = record { active = q.0.0; free = r.0.0; pool = sender_pool s; most = s.most } in
       let c_at = shipper_of (senders v.work) (from_queues v.ends) (to_queues v.ends) is.0 s q.0 r.0 is.2 q.1 r.1 in
-      good_page is.0 c c_at s refl x.0 x.1 is.3.0 is.3.1 is.3.2 good
+      good_page is.0 c c_at s (row.sized is.0 s is.2) refl x.0 x.1 is.3.0 is.3.1 is.3.2 good
 
   -- what came back for a client, with its offset
   home_page : (k : ℕ) (c : Shipper) → slice_get clients k ≡ Some c → (s : Sender) → c.pool ≡ sender_pool s → (z : Cargo) → kind_of z.0 ≡ Kind.Net → is_own s z ≡ true → HasPage ws z → HasPage (by_offset c.pool ∷ []) (to_client s.base z)
   home_page k c at s pool (ItemOf.Net d, body) kind own has b =
       let there : is_at c.pool d.addr ≡ true = ap (λ p. is_at p d.addr) pool ∙ own in
-      let base : c.pool.base ≡ s.base = ap (λ (p : Rattle.net_law.specs.Owners.Names.PoolAt). p.base) pool in
+      let base : c.pool.base ≡ s.base = ap (λ (p : Rattle.owner_law.specs.Pools.Places.PoolAt). p.base) pool in
       has b ∙ ap (is_named b) (pick_home clients (pools_apart v passed row) k c d.addr at there ∙ ap (λ n. buffer_at (by_offset c.pool ∷ []) (d.addr - n)) base)
   home_page k c at s pool (ItemOf.Byte x, body) kind own has b = cc
   home_page k c at s pool (ItemOf.Req x, body) kind own has b = cc

@@ -11,7 +11,7 @@ use Rattle.net_virt_tx.specs.declared.NetVirtTx.{NetVirtTx}
 use Rattle.net_virt_tx.specs.declared.descriptors.Sender.{Sender}
 use Rattle.net_virt_tx.specs.Sending.{TxBalances}
 use Rattle.net_virt_tx.specs.Traffics.{senders, traffic_hand}
-use Rattle.net_law.specs.Owners.Names.{by_offset}
+use Rattle.owner_law.specs.Pools.Places.{by_offset}
 use Rattle.net_law.specs.TxParts.Parts.{Shipper}
 use Rattle.net_law.specs.TxParts.Playing.{shippers, send_part}
 use Rattle.net_law.specs.TxParts.Table.{send_sheet, shipper_ends}

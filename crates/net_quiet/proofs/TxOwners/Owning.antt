@@ -15,10 +15,11 @@ use Rattle.owner_law.proofs.Named.{carried, buffers_are, buffers_none, keeps_pla
 use Rattle.owner_law.proofs.Sums.{both, sum_none}
 use Rattle.buffer_kit.specs.Entries.{addr_of}
 use Rattle.net_virt_tx.specs.Descriptors.{with_addr}
-use Rattle.net_law.specs.Owners.Names.{PoolAt, by_offset}
+use Rattle.owner_law.specs.Pools.Places.{PoolAt, by_offset}
 use Rattle.net_law.specs.TxParts.Parts.{SendPart, Shipper}
 use Rattle.net_law.specs.TxParts.Rows.{at_device, in_range, at_home, IsOffset, all_sends, MergesSends}
 use Rattle.net_law.specs.TxParts.Table.{send_sheet, shipper_ends}
+use Rattle.net_virt_tx.proofs.Counting.{ends_within}
 use Rattle.net_quiet.specs.TxOwners.Shipping.{device_windows, NamesSend, is_at, ArePoolsApart}
 use Rattle.net_quiet.proofs.TxOwners.Windows.{pick_home}
 
@@ -78,7 +79,7 @@ module _ (p : SendPart) (apart : ArePoolsApart p.clients) where
   name_out k c at (ItemOf.Net d) is =
       let a : ℕ = c.pool.base + d.addr in
       let low : nat_le c.pool.base a ≡ true = le-leb c.pool.base a (omega arith) in
-      let high : nat_lt a (c.pool.base + c.pool.buffers * 2048) ≡ true = lt-ltb a (c.pool.base + c.pool.buffers * 2048) (omega (arith, is.begins, is.few)) in
+      let high : nat_lt a (c.pool.base + c.pool.buffers * c.pool.size) ≡ true = lt-ltb a (c.pool.base + c.pool.buffers * c.pool.size) (let within = ends_within c.pool.size is.number c.pool.buffers is.few in let some = apart.sized k c at in let begins = is.begins in omega (arith, begins, some, within)) in
       let there : is_at c.pool a ≡ true = rw (low, high) refl in
       pick_home p.clients apart k c a at there ∙ ap (buffer_at (by_offset c.pool ∷ [])) (back c.pool.base d.addr)
     where
@@ -100,14 +101,14 @@ module _ (p : SendPart) (apart : ArePoolsApart p.clients) where
       )
 
   -- a buffer that is named at home is named on the driver's side, where its item is in the range
-  offset_some : (q : PoolAt) (b : Buffer) (a : ℕ) → 0 < is_named b (buffer_at (by_offset q ∷ []) a) → (n : ℕ) × (n < q.buffers) × (a ≡ n * 2048)
+  offset_some : (q : PoolAt) (b : Buffer) (a : ℕ) → 0 < is_named b (buffer_at (by_offset q ∷ []) a) → (n : ℕ) × (n < q.buffers) × (a ≡ n * q.size)
   offset_some q b a some = by (begins_at (by_offset q) a) refl
     where
-      by : (t : Bool) → begins_at (by_offset q) a ≡ t → (n : ℕ) × (n < q.buffers) × (a ≡ n * 2048)
+      by : (t : Bool) → begins_at (by_offset q) a ≡ t → (n : ℕ) × (n < q.buffers) × (a ≡ n * q.size)
       by true is =
           let n = number_at (by_offset q) a in
-          let two = both (nat_lt n q.buffers) (0 + n * 2048 == a) is in
-          (n, Rattle.std.proofs.Common.ltb-true n q.buffers two.0, omega (arith, Rattle.std.proofs.Common.eqb-true (0 + n * 2048) a two.1))
+          let two = both (nat_lt n q.buffers) (0 + n * q.size == a) is in
+          (n, Rattle.std.proofs.Common.ltb-true n q.buffers two.0, omega (arith, Rattle.std.proofs.Common.eqb-true (0 + n * q.size) a two.1))
       by false is =
           let none : buffer_at (by_offset q ∷ []) a ≡ None = ap (λ t. cond t (Some (record { pool = q.number; no = number_at (by_offset q) a })) None) is in
           absurd (omega (arith, some, ap (is_named b) none))
@@ -121,7 +122,7 @@ module _ (p : SendPart) (apart : ArePoolsApart p.clients) where
       by (inl some) =
           let x = offset_some c.pool b a some in
           let low : nat_le c.pool.base a ≡ true = le-leb c.pool.base a (omega (arith, base)) in
-          let high : nat_lt a (c.pool.base + c.pool.buffers * 2048) ≡ true = lt-ltb a (c.pool.base + c.pool.buffers * 2048) (omega (arith, x.1, x.2)) in
+          let high : nat_lt a (c.pool.base + c.pool.buffers * c.pool.size) ≡ true = lt-ltb a (c.pool.base + c.pool.buffers * c.pool.size) (let within = ends_within c.pool.size x.0 c.pool.buffers x.1 in let sized = apart.sized k c at in let is = x.2 in omega (arith, is, sized, within)) in
           let there : is_at c.pool a ≡ true = rw (low, high) refl in
           let less : a - c.pool.base ≡ a = omega (arith, base) in
           omega (arith, ap (is_named b) (pick_home p.clients apart k c a at there ∙ ap (buffer_at (by_offset c.pool ∷ [])) less))
@@ -130,7 +131,7 @@ module _ (p : SendPart) (apart : ArePoolsApart p.clients) where
   home_few k c at (ItemOf.Net d) there b = omega (arith, ap (is_named b) (pick_home p.clients apart k c d.addr at there))
   home_few k c at (ItemOf.Byte x) there b = omega arith
   home_few k c at (ItemOf.Req r) there b =
-      let low = both (nat_le c.pool.base 0) (nat_lt 0 (c.pool.base + c.pool.buffers * 2048)) there in
+      let low = both (nat_le c.pool.base 0) (nat_lt 0 (c.pool.base + c.pool.buffers * c.pool.size)) there in
       request_few k c at (omega (arith, leb-true c.pool.base 0 low.0)) b (request_address r.code r.addr)
   home_few k c at (ItemOf.Resp r) there b = omega arith
 
@@ -159,7 +160,7 @@ module _ (p : SendPart) (apart : ArePoolsApart p.clients) where
       one_few k c at false is = omega arith
 
       other : (j k : ℕ) (c d : Shipper) → slice_get p.clients j ≡ Some c → slice_get p.clients k ≡ Some d → (j ≡ k → ⊥) → (t : Bool) → in_range c.pool i ≡ t → 0 < cond t (is_named b (buffer_of (by_offset c.pool ∷ []) (with_addr (addr_of i - c.pool.base) i))) 0 → cond (in_range d.pool i) (is_named b (buffer_of (by_offset d.pool ∷ []) (with_addr (addr_of i - d.pool.base) i))) 0 ≡ 0
-      other j k c d c_at d_at ne true is some = ap (λ t. cond t (is_named b (buffer_of (by_offset d.pool ∷ []) (with_addr (addr_of i - d.pool.base) i))) 0) (apart j k c d c_at d_at ne (addr_of i) is)
+      other j k c d c_at d_at ne true is some = ap (λ t. cond t (is_named b (buffer_of (by_offset d.pool ∷ []) (with_addr (addr_of i - d.pool.base) i))) 0) (apart.apart j k c d c_at d_at ne (addr_of i) is)
       other j k c d c_at d_at ne false is some = absurd (omega (arith, some))
 
   module _ (naming : Naming) (m : Moved) (names : NamesSend naming p) (row : MergesSends p m) where

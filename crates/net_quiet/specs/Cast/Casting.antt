@@ -17,7 +17,7 @@ use Rattle.net_copier.specs.declared.NetCopier.{NetCopier}
 use Rattle.client_programs.specs.Net.Clients as client
 use Rattle.client_programs.specs.declared.net.NetClient.{NetClient}
 use Rattle.net_law.specs.Receiving.{HandsOver}
-use Rattle.net_law.specs.Owners.Names.{PoolAt}
+use Rattle.owner_law.specs.Pools.Places.{PoolAt}
 use Rattle.net_law.specs.RxOwners.Virtualiser.{AreNet}
 use Rattle.net_law.specs.Parts.Numbers.{driver_at, client_first, receiver_at, copier_at}
 use Rattle.net_law.specs.Parts.Playing.{driver_part, copier_part, receiver_part}
@@ -35,12 +35,11 @@ pub record IsDriverAt (first : ℕ) (p : Pipes (Pipes (Pipes Pipe))) (passed : P
   pub part : driver_part (four_pipes p) ≡ driver_at first
   pub row : PipesRow (four_pipes p) passed
 
--- a receiving virtualiser lends this pool's buffers, of 2,048 bytes each, to clients with these
--- addresses, to each of whom it has a queue each way; and its row holds
+-- a receiving virtualiser lends this pool's buffers to clients with these addresses, to each of whom
+-- it has a queue each way; and its row holds
 pub record IsReceiverAt (first : ℕ) (pool : PoolAt) (macs : List Mac) (v : NetVirtRx)
     (passed : Passed) : Type 0 where
   pub part : receiver_part v ≡ receiver_at first pool macs
-  pub size : v.work.stock.size ≡ 2048
   pub to_each : length (to_queues v.ends) ≡ length v.work.macs.items
   pub from_each : length (from_queues v.ends) ≡ length v.work.macs.items
   pub row : RxRow v passed
@@ -50,17 +49,20 @@ pub record IsCopierAt (first k : ℕ) (c : NetCopier) (passed : Passed) : Type 0
   pub part : copier_part c ≡ copier_at first k
   pub row : CopierRow c passed
 
--- a client of a number receives in buffers of 2,048 bytes, of which it has some, and its row holds
-pub record IsClientAt (first k : ℕ) (c : NetClient) (passed : Passed) : Type 0 where
+-- a client of a number receives in buffers as long as each of these frames, of which it has some,
+-- and its row holds
+pub record IsClientAt (first k : ℕ) (frames : List (List ℕ)) (c : NetClient) (passed : Passed) :
+    Type 0 where
   pub active : client.rx_active c ≡ client_first first k + 2
   pub free : client.rx_free c ≡ client_first first k + 3
-  pub size : c.stock.size ≡ 2048
+  pub long : (j : ℕ) (frame : List ℕ) → slice_get frames j ≡ Some frame
+      → length frame ≤ c.stock.size
   pub some : 1 ≤ c.stock.buffers
   pub row : client.ClientRow c passed
 
 -- the receive half's actors stand at their queues, one copier for each client; queues hand over
 -- what was put, which on the class's queues are entries of the network; and no frame is longer than
--- a buffer
+-- a buffer of the pool, or than an entry can say
 pub record IsCast (first : ℕ) (frames : List (List ℕ)) (pool : PoolAt) (macs : List Mac)
     (passed : Passed) : Type 0 where
   pub device : EthDevice
@@ -72,4 +74,5 @@ pub record IsCast (first : ℕ) (frames : List (List ℕ)) (pool : PoolAt) (macs
   pub copiers : (k : ℕ) → k < length macs → (c : NetCopier) × IsCopierAt first k c passed
   pub hands_over : HandsOver passed
   pub net : (i : ℕ) → i < 8 + 6 * length macs → AreNet (passed.sent (first + i))
-  pub short : (k : ℕ) (frame : List ℕ) → slice_get frames k ≡ Some frame → length frame ≤ 2048
+  pub short : (k : ℕ) (frame : List ℕ) → slice_get frames k ≡ Some frame
+      → (length frame ≤ pool.size) × (length frame < 65536)

@@ -12,7 +12,8 @@ use Rattle.net_virt_tx.specs.Descriptors.{is_good}
 use Rattle.net_virt_tx.specs.Sending.{TxRow}
 use Rattle.net_virt_tx.specs.declared.NetVirtTx.{NetVirtTx}
 use Rattle.net_law.specs.Receiving.{HasRoom}
-use Rattle.net_law.specs.Owners.Names.{PoolAt, ClientPools}
+use Rattle.net_law.specs.Owners.Names.{ClientPools}
+use Rattle.owner_law.specs.Pools.Places.{PoolAt}
 use Rattle.net_law.specs.Parts.Numbers.{client_first, device_at, client_at}
 use Rattle.net_law.specs.Parts.Playing.{device_part, client_part}
 use Rattle.net_law.specs.TxParts.Numbers.{NetPlace, own_pools, sender_at}
@@ -20,23 +21,24 @@ use Rattle.net_law.specs.TxParts.Playing.{send_part}
 use Rattle.net_law.specs.Wire.Telling.{told_frames}
 use Rattle.net_quiet.specs.Cast.Casting.{IsCast}
 
--- the bytes of a frame: 14 to 1,514
-abbrev pub IsFrame : List ℕ → Type 0
-IsFrame frame = (14 ≤ length frame) × (length frame ≤ 1514)
+-- the bytes of a frame: 14 to the most that one has
+abbrev pub IsFrame : (most : ℕ) → List ℕ → Type 0
+IsFrame most frame = (14 ≤ length frame) × (length frame ≤ most)
 
 -- each of these frames has so many
-abbrev pub AreFrames : List (List ℕ) → Type 0
-AreFrames frames = (k : ℕ) (frame : List ℕ) → slice_get frames k ≡ Some frame → IsFrame frame
+abbrev pub AreFrames : (most : ℕ) → List (List ℕ) → Type 0
+AreFrames most frames = (k : ℕ) (frame : List ℕ) → slice_get frames k ≡ Some frame
+    → IsFrame most frame
 
 -- an entry sends a frame in one of a pool's buffers: it is a good descriptor there, and the buffer
--- has 2,048 bytes
-pub record IsSend (pool : PoolAt) (c : Cargo) : Type 0 where
-  pub good : is_good (record { 0 = pool.number }) pool.buffers 2048 c ≡ true
-  pub long : HasRoom 2048 c.1
+-- has as many bytes as the pool's
+pub record IsSend (most : ℕ) (pool : PoolAt) (c : Cargo) : Type 0 where
+  pub good : is_good (record { 0 = pool.number }) pool.buffers pool.size most c ≡ true
+  pub long : HasRoom pool.size c.1
 
 -- each of these entries does
-abbrev pub AreSends : PoolAt → List Cargo → Type 0
-AreSends pool cs = (k : ℕ) (c : Cargo) → slice_get cs k ≡ Some c → IsSend pool c
+abbrev pub AreSends : (most : ℕ) → PoolAt → List Cargo → Type 0
+AreSends most pool cs = (k : ℕ) (c : Cargo) → slice_get cs k ≡ Some c → IsSend most pool c
 
 -- what each client sends by its program, of those frames that the device receives
 abbrev pub sends_at : List Program → List Mac → (frames : List (List ℕ)) → List (List (List ℕ))
@@ -60,21 +62,20 @@ pub record IsClientOf (net : NetPlace) (k : ℕ) (program : Program) (mac : Mac)
 
 -- a sending virtualiser has the class's queues and its clients' pools, and its row holds
 pub record IsSenderAt (net : NetPlace) (v : NetVirtTx) (passed : Passed) : Type 0 where
-  pub part : send_part v ≡ sender_at net.first net.pools
+  pub part : send_part v ≡ sender_at net.first net.most net.pools
   pub row : TxRow v passed
 
--- a client of a number has its queues, its program and its pools, whose buffers have 2,048 bytes;
--- it has buffers to receive in, and its row holds
+-- a client of a number has its queues, its program and its pools; it has buffers to receive in, and
+-- its row holds
 pub record IsSendingClient (net : NetPlace) (k : ℕ) (program : Program) (mac : Mac)
     (q : ClientPools) (c : NetClient) (passed : Passed) : Type 0 where
   pub part : client_part c ≡ client_at net.first k program mac (own_pools q)
-  pub size : c.stock.size ≡ 2048
-  pub spare_size : c.outbox.stock.size ≡ 2048
   pub some : 1 ≤ c.stock.buffers
   pub row : ClientRow c passed
 
 -- the receive half's actors, the sending virtualiser and the clients stand at their queues; an
--- address has six bytes; and each frame, received or of a script, has 14 to 1,514
+-- address has six bytes; each frame, received or of a script, has 14 bytes to the most; and no frame
+-- is longer than a buffer of any pool
 pub record IsWholeCast (net : NetPlace) (frames : List (List ℕ)) (passed : Passed) : Type 0 where
   pub pools_many : length net.pools ≡ length net.macs
   pub programs_many : length net.programs ≡ length net.macs
@@ -86,11 +87,14 @@ pub record IsWholeCast (net : NetPlace) (frames : List (List ℕ)) (passed : Pas
       → IsClientOf net k program mac q
       → (c : NetClient) × IsSendingClient net k program mac q c passed
   pub addresses : (k : ℕ) (mac : Mac) → slice_get net.macs k ≡ Some mac → length mac.0 ≡ 6
-  pub received : AreFrames frames
+  pub received : AreFrames net.most frames
   pub scripts : (k : ℕ) (script : List (List ℕ)) → slice_get net.programs k ≡ Some (Source script)
-      → AreFrames script
+      → AreFrames net.most script
+  pub fits : net.most ≤ net.pool.size
+  pub fits_client : (k : ℕ) (q : ClientPools) → slice_get net.pools k ≡ Some q
+      → (net.most ≤ q.rx.size) × (net.most ≤ q.tx.size)
 
 -- each client put entries alone that send frames in buffers of its pool for sending
 abbrev pub AllSend : NetPlace → Passed → Type 0
 AllSend net passed = (k : ℕ) (q : ClientPools) → slice_get net.pools k ≡ Some q
-    → AreSends q.tx (passed.sent (client_first net.first k + 4))
+    → AreSends net.most q.tx (passed.sent (client_first net.first k + 4))

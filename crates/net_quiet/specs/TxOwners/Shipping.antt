@@ -1,8 +1,8 @@
 -- What items name at the sending virtualiser's queues, and how its clients' pools lie.
-use Rattle.std.specs.Prelude.{◌≡◌, ◌+◌, ◌*◌, ◌&&◌, ℕ, Bool, true, false, nat_le, nat_lt, Some, List}
+use Rattle.std.specs.Prelude.{◌<◌, ◌≡◌, ◌+◌, ◌*◌, ◌&&◌, ℕ, Bool, true, false, nat_le, nat_lt, Some, List}
 use Rattle.std.specs.Prelude.{[], ◌∷◌, map, slice_get}
 use Rattle.owner_law.specs.Things.{Window, Buffers, Naming}
-use Rattle.net_law.specs.Owners.Names.{PoolAt, by_address, by_offset}
+use Rattle.owner_law.specs.Pools.Places.{PoolAt, by_address, by_offset}
 use Rattle.net_law.specs.TxParts.Parts.{SendPart, Shipper}
 
 -- the clients' buffers by device addresses
@@ -21,10 +21,11 @@ pub record NamesSend (naming : Naming) (p : SendPart) : Type 0 where
 
 -- an address is in a pool's range of device addresses
 abbrev pub is_at : PoolAt → ℕ → Bool
-is_at p address = nat_le p.base address && nat_lt address (p.base + p.buffers * 2048)
+is_at p address = nat_le p.base address && nat_lt address (p.base + p.buffers * p.size)
 
--- no two clients' ranges meet
-abbrev pub ArePoolsApart : List Shipper → Type 0
-ArePoolsApart clients = (j k : ℕ) (c d : Shipper) → slice_get clients j ≡ Some c
-    → slice_get clients k ≡ Some d → (j ≡ k → ⊥) → (address : ℕ)
-    → is_at c.pool address ≡ true → is_at d.pool address ≡ false
+-- no buffer is empty, and no two clients' ranges meet
+pub record ArePoolsApart (clients : List Shipper) : Type 0 where
+  pub sized : (k : ℕ) (c : Shipper) → slice_get clients k ≡ Some c → 0 < c.pool.size
+  pub apart : (j k : ℕ) (c d : Shipper) → slice_get clients j ≡ Some c
+      → slice_get clients k ≡ Some d → (j ≡ k → ⊥) → (address : ℕ)
+      → is_at c.pool address ≡ true → is_at d.pool address ≡ false

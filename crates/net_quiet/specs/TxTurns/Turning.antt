@@ -20,7 +20,8 @@ use Rattle.net_law.specs.Wire.Sending.{IsSending}
 -- and as often as it came back
 pub record SendsFromHand (s : Sender) (put back : List Cargo) : Type 0 where
   pub good : All (λ (c : Cargo). is_good_of s c ≡ true) put
-  pub in_hand : (b : ℕ) → b < s.buffers → at_address (b * 2048) put ≤ at_address (b * 2048) back + 1
+  pub in_hand : (b : ℕ) → b < s.buffers
+      → at_address (b * s.size) put ≤ at_address (b * s.size) back + 1
 
 -- the sending virtualiser, the driver and the device, whose rows hold, both ways between them; and
 -- each client puts what was in its hand

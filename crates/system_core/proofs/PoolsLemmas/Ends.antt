@@ -16,7 +16,7 @@ use Rattle.trace_text.specs.declared.trace.Trace.{Trace}
 use Rattle.trace_text.specs.Events.{serial_clients}
 use Rattle.blk_law.specs.Sheets.Numbers.{sharers_from}
 use Rattle.blk_law.specs.Sheets.Table.{sharer_ends}
-use Rattle.net_law.specs.Owners.Names.{PoolAt}
+use Rattle.owner_law.specs.Pools.Places.{PoolAt}
 use Rattle.actor_set.specs.Parts.{Part}
 use Rattle.actor_set.specs.Laws.Kinds.{sheet}
 use Rattle.layout_laws.specs.Jobs.Jobs.{Job, EthDevice, EthDriver, NetReceiver, NetSender, NetCopier, NetClient, UartDevice, UartDriver, SerialReceiver, SerialSender, SerialClient, DiskDevice, DiskDriver, BlkVirtualiser, BlkClient}
@@ -135,9 +135,9 @@ leases_rise : (k : ℕ) (macs : List Mac) (ins outs : ℕ) → ins ≤ 9 + 6 * k
 leases_rise k [] ins outs below under = tt
 leases_rise k (mac ∷ macs) ins outs below under = (omega (arith, under), (omega (arith, below), leases_rise (k + 1) macs (client_first 0 k + 1 + 1) (client_first 0 k + 1) (omega arith) (omega arith)))
 
-sends_rise : (k : ℕ) (pools : List ClientPools) (ins outs : ℕ) → ins ≤ 12 + 6 * k → outs ≤ 13 + 6 * k → Rise ins outs (flat_map shipper_ends (shippers_from 0 k pools))
-sends_rise k [] ins outs below under = tt
-sends_rise k (q ∷ pools) ins outs below under = (omega (arith, below), (omega (arith, under), sends_rise (k + 1) pools (client_first 0 k + 4 + 1) (client_first 0 k + 5 + 1) (omega arith) (omega arith)))
+sends_rise : (most k : ℕ) (pools : List ClientPools) (ins outs : ℕ) → ins ≤ 12 + 6 * k → outs ≤ 13 + 6 * k → Rise ins outs (flat_map shipper_ends (shippers_from 0 most k pools))
+sends_rise most k [] ins outs below under = tt
+sends_rise most k (q ∷ pools) ins outs below under = (omega (arith, below), (omega (arith, under), sends_rise most (k + 1) pools (client_first 0 k + 4 + 1) (client_first 0 k + 5 + 1) (omega arith) (omega arith)))
 
 given_rise : (first count ins outs : ℕ) → outs ≤ first → Rise ins outs (map outlet (every_second first count))
 given_rise first zero ins outs under = tt
@@ -159,7 +159,7 @@ job_apart plan trace scene EthDriver p is = subst (λ q. AreApart (sheet scene q
 job_apart plan trace scene NetReceiver p is = subst (λ q. AreApart (sheet scene q).ends) (some_is is)
     (rising (intake 4 ∷ outlet 5 ∷ flat_map lessee_ends (lessees_from 0 0 (net_place plan trace).macs)) 0 0 (omega arith, (omega arith, leases_rise 0 (net_place plan trace).macs 5 6 (omega arith) (omega arith))))
 job_apart plan trace scene NetSender p is = subst (λ q. AreApart (sheet scene q).ends) (some_is is)
-    (rising (intake 7 ∷ outlet 6 ∷ flat_map shipper_ends (shippers_from 0 0 (net_place plan trace).pools)) 0 0 (omega arith, (omega arith, sends_rise 0 (net_place plan trace).pools 8 7 (omega arith) (omega arith))))
+    (rising (intake 7 ∷ outlet 6 ∷ flat_map shipper_ends (shippers_from 0 (net_place plan trace).most 0 (net_place plan trace).pools)) 0 0 (omega arith, (omega arith, sends_rise (net_place plan trace).most 0 (net_place plan trace).pools 8 7 (omega arith) (omega arith))))
 job_apart plan trace scene (NetCopier c) p is = subst (λ q. AreApart (sheet scene q).ends) (some_is is) (by_twos (client_first 0 c) (client_first 0 c + 3) (client_first 0 c + 2) (client_first 0 c + 1) (λ e. omega (arith, e)) (λ e. omega (arith, e)))
 job_apart plan trace scene (NetClient c) p is = subst (λ q. AreApart (sheet scene q).ends) (some_is is) (by_turns (client_first 0 c + 2) (client_first 0 c + 3) (client_first 0 c + 5) (client_first 0 c + 4) (λ e. omega (arith, e)) (λ e. omega (arith, e)))
 job_apart plan trace scene UartDevice p is = subst (λ q. AreApart (sheet scene q).ends) (some_is is) (one_each (first_serial plan + 1) (first_serial plan))

@@ -7,7 +7,8 @@ use Rattle.wire_core.specs.declared.names.QueueRow.{QueueRow}
 use Rattle.play_core.specs.Sheets.{Scene, AreApart}
 use Rattle.owner_law.specs.Things.{Naming}
 use Rattle.owner_law.proofs.Replays.{owners_hold}
-use Rattle.net_law.specs.Owners.Names.{PoolAt, ClientPools}
+use Rattle.net_law.specs.Owners.Names.{ClientPools}
+use Rattle.owner_law.specs.Pools.Places.{PoolAt}
 use Rattle.net_law.proofs.PartsLemmas.Owning.{net_puts}
 use Rattle.net_law.specs.TxParts.Parts.{SendPart, Shipper}
 use Rattle.net_law.specs.TxParts.Numbers.{NetPlace, shippers_from, sender_at}
@@ -22,10 +23,11 @@ use Rattle.trace_text.specs.declared.trace.Trace.{Trace}
 use Rattle.trace_text.specs.Events.{net_clients}
 use Rattle.actor_set.specs.Parts.{Part, UartPart, DriverPart, RxPart, TxPart, ClientPart, NetworkPart, SendingPart, BlockPart}
 use Rattle.actor_set.specs.Laws.Kinds.{sheet, scene_of, hostiles}
+use Rattle.std.proofs.Math.Nat.{mul_comm}
 use Rattle.cast_core.specs.Casts.{client_pools, net_place}
 use Rattle.cast_core.specs.Sources.{pool_at, first_blk_pool}
 use Rattle.cast_core.proofs.Listing.{value_is}
-use Rattle.cast_core.proofs.Rooms.{pools_apart, net_size}
+use Rattle.cast_core.proofs.Rooms.{pools_apart, has_pools}
 use Rattle.system_core.specs.Shows.{Shown}
 use Rattle.system_core.specs.Lawful.{StandsLawful}
 use Rattle.system_core.specs.Builds.{IsCastOf}
@@ -46,10 +48,10 @@ use Rattle.system_core.proofs.PoolsLemmas.Placing.{placed, job_at}
 use Rattle.system_core.proofs.PoolsLemmas.Staying.{pool_stays, each_follows}
 
 -- an address in a pool's range
-in_bounds : (p : PoolAt) (a : ℕ) → is_at p a ≡ true → (p.base ≤ a) × (a < p.base + p.buffers * 2048)
+in_bounds : (p : PoolAt) (a : ℕ) → is_at p a ≡ true → (p.base ≤ a) × (a < p.base + p.buffers * p.size)
 in_bounds p a h =
-    let parts = and_parts (nat_le p.base a) (nat_lt a (p.base + p.buffers * 2048)) h in
-    (leb-true p.base a parts.0, ltb-true a (p.base + p.buffers * 2048) parts.1)
+    let parts = and_parts (nat_le p.base a) (nat_lt a (p.base + p.buffers * p.size)) h in
+    (leb-true p.base a parts.0, ltb-true a (p.base + p.buffers * p.size) parts.1)
 
 -- what isn't true is false
 is_false : (b : Bool) → (b ≡ true → ⊥) → b ≡ false
@@ -67,24 +69,25 @@ module _ (plan : Plan) (valid : Valid plan) where
   pool = pool_at (pools_of plan)
 
   -- a pool in which an address lies is there
-  there : (n a : ℕ) → is_at (pool n) a ≡ true → (row : PoolRow) × (slice_get (pools_of plan) n ≡ Some row) × (row.base ≤ a) × (a < row.base + row.buffers * 2048)
+  there : (n a : ℕ) → is_at (pool n) a ≡ true → (row : PoolRow) × (slice_get (pools_of plan) n ≡ Some row) × (row.base ≤ a) × (a < row.base + row.buffers * row.size)
   there n a h = by (slice_get (pools_of plan) n) refl
     where
-      bounds : ((pool n).base ≤ a) × (a < (pool n).base + (pool n).buffers * 2048)
+      bounds : ((pool n).base ≤ a) × (a < (pool n).base + (pool n).buffers * (pool n).size)
       bounds = in_bounds (pool n) a h
 
-      by : (o : Option PoolRow) → slice_get (pools_of plan) n ≡ o → (row : PoolRow) × (slice_get (pools_of plan) n ≡ Some row) × (row.base ≤ a) × (a < row.base + row.buffers * 2048)
+      by : (o : Option PoolRow) → slice_get (pools_of plan) n ≡ o → (row : PoolRow) × (slice_get (pools_of plan) n ≡ Some row) × (row.base ≤ a) × (a < row.base + row.buffers * row.size)
       by None is =
           let base : (pool n).base ≡ 0 = ap (λ (o : Option PoolRow). option_map_or (λ (row : PoolRow). row.base) o 0) is in
           let size : (pool n).buffers ≡ 0 = ap (λ (o : Option PoolRow). option_map_or (λ (row : PoolRow). row.buffers) o 0) is in
-          let lt = bounds.1 in
-          absurd (omega (arith, base, size, lt))
+          let lt : a < (pool n).base + 0 * (pool n).size = subst (λ m. a < (pool n).base + m * (pool n).size) size bounds.1 in
+          absurd (omega (arith, base, lt))
       by (Some row) is =
           let base : (pool n).base ≡ row.base = ap (λ (o : Option PoolRow). option_map_or (λ (row : PoolRow). row.base) o 0) is in
           let size : (pool n).buffers ≡ row.buffers = ap (λ (o : Option PoolRow). option_map_or (λ (row : PoolRow). row.buffers) o 0) is in
           let from = bounds.0 in
-          let to = bounds.1 in
-          (row, is, omega (arith, base, from), omega (arith, base, size, to))
+          let long : (pool n).size ≡ row.size = ap (λ (o : Option PoolRow). option_map_or (λ (row : PoolRow). row.size) o 0) is in
+          let to : a < (pool n).base + row.buffers * row.size = subst (λ z. a < (pool n).base + row.buffers * z) long (subst (λ m. a < (pool n).base + m * (pool n).size) size bounds.1) in
+          (row, is, omega (arith, base, from), omega (arith, base, to))
 
   lower : (j k a : ℕ) → j < k → k < first_blk_pool plan → is_at (pool j) a ≡ true → is_at (pool k) a ≡ true → ⊥
   lower j k a less below here other =
@@ -92,10 +95,8 @@ module _ (plan : Plan) (valid : Valid plan) where
       let y = there k a other in
       let first_end = x.3 in
       let second_end = y.3 in
-      let sized : x.0.size ≡ 2048 = net_size plan j x.0 (omega (arith, less, below)) x.1 in
-      let other_sized : y.0.size ≡ 2048 = net_size plan k y.0 below y.1 in
-      let end : a < x.0.base + x.0.size * x.0.buffers = rw sized (omega (arith, first_end)) in
-      let other_end : a < y.0.base + y.0.size * y.0.buffers = rw other_sized (omega (arith, second_end)) in
+      let end : a < x.0.base + x.0.size * x.0.buffers = subst (λ n. a < x.0.base + n) (mul_comm x.0.buffers x.0.size) first_end in
+      let other_end : a < y.0.base + y.0.size * y.0.buffers = subst (λ n. a < y.0.base + n) (mul_comm y.0.buffers y.0.size) second_end in
       pools_apart plan valid j k x.0 y.0 less x.1 y.1 a x.2 end y.2 other_end
 
   off : (j k a : ℕ) → j < first_blk_pool plan → k < first_blk_pool plan → (j ≡ k → ⊥) → is_at (pool j) a ≡ true → is_at (pool k) a ≡ true → ⊥
@@ -106,18 +107,37 @@ module _ (plan : Plan) (valid : Valid plan) where
       by (inr more) (inl less) = lower k j a less low other here
       by (inr more) (inr same) = ne (omega (arith, more, same))
 
+  -- no buffer in which a client sends is empty
+  large : (k : ℕ) → k < length (net_clients plan) → 0 < (pool (2 + 2 * k)).size
+  large k lt = by plan.net refl
+    where
+      by : (o : Option Net) → plan.net ≡ o → 0 < (pool (2 + 2 * k)).size
+      by None is =
+          let none : length (net_clients plan) ≡ 0 = ap (λ (o : Option Net). length (option_map_or (λ (n : Net). n.client) o [])) is in
+          absurd (omega (arith, lt, none))
+      by (Some net) is =
+          let many : length (net_clients plan) ≡ length net.client = ap (λ (o : Option Net). length (option_map_or (λ (n : Net). n.client) o [])) is in
+          ((has_pools plan valid net is).tx k (omega (arith, lt, many))).large
+
   -- no two clients send in one range
-  senders_apart : (trace : Trace) → ArePoolsApart (shippers_from 0 0 (net_place plan trace).pools)
-  senders_apart trace j k c d c_at d_at ne a here =
-      let x = shipper_from 0 0 (net_place plan trace).pools j c c_at in
-      let y = shipper_from 0 0 (net_place plan trace).pools k d d_at in
-      let p : c.pool ≡ x.0.tx = ap (λ (s : Shipper). s.pool) (sym x.2) in
-      let q : d.pool ≡ y.0.tx = ap (λ (s : Shipper). s.pool) (sym y.2) in
-      let v = value_is (length (net_clients plan)) (client_pools plan) j x.0 x.1 in
-      let u = value_is (length (net_clients plan)) (client_pools plan) k y.0 y.1 in
-      let first : x.0.tx ≡ pool (2 + 2 * j) = ap (λ (z : ClientPools). z.tx) v.1 in
-      let second : y.0.tx ≡ pool (2 + 2 * k) = ap (λ (z : ClientPools). z.tx) u.1 in
-      is_false (is_at d.pool a) (λ too. off (2 + 2 * j) (2 + 2 * k) a (sends_below plan.net j v.0) (sends_below plan.net k u.0) (λ e. ne (omega (arith, e))) (subst (λ z. is_at z a ≡ true) (p ∙ first) here) (subst (λ z. is_at z a ≡ true) (q ∙ second) too))
+  senders_apart : (trace : Trace) → ArePoolsApart (shippers_from 0 (net_place plan trace).most 0 (net_place plan trace).pools)
+  senders_apart trace = record {
+    sized = λ k c at.
+        let x = shipper_from 0 (net_place plan trace).most 0 (net_place plan trace).pools k c at in
+        let v = value_is (length (net_clients plan)) (client_pools plan) k x.0 x.1 in
+        let p : c.pool ≡ pool (2 + 2 * k) = ap (λ (s : Shipper). s.pool) (sym x.2) ∙ ap (λ (z : ClientPools). z.tx) v.1 in
+        subst (λ (z : PoolAt). 0 < z.size) (sym p) (large k v.0);
+    apart = λ j k c d c_at d_at ne a here.
+        let x = shipper_from 0 (net_place plan trace).most 0 (net_place plan trace).pools j c c_at in
+        let y = shipper_from 0 (net_place plan trace).most 0 (net_place plan trace).pools k d d_at in
+        let p : c.pool ≡ x.0.tx = ap (λ (s : Shipper). s.pool) (sym x.2) in
+        let q : d.pool ≡ y.0.tx = ap (λ (s : Shipper). s.pool) (sym y.2) in
+        let v = value_is (length (net_clients plan)) (client_pools plan) j x.0 x.1 in
+        let u = value_is (length (net_clients plan)) (client_pools plan) k y.0 y.1 in
+        let first : x.0.tx ≡ pool (2 + 2 * j) = ap (λ (z : ClientPools). z.tx) v.1 in
+        let second : y.0.tx ≡ pool (2 + 2 * k) = ap (λ (z : ClientPools). z.tx) u.1 in
+        is_false (is_at d.pool a) (λ too. off (2 + 2 * j) (2 + 2 * k) a (sends_below plan.net j v.0) (sends_below plan.net k u.0) (λ e. ne (omega (arith, e))) (subst (λ z. is_at z a ≡ true) (p ∙ first) here) (subst (λ z. is_at z a ≡ true) (q ∙ second) too));
+  }
 
 module _ (plan : Plan) (trace : Trace) (s : Shown) (valid : Valid plan) (cast_is : IsCastOf plan trace s.setting) (stands : StandsLawful s) where
   abbrev place : PoolPlace
@@ -146,11 +166,11 @@ module _ (plan : Plan) (trace : Trace) (s : Shown) (valid : Valid plan) (cast_is
   ends_apart k p at = let job = job_at plan trace s valid cast_is k p at in job_apart plan trace scene job.0 p job.2
 
   -- each may put only what was in its hand
-  sender_is : (net : NetPlace) → net.first ≡ 0 → (p : SendPart) → IsOfNetwork net scene.frames (SendingPart p) → sender_at 0 net.pools ≡ p
+  sender_is : (net : NetPlace) → net.first ≡ 0 → (p : SendPart) → IsOfNetwork net scene.frames (SendingPart p) → sender_at 0 net.most net.pools ≡ p
   sender_is net first p (inl e) = absurd cc
   sender_is net first p (inr (inl e)) = absurd cc
   sender_is net first p (inr (inr (inl e))) = absurd cc
-  sender_is net first p (inr (inr (inr (inl e)))) = let same : p ≡ sender_at net.first net.pools = cc in sym (same ∙ ap (λ n. sender_at n net.pools) first)
+  sender_is net first p (inr (inr (inr (inl e)))) = let same : p ≡ sender_at net.first net.most net.pools = cc in sym (same ∙ ap (λ n. sender_at n net.most net.pools) first)
   sender_is net first p (inr (inr (inr (inr (inl x))))) = let e = x.2 in absurd cc
   sender_is net first p (inr (inr (inr (inr (inr x))))) = let e = x.5 in absurd cc
 

@@ -9,8 +9,7 @@ use Rattle.play_core.proofs.Lists.{some_is, map_get, map_from, there_is, there_b
 use Rattle.pipe_driver.proofs.Holding.{row_of as driver_row}
 use Rattle.pipe_driver.specs.Drivers.{PipesRow}
 use Rattle.pipe_driver.specs.Lengths.{two_pipes}
-use Rattle.net_law.specs.Owners.Names.{PoolAt}
-use Rattle.net_law.specs.TxParts.Numbers.{own_pool}
+use Rattle.owner_law.specs.Pools.Places.{PoolAt, own_pool}
 use Rattle.device_model.specs.Disk.Disks.{DiskRow}
 use Rattle.client_programs.specs.Blk.Clients.{req_queue, resp_queue}
 use Rattle.client_programs.specs.declared.blk.BlkClient.{BlkClient}
@@ -124,7 +123,7 @@ module _ (ends : Role → ℕ → End) (rows : List QueueRow) (actors : List Act
   client_of : (k : ℕ) (c : BlkClient) → slice_get actors k ≡ Some (Kinds.BlkClient c) → (j entry : ℕ) × (asks : List Ask) × (pool : PoolAt) × IsBlkClientOf place j entry asks pool × (blk_client_part c ≡ blk_client_at place.first j asks pool)
   client_of k c at = client_is place (req_queue c) (resp_queue c) c.asking.script.items _ (has.only k (blk_client_part c) (map_get part_of actors k (Kinds.BlkClient c) at))
 
-pub replied : (ends : Role → ℕ → End) (rows : List QueueRow) (actors : List Actor) (passed : Passed) (place : BlkPlace) → HasBlk rows place (map part_of actors) → AreAtWork ends rows actors passed → ClientsSend (map part_of actors) passed → (k c : ℕ) (x : Actor) (asks : List Ask) (pool : PoolAt) (entry : ℕ) → slice_get actors k ≡ Some x → part_of x ≡ BlockPart (blk_client_at place.first c asks pool) → slice_get place.entries c ≡ Some entry → slice_get place.asks c ≡ Some asks → IsPrefix (replies_got x) (replies_of place.image entry asks)
+pub replied : (ends : Role → ℕ → End) (rows : List QueueRow) (actors : List Actor) (passed : Passed) (place : BlkPlace) → HasBlk rows place (map part_of actors) → AreAtWork ends rows actors passed → ClientsSend rows (map part_of actors) passed → (k c : ℕ) (x : Actor) (asks : List Ask) (pool : PoolAt) (entry : ℕ) → slice_get actors k ≡ Some x → part_of x ≡ BlockPart (blk_client_at place.first c asks pool) → slice_get place.entries c ≡ Some entry → slice_get place.asks c ≡ Some asks → IsPrefix (replies_got x) (replies_of place.image entry asks)
 replied ends rows actors passed place has work sends k c x asks pool entry at part entry_at asks_at =
     let d = blk_client_actor place.first c asks pool x part in
     let here : slice_get actors k ≡ Some (Kinds.BlkClient d.0) = at ∙ ap Some d.1 in

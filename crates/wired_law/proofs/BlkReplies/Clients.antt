@@ -11,7 +11,7 @@ use Rattle.wire_core.specs.Deeds.{Cargo}
 use Rattle.wire_core.specs.Lists.{Passed}
 use Rattle.play_core.proofs.Lists.{some_is, prefix_trans, there_is, there_below}
 use Rattle.buffer_kit.specs.Virtualising.{from_queues, to_queues}
-use Rattle.net_law.specs.Owners.Names.{PoolAt}
+use Rattle.owner_law.specs.Pools.Places.{PoolAt}
 use Rattle.net_law.proofs.PartsLemmas.Leasing.{prefix_get}
 use Rattle.blk_expect.specs.Replies.{partition_in, replies_of}
 use Rattle.client_programs.specs.Blk.Asking.{asked_from, pages_in, replies_to}

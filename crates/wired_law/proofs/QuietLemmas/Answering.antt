@@ -18,7 +18,7 @@ use Rattle.play_core.specs.Wants.{Needful}
 use Rattle.play_core.proofs.OneQueue.{whole_prefix}
 use Rattle.play_core.proofs.Tables.{plays_there}
 use Rattle.play_core.specs.Rests.Showing.{HaveItems}
-use Rattle.net_law.specs.Owners.Names.{PoolAt}
+use Rattle.owner_law.specs.Pools.Places.{PoolAt}
 use Rattle.blk_mbr.specs.declared.part.Part.{Part as Partition}
 use Rattle.blk_expect.specs.Replies.{left_by, partition_bytes, partition_in, replies_from, replies_of, status_to}
 use Rattle.client_programs.specs.Blk.Asking.{replies_to}
@@ -72,7 +72,7 @@ module _ (rows : List QueueRow) (cast : List Part) (m : Moved) (place : BlkPlace
   }
 
 -- clients that stand for what passed
-module _ (ends : Role → ℕ → End) (history : History) (rows : List QueueRow) (actors : List Actor) (journal : List Entry) (passed : Passed) (place : BlkPlace) (has : HasBlk rows place (map part_of actors)) (wired : IsWired rows (map part_of actors)) (pools : HasClientPools place) (rooms : HasBlkRooms (hostiles (map part_of actors)) rows place) (work : AreAtWork ends rows actors passed) (send : ClientsSend (map part_of actors) passed) (items : HaveItems passed (moved history journal))
+module _ (ends : Role → ℕ → End) (history : History) (rows : List QueueRow) (actors : List Actor) (journal : List Entry) (passed : Passed) (place : BlkPlace) (has : HasBlk rows place (map part_of actors)) (wired : IsWired rows (map part_of actors)) (pools : HasClientPools place) (rooms : HasBlkRooms (hostiles (map part_of actors)) rows place) (work : AreAtWork ends rows actors passed) (send : ClientsSend rows (map part_of actors) passed) (items : HaveItems passed (moved history journal))
     (still : IsStill (hostiles (map part_of actors)) history rows (needful (sheet (scene_of (map part_of actors))) (map part_of actors) (moved history journal)) journal) where
   abbrev cast : List Part
   cast = map part_of actors

@@ -47,13 +47,13 @@ module _ (rows : List QueueRow) (cast : List Part) (m : Moved) (net : NetPlace) 
     device = plays (NetworkPart (device_at net.first (scene_of cast).frames)) whole.device;
     driver = plays (NetworkPart (driver_at net.first)) whole.driver;
     receiver = plays (NetworkPart (receiver_at net.first net.pool net.macs)) whole.receiver;
-    sender = plays (SendingPart (sender_at net.first net.pools)) whole.sender;
+    sender = plays (SendingPart (sender_at net.first net.most net.pools)) whole.sender;
     copier = λ k lt. plays (NetworkPart (copier_at net.first k)) (whole.copier k lt);
     client = λ k program mac q of. plays (NetworkPart (client_at net.first k program mac (own_pools q))) (whole.client k program mac q of);
   }
 
 -- actors that stand for what passed
-module _ (ends : Role → ℕ → End) (history : History) (rows : List QueueRow) (actors : List Actor) (journal : List Entry) (passed : Passed) (net : NetPlace) (whole : HasWhole rows net (map part_of actors)) (wired : IsWired rows (map part_of actors)) (pools : HasPools net) (rooms : HasRooms (hostiles (map part_of actors)) rows net) (work : AreAtWork ends rows actors passed) (send : ClientsSend (map part_of actors) passed) (items : HaveItems passed (moved history journal)) where
+module _ (ends : Role → ℕ → End) (history : History) (rows : List QueueRow) (actors : List Actor) (journal : List Entry) (passed : Passed) (net : NetPlace) (whole : HasWhole rows net (map part_of actors)) (wired : IsWired rows (map part_of actors)) (pools : HasPools net) (rooms : HasRooms (hostiles (map part_of actors)) rows net) (work : AreAtWork ends rows actors passed) (send : ClientsSend rows (map part_of actors) passed) (items : HaveItems passed (moved history journal)) where
   abbrev cast : List Part
   cast = map part_of actors
 
@@ -66,7 +66,7 @@ module _ (ends : Role → ℕ → End) (history : History) (rows : List QueueRow
   module _ (still : IsStill (hostiles cast) history rows (needful (sheet (scene_of cast)) cast (moved history journal)) journal) where
     pub recorded_whole : (k c : ℕ) (x : Actor) (program : Program) (mac : Mac) (q : ClientPools) → slice_get actors k ≡ Some x → IsClientOf net c program mac q → part_of x ≡ NetworkPart (client_at net.first c program mac (own_pools q)) → frames_got x ≡ frames_for mac frames
     recorded_whole k c x program mac q at of part =
-        let begun = recorded ends rows actors passed net whole work k c x program mac (own_pools q) at part (whole.some c q of.pools) of.address in
+        let begun = recorded ends rows actors passed net whole work k c x program mac (own_pools q) at part (whole.some c q of.pools) (whole.fits_client c q of.pools).0 of.address in
         let got = frames_here passed x (work.stands k x at) ∙ ap (frames_by passed) part in
         record_whole (hostiles cast) history rows (needful (sheet (scene_of cast)) cast (moved history journal)) journal (scene_of cast) net still there passed items c mac of.address (frames_got x) (client_first net.first c + 2) refl got begun
 

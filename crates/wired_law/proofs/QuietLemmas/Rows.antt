@@ -17,7 +17,7 @@ use Rattle.actor_set.proofs.LawsLemmas.Rows.{actor_row}
 use Rattle.wired_law.specs.Wiring.{IsWired, ClientsSend, AreAtWork}
 use Rattle.wired_law.proofs.Wiring.{in_turn}
 
-module _ (ends : Role → ℕ → End) (history : History) (rows : List QueueRow) (actors : List Actor) (journal : List Entry) (passed : Passed) (wired : IsWired rows (map part_of actors)) (work : AreAtWork ends rows actors passed) (send : ClientsSend (map part_of actors) passed) (items : HaveItems passed (moved history journal)) where
+module _ (ends : Role → ℕ → End) (history : History) (rows : List QueueRow) (actors : List Actor) (journal : List Entry) (passed : Passed) (wired : IsWired rows (map part_of actors)) (work : AreAtWork ends rows actors passed) (send : ClientsSend rows (map part_of actors) passed) (items : HaveItems passed (moved history journal)) where
   abbrev cast : List Part
   cast = map part_of actors
 

@@ -4,7 +4,7 @@ use Rattle.cast_core.specs.Sources.{first_blk, first_blk_pool, pool_at}
 use Rattle.cast_core.specs.Making.{new_page, HasPool}
 use Rattle.cast_core.proofs.Listing.{value_count}
 use Rattle.cast_core.proofs.Making.{pages_are}
-use Rattle.cast_core.proofs.Blocks.{block_fits, asker_is}
+use Rattle.cast_core.proofs.Blocks.{block_fits, block_size, asker_is}
 use Rattle.cast_core.proofs.block.client.Goals as goal
 
 pub new-requires-clause-pool : goal.new-requires-clause-pool
@@ -40,6 +40,6 @@ returns-clause-part c =
     let fits = block_fits rows n (pool_at rows n).base many (subst (HasPool 32768 rows) (sym e) c.requires.pool) refl c.pool_row.ensures.buffers in
     let script = c.in_ok-asks.ensures ∙ sym (ap (λ o. unwrap_or o []) c.asks.ensures) in
     let first = c.first_blk-first.result in
-    asker_is rows n many _ _ c.in_ok-pages.pages.items c.in_ok-asks.asks.items c.new.result c.in_ok-pages.ensures fits.0 c.new.ensures.new first k refl (omega arith) refl c.pool_row.ensures.buffers
+    asker_is rows n many _ _ c.in_ok-pages.pages.items c.in_ok-asks.asks.items c.new.result c.in_ok-pages.ensures fits.0 c.new.ensures.new first k refl (omega arith) refl c.pool_row.ensures.buffers (block_size rows n (subst (HasPool 32768 rows) (sym e) c.requires.pool))
     ∙ (ap (λ f. blk_client_at f k c.in_ok-asks.asks.items (pool_at rows n)) c.first_blk-first.ensures
     ∙ ap₂ (λ l m. blk_client_at (first_blk c.args.plan.now) k l (pool_at rows m)) script e)

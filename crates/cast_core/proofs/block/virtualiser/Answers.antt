@@ -25,5 +25,5 @@ returns-clause-part c =
     let rows = c.args.pools.now in
     let page = c.in_ok-page.ensures ∙ ap (λ n. new_page 32768 n 0) c.first_blk_pool-own.ensures in
     let base = c.pool_row.ensures.base ∙ ap (λ n. (pool_at rows n).base) c.first_blk_pool-own.ensures in
-    virt_is plan rows c.args.clients c.pool_row.result.now.base _ c.in_ok-ends.ends.items _ c.in_ok-new.field-0 c.in_ok-ends.ensures page _ _ c.in_ok-new.ensures.new c.first_blk-first.result c.first_blk-first.ensures refl refl base c.requires.pools.single
+    virt_is plan rows c.args.clients c.pool_row.result.now.base _ c.in_ok-ends.ends.items _ c.in_ok-new.field-0 c.in_ok-ends.ensures page _ _ c.in_ok-new.ensures.new c.requires.pools c.first_blk-first.result c.first_blk-first.ensures refl refl base c.requires.pools.single
     ∙ ap (λ (image : List ℕ). VirtPart (first_blk plan + 2) (first_blk plan + 3) (length image / 512) (pool_at rows (first_blk_pool plan)) (sharers_from (first_blk plan) 0 (per_client c.args.clients (client_entry plan)) (per_client c.args.clients (λ k. pool_at rows (first_blk_pool plan + 1 + k))))) c.image.ensures

@@ -9,7 +9,7 @@ pub returns-clause-driver : goal.returns-clause-driver
 returns-clause-driver c = driver_row
 
 pub returns-clause-receiver : goal.returns-clause-receiver
-returns-clause-receiver c = λ scene v passed m turn items row. receiver_row scene v passed m turn.size items turn.takes row (turn.in_turn row)
+returns-clause-receiver c = λ scene v passed m turn items row. receiver_row scene v passed m items turn.takes row (turn.in_turn row)
 
 pub returns-clause-copier : goal.returns-clause-copier
 returns-clause-copier c = copier_row

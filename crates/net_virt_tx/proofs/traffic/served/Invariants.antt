@@ -5,5 +5,5 @@ use Rattle.net_virt_tx.specs.Sending.{sender_of}
 use Rattle.net_virt_tx.proofs.traffic.served.Given as goal
 
 abbrev pub invariant-loop-client : goal.invariant-loop-client
-invariant-loop-client l = (map (λ (c : Client). c.sender) l.served.items ≡ map sender_of (take l.client-index l.clients))
+invariant-loop-client l = (map (λ (c : Client). c.sender) l.served.items ≡ map (sender_of l.fn.most) (take l.client-index l.clients))
     × ((k : ℕ) (c : Client) → slice_get l.served.items k ≡ Some c → IsFresh c)

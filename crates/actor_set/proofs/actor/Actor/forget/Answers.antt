@@ -26,10 +26,10 @@ pub returns-in-SerialClient-clause-after : goal.returns-in-SerialClient-clause-a
 returns-in-SerialClient-clause-after c = subst (λ a. Forgot a (Kinds.SerialClient (record { terminal = c.forget-in-SerialClient.new.self }))) (sym c.in-SerialClient.is) (c.forget-in-SerialClient.ensures.after ∙ ap terminal_forgotten c.deref_mut-in-SerialClient.ensures.value)
 
 pub returns-in-NetVirtRx-clause-fits : goal.returns-in-NetVirtRx-clause-fits
-returns-in-NetVirtRx-clause-fits c = λ ends h. let f = subst (FitsActor ends) c.in-NetVirtRx.is h in (c.forget-in-NetVirtRx.ensures.fits ends f.0, c.forget-in-NetVirtRx.ensures.same.work.stock.size ∙ f.1)
+returns-in-NetVirtRx-clause-fits c = λ ends h. let f = subst (FitsActor ends) c.in-NetVirtRx.is h in c.forget-in-NetVirtRx.ensures.fits ends f
 
 pub returns-in-NetClient-clause-fits : goal.returns-in-NetClient-clause-fits
-returns-in-NetClient-clause-fits c = λ ends h. let f = subst (FitsActor ends) c.in-NetClient.is h in (c.forget-in-NetClient.ensures.fits ends f.0, record { base = c.forget-in-NetClient.ensures.same.stock.base ∙ f.1.base; size = c.forget-in-NetClient.ensures.same.stock.size ∙ f.1.size; spare_base = c.forget-in-NetClient.ensures.same.spare.base ∙ f.1.spare_base; spare_size = c.forget-in-NetClient.ensures.same.spare.size ∙ f.1.spare_size })
+returns-in-NetClient-clause-fits c = λ ends h. let f = subst (FitsActor ends) c.in-NetClient.is h in (c.forget-in-NetClient.ensures.fits ends f.0, record { base = c.forget-in-NetClient.ensures.same.stock.base ∙ f.1.base; spare_base = c.forget-in-NetClient.ensures.same.spare.base ∙ f.1.spare_base })
 
 pub returns-in-NetVirtRx-clause-whole : goal.returns-in-NetVirtRx-clause-whole
 returns-in-NetVirtRx-clause-whole c = λ h.

@@ -33,16 +33,16 @@ pub returns-in-NetClient-clause-stepped : goal.returns-in-NetClient-clause-stepp
 returns-in-NetClient-clause-stepped g c = ok_actor ClientStandsFor _ _ _ _ _ _ _ c.step-in-NetClient.result (λ passed h. subst (λ a. ActorStandsFor a passed) c.in-NetClient.is h) (λ passed h. h) c.step-in-NetClient.ensures.stepped
 
 pub step-requires-in-NetVirtRx : goal.step-requires-in-NetVirtRx
-step-requires-in-NetVirtRx g c = let f = subst (FitsActor (g.W.Wires.ends c.args.wires.now)) c.in-NetVirtRx.is c.requires in f.0
+step-requires-in-NetVirtRx g c = let f = subst (FitsActor (g.W.Wires.ends c.args.wires.now)) c.in-NetVirtRx.is c.requires in f
 
 pub step-requires-in-NetClient : goal.step-requires-in-NetClient
 step-requires-in-NetClient g c = let f = subst (FitsActor (g.W.Wires.ends c.args.wires.now)) c.in-NetClient.is c.requires in f.0
 
 pub returns-in-NetVirtRx-clause-fits : goal.returns-in-NetVirtRx-clause-fits
-returns-in-NetVirtRx-clause-fits g c = let f = subst (FitsActor (g.W.Wires.ends c.args.wires.now)) c.in-NetVirtRx.is c.requires in (c.step-in-NetVirtRx.ensures.fits, c.step-in-NetVirtRx.ensures.same.work.stock.size ∙ f.1)
+returns-in-NetVirtRx-clause-fits g c = c.step-in-NetVirtRx.ensures.fits
 
 pub returns-in-NetClient-clause-fits : goal.returns-in-NetClient-clause-fits
-returns-in-NetClient-clause-fits g c = let f = subst (FitsActor (g.W.Wires.ends c.args.wires.now)) c.in-NetClient.is c.requires in (c.step-in-NetClient.ensures.fits, record { base = c.step-in-NetClient.ensures.same.stock.base ∙ f.1.base; size = c.step-in-NetClient.ensures.same.stock.size ∙ f.1.size; spare_base = c.step-in-NetClient.ensures.same.spare.base ∙ f.1.spare_base; spare_size = c.step-in-NetClient.ensures.same.spare.size ∙ f.1.spare_size })
+returns-in-NetClient-clause-fits g c = let f = subst (FitsActor (g.W.Wires.ends c.args.wires.now)) c.in-NetClient.is c.requires in (c.step-in-NetClient.ensures.fits, record { base = c.step-in-NetClient.ensures.same.stock.base ∙ f.1.base; spare_base = c.step-in-NetClient.ensures.same.spare.base ∙ f.1.spare_base })
 
 pub returns-in-NetVirtRx-clause-stepped : goal.returns-in-NetVirtRx-clause-stepped
 returns-in-NetVirtRx-clause-stepped g c = ok_actor NetRxStandsFor _ _ _ _ _ _ _ c.step-in-NetVirtRx.result (λ passed h. subst (λ a. ActorStandsFor a passed) c.in-NetVirtRx.is h) (λ passed h. h) c.step-in-NetVirtRx.ensures.stepped

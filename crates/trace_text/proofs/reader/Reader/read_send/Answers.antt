@@ -1,6 +1,7 @@
 use Rattle.std.proofs.Common.{◌≡◌, inl, inr, refl, sym, ◌∙◌}
 use Rattle.std.proofs.lemmas.Bool.{lt-leb, le-leb}
 use Rattle.frame_core.specs.Frames.{is_frame_of}
+use Rattle.trace_text.specs.Limits.{frame_most}
 use Rattle.trace_text.specs.Events.{is_source}
 use Rattle.trace_text.proofs.Judged.{and_left, and_right}
 use Rattle.trace_text.proofs.Forms.{send_none, send_taken, no_source, too_long_frame}
@@ -12,7 +13,7 @@ returns-in-None c =
 
 pub returns-then-not-is_source : goal.returns-then-not-is_source
 returns-then-not-is_source c =
-    send_none c.args.self.now c.args.plan.now c.args.client.now c.args.word.now (λ n frame m e. inl (and_left (is_source c.args.plan.now n) (is_frame_of frame) (let told = c.in-Some.ensures.some in let same : n ≡ c.in-Some.client = cc in rw same (sym c.is_source.ensures ∙ c.if-not-is_source.true))))
+    send_none c.args.self.now c.args.plan.now c.args.client.now c.args.word.now (λ n frame m e. inl (and_left (is_source c.args.plan.now n) (is_frame_of frame frame_most) (let told = c.in-Some.ensures.some in let same : n ≡ c.in-Some.client = cc in rw same (sym c.is_source.ensures ∙ c.if-not-is_source.true))))
 
 pub returns-then-self-ge-LINES : goal.returns-then-self-ge-LINES
 returns-then-self-ge-LINES c =
@@ -27,7 +28,7 @@ pub returns-then-not-is_frame : goal.returns-then-not-is_frame
 returns-then-not-is_frame c =
     let read = rw c.in-Some-2.is at c.in_ok-frame.ensures in
     let is_frame = rw c.as_slice.ensures at (sym c.is_frame.ensures ∙ c.if-not-is_frame.true) in
-    send_none c.args.self.now c.args.plan.now c.args.client.now c.args.word.now (λ n frame m e. inl (and_right (is_source c.args.plan.now n) (is_frame_of frame) (let same : frame ≡ c.in-Some-2.frame = cc in rw same is_frame)))
+    send_none c.args.self.now c.args.plan.now c.args.client.now c.args.word.now (λ n frame m e. inl (and_right (is_source c.args.plan.now n) (is_frame_of frame frame_most) (let same : frame ≡ c.in-Some-2.frame = cc in rw same is_frame)))
 
 pub returns : goal.returns
 returns c =

@@ -2,10 +2,8 @@ use Rattle.std.proofs.Common.{◌≡◌, ◌≢◌, ◌⊎◌, ◌++◌, ℕ, tr
 use Rattle.std.proofs.Math.Dec.{eqb}
 use Rattle.std.proofs.lemmas.Bool.Decides.{eqb_tells}
 use Rattle.std.proofs.lemmas.List.{append-nil}
-use Rattle.net_law.specs.Owners.Names.{PoolAt}
-use Rattle.net_law.specs.Owners.Ends.{numbers_from}
-use Rattle.net_law.specs.Parts.Rows.{pool_hand}
-use Rattle.net_quiet.specs.Pools.Sizes.{share_of}
+use Rattle.owner_law.specs.Pools.Places.{PoolAt, numbers_from, pool_hand}
+use Rattle.owner_law.specs.Pools.Spread.{share_of}
 
 module _ (sizes owner : ℕ → ℕ) (k : ℕ) where
   abbrev its : ℕ → List ℕ

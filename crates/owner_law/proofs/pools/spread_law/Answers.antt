@@ -1,5 +1,5 @@
-use Rattle.net_quiet.proofs.PoolsLemmas.Sizing.{spread_dealt, spread_pools, spread_within}
-use Rattle.net_quiet.proofs.pools.spread_law.Goals as goal
+use Rattle.owner_law.proofs.PoolsLemmas.Sizing.{spread_dealt, spread_pools, spread_within}
+use Rattle.owner_law.proofs.pools.spread_law.Goals as goal
 
 pub returns-clause-dealt : goal.returns-clause-dealt
 returns-clause-dealt c = spread_dealt

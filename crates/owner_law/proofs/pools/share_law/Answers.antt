@@ -1,5 +1,5 @@
-use Rattle.net_quiet.proofs.PoolsLemmas.Spreading.{its_none, its_one, its_two}
-use Rattle.net_quiet.proofs.pools.share_law.Goals as goal
+use Rattle.owner_law.proofs.PoolsLemmas.Spreading.{its_none, its_one, its_two}
+use Rattle.owner_law.proofs.pools.share_law.Goals as goal
 
 pub returns-clause-none : goal.returns-clause-none
 returns-clause-none c = its_none
