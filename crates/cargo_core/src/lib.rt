@@ -1,6 +1,7 @@
 //! What queues carry, and the lists and texts in which reports and descriptions are kept.
 #![tactic(auto)]
 
+mod blocks;
 mod bytes;
 mod frame_log;
 mod frame_tape;
@@ -13,6 +14,7 @@ mod series;
 mod tape;
 mod text;
 
+pub use blocks::{BLOCK_BYTES, SECTOR_BYTES};
 pub use bytes::Bytes;
 pub use frame_log::FrameLog;
 pub use frame_tape::FrameTape;
