@@ -1,4 +1,5 @@
 -- What the contracts of items, bodies and pages say, and those of lists and of what actors record.
+pub mod Blocks
 pub mod Bodies
 pub mod Capacities
 pub mod Items
