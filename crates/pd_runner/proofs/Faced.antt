@@ -8,7 +8,7 @@ use Rattle.wire_core.specs.Lists.{Passed}
 use Rattle.spsc_queue.specs.Known.Ends.{EndIs, RingIs}
 use Rattle.seat_wires.specs.Places.Are.{SeatsAre}
 use Rattle.seat_wires.specs.Places.{EndsOn, ends_of, stands_at}
-use Rattle.actor_set.specs.Actors.{FitsActor, ActorStandsFor, IsWhole, actor_rests}
+use Rattle.actor_set.specs.Actors.{FitsActor, ActorStandsFor, actor_rests}
 use Rattle.actor_set.specs.declared.actor.Actor.{Actor}
 use Rattle.order_law.specs.declared.actor_parts.worker.Worker.{Worker}
 use Rattle.order_law.specs.ActorParts.Given.{Kept, apart_of}
@@ -101,10 +101,6 @@ few_rings rows rings parts apart few = let e = AllZip-long IsRingOf rows rings a
 -- no step of theirs wanted memory
 pub no_wants : (rows : List QueueRow) (rings : List RingIs) (parts : List Apart) → AreApart rows rings parts → (k : ℕ) (p : Apart) → slice_get parts k ≡ Some p → p.wanted ≡ None
 no_wants rows rings parts apart k p at = (apart.stand k p at).fine
-
--- what each keeps fits together
-pub all_whole : (rows : List QueueRow) (rings : List RingIs) (parts : List Kept) → AreApart rows rings (map apart_of parts) → ((ends : Role → ℕ → End) (a : Actor) → FitsActor ends a → IsWhole a) → Every (λ (k : Kept). IsWhole k.0.actor) parts
-all_whole rows rings parts apart whole = every_of (λ (k : Kept). IsWhole k.0.actor) parts (λ n k at. whole (apart_end (apart_of k)) k.0.actor (apart.stand n (apart_of k) (map_get apart_of parts n k at)).fits)
 
 -- where no step is made each came to be what it was
 abbrev nones : ℕ → List (Option EndIs)

@@ -177,16 +177,6 @@ rung_there history rows w actors journal old k x e row m within is rung =
     let lt : m < length actors = subst (λ n. n < length actors) o.1 (old.peers e.queue.0 row there o.0) in
     rw length-set lt
 
--- after a call of one of them all actors fit together as before
-pub all_whole : (w v : List Queue) (actors : List Actor) (k : ℕ) (x x' : Actor) → slice_get actors k ≡ Some x → ((j : ℕ) (y : Actor) → slice_get actors j ≡ Some y → FitsActor (end_at w) y) → FitsActor (end_at v) x' → (j : ℕ) (y : Actor) → slice_get (slice_set actors k x') j ≡ Some y → IsWhole y
-all_whole w v actors k x x' here fits new j y at = by (eqb_tells j k)
-  where
-    by : ((eqb j k ≡ true) × (j ≡ k)) ⊎ ((eqb j k ≡ false) × (j ≢ k)) → IsWhole y
-    by (inl same) =
-        let is : x' ≡ y = some_is (sym (slice_get_written actors k x x' here) ∙ (ap (slice_get (slice_set actors k x')) (sym same.1) ∙ at)) in
-        fits_whole (end_at v) y (subst (FitsActor (end_at v)) is new)
-    by (inr away) = fits_whole (end_at w) y (fits j y (sym (slice_get_beside actors k j x' away.1) ∙ at))
-
 called_so : (a b : Bool) → a ≡ true → (not a || b) ≡ true → b ≡ true
 called_so true b e g = g
 called_so false b e g = cc

@@ -6,7 +6,7 @@ ghost use Rattle.wire_core.specs.Queues.{is_pending, starts};
 ghost use Rattle.wire_core.specs.Ends.{role_of};
 ghost use Rattle.wire_core.specs.Journal.{start_history, owner_of};
 ghost use Rattle.play_core.specs.Runs.{other_owner, reaches, reach_of};
-ghost use Rattle.actor_set.specs.Actors.{IsWhole, actor_rests, part_of};
+ghost use Rattle.actor_set.specs.Actors.{actor_rests, part_of};
 ghost use Rattle.trace_text.specs.Traces.{IsReadFor};
 ghost use Rattle.region_layout.specs.Layouts.{layout_of};
 ghost use Rattle.sdf_check.specs.Valid.{Valid};
@@ -20,7 +20,7 @@ ghost use Rattle.system_core.specs.Lawful.{StandsLawful};
 ghost use Rattle.system_core.specs.Reports.{report_of};
 ghost use Rattle.system_core.specs.Runnings.{removed_if, with_option};
 ghost use Rattle.system_core.specs.Plays.{Played, IsSpent, StepsAt, runnable_now};
-ghost use Rattle.system_core.specs.Asking.{IsAsked, AreWhole};
+ghost use Rattle.system_core.specs.Asking.{IsAsked};
 ghost use Rattle.system_core.specs.Builds.{IsBuilt};
 ghost use Rattle.system_core.specs.PlanPlays.{IsSystemOf, IsOfItsPlan, StaysOfItsPlan};
 ghost use Rattle.system_core.specs.PlanPlays.{IsPlayed, HasEnded};
@@ -88,7 +88,6 @@ impl Model for System {
 
 // Whether the actor at a place isn't runnable.
 fn is_idle(actor: &Actor, world: &World, place: ActorId) -> bool
-    requires { IsWhole actor.now }
     ensures { result ≡ idles (manner_of (part_of actor.now)) (actor_rests actor.now)
         (is_pending place.0 world.now) }
 {
@@ -145,7 +144,6 @@ fn reach(op: Op, row: &QueueRow, caller: u16) -> Option<u16>
 // Whether the other owner that a call reaches is runnable now.
 fn is_runnable(actors: &[Actor], world: &World, other: Option<u16>) -> bool
     requires there { (k : ℕ) → other ≡ Some k → k < length actors.now }
-    requires whole { AreWhole actors.now }
     ensures { IsAsked actors.now world.now other result }
 {
     match other {

@@ -3,7 +3,7 @@
 ghost use Rattle.std.specs.Prelude.{◌≡◌, IfOk, IfErr, OnErr, Some, None, true};
 ghost use Rattle.wire_core.specs.Ends.{role_of};
 ghost use Rattle.wire_core.specs.Lists.{Stepped};
-ghost use Rattle.actor_set.specs.Actors.{FitsActor, ActorStandsFor, ActorEnd, IsWhole};
+ghost use Rattle.actor_set.specs.Actors.{FitsActor, ActorStandsFor, ActorEnd};
 ghost use Rattle.actor_set.specs.Actors.{actor_rests, part_of, record_length};
 ghost use Rattle.order_law.specs.Tales.{is_waiting};
 
@@ -43,7 +43,6 @@ impl Worker {
 
     /// Whether nothing is to be done before a notification comes.
     pub fn at_rest(&self) -> bool
-        requires { IsWhole self.now.actor }
         ensures { result ≡ actor_rests self.now.actor }
     {
         self.actor.at_rest()

@@ -1,14 +1,11 @@
 use Rattle.std.proofs.Common.{◌≡◌, ◌∙◌, true, refl, sym, subst, map, arith}
 use Rattle.std.proofs.lemmas.Option.{slice_get_read}
-use Rattle.actor_set.specs.Actors.{IsWhole, actor_rests}
+use Rattle.actor_set.specs.Actors.{actor_rests}
 use Rattle.order_law.specs.ActorParts.Given.{Kept, apart_of}
 use Rattle.play_core.proofs.Lists.{map_get, map_from, there_below}
 use Rattle.pd_runner.specs.Facing.{IsResting}
-use Rattle.pd_runner.proofs.Eaches.{every_get, up_to}
+use Rattle.pd_runner.proofs.Eaches.{up_to}
 use Rattle.pd_runner.proofs.face.all_rest.Goals as goal
-
-pub at_rest-requires : goal.at_rest-requires
-at_rest-requires c = every_get (λ (k : Kept). IsWhole k.0.actor) c.args.parts.now c.requires c.loop-part.part-index c.part-item.result (slice_get_read c.args.parts.now _ c.loop-part.part-index c.part-item.result refl c.loop-part-test.true c.part-item.is)
 
 pub returns-then-not-at_rest-clause-no : goal.returns-then-not-at_rest-clause-no
 returns-then-not-at_rest-clause-no c = λ rest.

@@ -1,18 +1,10 @@
 use Rattle.std.proofs.Common.{arith, map, refl}
-use Rattle.std.proofs.lemmas.Option.{slice_get_read}
-use Rattle.wire_core.specs.Queues.{end_at}
 use Rattle.actor_set.specs.Actors.{part_of}
-use Rattle.actor_set.proofs.LawsLemmas.Starts.{fits_whole}
 use Rattle.actor_set.specs.Laws.Kinds.{scene_of}
 use Rattle.system_core.specs.States.{history_of}
 use Rattle.system_core.proofs.Starting.{flag_start, flags_many, list_added, list_skipped, list_room, list_whole}
 use Rattle.system_core.proofs.system.first_running.Goals as goal
 use Rattle.system_core.proofs.system.first_running.Goals.{then-not-is_idle, else-not-is_idle}
-
-pub is_idle-requires : goal.is_idle-requires
-is_idle-requires c =
-    let here = slice_get_read c.args.actors.now _ c.loop-k.k c.index-actors-k.result refl c.loop-k-test.true c.index-actors-k.is in
-    fits_whole (end_at c.args.world.now) c.index-actors-k.result (c.requires.fits c.loop-k.k c.index-actors-k.result here)
 
 pub add-requires : goal.add-requires
 add-requires c =

@@ -11,7 +11,7 @@ use Rattle.system_core.proofs.SystemStep.{entry_of}
 use Rattle.system_core.specs.Plays.{runnable_now}
 use Rattle.system_core.specs.Asking.{IsAsked}
 use Rattle.system_core.specs.Systems.{Holds, HoldsBefore}
-use Rattle.system_core.proofs.Stepping.{rung_there, set_same, system_then, all_whole}
+use Rattle.system_core.proofs.Stepping.{rung_there, set_same, system_then}
 use Rattle.system_core.proofs.Hearing.{runner_there}
 use Rattle.system_core.proofs.system.System.step_at.Goals as goal
 
@@ -54,19 +54,6 @@ note-requires-clause-there c = slice_get_within c.self.inside.running.list c.arg
 
 pub is_runnable-runs-requires-clause-there : goal.is_runnable-runs-requires-clause-there
 is_runnable-runs-requires-clause-there c k rung = rw c.deref.ensures.value (rung_there _ _ _ c.self.inside.actors.items _ c.self.invariant.holds c.at-number.result c.step.new.self c.in_ok-event.event c.index-row.result.now k c.in_ok-event.ensures.stepped.happened.there c.index-row.ensures (sym c.reach-other.ensures ∙ rung))
-
-pub is_idle-idle-requires : goal.is_idle-idle-requires
-is_idle-idle-requires c =
-    let lt : c.at-number.result < length c.self.inside.actors.items = runner_there c.self.inside c.self.invariant c.args.place c.at-number.result c.at-number.ensures in
-    let here = slice_get_read c.self.inside.actors.items _ c.at-number.result c.index_mut-actor.result.now refl lt c.index_mut-actor.ensures.value in
-    let there = slice_get_read (slice_set c.self.inside.actors.items c.at-number.result c.step.new.self) _ c.at-number.result c.index-actor.result.now refl (rw length-set lt) c.index-actor.ensures in
-    all_whole c.self.inside.world c.step.new.wires c.self.inside.actors.items c.at-number.result c.index_mut-actor.result.now c.step.new.self here c.self.invariant.holds.fits c.step.ensures.fits c.at-number.result c.index-actor.result.now there
-
-pub is_runnable-runs-requires-clause-whole : goal.is_runnable-runs-requires-clause-whole
-is_runnable-runs-requires-clause-whole c =
-    let lt : c.at-number.result < length c.self.inside.actors.items = runner_there c.self.inside c.self.invariant c.args.place c.at-number.result c.at-number.ensures in
-    let here = slice_get_read c.self.inside.actors.items _ c.at-number.result c.index_mut-actor.result.now refl lt c.index_mut-actor.ensures.value in
-    rw c.deref.ensures.value (all_whole c.self.inside.world c.step.new.wires c.self.inside.actors.items c.at-number.result c.index_mut-actor.result.now c.step.new.self here c.self.invariant.holds.fits c.step.ensures.fits)
 
 pub note-requires-clause-room : goal.note-requires-clause-room
 note-requires-clause-room c = (system_then (history_of c.self.inside.rows.items c.self.inside.past.value.items) c.self.inside.rows.items c.self.inside.pools.items c.self.inside.net c.self.inside.serial c.self.inside.blk c.self.inside.world c.step.new.wires c.self.inside.actors.items c.self.inside.journal.items c.at-number.result c.index_mut-actor.result.now c.step.new.self c.index-actor.result.now c.in_ok-event.event c.index-row.result.now c.reach-other.result c.is_runnable-runs.result c.is_idle-idle.result c.args.place c.self.inside.running.list c.self.inside.running.room
