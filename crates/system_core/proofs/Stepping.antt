@@ -10,9 +10,8 @@ use Rattle.wire_core.specs.Lists.{Stepped}
 use Rattle.wire_core.specs.Queues.{Queue, Happens, end_at, is_pending}
 use Rattle.wire_core.specs.Journal.{History, Hostiles, MayCall, EachMoment, EachFrom, LegalEntry, owner_of}
 use Rattle.wire_core.proofs.Tracks.{EachFrom-append}
-use Rattle.wire_core.proofs.Places.{slice_get_written, slice_get_beside}
+use Rattle.wire_core.proofs.Places.{slice_get_written}
 use Rattle.std.proofs.Math.Dec.{eqb}
-use Rattle.std.proofs.lemmas.Bool.Decides.{eqb_tells}
 use Rattle.wire_core.specs.Marks.{no_drops, since, since_from, calls_at, AreFew, Brisk}
 use Rattle.turn_kit.specs.Turns.{is_at_rest}
 use Rattle.turn_kit.specs.Pace.{pendings, IsCalled}
@@ -25,7 +24,7 @@ use Rattle.play_core.proofs.Lists.{some_is, map_get, there_is}
 use Rattle.play_core.proofs.Flags.{differs_at, differs_twice, flag_at, flags_length, reach_owns}
 use Rattle.play_core.proofs.Tables.{others_run}
 use Rattle.actor_set.specs.Parts.{Part}
-use Rattle.actor_set.specs.Actors.{FitsActor, ActorStandsFor, ActorEnd, ActorTurned, IsWhole, actor_round, actor_rests, part_of}
+use Rattle.actor_set.specs.Actors.{FitsActor, ActorStandsFor, ActorEnd, ActorTurned, actor_round, actor_rests, part_of}
 use Rattle.actor_set.specs.declared.actor.Actor.{Actor}
 use Rattle.play_core.specs.Manners.{Manner, Manners, Calm}
 use Rattle.actor_set.specs.Laws.Kinds.{scene_of, sheet, manner_of, manners, hostiles, idles}
@@ -41,7 +40,6 @@ use Rattle.system_core.proofs.RunsNow.{idle_here, not_not, rests_here}
 use Rattle.actor_set.proofs.LawsLemmas.PartEnds.{from_part, seat_end}
 use Rattle.actor_set.proofs.LawsLemmas.Paces.{called_end}
 use Rattle.actor_set.proofs.LawsLemmas.Rounds.{rests_is}
-use Rattle.actor_set.proofs.LawsLemmas.Starts.{fits_whole}
 use Rattle.wired_law.specs.Wiring.{IsWired}
 use Rattle.wire_core.proofs.Sinces.{eqb_apart}
 use Rattle.system_core.proofs.Places.{places_kept, places_clear, places_so, places_below, places_few}
