@@ -1,6 +1,6 @@
 -- The whole block class at the layout's queues where nobody is runnable: its actors, its pools and
 -- its queues, and what went through these.
-use Rattle.std.specs.Prelude.{◌≡◌, ◌+◌, ◌*◌, ◌<◌, ◌≤◌, ℕ, Some, List, length, slice_get}
+use Rattle.std.specs.Prelude.{◌≡◌, ◌+◌, ◌*◌, ◌<◌, ℕ, Some, List, length, slice_get}
 use Rattle.cargo_core.specs.Ranges.{IsApart}
 use Rattle.cargo_core.specs.declared.item.Ask.{Ask}
 use Rattle.cargo_core.specs.declared.ranges.Range.{Range}

@@ -1,8 +1,7 @@
 -- Which buffers items name by the class's naming, and which queues answer others.
 use Rattle.std.proofs.Common.{◌≡◌, ◌⊎◌, ◌+◌, ◌*◌, ◌<◌, ◌≤◌, ℕ, zero, suc, false, Some, List, [], ◌∷◌, All, length, slice_get, refl, sym, ap, ◌∙◌, subst, arith, inl, inr}
 use Rattle.std.specs.Prelude.{slice_index_or}
-use Rattle.std.proofs.lemmas.Option.{get_or_from_slice_get}
-use Rattle.play_core.proofs.Lists.{some_is, map_from, there_is}
+use Rattle.play_core.proofs.Lists.{some_is, map_from}
 use Rattle.owner_law.specs.Things.{Window, NoBuffers, Answers, naming_of}
 use Rattle.owner_law.specs.Keeping.{is_lending}
 use Rattle.owner_law.specs.Pools.Lines.{IsWithin, NamesWithin}
