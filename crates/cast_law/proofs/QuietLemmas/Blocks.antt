@@ -1,5 +1,5 @@
 -- The pools and the queues of a valid plan's block class.
-use Rattle.std.proofs.Common.{◌≡◌, ◌⊎◌, ◌+◌, ◌<◌, ◌≤◌, ℕ, Option, Some, List, [], length, slice_get, sym, ap, ◌∙◌, subst, arith, inl, inr}
+use Rattle.std.proofs.Common.{◌≡◌, ◌⊎◌, ◌+◌, ◌*◌, ◌<◌, ◌≤◌, ℕ, Option, Some, List, [], length, slice_get, sym, ap, ◌∙◌, subst, arith, inl, inr}
 use Rattle.std.specs.Option.{option_map_or}
 use Rattle.std.proofs.lemmas.Bool.{cases_lt}
 use Rattle.cargo_core.specs.Blocks.{blk_buffer_bytes}
@@ -64,9 +64,12 @@ module _ (plan : Plan) (trace : Trace) (valid : Valid plan) (blk : Blk) (is : pl
       let v = value_is count (client_pool plan) k pool at in
       subst TakesBlocks (sym v.1) (pool_takes (first_blk_pool plan + 1 + k) (rows.client k (below_of k v.0)))
 
+  abbrev wide : ℕ → ℕ → Range
+  wide k size = record { base = (client_pool plan k).base; size = (client_pool plan k).buffers * size }
+
   -- the range of a client's pool is that of the client as the virtualiser has it
   range_is : (k : ℕ) → k < length blk.client → blk_range (blk_ends plan (pools_of plan) k) ≡ range_of (client_pool plan k)
-  range_is k lt = ap (λ s. record { base = (client_pool plan k).base; size = (client_pool plan k).buffers * s }) (sym (block_size (pools_of plan) (first_blk_pool plan + 1 + k) (rows.client k lt)))
+  range_is k lt = ap (wide k) (sym (block_size (pools_of plan) (first_blk_pool plan + 1 + k) (rows.client k lt)))
 
   both_are : (j k : ℕ) → j < length blk.client → k < length blk.client → IsApart (blk_range (blk_ends plan (pools_of plan) j)) (blk_range (blk_ends plan (pools_of plan) k)) → IsApart (range_of (client_pool plan j)) (range_of (client_pool plan k))
   both_are j k one other apart = subst (λ (r : Range). IsApart r (range_of (client_pool plan k))) (range_is j one) (subst (λ (r : Range). IsApart (blk_range (blk_ends plan (pools_of plan) j)) r) (range_is k other) apart)
