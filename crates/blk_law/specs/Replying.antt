@@ -1,7 +1,7 @@
 -- What a client's replies are, where its requests are answered by a disk that has the bytes of its
 -- partition alone.
 use Rattle.std.specs.Prelude.{◌≡◌, ◌+◌, ◌*◌, ◌≤◌, ℕ, true, Option, List, [], ◌∷◌, All, length, take}
-use Rattle.cargo_core.specs.Blocks.{block_bytes, blk_buffer_bytes}
+use Rattle.cargo_core.specs.Blocks.{block_bytes}
 use Rattle.cargo_core.specs.declared.item.Ask.{Ask}
 use Rattle.cargo_core.specs.declared.item.BlkReq.{BlkReq}
 use Rattle.cargo_core.specs.declared.item.BlkStatus.{BlkStatus}
@@ -95,7 +95,7 @@ AreSized asks = All (λ (a : Ask). IsSized a.code a) asks
 
 -- each of these buffers takes eight blocks
 abbrev pub HaveRoom : List Paged → Type 0
-HaveRoom pages = All (λ (p : Paged). length p.bytes ≡ blk_buffer_bytes) pages
+HaveRoom pages = All (λ (p : Paged). 8 * block_bytes ≤ length p.bytes) pages
 
 -- a client's replies to its script, whatever buffers it has: where what it put is a beginning of
 -- its script, and what came is a beginning of the answers by a disk that has the bytes of its

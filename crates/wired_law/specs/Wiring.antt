@@ -89,9 +89,8 @@ IsOfBlock place p = (p ≡ disk_at place) ⊎ (p ≡ blk_driver_at place.first) 
     × (p ≡ blk_client_at place.first k asks pool))
 
 -- a cast has the whole block class and no other actor of it; each client has a buffer; requests go
--- to the driver; the disk has some blocks of 4,096 bytes, which the cast's scene tells; what a
--- client writes has the size that it says; and no two clients have the same entry of the table of
--- partitions
+-- to the driver; the disk has some blocks, which the cast's scene tells; what a client writes has
+-- the size that it says; and no two clients have the same entry of the table of partitions
 pub record HasBlk (rows : List QueueRow) (place : BlkPlace) (cast : List Part) : Type 0 where
   pub asks_many : length place.asks ≡ length place.entries
   pub pools_many : length place.pools ≡ length place.entries
