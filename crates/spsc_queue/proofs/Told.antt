@@ -1,8 +1,11 @@
 -- What the calls of a bell make of what its two ends did.
-use Rattle.std.proofs.Common.{◌≡◌, ℕ, ◌+◌, Bool, true, false, not, ◌&&◌, nat_lt, nat_eq, refl, sym, ap, arith}
+use Rattle.std.proofs.Common.{◌≡◌, ℕ, ◌+◌, Bool, true, false, not, ◌&&◌, nat_lt, nat_eq, List, [], ◌∷◌, length, refl, sym, ap, ◌∙◌, arith}
 use Rattle.std.proofs.lemmas.Bool.{lt-ltb, le-ltb}
 use Rattle.wire_core.specs.Bells.{bit}
-use Rattle.spsc_queue.specs.Rule.{WordsTold}
+use mathlib.Core.Option as maybe
+use Rattle.cargo_core.specs.declared.item.QueueKind.{QueueKind}
+use Rattle.spsc_queue.specs.declared.view.Half.{Half}
+use Rattle.spsc_queue.specs.Rule.{Slot, wrap, WordsTold, EndsHold, words_of}
 
 pub bit_is : (b : Bool) → nat_eq (bit b) 1 ≡ b
 bit_is true = refl
@@ -31,3 +34,7 @@ settle_told flag pending wishes asks settled rings woken h = record { flag_is = 
 -- a notification more
 pub ring_told : (flag pending wishes : Bool) (asks settled rings woken : ℕ) → WordsTold flag pending wishes asks settled rings woken → WordsTold flag true wishes asks settled (rings + 1) woken
 ring_told flag pending wishes asks settled rings woken h = let le = h.woken_within in record { flag_is = h.flag_is; settled_within = h.settled_within; pending_is = sym (lt-ltb woken (rings + 1) (omega (arith, le))); woken_within = omega (arith, le) }
+
+-- the words are what the two ends did
+pub words_are : (kind : QueueKind) (n : ℕ) (words : List ℕ) (homes : List (maybe.Option Slot)) (p c : Half) → EndsHold kind n words homes p c → words ≡ words_of p c
+words_are kind n words homes p c e = e.shared.words_are ∙ (λ i. wrap (length c.entries) ∷ wrap (length p.entries) ∷ bit (e.shared.forward_told.flag_is i) ∷ bit (e.shared.forward_told.pending_is i) ∷ bit (e.shared.backward_told.flag_is i) ∷ bit (e.shared.backward_told.pending_is i) ∷ [])

@@ -107,6 +107,11 @@ pub record WordsHold (n : ℕ) (words : List ℕ) (left : List Cargo) (p c : Hal
   pub backward : BellHolds (backward_bell flag_back pending_back p c) (nat_lt (length left) n)
       (length c.entries)
 
+-- what these words are is what the two ends know
+abbrev pub words_of : Half → Half → List ℕ
+words_of p c = wrap (length c.entries) ∷ wrap (length p.entries) ∷ bit (flag_of c p)
+    ∷ bit (pending_of c p) ∷ bit (flag_of p c) ∷ bit (pending_of p c) ∷ []
+
 -- what the two ends know, with the slots and the words
 pub record EndsHold (kind : QueueKind) (n : ℕ) (words : List ℕ) (homes : List (maybe.Option Slot))
     (p c : Half) : Type 0 where

@@ -55,6 +55,10 @@ last_of (s ∷ ss) = s.1
 abbrev pub last_value : Half → ℕ
 last_value h = last_of h.walked
 
+-- how many steps on words its calls made
+abbrev pub steps_made : Half → ℕ
+steps_made h = length h.walked
+
 -- a no is counted
 abbrev pub noes_more : Bool → ℕ → ℕ
 noes_more true n = n
