@@ -14,7 +14,7 @@ use Rattle.wire_core.specs.Ends.{Role, Consumer, Producer, End, Moves, role_of, 
 use Rattle.spsc_queue.specs.declared.view.Half.{Half}
 use Rattle.spsc_queue.specs.Known.Ends.{EndIs}
 use Rattle.spsc_queue.specs.Rule.{Slot}
-use Rattle.spsc_queue.specs.Steps.{known_end, EndDid, Granted, after_look, empty_if, tells_entry, tells_room, after_wanted}
+use Rattle.spsc_queue.specs.Steps.{known_end, EndDid, Granted, after_look, empty_if, tells_entry, tells_room, after_wanted, last_value}
 use Rattle.seat_wires.specs.Places.Are.{SeatsAre}
 use Rattle.seat_wires.specs.Places.{end_or, ends_of, seat_end, with_ends, SeatDid}
 use Rattle.seat_wires.specs.Times.{IsTimely}
@@ -51,8 +51,8 @@ wanted_end w r b h e = refl
 
 -- the end that made the call is changed by the table
 pub end_did : (n : ℕ) (h : Half) (o : Op) (a : Answer) (c : List Cargo) (h' : Half) → EndDid n h o a c h' → known_end h' ≡ end_after (known_end h) o a
-end_did n h Do.See a c h' d = ap known_end d.0 ∙ (see_end (tells_entry _ h'.last_value) h'.grant h h'.last_value h.kind d.3 ∙ ap (λ (z : Answer). end_after (known_end h) Do.See z) (sym d.1))
-end_did n h Do.Room a c h' d = ap known_end d.0 ∙ (room_end (tells_room n _ h'.last_value) h h'.last_value ∙ ap (λ (z : Answer). end_after (known_end h) Do.Room z) (sym d.1))
+end_did n h Do.See a c h' d = ap known_end d.0 ∙ (see_end (tells_entry _ (last_value h')) h'.grant h (last_value h') h.kind d.3 ∙ ap (λ (z : Answer). end_after (known_end h) Do.See z) (sym d.1))
+end_did n h Do.Room a c h' d = ap known_end d.0 ∙ (room_end (tells_room n _ (last_value h')) h (last_value h') ∙ ap (λ (z : Answer). end_after (known_end h) Do.Room z) (sym d.1))
 end_did n h Do.Take a c h' d = ap known_end d.4
 end_did n h Do.Put a c h' d = ap known_end d.3
 end_did n h (Do.Ask s) a c h' d = ap known_end d.0

@@ -4,6 +4,7 @@ use Rattle.atomic_table.specs.Seated.{TableId}
 use Rattle.wire_core.specs.Deeds.{Cargo}
 use Rattle.wire_core.specs.Ends.{Role}
 use Rattle.spsc_queue.specs.Known.Ends.{EndIs}
+use Rattle.spsc_queue.specs.Steps.{steps_made}
 use Rattle.seat_wires.specs.Places.Are.{SeatsAre}
 use Rattle.seat_wires.specs.Places.{joined_get, ends_of, seats_taken, seats_sent}
 
@@ -14,7 +15,7 @@ Begins xs ys = (rest : List Cargo) × (ys ≡ xs ++ rest)
 -- the word steps that the calls of an end made
 abbrev pub end_steps : Option EndIs → ℕ
 end_steps None = 0
-end_steps (Some e) = e.knows.steps
+end_steps (Some e) = steps_made e.knows
 
 -- the word steps of these ends
 abbrev pub steps_of : List (Option EndIs) → ℕ

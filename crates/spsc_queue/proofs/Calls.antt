@@ -39,20 +39,20 @@ pub filled_here : (n len index capacity slot : ℕ) (g : Option Slot) (y z : Slo
 filled_here n len index capacity slot g y z m holding gr at is size divides = let e = held_here n len index capacity slot g y m holding gr at is size divides in
     ap (λ (l : List (ℕ × Slot)). (slot, z) ∷ rest l) e ∙ ap (λ (k : ℕ). (k, z) ∷ []) (is ∙ (ap (λ (k : ℕ). k % capacity) at ∙ (place_is capacity len divides ∙ ap (λ (k : ℕ). len % k) (sym size))))
 
-module _ (me me2 m' : Seated) (index : ℕ) (x : Cargo) (time : ℕ) where
+module _ (me me2 m' : Seated) (index : ℕ) (x : Cargo) (time word value : ℕ) where
   -- what a put leaves to the producer
-  pub put_after : (n : ℕ) → me2.0 ≡ me.0 → (m'.0 ≡ with_producer me2.0 (sent_one x time me2.0.producer)) × (m'.1 ≡ []) → (me.0.produces ≡ true) × (me.0.consumes ≡ false) → index ≡ wrap (length me.0.producer.entries)
+  pub put_after : (n : ℕ) → me2.0 ≡ me.0 → (m'.0 ≡ with_producer me2.0 (sent_one x time word value me2.0.producer)) × (m'.1 ≡ []) → (me.0.produces ≡ true) × (me.0.consumes ≡ false) → index ≡ wrap (length me.0.producer.entries)
       → ((m'.0.produces ≡ true) × (m'.0.consumes ≡ false)) × ((index + 1) % 65536 ≡ wrap (length m'.0.producer.entries)) × (m'.1 ≡ slots_held m'.0.producer.grant n) × ((y : Cargo) → m'.0.producer.grant ≢ Some (Some y))
-  put_after n same did role at = let now : m'.0 ≡ with_producer me.0 (sent_one x time me.0.producer) = did.0 ∙ ap (λ (v : View). with_producer v (sent_one x time v.producer)) same in let len : ℕ = length me.0.producer.entries in (
+  put_after n same did role at = let now : m'.0 ≡ with_producer me.0 (sent_one x time word value me.0.producer) = did.0 ∙ ap (λ (v : View). with_producer v (sent_one x time word value v.producer)) same in let len : ℕ = length me.0.producer.entries in (
     (ap (λ (v : View). v.produces) now ∙ role.0, ap (λ (v : View). v.consumes) now ∙ role.1),
     ap (λ (z : ℕ). wrap (z + 1)) at ∙ (next_index len ∙ ap wrap (sym (ap (λ (v : View). length v.producer.entries) now ∙ length-append me.0.producer.entries (x ∷ [])))),
     did.1 ∙ ap (λ (v : View). slots_held v.producer.grant n) (sym now),
     λ y e. (let z : None ≡ Some (Some y) = sym (ap (λ (v : View). v.producer.grant) now) ∙ e in cc),
   )
 
-  pub take_after : (n : ℕ) → me2.0 ≡ me.0 → (m'.0 ≡ with_consumer me2.0 (took_one x time me2.0.consumer)) × (m'.1 ≡ []) → (me.0.consumes ≡ true) × (me.0.produces ≡ false) → index ≡ wrap (length me.0.consumer.entries)
+  pub take_after : (n : ℕ) → me2.0 ≡ me.0 → (m'.0 ≡ with_consumer me2.0 (took_one x time word value me2.0.consumer)) × (m'.1 ≡ []) → (me.0.consumes ≡ true) × (me.0.produces ≡ false) → index ≡ wrap (length me.0.consumer.entries)
       → ((m'.0.consumes ≡ true) × (m'.0.produces ≡ false)) × ((index + 1) % 65536 ≡ wrap (length m'.0.consumer.entries)) × (m'.1 ≡ slots_held m'.0.consumer.grant n) × (m'.0.consumer.grant ≡ None)
-  take_after n same did role at = let now : m'.0 ≡ with_consumer me.0 (took_one x time me.0.consumer) = did.0 ∙ ap (λ (v : View). with_consumer v (took_one x time v.consumer)) same in let len : ℕ = length me.0.consumer.entries in (
+  take_after n same did role at = let now : m'.0 ≡ with_consumer me.0 (took_one x time word value me.0.consumer) = did.0 ∙ ap (λ (v : View). with_consumer v (took_one x time word value v.consumer)) same in let len : ℕ = length me.0.consumer.entries in (
     (ap (λ (v : View). v.consumes) now ∙ role.0, ap (λ (v : View). v.produces) now ∙ role.1),
     ap (λ (z : ℕ). wrap (z + 1)) at ∙ (next_index len ∙ ap wrap (sym (ap (λ (v : View). length v.consumer.entries) now ∙ length-append me.0.consumer.entries (x ∷ [])))),
     did.1 ∙ ap (λ (v : View). slots_held v.consumer.grant n) (sym now),

@@ -1,5 +1,5 @@
 -- What is known once a ring is closed.
-use Rattle.std.proofs.Common.{◌≡◌, ℕ, zero, suc, ◌+◌, ◌%◌, ◌<◌, ◌≤◌, Bool, true, false, nat_lt, nat_eq, List, [], ◌∷◌, ◌++◌, length, drop, get_or, refl, sym, ap, ◌∙◌, subst, arith, append_assoc, append-nil, Option, Some, None}
+use Rattle.std.proofs.Common.{◌≡◌, ℕ, zero, suc, ◌+◌, ◌%◌, ◌<◌, ◌≤◌, Bool, true, nat_lt, nat_eq, List, [], ◌∷◌, ◌++◌, length, drop, get_or, refl, sym, ap, ◌∙◌, subst, arith, append_assoc, append-nil, Option, Some, None}
 use Rattle.std.specs.Prelude.{All}
 use Rattle.std.proofs.Math.Nat.{mod-add-mod, mod-mod_of_dvd}
 use Rattle.std.proofs.lemmas.Nat.Gcd.{dvd_of_mod-eq-zero}
@@ -16,9 +16,10 @@ use Rattle.wire_core.specs.Bells.{BellHolds, bit}
 use Rattle.wire_core.specs.Deeds.{Cargo}
 use Rattle.spsc_queue.specs.declared.view.Half.{Half}
 use Rattle.spsc_queue.specs.declared.view.View.{View}
-use Rattle.spsc_queue.specs.Rule.{Slot, wrap, SlotsHold, EndsHold, RingHolds, forward_bell, backward_bell}
+use Rattle.spsc_queue.specs.Rule.{Slot, wrap, SlotsHold, EndsHold, RingHolds, flag_of, pending_of, forward_bell, backward_bell}
 use Rattle.spsc_queue.specs.Left.{listed, entries_from}
 use Rattle.spsc_queue.proofs.Emptying.{elem_or}
+use Rattle.spsc_queue.proofs.Told.{bit_is}
 use Rattle.spsc_queue.proofs.Views.{producer_is, consumer_is}
 
 drop_past : (l : List Cargo) (i : ℕ) → length l ≤ i → drop i l ≡ []
@@ -51,19 +52,17 @@ module _ (n t : ℕ) (homes : List (maybe.Option Slot)) (xs : List Slot) (left :
   pub all_left : entries_from xs n (wrap t) n ≡ left
   all_left = sym (append-nil (entries_from xs n (wrap t) n)) ∙ (ap (λ (z : List Cargo). entries_from xs n (wrap t) n ++ z) (sym (drop_past left n slots.within)) ∙ first_places n (omega arith))
 
-bit_is : (b : Bool) → nat_eq (bit b) 1 ≡ b
-bit_is true = refl
-bit_is false = refl
-
-pub record Closing (kind : QueueKind) (n : ℕ) (p c : Half) (words : List ℕ) (left : List Cargo) : Type 0 where
+pub record Closing (kind : QueueKind) (n : ℕ) (p c : Half) (shared : List ℕ) (left : List Cargo) : Type 0 where
   pub within : length left ≤ n
   pub producer_kind : p.kind ≡ kind
   pub consumer_kind : c.kind ≡ kind
   pub kinds : All (λ x. kind_of x.0 ≡ kind) p.entries
   pub sent : p.entries ≡ c.entries ++ left
   pub times : (later : List ℕ) × (p.times ≡ c.times ++ later) × (length later ≡ length left)
-  pub bells : (flag pending flag_back pending_back : ℕ) → get_elem? words 2 ≡ some flag → get_elem? words 3 ≡ some pending → get_elem? words 4 ≡ some flag_back → get_elem? words 5 ≡ some pending_back
+  pub bells : (flag pending flag_back pending_back : ℕ) → get_elem? shared 2 ≡ some flag → get_elem? shared 3 ≡ some pending → get_elem? shared 4 ≡ some flag_back → get_elem? shared 5 ≡ some pending_back
       → BellHolds (forward_bell (nat_eq flag 1) (nat_eq pending 1) p c) (nat_lt 0 (length left)) (length p.entries) × BellHolds (backward_bell (nat_eq flag_back 1) (nat_eq pending_back 1) p c) (nat_lt (length left) n) (length c.entries)
+  pub words : (flag pending flag_back pending_back : ℕ) → get_elem? shared 2 ≡ some flag → get_elem? shared 3 ≡ some pending → get_elem? shared 4 ≡ some flag_back → get_elem? shared 5 ≡ some pending_back
+      → (nat_eq flag 1 ≡ flag_of c p) × (nat_eq pending 1 ≡ pending_of c p) × (nat_eq flag_back 1 ≡ flag_of p c) × (nat_eq pending_back 1 ≡ pending_of p c)
 
 word_bit : (l : List ℕ) (i : ℕ) (b : Bool) (r : ℕ) (words : List ℕ) → words ≡ l → get_elem? l i ≡ some (bit b) → get_elem? words i ≡ some r → b ≡ nat_eq r 1
 word_bit l i b r words is here found = sym (bit_is b) ∙ ap (λ (z : ℕ). nat_eq z 1) (some-injective (bit b) r (sym here ∙ (ap (λ (z : List ℕ). get_elem? z i) (sym is) ∙ found)))
@@ -81,6 +80,12 @@ ends_close kind n words homes xs p c e pg cg lie = let is : e.lists.left ≡ ent
       bells = λ f q fb qb i2 i3 i4 i5. (
         subst (λ (z : Bool × Bool). BellHolds (forward_bell z.0 z.1 p c) (nat_lt 0 (length e.lists.left)) (length p.entries)) (λ k. (word_bit _ 2 e.shared.flag f words e.shared.words_are refl i2 k, word_bit _ 3 e.shared.pending q words e.shared.words_are refl i3 k)) e.shared.forward,
         subst (λ (z : Bool × Bool). BellHolds (backward_bell z.0 z.1 p c) (nat_lt (length e.lists.left) n) (length c.entries)) (λ k. (word_bit _ 4 e.shared.flag_back fb words e.shared.words_are refl i4 k, word_bit _ 5 e.shared.pending_back qb words e.shared.words_are refl i5 k)) e.shared.backward,
+      );
+      words = λ f q fb qb i2 i3 i4 i5. (
+        sym (word_bit _ 2 e.shared.flag f words e.shared.words_are refl i2) ∙ e.shared.forward_told.flag_is,
+        sym (word_bit _ 3 e.shared.pending q words e.shared.words_are refl i3) ∙ e.shared.forward_told.pending_is,
+        sym (word_bit _ 4 e.shared.flag_back fb words e.shared.words_are refl i4) ∙ e.shared.backward_told.flag_is,
+        sym (word_bit _ 5 e.shared.pending_back qb words e.shared.words_are refl i5) ∙ e.shared.backward_told.pending_is,
       );
     }
 

@@ -1,5 +1,5 @@
 -- What a step of one end does to the words, the slots and the two ends.
-use Rattle.std.proofs.Common.{◌≡◌, ℕ, zero, suc, ◌+◌, ◌%◌, ◌<◌, ◌≤◌, Bool, true, false, nat_lt, List, [], ◌∷◌, ◌++◌, length, drop, set, refl, sym, ap, ◌∙◌, subst, arith, length-append, append_assoc, Option, Some, None}
+use Rattle.std.proofs.Common.{◌≡◌, ℕ, zero, suc, ◌+◌, ◌%◌, ◌<◌, ◌≤◌, Bool, true, false, nat_lt, nat_eq, List, [], ◌∷◌, ◌++◌, length, drop, set, refl, sym, ap, ◌∙◌, subst, arith, length-append, append_assoc, Option, Some, None}
 use Rattle.std.specs.Prelude.{All, slice_index}
 use Rattle.std.proofs.lemmas.List.Elements.{All-append}
 use Rattle.std.proofs.lemmas.Bool.{ltb-true, lt-ltb}
@@ -17,10 +17,11 @@ use Rattle.wire_core.specs.Bells.{BellHolds, bit}
 use Rattle.wire_core.specs.Deeds.{Cargo, answer_of}
 use Rattle.wire_core.specs.Ends.{is_clear, is_free_or_put, looked_waiter}
 use Rattle.spsc_queue.specs.declared.view.Half.{Half}
-use Rattle.spsc_queue.specs.Rule.{Slot, wrap, SlotsHold, EndsHold, forward_bell, backward_bell}
+use Rattle.spsc_queue.specs.Rule.{Slot, wrap, SlotsHold, EndsHold, WordsTold, forward_bell, backward_bell}
 use Rattle.spsc_queue.specs.Steps.{slots_held, after_look, empty_if, tells_room, tells_entry, sent_one, took_one, Granted, asked, waived, after_wake, after_wanted, after_settle, after_ring, sent_home}
 use Rattle.spsc_queue.proofs.Places.{grants_room, takes_in, grants_entry, takes_out, room_comes_back, entry_comes_back}
 use Rattle.spsc_queue.proofs.Looks.{room_tells, entry_tells}
+use Rattle.spsc_queue.proofs.Told.{bit_is, wish_told, waive_told, wake_told, settle_told, ring_told}
 use Rattle.wire_core.proofs.BellLemmas.{look_holds, ask_holds, waive_holds, wake_holds, wanted_holds, settle_holds, ring_holds, move_holds, beside_holds}
 
 abbrev pub bell : Bool → Bool → Waiter → Ringer → BellState
@@ -86,6 +87,8 @@ module _ (kind : QueueKind) (n : ℕ) (ws : List ℕ) (hs : List (maybe.Option S
       flag_back = e.shared.flag_back;
       pending_back = e.shared.pending_back;
       words_are = e.shared.words_are;
+      forward_told = e.shared.forward_told;
+      backward_told = e.shared.backward_told;
       forward = e.shared.forward;
       backward = looks e.shared.flag_back e.shared.pending_back p.waiter c.ringer (nat_lt (length e.lists.left) n) b (length c.entries) calm is e.shared.backward;
     };
@@ -114,7 +117,7 @@ module _ (kind : QueueKind) (n : ℕ) (ws : List ℕ) (hs : List (maybe.Option S
 
   -- a store to the tail, with the producer's slot filled
   pub put_ends : (e : EndsHold kind n ws hs p c) (x : Cargo) (time new i : ℕ) → kind_of x.0 ≡ kind → is_clear p.waiter ≡ false → is_free_or_put p.ringer ≡ true → p.grant ≡ Some None → new ≡ wrap (length p.entries + 1) → i ≡ length p.entries % n
-      → EndsHold kind n (set ws 1 new) (set hs i (some (Some x))) (sent_one x time p) c
+      → EndsHold kind n (set ws 1 new) (set hs i (some (Some x))) (sent_one x time 1 new p) c
   put_ends e x time new i fits calm may gr is at = let more : length (p.entries ++ x ∷ []) ≡ length p.entries + 1 = length-append p.entries (x ∷ []) in
       let slots = subst (λ (z : Option Slot). SlotsHold n hs (length c.entries) e.lists.left z c.grant) gr e.lists.slots in record {
         lists = record {
@@ -137,6 +140,8 @@ module _ (kind : QueueKind) (n : ℕ) (ws : List ℕ) (hs : List (maybe.Option S
           flag_back = e.shared.flag_back;
           pending_back = e.shared.pending_back;
           words_are = ap (λ (z : List ℕ). set z 1 new) e.shared.words_are ∙ ap (λ (z : ℕ). wrap (length c.entries) ∷ z ∷ bit e.shared.flag ∷ bit e.shared.pending ∷ bit e.shared.flag_back ∷ bit e.shared.pending_back ∷ []) (is ∙ ap wrap (sym more));
+          forward_told = e.shared.forward_told;
+          backward_told = e.shared.backward_told;
           forward = moves e.shared.flag e.shared.pending c.waiter p.ringer (nat_lt 0 (length e.lists.left)) (nat_lt 0 (length (e.lists.left ++ x ∷ []))) (length p.entries) (length (p.entries ++ x ∷ [])) may more e.shared.forward;
           backward = beside_holds (bell e.shared.flag_back e.shared.pending_back p.waiter c.ringer) (nat_lt (length e.lists.left) n) (nat_lt (length (e.lists.left ++ x ∷ [])) n) (length c.entries) calm e.shared.backward;
         };
@@ -171,6 +176,8 @@ module _ (kind : QueueKind) (n : ℕ) (ws : List ℕ) (hs : List (maybe.Option S
       flag_back = e.shared.flag_back;
       pending_back = e.shared.pending_back;
       words_are = e.shared.words_are;
+      forward_told = e.shared.forward_told;
+      backward_told = e.shared.backward_told;
       forward = looks e.shared.flag e.shared.pending c.waiter p.ringer (nat_lt 0 (length e.lists.left)) b (length p.entries) calm is e.shared.forward;
       backward = e.shared.backward;
     };
@@ -227,7 +234,7 @@ module _ (kind : QueueKind) (n : ℕ) (ws : List ℕ) (hs : List (maybe.Option S
 
   -- a store to the head, with the consumer's slot empty, and the time of what was taken
   pub take_ends : (e : EndsHold kind n ws hs p c) (x : Cargo) (time new i : ℕ) (times : List ℕ) → e.lists.later ≡ time ∷ times → is_clear c.waiter ≡ false → is_free_or_put c.ringer ≡ true → c.grant ≡ Some (Some x) → new ≡ wrap (length c.entries + 1) → i ≡ length c.entries % n
-      → EndsHold kind n (set ws 0 new) (set hs i (some None)) p (took_one x time c)
+      → EndsHold kind n (set ws 0 new) (set hs i (some None)) p (took_one x time 0 new c)
   take_ends e x time new i times later calm may gr is at = let t : ℕ = length c.entries in let more : length (c.entries ++ x ∷ []) ≡ t + 1 = length-append c.entries (x ∷ []) in let o = e.lists.slots.to_consumer (Some x) gr in let same : x ≡ o.0 = some_is x o.0 o.1 in
       let l : e.lists.left ≡ x ∷ drop 1 e.lists.left = o.2 ∙ ap (λ (z : Cargo). z ∷ drop 1 e.lists.left) (sym same) in let xs : List Cargo = drop 1 e.lists.left in
       let slots = subst (λ (z : Option Slot × List Cargo). SlotsHold n hs t z.1 p.grant z.0) (λ k. (gr k, l k)) e.lists.slots in record {
@@ -251,6 +258,8 @@ module _ (kind : QueueKind) (n : ℕ) (ws : List ℕ) (hs : List (maybe.Option S
           flag_back = e.shared.flag_back;
           pending_back = e.shared.pending_back;
           words_are = ap (λ (z : List ℕ). set z 0 new) e.shared.words_are ∙ ap (λ (z : ℕ). z ∷ wrap (length p.entries) ∷ bit e.shared.flag ∷ bit e.shared.pending ∷ bit e.shared.flag_back ∷ bit e.shared.pending_back ∷ []) (is ∙ ap wrap (sym more));
+          forward_told = e.shared.forward_told;
+          backward_told = e.shared.backward_told;
           forward = beside_holds (bell e.shared.flag e.shared.pending c.waiter p.ringer) (nat_lt 0 (length e.lists.left)) (nat_lt 0 (length xs)) (length p.entries) calm e.shared.forward;
           backward = moves e.shared.flag_back e.shared.pending_back p.waiter c.ringer (nat_lt (length e.lists.left) n) (nat_lt (length xs) n) t (length (c.entries ++ x ∷ [])) may more e.shared.backward;
         };
@@ -259,8 +268,9 @@ module _ (kind : QueueKind) (n : ℕ) (ws : List ℕ) (hs : List (maybe.Option S
   -- new words and bells, with the same entries, slots and kinds
   pub rebell : (e : EndsHold kind n ws hs p c) (p' c' : Half) (ws' : List ℕ) (flag pending flag_back pending_back : Bool) → p'.entries ≡ p.entries → p'.times ≡ p.times → p'.kind ≡ p.kind → p'.grant ≡ p.grant → c'.entries ≡ c.entries → c'.times ≡ c.times → c'.kind ≡ c.kind → c'.grant ≡ c.grant
       → ws' ≡ wrap (length c.entries) ∷ wrap (length p.entries) ∷ bit flag ∷ bit pending ∷ bit flag_back ∷ bit pending_back ∷ []
+      → WordsTold flag pending c'.wishes c'.asks p'.settled p'.rings c'.woken → WordsTold flag_back pending_back p'.wishes p'.asks c'.settled c'.rings p'.woken
       → BellHolds (forward_bell flag pending p' c') (nat_lt 0 (length e.lists.left)) (length p.entries) → BellHolds (backward_bell flag_back pending_back p' c') (nat_lt (length e.lists.left) n) (length c.entries) → EndsHold kind n ws' hs p' c'
-  rebell e p' c' ws' flag pending flag_back pending_back pe pt pk pg ce ct ck cg w f b = record {
+  rebell e p' c' ws' flag pending flag_back pending_back pe pt pk pg ce ct ck cg w ft bt f b = record {
     lists = record {
       left = e.lists.left;
       some_place = e.lists.some_place;
@@ -281,89 +291,99 @@ module _ (kind : QueueKind) (n : ℕ) (ws : List ℕ) (hs : List (maybe.Option S
       flag_back = flag_back;
       pending_back = pending_back;
       words_are = w ∙ ap (λ (z : List Cargo × List Cargo). wrap (length z.0) ∷ wrap (length z.1) ∷ bit flag ∷ bit pending ∷ bit flag_back ∷ bit pending_back ∷ []) (λ k. (sym ce k, sym pe k));
+      forward_told = ft;
+      backward_told = bt;
       forward = subst (λ (z : List Cargo). BellHolds (forward_bell flag pending p' c') (nat_lt 0 (length e.lists.left)) (length z)) (sym pe) f;
       backward = subst (λ (z : List Cargo). BellHolds (backward_bell flag_back pending_back p' c') (nat_lt (length e.lists.left) n) (length z)) (sym ce) b;
     };
   }
 
   -- the forward bell's calls
-  pub ask_ends : (e : EndsHold kind n ws hs p c) → EndsHold kind n (set ws 2 0) hs p (asked 0 c)
-  ask_ends e = rebell e p (asked 0 c) (set ws 2 0) false e.shared.pending e.shared.flag_back e.shared.pending_back refl refl refl refl refl refl refl refl (ap (λ (z : List ℕ). set z 2 0) e.shared.words_are)
+  pub ask_ends : (e : EndsHold kind n ws hs p c) → EndsHold kind n (set ws 2 0) hs p (asked 2 0 c)
+  ask_ends e = rebell e p (asked 2 0 c) (set ws 2 0) false e.shared.pending e.shared.flag_back e.shared.pending_back refl refl refl refl refl refl refl refl (ap (λ (z : List ℕ). set z 2 0) e.shared.words_are) (wish_told e.shared.flag e.shared.pending c.wishes c.asks p.settled p.rings c.woken e.shared.forward_told) e.shared.backward_told
       (ask_holds (bell e.shared.flag e.shared.pending c.waiter p.ringer) (nat_lt 0 (length e.lists.left)) (length p.entries) e.shared.forward) e.shared.backward
 
-  pub waive_ends : (e : EndsHold kind n ws hs p c) → EndsHold kind n (set ws 2 1) hs p (waived 1 c)
-  waive_ends e = rebell e p (waived 1 c) (set ws 2 1) true e.shared.pending e.shared.flag_back e.shared.pending_back refl refl refl refl refl refl refl refl (ap (λ (z : List ℕ). set z 2 1) e.shared.words_are)
+  pub waive_ends : (e : EndsHold kind n ws hs p c) → EndsHold kind n (set ws 2 1) hs p (waived 2 1 c)
+  waive_ends e = rebell e p (waived 2 1 c) (set ws 2 1) true e.shared.pending e.shared.flag_back e.shared.pending_back refl refl refl refl refl refl refl refl (ap (λ (z : List ℕ). set z 2 1) e.shared.words_are) (waive_told e.shared.flag e.shared.pending c.wishes c.asks p.settled p.rings c.woken e.shared.forward_told) e.shared.backward_told
       (waive_holds (bell e.shared.flag e.shared.pending c.waiter p.ringer) (nat_lt 0 (length e.lists.left)) (length p.entries) e.shared.forward) e.shared.backward
 
-  wake_goes : (e : EndsHold kind n ws hs p c) (b : Bool) → e.shared.pending ≡ b → EndsHold kind n (set ws 3 0) hs p (after_wake 3 (bit b) c)
-  wake_goes e true is = rebell e p (after_wake 3 1 c) (set ws 3 0) e.shared.flag false e.shared.flag_back e.shared.pending_back refl refl refl refl refl refl refl refl (ap (λ (z : List ℕ). set z 3 0) e.shared.words_are)
+  wake_goes : (e : EndsHold kind n ws hs p c) (b : Bool) → e.shared.pending ≡ b → EndsHold kind n (set ws 3 0) hs p (after_wake 3 (bit b) p.rings c)
+  wake_goes e true is = rebell e p (after_wake 3 1 p.rings c) (set ws 3 0) e.shared.flag false e.shared.flag_back e.shared.pending_back refl refl refl refl refl refl refl refl (ap (λ (z : List ℕ). set z 3 0) e.shared.words_are) (wake_told e.shared.flag e.shared.pending c.wishes c.asks p.settled p.rings c.woken e.shared.forward_told) e.shared.backward_told
       (wake_holds (bell e.shared.flag e.shared.pending c.waiter p.ringer) (nat_lt 0 (length e.lists.left)) (length p.entries) true is e.shared.forward) e.shared.backward
-  wake_goes e false is = rebell e p (after_wake 3 0 c) (set ws 3 0) e.shared.flag false e.shared.flag_back e.shared.pending_back refl refl refl refl refl refl refl refl (ap (λ (z : List ℕ). set z 3 0) e.shared.words_are)
+  wake_goes e false is = rebell e p (after_wake 3 0 p.rings c) (set ws 3 0) e.shared.flag false e.shared.flag_back e.shared.pending_back refl refl refl refl refl refl refl refl (ap (λ (z : List ℕ). set z 3 0) e.shared.words_are) (wake_told e.shared.flag e.shared.pending c.wishes c.asks p.settled p.rings c.woken e.shared.forward_told) e.shared.backward_told
       (subst (λ (z : Bool). BellHolds (forward_bell e.shared.flag z p c) (nat_lt 0 (length e.lists.left)) (length p.entries)) is e.shared.forward) e.shared.backward
 
-  pub wake_ends : (e : EndsHold kind n ws hs p c) → EndsHold kind n (set ws 3 0) hs p (after_wake 3 (slice_index ws 3) c)
-  wake_ends e = subst (λ (z : ℕ). EndsHold kind n (set ws 3 0) hs p (after_wake 3 z c)) (ap (λ (z : List ℕ). slice_index z 3) (sym e.shared.words_are)) (wake_goes e e.shared.pending refl)
+  -- whether something was pending
+  pub wake_tells : (e : EndsHold kind n ws hs p c) → nat_eq (slice_index ws 3) 1 ≡ nat_lt c.woken p.rings
+  wake_tells e = ap (λ (z : List ℕ). nat_eq (slice_index z 3) 1) e.shared.words_are ∙ (bit_is e.shared.pending ∙ e.shared.forward_told.pending_is)
+
+  pub wake_ends : (e : EndsHold kind n ws hs p c) → EndsHold kind n (set ws 3 0) hs p (after_wake 3 (slice_index ws 3) p.rings c)
+  wake_ends e = subst (λ (z : ℕ). EndsHold kind n (set ws 3 0) hs p (after_wake 3 z p.rings c)) (ap (λ (z : List ℕ). slice_index z 3) (sym e.shared.words_are)) (wake_goes e e.shared.pending refl)
 
   -- a load of the word i changes no word
   pub same_words : (e : EndsHold kind n ws hs p c) → set ws 2 (slice_index ws 2) ≡ ws
   same_words e = ap (λ (z : List ℕ). set z 2 (slice_index z 2)) e.shared.words_are ∙ sym e.shared.words_are
 
   wanted_goes : (e : EndsHold kind n ws hs p c) (b : Bool) → p.ringer ≡ Rung.Put → e.shared.flag ≡ b → EndsHold kind n ws hs (after_wanted 2 (bit b) p) c
-  wanted_goes e true put is = rebell e (after_wanted 2 1 p) c ws e.shared.flag e.shared.pending e.shared.flag_back e.shared.pending_back refl refl refl refl refl refl refl refl e.shared.words_are
+  wanted_goes e true put is = rebell e (after_wanted 2 1 p) c ws e.shared.flag e.shared.pending e.shared.flag_back e.shared.pending_back refl refl refl refl refl refl refl refl e.shared.words_are e.shared.forward_told e.shared.backward_told
       (wanted_holds (bell e.shared.flag e.shared.pending c.waiter p.ringer) (nat_lt 0 (length e.lists.left)) (length p.entries) true is put e.shared.forward) e.shared.backward
-  wanted_goes e false put is = rebell e (after_wanted 2 0 p) c ws e.shared.flag e.shared.pending e.shared.flag_back e.shared.pending_back refl refl refl refl refl refl refl refl e.shared.words_are
+  wanted_goes e false put is = rebell e (after_wanted 2 0 p) c ws e.shared.flag e.shared.pending e.shared.flag_back e.shared.pending_back refl refl refl refl refl refl refl refl e.shared.words_are e.shared.forward_told e.shared.backward_told
       (wanted_holds (bell e.shared.flag e.shared.pending c.waiter p.ringer) (nat_lt 0 (length e.lists.left)) (length p.entries) false is put e.shared.forward) e.shared.backward
 
   pub wanted_ends : (e : EndsHold kind n ws hs p c) → p.ringer ≡ Rung.Put → EndsHold kind n (set ws 2 (slice_index ws 2)) hs (after_wanted 2 (slice_index ws 2) p) c
   wanted_ends e put = subst (λ (z : ℕ × List ℕ). EndsHold kind n z.1 hs (after_wanted 2 z.0 p) c) (λ k. (ap (λ (z : List ℕ). slice_index z 2) (sym e.shared.words_are) k, sym (same_words e) k)) (wanted_goes e e.shared.flag put refl)
 
-  pub settle_ends : (e : EndsHold kind n ws hs p c) → p.ringer ≡ Rung.Hot → EndsHold kind n (set ws 2 1) hs (after_settle 1 p) c
-  settle_ends e hot = rebell e (after_settle 1 p) c (set ws 2 1) true e.shared.pending e.shared.flag_back e.shared.pending_back refl refl refl refl refl refl refl refl (ap (λ (z : List ℕ). set z 2 1) e.shared.words_are)
+  pub settle_ends : (e : EndsHold kind n ws hs p c) → p.ringer ≡ Rung.Hot → EndsHold kind n (set ws 2 1) hs (after_settle 2 1 c.asks p) c
+  settle_ends e hot = rebell e (after_settle 2 1 c.asks p) c (set ws 2 1) true e.shared.pending e.shared.flag_back e.shared.pending_back refl refl refl refl refl refl refl refl (ap (λ (z : List ℕ). set z 2 1) e.shared.words_are) (settle_told e.shared.flag e.shared.pending c.wishes c.asks p.settled p.rings c.woken e.shared.forward_told) e.shared.backward_told
       (settle_holds (bell e.shared.flag e.shared.pending c.waiter p.ringer) (nat_lt 0 (length e.lists.left)) (length p.entries) hot e.shared.forward) e.shared.backward
 
-  pub ring_ends : (e : EndsHold kind n ws hs p c) → p.ringer ≡ Rung.Ringing → EndsHold kind n (set ws 3 1) hs (after_ring 1 p) c
-  ring_ends e on = rebell e (after_ring 1 p) c (set ws 3 1) e.shared.flag true e.shared.flag_back e.shared.pending_back refl refl refl refl refl refl refl refl (ap (λ (z : List ℕ). set z 3 1) e.shared.words_are)
+  pub ring_ends : (e : EndsHold kind n ws hs p c) → p.ringer ≡ Rung.Ringing → EndsHold kind n (set ws 3 1) hs (after_ring 3 1 p) c
+  ring_ends e on = rebell e (after_ring 3 1 p) c (set ws 3 1) e.shared.flag true e.shared.flag_back e.shared.pending_back refl refl refl refl refl refl refl refl (ap (λ (z : List ℕ). set z 3 1) e.shared.words_are) (ring_told e.shared.flag e.shared.pending c.wishes c.asks p.settled p.rings c.woken e.shared.forward_told) e.shared.backward_told
       (ring_holds (bell e.shared.flag e.shared.pending c.waiter p.ringer) (nat_lt 0 (length e.lists.left)) (length p.entries) on e.shared.forward) e.shared.backward
 
   -- the backward bell's calls
-  pub ask_back_ends : (e : EndsHold kind n ws hs p c) → EndsHold kind n (set ws 4 0) hs (asked 0 p) c
-  ask_back_ends e = rebell e (asked 0 p) c (set ws 4 0) e.shared.flag e.shared.pending false e.shared.pending_back refl refl refl refl refl refl refl refl (ap (λ (z : List ℕ). set z 4 0) e.shared.words_are) e.shared.forward
+  pub ask_back_ends : (e : EndsHold kind n ws hs p c) → EndsHold kind n (set ws 4 0) hs (asked 4 0 p) c
+  ask_back_ends e = rebell e (asked 4 0 p) c (set ws 4 0) e.shared.flag e.shared.pending false e.shared.pending_back refl refl refl refl refl refl refl refl (ap (λ (z : List ℕ). set z 4 0) e.shared.words_are) e.shared.forward_told (wish_told e.shared.flag_back e.shared.pending_back p.wishes p.asks c.settled c.rings p.woken e.shared.backward_told) e.shared.forward
       (ask_holds (bell e.shared.flag_back e.shared.pending_back p.waiter c.ringer) (nat_lt (length e.lists.left) n) (length c.entries) e.shared.backward)
 
-  pub waive_back_ends : (e : EndsHold kind n ws hs p c) → EndsHold kind n (set ws 4 1) hs (waived 1 p) c
-  waive_back_ends e = rebell e (waived 1 p) c (set ws 4 1) e.shared.flag e.shared.pending true e.shared.pending_back refl refl refl refl refl refl refl refl (ap (λ (z : List ℕ). set z 4 1) e.shared.words_are) e.shared.forward
+  pub waive_back_ends : (e : EndsHold kind n ws hs p c) → EndsHold kind n (set ws 4 1) hs (waived 4 1 p) c
+  waive_back_ends e = rebell e (waived 4 1 p) c (set ws 4 1) e.shared.flag e.shared.pending true e.shared.pending_back refl refl refl refl refl refl refl refl (ap (λ (z : List ℕ). set z 4 1) e.shared.words_are) e.shared.forward_told (waive_told e.shared.flag_back e.shared.pending_back p.wishes p.asks c.settled c.rings p.woken e.shared.backward_told) e.shared.forward
       (waive_holds (bell e.shared.flag_back e.shared.pending_back p.waiter c.ringer) (nat_lt (length e.lists.left) n) (length c.entries) e.shared.backward)
 
-  wake_back_goes : (e : EndsHold kind n ws hs p c) (b : Bool) → e.shared.pending_back ≡ b → EndsHold kind n (set ws 5 0) hs (after_wake 5 (bit b) p) c
-  wake_back_goes e true is = rebell e (after_wake 5 1 p) c (set ws 5 0) e.shared.flag e.shared.pending e.shared.flag_back false refl refl refl refl refl refl refl refl (ap (λ (z : List ℕ). set z 5 0) e.shared.words_are) e.shared.forward
+  wake_back_goes : (e : EndsHold kind n ws hs p c) (b : Bool) → e.shared.pending_back ≡ b → EndsHold kind n (set ws 5 0) hs (after_wake 5 (bit b) c.rings p) c
+  wake_back_goes e true is = rebell e (after_wake 5 1 c.rings p) c (set ws 5 0) e.shared.flag e.shared.pending e.shared.flag_back false refl refl refl refl refl refl refl refl (ap (λ (z : List ℕ). set z 5 0) e.shared.words_are) e.shared.forward_told (wake_told e.shared.flag_back e.shared.pending_back p.wishes p.asks c.settled c.rings p.woken e.shared.backward_told) e.shared.forward
       (wake_holds (bell e.shared.flag_back e.shared.pending_back p.waiter c.ringer) (nat_lt (length e.lists.left) n) (length c.entries) true is e.shared.backward)
-  wake_back_goes e false is = rebell e (after_wake 5 0 p) c (set ws 5 0) e.shared.flag e.shared.pending e.shared.flag_back false refl refl refl refl refl refl refl refl (ap (λ (z : List ℕ). set z 5 0) e.shared.words_are) e.shared.forward
+  wake_back_goes e false is = rebell e (after_wake 5 0 c.rings p) c (set ws 5 0) e.shared.flag e.shared.pending e.shared.flag_back false refl refl refl refl refl refl refl refl (ap (λ (z : List ℕ). set z 5 0) e.shared.words_are) e.shared.forward_told (wake_told e.shared.flag_back e.shared.pending_back p.wishes p.asks c.settled c.rings p.woken e.shared.backward_told) e.shared.forward
       (subst (λ (z : Bool). BellHolds (backward_bell e.shared.flag_back z p c) (nat_lt (length e.lists.left) n) (length c.entries)) is e.shared.backward)
 
-  pub wake_back_ends : (e : EndsHold kind n ws hs p c) → EndsHold kind n (set ws 5 0) hs (after_wake 5 (slice_index ws 5) p) c
-  wake_back_ends e = subst (λ (z : ℕ). EndsHold kind n (set ws 5 0) hs (after_wake 5 z p) c) (ap (λ (z : List ℕ). slice_index z 5) (sym e.shared.words_are)) (wake_back_goes e e.shared.pending_back refl)
+  pub wake_back_tells : (e : EndsHold kind n ws hs p c) → nat_eq (slice_index ws 5) 1 ≡ nat_lt p.woken c.rings
+  wake_back_tells e = ap (λ (z : List ℕ). nat_eq (slice_index z 5) 1) e.shared.words_are ∙ (bit_is e.shared.pending_back ∙ e.shared.backward_told.pending_is)
+
+  pub wake_back_ends : (e : EndsHold kind n ws hs p c) → EndsHold kind n (set ws 5 0) hs (after_wake 5 (slice_index ws 5) c.rings p) c
+  wake_back_ends e = subst (λ (z : ℕ). EndsHold kind n (set ws 5 0) hs (after_wake 5 z c.rings p) c) (ap (λ (z : List ℕ). slice_index z 5) (sym e.shared.words_are)) (wake_back_goes e e.shared.pending_back refl)
 
   wanted_back_goes : (e : EndsHold kind n ws hs p c) (b : Bool) → c.ringer ≡ Rung.Put → e.shared.flag_back ≡ b → EndsHold kind n ws hs p (after_wanted 4 (bit b) c)
-  wanted_back_goes e true put is = rebell e p (after_wanted 4 1 c) ws e.shared.flag e.shared.pending e.shared.flag_back e.shared.pending_back refl refl refl refl refl refl refl refl e.shared.words_are e.shared.forward
+  wanted_back_goes e true put is = rebell e p (after_wanted 4 1 c) ws e.shared.flag e.shared.pending e.shared.flag_back e.shared.pending_back refl refl refl refl refl refl refl refl e.shared.words_are e.shared.forward_told e.shared.backward_told e.shared.forward
       (wanted_holds (bell e.shared.flag_back e.shared.pending_back p.waiter c.ringer) (nat_lt (length e.lists.left) n) (length c.entries) true is put e.shared.backward)
-  wanted_back_goes e false put is = rebell e p (after_wanted 4 0 c) ws e.shared.flag e.shared.pending e.shared.flag_back e.shared.pending_back refl refl refl refl refl refl refl refl e.shared.words_are e.shared.forward
+  wanted_back_goes e false put is = rebell e p (after_wanted 4 0 c) ws e.shared.flag e.shared.pending e.shared.flag_back e.shared.pending_back refl refl refl refl refl refl refl refl e.shared.words_are e.shared.forward_told e.shared.backward_told e.shared.forward
       (wanted_holds (bell e.shared.flag_back e.shared.pending_back p.waiter c.ringer) (nat_lt (length e.lists.left) n) (length c.entries) false is put e.shared.backward)
 
   pub wanted_back_ends : (e : EndsHold kind n ws hs p c) → c.ringer ≡ Rung.Put → EndsHold kind n (set ws 4 (slice_index ws 4)) hs p (after_wanted 4 (slice_index ws 4) c)
   wanted_back_ends e put = subst (λ (z : ℕ × List ℕ). EndsHold kind n z.1 hs p (after_wanted 4 z.0 c)) (λ k. (ap (λ (z : List ℕ). slice_index z 4) (sym e.shared.words_are) k, sym (ap (λ (z : List ℕ). set z 4 (slice_index z 4)) e.shared.words_are ∙ sym e.shared.words_are) k)) (wanted_back_goes e e.shared.flag_back put refl)
 
-  pub settle_back_ends : (e : EndsHold kind n ws hs p c) → c.ringer ≡ Rung.Hot → EndsHold kind n (set ws 4 1) hs p (after_settle 1 c)
-  settle_back_ends e hot = rebell e p (after_settle 1 c) (set ws 4 1) e.shared.flag e.shared.pending true e.shared.pending_back refl refl refl refl refl refl refl refl (ap (λ (z : List ℕ). set z 4 1) e.shared.words_are) e.shared.forward
+  pub settle_back_ends : (e : EndsHold kind n ws hs p c) → c.ringer ≡ Rung.Hot → EndsHold kind n (set ws 4 1) hs p (after_settle 4 1 p.asks c)
+  settle_back_ends e hot = rebell e p (after_settle 4 1 p.asks c) (set ws 4 1) e.shared.flag e.shared.pending true e.shared.pending_back refl refl refl refl refl refl refl refl (ap (λ (z : List ℕ). set z 4 1) e.shared.words_are) e.shared.forward_told (settle_told e.shared.flag_back e.shared.pending_back p.wishes p.asks c.settled c.rings p.woken e.shared.backward_told) e.shared.forward
       (settle_holds (bell e.shared.flag_back e.shared.pending_back p.waiter c.ringer) (nat_lt (length e.lists.left) n) (length c.entries) hot e.shared.backward)
 
-  pub ring_back_ends : (e : EndsHold kind n ws hs p c) → c.ringer ≡ Rung.Ringing → EndsHold kind n (set ws 5 1) hs p (after_ring 1 c)
-  ring_back_ends e on = rebell e p (after_ring 1 c) (set ws 5 1) e.shared.flag e.shared.pending e.shared.flag_back true refl refl refl refl refl refl refl refl (ap (λ (z : List ℕ). set z 5 1) e.shared.words_are) e.shared.forward
+  pub ring_back_ends : (e : EndsHold kind n ws hs p c) → c.ringer ≡ Rung.Ringing → EndsHold kind n (set ws 5 1) hs p (after_ring 5 1 c)
+  ring_back_ends e on = rebell e p (after_ring 5 1 c) (set ws 5 1) e.shared.flag e.shared.pending e.shared.flag_back true refl refl refl refl refl refl refl refl (ap (λ (z : List ℕ). set z 5 1) e.shared.words_are) e.shared.forward_told (ring_told e.shared.flag_back e.shared.pending_back p.wishes p.asks c.settled c.rings p.woken e.shared.backward_told) e.shared.forward
       (ring_holds (bell e.shared.flag_back e.shared.pending_back p.waiter c.ringer) (nat_lt (length e.lists.left) n) (length c.entries) on e.shared.backward)
 
   -- new grants and slots, with the same entries, kinds, waiters and ringers
   regrant : (e : EndsHold kind n ws hs p c) (p' c' : Half) (hs' : List (maybe.Option Slot)) → p'.entries ≡ p.entries → p'.times ≡ p.times → p'.kind ≡ p.kind → p'.waiter ≡ p.waiter → p'.ringer ≡ p.ringer → c'.entries ≡ c.entries → c'.times ≡ c.times → c'.kind ≡ c.kind → c'.waiter ≡ c.waiter → c'.ringer ≡ c.ringer
+      → WordsTold e.shared.flag e.shared.pending c'.wishes c'.asks p'.settled p'.rings c'.woken → WordsTold e.shared.flag_back e.shared.pending_back p'.wishes p'.asks c'.settled c'.rings p'.woken
       → SlotsHold n hs' (length c.entries) e.lists.left p'.grant c'.grant → EndsHold kind n ws hs' p' c'
-  regrant e p' c' hs' pe pt pk pw pr ce ct ck cw cr slots = record {
+  regrant e p' c' hs' pe pt pk pw pr ce ct ck cw cr ft bt slots = record {
     lists = record {
       left = e.lists.left;
       some_place = e.lists.some_place;
@@ -384,6 +404,8 @@ module _ (kind : QueueKind) (n : ℕ) (ws : List ℕ) (hs : List (maybe.Option S
       flag_back = e.shared.flag_back;
       pending_back = e.shared.pending_back;
       words_are = e.shared.words_are ∙ ap (λ (z : List Cargo × List Cargo). wrap (length z.0) ∷ wrap (length z.1) ∷ bit e.shared.flag ∷ bit e.shared.pending ∷ bit e.shared.flag_back ∷ bit e.shared.pending_back ∷ []) (λ k. (sym ce k, sym pe k));
+      forward_told = ft;
+      backward_told = bt;
       forward = subst (λ (z : List Cargo × (Waiter × Ringer)). BellHolds (bell e.shared.flag e.shared.pending z.1.0 z.1.1) (nat_lt 0 (length e.lists.left)) (length z.0)) (λ k. (sym pe k, (sym cw k, sym pr k))) e.shared.forward;
       backward = subst (λ (z : List Cargo × (Waiter × Ringer)). BellHolds (bell e.shared.flag_back e.shared.pending_back z.1.0 z.1.1) (nat_lt (length e.lists.left) n) (length z.0)) (λ k. (sym ce k, (sym pw k, sym cr k))) e.shared.backward;
     };
@@ -391,9 +413,9 @@ module _ (kind : QueueKind) (n : ℕ) (ws : List ℕ) (hs : List (maybe.Option S
 
   -- a granted slot of the producer goes home
   home_goes : (e : EndsHold kind n ws hs p c) (g : Option Slot) → p.grant ≡ g → EndsHold kind n ws (homes_after hs (slots_held g (length p.entries % n)) gives) (sent_home p) c
-  home_goes e None is = regrant e (sent_home p) c hs refl refl refl refl refl refl refl refl refl refl (subst (λ (z : Option Slot). SlotsHold n hs (length c.entries) e.lists.left z c.grant) is e.lists.slots)
+  home_goes e None is = regrant e (sent_home p) c hs refl refl refl refl refl refl refl refl refl refl e.shared.forward_told e.shared.backward_told (subst (λ (z : Option Slot). SlotsHold n hs (length c.entries) e.lists.left z c.grant) is e.lists.slots)
   home_goes e (Some y) is = let slots = subst (λ (z : Option Slot). SlotsHold n hs (length c.entries) e.lists.left z c.grant) is e.lists.slots in let y_is : y ≡ None = (slots.to_producer y refl).0 in
-      regrant e (sent_home p) c (set hs (length p.entries % n) (some y)) refl refl refl refl refl refl refl refl refl refl
+      regrant e (sent_home p) c (set hs (length p.entries % n) (some y)) refl refl refl refl refl refl refl refl refl refl e.shared.forward_told e.shared.backward_told
       (subst (λ (z : Slot). SlotsHold n (set hs (length p.entries % n) (some z)) (length c.entries) e.lists.left None c.grant) (sym y_is) (room_comes_back n (length c.entries) hs e.lists.left c.grant (length p.entries % n) (last_place e) (subst (λ (z : Slot). SlotsHold n hs (length c.entries) e.lists.left (Some z) c.grant) y_is slots)))
 
   pub home_ends : (e : EndsHold kind n ws hs p c) → EndsHold kind n ws (homes_after hs (slots_held p.grant (length p.entries % n)) gives) (sent_home p) c
@@ -401,10 +423,10 @@ module _ (kind : QueueKind) (n : ℕ) (ws : List ℕ) (hs : List (maybe.Option S
 
   -- a granted slot of the consumer goes home
   home_back_goes : (e : EndsHold kind n ws hs p c) (g : Option Slot) → c.grant ≡ g → EndsHold kind n ws (homes_after hs (slots_held g (length c.entries % n)) gives) p (sent_home c)
-  home_back_goes e None is = regrant e p (sent_home c) hs refl refl refl refl refl refl refl refl refl refl (subst (λ (z : Option Slot). SlotsHold n hs (length c.entries) e.lists.left p.grant z) is e.lists.slots)
+  home_back_goes e None is = regrant e p (sent_home c) hs refl refl refl refl refl refl refl refl refl refl e.shared.forward_told e.shared.backward_told (subst (λ (z : Option Slot). SlotsHold n hs (length c.entries) e.lists.left p.grant z) is e.lists.slots)
   home_back_goes e (Some y) is = let t : ℕ = length c.entries in let i : ℕ = t % n in let o = e.lists.slots.to_consumer y is in let x : Cargo = o.0 in let xs : List Cargo = drop 1 e.lists.left in
       let slots = subst (λ (z : Option Slot × List Cargo). SlotsHold n hs t z.1 p.grant z.0) (λ k. ((is ∙ ap (λ (z : Slot). Some z) o.1) k, o.2 k)) e.lists.slots in
-      regrant e p (sent_home c) (set hs i (some y)) refl refl refl refl refl refl refl refl refl refl
+      regrant e p (sent_home c) (set hs i (some y)) refl refl refl refl refl refl refl refl refl refl e.shared.forward_told e.shared.backward_told
       (subst (λ (z : Slot × List Cargo). SlotsHold n (set hs i (some z.0)) t z.1 p.grant None) (λ k. (sym o.1 k, sym o.2 k)) (entry_comes_back n t hs x xs p.grant i (ap (λ (z : ℕ). z % n) (let z : t ≡ t + 0 = omega arith in z)) slots))
 
   pub home_back_ends : (e : EndsHold kind n ws hs p c) → EndsHold kind n ws (homes_after hs (slots_held c.grant (length c.entries % n)) gives) p (sent_home c)

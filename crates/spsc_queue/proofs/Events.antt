@@ -60,20 +60,20 @@ module _ (kind : QueueKind) (n : ℕ) (hs : List (maybe.Option Slot)) (p c : Hal
   room_after true r = refl
   room_after false r = refl
 
-  take_after : (x : Cargo) (time : ℕ) → ring_queue kind n (words_after words c Do.Take) p (took_one x time c) ≡ queue_after shown Do.Take Done (x ∷ [])
+  take_after : (x : Cargo) (time : ℕ) → ring_queue kind n (words_after words c Do.Take) p (took_one x time 0 (wrap (length c.entries + 1)) c) ≡ queue_after shown Do.Take Done (x ∷ [])
   take_after x time = let more : length (c.entries ++ x ∷ []) ≡ suc (length c.entries) = length-append c.entries (x ∷ []) ∙ (let z : length c.entries + 1 ≡ suc (length c.entries) = omega arith in z) in
       ap (λ (z : List Cargo). record (queue_after shown Do.Take Done (x ∷ [])) { entries = z }) (ap (λ (z : ℕ). drop z p.entries) more ∙ drop_next (length c.entries) p.entries)
 
-  put_after : (x : Cargo) (time : ℕ) → ring_queue kind n (words_after words p Do.Put) (sent_one x time p) c ≡ queue_after shown Do.Put Done (x ∷ [])
+  put_after : (x : Cargo) (time : ℕ) → ring_queue kind n (words_after words p Do.Put) (sent_one x time 1 (wrap (length p.entries + 1)) p) c ≡ queue_after shown Do.Put Done (x ∷ [])
   put_after x time = let k = counts in let within : length c.entries ≤ length p.entries = omega arith in ap (λ (z : List Cargo). record (queue_after shown Do.Put Done (x ∷ [])) { entries = z }) (drop_short (length c.entries) p.entries (x ∷ []) within)
 
-  wake_after : (b : Bool) → b ≡ pending → ring_queue kind n (words_after words c (Do.Wake Forward)) p (after_wake 3 (bit b) c) ≡ queue_after shown (Do.Wake Forward) (answer_of (nat_eq (bit b) 1)) []
-  wake_after true is = refl
-  wake_after false is = ap (λ (z : Bool). record (queue_after shown (Do.Wake Forward) (answer_of false) []) { bells = record shown.bells { forward = record shown.bells.forward { pending = nat_eq (bit z) 1 } } }) is
+  wake_after : (b : Bool) (k : ℕ) → b ≡ pending → ring_queue kind n (words_after words c (Do.Wake Forward)) p (after_wake 3 (bit b) k c) ≡ queue_after shown (Do.Wake Forward) (answer_of (nat_eq (bit b) 1)) []
+  wake_after true k is = refl
+  wake_after false k is = ap (λ (z : Bool). record (queue_after shown (Do.Wake Forward) (answer_of false) []) { bells = record shown.bells { forward = record shown.bells.forward { pending = nat_eq (bit z) 1 } } }) is
 
-  wake_back_after : (b : Bool) → b ≡ pending_back → ring_queue kind n (words_after words p (Do.Wake Backward)) (after_wake 5 (bit b) p) c ≡ queue_after shown (Do.Wake Backward) (answer_of (nat_eq (bit b) 1)) []
-  wake_back_after true is = refl
-  wake_back_after false is = ap (λ (z : Bool). record (queue_after shown (Do.Wake Backward) (answer_of false) []) { bells = record shown.bells { backward = record shown.bells.backward { pending = nat_eq (bit z) 1 } } }) is
+  wake_back_after : (b : Bool) (k : ℕ) → b ≡ pending_back → ring_queue kind n (words_after words p (Do.Wake Backward)) (after_wake 5 (bit b) k p) c ≡ queue_after shown (Do.Wake Backward) (answer_of (nat_eq (bit b) 1)) []
+  wake_back_after true k is = refl
+  wake_back_after false k is = ap (λ (z : Bool). record (queue_after shown (Do.Wake Backward) (answer_of false) []) { bells = record shown.bells { backward = record shown.bells.backward { pending = nat_eq (bit z) 1 } } }) is
 
   wanted_after : (b : Bool) → ring_queue kind n words (after_wanted 2 (bit b) p) c ≡ queue_after shown (Do.Wanted Forward) (answer_of (nat_eq (bit b) 0)) []
   wanted_after true = refl
@@ -120,12 +120,12 @@ module _ (kind : QueueKind) (n : ℕ) (hs : List (maybe.Option Slot)) (p c : Hal
   event (Do.Wake Forward) a cargo h may d = record {
     tells = d.1;
     carries = d.2;
-    after = subst (λ (z : Half × (Answer × List Cargo)). ring_queue kind n (words_after words c (Do.Wake Forward)) p z.0 ≡ queue_after shown (Do.Wake Forward) z.1.0 z.1.1) (λ i. (sym d.0 i, (sym d.1 i, sym d.2 i))) (wake_after pending refl);
+    after = subst (λ (z : Half × (Answer × List Cargo)). ring_queue kind n (words_after words c (Do.Wake Forward)) p z.0 ≡ queue_after shown (Do.Wake Forward) z.1.0 z.1.1) (λ i. (sym d.0 i, (sym d.1 i, sym d.2 i))) (wake_after pending h.woken refl);
   }
   event (Do.Wake Backward) a cargo h may d = record {
     tells = d.1;
     carries = d.2;
-    after = subst (λ (z : Half × (Answer × List Cargo)). ring_queue kind n (words_after words p (Do.Wake Backward)) z.0 c ≡ queue_after shown (Do.Wake Backward) z.1.0 z.1.1) (λ i. (sym d.0 i, (sym d.1 i, sym d.2 i))) (wake_back_after pending_back refl);
+    after = subst (λ (z : Half × (Answer × List Cargo)). ring_queue kind n (words_after words p (Do.Wake Backward)) z.0 c ≡ queue_after shown (Do.Wake Backward) z.1.0 z.1.1) (λ i. (sym d.0 i, (sym d.1 i, sym d.2 i))) (wake_back_after pending_back h.woken refl);
   }
   event (Do.Wanted Forward) a cargo h may d = record {
     tells = d.1 ∙ ap answer_of (flag_tells flag);

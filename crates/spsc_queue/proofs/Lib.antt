@@ -1,5 +1,6 @@
 pub mod Places
 pub mod Looks
+pub mod Told
 pub mod Ends
 pub mod Views
 pub mod Calls

@@ -69,6 +69,8 @@ starts kind n some_place few divides = let hs : List (maybe.Option Slot) = map s
       flag_back = true;
       pending_back = false;
       words_are = refl;
+      forward_told = record { flag_is = refl; settled_within = omega arith; pending_is = refl; woken_within = omega arith };
+      backward_told = record { flag_is = refl; settled_within = omega arith; pending_is = refl; woken_within = omega arith };
       forward = record { signalled = λ is. cc; asked = λ is. ⊎_elim (λ z. cc) (λ z. cc) is; counted = omega arith };
       backward = record { signalled = λ is. cc; asked = λ is. ⊎_elim (λ z. cc) (λ z. cc) is; counted = omega arith };
     };

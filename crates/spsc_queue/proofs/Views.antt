@@ -139,10 +139,10 @@ module _ (kind : QueueKind) (slots id : ℕ) (me : Seated) where
       let same : set s.words 0 x ≡ s.words = ap (λ (z : List ℕ). set z 0 (slice_index z 0)) e.shared.words_are ∙ sym e.shared.words_are in
       let go : LooksRoom kind slots s.words s.homes p c (tells_room slots (length p.entries) x) x me.1 =
       subst (λ (z : ℕ × List (ℕ × Slot)). LooksRoom kind slots s.words s.homes p c (tells_room slots (length p.entries) z.0) z.0 z.1) (λ k. (word k, sym holding k)) (room_step kind slots s.words s.homes p c e calm) in (
-        with_producer me.0 (room_told slots p x),
+        with_producer me.0 (room_told slots p 0 x),
         go.0,
         go.1,
-        producer_steps kind s r id me.0 (room_told slots p x) (set s.words 0 x) (homes_after s.homes me.1 go.0) slots at does not (subst (λ (z : List ℕ). EndsHold kind slots z (homes_after s.homes me.1 go.0) (room_told slots p x) c) (sym same) go.2),
+        producer_steps kind s r id me.0 (room_told slots p 0 x) (set s.words 0 x) (homes_after s.homes me.1 go.0) slots at does not (subst (λ (z : List ℕ). EndsHold kind slots z (homes_after s.homes me.1 go.0) (room_told slots p 0 x) c) (sym same) go.2),
         (subst (λ (z : ℕ). z < 65536) word (mod-lt (length c.entries) (lit< tt)), refl, go.3),
       )
 
@@ -151,12 +151,12 @@ module _ (kind : QueueKind) (slots id : ℕ) (me : Seated) where
       → Allows (RingHolds kind) slots id me 1 (λ _. new) (λ _ m. put_done time (step slots 1 new 0 none) me new m)
   put_allowed x time new does not fits calm may gr is holding s r size at bound =
       let e = producer_ends s r size at does in let p : Half = me.0.producer in let c : Half = r.consuming.consumer in let i : ℕ = length p.entries % slots in (
-        with_producer me.0 (sent_one x time p),
+        with_producer me.0 (sent_one x time 1 new p),
         gives,
         tt,
-        producer_steps kind s r id me.0 (sent_one x time p) (set s.words 1 new) (homes_after s.homes me.1 gives) slots at does not
-            (subst (λ (z : List (ℕ × Slot)). EndsHold kind slots (set s.words 1 new) (homes_after s.homes z gives) (sent_one x time p) c) (sym holding) (put_ends kind slots s.words s.homes p c e x time new i (fits ∙ e.lists.producer_kind) calm may gr is refl)),
-        (λ y other. (ap (λ (z : List (ℕ × Slot)). with_producer me.0 (sent_one (first_of z x) time p)) (sym holding ∙ other), ap (carried_after_gives) holding)),
+        producer_steps kind s r id me.0 (sent_one x time 1 new p) (set s.words 1 new) (homes_after s.homes me.1 gives) slots at does not
+            (subst (λ (z : List (ℕ × Slot)). EndsHold kind slots (set s.words 1 new) (homes_after s.homes z gives) (sent_one x time 1 new p) c) (sym holding) (put_ends kind slots s.words s.homes p c e x time new i (fits ∙ e.lists.producer_kind) calm may gr is refl)),
+        (λ y other. (ap (λ (z : List (ℕ × Slot)). with_producer me.0 (sent_one (first_of z x) time 1 new p)) (sym holding ∙ other), ap (carried_after_gives) holding)),
       )
 
   -- a producer's step that leaves the slots alone
@@ -169,6 +169,19 @@ module _ (kind : QueueKind) (slots id : ℕ) (me : Seated) where
     tt,
     producer_steps kind s r id me.0 h (set s.words i (new x)) s.homes slots at does not (keeps_it s.words s.homes r.consuming.consumer (producer_ends s r size at does)),
     (refl, refl),
+  )
+
+  -- the same where it is told of the other end
+  pub producer_tells : (i : ℕ) (new : ℕ → ℕ) (f : ℕ → Half → Half) (told : ℕ → Seated → Type 0) → me.0.produces ≡ true → me.0.consumes ≡ false
+      → ((ws : List ℕ) (hs : List (maybe.Option Slot)) (c : Half) → EndsHold kind slots ws hs me.0.producer c
+      → EndsHold kind slots (set ws i (new (slice_index ws i))) hs (f (slice_index ws i) c) c × told (slice_index ws i) (with_producer me.0 (f (slice_index ws i) c), me.1))
+      → Allows (RingHolds kind) slots id me i new told
+  producer_tells i new f told does not keeps_it s r size at bound = let x : ℕ = slice_index s.words i in let c : Half = r.consuming.consumer in let h : Half = f x c in let kept = keeps_it s.words s.homes c (producer_ends s r size at does) in (
+    with_producer me.0 h,
+    keeps,
+    tt,
+    producer_steps kind s r id me.0 h (set s.words i (new x)) s.homes slots at does not kept.0,
+    kept.1,
   )
 
   consumer_ends : (s : State Slot View) (r : RingHolds kind s) → length s.homes ≡ slots → get_elem? s.views id ≡ some me.0 → me.0.consumes ≡ true → EndsHold kind slots s.words s.homes r.producing.producer me.0.consumer
@@ -185,29 +198,41 @@ module _ (kind : QueueKind) (slots id : ℕ) (me : Seated) where
     (refl, refl),
   )
 
+  pub consumer_tells : (i : ℕ) (new : ℕ → ℕ) (f : ℕ → Half → Half) (told : ℕ → Seated → Type 0) → me.0.consumes ≡ true → me.0.produces ≡ false
+      → ((ws : List ℕ) (hs : List (maybe.Option Slot)) (p : Half) → EndsHold kind slots ws hs p me.0.consumer
+      → EndsHold kind slots (set ws i (new (slice_index ws i))) hs p (f (slice_index ws i) p) × told (slice_index ws i) (with_consumer me.0 (f (slice_index ws i) p), me.1))
+      → Allows (RingHolds kind) slots id me i new told
+  consumer_tells i new f told does not keeps_it s r size at bound = let x : ℕ = slice_index s.words i in let p : Half = r.producing.producer in let h : Half = f x p in let kept = keeps_it s.words s.homes p (consumer_ends s r size at does) in (
+    with_consumer me.0 h,
+    keeps,
+    tt,
+    consumer_steps kind s r id me.0 h (set s.words i (new x)) s.homes slots at does not kept.0,
+    kept.1,
+  )
+
   pub see_allowed : me.0.consumes ≡ true → me.0.produces ≡ false → is_clear me.0.consumer.waiter ≡ false → me.1 ≡ slots_held me.0.consumer.grant (length me.0.consumer.entries % slots)
       → Allows (RingHolds kind) slots id me 1 (λ n. n) (see_done (step slots 1 0 0 none) me)
   see_allowed does not calm holding s r size at bound = let e = consumer_ends s r size at does in let c : Half = me.0.consumer in let p : Half = r.producing.producer in let t : ℕ = wrap (length p.entries) in let x : ℕ = slice_index s.words 1 in
       let word : t ≡ x = ap (λ (z : List ℕ). slice_index z 1) (sym e.shared.words_are) in let same : set s.words 1 x ≡ s.words = ap (λ (z : List ℕ). set z 1 (slice_index z 1)) e.shared.words_are ∙ sym e.shared.words_are in
       let go : LooksEntry kind slots s.words s.homes p c (tells_entry (length c.entries) x) x me.1 =
       subst (λ (z : ℕ × List (ℕ × Slot)). LooksEntry kind slots s.words s.homes p c (tells_entry (length c.entries) z.0) z.0 z.1) (λ k. (word k, sym holding k)) (see_step kind slots s.words s.homes p c e calm) in (
-        with_consumer me.0 (see_told go.2.0 c x),
+        with_consumer me.0 (see_told go.2.0 c 1 x),
         go.0,
         go.1,
-        consumer_steps kind s r id me.0 (see_told go.2.0 c x) (set s.words 1 x) (homes_after s.homes me.1 go.0) slots at does not
-            (subst (λ (z : List ℕ). EndsHold kind slots z (homes_after s.homes me.1 go.0) p (see_told go.2.0 c x)) (sym same) go.2.2),
+        consumer_steps kind s r id me.0 (see_told go.2.0 c 1 x) (set s.words 1 x) (homes_after s.homes me.1 go.0) slots at does not
+            (subst (λ (z : List ℕ). EndsHold kind slots z (homes_after s.homes me.1 go.0) p (see_told go.2.0 c 1 x)) (sym same) go.2.2),
         (go.2.0, subst (λ (z : QueueKind). Granted z (tells_entry (length c.entries) x) go.2.0) (sym e.lists.consumer_kind) go.2.1, refl, go.2.3),
       )
 
   pub take_allowed : (x : Cargo) (new : ℕ) → me.0.consumes ≡ true → me.0.produces ≡ false → is_clear me.0.consumer.waiter ≡ false → is_free_or_put me.0.consumer.ringer ≡ true → me.0.consumer.grant ≡ Some (Some x) → new ≡ wrap (length me.0.consumer.entries + 1)
       → me.1 ≡ (length me.0.consumer.entries % slots, None) ∷ [] → Allows (RingHolds kind) slots id me 0 (λ _. new) (λ _ m. take_done (step slots 0 new 0 none) me new m)
   take_allowed x new does not calm may gr is holding s r size at bound = let e = consumer_ends s r size at does in let c : Half = me.0.consumer in let p : Half = r.producing.producer in let i : ℕ = length c.entries % slots in let first = first_time kind slots s.words s.homes p c e x gr in let time : ℕ = first.0 in (
-    with_consumer me.0 (took_one x time c),
+    with_consumer me.0 (took_one x time 0 new c),
     gives,
     tt,
-    consumer_steps kind s r id me.0 (took_one x time c) (set s.words 0 new) (homes_after s.homes me.1 gives) slots at does not
-        (subst (λ (z : List (ℕ × Slot)). EndsHold kind slots (set s.words 0 new) (homes_after s.homes z gives) p (took_one x time c)) (sym holding) (take_ends kind slots s.words s.homes p c e x time new i first.1 first.2 calm may gr is refl)),
-    (λ y other. (time, ap (λ (z : Cargo). with_consumer me.0 (took_one z time c)) (same_grant x y (sym gr ∙ other)), ap (λ (z : List (ℕ × Slot)). rest z) holding)),
+    consumer_steps kind s r id me.0 (took_one x time 0 new c) (set s.words 0 new) (homes_after s.homes me.1 gives) slots at does not
+        (subst (λ (z : List (ℕ × Slot)). EndsHold kind slots (set s.words 0 new) (homes_after s.homes z gives) p (took_one x time 0 new c)) (sym holding) (take_ends kind slots s.words s.homes p c e x time new i first.1 first.2 calm may gr is refl)),
+    (λ y other. (time, ap (λ (z : Cargo). with_consumer me.0 (took_one z time 0 new c)) (same_grant x y (sym gr ∙ other)), ap (λ (z : List (ℕ × Slot)). rest z) holding)),
   )
 
   rest_held : (g : Option Slot) (i : ℕ) → rest (slots_held g i) ≡ []

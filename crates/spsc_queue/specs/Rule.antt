@@ -1,11 +1,10 @@
 -- The rule of a ring: its words, its slots and what its two ends know stand for one queue with its
 -- bells.
-use Rattle.std.specs.Prelude.{◌≡◌, ℕ, ◌+◌, ◌%◌, ◌^◌, ◌<◌, ◌≤◌, Bool, true, List, [], ◌∷◌, ◌++◌}
-use Rattle.std.specs.Prelude.{length, drop, All, Option, Some, None, nat_lt}
+use Rattle.std.specs.Prelude.{◌≡◌, ℕ, ◌+◌, ◌%◌, ◌<◌, ◌≤◌, Bool, true, false, not, ◌&&◌, List}
+use Rattle.std.specs.Prelude.{[], ◌∷◌, ◌++◌, length, drop, All, Option, Some, None, nat_lt}
 use mathlib.Core.Option.{some}
 use mathlib.Core.Option as maybe
 use lib.ListN.{get_elem?}
-use Rattle.cargo_core.specs.Capacities.{IsCapacity}
 use Rattle.atomic_table.specs.Table.{State}
 use Rattle.cargo_core.specs.declared.item.QueueKind.{QueueKind}
 use Rattle.cargo_core.specs.Items.{kind_of}
@@ -75,7 +74,25 @@ pub record ListsHold (kind : QueueKind) (n : ℕ) (homes : List (maybe.Option Sl
   pub consumer_kind : c.kind ≡ kind
   pub slots : SlotsHold n homes (length c.entries) left p.grant c.grant
 
--- the words: the two indices, and the flag and pending word of each bell, which meet the bell law
+-- the flag of a bell, by what its waiter and its ringer did: it is 0 from a wish of the waiter on,
+-- until the waiter takes it back or the ringer does
+abbrev pub flag_of : Half → Half → Bool
+flag_of waiter ringer = not (waiter.wishes && nat_lt ringer.settled waiter.asks)
+
+-- its pending word: it is 1 from a notification on, until the waiter looks
+abbrev pub pending_of : Half → Half → Bool
+pending_of waiter ringer = nat_lt waiter.woken ringer.rings
+
+-- the flag and pending word of a bell are what its two ends did, of which neither knows of more than
+-- there was
+pub record WordsTold (flag pending wishes : Bool) (asks settled rings woken : ℕ) : Type 0 where
+  pub flag_is : flag ≡ not (wishes && nat_lt settled asks)
+  pub settled_within : settled ≤ asks
+  pub pending_is : pending ≡ nat_lt woken rings
+  pub woken_within : woken ≤ rings
+
+-- the words: the two indices, and the flag and pending word of each bell, which are what the two
+-- ends did and meet the bell law
 pub record WordsHold (n : ℕ) (words : List ℕ) (left : List Cargo) (p c : Half) : Type 0 where
   pub flag : Bool
   pub pending : Bool
@@ -83,10 +100,17 @@ pub record WordsHold (n : ℕ) (words : List ℕ) (left : List Cargo) (p c : Hal
   pub pending_back : Bool
   pub words_are : words ≡ wrap (length c.entries) ∷ wrap (length p.entries) ∷ bit flag
       ∷ bit pending ∷ bit flag_back ∷ bit pending_back ∷ []
+  pub forward_told : WordsTold flag pending c.wishes c.asks p.settled p.rings c.woken
+  pub backward_told : WordsTold flag_back pending_back p.wishes p.asks c.settled c.rings p.woken
   pub forward : BellHolds (forward_bell flag pending p c) (nat_lt 0 (length left))
       (length p.entries)
   pub backward : BellHolds (backward_bell flag_back pending_back p c) (nat_lt (length left) n)
       (length c.entries)
+
+-- what these words are is what the two ends know
+abbrev pub words_of : Half → Half → List ℕ
+words_of p c = wrap (length c.entries) ∷ wrap (length p.entries) ∷ bit (flag_of c p)
+    ∷ bit (pending_of c p) ∷ bit (flag_of p c) ∷ bit (pending_of p c) ∷ []
 
 -- what the two ends know, with the slots and the words
 pub record EndsHold (kind : QueueKind) (n : ℕ) (words : List ℕ) (homes : List (maybe.Option Slot))
@@ -118,12 +142,15 @@ first_producer k = record {
   ringer = Rung.Free;
   grant = None;
   noes = 0;
-  steps = 0;
-  last_word = 0;
-  last_value = 0;
+  wishes = false;
+  asks = 0;
+  woken = 0;
+  settled = 0;
+  rings = 0;
+  walked = [];
 }
 
--- what the consumer of a new ring knows
+-- what the consumer of a new ring knows: the ring is opened with its wish
 abbrev pub first_consumer : QueueKind → Half
 first_consumer k = record {
   entries = [];
@@ -133,9 +160,12 @@ first_consumer k = record {
   ringer = Rung.Free;
   grant = None;
   noes = 0;
-  steps = 0;
-  last_word = 0;
-  last_value = 0;
+  wishes = true;
+  asks = 1;
+  woken = 0;
+  settled = 0;
+  rings = 0;
+  walked = [];
 }
 
 -- what the one seat of a new ring knows, which has both roles

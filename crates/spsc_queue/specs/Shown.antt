@@ -4,14 +4,13 @@ use Rattle.std.specs.Prelude.{is_some}
 use Rattle.cargo_core.specs.declared.item.QueueKind.{QueueKind}
 use Rattle.wire_core.specs.declared.names.Op.{Op}
 use Rattle.wire_core.specs.declared.names.Op.TheVariants as Do
-use Rattle.wire_core.specs.declared.names.Side.{Side}
-use Rattle.wire_core.specs.declared.names.Side.TheVariants.{Forward, Backward}
 use Rattle.wire_core.specs.declared.names.Answer.{Answer}
 use Rattle.wire_core.specs.Deeds.{Cargo}
 use Rattle.wire_core.specs.Ends.{Role, Consumer, Producer, role_of}
 use Rattle.wire_core.specs.Queues.{Queue, Tells, Carries, is_filled, has_room, queue_after}
 use Rattle.spsc_queue.specs.declared.view.Half.{Half}
 use Rattle.spsc_queue.specs.Rule.{wrap, forward_bell, backward_bell}
+use Rattle.spsc_queue.specs.Steps.{flag_word, pending_word}
 
 -- whether a flag or pending word is 1
 abbrev pub is_set : List ℕ → ℕ → Bool
@@ -33,16 +32,6 @@ ring_queue kind n words p c = record {
     roomed = is_some p.grant;
   };
 }
-
--- the flag word of a bell
-abbrev pub flag_word : Side → ℕ
-flag_word Forward = 2
-flag_word Backward = 4
-
--- the pending word of a bell
-abbrev pub pending_word : Side → ℕ
-pending_word Forward = 3
-pending_word Backward = 5
 
 -- the word that a call reads or writes
 abbrev pub word_of : Op → ℕ

@@ -1,11 +1,12 @@
 -- What each step on a ring tells.
 use Rattle.std.specs.Prelude.{◌≡◌, ◌≢◌, ℕ, ◌+◌, ◌%◌, ◌<◌, Bool, true, false, not, List, [], ◌∷◌}
-use Rattle.std.specs.Prelude.{◌++◌, length, Option, Some, None, nat_eq, is_some}
+use Rattle.std.specs.Prelude.{◌++◌, length, Option, Some, None, nat_eq, nat_lt, is_some}
 use Rattle.atomic_table.specs.Table.{Me, Step}
 use Rattle.cargo_core.specs.declared.item.QueueKind.{QueueKind}
 use Rattle.cargo_core.specs.Items.{kind_of}
 use Rattle.wire_core.specs.declared.names.Op.{Op}
 use Rattle.wire_core.specs.declared.names.Op.TheVariants as Do
+use Rattle.wire_core.specs.declared.names.Side.{Side}
 use Rattle.wire_core.specs.declared.names.Side.TheVariants.{Forward, Backward}
 use Rattle.wire_core.specs.declared.names.Answer.{Answer}
 use Rattle.wire_core.specs.declared.names.Answer.TheVariants.{Done}
@@ -35,6 +36,29 @@ tells_room n sent head = not (nat_eq (wrap (head + n)) (wrap sent))
 abbrev pub tells_entry : ℕ → ℕ → Bool
 tells_entry taken tail = not (nat_eq tail (wrap taken))
 
+-- the flag word of a bell
+abbrev pub flag_word : Side → ℕ
+flag_word Forward = 2
+flag_word Backward = 4
+
+-- the pending word of a bell
+abbrev pub pending_word : Side → ℕ
+pending_word Forward = 3
+pending_word Backward = 5
+
+-- the value of the last of these steps
+abbrev pub last_of : List (ℕ × ℕ) → ℕ
+last_of [] = 0
+last_of (s ∷ ss) = s.1
+
+-- what the last step on a word read or stored there
+abbrev pub last_value : Half → ℕ
+last_value h = last_of h.walked
+
+-- how many steps on words its calls made
+abbrev pub steps_made : Half → ℕ
+steps_made h = length h.walked
+
 -- a no is counted
 abbrev pub noes_more : Bool → ℕ → ℕ
 noes_more true n = n
@@ -46,9 +70,7 @@ after_look b w r g h = record h {
   waiter = looked_waiter h.waiter (answer_of b);
   grant = g;
   noes = noes_more b h.noes;
-  steps = h.steps + 1;
-  last_word = w;
-  last_value = r;
+  walked = (w, r) ∷ h.walked;
 }
 
 -- an empty slot is granted where the look answers yes
@@ -64,30 +86,31 @@ with_producer v h = record v { producer = h }
 abbrev pub with_consumer : View → Half → View
 with_consumer v h = record v { consumer = h }
 
--- the producer after a look for room that read r
-abbrev pub room_told : ℕ → Half → ℕ → Half
-room_told n h r = after_look (tells_room n (length h.entries) r) 0 r
+-- the producer after a look for room that read r at the word w
+abbrev pub room_told : ℕ → Half → ℕ → ℕ → Half
+room_told n h w r = after_look (tells_room n (length h.entries) r) w r
     (empty_if (tells_room n (length h.entries) r)) h
 
 -- the step of `room`: a load of the head, which grants the slot at the tail where it answers yes
 abbrev pub room_done : Step Slot → Seated → ℕ → Seated → Type 0
-room_done st m r m' = (r < 65536) × (m'.0 ≡ with_producer m.0 (room_told st.slots m.0.producer r))
+room_done st m r m' = (r < 65536)
+    × (m'.0 ≡ with_producer m.0 (room_told st.slots m.0.producer st.word r))
     × (m'.1 ≡ slots_held m'.0.producer.grant (length m.0.producer.entries % st.slots))
 
--- the producer after a put at a time
-abbrev pub sent_one : Cargo → ℕ → Half → Half
-sent_one x t h = record h {
+-- the producer after a put at a time, where r was stored at the word w
+abbrev pub sent_one : Cargo → ℕ → ℕ → ℕ → Half → Half
+sent_one x t w r h = record h {
   entries = h.entries ++ x ∷ [];
   times = h.times ++ t ∷ [];
   ringer = Rung.Put;
   grant = None;
-  steps = h.steps + 1;
+  walked = (w, r) ∷ h.walked;
 }
 
 -- the step of `put` at a time: a store to the tail, at which the granted slot goes home filled
 abbrev pub put_done : ℕ → Step Slot → Seated → ℕ → Seated → Type 0
 put_done t st m r m' = (x : Cargo) → m.1 ≡ (length m.0.producer.entries % st.slots, Some x) ∷ []
-    → (m'.0 ≡ with_producer m.0 (sent_one x t m.0.producer)) × (m'.1 ≡ [])
+    → (m'.0 ≡ with_producer m.0 (sent_one x t st.word r m.0.producer)) × (m'.1 ≡ [])
 
 -- what `see` may grant: nothing where it answers no, and else an entry of the kind
 abbrev pub Granted : QueueKind → Bool → Option Slot → Type 0
@@ -98,73 +121,111 @@ Granted kind false g = g ≡ None
 abbrev pub GrantedKind : QueueKind → Option Slot → Type 0
 GrantedKind kind g = (g ≢ Some None) × ((x : Cargo) → g ≡ Some (Some x) → kind_of x.0 ≡ kind)
 
--- the consumer after a look for an entry that read r
-abbrev pub see_told : Option Slot → Half → ℕ → Half
-see_told g h r = after_look (tells_entry (length h.entries) r) 1 r g h
+-- the consumer after a look for an entry that read r at the word w
+abbrev pub see_told : Option Slot → Half → ℕ → ℕ → Half
+see_told g h w r = after_look (tells_entry (length h.entries) r) w r g h
 
 -- the step of `see`: a load of the tail, which grants the slot at the head where it answers yes
 abbrev pub see_done : Step Slot → Seated → ℕ → Seated → Type 0
 see_done st m r m' = (g : Option Slot)
     × Granted m.0.consumer.kind (tells_entry (length m.0.consumer.entries) r) g
-    × (m'.0 ≡ with_consumer m.0 (see_told g m.0.consumer r))
+    × (m'.0 ≡ with_consumer m.0 (see_told g m.0.consumer st.word r))
     × (m'.1 ≡ slots_held g (length m.0.consumer.entries % st.slots))
 
--- the consumer after it took what was put at a time
-abbrev pub took_one : Cargo → ℕ → Half → Half
-took_one x t h = record h {
+-- the consumer after it took what was put at a time, where r was stored at the word w
+abbrev pub took_one : Cargo → ℕ → ℕ → ℕ → Half → Half
+took_one x t w r h = record h {
   entries = h.entries ++ x ∷ [];
   times = h.times ++ t ∷ [];
   ringer = Rung.Put;
   grant = None;
-  steps = h.steps + 1;
+  walked = (w, r) ∷ h.walked;
 }
 
 -- the step of `take`: a store to the head, at which the granted slot goes home empty
 abbrev pub take_done : Step Slot → Seated → ℕ → Seated → Type 0
 take_done st m r m' = (x : Cargo) → m.0.consumer.grant ≡ Some (Some x)
-    → (t : ℕ) × (m'.0 ≡ with_consumer m.0 (took_one x t m.0.consumer)) × (m'.1 ≡ [])
+    → (t : ℕ) × (m'.0 ≡ with_consumer m.0 (took_one x t st.word r m.0.consumer)) × (m'.1 ≡ [])
 
--- a step that leaves the slots alone
-abbrev pub producer_turned : (ℕ → Half → Half) → Step Slot → Seated → ℕ → Seated → Type 0
-producer_turned f st m r m' = (m'.0 ≡ with_producer m.0 (f r m.0.producer)) × (m'.1 ≡ m.1)
+-- A step that leaves the slots alone: the end is told the word, and what was read or stored there.
+abbrev pub producer_turned : (ℕ → ℕ → Half → Half) → Step Slot → Seated → ℕ → Seated → Type 0
+producer_turned f st m r m' = (m'.0 ≡ with_producer m.0 (f st.word r m.0.producer)) × (m'.1 ≡ m.1)
 
 -- the same of the consumer
-abbrev pub consumer_turned : (ℕ → Half → Half) → Step Slot → Seated → ℕ → Seated → Type 0
-consumer_turned f st m r m' = (m'.0 ≡ with_consumer m.0 (f r m.0.consumer)) × (m'.1 ≡ m.1)
+abbrev pub consumer_turned : (ℕ → ℕ → Half → Half) → Step Slot → Seated → ℕ → Seated → Type 0
+consumer_turned f st m r m' = (m'.0 ≡ with_consumer m.0 (f st.word r m.0.consumer)) × (m'.1 ≡ m.1)
 
--- a store of 0 to the flag
-abbrev pub asked : ℕ → Half → Half
-asked r h = record h { waiter = Wait.Asked; steps = h.steps + 1 }
-
--- a store of 1 to the flag, by the waiter
-abbrev pub waived : ℕ → Half → Half
-waived r h = record h { waiter = Wait.Off; steps = h.steps + 1 }
-
--- a swap of the word w with 0
-abbrev pub after_wake : ℕ → ℕ → Half → Half
-after_wake w r h = record h {
-  waiter = woken_waiter h.waiter (answer_of (nat_eq r 1));
-  steps = h.steps + 1;
-  last_word = w;
-  last_value = r;
+-- the waiter after a store of a wish to its flag
+abbrev pub asked : ℕ → ℕ → Half → Half
+asked w r h = record h {
+  waiter = Wait.Asked;
+  wishes = true;
+  asks = h.asks + 1;
+  walked = (w, r) ∷ h.walked;
 }
 
--- a load of the word w
+-- the waiter after it stored to its flag that it wants no notification
+abbrev pub waived : ℕ → ℕ → Half → Half
+waived w r h = record h { waiter = Wait.Off; wishes = false; walked = (w, r) ∷ h.walked }
+
+-- the waiter after it took what was pending, where k notifications had been made for it
+abbrev pub after_wake : ℕ → ℕ → ℕ → Half → Half
+after_wake w r k h = record h {
+  waiter = woken_waiter h.waiter (answer_of (nat_eq r 1));
+  woken = k;
+  walked = (w, r) ∷ h.walked;
+}
+
+-- the ringer after a look at the flag
 abbrev pub after_wanted : ℕ → ℕ → Half → Half
 after_wanted w r h = record h {
   ringer = wanted_ringer (answer_of (nat_eq r 0));
-  steps = h.steps + 1;
-  last_word = w;
-  last_value = r;
+  walked = (w, r) ∷ h.walked;
 }
 
--- a store of 1 to the flag, by the ringer
-abbrev pub after_settle : ℕ → Half → Half
-after_settle r h = record h { ringer = Rung.Ringing; steps = h.steps + 1 }
+-- the ringer after it took the wish back, where the waiter had stored k wishes
+abbrev pub after_settle : ℕ → ℕ → ℕ → Half → Half
+after_settle w r k h = record h {
+  ringer = Rung.Ringing;
+  settled = k;
+  walked = (w, r) ∷ h.walked;
+}
 
--- a store of 1 to the pending word
-abbrev pub after_ring : ℕ → Half → Half
-after_ring r h = record h { ringer = Rung.Free; steps = h.steps + 1 }
+-- the ringer after a notification
+abbrev pub after_ring : ℕ → ℕ → Half → Half
+after_ring w r h = record h {
+  ringer = Rung.Free;
+  rings = h.rings + 1;
+  walked = (w, r) ∷ h.walked;
+}
+
+-- something was pending just where notifications were made since the last time
+abbrev pub IsWoken : ℕ → Half → Half → Type 0
+IsWoken r h h' = nat_eq r 1 ≡ nat_lt h.woken h'.woken
+
+-- the producer takes what is pending, and is told how many notifications were made
+abbrev pub producer_woken : Step Slot → Seated → ℕ → Seated → Type 0
+producer_woken st m r m' =
+    (m'.0 ≡ with_producer m.0 (after_wake st.word r m'.0.producer.woken m.0.producer))
+    × (m'.1 ≡ m.1) × IsWoken r m.0.producer m'.0.producer
+
+-- the same of the consumer
+abbrev pub consumer_woken : Step Slot → Seated → ℕ → Seated → Type 0
+consumer_woken st m r m' =
+    (m'.0 ≡ with_consumer m.0 (after_wake st.word r m'.0.consumer.woken m.0.consumer))
+    × (m'.1 ≡ m.1) × IsWoken r m.0.consumer m'.0.consumer
+
+-- the producer takes a wish back, and is told how many were stored
+abbrev pub producer_settled : Step Slot → Seated → ℕ → Seated → Type 0
+producer_settled st m r m' =
+    (m'.0 ≡ with_producer m.0 (after_settle st.word r m'.0.producer.settled m.0.producer))
+    × (m'.1 ≡ m.1)
+
+-- the same of the consumer
+abbrev pub consumer_settled : Step Slot → Seated → ℕ → Seated → Type 0
+consumer_settled st m r m' =
+    (m'.0 ≡ with_consumer m.0 (after_settle st.word r m'.0.consumer.settled m.0.consumer))
+    × (m'.1 ≡ m.1)
 
 -- a granted slot goes home as it was
 abbrev pub sent_home : Half → Half
@@ -209,31 +270,28 @@ known_end h = record {
 }
 
 -- What one call makes of what an end knows, on a ring of n places, where its step read r: the
--- answer, the entry that it moved, and what the end knows then. Each row counts one step, and a
--- look that answers no counts one no.
+-- answer, the entry that it moved, and what the end knows then. Each row counts one step, with the
+-- word and what was read or stored there, and a look that answers no counts one no.
 abbrev pub CallDid : ℕ → Half → Op → ℕ → Answer → List Cargo → Half → Type 0
-CallDid n h Do.See r a c h' = (h' ≡ see_told h'.grant h r)
+CallDid n h Do.See r a c h' = (h' ≡ see_told h'.grant h 1 r)
     × (a ≡ answer_of (tells_entry (length h.entries) r)) × (c ≡ [])
     × Granted h.kind (tells_entry (length h.entries) r) h'.grant
-CallDid n h Do.Room r a c h' = (h' ≡ room_told n h r)
+CallDid n h Do.Room r a c h' = (h' ≡ room_told n h 0 r)
     × (a ≡ answer_of (tells_room n (length h.entries) r)) × (c ≡ [])
 CallDid n h Do.Take r a c h' = (x : Cargo) × (t : ℕ) × (c ≡ x ∷ []) × (h.grant ≡ Some (Some x))
-    × (h' ≡ took_one x t h) × (a ≡ Done)
-CallDid n h Do.Put r a c h' = (x : Cargo) × (t : ℕ) × (c ≡ x ∷ []) × (h' ≡ sent_one x t h)
-    × (a ≡ Done) × (kind_of x.0 ≡ h.kind)
-CallDid n h (Do.Ask s) r a c h' = (h' ≡ asked 0 h) × (a ≡ Done) × (c ≡ [])
-CallDid n h (Do.Waive s) r a c h' = (h' ≡ waived 1 h) × (a ≡ Done) × (c ≡ [])
-CallDid n h (Do.Wake Forward) r a c h' =
-    (h' ≡ after_wake 3 r h) × (a ≡ answer_of (nat_eq r 1)) × (c ≡ [])
-CallDid n h (Do.Wake Backward) r a c h' =
-    (h' ≡ after_wake 5 r h) × (a ≡ answer_of (nat_eq r 1)) × (c ≡ [])
-CallDid n h (Do.Wanted Forward) r a c h' =
-    (h' ≡ after_wanted 2 r h) × (a ≡ answer_of (nat_eq r 0)) × (c ≡ [])
-CallDid n h (Do.Wanted Backward) r a c h' =
-    (h' ≡ after_wanted 4 r h) × (a ≡ answer_of (nat_eq r 0)) × (c ≡ [])
-CallDid n h (Do.Settle s) r a c h' = (h' ≡ after_settle 1 h) × (a ≡ Done) × (c ≡ [])
-CallDid n h (Do.Ring s) r a c h' = (h' ≡ after_ring 1 h) × (a ≡ Done) × (c ≡ [])
+    × (h' ≡ took_one x t 0 (wrap (length h.entries + 1)) h) × (a ≡ Done)
+CallDid n h Do.Put r a c h' = (x : Cargo) × (t : ℕ) × (c ≡ x ∷ [])
+    × (h' ≡ sent_one x t 1 (wrap (length h.entries + 1)) h) × (a ≡ Done) × (kind_of x.0 ≡ h.kind)
+CallDid n h (Do.Ask s) r a c h' = (h' ≡ asked (flag_word s) 0 h) × (a ≡ Done) × (c ≡ [])
+CallDid n h (Do.Waive s) r a c h' = (h' ≡ waived (flag_word s) 1 h) × (a ≡ Done) × (c ≡ [])
+CallDid n h (Do.Wake s) r a c h' = (h' ≡ after_wake (pending_word s) r h'.woken h)
+    × (a ≡ answer_of (nat_eq r 1)) × (c ≡ []) × IsWoken r h h'
+CallDid n h (Do.Wanted s) r a c h' = (h' ≡ after_wanted (flag_word s) r h)
+    × (a ≡ answer_of (nat_eq r 0)) × (c ≡ [])
+CallDid n h (Do.Settle s) r a c h' = (h' ≡ after_settle (flag_word s) 1 h'.settled h)
+    × (a ≡ Done) × (c ≡ [])
+CallDid n h (Do.Ring s) r a c h' = (h' ≡ after_ring (pending_word s) 1 h) × (a ≡ Done) × (c ≡ [])
 
--- the same, where what was read is what the end remembers as its last read
+-- the same, where what was read is what the end did last
 abbrev pub EndDid : ℕ → Half → Op → Answer → List Cargo → Half → Type 0
-EndDid n h o a c h' = CallDid n h o h'.last_value a c h'
+EndDid n h o a c h' = CallDid n h o (last_value h') a c h'

@@ -6,7 +6,7 @@ ghost use Rattle.std.specs.Slots.{slots_len, slots_items, IsFull};
 ghost use Rattle.cargo_core.specs.Items.{kind_of};
 ghost use Rattle.wire_core.specs.Bells.{BellHolds};
 ghost use Rattle.spsc_queue.specs.Known.{ended_bell};
-ghost use Rattle.spsc_queue.specs.Rule.{forward_bell, backward_bell};
+ghost use Rattle.spsc_queue.specs.Rule.{forward_bell, backward_bell, flag_of, pending_of};
 ghost use Rattle.spsc_queue.specs.Steps.{sent_home};
 ghost use Rattle.spsc_queue.specs.Left.{entries_from};
 
@@ -130,6 +130,10 @@ pub fn finish(ring: Ring, producer: Producer, consumer: Consumer) -> Result<Ende
         ≡ backward_bell e.backward.flag e.backward.pending producer.knows consumer.knows)
         × BellHolds e.backward (nat_lt (length e.left) ring.id.slots)
         (length consumer.knows.entries)) }
+    ensures words { IfOk result (λ e. (e.forward.flag ≡ flag_of consumer.knows producer.knows)
+        × (e.forward.pending ≡ pending_of consumer.knows producer.knows)
+        × (e.backward.flag ≡ flag_of producer.knows consumer.knows)
+        × (e.backward.pending ≡ pending_of producer.knows consumer.knows)) }
 {
     let Ring {
         table,

@@ -1,8 +1,10 @@
 //! What each kind of step on a ring tells the end that makes it, and how the first seat is split
-//! and the last is joined.
+//! and the last is joined. Each step of a call tells the word that it was on and what was read or
+//! stored there, as the step has them, and nothing else may stand in what was walked.
 ghost use Rattle.spsc_queue.specs.Steps.{room_done, put_done, see_done, take_done, producer_turned};
-ghost use Rattle.spsc_queue.specs.Steps.{consumer_turned, asked, waived, after_wake, after_wanted};
-ghost use Rattle.spsc_queue.specs.Steps.{after_settle, after_ring, producer_home, consumer_home};
+ghost use Rattle.spsc_queue.specs.Steps.{consumer_turned, producer_woken, consumer_woken};
+ghost use Rattle.spsc_queue.specs.Steps.{producer_settled, consumer_settled, asked, waived};
+ghost use Rattle.spsc_queue.specs.Steps.{after_wanted, after_ring, producer_home, consumer_home};
 ghost use Rattle.spsc_queue.specs.Steps.{producing_part, consuming_part, whole, memory_of, spent};
 
 use crate::clock::Clock;
@@ -53,19 +55,19 @@ impl Play<Slot, View> for Waive {
 pub(crate) struct Wake;
 
 impl Play<Slot, View> for Wake {
-    ghost then = { consumer_turned (after_wake 3) };
+    ghost then = { consumer_woken };
 }
 
 pub(crate) struct Wanted;
 
 impl Play<Slot, View> for Wanted {
-    ghost then = { producer_turned (after_wanted 2) };
+    ghost then = { producer_turned after_wanted };
 }
 
 pub(crate) struct Settle;
 
 impl Play<Slot, View> for Settle {
-    ghost then = { producer_turned after_settle };
+    ghost then = { producer_settled };
 }
 
 pub(crate) struct Ring;
@@ -89,19 +91,19 @@ impl Play<Slot, View> for WaiveBack {
 pub(crate) struct WakeBack;
 
 impl Play<Slot, View> for WakeBack {
-    ghost then = { producer_turned (after_wake 5) };
+    ghost then = { producer_woken };
 }
 
 pub(crate) struct WantedBack;
 
 impl Play<Slot, View> for WantedBack {
-    ghost then = { consumer_turned (after_wanted 4) };
+    ghost then = { consumer_turned after_wanted };
 }
 
 pub(crate) struct SettleBack;
 
 impl Play<Slot, View> for SettleBack {
-    ghost then = { consumer_turned after_settle };
+    ghost then = { consumer_settled };
 }
 
 pub(crate) struct RingBack;

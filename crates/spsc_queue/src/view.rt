@@ -3,9 +3,8 @@ use cargo_core::{Body, Item, QueueKind};
 use std::collections::LinkedList;
 use wire_core::{Ringer, Waiter};
 
-/// What one end knows. No value of it is made: it stands in proofs alone. `noes` counts the looks
-/// that answered no, `steps` the steps on words that its calls made. `last_word` is the word that
-/// the last read of these steps was of, and `last_value` what it read.
+/// What one end knows. No value of it is made: it stands in proofs alone. It waits on one bell of
+/// the ring and rings the other. `noes` counts the looks that answered no.
 pub struct Half {
     /// What it sent or took, in order.
     pub entries: LinkedList<(Item, Body)>,
@@ -17,9 +16,19 @@ pub struct Half {
     /// The slot that is granted to it, with what it held.
     pub grant: Option<Option<(Item, Body)>>,
     pub noes: u64,
-    pub steps: u64,
-    pub last_word: u64,
-    pub last_value: u64,
+    /// Whether what it stored last to the flag on which it waits was a wish for a notification.
+    pub wishes: bool,
+    /// How many wishes it stored there.
+    pub asks: u64,
+    /// How many notifications had been made for it when it last took one, or found none.
+    pub woken: u64,
+    /// How many wishes the other end had stored when it last took one back.
+    pub settled: u64,
+    /// How many notifications it made.
+    pub rings: u64,
+    /// Each step on a word that its calls made, the newest first: the word, and what was read or
+    /// stored there.
+    pub walked: LinkedList<(u64, u64)>,
 }
 
 /// What a seat knows, which is the producer's, the consumer's, or both at once. No value of it is

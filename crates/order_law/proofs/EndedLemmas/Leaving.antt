@@ -17,6 +17,7 @@ use Rattle.wire_core.specs.Journal.{Track, Tally, IsShown, TrackHolds, Flows, hi
 use Rattle.wire_core.specs.Queues.{Queue, queue_at, no_queue, end_at, end_of, items_of}
 use Rattle.spsc_queue.specs.declared.view.Half.{Half}
 use Rattle.spsc_queue.specs.Known.Ends.{EndIs, RingIs, EndedIs}
+use Rattle.spsc_queue.specs.Steps.{steps_made}
 use Rattle.seat_wires.specs.Places.{end_known}
 use Rattle.play_core.specs.Still.{IsPeopled}
 use Rattle.play_core.proofs.Lists.{some_is, map_get, there_is, there_below}
@@ -81,8 +82,8 @@ module _ (row : QueueRow) (ring : RingIs) (p c : EndIs) (e : EndedIs) (of_ring :
     taken = ap items_of taken_is;
     forward = has.forward_is;
     backward = has.backward_is;
-    producer = ap (λ (h : Half). let t : Tally = record { noes = h.noes; steps = h.steps } in t) has.producer;
-    consumer = ap (λ (h : Half). let t : Tally = record { noes = h.noes; steps = h.steps } in t) has.consumer;
+    producer = ap (λ (h : Half). let t : Tally = record { noes = h.noes; steps = steps_made h } in t) has.producer;
+    consumer = ap (λ (h : Half). let t : Tally = record { noes = h.noes; steps = steps_made h } in t) has.consumer;
   }
 
   pub ring_kinds : All (λ (x : Cargo). kind_of x.0 ≡ row.kind) e.producer.entries

@@ -6,13 +6,14 @@ use Rattle.wire_core.specs.Bells.{BellHolds}
 use Rattle.wire_core.specs.Ends.{Role, Consumer, Producer}
 use Rattle.wire_core.specs.Journal.{owner_of}
 use Rattle.spsc_queue.specs.Known.Ends.{EndIs, RingIs, EndedIs}
-use Rattle.spsc_queue.specs.Rule.{forward_bell, backward_bell}
+use Rattle.spsc_queue.specs.Rule.{flag_of, pending_of, forward_bell, backward_bell}
 use Rattle.spsc_queue.specs.Steps.{sent_home}
 use Rattle.order_law.specs.ActorParts.Parting.{Apart, ends_at, end_in}
 use Rattle.actor_set.specs.declared.actor.Actor.{Actor}
 
 -- what both ends knew of a ring is kept, with what was put and not taken, in order, and when; and
--- with both bells, of which the bell law holds; all of it is of the ring's kind
+-- with both bells, as the two ends left them and of which the bell law holds; all of it is of the
+-- ring's kind
 pub record HasEnded (ring : RingIs) (p c : EndIs) (e : EndedIs) : Type 0 where
   pub capacity : e.capacity ≡ ring.id.slots
   pub producer : e.producer ≡ sent_home p.knows
@@ -25,9 +26,11 @@ pub record HasEnded (ring : RingIs) (p c : EndIs) (e : EndedIs) : Type 0 where
   pub producer_kind : p.knows.kind ≡ ring.kind
   pub consumer_kind : c.knows.kind ≡ ring.kind
   pub kinds : All (λ x. kind_of x.0 ≡ ring.kind) p.knows.entries
-  pub forward_is : e.forward ≡ forward_bell e.forward.flag e.forward.pending p.knows c.knows
+  pub forward_is : e.forward ≡ forward_bell (flag_of c.knows p.knows)
+      (pending_of c.knows p.knows) p.knows c.knows
   pub forward : BellHolds e.forward (nat_lt 0 (length e.left)) (length p.knows.entries)
-  pub backward_is : e.backward ≡ backward_bell e.backward.flag e.backward.pending p.knows c.knows
+  pub backward_is : e.backward ≡ backward_bell (flag_of p.knows c.knows)
+      (pending_of p.knows c.knows) p.knows c.knows
   pub backward : BellHolds e.backward (nat_lt (length e.left) ring.id.slots)
       (length c.knows.entries)
 

@@ -11,6 +11,7 @@ use Rattle.spsc_queue.specs.Known.Ends.{EndIs, RingIs}
 use Rattle.seat_wires.specs.Places.{stands_at, ends_of}
 use Rattle.seat_wires.specs.Places.Are.{SeatsAre}
 use Rattle.seat_wires.specs.Went.{end_steps, seats_steps}
+use Rattle.spsc_queue.specs.Steps.{steps_made}
 use Rattle.owner_law.proofs.Counting.{below_plus, below_same}
 use Rattle.play_core.proofs.Lists.{some_is, map_get, map_from, there_is, there_below}
 use Rattle.actor_set.specs.Actors.{part_of, actor_rests}
@@ -81,7 +82,7 @@ module _ (s : Setting) (rings : List RingIs) (parts : List Apart) (come : HaveCo
         (e.0, record { owner = q.0; there = q.1; end = e.1 })
 
     -- what the history tells of an end of a queue, where it is this actor's, and else nothing
-    shares : (r : Role) (n : ℕ) (row : QueueRow) → slice_get rows n ≡ Some row → (told : ℕ) → ((e : EndIs) → OwnEnd parts row r n e → told ≡ e.knows.steps) → end_steps (end_ r n) ≡ (if owner_of row r == k then told else 0)
+    shares : (r : Role) (n : ℕ) (row : QueueRow) → slice_get rows n ≡ Some row → (told : ℕ) → ((e : EndIs) → OwnEnd parts row r n e → told ≡ steps_made e.knows) → end_steps (end_ r n) ≡ (if owner_of row r == k then told else 0)
     shares r n row at told tells = by (eqb_tells (owner_of row r) k)
       where
         by : ((eqb (owner_of row r) k ≡ true) × (owner_of row r ≡ k)) ⊎ ((eqb (owner_of row r) k ≡ false) × (owner_of row r ≢ k)) → end_steps (end_ r n) ≡ (if owner_of row r == k then told else 0)

@@ -9,7 +9,7 @@ use Rattle.wire_core.specs.Bells.{BellHolds}
 use Rattle.wire_core.specs.Deeds.{Cargo}
 use Rattle.spsc_queue.specs.declared.view.View.{View}
 use Rattle.spsc_queue.specs.Known.Ends.{EndIs}
-use Rattle.spsc_queue.specs.Rule.{wrap, Slot, RingHolds, forward_bell, backward_bell}
+use Rattle.spsc_queue.specs.Rule.{wrap, Slot, RingHolds, forward_bell, backward_bell, flag_of, pending_of}
 use Rattle.spsc_queue.specs.Steps.{Seated, slots_held, whole, with_producer, with_consumer, sent_home}
 use Rattle.spsc_queue.specs.Left.{entries_from}
 use Rattle.spsc_queue.proofs.Closing.{Closing, closes}
@@ -100,3 +100,7 @@ returns-clause-forward c = (sym (forward_is c), subst (λ (z : BellState). BellH
 
 pub returns-clause-backward : goal.returns-clause-backward
 returns-clause-backward c = (sym (backward_is c), subst (λ (z : BellState). BellHolds z (nat_lt (length c.in_ok-left.left.items) c.args.ring.id.slots) (length c.args.consumer.knows.entries)) (backward_is c) (bells c).1)
+
+pub returns-clause-words : goal.returns-clause-words
+returns-clause-words c = subst (λ (z : EndIs × EndIs). (nat_eq c.word-flag.result 1 ≡ flag_of z.1.knows z.0.knows) × (nat_eq c.word-pending.result 1 ≡ pending_of z.1.knows z.0.knows) × (nat_eq c.word-flag_back.result 1 ≡ flag_of z.0.knows z.1.knows) × (nat_eq c.word-pending_back.result 1 ≡ pending_of z.0.knows z.1.knows))
+    (λ i. (c.producer.view_is i, c.consumer.view_is i)) ((closing c).words c.word-flag.result c.word-pending.result c.word-flag_back.result c.word-pending_back.result c.word-flag.ensures c.word-pending.ensures c.word-flag_back.ensures c.word-pending_back.ensures)

@@ -1,5 +1,6 @@
 use Rattle.std.proofs.Common.{◌≡◌, ◌∙◌, ◌++◌, ◌∷◌, [], ℕ, ap, sym, subst, length, length-append, arith, append_assoc, append-nil, None, slice_get, ⊎_elim}
 use Rattle.spsc_queue.specs.Known.Ends.{EndIs, RingIs, EndedIs}
+use Rattle.spsc_queue.specs.Rule.{forward_bell, backward_bell}
 use Rattle.order_law.specs.ActorParts.Finished.{HasEnded}
 use Rattle.order_law.proofs.ActorParts.Places.{set_beside, get_more, same_end, next_is, none_left, still_there}
 use Rattle.order_law.proofs.actor_parts.finishing.finish_all.Goals as goal
@@ -57,9 +58,9 @@ loop-ring-preserved c = let n : ℕ = length c.loop-ring.yielded in let was = c.
       producer_kind = did.kinds.0;
       consumer_kind = did.kinds.1;
       kinds = did.kinds.2;
-      forward_is = did.forward.0;
+      forward_is = did.forward.0 ∙ (λ i. forward_bell (did.words.0 i) (did.words.1 i) c.take_end-producer.result.knows c.take_end-consumer.result.knows);
       forward = did.forward.1;
-      backward_is = did.backward.0;
+      backward_is = did.backward.0 ∙ (λ i. backward_bell (did.words.2 i) (did.words.3 i) c.take_end-producer.result.knows c.take_end-consumer.result.knows);
       backward = did.backward.1;
     } in record {
       split = append_assoc c.loop-ring.yielded (c.in-Some.ring ∷ []) _ ∙ (sym (ap (λ l. c.loop-ring.yielded ++ l) step.0) ∙ was.split);
