@@ -17,14 +17,14 @@ use Rattle.blk_law.specs.Replying.{AreAsked, AreSized, Carries, HaveRoom, IsAske
 use Rattle.blk_law.proofs.Recording.{blocks_long, recorded}
 
 -- a buffer that a write was written into carries its bytes
-written_carries : (a : Ask) (page : Paged) → a.count ≤ 8 → length a.fill ≡ a.count * 4096 → length page.bytes ≡ 32768 → carried_blocks a.count (Carried.Page (written a.fill page)) ≡ take (a.count * 4096) a.fill
+written_carries : (a : Ask) (page : Paged) → a.count ≤ 8 → length a.fill ≡ a.count * 4096 → 8 * 4096 ≤ length page.bytes → carried_blocks a.count (Carried.Page (written a.fill page)) ≡ take (a.count * 4096) a.fill
 written_carries a page few long room = by (nat_le (length a.fill) (length page.bytes)) (le-leb (length a.fill) (length page.bytes) (omega (arith, few, long, room)))
   where
     by : (b : Bool) → b ≡ true → carried_blocks a.count (Carried.Page (if b then (record { pool = page.pool; no = page.no; bytes = replaced page.bytes 0 a.fill }) else page)) ≡ take (a.count * 4096) a.fill
     by true e = take_at a.fill (drop (0 + length a.fill) page.bytes) (a.count * 4096) long ∙ sym (take_all (a.count * 4096) a.fill (omega (arith, long)))
     by false e = cc
 
-carries_by : (c : Code) (a : Ask) (page : Paged) → IsSized c a → length page.bytes ≡ 32768 → Carries c a (Carried.Page (page_for c a.fill page))
+carries_by : (c : Code) (a : Ask) (page : Paged) → IsSized c a → 8 * 4096 ≤ length page.bytes → Carries c a (Carried.Page (page_for c a.fill page))
 carries_by Asked.Read a page few room = le-leb (a.count * 4096) (length page.bytes) (omega (arith, few, room))
 carries_by Asked.Write a page sized room = written_carries a page sized.0 sized.1 room
 carries_by Asked.Flush a page sized room = tt
@@ -36,7 +36,7 @@ bare_carries Asked.Write a no_need = cc
 bare_carries Asked.Flush a no_need = tt
 bare_carries Asked.Barrier a no_need = tt
 
-in_buffer : (a : Ask) (id : ℕ) (page : Paged) → IsSized a.code a → length page.bytes ≡ 32768 → IsAsked id a (asked_in a id page)
+in_buffer : (a : Ask) (id : ℕ) (page : Paged) → IsSized a.code a → 8 * 4096 ≤ length page.bytes → IsAsked id a (asked_in a id page)
 in_buffer a id page sized room = record { has_id = refl; code = refl; block = refl; count = refl; carries = carries_by a.code a page sized room }
 
 bare : (a : Ask) (id : ℕ) → needs_buffer a.code ≡ false → IsAsked id a (asked_bare a id)
@@ -47,7 +47,7 @@ next_bare : (a : Ask) (asks : List Ask) (id : ℕ) (rest : List Cargo) → AreAs
 next_bare a asks id rest f true e = tt
 next_bare a asks id rest f false e = (bare a id e, f)
 
-next_in : (a : Ask) (asks : List Ask) (id : ℕ) (page : Paged) (with without : List Cargo) → IsSized a.code a → length page.bytes ≡ 32768 → AreAsked (id + 1) asks with → AreAsked (id + 1) asks without → (b : Bool) → needs_buffer a.code ≡ b → AreAsked id (a ∷ asks) (if b then (asked_in a id page ∷ with) else (asked_bare a id ∷ without))
+next_in : (a : Ask) (asks : List Ask) (id : ℕ) (page : Paged) (with without : List Cargo) → IsSized a.code a → 8 * 4096 ≤ length page.bytes → AreAsked (id + 1) asks with → AreAsked (id + 1) asks without → (b : Bool) → needs_buffer a.code ≡ b → AreAsked id (a ∷ asks) (if b then (asked_in a id page ∷ with) else (asked_bare a id ∷ without))
 next_in a asks id page with without sized room f g true e = (in_buffer a id page sized room, f)
 next_in a asks id page with without sized room f g false e = (bare a id e, g)
 
@@ -57,8 +57,8 @@ asked [] id pages sized room = tt
 asked (a ∷ asks) id [] sized room = next_bare a asks id (asked_from (id + 1) asks []) (asked asks (id + 1) [] (All-tail (λ (x : Ask). IsSized x.code x) a asks sized) room) (needs_buffer a.code) refl
 asked (a ∷ asks) id (page ∷ pages) sized room =
     let others = All-tail (λ (x : Ask). IsSized x.code x) a asks sized in
-    next_in a asks id page (asked_from (id + 1) asks pages) (asked_from (id + 1) asks (page ∷ pages)) (All-head (λ (x : Ask). IsSized x.code x) a asks sized) (All-head (λ (x : Paged). length x.bytes ≡ 32768) page pages room)
-    (asked asks (id + 1) pages others (All-tail (λ (x : Paged). length x.bytes ≡ 32768) page pages room)) (asked asks (id + 1) (page ∷ pages) others room) (needs_buffer a.code) refl
+    next_in a asks id page (asked_from (id + 1) asks pages) (asked_from (id + 1) asks (page ∷ pages)) (All-head (λ (x : Ask). IsSized x.code x) a asks sized) (All-head (λ (x : Paged). 8 * 4096 ≤ length x.bytes) page pages room)
+    (asked asks (id + 1) pages others (All-tail (λ (x : Paged). 8 * 4096 ≤ length x.bytes) page pages room)) (asked asks (id + 1) (page ∷ pages) others room) (needs_buffer a.code) refl
 
 -- and so is a beginning of it
 pub asked_begins : (asks : List Ask) (id : ℕ) (ys zs : List Cargo) → AreAsked id asks (ys ++ zs) → AreAsked id asks ys

@@ -31,6 +31,7 @@ use Rattle.net_quiet.proofs.Listing.{keeps}
 use Rattle.blk_law.specs.Sheets.Parts.{Sharer}
 use Rattle.blk_law.specs.Sheets.Numbers.{BlkPlace, IsBlkClientOf, disk_at, blk_driver_at, virt_at, blk_client_at}
 use Rattle.blk_law.specs.Sheets.Rows.{AsksInOrder, ServesRequests, all_requests, answer_item, answers_due, buffers_for, client_requests, goes_on_item, is_item_at, item_for_disk, items_back, numbered_item, requests_due, requests_on}
+use Rattle.blk_law.specs.Owners.Answering.{TakesBlocks}
 use Rattle.blk_law.specs.Sheets.Table.{blk_sheet}
 use Rattle.blk_law.proofs.HopsLemmas.Sharers.{clients_of, sharer, sharer_is, sharer_there, sharers_long}
 use Rattle.blk_quiet.specs.Still.{IsBlock, AnswersAll}
@@ -170,7 +171,7 @@ module _ (hostile : Hostiles) (h : History) (rows : List QueueRow) (actors : Nee
   pool_of : (k : ℕ) (c : Sharer) → slice_get clients k ≡ Some c → slice_get place.pools k ≡ Some c.pool
   pool_of k c at = let s = sharer_is place k c at in s.3 ∙ ap (λ (x : Sharer). Some x.pool) s.4
 
-  pool_some : (k : ℕ) (c : Sharer) → slice_get clients k ≡ Some c → 1 ≤ c.pool.buffers
+  pool_some : (k : ℕ) (c : Sharer) → slice_get clients k ≡ Some c → TakesBlocks c.pool
   pool_some k c at = w.pools.some k c.pool (pool_of k c at)
 
   -- what goes to the disk of a client's requests is at the client's buffers
@@ -272,15 +273,15 @@ module _ (hostile : Hostiles) (h : History) (rows : List QueueRow) (actors : Nee
     all_asked = by (cases_lt (length (got c.resp)) (length asks))
       where
         few : length due ≤ length asks
-        few = asked_few 0 0 (pool.buffers + buffers_for (take (length (got c.resp)) asks)) pool.buffers asks
+        few = asked_few 0 0 (pool.buffers + buffers_for (take (length (got c.resp)) asks)) pool.buffers pool.size asks
 
         put_few : length (put c.req) ≤ length due
         put_few = begins_few (put c.req) due client_row.begins
 
         by : (length (got c.resp) < length asks) ⊎ (length asks ≤ length (got c.resp)) → length (put c.req) ≡ length asks
         by (inl less) =
-            let some = w.pools.some k pool of.has_pool in
-            let more : length (got c.resp) < length due = asked_more 0 0 (pool.buffers + buffers_for (take (length (got c.resp)) asks)) pool.buffers (length (got c.resp)) asks less (omega (arith, some)) in
+            let some = (w.pools.some k pool of.has_pool).0 in
+            let more : length (got c.resp) < length due = asked_more 0 0 (pool.buffers + buffers_for (take (length (got c.resp)) asks)) pool.buffers pool.size (length (got c.resp)) asks less (omega (arith, some)) in
             absurd (omega (arith, more, asked_all, level))
         by (inr all) = omega (arith, few, put_few, all, level)
 

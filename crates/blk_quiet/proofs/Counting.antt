@@ -2,7 +2,7 @@
 -- requests a client can put.
 use Rattle.std.proofs.Common.{◌≡◌, ◌+◌, ◌*◌, ◌%◌, ◌<◌, ◌≤◌, ℕ, zero, suc, Bool, true, false, nat_lt, cond, Option, List, [], ◌∷◌, length, map, take, drop, refl, sym, subst, arith}
 use Rattle.std.specs.List.{filter}
-use Rattle.std.proofs.lemmas.Bool.{le-leb, lt-ltb}
+use Rattle.std.proofs.lemmas.Bool.{lt-ltb}
 use Rattle.cargo_core.specs.declared.item.Ask.{Ask}
 use Rattle.cargo_core.specs.declared.item.BlkReq.{BlkReq}
 use Rattle.cargo_core.specs.declared.item.Code.{Code}
@@ -14,7 +14,9 @@ use Rattle.client_programs.specs.Blk.Asking.{needs_buffer, request_for}
 use Rattle.blk_virt.specs.Requests.{request_of, asked_of_disk, first_block, moves_blocks}
 use Rattle.owner_law.specs.Pools.Places.{PoolAt}
 use Rattle.blk_law.specs.Sheets.Rows.{answer_items, asked_items, buffers_for, goes_on_item, is_item_at, item_for_disk, items_back, numbered_item, passed_item, refusal_item, IsRequestIn}
+use Rattle.blk_law.specs.Owners.Answering.{TakesBlocks}
 use Rattle.blk_quiet.specs.Still.{range_of}
+use Rattle.blk_law.proofs.OwnersLemmas.Windows.{has_room, within_at}
 
 pub drop_same : (xs ys : List Item) → length xs ≡ length ys → length (drop 1 xs) ≡ length (drop 1 ys)
 drop_same [] [] e = refl
@@ -56,20 +58,23 @@ answers_long part (x ∷ xs) (y ∷ back) e = by (goes_on_item part x) (answers_
     by false rest more few = let same = more few in omega (arith, same)
 
 -- a request that goes to the disk is at its client's buffers
-disk_at : (p : PoolAt) (first : ℕ) (code : Code) (r : BlkReq) → 1 ≤ p.buffers → (moves_blocks code ≡ true → (number : ℕ) × (number < p.buffers) × (r.addr ≡ number * 32768)) → is_within (range_of p) (asked_of_disk code p.base first r).addr ≡ true
-disk_at p first Asked.Read r some at = moved p r (at refl)
+disk_at : (p : PoolAt) (first : ℕ) (code : Code) (r : BlkReq) → TakesBlocks p → (moves_blocks code ≡ true → (number : ℕ) × (number < p.buffers) × (r.addr ≡ number * p.size)) → is_within (range_of p) (asked_of_disk code p.base first r).addr ≡ true
+disk_at p first code r takes at = by code at
   where
-    moved : (p : PoolAt) (r : BlkReq) → ((number : ℕ) × (number < p.buffers) × (r.addr ≡ number * 32768)) → is_within (range_of p) (p.base + r.addr) ≡ true
-    moved p r here = let few = here.1 in let begins = here.2 in rw (le-leb p.base (p.base + r.addr) (omega arith), lt-ltb (p.base + r.addr) (p.base + p.buffers * 32768) (omega (arith, few, begins))) refl
-disk_at p first Asked.Write r some at = moved p r (at refl)
-  where
-    moved : (p : PoolAt) (r : BlkReq) → ((number : ℕ) × (number < p.buffers) × (r.addr ≡ number * 32768)) → is_within (range_of p) (p.base + r.addr) ≡ true
-    moved p r here = let few = here.1 in let begins = here.2 in rw (le-leb p.base (p.base + r.addr) (omega arith), lt-ltb (p.base + r.addr) (p.base + p.buffers * 32768) (omega (arith, few, begins))) refl
-disk_at p first Asked.Flush r some at = rw (le-leb p.base p.base (omega arith), lt-ltb p.base (p.base + p.buffers * 32768) (omega (arith, some))) refl
-disk_at p first Asked.Barrier r some at = rw (le-leb p.base p.base (omega arith), lt-ltb p.base (p.base + p.buffers * 32768) (omega (arith, some))) refl
+    room : 1 ≤ p.size
+    room = has_room p takes
 
-pub request_at : (p : PoolAt) (part : Option Part) (i : Item) → 1 ≤ p.buffers → IsRequestIn p i → is_item_at p (item_for_disk p.base part i) ≡ true
-request_at p part i some at = disk_at p (first_block part) (request_of i).code (request_of i) some at
+    moved : ((number : ℕ) × (number < p.buffers) × (r.addr ≡ number * p.size)) → is_within (range_of p) (p.base + r.addr) ≡ true
+    moved here = let begins = here.2 in within_at p.base here.0 p.size p.buffers (p.base + r.addr) here.1 room (omega (arith, begins))
+
+    by : (code : Code) → (moves_blocks code ≡ true → (number : ℕ) × (number < p.buffers) × (r.addr ≡ number * p.size)) → is_within (range_of p) (asked_of_disk code p.base first r).addr ≡ true
+    by Asked.Read is = moved (is refl)
+    by Asked.Write is = moved (is refl)
+    by Asked.Flush is = within_at p.base 0 p.size p.buffers p.base takes.0 room (omega arith)
+    by Asked.Barrier is = within_at p.base 0 p.size p.buffers p.base takes.0 room (omega arith)
+
+pub request_at : (p : PoolAt) (part : Option Part) (i : Item) → TakesBlocks p → IsRequestIn p i → is_item_at p (item_for_disk p.base part i) ≡ true
+request_at p part i takes at = disk_at p (first_block part) (request_of i).code (request_of i) takes at
 
 -- a request's number doesn't matter to where it is
 numbered_at : (p : PoolAt) (i : Item) → is_item_at p (numbered_item 0 i) ≡ is_item_at p i
@@ -84,30 +89,30 @@ numbered_long p (x ∷ xs) = by (is_item_at p x) (numbered_long p xs)
     by false rest = rest
 
 -- no more requests than are asked
-pub asked_few : (id used hand buffers : ℕ) (asks : List Ask) → length (asked_items id used hand buffers asks) ≤ length asks
-asked_few id used hand buffers [] = omega arith
-asked_few id used hand buffers (a ∷ asks) = by (needs_buffer a.code) (nat_lt used hand) (asked_few (id + 1) (used + 1) hand buffers asks) (asked_few (id + 1) used hand buffers asks)
+pub asked_few : (id used hand buffers size : ℕ) (asks : List Ask) → length (asked_items id used hand buffers size asks) ≤ length asks
+asked_few id used hand buffers size [] = omega arith
+asked_few id used hand buffers size (a ∷ asks) = by (needs_buffer a.code) (nat_lt used hand) (asked_few (id + 1) (used + 1) hand buffers size asks) (asked_few (id + 1) used hand buffers size asks)
   where
-    by : (needs here : Bool) → length (asked_items (id + 1) (used + 1) hand buffers asks) ≤ length asks → length (asked_items (id + 1) used hand buffers asks) ≤ length asks
-        → length (cond needs (cond here (request_for a id ((used % buffers) * 32768) ∷ asked_items (id + 1) (used + 1) hand buffers asks) []) (request_for a id 0 ∷ asked_items (id + 1) used hand buffers asks)) ≤ length (a ∷ asks)
+    by : (needs here : Bool) → length (asked_items (id + 1) (used + 1) hand buffers size asks) ≤ length asks → length (asked_items (id + 1) used hand buffers size asks) ≤ length asks
+        → length (cond needs (cond here (request_for a id ((used % buffers) * size) ∷ asked_items (id + 1) (used + 1) hand buffers size asks) []) (request_for a id 0 ∷ asked_items (id + 1) used hand buffers size asks)) ≤ length (a ∷ asks)
     by true true one other = omega (arith, one)
     by true false one other = omega arith
     by false here one other = omega (arith, other)
 
 -- a client with a buffer in hand behind so many requests can put one more
-pub asked_more : (id used hand buffers n : ℕ) (asks : List Ask) → n < length asks → used + buffers_for (take n asks) < hand → n < length (asked_items id used hand buffers asks)
-asked_more id used hand buffers n [] lt enough = absurd (omega (arith, lt))
-asked_more id used hand buffers zero (a ∷ asks) lt enough = by (needs_buffer a.code) (lt-ltb used hand (omega (arith, enough)))
+pub asked_more : (id used hand buffers size n : ℕ) (asks : List Ask) → n < length asks → used + buffers_for (take n asks) < hand → n < length (asked_items id used hand buffers size asks)
+asked_more id used hand buffers size n [] lt enough = absurd (omega (arith, lt))
+asked_more id used hand buffers size zero (a ∷ asks) lt enough = by (needs_buffer a.code) (lt-ltb used hand (omega (arith, enough)))
   where
-    by : (needs : Bool) → nat_lt used hand ≡ true → 0 < length (cond needs (cond (nat_lt used hand) (request_for a id ((used % buffers) * 32768) ∷ asked_items (id + 1) (used + 1) hand buffers asks) []) (request_for a id 0 ∷ asked_items (id + 1) used hand buffers asks))
-    by true here = subst (λ t. 0 < length (cond t (request_for a id ((used % buffers) * 32768) ∷ asked_items (id + 1) (used + 1) hand buffers asks) [])) (sym here) (omega arith)
+    by : (needs : Bool) → nat_lt used hand ≡ true → 0 < length (cond needs (cond (nat_lt used hand) (request_for a id ((used % buffers) * size) ∷ asked_items (id + 1) (used + 1) hand buffers size asks) []) (request_for a id 0 ∷ asked_items (id + 1) used hand buffers size asks))
+    by true here = subst (λ t. 0 < length (cond t (request_for a id ((used % buffers) * size) ∷ asked_items (id + 1) (used + 1) hand buffers size asks) [])) (sym here) (omega arith)
     by false here = omega arith
-asked_more id used hand buffers (suc n) (a ∷ asks) lt enough = by (needs_buffer a.code) enough (asked_more (id + 1) (used + 1) hand buffers n asks (omega (arith, lt))) (asked_more (id + 1) used hand buffers n asks (omega (arith, lt)))
+asked_more id used hand buffers size (suc n) (a ∷ asks) lt enough = by (needs_buffer a.code) enough (asked_more (id + 1) (used + 1) hand buffers size n asks (omega (arith, lt))) (asked_more (id + 1) used hand buffers size n asks (omega (arith, lt)))
   where
-    by : (needs : Bool) → used + cond needs (1 + buffers_for (take n asks)) (buffers_for (take n asks)) < hand → (used + 1 + buffers_for (take n asks) < hand → n < length (asked_items (id + 1) (used + 1) hand buffers asks)) → (used + buffers_for (take n asks) < hand → n < length (asked_items (id + 1) used hand buffers asks))
-        → suc n < length (cond needs (cond (nat_lt used hand) (request_for a id ((used % buffers) * 32768) ∷ asked_items (id + 1) (used + 1) hand buffers asks) []) (request_for a id 0 ∷ asked_items (id + 1) used hand buffers asks))
+    by : (needs : Bool) → used + cond needs (1 + buffers_for (take n asks)) (buffers_for (take n asks)) < hand → (used + 1 + buffers_for (take n asks) < hand → n < length (asked_items (id + 1) (used + 1) hand buffers size asks)) → (used + buffers_for (take n asks) < hand → n < length (asked_items (id + 1) used hand buffers size asks))
+        → suc n < length (cond needs (cond (nat_lt used hand) (request_for a id ((used % buffers) * size) ∷ asked_items (id + 1) (used + 1) hand buffers size asks) []) (request_for a id 0 ∷ asked_items (id + 1) used hand buffers size asks))
     by true few one other =
         let here : nat_lt used hand ≡ true = lt-ltb used hand (omega (arith, few)) in
         let rest = one (omega (arith, few)) in
-        subst (λ t. suc n < length (cond t (request_for a id ((used % buffers) * 32768) ∷ asked_items (id + 1) (used + 1) hand buffers asks) [])) (sym here) (omega (arith, rest))
+        subst (λ t. suc n < length (cond t (request_for a id ((used % buffers) * size) ∷ asked_items (id + 1) (used + 1) hand buffers size asks) [])) (sym here) (omega (arith, rest))
     by false few one other = let rest = other few in omega (arith, rest)

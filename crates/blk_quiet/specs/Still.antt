@@ -1,6 +1,6 @@
 -- The whole block class at the layout's queues where nobody is runnable: its actors, its pools and
 -- its queues, and what went through these.
-use Rattle.std.specs.Prelude.{◌≡◌, ◌+◌, ◌*◌, ◌<◌, ◌≤◌, ℕ, Some, List, length, slice_get}
+use Rattle.std.specs.Prelude.{◌≡◌, ◌+◌, ◌*◌, ◌<◌, ℕ, Some, List, length, slice_get}
 use Rattle.cargo_core.specs.Ranges.{IsApart}
 use Rattle.cargo_core.specs.declared.item.Ask.{Ask}
 use Rattle.cargo_core.specs.declared.ranges.Range.{Range}
@@ -12,21 +12,22 @@ use Rattle.play_core.specs.Still.{Plays, Holds}
 use Rattle.play_core.specs.Totals.{total}
 use Rattle.play_core.specs.Wants.{Needful}
 use Rattle.owner_law.specs.Pools.Places.{PoolAt}
+use Rattle.blk_law.specs.Owners.Answering.{TakesBlocks}
 use Rattle.blk_law.specs.Sheets.Numbers.{BlkPlace, IsBlkClientOf, disk_at, blk_driver_at, virt_at}
 use Rattle.blk_law.specs.Sheets.Numbers.{blk_client_at, sharers_from}
 use Rattle.blk_law.specs.Sheets.Rows.{all_requests}
 use Rattle.blk_law.specs.Sheets.Table.{blk_sheet}
 
--- the device addresses of a pool's buffers, of 32,768 bytes each
+-- the device addresses of a pool's buffers
 abbrev pub range_of : PoolAt → Range
-range_of p = record { base = p.base; size = p.buffers * 32768 }
+range_of p = record { base = p.base; size = p.buffers * p.size }
 
--- each client has something that it asks, perhaps nothing, and a pool with a buffer; no two clients
--- have buffers at one address
+-- each client has something that it asks, perhaps nothing, and a pool with a buffer, whose buffers
+-- take blocks; no two clients have buffers at one address
 pub record HasClientPools (place : BlkPlace) : Type 0 where
   pub asks_many : length place.asks ≡ length place.entries
   pub pools_many : length place.pools ≡ length place.entries
-  pub some : (k : ℕ) (pool : PoolAt) → slice_get place.pools k ≡ Some pool → 1 ≤ pool.buffers
+  pub some : (k : ℕ) (pool : PoolAt) → slice_get place.pools k ≡ Some pool → TakesBlocks pool
   pub apart : (j k : ℕ) (one other : PoolAt) → slice_get place.pools j ≡ Some one
       → slice_get place.pools k ≡ Some other → (j ≡ k → ⊥)
       → IsApart (range_of one) (range_of other)

@@ -30,7 +30,7 @@ ghost use Rattle.blk_law.specs.Sheets.Numbers.{blk_client_at};
 ghost use Rattle.blk_law.specs.Sheets.Playing.{VirtInTurn, disk_part, blk_driver_part, virt_part};
 ghost use Rattle.blk_law.specs.Sheets.Playing.{blk_client_part};
 ghost use Rattle.blk_law.specs.Sheets.Table.{blk_sheet};
-ghost use Rattle.blk_law.specs.Owners.Answering.{NamesBlk, IsInOrder};
+ghost use Rattle.blk_law.specs.Owners.Answering.{NamesBlk, IsInOrder, TakesBlocks};
 ghost use Rattle.blk_quiet.specs.Pools.Naming.{IsNamedAt, NamesServed, blk_names};
 
 /// Where queues hand over in order and what it took carries the pages that are named, so does what
@@ -91,7 +91,7 @@ pub fn blk_naming_law()
         → length place.pools ≡ length place.entries → NamesBlk naming (virt_at place) }
     ensures client { (naming : Naming) (place : BlkPlace) → IsNamedAt naming place
         → (k : ℕ) (asks : List Ask) (p : PoolAt) → slice_get place.pools k ≡ Some p
-        → 1 ≤ p.buffers → NamesBlk naming (blk_client_at place.first k asks p) }
+        → TakesBlocks p → NamesBlk naming (blk_client_at place.first k asks p) }
     ensures within { (sizes : ℕ → ℕ) (place : BlkPlace)
         → place.pool.buffers ≤ sizes place.pool.number
         → ((k : ℕ) (p : PoolAt) → slice_get place.pools k ≡ Some p → p.buffers ≤ sizes p.number)

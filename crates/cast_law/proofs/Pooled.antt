@@ -1,7 +1,8 @@
 -- The pools of a plan: each stands among the layout's pools at its number.
-use Rattle.std.proofs.Common.{◌≡◌, ◌⊎◌, ◌+◌, ◌-◌, ◌*◌, ◌<◌, ◌≤◌, ℕ, zero, suc, Bool, true, false, cond, Option, Some, None, inl, inr, List, [], ◌∷◌, length, length-append, flat_map, slice_get, map, refl, sym, ap, ◌∙◌, subst, eq-eqb, ne_eqb, arith}
+use Rattle.std.proofs.Common.{◌≡◌, ◌⊎◌, ◌+◌, ◌-◌, ◌*◌, ◌<◌, ◌≤◌, ℕ, zero, suc, Bool, true, false, cond, Option, Some, None, inl, inr, List, [], ◌∷◌, length, length-append, flat_map, slice_get, map, refl, sym, ap, ap₂, ◌∙◌, subst, eq-eqb, ne_eqb, arith}
 use Rattle.std.specs.Option.{option_map, option_map_or}
 use Rattle.std.proofs.lemmas.Bool.{and_parts, leb-true, ltb-true, cases_lt}
+use Rattle.cargo_core.specs.Blocks.{blk_buffer_bytes}
 use Rattle.cargo_core.specs.Ranges.{IsApart, is_within}
 use Rattle.wire_core.specs.declared.names.PoolRow.{PoolRow}
 use Rattle.play_core.proofs.Lists.{some_is, there_is, there_below}
@@ -19,7 +20,7 @@ use Rattle.net_law.specs.Owners.Names.{ClientPools}
 use Rattle.owner_law.specs.Pools.Places.{PoolAt, sizes_of}
 use Rattle.blk_law.specs.Sheets.Parts.{Sharer}
 use Rattle.blk_law.specs.Sheets.Numbers.{BlkPlace, sharers_from}
-use Rattle.blk_law.specs.Owners.Answering.{block_range}
+use Rattle.blk_law.specs.Owners.Answering.{TakesBlocks, block_range}
 use Rattle.blk_quiet.specs.Pools.Naming.{HasApartPools}
 use Rattle.blk_quiet.proofs.PoolsLemmas.Naming.{sharer_from}
 use Rattle.layout_laws.proofs.SeatsLemmas.Counts.{each_count}
@@ -28,6 +29,7 @@ use Rattle.actor_set.specs.declared.actor.Actor.{Actor}
 use Rattle.cast_core.specs.Casts.{client_pools, client_pool, net_place, blk_place, AreCast}
 use Rattle.cast_core.specs.Making.{HasPool}
 use Rattle.cast_core.specs.Sources.{pool_at, first_blk_pool}
+use Rattle.cast_core.proofs.Blocks.{block_size}
 use Rattle.cast_core.proofs.Listing.{value_is, value_count}
 use Rattle.cast_core.proofs.Rooms.{pools_apart, blk_size, has_blk_pools}
 use Rattle.cast_law.specs.Pools.Places.{HasNetAt, HasBlkAt, IsPlaced, HasPools, ArePooled, pools_first, pools_behind, place_pools}
@@ -157,24 +159,28 @@ module _ (plan : Plan) (trace : Trace) where
   -- no two pools of the block class have an address in common
   module _ (valid : Valid plan) where
     -- the pool of a number in which an address lies is there
-    there : (n a : ℕ) → is_within (block_range (pool_at rows n)) a ≡ true → (row : PoolRow) × (slice_get rows n ≡ Some row) × (row.base ≤ a) × (a < row.base + row.buffers * 32768)
+    there : (n a : ℕ) → is_within (block_range (pool_at rows n)) a ≡ true → (row : PoolRow) × (slice_get rows n ≡ Some row) × (row.base ≤ a) × (a < row.base + row.buffers * row.size)
     there n a within = by (slice_get rows n) refl
       where
-        parts : ((pool_at rows n).base ≤ a) × (a < (pool_at rows n).base + (pool_at rows n).buffers * 32768)
-        parts = let both = and_parts _ _ within in (leb-true (pool_at rows n).base a both.0, ltb-true a ((pool_at rows n).base + (pool_at rows n).buffers * 32768) both.1)
+        parts : ((pool_at rows n).base ≤ a) × (a < (pool_at rows n).base + (pool_at rows n).buffers * (pool_at rows n).size)
+        parts = let both = and_parts _ _ within in (leb-true (pool_at rows n).base a both.0, ltb-true a ((pool_at rows n).base + (pool_at rows n).buffers * (pool_at rows n).size) both.1)
 
-        by : (o : Option PoolRow) → slice_get rows n ≡ o → (row : PoolRow) × (slice_get rows n ≡ Some row) × (row.base ≤ a) × (a < row.base + row.buffers * 32768)
+        by : (o : Option PoolRow) → slice_get rows n ≡ o → (row : PoolRow) × (slice_get rows n ≡ Some row) × (row.base ≤ a) × (a < row.base + row.buffers * row.size)
         by None is =
             let base : (pool_at rows n).base ≡ 0 = ap (λ (o : Option PoolRow). option_map_or (λ (row : PoolRow). row.base) o 0) is in
             let size : (pool_at rows n).buffers ≡ 0 = ap (λ (o : Option PoolRow). option_map_or (λ (row : PoolRow). row.buffers) o 0) is in
+            let none : (pool_at rows n).buffers * (pool_at rows n).size ≡ 0 * (pool_at rows n).size = ap (λ b. b * (pool_at rows n).size) size in
             let lt = parts.1 in
-            absurd (omega (arith, base, size, lt))
+            let low = parts.0 in
+            absurd (omega (arith, base, none, lt, low))
         by (Some row) is =
             let base : (pool_at rows n).base ≡ row.base = ap (λ (o : Option PoolRow). option_map_or (λ (row : PoolRow). row.base) o 0) is in
             let size : (pool_at rows n).buffers ≡ row.buffers = ap (λ (o : Option PoolRow). option_map_or (λ (row : PoolRow). row.buffers) o 0) is in
+            let width : (pool_at rows n).size ≡ row.size = ap (λ (o : Option PoolRow). option_map_or (λ (row : PoolRow). row.size) o 0) is in
+            let all : (pool_at rows n).buffers * (pool_at rows n).size ≡ row.buffers * row.size = ap₂ (λ b s. b * s) size width in
             let low = parts.0 in
             let high = parts.1 in
-            (row, is, omega (arith, base, low), omega (arith, base, size, high))
+            (row, is, omega (arith, base, low), omega (arith, base, all, high))
 
     lower : (j k a : ℕ) → j < k → first_blk_pool plan ≤ j → is_within (block_range (pool_at rows j)) a ≡ true → is_within (block_range (pool_at rows k)) a ≡ true → ⊥
     lower j k a less past here other =
@@ -182,10 +188,12 @@ module _ (plan : Plan) (trace : Trace) where
         let y = there k a other in
         let first_end = x.3 in
         let second_end = y.3 in
-        let sized : x.0.size ≡ 32768 = blk_size plan j x.0 past x.1 in
-        let other_sized : y.0.size ≡ 32768 = blk_size plan k y.0 (omega (arith, past, less)) y.1 in
-        let end : a < x.0.base + x.0.size * x.0.buffers = rw sized (omega (arith, first_end)) in
-        let other_end : a < y.0.base + y.0.size * y.0.buffers = rw other_sized (omega (arith, second_end)) in
+        let sized : x.0.size ≡ blk_buffer_bytes = blk_size plan j x.0 past x.1 in
+        let other_sized : y.0.size ≡ blk_buffer_bytes = blk_size plan k y.0 (omega (arith, past, less)) y.1 in
+        let wide : x.0.buffers * x.0.size ≡ x.0.buffers * blk_buffer_bytes = ap (λ s. x.0.buffers * s) sized in
+        let other_wide : y.0.buffers * y.0.size ≡ y.0.buffers * blk_buffer_bytes = ap (λ s. y.0.buffers * s) other_sized in
+        let end : a < x.0.base + x.0.size * x.0.buffers = rw sized (omega (arith, first_end, wide)) in
+        let other_end : a < y.0.base + y.0.size * y.0.buffers = rw other_sized (omega (arith, second_end, other_wide)) in
         pools_apart plan valid j k x.0 y.0 less x.1 y.1 a x.2 end y.2 other_end
 
     is_false : (b : Bool) → (b ≡ true → ⊥) → b ≡ false
@@ -209,22 +217,23 @@ module _ (plan : Plan) (trace : Trace) where
         let x = sharer_from place.first 0 place.entries place.pools k c at in
         x.2 ∙ (value_is askers (client_pool plan) k x.0 x.1).1
 
-    some_at : (n : ℕ) → HasPool 32768 rows n → 1 ≤ (pool_at rows n).buffers
-    some_at n is =
+    takes_at : (n : ℕ) → HasPool blk_buffer_bytes rows n → TakesBlocks (pool_at rows n)
+    takes_at n is =
         let some = is.some in
         let many : (pool_at rows n).buffers ≡ is.row.buffers = ap (λ (o : Option PoolRow). option_map_or (λ (r : PoolRow). r.buffers) o 0) is.there in
-        omega (arith, some, many)
+        let size = block_size rows n is in
+        (omega (arith, some, many), omega (arith, size))
 
     pub apart_pools : (blk : Blk) → plan.blk ≡ Some blk → HasApartPools place
     apart_pools blk is =
         let pools = has_blk_pools plan valid blk is in
         let counted : askers ≡ length blk.client = ap (λ (o : Option Blk). length (option_map_or (λ (x : Blk). x.client) o [])) is in
         record {
-          own = some_at (first_blk_pool plan) pools.own;
+          own = takes_at (first_blk_pool plan) pools.own;
           some = λ k c at.
               let x = sharer_from place.first 0 place.entries place.pools k c at in
               let lt = (value_is askers (client_pool plan) k x.0 x.1).0 in
-              subst (λ (p : PoolAt). 1 ≤ p.buffers) (sym (asker_pool k c at)) (some_at (first_blk_pool plan + 1 + k) (pools.client k (omega (arith, lt, counted))));
+              subst TakesBlocks (sym (asker_pool k c at)) (takes_at (first_blk_pool plan + 1 + k) (pools.client k (omega (arith, lt, counted))));
           own_apart = λ k c at. subst (λ (p : PoolAt). IsApart (block_range p) (block_range place.pool)) (sym (asker_pool k c at)) (ranges_apart (first_blk_pool plan + 1 + k) (first_blk_pool plan) (λ e. omega (arith, e)) (omega arith) (omega arith));
           apart = λ j k c d at there differ. subst (λ (p : PoolAt). IsApart (block_range p) (block_range d.pool)) (sym (asker_pool j c at)) (subst (λ (p : PoolAt). IsApart (block_range (pool_at rows (first_blk_pool plan + 1 + j))) (block_range p)) (sym (asker_pool k d there)) (ranges_apart (first_blk_pool plan + 1 + j) (first_blk_pool plan + 1 + k) (λ e. differ (omega (arith, e))) (omega arith) (omega arith)));
         }

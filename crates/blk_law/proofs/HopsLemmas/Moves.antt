@@ -26,12 +26,12 @@ use Rattle.blk_law.specs.Hops.Hops.{blk_put, blk_moves, IsBlock}
 use Rattle.blk_law.proofs.HopsLemmas.Sharers.{clients_of, sharer, sharer_is, sharer_there, sharers_long}
 
 -- no more is requested than is asked
-asked_few : (id used hand buffers : ℕ) (asks : List Ask) → length (asked_items id used hand buffers asks) ≤ length asks
-asked_few id used hand buffers [] = omega arith
-asked_few id used hand buffers (a ∷ asks) = by (needs_buffer a.code) (nat_lt used hand) (asked_few (id + 1) (used + 1) hand buffers asks) (asked_few (id + 1) used hand buffers asks)
+asked_few : (id used hand buffers size : ℕ) (asks : List Ask) → length (asked_items id used hand buffers size asks) ≤ length asks
+asked_few id used hand buffers size [] = omega arith
+asked_few id used hand buffers size (a ∷ asks) = by (needs_buffer a.code) (nat_lt used hand) (asked_few (id + 1) (used + 1) hand buffers size asks) (asked_few (id + 1) used hand buffers size asks)
   where
-    by : (needs there : Bool) → length (asked_items (id + 1) (used + 1) hand buffers asks) ≤ length asks → length (asked_items (id + 1) used hand buffers asks) ≤ length asks
-        → length (if needs then (if there then (request_for a id ((used % buffers) * 32768) ∷ asked_items (id + 1) (used + 1) hand buffers asks) else []) else (request_for a id 0 ∷ asked_items (id + 1) used hand buffers asks)) ≤ suc (length asks)
+    by : (needs there : Bool) → length (asked_items (id + 1) (used + 1) hand buffers size asks) ≤ length asks → length (asked_items (id + 1) used hand buffers size asks) ≤ length asks
+        → length (if needs then (if there then (request_for a id ((used % buffers) * size) ∷ asked_items (id + 1) (used + 1) hand buffers size asks) else []) else (request_for a id 0 ∷ asked_items (id + 1) used hand buffers size asks)) ≤ suc (length asks)
     by true true h k = omega (arith, h)
     by true false h k = omega arith
     by false there h k = omega (arith, k)
@@ -158,7 +158,7 @@ module _ (scene : Scene) (hostile : Hostiles) (history : History) (rows : List Q
       let row : AsksInOrder said (own_pool pool.0) (m.taken (first + 5 + 2 * k)) (m.sent (first + 4 + 2 * k)) =
       w.client k entry.0 said pool.0 (record { has_entry = entry.1; has_asks = there; has_pool = pool.1 }) in
       let a = begins_few _ _ row.begins in
-      let b = asked_few 0 0 (pool.0.buffers + buffers_for (take (length (m.taken (first + 5 + 2 * k))) said)) pool.0.buffers said in
+      let b = asked_few 0 0 (pool.0.buffers + buffers_for (take (length (m.taken (first + 5 + 2 * k))) said)) pool.0.buffers pool.0.size said in
       let e : length (m.sent (first + 4 + 2 * k)) ≡ put (at 0 k) = ap (λ n. length (m.sent n)) (req_is k) in
       omega (arith, a, b, e)
 

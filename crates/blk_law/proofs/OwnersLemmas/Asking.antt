@@ -18,12 +18,12 @@ use Rattle.owner_law.specs.Keeping.{Keeps, at_start, all_taken, all_put, things_
 use Rattle.owner_law.proofs.Sums.{sum_flat}
 use Rattle.owner_law.proofs.Named.{carried, buffers_are, buffers_none, keeps_plain}
 use Rattle.client_programs.specs.Blk.Asking.{needs_buffer, request_for}
-use Rattle.owner_law.specs.Pools.Places.{PoolAt, numbers_from, pool_hand}
+use Rattle.owner_law.specs.Pools.Places.{PoolAt, by_offset, numbers_from, pool_hand}
 use Rattle.net_law.proofs.OwnersLemmas.Clients.{at_address, here_or_not}
 use Rattle.blk_law.specs.Sheets.Parts.{BlkClient}
 use Rattle.blk_law.specs.Sheets.Rows.{asked_items, buffers_for, AsksInOrder}
 use Rattle.blk_law.specs.Sheets.Table.{blk_sheet}
-use Rattle.blk_law.specs.Owners.Answering.{offset_window, NamesBlk, IsInOrder, PutsItsOwnInOrder}
+use Rattle.blk_law.specs.Owners.Answering.{TakesBlocks, NamesBlk, IsInOrder, PutsItsOwnInOrder}
 use Rattle.blk_law.proofs.OwnersLemmas.Answers.{take_of, answers_are, answers_none}
 use Rattle.blk_law.proofs.OwnersLemmas.Copying.{no_longer}
 
@@ -130,22 +130,22 @@ all_step n x y z p q ps qs true false a b le = absurd (omega (arith, le))
 all_step n x y z p q ps qs false u a b le = b (omega (arith, le))
 
 -- where so many requests are there, they have as many buffers as the asks need
-uses_all : (id s hand buffers many : ℕ) (asks : List Ask) → many ≤ length (asked_items id s hand buffers asks) → uses s hand many asks ≡ buffers_for (take many asks)
-uses_all id s hand buffers zero asks le = refl
-uses_all id s hand buffers (suc many) [] le = absurd (omega (arith, le))
-uses_all id s hand buffers (suc many) (a ∷ asks) le =
-    all_step many (uses (s + 1) hand many asks) (uses s hand many asks) (buffers_for (take many asks)) (request_for a id ((s % buffers) * 32768)) (request_for a id 0)
-    (asked_items (id + 1) (s + 1) hand buffers asks) (asked_items (id + 1) s hand buffers asks) (needs_buffer a.code) (nat_lt s hand)
-    (uses_all (id + 1) (s + 1) hand buffers many asks) (uses_all (id + 1) s hand buffers many asks) le
+uses_all : (id s hand buffers size many : ℕ) (asks : List Ask) → many ≤ length (asked_items id s hand buffers size asks) → uses s hand many asks ≡ buffers_for (take many asks)
+uses_all id s hand buffers size zero asks le = refl
+uses_all id s hand buffers size (suc many) [] le = absurd (omega (arith, le))
+uses_all id s hand buffers size (suc many) (a ∷ asks) le =
+    all_step many (uses (s + 1) hand many asks) (uses s hand many asks) (buffers_for (take many asks)) (request_for a id ((s % buffers) * size)) (request_for a id 0)
+    (asked_items (id + 1) (s + 1) hand buffers size asks) (asked_items (id + 1) s hand buffers size asks) (needs_buffer a.code) (nat_lt s hand)
+    (uses_all (id + 1) (s + 1) hand buffers size many asks) (uses_all (id + 1) s hand buffers size many asks) le
 
-module _ (pool : PoolAt) (some : 1 ≤ pool.buffers) (b : Buffer) where
+module _ (pool : PoolAt) (some : TakesBlocks pool) (b : Buffer) where
   abbrev ws : List Window
-  ws = offset_window pool ∷ []
+  ws = by_offset pool ∷ []
 
-  name_is : (k : ℕ) → k < pool.buffers → is_named b (buffer_at ws (k * 32768)) ≡ bit ((pool.number == b.pool) && (k == b.no))
+  name_is : (k : ℕ) → k < pool.buffers → is_named b (buffer_at ws (k * pool.size)) ≡ bit ((pool.number == b.pool) && (k == b.no))
   name_is k lt =
-      let plus : 0 + k * 32768 ≡ k * 32768 = omega arith in
-      ap (λ n. is_named b (buffer_at ws n)) (sym plus) ∙ ap (is_named b) (at_address (offset_window pool) k (omega arith) lt)
+      let plus : 0 + k * pool.size ≡ k * pool.size = omega arith in
+      ap (λ n. is_named b (buffer_at ws n)) (sym plus) ∙ ap (is_named b) (at_address (by_offset pool) k (let room = some.1 in omega (arith, room)) lt)
 
   names_step : (p q : Item) (ps qs : List Item) (many x y s : ℕ) (t u : Bool) → (t ≡ true → is_named b (buffer_of ws p) ≡ use_of pool.number pool.buffers b s) → (t ≡ false → is_named b (buffer_of ws q) ≡ 0)
       → times b (names_in ws (take many ps)) ≡ uses_at pool.number pool.buffers b (s + 1) x → times b (names_in ws (take many qs)) ≡ uses_at pool.number pool.buffers b s y
@@ -163,13 +163,13 @@ module _ (pool : PoolAt) (some : 1 ≤ pool.buffers) (b : Buffer) where
       omega (arith, sum, name, other)
 
   -- the buffers that the first so many requests name
-  names_are : (id s hand many : ℕ) (asks : List Ask) → times b (names_in ws (take many (asked_items id s hand pool.buffers asks))) ≡ uses_at pool.number pool.buffers b s (uses s hand many asks)
+  names_are : (id s hand many : ℕ) (asks : List Ask) → times b (names_in ws (take many (asked_items id s hand pool.buffers pool.size asks))) ≡ uses_at pool.number pool.buffers b s (uses s hand many asks)
   names_are id s hand zero asks = refl
   names_are id s hand (suc many) [] = refl
   names_are id s hand (suc many) (a ∷ asks) =
-      let address = (s % pool.buffers) * 32768 in
-      names_step (request_for a id address) (request_for a id 0) (asked_items (id + 1) (s + 1) hand pool.buffers asks) (asked_items (id + 1) s hand pool.buffers asks) many (uses (s + 1) hand many asks) (uses s hand many asks) s (needs_buffer a.code) (nat_lt s hand)
-      (λ is. ap (is_named b) (request_name ws a id address ∙ ap (λ t. cond t (buffer_at ws address) None) is) ∙ name_is (s % pool.buffers) (mod-lt s (omega (arith, some))))
+      let address = (s % pool.buffers) * pool.size in
+      names_step (request_for a id address) (request_for a id 0) (asked_items (id + 1) (s + 1) hand pool.buffers pool.size asks) (asked_items (id + 1) s hand pool.buffers pool.size asks) many (uses (s + 1) hand many asks) (uses s hand many asks) s (needs_buffer a.code) (nat_lt s hand)
+      (λ is. ap (is_named b) (request_name ws a id address ∙ ap (λ t. cond t (buffer_at ws address) None) is) ∙ name_is (s % pool.buffers) (mod-lt s some.0))
       (λ is. ap (is_named b) (request_name ws a id 0 ∙ ap (λ t. cond t (buffer_at ws 0) None) is))
       (names_are (id + 1) (s + 1) hand many asks) (names_are (id + 1) s hand many asks)
 
@@ -185,11 +185,11 @@ module _ (naming : Naming) (req resp : ℕ) (asks : List Ask) (pool : PoolAt) (n
 
   client_buffers : (b : Buffer) → sum_by (as_buffer b) (all_put naming m client_seats) ≤ at_start (pool_hand pool) b + sum_by (as_buffer b) (all_taken naming m client_seats)
   client_buffers b =
-      let ws = offset_window pool ∷ [] in
+      let ws = by_offset pool ∷ [] in
       let sent = m.sent req in
       let came = length (m.taken resp) in
       let hand = pool.buffers + buffers_for (take came asks) in
-      let items = asked_items 0 0 hand pool.buffers asks in
+      let items = asked_items 0 0 hand pool.buffers pool.size asks in
       let into = client_came (as_buffer b) in
       let out = client_went (as_buffer b) in
       let put = buffers_are naming m req sent ws (as_buffer b) b names.1.0 refl (λ c. refl) in
@@ -202,7 +202,7 @@ module _ (naming : Naming) (req resp : ℕ) (asks : List Ask) (pool : PoolAt) (n
       let v = uses 0 hand came asks in
       let put_uses : times b (names_in ws sent) ≡ uses_at pool.number pool.buffers b 0 u = ap (λ l. times b (names_in ws l)) whole ∙ names_are pool names.0 b 0 0 hand (length sent) asks in
       let back_uses : times b (names_in ws (take came sent)) ≡ uses_at pool.number pool.buffers b 0 v = ap (λ l. times b (names_in ws l)) (sym front) ∙ names_are pool names.0 b 0 0 hand came asks in
-      let all_back : v ≡ buffers_for (take came asks) = uses_all 0 0 hand pool.buffers came asks (let le = row.answered in omega (arith, le, few_sent)) in
+      let all_back : v ≡ buffers_for (take came asks) = uses_all 0 0 hand pool.buffers pool.size came asks (let le = row.answered in omega (arith, le, few_sent)) in
       let most : 0 + u ≤ hand = uses_few 0 hand (length sent) asks (omega arith) in
       let rise : v ≤ u = uses_rise 0 hand came (length sent) asks row.answered in
       let split = uses_add pool.number pool.buffers b 0 v (u - v) in
@@ -210,15 +210,15 @@ module _ (naming : Naming) (req resp : ℕ) (asks : List Ask) (pool : PoolAt) (n
       let z : 0 + v ≡ v = omega arith in
       let whole_uses : uses_at pool.number pool.buffers b 0 (v + (u - v)) ≡ uses_at pool.number pool.buffers b 0 u = ap (uses_at pool.number pool.buffers b 0) n in
       let later : uses_at pool.number pool.buffers b (0 + v) (u - v) ≡ uses_at pool.number pool.buffers b v (u - v) = ap (λ k. uses_at pool.number pool.buffers b k (u - v)) z in
-      let few = few_uses pool.number pool.buffers b names.0 v (u - v) (omega (arith, most, all_back, rise)) in
+      let few = few_uses pool.number pool.buffers b names.0.0 v (u - v) (omega (arith, most, all_back, rise)) in
       omega (arith, into, out, put, back, put_uses, back_uses, split, whole_uses, later, few)
 
   client_all : Keeps (pool_hand pool) (all_taken naming m client_seats) (all_put naming m client_seats)
   client_all =
       keeps_plain (pool_hand pool) (all_taken naming m client_seats) (all_put naming m client_seats)
-      (λ b. (let came = client_came (lends b) in let none = answers_none naming m resp req (offset_window pool ∷ []) names.1.1 (m.taken resp) (lends b) refl (λ c. refl) in omega (arith, came, none)))
+      (λ b. (let came = client_came (lends b) in let none = answers_none naming m resp req (by_offset pool ∷ []) names.1.1 (m.taken resp) (lends b) refl (λ c. refl) in omega (arith, came, none)))
       client_buffers
-      (λ b. (let went = client_went (as_lease b) in let none = buffers_none naming m req (m.sent req) (offset_window pool ∷ []) (as_lease b) names.1.0 refl (λ c. refl) in omega (arith, went, none)))
+      (λ b. (let went = client_went (as_lease b) in let none = buffers_none naming m req (m.sent req) (by_offset pool ∷ []) (as_lease b) names.1.0 refl (λ c. refl) in omega (arith, went, none)))
 
 pub client_keeps : (naming : Naming) (scene : Scene) (req resp : ℕ) (asks : List Ask) (pool : PoolAt) → NamesBlk naming (BlkClient req resp asks pool) → PutsItsOwnInOrder naming (blk_sheet scene (BlkClient req resp asks pool))
 client_keeps naming scene req resp asks pool names m order apart row = client_all naming req resp asks pool names m order row

@@ -20,11 +20,11 @@ use Rattle.owner_law.proofs.Named.{carried, buffers_are, buffers_none, keeps_pla
 use Rattle.blk_mbr.specs.declared.part.Part.{Part}
 use Rattle.blk_expect.specs.Replies.{partition_in}
 use Rattle.blk_virt.specs.Requests.{request_of}
-use Rattle.owner_law.specs.Pools.Places.{PoolAt, pool_hand}
+use Rattle.owner_law.specs.Pools.Places.{PoolAt, pool_hand, by_offset}
 use Rattle.blk_law.specs.Sheets.Parts.{BlkVirt, Sharer}
 use Rattle.blk_law.specs.Sheets.Rows.{goes_on_item, item_for_disk, numbered_item, refusal_item, passed_item, is_item_at, items_back, answer_items, requests_on, answers_due, first_item, IsRequestIn, ServesRequests}
 use Rattle.blk_law.specs.Sheets.Table.{blk_sheet, sharer_ends}
-use Rattle.blk_law.specs.Owners.Answering.{offset_window, disk_windows, NamesBlk, ArePoolsApart, IsInOrder, PutsItsOwnInOrder}
+use Rattle.blk_law.specs.Owners.Answering.{disk_windows, NamesBlk, ArePoolsApart, IsInOrder, PutsItsOwnInOrder}
 use Rattle.blk_law.proofs.OwnersLemmas.Answers.{take_begins, take_of, answers_are, answers_none}
 use Rattle.blk_law.proofs.OwnersLemmas.Copying.{no_longer}
 use Rattle.blk_law.proofs.OwnersLemmas.Merging.{hits, AreTold, ArePartedAt, parted}
@@ -198,7 +198,7 @@ module _ (naming : Naming) (scene : Scene) (req resp sectors : ℕ) (pool : Pool
   req_kinds = order.requests resp req ws names.0.1
 
   client_kinds : (k : ℕ) (c : Sharer) → slice_get clients k ≡ Some c → (j : ℕ) (i : Item) → slice_get (m.taken c.req) j ≡ Some i → kind_of i ≡ Kind.Req
-  client_kinds k c at j i there = order.requests c.resp c.req (offset_window c.pool ∷ []) (names.1 k c at).1 j i (prefix_get (m.taken c.req) (m.sent c.req) (order.hands_over c.req) j i there)
+  client_kinds k c at j i there = order.requests c.resp c.req (by_offset c.pool ∷ []) (names.1 k c at).1 j i (prefix_get (m.taken c.req) (m.sent c.req) (order.hands_over c.req) j i there)
 
   after_kinds : (j : ℕ) (i : Item) → slice_get after j ≡ Some i → kind_of i ≡ Kind.Req
   after_kinds j i at = go sent req_kinds at
@@ -252,7 +252,7 @@ module _ (naming : Naming) (scene : Scene) (req resp sectors : ℕ) (pool : Pool
     client_owns : (k : ℕ) (c : Sharer) → slice_get clients k ≡ Some c → (left : ArePartedAt test at_disk row.merges.parts (map (numbered_item 0) after) (length back)) → (l : List Item) → slice_get left.left k ≡ Some l
         → sum_by at_disk l + carried naming m c.resp (m.sent c.resp) (as_buffer b) ≤ carried naming m c.req (m.taken c.req) (as_buffer b)
     client_owns k c at left l there =
-        let own = offset_window c.pool ∷ [] in
+        let own = by_offset c.pool ∷ [] in
         let asked = names.1 k c at in
         let taken = m.taken c.req in
         let s = length (m.sent c.resp) in
@@ -332,14 +332,14 @@ module _ (naming : Naming) (scene : Scene) (req resp sectors : ℕ) (pool : Pool
   none_lent b =
       let came = virt_came (lends b) in
       let into = answers_none naming m resp req ws names.0.1 (m.taken resp) (lends b) refl (λ c. refl) in
-      let each = sum_none (λ (c : Sharer). carried naming m c.req (m.taken c.req) (lends b)) clients (λ k c at. buffers_none naming m c.req (m.taken c.req) (offset_window c.pool ∷ []) (lends b) (names.1 k c at).0 refl (λ d. refl)) in
+      let each = sum_none (λ (c : Sharer). carried naming m c.req (m.taken c.req) (lends b)) clients (λ k c at. buffers_none naming m c.req (m.taken c.req) (by_offset c.pool ∷ []) (lends b) (names.1 k c at).0 refl (λ d. refl)) in
       omega (arith, came, into, each)
 
   none_leased : (b : Buffer) → sum_by (as_lease b) (all_put naming m virt_ends) ≡ 0
   none_leased b =
       let went = virt_went (as_lease b) in
       let out = buffers_none naming m req sent ws (as_lease b) names.0.0 refl (λ c. refl) in
-      let each = sum_none (λ (c : Sharer). carried naming m c.resp (m.sent c.resp) (as_lease b)) clients (λ k c at. answers_none naming m c.resp c.req (offset_window c.pool ∷ []) (names.1 k c at).1 (m.sent c.resp) (as_lease b) refl (λ d. refl)) in
+      let each = sum_none (λ (c : Sharer). carried naming m c.resp (m.sent c.resp) (as_lease b)) clients (λ k c at. answers_none naming m c.resp c.req (by_offset c.pool ∷ []) (names.1 k c at).1 (m.sent c.resp) (as_lease b) refl (λ d. refl)) in
       omega (arith, went, out, each)
 
   virt_all : Keeps (pool_hand pool) (all_taken naming m virt_ends) (all_put naming m virt_ends)

@@ -3,6 +3,7 @@ use Rattle.std.proofs.Common.{◌≡◌, ◌+◌, ◌++◌, ◌≤◌, ◌*◌, 
 use Rattle.std.specs.Option.{option_to_list}
 use Rattle.std.proofs.lemmas.Bool.{lt-ltb, le-ltb}
 use Rattle.std.proofs.lemmas.List.{append-nil}
+use Rattle.cargo_core.specs.Blocks.{blk_buffer_bytes}
 use Rattle.cargo_core.specs.declared.item.Ask.{Ask}
 use Rattle.cargo_core.specs.declared.item.Item.{Item}
 use Rattle.cargo_core.specs.declared.item.Body.{Body}
@@ -43,26 +44,26 @@ answers_long image [] = refl
 answers_long image (x ∷ xs) = ap suc (answers_long (done image x) xs)
 
 -- as many requests can be made as there are buffers in hand
-asked_long : (id id' used hand buffers : ℕ) (asks : List Ask) (pages : List Paged) → used + length pages ≡ hand → length (asked_items id used hand buffers asks) ≡ length (asked_from id' asks pages)
-asked_long id id' used hand buffers [] [] e = refl
-asked_long id id' used hand buffers [] (page ∷ pages) e = refl
-asked_long id id' used hand buffers (a ∷ asks) [] e = by (needs_buffer a.code) (asked_long (id + 1) (id' + 1) used hand buffers asks [] e)
+asked_long : (id id' used hand buffers size : ℕ) (asks : List Ask) (pages : List Paged) → used + length pages ≡ hand → length (asked_items id used hand buffers size asks) ≡ length (asked_from id' asks pages)
+asked_long id id' used hand buffers size [] [] e = refl
+asked_long id id' used hand buffers size [] (page ∷ pages) e = refl
+asked_long id id' used hand buffers size (a ∷ asks) [] e = by (needs_buffer a.code) (asked_long (id + 1) (id' + 1) used hand buffers size asks [] e)
   where
     full : nat_lt used hand ≡ false
     full = le-ltb used hand (omega (arith, e))
 
-    by : (b : Bool) → length (asked_items (id + 1) used hand buffers asks) ≡ length (asked_from (id' + 1) asks [])
-        → length (if b then (if nat_lt used hand then (request_for a id ((used % buffers) * 32768) ∷ asked_items (id + 1) (used + 1) hand buffers asks) else []) else (request_for a id 0 ∷ asked_items (id + 1) used hand buffers asks)) ≡ length (if b then [] else (asked_bare a id' ∷ asked_from (id' + 1) asks []))
-    by true rest = ap (λ t. length (if t then (request_for a id ((used % buffers) * 32768) ∷ asked_items (id + 1) (used + 1) hand buffers asks) else [])) full
+    by : (b : Bool) → length (asked_items (id + 1) used hand buffers size asks) ≡ length (asked_from (id' + 1) asks [])
+        → length (if b then (if nat_lt used hand then (request_for a id ((used % buffers) * size) ∷ asked_items (id + 1) (used + 1) hand buffers size asks) else []) else (request_for a id 0 ∷ asked_items (id + 1) used hand buffers size asks)) ≡ length (if b then [] else (asked_bare a id' ∷ asked_from (id' + 1) asks []))
+    by true rest = ap (λ t. length (if t then (request_for a id ((used % buffers) * size) ∷ asked_items (id + 1) (used + 1) hand buffers size asks) else [])) full
     by false rest = ap suc rest
-asked_long id id' used hand buffers (a ∷ asks) (page ∷ pages) e = by (needs_buffer a.code) (asked_long (id + 1) (id' + 1) (used + 1) hand buffers asks pages (omega (arith, e))) (asked_long (id + 1) (id' + 1) used hand buffers asks (page ∷ pages) e)
+asked_long id id' used hand buffers size (a ∷ asks) (page ∷ pages) e = by (needs_buffer a.code) (asked_long (id + 1) (id' + 1) (used + 1) hand buffers size asks pages (omega (arith, e))) (asked_long (id + 1) (id' + 1) used hand buffers size asks (page ∷ pages) e)
   where
     some : nat_lt used hand ≡ true
     some = lt-ltb used hand (omega (arith, e))
 
-    by : (b : Bool) → length (asked_items (id + 1) (used + 1) hand buffers asks) ≡ length (asked_from (id' + 1) asks pages) → length (asked_items (id + 1) used hand buffers asks) ≡ length (asked_from (id' + 1) asks (page ∷ pages))
-        → length (if b then (if nat_lt used hand then (request_for a id ((used % buffers) * 32768) ∷ asked_items (id + 1) (used + 1) hand buffers asks) else []) else (request_for a id 0 ∷ asked_items (id + 1) used hand buffers asks)) ≡ length (if b then (asked_in a id' page ∷ asked_from (id' + 1) asks pages) else (asked_bare a id' ∷ asked_from (id' + 1) asks (page ∷ pages)))
-    by true rest rest' = ap (λ t. length (if t then (request_for a id ((used % buffers) * 32768) ∷ asked_items (id + 1) (used + 1) hand buffers asks) else [])) some ∙ ap suc rest
+    by : (b : Bool) → length (asked_items (id + 1) (used + 1) hand buffers size asks) ≡ length (asked_from (id' + 1) asks pages) → length (asked_items (id + 1) used hand buffers size asks) ≡ length (asked_from (id' + 1) asks (page ∷ pages))
+        → length (if b then (if nat_lt used hand then (request_for a id ((used % buffers) * size) ∷ asked_items (id + 1) (used + 1) hand buffers size asks) else []) else (request_for a id 0 ∷ asked_items (id + 1) used hand buffers size asks)) ≡ length (if b then (asked_in a id' page ∷ asked_from (id' + 1) asks pages) else (asked_bare a id' ∷ asked_from (id' + 1) asks (page ∷ pages)))
+    by true rest rest' = ap (λ t. length (if t then (request_for a id ((used % buffers) * size) ∷ asked_items (id + 1) (used + 1) hand buffers size asks) else [])) some ∙ ap suc rest
     by false rest rest' = ap suc rest'
 
 -- the body of a request names a buffer where it needs one
@@ -161,7 +162,7 @@ module _ (scene : Scene) (w : List Queue) (passed : Passed) (m : Moved) (h : Hav
         by (Some x) = omega arith
 
     abbrev due : List Item
-    due = client_requests script (record { number = asking.pool.0; base = 0; buffers = asking.buffers; size = 32768 }) (length (m.taken (client.resp_queue c)))
+    due = client_requests script (record { number = asking.pool.0; base = 0; buffers = asking.buffers; size = blk_buffer_bytes }) (length (m.taken (client.resp_queue c)))
 
     -- so many requests can be made, with the buffers that it had and those that came
     due_is : length due ≡ length (asked_from 0 script (st.start ++ pages_in st.came))
@@ -170,8 +171,8 @@ module _ (scene : Scene) (w : List Queue) (passed : Passed) (m : Moved) (h : Hav
         let within = f.asking.within in
         let pages = pages_long script st.came (omega (arith, st.stands.answered, st.stands.sent_many, made_least, within)) brought in
         let parts = length-append st.start (pages_in st.came) in
-        ap (λ n. length (asked_items 0 0 (asking.buffers + buffers_for (take n script)) asking.buffers script)) came
-        ∙ asked_long 0 0 0 (asking.buffers + buffers_for (take (length st.came) script)) asking.buffers script (st.start ++ pages_in st.came) (omega (arith, pages, parts, st.is_start.many))
+        ap (λ n. length (asked_items 0 0 (asking.buffers + buffers_for (take n script)) asking.buffers blk_buffer_bytes script)) came
+        ∙ asked_long 0 0 0 (asking.buffers + buffers_for (take (length st.came) script)) asking.buffers blk_buffer_bytes script (st.start ++ pages_in st.came) (omega (arith, pages, parts, st.is_start.many))
 
     total : length (passed.sent (client.req_queue c)) + (length (option_to_list asking.next) + length (asked_from (made asking) (left asking) asking.kept.pages)) ≡ length (asked_from 0 script (st.start ++ pages_in st.came))
     total =

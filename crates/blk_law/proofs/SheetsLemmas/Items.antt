@@ -3,6 +3,7 @@ use Rattle.std.proofs.Common.{◌≡◌, ◌⊎◌, ◌+◌, ◌-◌, ◌*◌, �
 use Rattle.std.proofs.Math.Nat.{mod-eq_of_lt, add-mod_left}
 use Rattle.std.proofs.lemmas.Bool.{cases_lt, le-ltb}
 use Rattle.std.proofs.lemmas.List.{append-nil, length-append}
+use Rattle.cargo_core.specs.Blocks.{blk_buffer_bytes}
 use Rattle.cargo_core.specs.Lists.{IsPrefix, replaced}
 use Rattle.cargo_core.specs.Pages.{Paged}
 use Rattle.cargo_core.specs.declared.item.Ask.{Ask}
@@ -52,15 +53,15 @@ disk_row scene start d passed m turn items row =
     (subst (λ ys. IsPrefix (items_of (passed.sent (resp d))) (map answer_item ys)) (ap items_of (sym all) ∙ sym (items 0 _ refl)) said)
 
 -- a client's requests, of items, where its buffers come to hand by their numbers
-requests_are : (id used hand buffers : ℕ) (asks : List Ask) (pages : List Paged) → hand ≡ used + length pages → ((j : ℕ) (p : Paged) → slice_get pages j ≡ Some p → p.no ≡ (used + j) % buffers) → items_of (asked_from id asks pages) ≡ asked_items id used hand buffers asks
+requests_are : (id used hand buffers : ℕ) (asks : List Ask) (pages : List Paged) → hand ≡ used + length pages → ((j : ℕ) (p : Paged) → slice_get pages j ≡ Some p → p.no ≡ (used + j) % buffers) → items_of (asked_from id asks pages) ≡ asked_items id used hand buffers blk_buffer_bytes asks
 requests_are id used hand buffers [] pages long numbered = refl
 requests_are id used hand buffers (a ∷ asks) [] long numbered = by (needs_buffer a.code) (requests_are (id + 1) used hand buffers asks [] long numbered)
   where
     none : nat_lt used hand ≡ false
     none = le-ltb used hand (omega (arith, long))
 
-    by : (t : Bool) → items_of (asked_from (id + 1) asks []) ≡ asked_items (id + 1) used hand buffers asks → items_of (cond t [] (asked_bare a id ∷ asked_from (id + 1) asks [])) ≡ cond t (cond (nat_lt used hand) (request_for a id ((used % buffers) * 32768) ∷ asked_items (id + 1) (used + 1) hand buffers asks) []) (request_for a id 0 ∷ asked_items (id + 1) used hand buffers asks)
-    by true rest = sym (ap (λ t. cond t (request_for a id ((used % buffers) * 32768) ∷ asked_items (id + 1) (used + 1) hand buffers asks) []) none)
+    by : (t : Bool) → items_of (asked_from (id + 1) asks []) ≡ asked_items (id + 1) used hand buffers blk_buffer_bytes asks → items_of (cond t [] (asked_bare a id ∷ asked_from (id + 1) asks [])) ≡ cond t (cond (nat_lt used hand) (request_for a id ((used % buffers) * blk_buffer_bytes) ∷ asked_items (id + 1) (used + 1) hand buffers blk_buffer_bytes asks) []) (request_for a id 0 ∷ asked_items (id + 1) used hand buffers blk_buffer_bytes asks)
+    by true rest = sym (ap (λ t. cond t (request_for a id ((used % buffers) * blk_buffer_bytes) ∷ asked_items (id + 1) (used + 1) hand buffers blk_buffer_bytes asks) []) none)
     by false rest = ap (λ l. request_for a id 0 ∷ l) rest
 requests_are id used hand buffers (a ∷ asks) (p ∷ pages) long numbered =
     by (needs_buffer a.code)
@@ -73,11 +74,11 @@ requests_are id used hand buffers (a ∷ asks) (p ∷ pages) long numbered =
     number : p.no ≡ used % buffers
     number = let plus : used + 0 ≡ used = omega arith in numbered 0 p refl ∙ ap (λ n. n % buffers) plus
 
-    by : (t : Bool) → items_of (asked_from (id + 1) asks (p ∷ pages)) ≡ asked_items (id + 1) used hand buffers asks → items_of (asked_from (id + 1) asks pages) ≡ asked_items (id + 1) (used + 1) hand buffers asks
-        → items_of (cond t (asked_in a id p ∷ asked_from (id + 1) asks pages) (asked_bare a id ∷ asked_from (id + 1) asks (p ∷ pages))) ≡ cond t (cond (nat_lt used hand) (request_for a id ((used % buffers) * 32768) ∷ asked_items (id + 1) (used + 1) hand buffers asks) []) (request_for a id 0 ∷ asked_items (id + 1) used hand buffers asks)
+    by : (t : Bool) → items_of (asked_from (id + 1) asks (p ∷ pages)) ≡ asked_items (id + 1) used hand buffers blk_buffer_bytes asks → items_of (asked_from (id + 1) asks pages) ≡ asked_items (id + 1) (used + 1) hand buffers blk_buffer_bytes asks
+        → items_of (cond t (asked_in a id p ∷ asked_from (id + 1) asks pages) (asked_bare a id ∷ asked_from (id + 1) asks (p ∷ pages))) ≡ cond t (cond (nat_lt used hand) (request_for a id ((used % buffers) * blk_buffer_bytes) ∷ asked_items (id + 1) (used + 1) hand buffers blk_buffer_bytes asks) []) (request_for a id 0 ∷ asked_items (id + 1) used hand buffers blk_buffer_bytes asks)
     by true bare rest =
-        ap₂ (λ n l. request_for a id (n * 32768) ∷ l) number rest
-        ∙ sym (ap (λ t. cond t (request_for a id ((used % buffers) * 32768) ∷ asked_items (id + 1) (used + 1) hand buffers asks) []) some)
+        ap₂ (λ n l. request_for a id (n * blk_buffer_bytes) ∷ l) number rest
+        ∙ sym (ap (λ t. cond t (request_for a id ((used % buffers) * blk_buffer_bytes) ∷ asked_items (id + 1) (used + 1) hand buffers blk_buffer_bytes asks) []) some)
     by false bare rest = ap (λ l. request_for a id 0 ∷ l) bare
 
 -- a buffer keeps its number in a request
@@ -245,10 +246,10 @@ module _ (c : BlkClient) (passed : Passed) (turn : ClientInTurn c passed) (row :
       let long = length-append row.start (pages_in came) in
       let start = start_many in
       let plus : (j : ℕ) (p : Paged) → slice_get hand j ≡ Some p → p.no ≡ (0 + j) % buffers = λ j p at. let zero_first : j ≡ 0 + j = omega arith in numbered_below (suc j) j (omega arith) p at ∙ ap (λ k. k % buffers) zero_first in
-      let all : items_of (asked_from 0 asks hand) ≡ client_requests asks (record { number = c.asking.pool.0; base = 0; buffers = buffers; size = 32768 }) (length came) = requests_are 0 0 (buffers + buffers_for (take (length came) asks)) buffers asks hand (omega (arith, many, long, start)) plus in
-      let said : AsksInOrder asks (record { number = c.asking.pool.0; base = 0; buffers = buffers; size = 32768 }) (items_of came) (items_of put) = record {
-        begins = subst (λ n. IsPrefix (items_of put) (client_requests asks (record { number = c.asking.pool.0; base = 0; buffers = buffers; size = 32768 }) n)) (sym (items_long came)) (subst (IsPrefix (items_of put)) all (items_begin put (asked_from 0 asks hand) row.asks));
+      let all : items_of (asked_from 0 asks hand) ≡ client_requests asks (record { number = c.asking.pool.0; base = 0; buffers = buffers; size = blk_buffer_bytes }) (length came) = requests_are 0 0 (buffers + buffers_for (take (length came) asks)) buffers asks hand (omega (arith, many, long, start)) plus in
+      let said : AsksInOrder asks (record { number = c.asking.pool.0; base = 0; buffers = buffers; size = blk_buffer_bytes }) (items_of came) (items_of put) = record {
+        begins = subst (λ n. IsPrefix (items_of put) (client_requests asks (record { number = c.asking.pool.0; base = 0; buffers = buffers; size = blk_buffer_bytes }) n)) (sym (items_long came)) (subst (IsPrefix (items_of put)) all (items_begin put (asked_from 0 asks hand) row.asks));
         answered = (let a = items_long came in let b = items_long put in let few = row.answered in omega (arith, a, b, few));
       } in
-      subst (λ xs. AsksInOrder asks (record { number = c.asking.pool.0; base = 0; buffers = buffers; size = 32768 }) (m.taken (resp_queue c)) xs) (sym (items 1 _ refl))
-      (subst (λ ys. AsksInOrder asks (record { number = c.asking.pool.0; base = 0; buffers = buffers; size = 32768 }) ys (items_of put)) (ap items_of (sym came_is) ∙ sym (items 0 _ refl)) said)
+      subst (λ xs. AsksInOrder asks (record { number = c.asking.pool.0; base = 0; buffers = buffers; size = blk_buffer_bytes }) (m.taken (resp_queue c)) xs) (sym (items 1 _ refl))
+      (subst (λ ys. AsksInOrder asks (record { number = c.asking.pool.0; base = 0; buffers = buffers; size = blk_buffer_bytes }) ys (items_of put)) (ap items_of (sym came_is) ∙ sym (items 0 _ refl)) said)

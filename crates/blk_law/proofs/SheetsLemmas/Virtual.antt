@@ -3,6 +3,7 @@ use Rattle.std.proofs.Common.{◌≡◌, ◌+◌, ◌*◌, ◌%◌, ◌^◌, ◌
 use Rattle.std.specs.List.{filter}
 use Rattle.std.proofs.lemmas.Bool.{and_parts, eqb-true, ltb-true}
 use Rattle.std.proofs.lemmas.List.{append-nil, length-map}
+use Rattle.cargo_core.specs.Blocks.{blk_buffer_bytes}
 use Rattle.cargo_core.specs.Lists.{IsPrefix, PrefixMerge}
 use Rattle.cargo_core.specs.declared.item.BlkStatus.{BlkStatus}
 use Rattle.cargo_core.specs.declared.item.Body.TheVariants as Carried
@@ -103,18 +104,18 @@ back_items h (x ∷ sent) (y ∷ back) = by (is_at h x) (back_items h sent back)
     by false rest = rest
 
 -- a request that is its client's own is at the offset of one of its buffers
-own_in : (h : Holder) (x : Cargo) → is_own h x ≡ true → (number : ℕ) × (number < h.buffers) × ((request_of x.0).addr ≡ number * 32768)
+own_in : (h : Holder) (x : Cargo) → is_own h x ≡ true → (number : ℕ) × (number < h.buffers) × ((request_of x.0).addr ≡ number * blk_buffer_bytes)
 own_in h (item, Carried.Page page) own =
     let one = and_parts _ _ own in
     let two = and_parts _ _ one.1 in
-    (page.no, ltb-true page.no h.buffers two.0, eqb-true (request_of item).addr (page.no * 32768) two.1)
+    (page.no, ltb-true page.no h.buffers two.0, eqb-true (request_of item).addr (page.no * blk_buffer_bytes) two.1)
 own_in h (item, Carried.Lease lease) own = absurd cc
 own_in h (item, Carried.Empty) own = absurd cc
 
 good_in : (h : Holder) (x : Cargo) → is_bad h x ≡ false → IsRequestIn (holder_pool h) x.0
 good_in h x good moves = by (is_own h x) refl
   where
-    by : (t : Bool) → is_own h x ≡ t → (number : ℕ) × (number < h.buffers) × ((request_of x.0).addr ≡ number * 32768)
+    by : (t : Bool) → is_own h x ≡ t → (number : ℕ) × (number < h.buffers) × ((request_of x.0).addr ≡ number * blk_buffer_bytes)
     by true own = own_in h x own
     by false own = let bad : (moves_blocks (request_of x.0).code && not (is_own h x)) ≡ true = ap₂ (λ a b. a && not b) moves own in absurd cc
 
@@ -297,8 +298,8 @@ module _ (scene : Scene) (v : BlkVirt) (passed : Passed) (m : Moved) (turn : Vir
   pub virt_row : (blk_sheet scene (virt_part v)).row m
   virt_row = record {
     first =
-        let said : IsPrefix (items_of sent) (first_item (record { number = v.work.opening.own.pool.0; base = v.work.opening.base; buffers = 1; size = 32768 }) ∷ items_of later) = items_begin sent (first_read v.work.opening.base row.start ∷ later) row.reads in
-        subst (λ l. IsPrefix l (first_item (record { number = v.work.opening.own.pool.0; base = v.work.opening.base; buffers = 1; size = 32768 }) ∷ drop 1 l)) (sym gave) (subst (λ l. IsPrefix (items_of sent) (first_item (record { number = v.work.opening.own.pool.0; base = v.work.opening.base; buffers = 1; size = 32768 }) ∷ l)) (drop_items sent) said);
+        let said : IsPrefix (items_of sent) (first_item (record { number = v.work.opening.own.pool.0; base = v.work.opening.base; buffers = 1; size = blk_buffer_bytes }) ∷ items_of later) = items_begin sent (first_read v.work.opening.base row.start ∷ later) row.reads in
+        subst (λ l. IsPrefix l (first_item (record { number = v.work.opening.own.pool.0; base = v.work.opening.base; buffers = 1; size = blk_buffer_bytes }) ∷ drop 1 l)) (sym gave) (subst (λ l. IsPrefix (items_of sent) (first_item (record { number = v.work.opening.own.pool.0; base = v.work.opening.base; buffers = 1; size = blk_buffer_bytes }) ∷ l)) (drop_items sent) said);
     numbers = λ j x x_at.
         let f = map_from (λ (y : Cargo). y.0) sent j x (ap (λ l. slice_get l j) (sym gave) ∙ x_at) in
         subst (λ (y : Item). (request_of y).id ≡ j % 2 ^ 32) f.2 (row.numbers j f.0 f.1);

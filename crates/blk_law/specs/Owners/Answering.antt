@@ -1,6 +1,7 @@
 -- What the items of the block class's queues name: a request the buffer at its address, and a
 -- response that of the request of its place.
 use Rattle.std.specs.Prelude.{◌≡◌, ◌*◌, ◌≤◌, ℕ, Some, List, [], ◌∷◌, length, map, slice_get}
+use Rattle.cargo_core.specs.Blocks.{block_bytes}
 use Rattle.cargo_core.specs.Items.{kind_of}
 use Rattle.cargo_core.specs.Lists.{IsPrefix}
 use Rattle.cargo_core.specs.Ranges.{IsApart}
@@ -11,21 +12,18 @@ use Rattle.play_core.specs.Moved.{Moved}
 use Rattle.play_core.specs.Sheets.{Sheet, AreApart}
 use Rattle.owner_law.specs.Things.{Window, Buffers, Answers, Naming}
 use Rattle.owner_law.specs.Keeping.{Keeps, all_taken, all_put}
-use Rattle.owner_law.specs.Pools.Places.{PoolAt}
+use Rattle.owner_law.specs.Pools.Places.{PoolAt, by_address, by_offset}
 use Rattle.net_law.specs.Parts.Parts.{Way}
 use Rattle.blk_law.specs.Sheets.Parts.{BlkPart, DiskDevice, BlkDriver, BlkVirt, BlkClient, Sharer}
 
--- a pool's buffers, of 32,768 bytes each, by device addresses
-abbrev pub block_window : PoolAt → Window
-block_window p = record { pool = p.number; base = p.base; size = 32768; buffers = p.buffers }
-
--- its buffers by offsets
-abbrev pub offset_window : PoolAt → Window
-offset_window p = record { pool = p.number; base = 0; size = 32768; buffers = p.buffers }
+-- a pool of the class has a buffer, and each of its buffers takes eight blocks, the most that a
+-- request moves
+abbrev pub TakesBlocks : PoolAt → Type 0
+TakesBlocks p = (1 ≤ p.buffers) × (8 * block_bytes ≤ p.size)
 
 -- the virtualiser's own buffer and those of its clients, by device addresses
 abbrev pub disk_windows : PoolAt → List Sharer → List Window
-disk_windows pool clients = block_window pool ∷ map (λ (c : Sharer). block_window c.pool) clients
+disk_windows pool clients = by_address pool ∷ map (λ (c : Sharer). by_address c.pool) clients
 
 -- the requests of a queue name buffers in these windows, and the responses of another are to them
 abbrev pub NamesAsked : Naming → List Window → (req resp : ℕ) → Type 0
@@ -43,26 +41,26 @@ pub record NamesWays (naming : Naming) (ws : List Window) (ways : List Way) : Ty
   pub passed_on : NamesAsked naming ws disk_req disk_resp
 
 -- what items name at the queues of an actor of the block class: on the driver's side buffers by
--- device addresses, and at each client's queues its own by offsets; a client has some
+-- device addresses, and at each client's queues its own by offsets; a client's take blocks
 abbrev pub NamesBlk : Naming → BlkPart → Type 0
 NamesBlk naming (DiskDevice req resp image) = (ws : List Window) × NamesAsked naming ws req resp
 NamesBlk naming (BlkDriver ways) = (ws : List Window) × NamesWays naming ws ways
 NamesBlk naming (BlkVirt req resp sectors pool clients) =
     NamesAsked naming (disk_windows pool clients) req resp
     × ((k : ℕ) (c : Sharer) → slice_get clients k ≡ Some c
-    → NamesAsked naming (offset_window c.pool ∷ []) c.req c.resp)
+    → NamesAsked naming (by_offset c.pool ∷ []) c.req c.resp)
 NamesBlk naming (BlkClient req resp asks pool) =
-    (1 ≤ pool.buffers) × NamesAsked naming (offset_window pool ∷ []) req resp
+    TakesBlocks pool × NamesAsked naming (by_offset pool ∷ []) req resp
 
 -- the device addresses of a pool's buffers
 abbrev pub block_range : PoolAt → Range
-block_range p = record { base = p.base; size = p.buffers * 32768 }
+block_range p = record { base = p.base; size = p.buffers * p.size }
 
--- the virtualiser and each of its clients have buffers, and no two of these pools have an address
--- in common
+-- the virtualiser and each of its clients have buffers that take blocks, and no two of these pools
+-- have an address in common
 pub record ArePoolsApart (pool : PoolAt) (clients : List Sharer) : Type 0 where
-  pub own : 1 ≤ pool.buffers
-  pub some : (k : ℕ) (c : Sharer) → slice_get clients k ≡ Some c → 1 ≤ c.pool.buffers
+  pub own : TakesBlocks pool
+  pub some : (k : ℕ) (c : Sharer) → slice_get clients k ≡ Some c → TakesBlocks c.pool
   pub own_apart : (k : ℕ) (c : Sharer) → slice_get clients k ≡ Some c
       → IsApart (block_range c.pool) (block_range pool)
   pub apart : (j k : ℕ) (c d : Sharer) → slice_get clients j ≡ Some c

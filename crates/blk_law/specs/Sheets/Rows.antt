@@ -36,21 +36,22 @@ buffers_for (a ∷ asks) =
     if needs_buffer a.code then (1 + buffers_for asks) else buffers_for asks
 
 -- the requests for what is asked, in their order and with rising numbers, as far as a read or a
--- write has a buffer, where so many were used of so many that came to hand: the buffers of a pool
--- come to hand in rising number, and again in the order in which they were used
-abbrev pub asked_items : (id used hand buffers : ℕ) → List Ask → List Item
-asked_items id used hand buffers [] = []
-asked_items id used hand buffers (a ∷ asks) =
+-- write has a buffer, where so many were used of so many that came to hand: the buffers of a pool,
+-- so many of this size, come to hand in rising number, and again in the order in which they were
+-- used
+abbrev pub asked_items : (id used hand buffers size : ℕ) → List Ask → List Item
+asked_items id used hand buffers size [] = []
+asked_items id used hand buffers size (a ∷ asks) =
     if needs_buffer a.code then (if nat_lt used hand then
-    (request_for a id ((used % buffers) * 32768)
-    ∷ asked_items (id + 1) (used + 1) hand buffers asks)
-    else []) else (request_for a id 0 ∷ asked_items (id + 1) used hand buffers asks)
+    (request_for a id ((used % buffers) * size)
+    ∷ asked_items (id + 1) (used + 1) hand buffers size asks)
+    else []) else (request_for a id 0 ∷ asked_items (id + 1) used hand buffers size asks)
 
 -- the requests that a client can have put where so many responses came: each brought the buffer of
 -- its request back
 abbrev pub client_requests : List Ask → PoolAt → (came : ℕ) → List Item
 client_requests asks pool came =
-    asked_items 0 0 (pool.buffers + buffers_for (take came asks)) pool.buffers asks
+    asked_items 0 0 (pool.buffers + buffers_for (take came asks)) pool.buffers pool.size asks
 
 -- what a client may have put: those requests, in their order; and no more responses came than it
 -- put requests
@@ -95,7 +96,7 @@ passed_item id i = ItemOf.Resp (record {
 -- a request of the driver's queue is at one of a pool's buffers
 abbrev pub is_item_at : PoolAt → Item → Bool
 is_item_at p i =
-    is_within (record { base = p.base; size = p.buffers * 32768 }) (request_of i).addr
+    is_within (record { base = p.base; size = p.buffers * p.size }) (request_of i).addr
 
 -- of the responses from the driver, of which each answers the request of its place, those to
 -- requests at a pool's buffers
@@ -141,7 +142,7 @@ first_item pool = ItemOf.Req
 -- a read or a write is at the offset of one of a pool's buffers
 abbrev pub IsRequestIn : PoolAt → Item → Type 0
 IsRequestIn p i = moves_blocks (request_of i).code ≡ true
-    → (number : ℕ) × (number < p.buffers) × ((request_of i).addr ≡ number * 32768)
+    → (number : ℕ) × (number < p.buffers) × ((request_of i).addr ≡ number * p.size)
 
 -- what the virtualiser may have put, by the partitions of this image: first its own request, and
 -- then a merge of beginnings of what of each client's requests goes to the disk, all with rising

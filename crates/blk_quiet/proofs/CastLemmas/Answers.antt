@@ -40,7 +40,7 @@ filled_whole : (bytes : List ℕ) (b : Body) → IsWhole b → IsWhole (filled_b
 filled_whole bytes (Carried.Page page) whole = by (nat_le (length bytes) (length page.bytes)) refl
   where
     by : (t : Bool) → nat_le (length bytes) (length page.bytes) ≡ t → IsWhole (cond t (Carried.Page (record { pool = page.pool; no = page.no; bytes = replaced page.bytes 0 bytes })) (Carried.Page page))
-    by true e = replaced_long bytes page.bytes (leb-true (length bytes) (length page.bytes) e) ∙ whole
+    by true e = let long = replaced_long bytes page.bytes (leb-true (length bytes) (length page.bytes) e) in omega (arith, long, whole)
     by false e = whole
 filled_whole bytes (Carried.Lease lease) whole = tt
 filled_whole bytes Carried.Empty whole = tt

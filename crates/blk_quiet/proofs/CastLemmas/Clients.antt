@@ -3,6 +3,7 @@ use Rattle.std.proofs.Common.{◌≡◌, ◌+◌, ◌*◌, ◌++◌, ◌&&◌, �
 use Rattle.std.specs.List.{filter}
 use Rattle.std.proofs.lemmas.Bool.{leb-true}
 use Rattle.std.proofs.lemmas.List.{length-append}
+use Rattle.cargo_core.specs.Blocks.{blk_buffer_bytes}
 use Rattle.cargo_core.specs.Lists.{replaced}
 use Rattle.cargo_core.specs.Pages.{Paged}
 use Rattle.cargo_core.specs.declared.item.Ask.{Ask}
@@ -99,7 +100,7 @@ gave_few (x ∷ xs) (y ∷ ys) h = let rest = gave_few xs ys h.1 in omega (arith
 
 -- a buffer of a pool
 abbrev IsBuffer : PoolAt → Paged → Type 0
-IsBuffer pool p = (p.pool.0 ≡ pool.number) × (p.no < pool.buffers) × (length p.bytes ≡ 32768)
+IsBuffer pool p = (p.pool.0 ≡ pool.number) × (p.no < pool.buffers) × (8 * 4096 ≤ length p.bytes)
 
 of_pool : (pool : PoolAt) (a b : Body) → page_named b ≡ page_named a → IsOfPool pool a → IsOfPool pool b
 of_pool pool (Carried.Page p) (Carried.Page q) e is =
@@ -127,7 +128,7 @@ page_buffer : (pool : PoolAt) (code : Code) (bytes : List ℕ) (p : Paged) → I
 page_buffer pool Asked.Write bytes p is = by (nat_le (length bytes) (length p.bytes)) refl
   where
     by : (t : Bool) → nat_le (length bytes) (length p.bytes) ≡ t → IsBuffer pool (cond t (record { pool = p.pool; no = p.no; bytes = replaced p.bytes 0 bytes }) p)
-    by true e = (is.0, is.1, replaced_long bytes p.bytes (leb-true (length bytes) (length p.bytes) e) ∙ is.2)
+    by true e = (is.0, is.1, (let long = replaced_long bytes p.bytes (leb-true (length bytes) (length p.bytes) e) in let room = is.2 in omega (arith, long, room)))
     by false e = is
 page_buffer pool Asked.Read bytes p is = is
 page_buffer pool Asked.Flush bytes p is = is
@@ -139,7 +140,7 @@ in_request pool a id p is =
     let q = page_for a.code a.fill p in
     let b = page_buffer pool a.code a.fill p is in
     let same = number_kept a.code a.fill p in
-    let own : is_own (holder_of pool) (asked_in a id p) ≡ true = rw (eq-eqb q.pool.0 pool.number b.0, lt-ltb q.no pool.buffers b.1, eq-eqb (p.no * 32768) (q.no * 32768) (omega (arith, same))) refl in
+    let own : is_own (holder_of pool) (asked_in a id p) ≡ true = rw (eq-eqb q.pool.0 pool.number b.0, lt-ltb q.no pool.buffers b.1, eq-eqb (p.no * blk_buffer_bytes) (q.no * blk_buffer_bytes) (omega (arith, same))) refl in
     record { good = ap (λ t. moves_blocks a.code && not t) own ∙ and_no (moves_blocks a.code); whole = b.2; own = (b.0, b.1) }
   where
     and_no : (t : Bool) → (t && not true) ≡ false
@@ -279,6 +280,6 @@ module _ (place : BlkPlace) (passed : Passed) (h : IsBlkCast place passed) where
         let n = row.is_start.are_pool.numbered i p p_at in
         let m = row.is_start.many in
         let e = many.1 in
-        (ap (λ (z : PoolId). z.0) (row.is_start.are_pool.same_pool i p p_at) ∙ many.0, omega (arith, below, n, m, e), row.is_start.are_pool.sized i p p_at) in
+        (ap (λ (z : PoolId). z.0) (row.is_start.are_pool.same_pool i p p_at) ∙ many.0, omega (arith, below, n, m, e), (let long = row.is_start.are_pool.sized i p p_at in omega (arith, long))) in
         asked_requests pool 0 c.asking.script.items (row.start ++ pages_in row.came) (both_buffers pool row.start (pages_in row.came) start (pages_buffers pool row.came came)) j x
         (prefix_get (passed.sent (req_queue c)) (asked_from 0 c.asking.script.items (row.start ++ pages_in row.came)) row.asks j x (ap (λ n. slice_get (passed.sent n) j) own.0 ∙ at))

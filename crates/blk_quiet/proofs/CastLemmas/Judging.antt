@@ -1,6 +1,7 @@
 -- What goes on to the disk is in turn there.
 use Rattle.std.proofs.Common.{◌≡◌, ◌+◌, ◌*◌, ◌/◌, ◌&&◌, ◌||◌, ◌==◌, ◌≤◌, ℕ, Bool, true, false, not, nat_le, nat_lt, if◌then◌else◌, Option, Some, None, List, length, take, refl, ap, ap₂, arith, le-leb}
 use Rattle.std.proofs.lemmas.Bool.{and_parts, leb-true}
+use Rattle.cargo_core.specs.Blocks.{blk_buffer_bytes}
 use Rattle.cargo_core.specs.Items.{kind_of}
 use Rattle.cargo_core.specs.declared.item.BlkReq.{BlkReq}
 use Rattle.cargo_core.specs.declared.item.BlkStatus.TheVariants as Answered
@@ -83,7 +84,7 @@ stray_same image n (ItemOf.Resp r, body) kind = absurd cc
 
 -- a buffer is its client's own by the pool and its size alone
 own_same : (h g : Holder) (x : Cargo) → h.pool.0 ≡ g.pool.0 → h.buffers ≡ g.buffers → is_own h x ≡ is_own g x
-own_same h g (item, Carried.Page page) pool buffers = ap₂ (λ (p n : ℕ). (page.pool.0 == p) && (nat_lt page.no n && ((request_of item).addr == page.no * 32768))) pool buffers
+own_same h g (item, Carried.Page page) pool buffers = ap₂ (λ (p n : ℕ). (page.pool.0 == p) && (nat_lt page.no n && ((request_of item).addr == page.no * blk_buffer_bytes))) pool buffers
 own_same h g (item, Carried.Lease lease) pool buffers = refl
 own_same h g (item, Carried.Empty) pool buffers = refl
 

@@ -1,5 +1,6 @@
 -- Which queues the block class's actors have, by their parts.
 use Rattle.std.proofs.Common.{◌≡◌, ◌+◌, ◌*◌, ◌/◌, ℕ, zero, suc, Some, List, [], ◌∷◌, length, slice_get, refl, ap, subst, arith}
+use Rattle.cargo_core.specs.Blocks.{blk_buffer_bytes}
 use Rattle.cargo_core.specs.declared.item.Ask.{Ask}
 use Rattle.wire_core.specs.declared.names.QueueId.{QueueId}
 use Rattle.play_core.proofs.Lists.{some_is}
@@ -38,7 +39,7 @@ client_queues first k asks pool c e = (cc, cc, cc)
 
 pub client_pool : (first k : ℕ) (asks : List Ask) (pool : PoolAt) (c : BlkClient) → blk_client_part c ≡ blk_client_at first k asks pool → (c.asking.pool.0 ≡ pool.number) × (c.asking.buffers ≡ pool.buffers)
 client_pool first k asks pool c e =
-    let own : record { number = c.asking.pool.0; base = 0; buffers = c.asking.buffers; size = 32768 } ≡ own_pool pool = cc in
+    let own : record { number = c.asking.pool.0; base = 0; buffers = c.asking.buffers; size = blk_buffer_bytes } ≡ own_pool pool = cc in
     (ap (λ (p : PoolAt). p.number) own, ap (λ (p : PoolAt). p.buffers) own)
 
 -- the client of a number at its queues

@@ -1,5 +1,6 @@
 -- A client hands its own buffers on, and those that came back.
 use Rattle.std.proofs.Common.{◌≡◌, ◌==◌, ◌&&◌, ◌+◌, ◌*◌, ◌<◌, ◌≤◌, ◌++◌, ℕ, zero, suc, Bool, true, false, nat_lt, cond, Option, Some, None, List, [], ◌∷◌, length, slice_get, option_and_then, refl, sym, ap, ap₂, ◌∙◌, subst, arith, eq-eqb, eqb-true, ltb-true, inl}
+use Rattle.cargo_core.specs.Blocks.{blk_buffer_bytes}
 use Rattle.cargo_core.specs.Pages.{Paged}
 use Rattle.cargo_core.specs.declared.item.Ask.{Ask}
 use Rattle.cargo_core.specs.declared.item.Body.TheVariants as Carried
@@ -21,21 +22,21 @@ use Rattle.client_programs.specs.Blk.Asking.{needs_buffer, page_for, asked_in, a
 use Rattle.client_programs.specs.Blk.Clients.{BlkClientRow, req_queue, resp_queue}
 use Rattle.client_programs.specs.declared.blk.BlkClient.{BlkClient}
 use Rattle.owner_law.specs.Pools.Handing.{Carries, HandsOn}
-use Rattle.owner_law.specs.Pools.Places.{PoolAt}
+use Rattle.owner_law.specs.Pools.Places.{PoolAt, by_offset}
 use Rattle.net_law.proofs.OwnersLemmas.Clients.{at_address}
 use Rattle.net_quiet.proofs.PoolsLemmas.Carrying.{HasPage, page_carries, takes_here, puts_none, puts_in, puts_out}
 use Rattle.net_law.proofs.PartsLemmas.Leasing.{prefix_get}
 use Rattle.blk_law.specs.Sheets.Playing.{blk_client_part}
 use Rattle.blk_law.specs.Sheets.Table.{blk_sheet}
-use Rattle.blk_law.specs.Owners.Answering.{offset_window, NamesBlk}
+use Rattle.blk_law.specs.Owners.Answering.{NamesBlk}
 
 -- a buffer of a pool
 abbrev IsBuffer : PoolAt → (pool number : ℕ) → Type 0
 IsBuffer p pool number = (pool ≡ p.number) × (number < p.buffers)
 
 -- what a pool's window names is a buffer of it
-window_buffer : (p : PoolAt) (b : Buffer) (a : ℕ) → is_named b (buffer_at (offset_window p ∷ []) a) ≡ 1 → IsBuffer p b.pool b.no
-window_buffer p b a one = by (begins_at (offset_window p) a) refl one
+window_buffer : (p : PoolAt) (b : Buffer) (a : ℕ) → is_named b (buffer_at (by_offset p ∷ []) a) ≡ 1 → IsBuffer p b.pool b.no
+window_buffer p b a one = by (begins_at (by_offset p) a) refl one
   where
     same : (n : ℕ) → n < p.buffers → bit (is_same (record { pool = p.number; no = n }) b) ≡ 1 → IsBuffer p b.pool b.no
     same n few is = go (is_same (record { pool = p.number; no = n }) b) refl is
@@ -47,17 +48,17 @@ window_buffer p b a one = by (begins_at (offset_window p) a) refl one
             (sym (eqb-true p.number b.pool parts.0), omega (arith, few, number))
         go false e h = absurd (omega (arith, h))
 
-    by : (t : Bool) → begins_at (offset_window p) a ≡ t → is_named b (cond t (Some (record { pool = p.number; no = number_at (offset_window p) a })) None) ≡ 1 → IsBuffer p b.pool b.no
+    by : (t : Bool) → begins_at (by_offset p) a ≡ t → is_named b (cond t (Some (record { pool = p.number; no = number_at (by_offset p) a })) None) ≡ 1 → IsBuffer p b.pool b.no
     by true e h =
-        let n = number_at (offset_window p) a in
-        let parts = both (nat_lt n p.buffers) (0 + n * 32768 == a) e in
+        let n = number_at (by_offset p) a in
+        let parts = both (nat_lt n p.buffers) (0 + n * p.size == a) e in
         same n (ltb-true n p.buffers parts.0) h
     by false e h = absurd (omega (arith, h))
 
-item_buffer : (p : PoolAt) (b : Buffer) (i : Item) → is_named b (buffer_of (offset_window p ∷ []) i) ≡ 1 → IsBuffer p b.pool b.no
+item_buffer : (p : PoolAt) (b : Buffer) (i : Item) → is_named b (buffer_of (by_offset p ∷ []) i) ≡ 1 → IsBuffer p b.pool b.no
 item_buffer p b i one = by (address_of i) one
   where
-    by : (o : Option ℕ) → is_named b (option_and_then (buffer_at (offset_window p ∷ [])) o) ≡ 1 → IsBuffer p b.pool b.no
+    by : (o : Option ℕ) → is_named b (option_and_then (buffer_at (by_offset p ∷ [])) o) ≡ 1 → IsBuffer p b.pool b.no
     by None h = absurd (omega (arith, h))
     by (Some a) h = window_buffer p b a h
 
@@ -89,53 +90,53 @@ page_kept Asked.Flush bytes p = (refl, refl)
 page_kept Asked.Barrier bytes p = (refl, refl)
 
 -- a request in a buffer names it
-in_page : (pool : PoolAt) (a : Ask) (id : ℕ) (p : Paged) → needs_buffer a.code ≡ true → IsBuffer pool p.pool.0 p.no → HasPage (offset_window pool ∷ []) (asked_in a id p)
-in_page pool a id p needs is b =
+in_page : (pool : PoolAt) → pool.size ≡ blk_buffer_bytes → (a : Ask) (id : ℕ) (p : Paged) → needs_buffer a.code ≡ true → IsBuffer pool p.pool.0 p.no → HasPage (by_offset pool ∷ []) (asked_in a id p)
+in_page pool sized a id p needs is b =
     let kept = page_kept a.code a.fill p in
-    let name : buffer_at (offset_window pool ∷ []) (0 + p.no * 32768) ≡ Some (record { pool = pool.number; no = p.no }) = at_address (offset_window pool) p.no (omega arith) is.1 in
-    let plus : 0 + p.no * 32768 ≡ p.no * 32768 = omega arith in
-    let named : buffer_at (offset_window pool ∷ []) (p.no * 32768) ≡ Some (record { pool = pool.number; no = p.no }) = ap (buffer_at (offset_window pool ∷ [])) (sym plus) ∙ name in
-    let item : buffer_of (offset_window pool ∷ []) (asked_in a id p).0 ≡ buffer_at (offset_window pool ∷ []) (p.no * 32768) = moves a.code needs in
+    let name : buffer_at (by_offset pool ∷ []) (0 + p.no * pool.size) ≡ Some (record { pool = pool.number; no = p.no }) = at_address (by_offset pool) p.no (omega (arith, sized)) is.1 in
+    let plus : 0 + p.no * pool.size ≡ p.no * pool.size = omega arith in
+    let named : buffer_at (by_offset pool ∷ []) (p.no * pool.size) ≡ Some (record { pool = pool.number; no = p.no }) = ap (buffer_at (by_offset pool ∷ [])) (sym plus) ∙ name in
+    let item : buffer_of (by_offset pool ∷ []) (asked_in a id p).0 ≡ buffer_at (by_offset pool ∷ []) (p.no * pool.size) = moves a.code needs ∙ ap (λ s. buffer_at (by_offset pool ∷ []) (p.no * s)) (sym sized) in
     let pool_is : (page_for a.code a.fill p).pool.0 ≡ pool.number = ap (λ (x : PoolId). x.0) kept.0 ∙ is.0 in
     ap₂ (λ x y. bit ((x == b.pool) && (y == b.no))) pool_is kept.1 ∙ sym (ap (is_named b) (item ∙ named))
   where
-    moves : (code : Code) → needs_buffer code ≡ true → option_and_then (buffer_at (offset_window pool ∷ [])) (Rattle.owner_law.specs.Things.request_address code (p.no * 32768)) ≡ buffer_at (offset_window pool ∷ []) (p.no * 32768)
+    moves : (code : Code) → needs_buffer code ≡ true → option_and_then (buffer_at (by_offset pool ∷ [])) (Rattle.owner_law.specs.Things.request_address code (p.no * blk_buffer_bytes)) ≡ buffer_at (by_offset pool ∷ []) (p.no * blk_buffer_bytes)
     moves Asked.Read e = refl
     moves Asked.Write e = refl
     moves Asked.Flush e = absurd cc
     moves Asked.Barrier e = absurd cc
 
-bare_page : (pool : PoolAt) (a : Ask) (id : ℕ) → needs_buffer a.code ≡ false → HasPage (offset_window pool ∷ []) (asked_bare a id)
+bare_page : (pool : PoolAt) (a : Ask) (id : ℕ) → needs_buffer a.code ≡ false → HasPage (by_offset pool ∷ []) (asked_bare a id)
 bare_page pool a id none b = moves a.code none
   where
-    moves : (code : Code) → needs_buffer code ≡ false → 0 ≡ is_named b (option_and_then (buffer_at (offset_window pool ∷ [])) (Rattle.owner_law.specs.Things.request_address code 0))
+    moves : (code : Code) → needs_buffer code ≡ false → 0 ≡ is_named b (option_and_then (buffer_at (by_offset pool ∷ [])) (Rattle.owner_law.specs.Things.request_address code 0))
     moves Asked.Read e = absurd cc
     moves Asked.Write e = absurd cc
     moves Asked.Flush e = refl
     moves Asked.Barrier e = refl
 
-asked_pages : (pool : PoolAt) (id : ℕ) (asks : List Ask) (pages : List Paged) → ((i : ℕ) (p : Paged) → slice_get pages i ≡ Some p → IsBuffer pool p.pool.0 p.no) → (j : ℕ) (x : Cargo) → slice_get (asked_from id asks pages) j ≡ Some x → HasPage (offset_window pool ∷ []) x
-asked_pages pool id [] pages each j x at = cc
-asked_pages pool id (a ∷ asks) [] each j x at = by (needs_buffer a.code) refl j at (λ i h. asked_pages pool (id + 1) asks [] each i x h)
+asked_pages : (pool : PoolAt) → pool.size ≡ blk_buffer_bytes → (id : ℕ) (asks : List Ask) (pages : List Paged) → ((i : ℕ) (p : Paged) → slice_get pages i ≡ Some p → IsBuffer pool p.pool.0 p.no) → (j : ℕ) (x : Cargo) → slice_get (asked_from id asks pages) j ≡ Some x → HasPage (by_offset pool ∷ []) x
+asked_pages pool sized id [] pages each j x at = cc
+asked_pages pool sized id (a ∷ asks) [] each j x at = by (needs_buffer a.code) refl j at (λ i h. asked_pages pool sized (id + 1) asks [] each i x h)
   where
-    by : (t : Bool) → needs_buffer a.code ≡ t → (i : ℕ) → slice_get (cond t [] (asked_bare a id ∷ asked_from (id + 1) asks [])) i ≡ Some x → ((n : ℕ) → slice_get (asked_from (id + 1) asks []) n ≡ Some x → HasPage (offset_window pool ∷ []) x) → HasPage (offset_window pool ∷ []) x
+    by : (t : Bool) → needs_buffer a.code ≡ t → (i : ℕ) → slice_get (cond t [] (asked_bare a id ∷ asked_from (id + 1) asks [])) i ≡ Some x → ((n : ℕ) → slice_get (asked_from (id + 1) asks []) n ≡ Some x → HasPage (by_offset pool ∷ []) x) → HasPage (by_offset pool ∷ []) x
     by true e i h rest = absurd cc
-    by false e zero h rest = subst (HasPage (offset_window pool ∷ [])) (some_is h) (bare_page pool a id e)
+    by false e zero h rest = subst (HasPage (by_offset pool ∷ [])) (some_is h) (bare_page pool a id e)
     by false e (suc i) h rest = rest i h
-asked_pages pool id (a ∷ asks) (p ∷ pages) each j x at = by (needs_buffer a.code) refl j at (λ i h. asked_pages pool (id + 1) asks pages (λ n q q_at. each (suc n) q q_at) i x h) (λ i h. asked_pages pool (id + 1) asks (p ∷ pages) each i x h)
+asked_pages pool sized id (a ∷ asks) (p ∷ pages) each j x at = by (needs_buffer a.code) refl j at (λ i h. asked_pages pool sized (id + 1) asks pages (λ n q q_at. each (suc n) q q_at) i x h) (λ i h. asked_pages pool sized (id + 1) asks (p ∷ pages) each i x h)
   where
-    by : (t : Bool) → needs_buffer a.code ≡ t → (i : ℕ) → slice_get (cond t (asked_in a id p ∷ asked_from (id + 1) asks pages) (asked_bare a id ∷ asked_from (id + 1) asks (p ∷ pages))) i ≡ Some x → ((n : ℕ) → slice_get (asked_from (id + 1) asks pages) n ≡ Some x → HasPage (offset_window pool ∷ []) x) → ((n : ℕ) → slice_get (asked_from (id + 1) asks (p ∷ pages)) n ≡ Some x → HasPage (offset_window pool ∷ []) x) → HasPage (offset_window pool ∷ []) x
-    by true e zero h rest bare = subst (HasPage (offset_window pool ∷ [])) (some_is h) (in_page pool a id p e (each 0 p refl))
+    by : (t : Bool) → needs_buffer a.code ≡ t → (i : ℕ) → slice_get (cond t (asked_in a id p ∷ asked_from (id + 1) asks pages) (asked_bare a id ∷ asked_from (id + 1) asks (p ∷ pages))) i ≡ Some x → ((n : ℕ) → slice_get (asked_from (id + 1) asks pages) n ≡ Some x → HasPage (by_offset pool ∷ []) x) → ((n : ℕ) → slice_get (asked_from (id + 1) asks (p ∷ pages)) n ≡ Some x → HasPage (by_offset pool ∷ []) x) → HasPage (by_offset pool ∷ []) x
+    by true e zero h rest bare = subst (HasPage (by_offset pool ∷ [])) (some_is h) (in_page pool sized a id p e (each 0 p refl))
     by true e (suc i) h rest bare = rest i h
-    by false e zero h rest bare = subst (HasPage (offset_window pool ∷ [])) (some_is h) (bare_page pool a id e)
+    by false e zero h rest bare = subst (HasPage (by_offset pool ∷ [])) (some_is h) (bare_page pool a id e)
     by false e (suc i) h rest bare = bare i h
 
 module _ (naming : Naming) (scene : Scene) (passed : Passed) (m : Moved) (c : BlkClient) (names : NamesBlk naming (blk_client_part c)) where
   abbrev pool : PoolAt
-  pool = record { number = c.asking.pool.0; base = 0; buffers = c.asking.buffers; size = 32768 }
+  pool = record { number = c.asking.pool.0; base = 0; buffers = c.asking.buffers; size = blk_buffer_bytes }
 
   abbrev ws : List Window
-  ws = offset_window pool ∷ []
+  ws = by_offset pool ∷ []
 
   -- what a response carries is a buffer of the pool
   came_own : (k : ℕ) (y : Cargo) → Carries naming m (resp_queue c) k y → (q : Paged) → y.1 ≡ Carried.Page q → IsBuffer pool q.pool.0 q.no
@@ -166,5 +167,5 @@ module _ (naming : Naming) (scene : Scene) (passed : Passed) (m : Moved) (c : Bl
       came i y at q is = came_own i y (takes_here naming m passed (resp_queue c) (outlet (req_queue c) ∷ []) takes i y (prefix_get row.came (passed.taken (resp_queue c)) (row.stray, sym row.taken) i y at)) q is
 
       each : (k : ℕ) (x : Cargo) → slice_get (passed.sent (req_queue c)) k ≡ Some x → Carries naming m (req_queue c) k x
-      each k x at = page_carries naming m ws (req_queue c) (inl names.1.0) k x (asked_pages pool 0 c.asking.script.items (row.start ++ pages_in row.came) (both_own pool row.start (pages_in row.came) starts (pages_own pool row.came came)) k x
+      each k x at = page_carries naming m ws (req_queue c) (inl names.1.0) k x (asked_pages pool refl 0 c.asking.script.items (row.start ++ pages_in row.came) (both_own pool row.start (pages_in row.came) starts (pages_own pool row.came came)) k x
           (prefix_get (passed.sent (req_queue c)) (asked_from 0 c.asking.script.items (row.start ++ pages_in row.came)) row.asks k x at))

@@ -1,5 +1,6 @@
 -- What an actor of the block class has of each pool; none lends.
 use Rattle.std.proofs.Common.{◌≡◌, ◌==◌, ℕ, zero, suc, false, cond, Some, List, [], ◌∷◌, ◌++◌, length, map, flat_map, slice_get, refl, sym, ap, ◌∙◌, arith}
+use Rattle.owner_law.specs.Pools.Places.{by_offset}
 use Rattle.cargo_core.specs.Bodies.{buffers_of}
 use Rattle.cargo_core.specs.Pages.{Paged}
 use Rattle.wire_core.specs.declared.names.QueueId.{QueueId}
@@ -32,7 +33,7 @@ use Rattle.net_quiet.proofs.PoolsLemmas.Lending.{pages_many, hand_many}
 use Rattle.blk_law.specs.Sheets.Parts.{Sharer}
 use Rattle.blk_law.specs.Sheets.Playing.{disk_part, blk_driver_part, virt_part, blk_client_part, sharers}
 use Rattle.blk_law.specs.Sheets.Table.{blk_sheet, sharer_ends}
-use Rattle.blk_law.specs.Owners.Answering.{NamesBlk, offset_window}
+use Rattle.blk_law.specs.Owners.Answering.{NamesBlk}
 use Rattle.blk_quiet.proofs.PoolsLemmas.Carrying.{driver_names}
 
 answers_stay : (naming : Naming) (n q : ℕ) (ws : List Window) → naming n ≡ Answers q ws → is_lending (naming n) ≡ false
@@ -86,11 +87,11 @@ module _ (naming : Naming) (sizes : ℕ → ℕ) (scene : Scene) (passed : Passe
         lends = λ pool. sym (lent_away naming m (blk_sheet scene (blk_client_part c)).ends lends pool (sizes pool));
       }
 
-  clients_lend : (cs : List Sharer) → ((k : ℕ) (c : Sharer) → slice_get cs k ≡ Some c → naming c.req ≡ Buffers (offset_window c.pool ∷ [])) → LendsNone naming (flat_map sharer_ends cs)
+  clients_lend : (cs : List Sharer) → ((k : ℕ) (c : Sharer) → slice_get cs k ≡ Some c → naming c.req ≡ Buffers (by_offset c.pool ∷ [])) → LendsNone naming (flat_map sharer_ends cs)
   clients_lend [] named = lends_none naming
   clients_lend (c ∷ cs) named =
       let rest : List Seat = flat_map sharer_ends cs in
-      lends_in naming c.req (outlet c.resp ∷ rest) (buffers_stay naming c.req (offset_window c.pool ∷ []) (named 0 c refl)) (lends_out naming c.resp rest (clients_lend cs (λ k d at. named (suc k) d at)))
+      lends_in naming c.req (outlet c.resp ∷ rest) (buffers_stay naming c.req (by_offset c.pool ∷ []) (named 0 c refl)) (lends_out naming c.resp rest (clients_lend cs (λ k d at. named (suc k) d at)))
 
   pub virt_holds : (v : BlkVirt) → NamesBlk naming (virt_part v) → length (from_queues v.ends) ≡ length (holders v.work.desk) → length (to_queues v.ends) ≡ length (holders v.work.desk) → BlkVirtBalances v passed → HoldsIts naming sizes m passed (holder_of (blk_sheet scene (virt_part v)) (bodies_of (work_cargo v.work)) no_lent)
   virt_holds v names from_each to_each balance =

@@ -3,6 +3,7 @@ use Rattle.std.proofs.Common.{◌≡◌, ◌==◌, ◌&&◌, ◌*◌, ◌<◌, �
 use Rattle.std.specs.List.{filter}
 use Rattle.std.proofs.lemmas.Bool.{and_parts}
 use Rattle.std.proofs.lemmas.List.{append-nil}
+use Rattle.cargo_core.specs.Blocks.{blk_buffer_bytes}
 use Rattle.cargo_core.specs.Items.{kind_of}
 use Rattle.cargo_core.specs.declared.item.Body.{Body}
 use Rattle.cargo_core.specs.declared.item.Body.TheVariants as Carried
@@ -32,7 +33,7 @@ use Rattle.blk_virt.specs.declared.virtualiser.BlkVirt.{BlkVirt}
 use Rattle.play_core.specs.Rests.Showing.{HaveItems}
 use Rattle.owner_law.specs.Pools.Handing.{AllCarry, TakesPages, PutsPages, HandsOn}
 use Rattle.owner_law.proofs.PoolsLemmas.Merging.{kept_at, kept_is}
-use Rattle.owner_law.specs.Pools.Places.{PoolAt}
+use Rattle.owner_law.specs.Pools.Places.{PoolAt, by_offset}
 use Rattle.net_law.proofs.PartsLemmas.Items.{all_at}
 use Rattle.net_law.proofs.PartsLemmas.Leasing.{prefix_get}
 use Rattle.net_law.proofs.PartsLemmas.Pairs.{twice, pair_first}
@@ -41,7 +42,7 @@ use Rattle.blk_law.specs.Sheets.Parts.{Sharer}
 use Rattle.blk_law.specs.Sheets.Playing.{VirtInTurn, holder_pool, sharers, virt_part}
 use Rattle.blk_law.specs.Sheets.Rows.{IsRequestIn, item_for_disk, numbered_item}
 use Rattle.blk_law.specs.Sheets.Table.{blk_sheet, sharer_ends}
-use Rattle.blk_law.specs.Owners.Answering.{offset_window, disk_windows, IsInOrder}
+use Rattle.blk_law.specs.Owners.Answering.{disk_windows, IsInOrder}
 use Rattle.blk_law.proofs.OwnersLemmas.Windows.{on_name, own_name}
 use Rattle.blk_law.proofs.OwnersLemmas.Serving.{numbered_name}
 use Rattle.blk_quiet.specs.Pools.Naming.{NamesServed}
@@ -49,18 +50,18 @@ use Rattle.blk_quiet.proofs.PoolsLemmas.Alike.{SamePage, ArePaired, own_paired, 
 use Rattle.blk_quiet.proofs.PoolsLemmas.Carrying.{put_at, took_at, answer_carries, carries_answer}
 
 -- a request in its client's own buffer is at the offset of that
-own_in : (h : Holder) (x : Cargo) → is_own h x ≡ true → (number : ℕ) × (number < h.buffers) × ((request_of x.0).addr ≡ number * 32768)
+own_in : (h : Holder) (x : Cargo) → is_own h x ≡ true → (number : ℕ) × (number < h.buffers) × ((request_of x.0).addr ≡ number * blk_buffer_bytes)
 own_in h (item, Carried.Page page) own =
     let one = and_parts _ _ own in
     let two = and_parts _ _ one.1 in
-    (page.no, ltb-true page.no h.buffers two.0, eqb-true (request_of item).addr (page.no * 32768) two.1)
+    (page.no, ltb-true page.no h.buffers two.0, eqb-true (request_of item).addr (page.no * blk_buffer_bytes) two.1)
 own_in h (item, Carried.Lease lease) own = absurd cc
 own_in h (item, Carried.Empty) own = absurd cc
 
 good_in : (h : Holder) (x : Cargo) → is_bad h x ≡ false → IsRequestIn (holder_pool h) x.0
 good_in h x good moves = by (is_own h x) refl
   where
-    by : (t : Bool) → is_own h x ≡ t → (number : ℕ) × (number < h.buffers) × ((request_of x.0).addr ≡ number * 32768)
+    by : (t : Bool) → is_own h x ≡ t → (number : ℕ) × (number < h.buffers) × ((request_of x.0).addr ≡ number * blk_buffer_bytes)
     by true own = own_in h x own
     by false own = let bad : (moves_blocks (request_of x.0).code && not (is_own h x)) ≡ true = ap₂ (λ a b. a && not b) moves own in absurd cc
 
@@ -104,7 +105,7 @@ module _ (naming : Naming) (scene : Scene) (passed : Passed) (m : Moved) (items 
   o = v.ends.output.queue.0
 
   abbrev pool : PoolAt
-  pool = record { number = v.work.opening.own.pool.0; base = v.work.opening.base; buffers = 1; size = 32768 }
+  pool = record { number = v.work.opening.own.pool.0; base = v.work.opening.base; buffers = 1; size = blk_buffer_bytes }
 
   abbrev hs : List Holder
   hs = holders v.work.desk
@@ -164,16 +165,16 @@ module _ (naming : Naming) (scene : Scene) (passed : Passed) (m : Moved) (items 
     came_at : (j : ℕ) (z : Cargo) → slice_get came j ≡ Some z → slice_get (passed.taken c.req) j ≡ Some z
     came_at j z z_at = ap (λ n. slice_get (passed.taken n) j) req_is ∙ z_at
 
-    came_page : (j : ℕ) (z : Cargo) → slice_get came j ≡ Some z → HasPage (offset_window c.pool ∷ []) z
+    came_page : (j : ℕ) (z : Cargo) → slice_get came j ≡ Some z → HasPage (by_offset c.pool ∷ []) z
     came_page j z z_at =
         let seat = pair_first (λ (d : Sharer). intake d.req) (λ d. outlet d.resp) clients k c at in
-        carries_page naming m (offset_window c.pool ∷ []) c.req (inl (names.0.1 k c at).0) j z (takes (suc (suc (twice k))) (intake c.req) seat refl j z (came_at j z z_at))
+        carries_page naming m (by_offset c.pool ∷ []) c.req (inl (names.0.1 k c at).0) j z (takes (suc (suc (twice k))) (intake c.req) seat refl j z (came_at j z z_at))
 
     -- and is a request in one of its buffers
     came_asks : (j : ℕ) (z : Cargo) → slice_get came j ≡ Some z → (kind_of z.0 ≡ Kind.Req) × IsRequestIn c.pool z.0
     came_asks j z z_at =
         let good = all_at (λ (x : Cargo). is_bad h x ≡ false) came (turn.good k h s.1 s.3 s.4) j z z_at in (
-          order.requests c.resp c.req (offset_window c.pool ∷ []) (names.0.1 k c at).1 j z.0 (took_at naming passed m items order c.req j z (came_at j z z_at)),
+          order.requests c.resp c.req (by_offset c.pool ∷ []) (names.0.1 k c at).1 j z.0 (took_at naming passed m items order c.req j z (came_at j z z_at)),
           subst (λ (p : PoolAt). IsRequestIn p z.0) (sym pool_is) (good_in h z good),
         )
 
@@ -193,7 +194,7 @@ module _ (naming : Naming) (scene : Scene) (passed : Passed) (m : Moved) (items 
         let body : x.1 ≡ z.0.1 = ap (λ (y : Cargo). y.1) (sym z.2) in
         let item : numbered_item 0 x.0 ≡ item_for_disk h.base part z.0.0 = ap (λ (y : Cargo). y.0) (sym z.2) in
         let base : h.base ≡ c.pool.base = ap (λ (p : PoolAt). p.base) (sym pool_is) in
-        let name : buffer_of ws x.0 ≡ buffer_of (offset_window c.pool ∷ []) z.0.0 =
+        let name : buffer_of ws x.0 ≡ buffer_of (by_offset c.pool ∷ []) z.0.0 =
         sym (numbered_name ws x.0 kind) ∙ (ap (buffer_of ws) (item ∙ ap (λ a. item_for_disk a part z.0.0) base) ∙ on_name pool clients names.1 k c at part z.0.0 asks.0 asks.1) in
         ap (as_page b) body ∙ (page ∙ sym (ap (is_named b) name))
 
@@ -229,7 +230,7 @@ module _ (naming : Naming) (scene : Scene) (passed : Passed) (m : Moved) (items 
       let below = there_below (passed.sent g.2.0) j y put in
       let few = gave_few all (passed.sent g.2.0) serves.buffers in
       let z = there_is all j (omega (arith, below, few)) in
-      answer_carries naming passed m items order (offset_window c.pool ∷ []) c.req c.resp (names.0.1 k c at).1 j z.0 y (took_at naming passed m items order c.req j z.0 (came_at k c at j z.0 z.1)) (came_page k c at j z.0 z.1)
+      answer_carries naming passed m items order (by_offset c.pool ∷ []) c.req c.resp (names.0.1 k c at).1 j z.0 y (took_at naming passed m items order c.req j z.0 (came_at k c at j z.0 z.1)) (came_page k c at j z.0 z.1)
       (answers_paired g.0 (part k c at) all (own_back g.0 (drop 1 sent) (drop 1 row.back)) goes j z.0 y z.1 answer)
     where
       goes : ArePaired (filter (goes_on (h k c at) (part k c at)) (came k c at)) (own_back (h k c at) (drop 1 sent) (drop 1 row.back))

@@ -1,14 +1,12 @@
 -- Which buffers items name by the class's naming, and which queues answer others.
 use Rattle.std.proofs.Common.{◌≡◌, ◌⊎◌, ◌+◌, ◌*◌, ◌<◌, ◌≤◌, ℕ, zero, suc, false, Some, List, [], ◌∷◌, All, length, slice_get, refl, sym, ap, ◌∙◌, subst, arith, inl, inr}
 use Rattle.std.specs.Prelude.{slice_index_or}
-use Rattle.std.proofs.lemmas.Option.{get_or_from_slice_get}
-use Rattle.play_core.proofs.Lists.{some_is, map_from, there_is}
+use Rattle.play_core.proofs.Lists.{some_is, map_from}
 use Rattle.owner_law.specs.Things.{Window, NoBuffers, Answers, naming_of}
 use Rattle.owner_law.specs.Keeping.{is_lending}
 use Rattle.owner_law.specs.Pools.Lines.{IsWithin, NamesWithin}
-use Rattle.owner_law.specs.Pools.Places.{PoolAt}
+use Rattle.owner_law.specs.Pools.Places.{PoolAt, by_address, by_offset}
 use Rattle.blk_law.specs.Sheets.Numbers.{BlkPlace}
-use Rattle.blk_law.specs.Owners.Answering.{block_window, offset_window}
 use Rattle.blk_quiet.specs.Pools.Naming.{disk_side, client_names, blk_names}
 use Rattle.owner_law.proofs.PoolsLemmas.Sizing.{all_from}
 
@@ -26,12 +24,12 @@ module _ (sizes : ℕ → ℕ) (place : BlkPlace) (own : place.pool.buffers ≤ 
     where
       by : (k : ℕ) (w : Window) → slice_get (disk_side place.pool place.pools) k ≡ Some w → IsWithin sizes w
       by zero w at = subst (IsWithin sizes) (some_is at) own
-      by (suc k) w at = let x = map_from block_window place.pools k w at in subst (IsWithin sizes) x.2 (each k x.0 x.1)
+      by (suc k) w at = let x = map_from by_address place.pools k w at in subst (IsWithin sizes) x.2 (each k x.0 x.1)
 
   clients_within : (j : ℕ) (pools : List PoolAt) → ((k : ℕ) (p : PoolAt) → slice_get pools k ≡ Some p → p.buffers ≤ sizes p.number) → (n : ℕ) → NamesWithin sizes (slice_index_or (client_names place.first j pools) n NoBuffers)
   clients_within j [] some n = tt
-  clients_within j (p ∷ pools) some zero = one_window (offset_window p) (some 0 p refl)
-  clients_within j (p ∷ pools) some (suc zero) = one_window (offset_window p) (some 0 p refl)
+  clients_within j (p ∷ pools) some zero = one_window (by_offset p) (some 0 p refl)
+  clients_within j (p ∷ pools) some (suc zero) = one_window (by_offset p) (some 0 p refl)
   clients_within j (p ∷ pools) some (suc (suc n)) = clients_within (j + 1) pools (λ k q at. some (suc k) q at) n
 
   pub blk_within : (i : ℕ) → NamesWithin sizes (naming_of (blk_names place) i)

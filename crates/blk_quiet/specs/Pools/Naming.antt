@@ -1,21 +1,21 @@
 -- What the items of the block class's queues name, by the number of its first queue, and its pools.
 use Rattle.std.specs.Prelude.{◌≡◌, ◌+◌, ◌*◌, ◌-◌, ℕ, List, [], ◌∷◌, map}
 use Rattle.owner_law.specs.Things.{Window, Names, Buffers, Answers, Naming, naming_of}
-use Rattle.owner_law.specs.Pools.Places.{PoolAt}
+use Rattle.owner_law.specs.Pools.Places.{PoolAt, by_address, by_offset}
 use Rattle.blk_law.specs.Sheets.Parts.{BlkPart, DiskDevice, BlkDriver, BlkVirt, BlkClient}
 use Rattle.blk_law.specs.Sheets.Numbers.{BlkPlace, sharers_from}
-use Rattle.blk_law.specs.Owners.Answering.{block_window, offset_window, NamesBlk, ArePoolsApart}
+use Rattle.blk_law.specs.Owners.Answering.{NamesBlk, ArePoolsApart}
 
 -- the virtualiser's own buffer and those of the clients, by device addresses
 abbrev pub disk_side : PoolAt → List PoolAt → List Window
-disk_side pool pools = block_window pool ∷ map block_window pools
+disk_side pool pools = by_address pool ∷ map by_address pools
 
 -- clients from a number on: of each its requests in its own buffers, by offsets, and the responses
 -- to them
 abbrev pub client_names : (first k : ℕ) → List PoolAt → List Names
 client_names first k [] = []
-client_names first k (p ∷ pools) = Buffers (offset_window p ∷ [])
-    ∷ Answers (first + 4 + 2 * k) (offset_window p ∷ []) ∷ client_names first (k + 1) pools
+client_names first k (p ∷ pools) = Buffers (by_offset p ∷ [])
+    ∷ Answers (first + 4 + 2 * k) (by_offset p ∷ []) ∷ client_names first (k + 1) pools
 
 -- the class's queues in the order of the layout's table: requests and responses at the disk, the
 -- same between the driver and the virtualiser, and each client's

@@ -38,6 +38,7 @@ use Rattle.blk_law.specs.Owners.Answering.{PutsItsOwnInOrder}
 use Rattle.blk_law.proofs.OwnersLemmas.Copying.{disk_keeps, driver_keeps}
 use Rattle.blk_law.proofs.OwnersLemmas.Asking.{client_keeps}
 use Rattle.blk_law.proofs.OwnersLemmas.Serving.{virt_keeps}
+use Rattle.blk_law.proofs.HopsLemmas.Sharers.{sharer, sharer_there}
 use Rattle.blk_quiet.specs.Pools.Naming.{blk_names, blk_naming, HasApartPools, IsNamedAt, NamesServed}
 use Rattle.blk_quiet.proofs.PoolsLemmas.Naming.{disk_named, driver_named as blk_driver_named, virt_named, client_named as blk_client_named}
 use Rattle.blk_quiet.proofs.PoolsLemmas.Sizing.{blk_past}
@@ -167,7 +168,7 @@ module _ (rows : List QueueRow) (cast : List Part) (seated : AreSeated (sheet (s
     block_named blk has apart a is p (inl e) = subst (NamesServed a) (sym e) (disk_named a blk is, tt)
     block_named blk has apart a is p (inr (inl e)) = subst (NamesServed a) (sym e) (blk_driver_named a blk is, tt)
     block_named blk has apart a is p (inr (inr (inl e))) = subst (NamesServed a) (sym e) (virt_named a blk is has.pools_many, apart)
-    block_named blk has apart a is p (inr (inr (inr x))) = subst (NamesServed a) (sym x.5) (blk_client_named a blk is x.0 x.2 x.3 x.4.has_pool (has.some x.0 x.3 x.4.has_pool), tt)
+    block_named blk has apart a is p (inr (inr (inr x))) = subst (NamesServed a) (sym x.5) (blk_client_named a blk is x.0 x.2 x.3 x.4.has_pool (apart.some x.0 (sharer blk.first x.0 x.1 x.3) (sharer_there blk x.0 x.1 x.3 x.4.has_entry x.4.has_pool)), tt)
 
     net_names_at : (o : Option NetPlace) → HasNetAt rows o cast → (k : ℕ) (p : NetPart) → slice_get cast k ≡ Some (NetworkPart p) → NamesAt (behind (first_naming scene o) b) scene (NetworkPart p)
     net_names_at None none k p at = absurd (none.none k p at)

@@ -47,11 +47,11 @@ answers_behind naming blk q r ws never is = by (cases_lt q blk.first)
     by (inr ge) = (q - blk.first, omega (arith, ge), blk_answers blk (q - blk.first) r ws (sym (ap (λ t. cond t (naming q) (blk_naming blk q)) (le-ltb q blk.first ge)) ∙ is))
 
 -- what a client may put are requests
-asked_kind : (id used hand buffers : ℕ) (asks : List Ask) (j : ℕ) (i : Item) → slice_get (asked_items id used hand buffers asks) j ≡ Some i → kind_of i ≡ Kind.Req
-asked_kind id used hand buffers [] j i at = cc
-asked_kind id used hand buffers (a ∷ asks) j i at = by (needs_buffer a.code) (nat_lt used hand) j at (λ h e. asked_kind (id + 1) (used + 1) hand buffers asks h i e) (λ h e. asked_kind (id + 1) used hand buffers asks h i e)
+asked_kind : (id used hand buffers size : ℕ) (asks : List Ask) (j : ℕ) (i : Item) → slice_get (asked_items id used hand buffers size asks) j ≡ Some i → kind_of i ≡ Kind.Req
+asked_kind id used hand buffers size [] j i at = cc
+asked_kind id used hand buffers size (a ∷ asks) j i at = by (needs_buffer a.code) (nat_lt used hand) j at (λ h e. asked_kind (id + 1) (used + 1) hand buffers size asks h i e) (λ h e. asked_kind (id + 1) used hand buffers size asks h i e)
   where
-    by : (t u : Bool) (h : ℕ) → slice_get (cond t (cond u (request_for a id ((used % buffers) * 32768) ∷ asked_items (id + 1) (used + 1) hand buffers asks) []) (request_for a id 0 ∷ asked_items (id + 1) used hand buffers asks)) h ≡ Some i → ((n : ℕ) → slice_get (asked_items (id + 1) (used + 1) hand buffers asks) n ≡ Some i → kind_of i ≡ Kind.Req) → ((n : ℕ) → slice_get (asked_items (id + 1) used hand buffers asks) n ≡ Some i → kind_of i ≡ Kind.Req) → kind_of i ≡ Kind.Req
+    by : (t u : Bool) (h : ℕ) → slice_get (cond t (cond u (request_for a id ((used % buffers) * size) ∷ asked_items (id + 1) (used + 1) hand buffers size asks) []) (request_for a id 0 ∷ asked_items (id + 1) used hand buffers size asks)) h ≡ Some i → ((n : ℕ) → slice_get (asked_items (id + 1) (used + 1) hand buffers size asks) n ≡ Some i → kind_of i ≡ Kind.Req) → ((n : ℕ) → slice_get (asked_items (id + 1) used hand buffers size asks) n ≡ Some i → kind_of i ≡ Kind.Req) → kind_of i ≡ Kind.Req
     by true true zero e one two = ap kind_of (sym (some_is e))
     by true true (suc h) e one two = one h e
     by true false h e one two = cc
@@ -123,7 +123,7 @@ module _ (rows : List QueueRow) (blk : BlkPlace) (cast : List Part) (has : HasBl
       let p = there_is blk.pools y.0 y.1 in
       let row = client_row y.0 p.0 p.1 in
       let there : slice_get (m.sent (blk.first + 4 + 2 * y.0)) j ≡ Some x = ap (λ r. slice_get (m.sent r) j) (sym y.3) ∙ at in
-      asked_kind 0 0 _ (own_pool p.0).buffers (at_client rows blk cast has y.0 p.0 p.1).0 j x (prefix_get (m.sent (blk.first + 4 + 2 * y.0)) _ row.begins j x there)
+      asked_kind 0 0 _ (own_pool p.0).buffers (own_pool p.0).size (at_client rows blk cast has y.0 p.0 p.1).0 j x (prefix_get (m.sent (blk.first + 4 + 2 * y.0)) _ row.begins j x there)
 
 module _ (rows : List QueueRow) (n : Option NetPlace) (cast : List Part) (m : Moved) (holds : RowsHold (sheet (scene_of cast)) (hostiles cast) cast m) (over : (q : ℕ) → IsPrefix (m.taken q) (m.sent q)) where
   abbrev scene_ : Scene

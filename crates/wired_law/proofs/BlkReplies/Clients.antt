@@ -1,5 +1,5 @@
 -- What a client recorded, from the rows of the class at its queues.
-use Rattle.std.proofs.Common.{◌≡◌, ◌+◌, ◌*◌, ◌++◌, ℕ, zero, suc, false, Some, List, [], ◌∷◌, length, drop, slice_get, refl, sym, ap, ◌∙◌, subst, arith}
+use Rattle.std.proofs.Common.{◌≡◌, ◌≤◌, ◌+◌, ◌*◌, ◌++◌, ℕ, zero, suc, false, Some, List, [], ◌∷◌, length, drop, slice_get, refl, sym, ap, ◌∙◌, subst, arith}
 use Rattle.cargo_core.specs.Items.{kind_of}
 use Rattle.cargo_core.specs.Lists.{IsPrefix}
 use Rattle.cargo_core.specs.Pages.{Paged}
@@ -33,7 +33,7 @@ use Rattle.wired_law.proofs.BlkReplies.Disks.{all_from, behind, leaves}
 
 -- a buffer takes eight blocks
 abbrev IsRoom : Paged → Type 0
-IsRoom p = length p.bytes ≡ 32768
+IsRoom p = 8 * 4096 ≤ length p.bytes
 
 pages_room : (ys : List Cargo) → ((i : ℕ) (y : Cargo) → slice_get ys i ≡ Some y → IsWhole y.1) → (j : ℕ) (p : Paged) → slice_get (pages_in ys) j ≡ Some p → IsRoom p
 pages_room [] each j p at = cc
@@ -104,7 +104,7 @@ module _ (place : BlkPlace) (passed : Passed) (h : IsBlkCast place passed) where
       room =
           let whole : (i : ℕ) (y : Cargo) → slice_get is.row.came i ≡ Some y → IsWhole y.1 = λ i y y_at.
           (back_own place passed h k entry asks pool of ask i y (ap (λ n. slice_get (passed.taken n) i) (sym own.1) ∙ prefix_get is.row.came (passed.taken (resp_queue c)) took i y y_at)).1 in
-          all_from IsRoom (is.row.start ++ pages_in is.row.came) (both_room is.row.start (pages_in is.row.came) is.row.is_start.are_pool.sized (pages_room is.row.came whole))
+          all_from IsRoom (is.row.start ++ pages_in is.row.came) (both_room is.row.start (pages_in is.row.came) (λ i p p_at. (let long = is.row.is_start.are_pool.sized i p p_at in omega (arith, long))) (pages_room is.row.came whole))
 
       recorded_by : (g : Holder) (q r : QueueId) → IsDeskClient g q r → IsPrefix (replies_to asks is.row.came) (replies_of place.image entry asks)
       recorded_by g q r d =
