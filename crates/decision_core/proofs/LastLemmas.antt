@@ -11,7 +11,7 @@ use Rattle.sdf_model.specs.Counts.{text_most}
 use Rattle.shelf_core.specs.Outside.{IsRead, read_most, also_opened}
 use Rattle.decision_core.specs.Decisions.{Decision, asked_on, AsksFor, TextDecides, TraceDecides, GeneratedDecides, long_description, refused, accepted, long_trace, bad_trace, good_trace, NamesDescription, IsStatusOf}
 use Rattle.shelf_core.specs.Reading.{Behind, WasRead}
-use Rattle.decision_core.specs.Readings.{IsLong, IsWithinLimit, IsOfText, IsOfPlay, IsUnread, LeavesPlay, LeavesPlan, LeavesText, ReadLast, read_description, read_trace, OpensTrace, OpensText, OpensInTurn, opens_description, opens_trace}
+use Rattle.decision_core.specs.Readings.{IsLong, IsWithinLimit, IsOfText, IsOfPlay, IsUnread, LeavesPlan, LeavesText, ReadLast, read_description, read_trace, OpensTrace, OpensText, OpensInTurn, opens_description, opens_trace}
 use Rattle.decision_core.specs.Judged.{IsAccepted}
 use Rattle.decision_core.proofs.DecisionLemmas.{same-desc}
 
@@ -38,11 +38,6 @@ pub trace-status : (told : Option (List ℕ)) (plan : Plan) (a : Asked) (bytes :
 trace-status told plan a bytes _ s r (long_trace l) h = inl (long-read told bytes r l, h)
 trace-status told plan a bytes _ s r (bad_trace k l b) h = inr (within-read told bytes r l, rw h tt)
 trace-status told plan a bytes _ s r (good_trace l g) h = inr (within-read told bytes r l, asked-leads plan _ a s h)
-
--- what was asked of a trace leaves what a plan leaves
-pub play-leaves : (told : List ℕ → Option (List ℕ)) (words : List (List ℕ)) (desc trace : List ℕ) (options : Asked) (old new : Option (List ℕ)) (before after : Option (List (List ℕ))) (s : Status)
-    → AsksFor words desc trace options → after ≡ also_opened before trace → LeavesPlay told trace old new s → LeavesPlan told words old new before after s
-play-leaves told words desc trace options old new before after s p o h = inr (desc, trace, options, p, h.0, h.1, o)
 
 -- the description was opened, and then the trace
 opened-both : (words : List (List ℕ)) (desc desc' trace : List ℕ) (asked : Asked) (start before after : Option (List (List ℕ))) → NamesDescription words desc → AsksFor words desc' trace asked

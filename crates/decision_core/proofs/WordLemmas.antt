@@ -1,13 +1,13 @@
-use Rattle.std.proofs.Common.{◌≡◌, ℕ, Option, List, [], ◌∷◌, refl, sym, ap, ◌∙◌, subst, inl, inr, get_or}
+use Rattle.std.proofs.Common.{◌≡◌, ◌<◌, ℕ, List, [], ◌∷◌, length, refl, sym, ap, ◌∙◌, subst, inl, inr, get_or, arith}
 use Rattle.std.specs.Prelude.{string_bytes}
 use Rattle.std.specs.Global.{Global}
 use Rattle.std.specs.declared.string.String.{String}
 use Rattle.command_words.specs.declared.command.Command.{Command}
 use Rattle.command_words.specs.declared.command.Command.TheVariants as Do
-use Rattle.command_words.specs.declared.command.Options.{Options}
 use Rattle.command_words.specs.Words.{texts_of, IsCheck, IsLayout, IsPlay, IsRun, IsGen, Spells}
 use Rattle.command_words.proofs.Letters.{run-or-gen}
 use Rattle.decision_core.specs.declared.showing.Showing.TheVariants as Show
+use Rattle.decision_core.specs.declared.showing.Asked.{Asked}
 use Rattle.decision_core.specs.declared.showing.Asked.TheVariants as Ask
 use Rattle.decision_core.specs.Decisions.{NamesDescription, AsksFor, to_play, to_run}
 
@@ -52,13 +52,21 @@ third-word (a ∷ b ∷ c ∷ ws) first desc trace more w f e =
     let t : trace ≡ string_bytes c = cc in
     t ∙ ap (λ (x : String Global). string_bytes x) (sym e)
 
-pub play-named : (words : List (String Global)) (desc trace : List ℕ) (o : Options) (w : String Global) → IsPlay (texts_of words) desc trace o → w ≡ get_or words 2 w
-    → AsksFor (texts_of words) desc (string_bytes w) (Ask.Play (Show.Report o))
-play-named words desc trace o w p e = to_play o (subst (λ x. IsPlay (texts_of words) desc x o) (third-word words _ desc trace _ w p.words_are e) p)
+-- the trace in words that ask for something of it
+pub third-named : (words : List (String Global)) (desc trace : List ℕ) (asked : Asked) (w : String Global) → AsksFor (texts_of words) desc trace asked → w ≡ get_or words 2 w
+    → AsksFor (texts_of words) desc (string_bytes w) asked
+third-named words desc trace _ w (to_play o p) e = to_play o (subst (λ x. IsPlay (texts_of words) desc x o) (third-word words _ desc trace _ w p.words_are e) p)
+third-named words desc trace _ w (to_run n p) e = to_run n (subst (λ x. IsRun (texts_of words) desc x n) (third-word words _ desc trace _ w p.words_are e) p)
 
-pub run-named : (words : List (String Global)) (desc trace : List ℕ) (n : Option ℕ) (w : String Global) → IsRun (texts_of words) desc trace n → w ≡ get_or words 2 w
-    → AsksFor (texts_of words) desc (string_bytes w) (Ask.Run n)
-run-named words desc trace n w p e = to_run n (subst (λ x. IsRun (texts_of words) desc x n) (third-word words _ desc trace _ w p.words_are e) p)
+three-words : (words : List (String Global)) (first desc trace : List ℕ) (more : List (List ℕ)) → texts_of words ≡ first ∷ desc ∷ trace ∷ more → 2 < length words
+three-words [] first desc trace more f = cc
+three-words (a ∷ []) first desc trace more f = cc
+three-words (a ∷ b ∷ []) first desc trace more f = cc
+three-words (a ∷ b ∷ c ∷ ws) first desc trace more f = omega arith
+
+pub asks-three : (words : List (String Global)) (desc trace : List ℕ) (asked : Asked) → AsksFor (texts_of words) desc trace asked → 2 < length words
+asks-three words desc trace _ (to_play o p) = three-words words _ desc trace _ p.words_are
+asks-three words desc trace _ (to_run n p) = three-words words _ desc trace _ p.words_are
 
 -- the words of `gen` spell no other command
 pub gen-alone : (words : List (List ℕ)) (n : ℕ) (c : Command) → IsGen words n → Spells words c → ((m : ℕ) → c ≡ Do.Gen m → ⊥) → ⊥

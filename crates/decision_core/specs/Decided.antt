@@ -1,5 +1,5 @@
 -- What was decided, as it is kept.
-use Rattle.std.specs.Prelude.{string_bytes}
+use Rattle.std.specs.Prelude.{ℕ, Option, List, string_bytes}
 use Rattle.trace_text.specs.Traces.{IsReadFor}
 use Rattle.decision_core.specs.declared.deciding.Decided.{Decided}
 use Rattle.decision_core.specs.declared.deciding.Decided.TheVariants as Is
@@ -24,6 +24,9 @@ AsksToRun (Is.Say status text) = ⊥
 AsksToRun (Is.Go plan trace (Ask.Play showing)) = ⊥
 AsksToRun (Is.Go plan trace (Ask.Run steps)) = Unit {0}
 
--- this holds of each status that the decision may lead to
-abbrev pub OfEach : Decided → (Status → Type 0) → Type 0
-OfEach decided P = (status : Status) → IsStatusOf (decision_of decided) status → P status
+-- this is left on a shelf, and was opened, for each status that the decision may lead to
+abbrev pub OfEach : (Option (List ℕ) → Option (List ℕ) → Option (List (List ℕ))
+    → Option (List (List ℕ)) → Status → Type 0) → Decided → Option (List ℕ) → Option (List ℕ)
+    → Option (List (List ℕ)) → Option (List (List ℕ)) → Type 0
+OfEach leaves decided old new before after =
+    (status : Status) → IsStatusOf (decision_of decided) status → leaves old new before after status

@@ -49,20 +49,21 @@ abbrev pub IsOfText : Option (List ℕ) → (Status → Type 0) → Status → T
 IsOfText told answers status =
     (IsLong told × (status ≡ Ended.TooLong)) ⊎ (IsWithinLimit told × answers status)
 
--- what is left on the shelf once the trace of a play or a run was read and answered
+-- what is left on the shelf once the trace of a play or a run was read and answered, and what was
+-- opened for it
 abbrev pub LeavesPlay : (List ℕ → Option (List ℕ)) → List ℕ → Option (List ℕ) → Option (List ℕ)
-    → Status → Type 0
-LeavesPlay told trace old new status =
+    → Option (List (List ℕ)) → Option (List (List ℕ)) → Status → Type 0
+LeavesPlay told trace old new before after status =
     Behind told trace new × IsOfText (told trace) IsOfPlay status
+    × (after ≡ also_opened before trace)
 
--- the same of the words of a command whose description was read, and what was opened for it
+-- the same of the words of a command whose description was read
 abbrev pub LeavesPlan : (List ℕ → Option (List ℕ)) → List (List ℕ) → Option (List ℕ)
     → Option (List ℕ) → Option (List (List ℕ)) → Option (List (List ℕ)) → Status → Type 0
 LeavesPlan told words old new before after status =
     (IsOfPlan words status × (new ≡ old) × (after ≡ before))
     ⊎ ((desc : List ℕ) × (trace : List ℕ) × (asked : Asked) × AsksFor words desc trace asked
-    × Behind told trace new × IsOfText (told trace) IsOfPlay status
-    × (after ≡ also_opened before trace))
+    × LeavesPlay told trace old new before after status)
 
 -- the same of these bytes of a description
 abbrev pub LeavesText : (List ℕ → Option (List ℕ)) → List (List ℕ) → List ℕ → Option (List ℕ)

@@ -1,21 +1,20 @@
 //! What the words and the texts under their names decide, one function for each stage: words,
 //! description, plan, trace.
-ghost use Rattle.std.specs.Prelude.{◌≡◌, None, Err, IfOk, OnOk, OnErr, ℕ, List};
-ghost use Rattle.cargo_core.specs.declared.memory.Memory.{Memory};
+ghost use Rattle.std.specs.Prelude.{◌≡◌, Err, IfOk, ℕ, List};
 ghost use Rattle.sdf_plan.specs.declared.place.Refusal.{Refusal};
 ghost use Rattle.region_layout.specs.Layouts.{layout_of};
 ghost use Rattle.report_text.specs.Answers.{usage_text, accepted_text, bad_trace_text};
 ghost use Rattle.report_text.specs.Layouts.{layout_text};
 ghost use Rattle.command_words.specs.Words.{texts_of, IsGen, Spells, last_name};
 ghost use Rattle.command_words.specs.declared.command.Command.{Command};
-ghost use Rattle.shelf_core.specs.Outside.{FailsLast, also_opened};
+ghost use Rattle.shelf_core.specs.Shelves.{ReadsFrom};
 ghost use Rattle.decision_core.specs.Judged.{IsAcceptedPlan};
 ghost use Rattle.decision_core.specs.Decided.{decision_of, OfEach};
 ghost use Rattle.decision_core.specs.Decisions.{Say, AsksFor, Decides, TextDecides, PlanDecides};
 ghost use Rattle.decision_core.specs.Decisions.{TraceDecides, GeneratedDecides, refuses, too_long};
 ghost use Rattle.decision_core.specs.Generating.{IsSummary};
 ghost use Rattle.shelf_core.specs.Reading.{WasRead};
-ghost use Rattle.decision_core.specs.Readings.{LeavesPlay, LeavesPlan, LeavesText, ReadLast};
+ghost use Rattle.decision_core.specs.Readings.{LeavesPlan, LeavesText, ReadLast};
 ghost use Rattle.decision_core.specs.Readings.{OpensTrace, OpensText, OpensInTurn};
 
 use crate::judging::judge;
@@ -150,28 +149,22 @@ fn decide_gen(alloc: Global, desc: &[u8], number: u64) -> Result<Decided, Memory
     }
 }
 
-/// What the trace of this name decides for a plan.
+/// What the trace that the words name decides for a plan.
 fn decide_named<F: Shelf>(
     alloc: Global,
     shelf: &mut F,
+    words: &[String],
     plan: Plan,
     asked: Asked,
-    trace: &str,
 ) -> Result<Decided, ReadStop>
-    ensures texts { (n : List ℕ) → F.text shelf.new n ≡ F.text shelf.old n }
-    ensures decides { IfOk result (λ d. (words : List (List ℕ)) (desc : List ℕ)
-        → AsksFor words desc trace.now asked
-        → PlanDecides (WasRead (F.text shelf.old)) words plan (decision_of d)) }
-    ensures last { IfOk result (λ d. OfEach d (LeavesPlay (F.text shelf.old) trace.now
-        (F.left shelf.old) (F.left shelf.new))) }
-    ensures opens { F.opens shelf.new ≡ also_opened (F.opens shelf.old) trace.now }
-    ensures calm { OnOk result (F.faults shelf.new ≡ F.faults shelf.old) }
-    ensures failed { result ≡ Err ReadStop.Failed → FailsLast (F.faults shelf.old)
-        (F.faults shelf.new) (F.failed shelf.new) }
-    ensures starved { (memory : Memory) → result ≡ Err (ReadStop.Memory memory)
-        → F.faults shelf.new ≡ F.faults shelf.old }
+    requires { (desc : List ℕ) × (trace : List ℕ) × AsksFor (texts_of words.now) desc trace asked }
+    ensures decides { IfOk result (λ d. PlanDecides (WasRead (F.text shelf.old))
+        (texts_of words.now) plan (decision_of d)) }
+    ensures reads { ReadsFrom F.text F.left F.opens F.faults F.failed
+        (OpensTrace (texts_of words.now))
+        (OfEach (LeavesPlan (F.text shelf.old) (texts_of words.now))) shelf.old shelf.new result }
 {
-    let bytes = read_text(alloc, shelf, trace)?;
+    let bytes = read_text(alloc, shelf, words[2].as_str())?;
     Ok(decide_trace(alloc, plan, asked, bytes.as_slice())?)
 }
 
@@ -186,28 +179,19 @@ fn decide_plan<F: Shelf>(
     requires accepted { IsAcceptedPlan plan }
     requires spells { Spells (texts_of words.now) command }
     requires named { (n : ℕ) → command ≡ Command.Gen n → ⊥ }
-    ensures texts { (n : List ℕ) → F.text shelf.new n ≡ F.text shelf.old n }
     ensures decides { IfOk result (λ d. PlanDecides (WasRead (F.text shelf.old))
         (texts_of words.now) plan (decision_of d)) }
-    ensures last { IfOk result (λ d. OfEach d (LeavesPlan (F.text shelf.old) (texts_of words.now)
-        (F.left shelf.old) (F.left shelf.new) (F.opens shelf.old) (F.opens shelf.new))) }
-    ensures opens { OpensTrace (texts_of words.now) (F.opens shelf.old) (F.opens shelf.new) }
-    ensures calm { OnOk result (F.faults shelf.new ≡ F.faults shelf.old) }
-    ensures failed { result ≡ Err ReadStop.Failed → FailsLast (F.faults shelf.old)
-        (F.faults shelf.new) (F.failed shelf.new) }
-    ensures starved { (memory : Memory) → result ≡ Err (ReadStop.Memory memory)
-        → F.faults shelf.new ≡ F.faults shelf.old }
+    ensures reads { ReadsFrom F.text F.left F.opens F.faults F.failed
+        (OpensTrace (texts_of words.now))
+        (OfEach (LeavesPlan (F.text shelf.old) (texts_of words.now))) shelf.old shelf.new result }
 {
     match command {
         Command::Check => Ok(say_accepted(alloc, &plan)?),
         Command::Layout => Ok(say_layout(alloc, &plan)?),
         Command::Play(options) => {
-            let asked = Asked::Play(Showing::Report(options));
-            decide_named(alloc, shelf, plan, asked, words[2].as_str())
+            decide_named(alloc, shelf, words, plan, Asked::Play(Showing::Report(options)))
         }
-        Command::Run(steps) => {
-            decide_named(alloc, shelf, plan, Asked::Run(steps), words[2].as_str())
-        }
+        Command::Run(steps) => decide_named(alloc, shelf, words, plan, Asked::Run(steps)),
         Command::Gen(_) => unreachable!(),
     }
 }
@@ -222,20 +206,13 @@ fn decide_text<F: Shelf>(
 ) -> Result<Decided, ReadStop>
     requires spells { Spells (texts_of words.now) command }
     requires named { (n : ℕ) → command ≡ Command.Gen n → ⊥ }
-    ensures texts { (n : List ℕ) → F.text shelf.new n ≡ F.text shelf.old n }
     ensures decides { IfOk result (λ d. TextDecides
         (PlanDecides (WasRead (F.text shelf.old)) (texts_of words.now)) text.now
         (decision_of d)) }
-    ensures last { IfOk result (λ d. OfEach d (LeavesText (F.text shelf.old) (texts_of words.now)
-        text.now (F.left shelf.old) (F.left shelf.new) (F.opens shelf.old)
-        (F.opens shelf.new))) }
-    ensures opens { OpensText (texts_of words.now) text.now (F.opens shelf.old)
-        (F.opens shelf.new) }
-    ensures calm { OnOk result (F.faults shelf.new ≡ F.faults shelf.old) }
-    ensures failed { result ≡ Err ReadStop.Failed → FailsLast (F.faults shelf.old)
-        (F.faults shelf.new) (F.failed shelf.new) }
-    ensures starved { (memory : Memory) → result ≡ Err (ReadStop.Memory memory)
-        → F.faults shelf.new ≡ F.faults shelf.old }
+    ensures reads { ReadsFrom F.text F.left F.opens F.faults F.failed
+        (OpensText (texts_of words.now) text.now)
+        (OfEach (LeavesText (F.text shelf.old) (texts_of words.now) text.now))
+        shelf.old shelf.new result }
 {
     if text.len() > TEXT_MOST {
         return Ok(say_too_long(alloc)?);
@@ -255,18 +232,12 @@ fn decide_command<F: Shelf>(
 ) -> Result<Decided, ReadStop>
     requires spells { Spells (texts_of words.now) command }
     requires named { (n : ℕ) → command ≡ Command.Gen n → ⊥ }
-    ensures texts { (n : List ℕ) → F.text shelf.new n ≡ F.text shelf.old n }
     ensures decides { IfOk result (λ d. Decides (WasRead (F.text shelf.old))
         (texts_of words.now) (decision_of d)) }
-    ensures last { IfOk result (λ d. OfEach d (ReadLast (F.text shelf.old) (texts_of words.now)
-        (F.left shelf.old) (F.left shelf.new) (F.opens shelf.old) (F.opens shelf.new))) }
-    ensures opens { OpensInTurn (WasRead (F.text shelf.old)) (texts_of words.now)
-        (F.opens shelf.old) (F.opens shelf.new) }
-    ensures calm { OnOk result (F.faults shelf.new ≡ F.faults shelf.old) }
-    ensures failed { result ≡ Err ReadStop.Failed → FailsLast (F.faults shelf.old)
-        (F.faults shelf.new) (F.failed shelf.new) }
-    ensures starved { (memory : Memory) → result ≡ Err (ReadStop.Memory memory)
-        → F.faults shelf.new ≡ F.faults shelf.old }
+    ensures reads { ReadsFrom F.text F.left F.opens F.faults F.failed
+        (OpensInTurn (WasRead (F.text shelf.old)) (texts_of words.now))
+        (OfEach (ReadLast (F.text shelf.old) (texts_of words.now)))
+        shelf.old shelf.new result }
 {
     let text = read_text(alloc, shelf, words[1].as_str())?;
     decide_text(alloc, shelf, words, command, text.as_slice())
@@ -278,18 +249,12 @@ pub fn decide_words<F: Shelf>(
     words: &[String],
     shelf: &mut F,
 ) -> Result<Decided, ReadStop>
-    ensures texts { (n : List ℕ) → F.text shelf.new n ≡ F.text shelf.old n }
     ensures decides { IfOk result (λ d. Decides (WasRead (F.text shelf.old))
         (texts_of words.now) (decision_of d)) }
-    ensures last { IfOk result (λ d. OfEach d (ReadLast (F.text shelf.old) (texts_of words.now)
-        (F.left shelf.old) (F.left shelf.new) (F.opens shelf.old) (F.opens shelf.new))) }
-    ensures opens { OpensInTurn (WasRead (F.text shelf.old)) (texts_of words.now)
-        (F.opens shelf.old) (F.opens shelf.new) }
-    ensures calm { OnOk result (F.faults shelf.new ≡ F.faults shelf.old) }
-    ensures failed { result ≡ Err ReadStop.Failed → FailsLast (F.faults shelf.old)
-        (F.faults shelf.new) (F.failed shelf.new) }
-    ensures starved { (memory : Memory) → result ≡ Err (ReadStop.Memory memory)
-        → F.faults shelf.new ≡ F.faults shelf.old }
+    ensures reads { ReadsFrom F.text F.left F.opens F.faults F.failed
+        (OpensInTurn (WasRead (F.text shelf.old)) (texts_of words.now))
+        (OfEach (ReadLast (F.text shelf.old) (texts_of words.now)))
+        shelf.old shelf.new result }
     ensures command { result ≡ Err ReadStop.Failed
         → (command : Command) × Spells (texts_of words.now) command }
     ensures unread { (n : ℕ) → IsGen (texts_of words.now) n → shelf.new ≡ shelf.old }

@@ -1,5 +1,5 @@
 use Rattle.std.proofs.Common.{◌≡◌, ◌⊎◌, inl, inr, ℕ, List, Option, Result, Ok, Err, IfOk, refl, sym, subst, arith}
-use Rattle.std.specs.Prelude.{OnOk, Bool}
+use Rattle.std.specs.Prelude.{Bool}
 use Rattle.cargo_core.specs.declared.memory.Memory.{Memory}
 use Rattle.command_words.specs.declared.command.Command.{Command}
 use Rattle.command_words.specs.Words.{Spells, IsGen}
@@ -9,12 +9,12 @@ use Rattle.shelf_core.specs.declared.reading.ReadStop.TheVariants as Stop
 use Rattle.decision_core.specs.declared.status.Status.{Status}
 use Rattle.decision_core.specs.declared.status.Status.TheVariants as Ended
 use Rattle.sddf_top.specs.declared.played.Played.{Played}
-use Rattle.shelf_core.specs.Outside.{FailsLast}
+use Rattle.shelf_core.specs.Shelves.{ReadsFrom}
 use Rattle.decision_core.specs.Decisions.{Decides}
 use Rattle.shelf_core.specs.Reading.{WasRead}
 use Rattle.sddf_top.specs.Answers.{IsFault, no_reading, no_writing, no_memory}
 use Rattle.decision_core.specs.Readings.{ReadLast, OpensInTurn}
-use Rattle.sddf_top.specs.Outcomes.{FollowsBy, HasTold}
+use Rattle.sddf_top.specs.Outcomes.{FollowsBy, EndsAfter, HasTold}
 use Rattle.sddf_top.specs.Served.{IsServed}
 use Rattle.sddf_top.proofs.AnswerLemmas.{served-status, served-enough, answer-not, not-instead}
 
@@ -31,14 +31,9 @@ starved _ r w no_writing = absurd (w refl)
 starved _ r w (no_memory memory) = (memory, refl)
 
 -- what is known of an answer that was made over a shelf
-pub record IsAnswered {F : Type 0} (text : F → List ℕ → Option (List ℕ)) (left : F → Option (List ℕ)) (opens : F → Option (List (List ℕ))) (reads : F → ℕ) (unreadable : F → Bool) (words : List (List ℕ)) (shelf shelf' : F) (answer : Result Outcome ReadStop) : Type 0 where
-  pub texts : (name : List ℕ) → text shelf' name ≡ text shelf name
+pub record IsAnswered {F : Type 0} (text : F → List ℕ → Option (List ℕ)) (left : F → Option (List ℕ)) (opens : F → Option (List (List ℕ))) (faults : F → ℕ) (failed : F → Bool) (words : List (List ℕ)) (shelf shelf' : F) (answer : Result Outcome ReadStop) : Type 0 where
   pub answers : IfOk answer (FollowsBy (Decides (WasRead (text shelf)) words))
-  pub last : IfOk answer (λ r. ReadLast (text shelf) words (left shelf) (left shelf') (opens shelf) (opens shelf') r.status)
-  pub opened : OpensInTurn (WasRead (text shelf)) words (opens shelf) (opens shelf')
-  pub calm : OnOk answer (reads shelf' ≡ reads shelf)
-  pub failed : answer ≡ Err Stop.Failed → FailsLast (reads shelf) (reads shelf') (unreadable shelf')
-  pub starved : (memory : Memory) → answer ≡ Err (Stop.Memory memory) → reads shelf' ≡ reads shelf
+  pub reads : ReadsFrom text left opens faults failed (OpensInTurn (WasRead (text shelf)) words) (EndsAfter (ReadLast (text shelf) words)) shelf shelf' answer
   pub command : answer ≡ Err Stop.Failed → (command : Command) × Spells words command
   pub unread : (n : ℕ) → IsGen words n → shelf' ≡ shelf
 
@@ -51,11 +46,11 @@ module _ {F K : Type 0} (text : F → List ℕ → Option (List ℕ)) (left : F 
     served = t.served (text shelf) words a.answers;
     exactly = λ decision h. served-status (text shelf) words _ _ _ _ decision h (t.served (text shelf) words a.answers);
     complete = λ decision h e. served-enough (text shelf) words _ _ _ _ decision h e (t.served (text shelf) words a.answers);
-    opened = a.opened;
-    last = last-written (text shelf) words _ _ _ _ _ _ a.last t.ends;
+    opened = a.reads.opened;
+    last = last-written (text shelf) words _ _ _ _ _ _ a.reads.last t.ends;
     read_fault = λ e. absurd (not-instead (WasRead (text shelf)) words _ _ _ _ _ a.answers t.ends no_reading (λ f. cc) e);
-    read_calm = λ n. a.calm;
-    read_always = λ l. absurd (omega (arith, l, a.calm));
+    read_calm = λ n. a.reads.calm;
+    read_always = λ l. absurd (omega (arith, l, a.reads.calm));
     read_command = λ e. absurd (not-instead (WasRead (text shelf)) words _ _ _ _ _ a.answers t.ends no_reading (λ f. cc) e);
     read_unwritten = λ e. absurd (not-instead (WasRead (text shelf)) words _ _ _ _ _ a.answers t.ends no_reading (λ f. cc) e);
     unread = a.unread;
@@ -63,15 +58,15 @@ module _ {F K : Type 0} (text : F → List ℕ → Option (List ℕ)) (left : F 
     write_calm = t.calm;
     write_always = t.always;
     memory_unwritten = λ memory e. absurd (not-instead (WasRead (text shelf)) words _ _ _ _ _ a.answers t.ends (no_memory memory) (λ f. cc) e);
-    texts = a.texts;
+    texts = a.reads.texts;
   }
   served (Err Stop.Failed) a t = record {
     served = t.served (text shelf) words tt;
     exactly = λ decision h. inr (rw t.ends no_reading);
     complete = λ decision h e. inr (rw t.ends no_reading);
-    opened = a.opened;
+    opened = a.reads.opened;
     last = inr (rw t.ends no_reading);
-    read_fault = λ e. a.failed refl;
+    read_fault = λ e. a.reads.stopped;
     read_calm = λ n. absurd (n t.ends);
     read_always = λ l. t.ends;
     read_command = λ e. a.command refl;
@@ -81,17 +76,17 @@ module _ {F K : Type 0} (text : F → List ℕ → Option (List ℕ)) (left : F 
     write_calm = t.calm;
     write_always = t.always;
     memory_unwritten = λ memory e. t.unwritten;
-    texts = a.texts;
+    texts = a.reads.texts;
   }
   served (Err (Stop.Memory memory)) a t = record {
     served = t.served (text shelf) words tt;
     exactly = λ decision h. inr (rw t.ends (no_memory memory));
     complete = λ decision h e. inr (rw t.ends (no_memory memory));
-    opened = a.opened;
+    opened = a.reads.opened;
     last = inr (rw t.ends (no_memory memory));
     read_fault = λ e. let f = t.ends in cc;
-    read_calm = λ n. a.starved memory refl;
-    read_always = λ l. absurd (omega (arith, l, a.starved memory refl));
+    read_calm = λ n. a.reads.stopped;
+    read_always = λ l. absurd (omega (arith, l, a.reads.stopped));
     read_command = λ e. let f = t.ends in cc;
     read_unwritten = λ e. t.unwritten;
     unread = a.unread;
@@ -99,5 +94,5 @@ module _ {F K : Type 0} (text : F → List ℕ → Option (List ℕ)) (left : F 
     write_calm = t.calm;
     write_always = t.always;
     memory_unwritten = λ m e. t.unwritten;
-    texts = a.texts;
+    texts = a.reads.texts;
   }

@@ -21,6 +21,12 @@ abbrev pub FollowsBy : (Decision → Type 0) → Outcome → Type 0
 FollowsBy decides outcome =
     ComesBy decides outcome.status (string_bytes outcome.text) outcome.played
 
+-- this is left on a shelf, and was opened, with the status of an answer
+abbrev pub EndsAfter : (Option (List ℕ) → Option (List ℕ) → Option (List (List ℕ))
+    → Option (List (List ℕ)) → Status → Type 0) → Outcome → Option (List ℕ) → Option (List ℕ)
+    → Option (List (List ℕ)) → Option (List (List ℕ)) → Type 0
+EndsAfter leaves outcome old new before after = leaves old new before after outcome.status
+
 -- the status with which a call ends that got this answer: its own, or that it couldn't be written;
 -- why there is none
 abbrev pub EndsAs : Result Outcome ReadStop → Status → Type 0

@@ -1,11 +1,10 @@
 //! The answer to the words, which is whole before any of it is written.
-ghost use Rattle.std.specs.Prelude.{◌≡◌, Err, IfOk, OnOk, ℕ, List, string_bytes};
-ghost use Rattle.cargo_core.specs.declared.memory.Memory.{Memory};
+ghost use Rattle.std.specs.Prelude.{◌≡◌, Err, IfOk, ℕ, string_bytes};
 ghost use Rattle.command_words.specs.declared.command.Command.{Command};
 ghost use Rattle.command_words.specs.Words.{texts_of, IsGen, Spells, BeginsRun};
-ghost use Rattle.shelf_core.specs.Outside.{FailsLast};
+ghost use Rattle.shelf_core.specs.Shelves.{ReadsFrom};
 ghost use Rattle.decision_core.specs.Decided.{decision_of, IsSound, AsksToRun};
-ghost use Rattle.sddf_top.specs.Outcomes.{Follows, FollowsBy};
+ghost use Rattle.sddf_top.specs.Outcomes.{Follows, FollowsBy, EndsAfter};
 ghost use Rattle.decision_core.specs.Decisions.{Decides};
 ghost use Rattle.shelf_core.specs.Reading.{WasRead};
 ghost use Rattle.decision_core.specs.Readings.{ReadLast, OpensInTurn};
@@ -84,18 +83,12 @@ pub fn answer_words_alone<F: Shelf>(
     shelf: &mut F,
 ) -> Result<Outcome, ReadStop>
     requires { BeginsRun (texts_of words.now) → ⊥ }
-    ensures texts { (n : List ℕ) → F.text shelf.new n ≡ F.text shelf.old n }
     ensures answer { IfOk result (FollowsBy (Decides (WasRead (F.text shelf.old))
         (texts_of words.now))) }
-    ensures last { IfOk result (λ r. ReadLast (F.text shelf.old) (texts_of words.now)
-        (F.left shelf.old) (F.left shelf.new) (F.opens shelf.old) (F.opens shelf.new) r.status) }
-    ensures opens { OpensInTurn (WasRead (F.text shelf.old)) (texts_of words.now)
-        (F.opens shelf.old) (F.opens shelf.new) }
-    ensures calm { OnOk result (F.faults shelf.new ≡ F.faults shelf.old) }
-    ensures failed { result ≡ Err ReadStop.Failed → FailsLast (F.faults shelf.old)
-        (F.faults shelf.new) (F.failed shelf.new) }
-    ensures starved { (memory : Memory) → result ≡ Err (ReadStop.Memory memory)
-        → F.faults shelf.new ≡ F.faults shelf.old }
+    ensures reads { ReadsFrom F.text F.left F.opens F.faults F.failed
+        (OpensInTurn (WasRead (F.text shelf.old)) (texts_of words.now))
+        (EndsAfter (ReadLast (F.text shelf.old) (texts_of words.now)))
+        shelf.old shelf.new result }
     ensures command { result ≡ Err ReadStop.Failed
         → (command : Command) × Spells (texts_of words.now) command }
     ensures unread { (n : ℕ) → IsGen (texts_of words.now) n → shelf.new ≡ shelf.old }
@@ -112,18 +105,12 @@ pub fn answer_words<R: Threads + Wait + Sync, F: Shelf, G: Gate + Sync>(
     shelf: &mut F,
     gate: &G,
 ) -> Result<Outcome, ReadStop>
-    ensures texts { (n : List ℕ) → F.text shelf.new n ≡ F.text shelf.old n }
     ensures answer { IfOk result (FollowsBy (Decides (WasRead (F.text shelf.old))
         (texts_of words.now))) }
-    ensures last { IfOk result (λ r. ReadLast (F.text shelf.old) (texts_of words.now)
-        (F.left shelf.old) (F.left shelf.new) (F.opens shelf.old) (F.opens shelf.new) r.status) }
-    ensures opens { OpensInTurn (WasRead (F.text shelf.old)) (texts_of words.now)
-        (F.opens shelf.old) (F.opens shelf.new) }
-    ensures calm { OnOk result (F.faults shelf.new ≡ F.faults shelf.old) }
-    ensures failed { result ≡ Err ReadStop.Failed → FailsLast (F.faults shelf.old)
-        (F.faults shelf.new) (F.failed shelf.new) }
-    ensures starved { (memory : Memory) → result ≡ Err (ReadStop.Memory memory)
-        → F.faults shelf.new ≡ F.faults shelf.old }
+    ensures reads { ReadsFrom F.text F.left F.opens F.faults F.failed
+        (OpensInTurn (WasRead (F.text shelf.old)) (texts_of words.now))
+        (EndsAfter (ReadLast (F.text shelf.old) (texts_of words.now)))
+        shelf.old shelf.new result }
     ensures command { result ≡ Err ReadStop.Failed
         → (command : Command) × Spells (texts_of words.now) command }
     ensures unread { (n : ℕ) → IsGen (texts_of words.now) n → shelf.new ≡ shelf.old }

@@ -1,11 +1,12 @@
 //! A shelf of files and a sink on standard output: one call of the runtime each, whose answer is
 //! handed on. A call that a signal interrupts is made again.
-ghost use Rattle.std.specs.Prelude.{◌≡◌, ◌≤◌, IfSome, length};
+ghost use Rattle.std.specs.Prelude.{◌≡◌, ◌≤◌, IfSome, length, false};
 
 use crate::faults::Faults;
 use crate::{Failed, Shelf, Sink};
 use std::fs;
 use std::io::{ErrorKind, Read};
+use std::marker::Model;
 use std::rt::Files;
 
 /// Reads once, however often a signal interrupts it; none where it fails.
@@ -40,16 +41,31 @@ fn write_once<R: Print>(rt: &R, from: &[u8]) -> Option<usize>
 #[derive(Drop)]
 pub struct FileShelf<'a, R: Files> {
     rt: &'a R,
-    open: Option<R::File>,
+    file: Option<R::File>,
     faults: Faults,
 }
 
+impl<'a, R: Files> Model for FileShelf<'a, R> {
+    ghost use Rattle.std.specs.Prelude.{is_some};
+    ghost use Rattle.shelf_core.specs.Files.{Filed};
+
+    ghost Value = { Filed };
+
+    ghost view = { λ s. record {
+      is_open = is_some s.file;
+      faults = s.faults.count;
+      failed = s.faults.last;
+    } };
+}
+
 impl<R: Files> FileShelf<'_, R> {
-    /// A shelf with no file open.
-    pub fn new(rt: &R) -> FileShelf<'_, R> {
+    /// A shelf with no file open, of which no call was made yet.
+    pub fn new(rt: &R) -> FileShelf<'_, R>
+        ensures { result ≡ record { is_open = false; faults = 0; failed = false } }
+    {
         FileShelf {
             rt,
-            open: None,
+            file: None,
             faults: Faults::new(),
         }
     }
@@ -64,13 +80,13 @@ impl<R: Files> Shelf for FileShelf<'_, R> {
 
     ghost opens = { λ _. None };
 
-    ghost faults = { λ s. s.faults.count };
+    ghost faults = { λ s. s.faults };
 
-    ghost failed = { λ s. s.faults.last };
+    ghost failed = { λ s. s.failed };
 
     fn open(&mut self, name: &str) -> Result<(), Failed> {
-        self.open = fs::open(self.rt, name).ok();
-        if self.open.is_none() {
+        self.file = fs::open(self.rt, name).ok();
+        if self.file.is_none() {
             return Err(self.faults.fail());
         }
         self.faults.pass();
@@ -78,12 +94,12 @@ impl<R: Files> Shelf for FileShelf<'_, R> {
     }
 
     fn read(&mut self, into: &mut [u8]) -> Result<usize, Failed> {
-        let read = match &mut self.open {
+        let read = match &mut self.file {
             Some(file) => read_once(file, into),
             None => Some(0),
         };
         let Some(n) = read else {
-            self.open = None;
+            self.file = None;
             return Err(self.faults.fail());
         };
         self.faults.pass();
@@ -98,9 +114,22 @@ pub struct OutSink<'a, R: Print> {
     faults: Faults,
 }
 
+impl<'a, R: Print> Model for OutSink<'a, R> {
+    ghost use Rattle.shelf_core.specs.Files.{Printed};
+
+    ghost Value = { Printed };
+
+    ghost view = { λ s. record {
+      faults = s.faults.count;
+      failed = s.faults.last;
+    } };
+}
+
 impl<R: Print> OutSink<'_, R> {
     /// Standard output, to which nothing was written yet.
-    pub fn new(rt: &R) -> OutSink<'_, R> {
+    pub fn new(rt: &R) -> OutSink<'_, R>
+        ensures { result ≡ record { faults = 0; failed = false } }
+    {
         OutSink {
             rt,
             faults: Faults::new(),
@@ -113,9 +142,9 @@ impl<R: Print> Sink for OutSink<'_, R> {
 
     ghost written = { λ _. None };
 
-    ghost faults = { λ s. s.faults.count };
+    ghost faults = { λ s. s.faults };
 
-    ghost failed = { λ s. s.faults.last };
+    ghost failed = { λ s. s.failed };
 
     fn write(&mut self, from: &[u8]) -> Result<usize, Failed> {
         match write_once(self.rt, from) {

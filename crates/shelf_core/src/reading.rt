@@ -1,8 +1,8 @@
 //! A text is read from a shelf to its end.
-ghost use Rattle.std.specs.Prelude.{◌≡◌, ◌+◌, ◌<◌, ◌≤◌, ℕ, List, Err, OnOk, IfOk, IfSome, length};
-ghost use Rattle.cargo_core.specs.declared.memory.Memory.{Memory};
-ghost use Rattle.shelf_core.specs.Outside.{FailsLast, IsRead, read_most, also_opened};
-ghost use Rattle.shelf_core.specs.Reading.{ReadsOn, Behind};
+ghost use Rattle.std.specs.Prelude.{◌≡◌, ◌+◌, ◌<◌, ◌≤◌, IfOk, length};
+ghost use Rattle.shelf_core.specs.Outside.{IsRead, read_most};
+ghost use Rattle.shelf_core.specs.Reading.{ReadsOn};
+ghost use Rattle.shelf_core.specs.Shelves.{ReadsFrom, Opens, OpensNone, LeavesRest};
 
 use crate::{Failed, Shelf};
 use cargo_core::{Bytes, Memory};
@@ -46,17 +46,10 @@ impl From<Memory> for ReadStop {
 /// Reads one more piece of the open text, of at most `most` bytes, and answers how many they are.
 fn read_piece<F: Shelf>(shelf: &mut F, text: &mut Bytes, most: usize) -> Result<usize, ReadStop>
     requires { 0 < most }
-    ensures texts { (n : List ℕ) → F.text shelf.new n ≡ F.text shelf.old n }
-    ensures opens { F.opens shelf.new ≡ F.opens shelf.old }
-    ensures calm { OnOk result (F.faults shelf.new ≡ F.faults shelf.old) }
     ensures more { IfOk result (λ n. length text.new ≡ length text.old + n) }
     ensures within { IfOk result (λ n. n ≤ most) }
-    ensures on { IfOk result (λ n. ReadsOn (F.left shelf.old) text.old n (F.left shelf.new)
-        text.new) }
-    ensures failed { result ≡ Err ReadStop.Failed → FailsLast (F.faults shelf.old)
-        (F.faults shelf.new) (F.failed shelf.new) }
-    ensures starved { (memory : Memory) → result ≡ Err (ReadStop.Memory memory)
-        → F.faults shelf.new ≡ F.faults shelf.old }
+    ensures reads { ReadsFrom F.text F.left F.opens F.faults F.failed OpensNone
+        (λ n left left' _ _. ReadsOn left text.old n left' text.new) shelf.old shelf.new result }
 {
     let mut piece = [0u8; 4096];
     let room = most.min(4096);
@@ -68,16 +61,10 @@ fn read_piece<F: Shelf>(shelf: &mut F, text: &mut Bytes, most: usize) -> Result<
 
 /// Reads the text of a name to its end, or its first 16,777,217 bytes.
 pub fn read_text<F: Shelf>(alloc: Global, shelf: &mut F, name: &str) -> Result<Bytes, ReadStop>
-    ensures texts { (n : List ℕ) → F.text shelf.new n ≡ F.text shelf.old n }
-    ensures opens { F.opens shelf.new ≡ also_opened (F.opens shelf.old) name.now }
-    ensures calm { OnOk result (F.faults shelf.new ≡ F.faults shelf.old) }
     ensures bytes { IfOk result (IsRead (F.text shelf.old name.now)) }
     ensures within { IfOk result (λ bytes. length bytes ≤ read_most) }
-    ensures left { OnOk result (Behind (F.text shelf.old) name.now (F.left shelf.new)) }
-    ensures failed { result ≡ Err ReadStop.Failed → FailsLast (F.faults shelf.old)
-        (F.faults shelf.new) (F.failed shelf.new) }
-    ensures starved { (memory : Memory) → result ≡ Err (ReadStop.Memory memory)
-        → F.faults shelf.new ≡ F.faults shelf.old }
+    ensures reads { ReadsFrom F.text F.left F.opens F.faults F.failed (Opens name.now)
+        (LeavesRest (F.text shelf.old) name.now) shelf.old shelf.new result }
 {
     shelf.open(name)?;
     let mut text = Bytes::new(alloc);

@@ -124,26 +124,39 @@ impl Shelf for SureShelf {
     }
 }
 
-/// A sink that counts bytes, and never fails. It tells none of them.
+/// A sink that counts bytes, and never fails. It tells none of them: it is how many were written.
+/// The count stands still at the end of its type.
 #[derive(Debug, Drop)]
 pub struct SureSink {
     bytes: u64,
 }
 
+impl Model for SureSink {
+    ghost use Rattle.std.specs.Prelude.{ℕ};
+
+    ghost Value = { ℕ };
+
+    ghost view = { λ s. s.bytes };
+}
+
 impl SureSink {
     /// Nothing was written yet.
-    pub fn new() -> SureSink {
+    pub fn new() -> SureSink
+        ensures { result ≡ 0 }
+    {
         SureSink { bytes: 0 }
     }
 
-    /// How many bytes were written. The count stands still at the end of its type.
-    pub fn bytes(&self) -> u64 {
+    /// How many bytes were written.
+    pub fn bytes(&self) -> u64
+        ensures { result ≡ self.now }
+    {
         self.bytes
     }
 }
 
 impl Sink for SureSink {
-    ghost use Rattle.std.specs.Prelude.{None, false};
+    ghost use Rattle.std.specs.Prelude.{None, false, ◌-◌, min, Ok};
 
     ghost written = { λ _. None };
 
@@ -151,7 +164,11 @@ impl Sink for SureSink {
 
     ghost failed = { λ _. false };
 
-    fn write(&mut self, from: &[u8]) -> Result<usize, Failed> {
+    /// It takes the piece whole, and counts its bytes.
+    fn write(&mut self, from: &[u8]) -> Result<usize, Failed>
+        ensures whole { result ≡ Ok (length from.now) }
+        ensures counted { self.new ≡ min (self.old + length from.now) (2 ^ 64 - 1) }
+    {
         self.bytes = self.bytes.saturating_add(from.len() as u64);
         Ok(from.len())
     }

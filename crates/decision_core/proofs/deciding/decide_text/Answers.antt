@@ -1,8 +1,10 @@
-use Rattle.std.proofs.Common.{ap, sym, subst, Err}
+use Rattle.std.proofs.Common.{ap, sym, subst, Err, inl, inr}
 use Rattle.command_words.specs.Words.{texts_of}
 use Rattle.shelf_core.specs.Reading.{WasRead}
-use Rattle.decision_core.specs.Decided.{decision_of}
+use Rattle.shelf_core.proofs.ShelfLemmas.{reads-as}
+use Rattle.decision_core.specs.Decided.{decision_of, OfEach}
 use Rattle.decision_core.specs.Decisions.{PlanDecides, TextDecides, long_description, refused, accepted}
+use Rattle.decision_core.specs.Readings.{OpensTrace, OpensText, LeavesPlan, LeavesText}
 use Rattle.decision_core.proofs.DecisionLemmas.{map-ok}
 use Rattle.decision_core.proofs.deciding.decide_text.Goals as goal
 
@@ -13,6 +15,12 @@ returns-then-text-gt-TEXT_MOST-clause-decides g c =
 pub returns-in-Ok-clause-decides : goal.returns-in-Ok-clause-decides
 returns-in-Ok-clause-decides g c =
     map-ok c.decide_plan.result _ _ (λ d h. accepted c.in-Ok.plan (decision_of d) c.if-text-gt-TEXT_MOST.false c.in-Ok.ensures.accepted h) c.decide_plan.ensures.decides
+
+pub returns-in-Ok-clause-reads : goal.returns-in-Ok-clause-reads
+returns-in-Ok-clause-reads g c =
+    reads-as g.F.Shelf.text g.F.Shelf.left g.F.Shelf.opens g.F.Shelf.faults g.F.Shelf.failed (OpensTrace (texts_of c.args.words.now)) (OpensText (texts_of c.args.words.now) c.args.text.now)
+    (OfEach (LeavesPlan (g.F.Shelf.text c.args.shelf.now) (texts_of c.args.words.now))) (OfEach (LeavesText (g.F.Shelf.text c.args.shelf.now) (texts_of c.args.words.now) c.args.text.now)) _ _ _ c.decide_plan.ensures.reads
+    (λ o. inr (c.in-Ok.plan, c.if-text-gt-TEXT_MOST.false, c.in-Ok.ensures.accepted, o)) (λ d h status e. inr (c.if-text-gt-TEXT_MOST.false, h status e))
 
 pub returns-in_ok-say_unaccepted-in-Err-clause-decides : goal.returns-in_ok-say_unaccepted-in-Err-clause-decides
 returns-in_ok-say_unaccepted-in-Err-clause-decides g c =

@@ -1,4 +1,5 @@
 use Rattle.std.proofs.Common.{refl, sym, subst}
+use Rattle.std.proofs.lemmas.Result.{err_from_is_err_and}
 use Rattle.command_words.specs.declared.command.Command.TheVariants as Do
 use Rattle.command_words.specs.Words.{texts_of, Spells}
 use Rattle.shelf_core.specs.Reading.{WasRead}
@@ -16,36 +17,52 @@ returns-in_ok-decide_gen-in-Ok-Gen-clause-decides g c =
     let d = decision_of c.in_ok-decide_gen-in-Ok-Gen.field-0 in
     generated c.in-Ok-Gen.number d s (subst (λ x. TextDecides (GeneratedDecides c.in-Ok-Gen.number) x d) c.as_bytes.ensures.value c.in_ok-decide_gen-in-Ok-Gen.ensures)
 
-pub returns-in_ok-decide_gen-in-Ok-Gen-clause-last : goal.returns-in_ok-decide_gen-in-Ok-Gen-clause-last
-returns-in_ok-decide_gen-in-Ok-Gen-clause-last g c status e =
+pub returns-in_ok-decide_gen-in-Ok-Gen-clause-reads : goal.returns-in_ok-decide_gen-in-Ok-Gen-clause-reads
+returns-in_ok-decide_gen-in-Ok-Gen-clause-reads g c =
     let s : Spells (texts_of c.args.words.now) (Do.Gen c.in-Ok-Gen.number) = rw c.in-Ok-Gen.field-0-is at c.in-Ok-Gen.ensures.command in
-    read_no_text c.in-Ok-Gen.number s (gen-unread c.in-Ok-Gen.number _ (decision_of c.in_ok-decide_gen-in-Ok-Gen.field-0) status c.in_ok-decide_gen-in-Ok-Gen.ensures e) refl refl
+    record {
+      texts = λ n. refl;
+      opened = opens_nothing (λ desc named. gen-or-named (texts_of c.args.words.now) c.in-Ok-Gen.number desc s named) refl;
+      last = λ status e. read_no_text c.in-Ok-Gen.number s (gen-unread c.in-Ok-Gen.number _ (decision_of c.in_ok-decide_gen-in-Ok-Gen.field-0) status c.in_ok-decide_gen-in-Ok-Gen.ensures e) refl refl;
+      calm = refl;
+      stopped = tt;
+    }
+
+pub returns-in_err-decide_gen-in-Ok-Gen-clause-reads : goal.returns-in_err-decide_gen-in-Ok-Gen-clause-reads
+returns-in_err-decide_gen-in-Ok-Gen-clause-reads g c =
+    let s : Spells (texts_of c.args.words.now) (Do.Gen c.in-Ok-Gen.number) = rw c.in-Ok-Gen.field-0-is at c.in-Ok-Gen.ensures.command in
+    let p = err_from_is_err_and c.from_residual.result c.from_residual.ensures.1 in
+    rw (p.1, p.2) (record {
+      texts = λ n. refl;
+      opened = opens_nothing (λ desc named. gen-or-named (texts_of c.args.words.now) c.in-Ok-Gen.number desc s named) refl;
+      last = tt;
+      calm = tt;
+      stopped = refl;
+    })
 
 pub returns-in_ok-say_usage-in-Err-clause-decides : goal.returns-in_ok-say_usage-in-Err-clause-decides
 returns-in_ok-say_usage-in-Err-clause-decides g c =
     subst (λ x. Decides (WasRead (g.F.Shelf.text c.args.shelf.now)) (texts_of c.args.words.now) x) (sym c.in_ok-say_usage-in-Err.ensures) (no_command c.in-Err.k c.in-Err.ensures.bad)
 
-pub returns-in_ok-say_usage-in-Err-clause-last : goal.returns-in_ok-say_usage-in-Err-clause-last
-returns-in_ok-say_usage-in-Err-clause-last g c status e =
-    read_none c.in-Err.k (subst (λ x. IsStatusOf x status) c.in_ok-say_usage-in-Err.ensures e) refl refl
+pub returns-in_ok-say_usage-in-Err-clause-reads : goal.returns-in_ok-say_usage-in-Err-clause-reads
+returns-in_ok-say_usage-in-Err-clause-reads g c = record {
+  texts = λ n. refl;
+  opened = opens_nothing (λ desc named. let s = names-spell (texts_of c.args.words.now) desc named in bad-none (texts_of c.args.words.now) c.in-Err.k s.0 c.in-Err.ensures.bad s.1) refl;
+  last = λ status e. read_none c.in-Err.k (subst (λ x. IsStatusOf x status) c.in_ok-say_usage-in-Err.ensures e) refl refl;
+  calm = refl;
+  stopped = tt;
+}
 
-pub returns-in_ok-decide_gen-in-Ok-Gen-clause-opens : goal.returns-in_ok-decide_gen-in-Ok-Gen-clause-opens
-returns-in_ok-decide_gen-in-Ok-Gen-clause-opens g c =
-    let s : Spells (texts_of c.args.words.now) (Do.Gen c.in-Ok-Gen.number) = rw c.in-Ok-Gen.field-0-is at c.in-Ok-Gen.ensures.command in
-    opens_nothing (λ desc named. gen-or-named (texts_of c.args.words.now) c.in-Ok-Gen.number desc s named) refl
-
-pub returns-in_err-decide_gen-in-Ok-Gen-clause-opens : goal.returns-in_err-decide_gen-in-Ok-Gen-clause-opens
-returns-in_err-decide_gen-in-Ok-Gen-clause-opens g c =
-    let s : Spells (texts_of c.args.words.now) (Do.Gen c.in-Ok-Gen.number) = rw c.in-Ok-Gen.field-0-is at c.in-Ok-Gen.ensures.command in
-    opens_nothing (λ desc named. gen-or-named (texts_of c.args.words.now) c.in-Ok-Gen.number desc s named) refl
-
-pub returns-in_ok-say_usage-in-Err-clause-opens : goal.returns-in_ok-say_usage-in-Err-clause-opens
-returns-in_ok-say_usage-in-Err-clause-opens g c =
-    opens_nothing (λ desc named. let s = names-spell (texts_of c.args.words.now) desc named in bad-none (texts_of c.args.words.now) c.in-Err.k s.0 c.in-Err.ensures.bad s.1) refl
-
-pub returns-in_err-say_usage-in-Err-clause-opens : goal.returns-in_err-say_usage-in-Err-clause-opens
-returns-in_err-say_usage-in-Err-clause-opens g c =
-    opens_nothing (λ desc named. let s = names-spell (texts_of c.args.words.now) desc named in bad-none (texts_of c.args.words.now) c.in-Err.k s.0 c.in-Err.ensures.bad s.1) refl
+pub returns-in_err-say_usage-in-Err-clause-reads : goal.returns-in_err-say_usage-in-Err-clause-reads
+returns-in_err-say_usage-in-Err-clause-reads g c =
+    let p = err_from_is_err_and c.from_residual-in_err-say_usage.result c.from_residual-in_err-say_usage.ensures.1 in
+    rw (p.1, p.2) (record {
+      texts = λ n. refl;
+      opened = opens_nothing (λ desc named. let s = names-spell (texts_of c.args.words.now) desc named in bad-none (texts_of c.args.words.now) c.in-Err.k s.0 c.in-Err.ensures.bad s.1) refl;
+      last = tt;
+      calm = tt;
+      stopped = refl;
+    })
 
 pub returns-in_ok-decide_gen-in-Ok-Gen-clause-plays : goal.returns-in_ok-decide_gen-in-Ok-Gen-clause-plays
 returns-in_ok-decide_gen-in-Ok-Gen-clause-plays g c n is =

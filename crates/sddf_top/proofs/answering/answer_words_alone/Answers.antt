@@ -1,6 +1,10 @@
+use Rattle.std.proofs.lemmas.Result.{err_from_is_err_and}
 use Rattle.command_words.specs.Words.{texts_of}
 use Rattle.shelf_core.specs.Reading.{WasRead}
-use Rattle.decision_core.specs.Decided.{decision_of}
+use Rattle.shelf_core.proofs.ShelfLemmas.{reads-stopped, reads-for, reads-starved}
+use Rattle.decision_core.specs.Decided.{decision_of, OfEach}
+use Rattle.decision_core.specs.Readings.{OpensInTurn, ReadLast}
+use Rattle.sddf_top.specs.Outcomes.{EndsAfter}
 use Rattle.sddf_top.proofs.AnswerLemmas.{come-status}
 use Rattle.sddf_top.proofs.SoundLemmas.{sound, alone}
 use Rattle.sddf_top.proofs.answering.answer_words_alone.Goals as goal
@@ -11,5 +15,23 @@ answer_alone-requires-clause-sound g c = sound (WasRead (g.F.Shelf.text c.args.s
 pub answer_alone-requires-clause-alone : goal.answer_alone-requires-clause-alone
 answer_alone-requires-clause-alone g c = alone (WasRead (g.F.Shelf.text c.args.shelf.now)) (texts_of c.args.words.now) _ c.in_ok-decided.ensures.decides c.requires
 
-pub returns-clause-last : goal.returns-clause-last
-returns-clause-last g c = c.in_ok-decided.ensures.last _ (come-status (decision_of c.in_ok-decided.decided) _ _ _ c.in_ok-answer_alone.ensures)
+pub returns-clause-reads : goal.returns-clause-reads
+returns-clause-reads g c =
+    reads-for g.F.Shelf.text g.F.Shelf.left g.F.Shelf.opens g.F.Shelf.faults g.F.Shelf.failed (OpensInTurn (WasRead (g.F.Shelf.text c.args.shelf.now)) (texts_of c.args.words.now))
+    (OpensInTurn (WasRead (g.F.Shelf.text c.args.shelf.now)) (texts_of c.args.words.now)) (OfEach (ReadLast (g.F.Shelf.text c.args.shelf.now) (texts_of c.args.words.now)))
+    (EndsAfter (ReadLast (g.F.Shelf.text c.args.shelf.now) (texts_of c.args.words.now))) _ _ c.in_ok-decided.decided c.in_ok-answer_alone.field-0 c.in_ok-decided.ensures.reads (λ o. o)
+    (λ h. h _ (come-status (decision_of c.in_ok-decided.decided) _ _ _ c.in_ok-answer_alone.ensures))
+
+pub returns-in_err-decided-clause-reads : goal.returns-in_err-decided-clause-reads
+returns-in_err-decided-clause-reads g c =
+    let p = err_from_is_err_and c.from_residual.result c.from_residual.ensures.1 in
+    rw (p.1, p.2) (reads-stopped g.F.Shelf.text g.F.Shelf.left g.F.Shelf.opens g.F.Shelf.faults g.F.Shelf.failed (OpensInTurn (WasRead (g.F.Shelf.text c.args.shelf.now)) (texts_of c.args.words.now))
+    (OpensInTurn (WasRead (g.F.Shelf.text c.args.shelf.now)) (texts_of c.args.words.now)) (OfEach (ReadLast (g.F.Shelf.text c.args.shelf.now) (texts_of c.args.words.now)))
+    (EndsAfter (ReadLast (g.F.Shelf.text c.args.shelf.now) (texts_of c.args.words.now))) _ _ _ c.in_err-decided.ensures.reads (λ o. o))
+
+pub returns-in_err-answer_alone-clause-reads : goal.returns-in_err-answer_alone-clause-reads
+returns-in_err-answer_alone-clause-reads g c =
+    let p = err_from_is_err_and c.from_residual-in_err-answer_alone.result c.from_residual-in_err-answer_alone.ensures.1 in
+    rw p.1 (reads-starved g.F.Shelf.text g.F.Shelf.left g.F.Shelf.opens g.F.Shelf.faults g.F.Shelf.failed (OpensInTurn (WasRead (g.F.Shelf.text c.args.shelf.now)) (texts_of c.args.words.now))
+    (OpensInTurn (WasRead (g.F.Shelf.text c.args.shelf.now)) (texts_of c.args.words.now)) (OfEach (ReadLast (g.F.Shelf.text c.args.shelf.now) (texts_of c.args.words.now)))
+    (EndsAfter (ReadLast (g.F.Shelf.text c.args.shelf.now) (texts_of c.args.words.now))) _ _ c.in_ok-decided.decided _ _ c.in_ok-decided.ensures.reads p.2 (λ o. o))
