@@ -1,6 +1,7 @@
 -- What a block client must get: a replay of its requests on its own partition alone.
 use Rattle.std.specs.Prelude.{◌≡◌, ℕ, ◌+◌, ◌*◌, ◌/◌, Bool, true, Option, Some, None, List, [], ◌∷◌}
 use Rattle.std.specs.Prelude.{length, take}
+use Rattle.cargo_core.specs.Blocks.{block_bytes, sector_bytes}
 use Rattle.cargo_core.specs.declared.item.Ask.{Ask}
 use Rattle.cargo_core.specs.declared.item.Reply.{Reply}
 use Rattle.cargo_core.specs.declared.item.Code.{Code}
@@ -20,7 +21,7 @@ partition_bytes (Some part) image = blocks_at image part.first_block part.blocks
 -- these are as many bytes as a client's partition has
 abbrev pub HasBytes : Option Part → List ℕ → Type 0
 HasBytes None bytes = Unit {0}
-HasBytes (Some part) bytes = length bytes ≡ part.blocks * 4096
+HasBytes (Some part) bytes = length bytes ≡ part.blocks * block_bytes
 
 -- a client's partition is all in an image
 abbrev pub has_partition : Option Part → List ℕ → Bool
@@ -41,7 +42,8 @@ bytes_read Asked.Barrier bytes ask = []
 -- what a write that went well leaves
 abbrev pub bytes_left : Code → List ℕ → Ask → List ℕ
 bytes_left Asked.Read bytes ask = bytes
-bytes_left Asked.Write bytes ask = with_blocks bytes ask.block (take (ask.count * 4096) ask.fill)
+bytes_left Asked.Write bytes ask =
+    with_blocks bytes ask.block (take (ask.count * block_bytes) ask.fill)
 bytes_left Asked.Flush bytes ask = bytes
 bytes_left Asked.Barrier bytes ask = bytes
 
@@ -69,9 +71,9 @@ replies_from part bytes id [] = []
 replies_from part bytes id (ask ∷ asks) = reply_of (status_to part ask) bytes id ask
     ∷ replies_from part (left_by (status_to part ask) bytes ask) (id + 1) asks
 
--- the partition of an entry, by its number, of a disk with this image; a sector has 512 bytes
+-- the partition of an entry, by its number, of a disk with this image
 abbrev pub partition_in : List ℕ → ℕ → Option Part
-partition_in image entry = part_of (take 512 image) (length image / 512) entry
+partition_in image entry = part_of (take sector_bytes image) (length image / sector_bytes) entry
 
 -- what a client with the partition of an entry must get for its requests, by the image of the disk
 -- at the start: whatever others ask for doesn't matter

@@ -1,22 +1,20 @@
 //! What a block client must get for its requests: a plain program for tests.
 ghost use Rattle.std.specs.Prelude.{◌≡◌, ◌<◌, ◌≤◌, ◌/◌, ◌^◌, true, length, IfOk};
+ghost use Rattle.cargo_core.specs.Blocks.{sector_bytes};
 ghost use Rattle.blk_expect.specs.Replies.{HasBytes, has_partition, partition_in, partition_bytes};
 ghost use Rattle.blk_expect.specs.Replies.{status_to, reply_of, left_by, replies_from, replies_of};
 
 use crate::judge;
-use blk_kit::{BLOCK_BYTES, blocks_at, moved_blocks};
+use blk_kit::{blocks_at, moved_blocks};
 use blk_mbr::{Part, partition_law, read_mbr};
-use cargo_core::{Ask, BlkResp, BlkStatus, Bytes, Code, Memory, Reply};
+use cargo_core::{Ask, BLOCK_BYTES, BlkResp, BlkStatus, Bytes, Code, Memory, Reply, SECTOR_BYTES};
 use std::alloc::Global;
-
-/// How many bytes a sector has.
-const SECTOR_BYTES: usize = 512;
 
 // The partition of an entry, of a disk with this image.
 fn partition_in(image: &[u8], entry: u8) -> Option<Part>
     requires entry { entry < 4 }
-    requires sector { 512 ≤ length image.now }
-    requires sectors { length image.now / 512 < 2 ^ 32 }
+    requires sector { sector_bytes ≤ length image.now }
+    requires sectors { length image.now / sector_bytes < 2 ^ 32 }
     ensures part { result ≡ partition_in image.now entry }
     ensures within { has_partition result image.now ≡ true }
 {
@@ -120,8 +118,8 @@ pub fn replies_of(
     asks: &[Ask],
 ) -> Result<Vec<Reply>, Memory>
     requires entry { entry < 4 }
-    requires sector { 512 ≤ length image.now }
-    requires sectors { length image.now / 512 < 2 ^ 32 }
+    requires sector { sector_bytes ≤ length image.now }
+    requires sectors { length image.now / sector_bytes < 2 ^ 32 }
     requires ids { length asks.now ≤ 2 ^ 32 }
     ensures { IfOk result (λ rs. rs.items ≡ replies_of image.now entry asks.now) }
 {

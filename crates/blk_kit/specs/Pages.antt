@@ -1,18 +1,19 @@
 -- The pages that carry blocks: a page carries some blocks in its first bytes.
 use Rattle.std.specs.Prelude.{ℕ, ◌*◌, nat_le, Bool, false, if◌then◌else◌, List, [], length, take}
+use Rattle.cargo_core.specs.Blocks.{block_bytes}
 use Rattle.cargo_core.specs.declared.item.Body.{Body}
 use Rattle.cargo_core.specs.declared.item.Body.TheVariants as Carried
 use Rattle.cargo_core.specs.Lists.{replaced}
 
 -- a body is a page that has room for so many blocks
 abbrev pub has_room : ℕ → Body → Bool
-has_room count (Carried.Page page) = nat_le (count * 4096) (length page.bytes)
+has_room count (Carried.Page page) = nat_le (count * block_bytes) (length page.bytes)
 has_room count Carried.Empty = false
 has_room count (Carried.Lease lease) = false
 
 -- the blocks that a body carries: the first bytes of its page; none where it has no page
 abbrev pub carried_blocks : ℕ → Body → List ℕ
-carried_blocks count (Carried.Page page) = take (count * 4096) page.bytes
+carried_blocks count (Carried.Page page) = take (count * block_bytes) page.bytes
 carried_blocks count Carried.Empty = []
 carried_blocks count (Carried.Lease lease) = []
 

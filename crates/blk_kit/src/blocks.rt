@@ -1,11 +1,9 @@
 //! The blocks of an image.
 ghost use Rattle.std.specs.Prelude.{◌≡◌, ◌*◌, true, length};
+ghost use Rattle.cargo_core.specs.Blocks.{block_bytes};
 ghost use Rattle.blk_kit.specs.Blocks.{has_blocks, blocks_at, moved_blocks};
 
-use cargo_core::Code;
-
-/// How many bytes a block has.
-pub const BLOCK_BYTES: usize = 4096;
+use cargo_core::{BLOCK_BYTES, Code};
 
 /// Whether some blocks, from one on, are all in an image.
 pub fn has_blocks(image: &[u8], block: u32, count: u32) -> bool
@@ -18,7 +16,7 @@ pub fn has_blocks(image: &[u8], block: u32, count: u32) -> bool
 pub fn blocks_at(image: &[u8], block: u32, count: u32) -> &[u8]
     requires { has_blocks image.now block count ≡ true }
     ensures bytes { result.now ≡ blocks_at image.now block count }
-    ensures size { length result.now ≡ count * 4096 }
+    ensures size { length result.now ≡ count * block_bytes }
 {
     let from = block as usize * BLOCK_BYTES;
     &image[from..from + count as usize * BLOCK_BYTES]

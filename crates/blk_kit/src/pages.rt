@@ -1,9 +1,9 @@
 //! The pages that carry blocks.
 ghost use Rattle.std.specs.Prelude.{◌≡◌, ◌*◌, true, length};
+ghost use Rattle.cargo_core.specs.Blocks.{block_bytes};
 ghost use Rattle.blk_kit.specs.Pages.{has_room, carried_blocks, filled_body};
 
-use crate::BLOCK_BYTES;
-use cargo_core::Body;
+use cargo_core::{BLOCK_BYTES, Body};
 
 /// Whether a body is a page that has room for so many blocks.
 pub fn has_room(count: u16, body: &Body) -> bool
@@ -19,7 +19,7 @@ pub fn has_room(count: u16, body: &Body) -> bool
 pub fn carried_blocks(count: u16, body: &Body) -> &[u8]
     requires { has_room count body.now ≡ true }
     ensures bytes { result.now ≡ carried_blocks count body.now }
-    ensures size { length result.now ≡ count * 4096 }
+    ensures size { length result.now ≡ count * block_bytes }
 {
     match body {
         Body::Page(page) => &page.bytes()[..count as usize * BLOCK_BYTES],

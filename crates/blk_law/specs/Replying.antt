@@ -1,6 +1,7 @@
 -- What a client's replies are, where its requests are answered by a disk that has the bytes of its
 -- partition alone.
 use Rattle.std.specs.Prelude.{◌≡◌, ◌+◌, ◌*◌, ◌≤◌, ℕ, true, Option, List, [], ◌∷◌, All, length, take}
+use Rattle.cargo_core.specs.Blocks.{block_bytes, blk_buffer_bytes}
 use Rattle.cargo_core.specs.declared.item.Ask.{Ask}
 use Rattle.cargo_core.specs.declared.item.BlkReq.{BlkReq}
 use Rattle.cargo_core.specs.declared.item.BlkStatus.{BlkStatus}
@@ -55,7 +56,7 @@ client_answers part bytes (y ∷ ys) = answer_as (judged part y.0) bytes y
 -- a request's body carries what it needs: a read has room for its blocks, and a write has its bytes
 abbrev pub Carries : Code → Ask → Body → Type 0
 Carries Asked.Read a body = has_room a.count body ≡ true
-Carries Asked.Write a body = carried_blocks a.count body ≡ take (a.count * 4096) a.fill
+Carries Asked.Write a body = carried_blocks a.count body ≡ take (a.count * block_bytes) a.fill
 Carries Asked.Flush a body = Unit {0}
 Carries Asked.Barrier a body = Unit {0}
 
@@ -84,7 +85,7 @@ AreAsked id (a ∷ asks) (y ∷ ys) = IsAsked id a y × AreAsked (id + 1) asks y
 -- write has as many bytes as its blocks
 abbrev pub IsSized : Code → Ask → Type 0
 IsSized Asked.Read a = a.count ≤ 8
-IsSized Asked.Write a = (a.count ≤ 8) × (length a.fill ≡ a.count * 4096)
+IsSized Asked.Write a = (a.count ≤ 8) × (length a.fill ≡ a.count * block_bytes)
 IsSized Asked.Flush a = Unit {0}
 IsSized Asked.Barrier a = Unit {0}
 
@@ -94,7 +95,7 @@ AreSized asks = All (λ (a : Ask). IsSized a.code a) asks
 
 -- each of these buffers takes eight blocks
 abbrev pub HaveRoom : List Paged → Type 0
-HaveRoom pages = All (λ (p : Paged). length p.bytes ≡ 32768) pages
+HaveRoom pages = All (λ (p : Paged). length p.bytes ≡ blk_buffer_bytes) pages
 
 -- a client's replies to its script, whatever buffers it has: where what it put is a beginning of
 -- its script, and what came is a beginning of the answers by a disk that has the bytes of its

@@ -1,12 +1,11 @@
 //! One entry of a partition table.
 ghost use Rattle.std.specs.Prelude.{◌≡◌, ◌+◌, ◌*◌, ◌<◌, length};
+ghost use Rattle.cargo_core.specs.Blocks.{sector_bytes};
 ghost use Rattle.blk_mbr.specs.Sectors.{number_at, entry_of, is_used, is_protective, is_extended};
 ghost use Rattle.blk_mbr.specs.Partitions.{end_of, do_clash, is_usable, blocks_of};
 
 use crate::Part;
-
-/// How many bytes the first sector has.
-pub const SECTOR_BYTES: usize = 512;
+use cargo_core::SECTOR_BYTES;
 
 /// Where the table begins in the sector, and how many bytes an entry of it has.
 const TABLE_AT: usize = 446;
@@ -27,7 +26,7 @@ pub struct Entry {
 
 // The number that stands there in four bytes, the lowest first.
 fn number_at(sector: &[u8; SECTOR_BYTES], at: usize) -> u32
-    requires { at + 3 < 512 }
+    requires { at + 3 < sector_bytes }
     ensures { result ≡ number_at sector.now at }
 {
     u32::from_le_bytes([sector[at], sector[at + 1], sector[at + 2], sector[at + 3]])

@@ -6,8 +6,8 @@ ghost use Rattle.blk_mbr.specs.Partitions.{do_clash, are_apart, is_trusted, give
 ghost use Rattle.blk_mbr.specs.Partitions.{partitions_of, IsPartition};
 ghost use Rattle.blk_mbr.specs.declared.part.Part.{Part};
 
-use crate::entry::SECTOR_BYTES;
 use crate::{Entry, Part};
+use cargo_core::SECTOR_BYTES;
 use std::marker::Model;
 
 /// The partitions of a disk, one for each of the four entries of its table that gives one.

@@ -1,6 +1,7 @@
 -- The whole block class at the layout's queues where nobody is runnable: its actors, its pools and
 -- its queues, and what went through these.
 use Rattle.std.specs.Prelude.{◌≡◌, ◌+◌, ◌*◌, ◌<◌, ◌≤◌, ℕ, Some, List, length, slice_get}
+use Rattle.cargo_core.specs.Blocks.{blk_buffer_bytes}
 use Rattle.cargo_core.specs.Ranges.{IsApart}
 use Rattle.cargo_core.specs.declared.item.Ask.{Ask}
 use Rattle.cargo_core.specs.declared.ranges.Range.{Range}
@@ -19,7 +20,7 @@ use Rattle.blk_law.specs.Sheets.Table.{blk_sheet}
 
 -- the device addresses of a pool's buffers, of 32,768 bytes each
 abbrev pub range_of : PoolAt → Range
-range_of p = record { base = p.base; size = p.buffers * 32768 }
+range_of p = record { base = p.base; size = p.buffers * blk_buffer_bytes }
 
 -- each client has something that it asks, perhaps nothing, and a pool with a buffer; no two clients
 -- have buffers at one address

@@ -3,6 +3,7 @@
 //! is told by what was put before: a client does as long as its own buffers alone came back to it.
 
 ghost use Rattle.std.specs.Prelude.{◌≡◌, ◌+◌, ◌*◌, ◌≤◌, ℕ, Some, List, [], length, take, slice_get};
+ghost use Rattle.cargo_core.specs.Blocks.{sector_bytes};
 ghost use Rattle.cargo_core.specs.declared.item.Ask.{Ask};
 ghost use Rattle.wire_core.specs.Deeds.{Cargo};
 ghost use Rattle.wire_core.specs.Lists.{Passed};
@@ -28,7 +29,7 @@ pub fn turn_law()
         ≤ length (passed.sent h.virt.ends.output.queue.0) }
     ensures sector { (place : BlkPlace) (passed : Passed) → (h : IsBlkCast place passed)
         → (y : Cargo) → slice_get (passed.taken h.virt.ends.input.queue.0) 0 ≡ Some y
-        → sector_of y.1 ≡ take 512 place.image }
+        → sector_of y.1 ≡ take sector_bytes place.image }
     ensures disk { (place : BlkPlace) (passed : Passed) → (h : IsBlkCast place passed)
         → AllAsk place passed → (row : DiskRow place.image h.disk passed) → row.stray ≡ [] }
 {}

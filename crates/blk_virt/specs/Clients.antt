@@ -4,6 +4,7 @@ use Rattle.std.specs.Prelude.{is_none, if◌then◌else◌, Option, Some, None, 
 use Rattle.std.specs.Prelude.{length, map}
 use Rattle.std.specs.List.{filter}
 use Rattle.std.specs.Option.{option_map, option_to_list}
+use Rattle.cargo_core.specs.Blocks.{blk_buffer_bytes}
 use Rattle.cargo_core.specs.declared.item.Body.{Body}
 use Rattle.cargo_core.specs.declared.item.PoolId.{PoolId}
 use Rattle.cargo_core.specs.declared.item.QueueKind.TheVariants as Kind
@@ -73,7 +74,7 @@ IsOfPage (Some current) x = page_named x.1 ≡ current.page
 pub record IsClient (c : Client) : Type 0 where
   pub some : 0 < c.holder.buffers
   pub entry : c.holder.partition < 4
-  pub room : c.holder.base + c.holder.buffers * 32768 ≤ 2 ^ 62
+  pub room : c.holder.base + c.holder.buffers * blk_buffer_bytes ≤ 2 ^ 62
   pub leaves : (x : Cargo) → c.leaving ≡ Some x → (kind_of x.0 ≡ Kind.Req)
       × (is_at c.holder x ≡ true) × IsOfPage c.current x
   pub alone : is_some c.current ≡ true → c.held ≡ None

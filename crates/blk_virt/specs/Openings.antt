@@ -2,6 +2,7 @@
 -- the partitions once that came.
 use Rattle.std.specs.Prelude.{◌≡◌, ◌&&◌, ℕ, nat_le, Bool, false, is_none, is_some, Option, None}
 use Rattle.std.specs.Prelude.{Some, List, [], ◌∷◌, length, take}
+use Rattle.cargo_core.specs.Blocks.{sector_bytes}
 use Rattle.cargo_core.specs.declared.item.Body.{Body}
 use Rattle.cargo_core.specs.declared.item.Body.TheVariants as Carried
 use Rattle.cargo_core.specs.declared.item.Code.TheVariants as Asked
@@ -21,15 +22,15 @@ first_read base page = (
   Carried.Page page,
 )
 
--- a body is a page that has a sector, which is 512 bytes
+-- a body is a page that has a sector
 abbrev pub has_sector : Body → Bool
-has_sector (Carried.Page page) = nat_le 512 (length page.bytes)
+has_sector (Carried.Page page) = nat_le sector_bytes (length page.bytes)
 has_sector (Carried.Lease lease) = false
 has_sector Carried.Empty = false
 
 -- the sector that a body brings
 abbrev pub sector_of : Body → List ℕ
-sector_of (Carried.Page page) = take 512 page.bytes
+sector_of (Carried.Page page) = take sector_bytes page.bytes
 sector_of (Carried.Lease lease) = []
 sector_of Carried.Empty = []
 

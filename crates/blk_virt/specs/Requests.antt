@@ -1,6 +1,7 @@
 -- How the requests of one client are judged, answered and sent on to the disk.
 use Rattle.std.specs.Prelude.{◌+◌, ◌*◌, ◌==◌, ◌&&◌, ℕ, Bool, true, false, not, nat_lt, Option, None}
 use Rattle.std.specs.Prelude.{Some}
+use Rattle.cargo_core.specs.Blocks.{blk_buffer_bytes}
 use Rattle.cargo_core.specs.declared.item.BlkReq.{BlkReq}
 use Rattle.cargo_core.specs.declared.item.BlkResp.{BlkResp}
 use Rattle.cargo_core.specs.declared.item.BlkStatus.{BlkStatus}
@@ -47,7 +48,7 @@ moves_blocks Asked.Barrier = false
 -- buffers, and its body is the page of that buffer
 abbrev pub is_own : Holder → Cargo → Bool
 is_own h (item, Carried.Page page) = (page.pool.0 == h.pool.0)
-    && (nat_lt page.no h.buffers && ((request_of item).addr == page.no * 32768))
+    && (nat_lt page.no h.buffers && ((request_of item).addr == page.no * blk_buffer_bytes))
 is_own h (item, Carried.Lease lease) = false
 is_own h (item, Carried.Empty) = false
 
@@ -150,7 +151,7 @@ brings (Some name) Carried.Empty = false
 
 -- the device addresses of a client's buffers
 abbrev pub range_of : Holder → Range
-range_of h = record { base = h.base; size = h.buffers * 32768 }
+range_of h = record { base = h.base; size = h.buffers * blk_buffer_bytes }
 
 -- an entry of the driver's queue of requests is at one of the client's buffers
 abbrev pub is_at : Holder → Cargo → Bool

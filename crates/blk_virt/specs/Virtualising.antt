@@ -3,6 +3,7 @@ use Rattle.std.specs.Prelude.{◌≡◌, ◌+◌, ◌*◌, ◌≤◌, ◌<◌, �
 use Rattle.std.specs.Prelude.{List, [], ◌∷◌, ◌++◌, All, length, map, drop, slice_get}
 use Rattle.std.specs.List.{filter}
 use Rattle.std.specs.Option.{option_to_list}
+use Rattle.cargo_core.specs.Blocks.{block_bytes, blk_buffer_bytes}
 use Rattle.cargo_core.specs.declared.item.Body.TheVariants as Carried
 use Rattle.cargo_core.specs.Lists.{IsPrefix}
 use Rattle.cargo_core.specs.Pages.{Paged}
@@ -44,7 +45,7 @@ pub record VirtStands (input output : ℕ) (from_clients to_clients : List Queue
     (passed : Passed) : Type 0 where
   pub work : IsWork w
   pub start : Paged
-  pub long : 4096 ≤ length start.bytes
+  pub long : block_bytes ≤ length start.bytes
   pub back : List Cargo
   pub taken : passed.taken input ≡ back ++ option_to_list w.stray
   pub stands : WorkStands w start back (λ k. passed.taken (queue_at from_clients k))
@@ -66,7 +67,7 @@ BlkVirtStandsFor v passed = VirtStands v.ends.input.queue.0 v.ends.output.queue.
 -- and of each client it counts the requests whose buffer isn't the client's own
 pub record BlkVirtRow (v : BlkVirt) (passed : Passed) : Type 0 where
   pub start : Paged
-  pub long : 4096 ≤ length start.bytes
+  pub long : block_bytes ≤ length start.bytes
   pub own : v.work.opening.own ≡ record { pool = start.pool; no = start.no }
   pub back : List Cargo
   pub stray : List Cargo
@@ -142,7 +143,7 @@ pub record AreClients (clients : List BlkEnds) : Type 0 where
   pub some : (k : ℕ) (e : BlkEnds) → slice_get clients k ≡ Some e → 0 < e.buffers
   pub entry : (k : ℕ) (e : BlkEnds) → slice_get clients k ≡ Some e → e.partition < 4
   pub room : (k : ℕ) (e : BlkEnds) → slice_get clients k ≡ Some e
-      → e.base + e.buffers * 32768 ≤ 2 ^ 62
+      → e.base + e.buffers * blk_buffer_bytes ≤ 2 ^ 62
   pub apart : AreRanges (map (λ (e : BlkEnds). range_of (new_client e).holder) clients)
 
 -- a virtualiser in its start state

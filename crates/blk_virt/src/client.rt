@@ -2,6 +2,7 @@
 ghost use Rattle.std.specs.Prelude.{Option, ◌≡◌, ◌+◌, ◌*◌, ◌<◌, ◌≤◌, ◌^◌, ◌++◌, ◌∷◌, ◌==◌, [], ℕ};
 ghost use Rattle.std.specs.Prelude.{None, Some, true, false, is_some, length, slice_get, min};
 ghost use Rattle.std.specs.Option.{ForSome, option_map, option_to_list};
+ghost use Rattle.cargo_core.specs.Blocks.{blk_buffer_bytes};
 ghost use Rattle.blk_mbr.specs.declared.part.Part.{Part};
 ghost use Rattle.wire_core.specs.Deeds.{deed_of, put_of};
 ghost use Rattle.wire_core.specs.Lists.{taken_by, put_by, if_there};
@@ -73,7 +74,7 @@ impl Client {
     pub fn new(holder: Holder) -> Client
         requires some { 0 < holder.buffers }
         requires entry { holder.partition < 4 }
-        requires room { holder.base + holder.buffers * 32768 ≤ 2 ^ 62 }
+        requires room { holder.base + holder.buffers * blk_buffer_bytes ≤ 2 ^ 62 }
         ensures holder { result.holder ≡ holder }
         ensures fresh { IsFresh result }
     {
@@ -131,7 +132,8 @@ impl Client {
 
     // A request goes on to the disk.
     fn accept(&mut self, part: Option<Part>, entry: (Item, Body))
-        requires buffers { self.old.holder.base + self.old.holder.buffers * 32768 ≤ 2 ^ 62 }
+        requires buffers { self.old.holder.base + self.old.holder.buffers * blk_buffer_bytes
+            ≤ 2 ^ 62 }
         requires goes { goes_on self.old.holder part entry ≡ true }
         requires blocks { ForSome part (λ p. p.first_block + p.blocks < 2 ^ 32) }
         ensures { self.new ≡ record self.old {

@@ -17,8 +17,8 @@ pub use desk::{Desk, serve_law};
 pub use line::Line;
 pub use opening::{Block, Opening};
 pub use requests::{
-    BUFFER_SIZE, Holder, PageName, brings, moves_blocks, numbered, page_named, passed_on,
-    request_of, response_of,
+    Holder, PageName, brings, moves_blocks, numbered, page_named, passed_on, request_of,
+    response_of,
 };
 pub use virtualiser::{BlkEnds, BlkVirt, hand_law, row_law};
 pub use work::{Giving, Wanting, Work};

@@ -11,11 +11,8 @@ ghost use Rattle.blk_virt.specs.Openings.{is_reading, is_open, is_first, block_o
 
 use crate::{PageName, brings};
 use blk_mbr::{Part, Partitions, partition_law, read_mbr};
-use cargo_core::{BlkReq, Body, Code, Item, Page, PoolId};
+use cargo_core::{BlkReq, Body, Code, Item, Page, PoolId, SECTOR_BYTES};
 use turn_kit::count_held;
-
-/// How many bytes the sector with the partitions has.
-const SECTOR_BYTES: usize = 512;
 
 /// The disk's first block as it came, and the partitions that its first sector tells.
 #[derive(Drop)]

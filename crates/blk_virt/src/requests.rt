@@ -1,6 +1,7 @@
 //! How the requests of one client are judged, answered and sent on to the disk.
 ghost use Rattle.std.specs.Prelude.{◌≡◌, ◌+◌, ◌*◌, ◌<◌, ◌≤◌, ◌^◌, true, ℕ, Some};
 ghost use Rattle.std.specs.Option.{ForSome};
+ghost use Rattle.cargo_core.specs.Blocks.{blk_buffer_bytes};
 ghost use Rattle.blk_mbr.specs.declared.part.Part.{Part};
 ghost use Rattle.blk_virt.specs.Requests.{request_of, response_of, moves_blocks, is_own, is_bad};
 ghost use Rattle.blk_virt.specs.Requests.{judged, goes_on, first_block, asked_of_disk, for_disk};
@@ -8,10 +9,7 @@ ghost use Rattle.blk_virt.specs.Requests.{numbered, refusal, passed_on, page_nam
 
 use blk_expect::judge;
 use blk_mbr::Part;
-use cargo_core::{BlkReq, BlkResp, BlkStatus, Body, Code, Item, PoolId};
-
-/// The size of a block buffer, in bytes.
-pub const BUFFER_SIZE: u64 = 32_768;
+use cargo_core::{BLK_BUFFER_BYTES, BlkReq, BlkResp, BlkStatus, Body, Code, Item, PoolId};
 
 /// What a client has: its buffers, which are those of a pool, how many there are, the device
 /// address at which the first one begins, and the entry of its partition in the disk's table.
@@ -135,7 +133,7 @@ impl Holder {
             Body::Page(page) => {
                 page.pool().0 == self.pool.0
                     && page.no() < self.buffers
-                    && request_of(&entry.0).addr == page.no() as u64 * BUFFER_SIZE
+                    && request_of(&entry.0).addr == page.no() as u64 * BLK_BUFFER_BYTES as u64
             }
             _ => false,
         }
@@ -188,7 +186,7 @@ impl Holder {
     /// A request that goes on, as it goes to the disk, its number aside.
     pub fn for_disk(&self, part: Option<Part>, entry: (Item, Body)) -> (Item, Body)
         requires goes { goes_on self.now part entry ≡ true }
-        requires buffers { self.now.base + self.now.buffers * 32768 ≤ 2 ^ 62 }
+        requires buffers { self.now.base + self.now.buffers * blk_buffer_bytes ≤ 2 ^ 62 }
         requires blocks { ForSome part (λ p. p.first_block + p.blocks < 2 ^ 32) }
         ensures { result ≡ for_disk self.now part entry }
     {

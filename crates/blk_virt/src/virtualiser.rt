@@ -1,6 +1,7 @@
 //! The block virtualiser itself: the ends that it steps, and whose turn it is.
 ghost use Rattle.std.specs.Prelude.{◌≡◌, ◌+◌, ◌-◌, ◌<◌, ◌≤◌, ◌^◌, ℕ, IfOk, is_none, length, map};
 ghost use Rattle.std.specs.Prelude.{false};
+ghost use Rattle.cargo_core.specs.Blocks.{block_bytes};
 ghost use Rattle.cargo_core.specs.Bodies.{buffers_of};
 ghost use Rattle.turn_kit.specs.Hands.{bodies_of};
 ghost use Rattle.wire_core.specs.Ends.{role_of, Role, End};
@@ -110,7 +111,7 @@ impl BlkVirt {
         disk_sectors: u32,
     ) -> Result<BlkVirt, Memory>
         requires clients { AreClients clients.items }
-        requires own { 4096 ≤ length page.bytes }
+        requires own { block_bytes ≤ length page.bytes }
         ensures new { IfOk result (λ v. IsNewBlkVirt req resp clients.items page base
             disk_sectors v) }
         ensures work { IfOk result (λ v. IsWork v.work) }

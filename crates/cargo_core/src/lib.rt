@@ -14,7 +14,7 @@ mod series;
 mod tape;
 mod text;
 
-pub use blocks::{BLOCK_BYTES, SECTOR_BYTES};
+pub use blocks::{BLK_BUFFER_BYTES, BLOCK_BYTES, SECTOR_BYTES};
 pub use bytes::Bytes;
 pub use frame_log::FrameLog;
 pub use frame_tape::FrameTape;

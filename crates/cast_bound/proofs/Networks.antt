@@ -13,6 +13,7 @@ use Rattle.sdf_plan.specs.declared.plan.Net.{Net}
 use Rattle.sdf_check.specs.Valid.{Valid}
 use Rattle.trace_text.specs.declared.trace.Trace.{Trace}
 use Rattle.trace_text.specs.Events.{net_clients}
+use Rattle.class_table.specs.Rows.{net_buffer}
 use Rattle.region_layout.specs.Rows.{queues_of, pools_of}
 use Rattle.buffer_kit.specs.Entries.{addr_of}
 use Rattle.net_law.specs.Owners.Names.{ClientPools}
@@ -65,12 +66,12 @@ module _ (plan : Plan) (valid : Valid plan) where
           let other_size : (pool_at (pools_of plan) k).buffers ≡ other.buffers = ap (λ (o : Option PoolRow). option_map_or (λ (row : PoolRow). row.buffers) o 0) second in
           let from = a.0 in
           let other_from = b.0 in
-          let sized : one.size ≡ 2048 = net_size plan j one (omega (arith, less, below)) first in
-          let other_sized : other.size ≡ 2048 = net_size plan k other below second in
-          let told : (pool_at (pools_of plan) j).size ≡ 2048 = ap (λ (o : Option PoolRow). option_map_or (λ (row : PoolRow). row.size) o 0) first ∙ sized in
-          let other_told : (pool_at (pools_of plan) k).size ≡ 2048 = ap (λ (o : Option PoolRow). option_map_or (λ (row : PoolRow). row.size) o 0) second ∙ other_sized in
-          let to : addr_of item < (pool_at (pools_of plan) j).base + (pool_at (pools_of plan) j).buffers * 2048 = subst (λ z. addr_of item < (pool_at (pools_of plan) j).base + (pool_at (pools_of plan) j).buffers * z) told a.1 in
-          let other_to : addr_of item < (pool_at (pools_of plan) k).base + (pool_at (pools_of plan) k).buffers * 2048 = subst (λ z. addr_of item < (pool_at (pools_of plan) k).base + (pool_at (pools_of plan) k).buffers * z) other_told b.1 in
+          let sized : one.size ≡ net_buffer = net_size plan j one (omega (arith, less, below)) first in
+          let other_sized : other.size ≡ net_buffer = net_size plan k other below second in
+          let told : (pool_at (pools_of plan) j).size ≡ net_buffer = ap (λ (o : Option PoolRow). option_map_or (λ (row : PoolRow). row.size) o 0) first ∙ sized in
+          let other_told : (pool_at (pools_of plan) k).size ≡ net_buffer = ap (λ (o : Option PoolRow). option_map_or (λ (row : PoolRow). row.size) o 0) second ∙ other_sized in
+          let to : addr_of item < (pool_at (pools_of plan) j).base + (pool_at (pools_of plan) j).buffers * net_buffer = subst (λ z. addr_of item < (pool_at (pools_of plan) j).base + (pool_at (pools_of plan) j).buffers * z) told a.1 in
+          let other_to : addr_of item < (pool_at (pools_of plan) k).base + (pool_at (pools_of plan) k).buffers * net_buffer = subst (λ z. addr_of item < (pool_at (pools_of plan) k).base + (pool_at (pools_of plan) k).buffers * z) other_told b.1 in
           let end : addr_of item < one.base + one.size * one.buffers = rw sized (omega (arith, base, size, to)) in
           let other_end : addr_of item < other.base + other.size * other.buffers = rw other_sized (omega (arith, other_base, other_size, other_to)) in
           pools_apart plan valid j k one other less first second (addr_of item) (omega (arith, base, from)) end (omega (arith, other_base, other_from)) other_end

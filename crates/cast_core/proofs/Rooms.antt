@@ -18,7 +18,8 @@ use Rattle.sdf_check.specs.Valid.{Valid}
 use Rattle.sdf_check.proofs.ListLemmas.{get-right, get-either}
 use Rattle.region_layout.specs.Bases.{given_end, floor_of, round_up, base_at, free_after, bases_from, bases_of}
 use Rattle.region_layout.specs.Sizes.{IsSmallRegion}
-use Rattle.region_layout.specs.Rows.{queues_of, pool_in, net_client_pools, net_pools, blk_client_pools, blk_pools, pools_of, net_buffer, blk_buffer, client_name, each_client}
+use Rattle.class_table.specs.Rows.{net_buffer, blk_buffer}
+use Rattle.region_layout.specs.Rows.{queues_of, pool_in, net_client_pools, net_pools, blk_client_pools, blk_pools, pools_of, client_name, each_client}
 use Rattle.region_layout.proofs.SameLemmas.{pools_same}
 use Rattle.region_layout.proofs.ValidLemmas.{small_numbers}
 use Rattle.layout_laws.specs.Sound.{IsSoundPool, queue_range, pool_range}
@@ -79,15 +80,15 @@ base_low plan valid r base at =
 abbrev HasSize : ℕ → PoolRow → Type 0
 HasSize size row = row.size ≡ size
 
-net_sized : (plan : Plan) (net : Net) → All (HasSize 2048) (net_pools plan net)
+net_sized : (plan : Plan) (net : Net) → All (HasSize net_buffer) (net_pools plan net)
 unfolding net_pools net_client_pools pool_in
 net_sized plan net =
     let first = pool_in plan net.rx_region (codes "net.rx") net.rx_buffers net_buffer in
     let rx : ℕ → NetClient → PoolRow = λ k client. pool_in plan client.rx_region (client_name (codes "net.") k (codes ".rx")) client.rx_buffers net_buffer in
     let tx : ℕ → NetClient → PoolRow = λ k client. pool_in plan client.tx_region (client_name (codes "net.") k (codes ".tx")) client.tx_buffers net_buffer in
-    All-cons (HasSize 2048) first (each_client (net_client_pools plan) 0 net.client) refl
-    (all-clients (HasSize 2048) (net_client_pools plan) 0 net.client (λ k (client : NetClient) there.
-    All-cons (HasSize 2048) (rx (0 + k) client) (tx (0 + k) client ∷ []) refl (All-cons (HasSize 2048) (tx (0 + k) client) [] refl (All-nil (HasSize 2048)))))
+    All-cons (HasSize net_buffer) first (each_client (net_client_pools plan) 0 net.client) refl
+    (all-clients (HasSize net_buffer) (net_client_pools plan) 0 net.client (λ k (client : NetClient) there.
+    All-cons (HasSize net_buffer) (rx (0 + k) client) (tx (0 + k) client ∷ []) refl (All-cons (HasSize net_buffer) (tx (0 + k) client) [] refl (All-nil (HasSize net_buffer)))))
 
 blk_sized : (plan : Plan) (blk : Blk) → All (HasSize 32768) (blk_pools plan blk)
 unfolding blk_pools blk_client_pools pool_in
@@ -126,10 +127,10 @@ module _ (plan : Plan) where
   at_class : (n : ℕ) (row : PoolRow) → slice_get (pools_of plan) n ≡ Some row → slice_get (net_part ++ blk_part) n ≡ Some row
   at_class n row at = ap (λ rows. slice_get rows n) (sym (pools_same plan)) ∙ at
 
-  -- the network's pools have buffers of 2,048 bytes
-  pub net_size : (n : ℕ) (row : PoolRow) → n < first_blk_pool plan → slice_get (pools_of plan) n ≡ Some row → row.size ≡ 2048
+  -- the network's pools have buffers of the network's size
+  pub net_size : (n : ℕ) (row : PoolRow) → n < first_blk_pool plan → slice_get (pools_of plan) n ≡ Some row → row.size ≡ net_buffer
   net_size n row lt at = elim (get-either net_part blk_part n row (at_class n row at)) [
-    | inl h ↦ all-at (HasSize 2048) net_part (all-class (HasSize 2048) (net_pools plan) plan.net (λ net is. net_sized plan net)) n row h
+    | inl h ↦ all-at (HasSize net_buffer) net_part (all-class (HasSize net_buffer) (net_pools plan) plan.net (λ net is. net_sized plan net)) n row h
     | inr h ↦ let past = h.0 in let long = front_long in absurd (omega (arith, past, long, lt))
   ]
 
@@ -173,7 +174,7 @@ module _ (plan : Plan) (valid : Valid plan) where
       let few = sound.buffers.1 in
       let told : row.size ≡ (pool_at (pools_of plan) n).size = sym (ap (λ (o : Option PoolRow). option_map_or (λ (r : PoolRow). r.size) o 0) at) in
       let size = net_size plan n row below at in
-      let ends : row.base + row.buffers * 2048 ≤ 2 ^ 62 = omega (arith, low, few) in
+      let ends : row.base + row.buffers * net_buffer ≤ 2 ^ 62 = omega (arith, low, few) in
       record { row = row; there = at; some = sound.buffers.0; few = few; sized = told; large = omega (arith, size, told); ends = subst (λ z. row.base + row.buffers * z ≤ 2 ^ 62) (sym size ∙ told) ends }
 
   pub has_blk_pool : (n : ℕ) (row : PoolRow) → first_blk_pool plan ≤ n → slice_get (pools_of plan) n ≡ Some row → HasPool 32768 (pools_of plan) n

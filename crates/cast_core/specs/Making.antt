@@ -1,6 +1,7 @@
 -- What the network's actors are made from: pools, the queues of clients, and frames.
 use Rattle.std.specs.Prelude.{◌≡◌, ◌+◌, ◌*◌, ◌<◌, ◌≤◌, ◌^◌, ℕ, Some, List, All, length, replicate}
 use Rattle.std.specs.Prelude.{slice_get}
+use Rattle.cargo_core.specs.Blocks.{blk_buffer_bytes}
 use Rattle.cargo_core.specs.declared.item.Ask.{Ask}
 use Rattle.cargo_core.specs.declared.ranges.Range.{Range}
 use Rattle.cargo_core.specs.Pages.{Paged}
@@ -96,14 +97,14 @@ blk_ends plan rows c = record {
 
 -- the device addresses of a block client's buffers
 abbrev pub blk_range : BlkEnds → Range
-blk_range e = record { base = e.base; size = e.buffers * 32768 }
+blk_range e = record { base = e.base; size = e.buffers * blk_buffer_bytes }
 
 -- the pools of a block class with so many clients are there, from this number on: the
 -- virtualiser's, of one buffer, and one of each client, and no two clients' buffers meet
 pub record HasBlkPools (plan : Plan) (rows : List PoolRow) (clients : ℕ) : Type 0 where
-  pub own : HasPool 32768 rows (first_blk_pool plan)
+  pub own : HasPool blk_buffer_bytes rows (first_blk_pool plan)
   pub single : (pool_at rows (first_blk_pool plan)).buffers ≡ 1
-  pub client : (c : ℕ) → c < clients → HasPool 32768 rows (first_blk_pool plan + 1 + c)
+  pub client : (c : ℕ) → c < clients → HasPool blk_buffer_bytes rows (first_blk_pool plan + 1 + c)
   pub apart : (j k : ℕ) → j < k → k < clients
       → IsApart (blk_range (blk_ends plan rows k)) (blk_range (blk_ends plan rows j))
 

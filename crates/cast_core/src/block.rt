@@ -1,6 +1,7 @@
 //! The actors of the block class.
 ghost use Rattle.std.specs.Prelude.{◌≡◌, ◌<◌, ◌≤◌, ◌+◌, ◌*◌, ◌/◌, ◌^◌, ℕ, List, Some, length, map};
 ghost use Rattle.std.specs.Prelude.{slice_get, IfOk};
+ghost use Rattle.cargo_core.specs.Blocks.{sector_bytes, blk_buffer_bytes};
 ghost use Rattle.cargo_core.specs.declared.item.Ask.{Ask};
 ghost use Rattle.region_layout.specs.Rows.{pools_of};
 ghost use Rattle.trace_text.specs.Events.{blk_clients};
@@ -18,21 +19,18 @@ ghost use Rattle.cast_core.specs.Known.{blk_job, blk_within};
 ghost use Rattle.cast_core.specs.Making.{blk_ends, HasAsks, HasBlkPools, HasPool};
 
 use crate::jobs::BlkJob;
-use crate::pools::{BLK_BUFFER, pages, pool_row};
+use crate::pools::{pages, pool_row};
 use crate::shared::first_blk;
 use actor_set::{Actor, Disk};
 use blk_driver::BlkDriver;
 use blk_virt::{BlkEnds, BlkVirt};
-use cargo_core::{Ask, Bytes, Memory, Page, PoolId};
+use cargo_core::{Ask, BLK_BUFFER_BYTES, Bytes, Memory, Page, PoolId, SECTOR_BYTES};
 use client_programs::blk::BlkClient;
 use expect_core::client_entry;
 use sdf_plan::Plan;
 use std::alloc::Global;
 use trace_text::Trace;
 use wire_core::{PoolRow, QueueId};
-
-/// How many bytes a sector has.
-const SECTOR: usize = 512;
 
 // The number of the virtualiser's pool: those of the network stand before it.
 fn first_blk_pool(plan: &Plan) -> u16
@@ -135,7 +133,7 @@ fn virtualiser(
     ensures new { IfOk result IsNewServer }
     ensures part { IfOk result (λ v. virt_part v
         ≡ VirtPart (first_blk plan.now + 2) (first_blk plan.now + 3)
-        (length trace.now.image / 512)
+        (length trace.now.image / sector_bytes)
         (pool_at pools.now (first_blk_pool plan.now))
         (sharers_from (first_blk plan.now) 0 (per_client clients (client_entry plan.now))
         (per_client clients (λ c. pool_at pools.now (first_blk_pool plan.now + 1 + c))))) }
@@ -143,9 +141,9 @@ fn virtualiser(
     let first = first_blk(plan);
     let own = first_blk_pool(plan);
     let base = pool_row(pools, own).base;
-    let page = Page::new(alloc, PoolId(own), 0, BLK_BUFFER)?;
+    let page = Page::new(alloc, PoolId(own), 0, BLK_BUFFER_BYTES)?;
     let ends = blk_ends(alloc, plan, pools, clients)?;
-    let sectors = (trace.image().len() / SECTOR) as u32;
+    let sectors = (trace.image().len() / SECTOR_BYTES) as u32;
     let req = QueueId(first + 2);
     Ok(BlkVirt::new(alloc, req, QueueId(first + 3), ends, page, base, sectors)?)
 }
@@ -161,7 +159,7 @@ fn client(
     requires few { client < 8 }
     requires queues { first_blk plan.now ≤ 100 }
     requires numbers { first_blk_pool plan.now ≤ 100 }
-    requires pool { HasPool 32768 pools.now (first_blk_pool plan.now + 1 + client) }
+    requires pool { HasPool blk_buffer_bytes pools.now (first_blk_pool plan.now + 1 + client) }
     requires there { client < length trace.now.asks }
     requires asks { (asks : List Ask) → slice_get trace.now.asks client ≡ Some asks
         → length asks ≤ 1024 }
@@ -172,7 +170,7 @@ fn client(
 {
     let first = first_blk(plan);
     let pool = first_blk_pool(plan) + 1 + client;
-    let pages = pages(alloc, pool, pool_row(pools, pool).buffers, BLK_BUFFER)?;
+    let pages = pages(alloc, pool, pool_row(pools, pool).buffers, BLK_BUFFER_BYTES)?;
     let asks = copied(alloc, trace.asks(client as u32))?;
     let req = first + 4 + 2 * client;
     Ok(BlkClient::new(alloc, QueueId(req), QueueId(req + 1), pages, asks))

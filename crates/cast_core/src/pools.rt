@@ -10,9 +10,6 @@ use net_virt_tx::TxEnds;
 use std::alloc::Global;
 use wire_core::{PoolRow, QueueId};
 
-/// How many bytes a block buffer has.
-pub const BLK_BUFFER: u32 = 32768;
-
 /// The row of a pool.
 pub fn pool_row(rows: &[PoolRow], number: u16) -> &PoolRow
     requires { number < length rows.now }

@@ -2,6 +2,7 @@
 use Rattle.std.specs.Prelude.{ℕ, true, false, List, [], ◌∷◌, length, map, sum_by, codes, Some, None}
 use Rattle.cargo_core.specs.declared.item.QueueKind.{QueueKind}
 use Rattle.cargo_core.specs.declared.item.QueueKind.TheVariants as Kind
+use Rattle.cargo_core.specs.Blocks.{blk_buffer_bytes}
 use Rattle.sdf_plan.specs.declared.plan.Net.{Net}
 use Rattle.sdf_plan.specs.declared.plan.NetClient.{NetClient}
 use Rattle.sdf_plan.specs.declared.plan.Serial.{Serial}
@@ -93,7 +94,7 @@ net_buffer = 2048
 
 -- the bytes of a block buffer
 abbrev pub blk_buffer : ℕ
-blk_buffer = 32768
+blk_buffer = blk_buffer_bytes
 
 -- how many buffers the clients of the network class send from
 abbrev pub tx_buffers : Net → ℕ

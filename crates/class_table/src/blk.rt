@@ -8,12 +8,12 @@ ghost use Rattle.class_table.specs.Table.{blk_element, blk_client_element};
 use crate::role::Role;
 use crate::rows::{across, of_client, plays, queue, queue_behind, whole, writes};
 use crate::uses::{ClassElement, Ends, PoolUse, QueueUse, RoleUse};
-use cargo_core::{Memory, QueueKind, Series};
+use cargo_core::{BLK_BUFFER_BYTES, Memory, QueueKind, Series};
 use sdf_plan::{Blk, BlkClient, Place};
 use std::alloc::Global;
 
 /// The bytes of a block buffer.
-const BLK_BUFFER: u64 = 32768;
+const BLK_BUFFER: u64 = BLK_BUFFER_BYTES as u64;
 
 fn roles<'a>(alloc: Global, blk: &'a Blk) -> Result<Vec<RoleUse<&'a str>>, Memory>
     ensures { IfOk result (λ roles. map role_shown roles.items ≡ blk_roles blk.now) }

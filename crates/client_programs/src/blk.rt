@@ -5,6 +5,7 @@
 ghost use Rattle.std.specs.Prelude.{◌≡◌, ◌+◌, ◌-◌, ◌<◌, ◌≤◌, ◌^◌, ◌==◌, ◌∷◌, [], ℕ, None, IfOk};
 ghost use Rattle.std.specs.Prelude.{OnErr, is_none, false, length, slice_get};
 ghost use Rattle.std.specs.Option.{option_to_list};
+ghost use Rattle.cargo_core.specs.Blocks.{blk_buffer_bytes};
 ghost use Rattle.cargo_core.specs.Bodies.{buffers_of};
 ghost use Rattle.wire_core.specs.Ends.{role_of, Role, End};
 ghost use Rattle.wire_core.specs.Lists.{Lists, Passed, Stepped, nothing_passed, with, if_there};
@@ -53,7 +54,7 @@ impl BlkClient {
         pages: Vec<Page>,
         script: Vec<Ask>,
     ) -> BlkClient
-        requires pool { (pool : PoolId) × ArePool 0 pool 32768 pages.items }
+        requires pool { (pool : PoolId) × ArePool 0 pool blk_buffer_bytes pages.items }
         requires few { length pages.items + length script.items < 2 ^ 32 - 2 }
         ensures new { IsNewBlkClient req resp pages.items script.items result }
         ensures asking { IsAsking result.asking }

@@ -15,7 +15,8 @@ use Rattle.sdf_check.specs.ClassRules.{UsesNoRegion, IsSmaller, IsBufferCount}
 use Rattle.sdf_check.specs.Valid.{Valid}
 use Rattle.sdf_check.proofs.SoughtLemmas.{here-some}
 use Rattle.region_layout.specs.Bases.{bases_from, bases_of, floor_of, free_after}
-use Rattle.region_layout.specs.Rows.{pool_in, net_buffer, blk_buffer, net_client_pools, net_pools, blk_client_pools, blk_pools, pools_of, each_client, client_name}
+use Rattle.class_table.specs.Rows.{net_buffer, blk_buffer}
+use Rattle.region_layout.specs.Rows.{pool_in, net_client_pools, net_pools, blk_client_pools, blk_pools, pools_of, each_client, client_name}
 use Rattle.region_layout.proofs.SameLemmas.{pools_same}
 use Rattle.region_layout.proofs.KeptLemmas.{net_keeps, net_client_keeps, blk_keeps, blk_client_keeps}
 use Rattle.region_layout.proofs.ValidLemmas.{net_counts, net_client_counts, blk_client_counts}

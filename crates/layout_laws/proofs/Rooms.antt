@@ -8,7 +8,8 @@ use Rattle.sdf_plan.specs.declared.plan.Net.{Net}
 use Rattle.sdf_plan.specs.declared.plan.NetClient.{NetClient}
 use Rattle.sdf_check.specs.Valid.{Valid}
 use Rattle.sdf_check.proofs.ListLemmas.{get-left, get-right}
-use Rattle.region_layout.specs.Rows.{queue_in, queue_pair, each_client, eth_rx_queues, eth_tx_queues, net_rx_queues, net_tx_queues, lease_queues, client_rx_queues, client_tx_queues, net_client_queues, net_queues, serial_queues, blk_queues, queues_of, pool_in, net_client_pools, net_pools, blk_pools, pools_of, net_buffer}
+use Rattle.class_table.specs.Rows.{net_buffer}
+use Rattle.region_layout.specs.Rows.{queue_in, queue_pair, each_client, eth_rx_queues, eth_tx_queues, net_rx_queues, net_tx_queues, lease_queues, client_rx_queues, client_tx_queues, net_client_queues, net_queues, serial_queues, blk_queues, queues_of, pool_in, net_client_pools, net_pools, blk_pools, pools_of}
 use Rattle.region_layout.proofs.SameLemmas.{queues_same, pools_same}
 use Rattle.region_layout.proofs.KeptLemmas.{net_keeps, net_client_keeps}
 use Rattle.layout_laws.specs.Sound.{HoldsPool, HasRooms}

@@ -21,7 +21,8 @@ use Rattle.sdf_check.specs.Valid.{Valid}
 use Rattle.sdf_check.proofs.ListLemmas.{get-either}
 use Rattle.sdf_check.proofs.SweepLemmas.{some-inj, none-is-some}
 use Rattle.wire_core.specs.declared.names.ActorId.{ActorId}
-use Rattle.region_layout.specs.Rows.{actor_named, eth_number, uart_number, disk_number, queue_span, queue_in, queue_pair, eth_rx_queues, eth_tx_queues, net_rx_queues, net_tx_queues, lease_queues, client_rx_queues, client_tx_queues, net_client_queues, net_queues, uart_queues, shared_serial_queues, serial_client_queues, serial_queues, disk_queues, shared_blk_queues, blk_client_queues, blk_queues, queues_of, pool_in, net_buffer, blk_buffer, net_client_pools, net_pools, blk_client_pools, blk_pools, pools_of, each_client, client_name}
+use Rattle.class_table.specs.Rows.{net_buffer, blk_buffer}
+use Rattle.region_layout.specs.Rows.{actor_named, eth_number, uart_number, disk_number, queue_span, queue_in, queue_pair, eth_rx_queues, eth_tx_queues, net_rx_queues, net_tx_queues, lease_queues, client_rx_queues, client_tx_queues, net_client_queues, net_queues, uart_queues, shared_serial_queues, serial_client_queues, serial_queues, disk_queues, shared_blk_queues, blk_client_queues, blk_queues, queues_of, pool_in, net_client_pools, net_pools, blk_client_pools, blk_pools, pools_of, each_client, client_name}
 use Rattle.region_layout.proofs.SameLemmas.{queues_same, pools_same}
 use Rattle.layout_laws.specs.Sound.{queue_range, pool_range, ranges_of}
 use Rattle.layout_laws.proofs.Queues.{net_fine, net_client_fine, serial_fine, serial_client_fine, blk_fine, blk_client_fine}

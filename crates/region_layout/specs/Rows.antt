@@ -25,7 +25,7 @@ use Rattle.class_table.specs.declared.uses.Ends.TheVariants as Way
 use Rattle.class_table.specs.declared.uses.QueueUse.{QueueUse}
 use Rattle.class_table.specs.declared.uses.PoolUse.{PoolUse}
 use Rattle.class_table.specs.Named.{text_of}
-use Rattle.class_table.specs.Rows.{Name}
+use Rattle.class_table.specs.Rows.{Name, net_buffer, blk_buffer}
 use Rattle.class_table.specs.Sizes.{entry_size, offset_behind}
 use Rattle.class_table.specs.Table.{Element, table_of}
 use Rattle.sdf_check.specs.Names.{place_of, region_named}
@@ -301,14 +301,6 @@ blk_client_queues plan blk c client =
 unfoldable pub blk_queues : Plan → Blk → List QueueRow
 blk_queues plan blk = disk_queues plan blk ++ shared_blk_queues plan blk
     ++ each_client (blk_client_queues plan blk) 0 blk.client
-
--- the bytes of a network buffer
-abbrev pub net_buffer : ℕ
-net_buffer = 2048
-
--- the bytes of a block buffer
-abbrev pub blk_buffer : ℕ
-blk_buffer = 32768
 
 -- the pools of a network client
 unfoldable pub net_client_pools : Plan → ℕ → NetClient → List PoolRow

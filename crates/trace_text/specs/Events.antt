@@ -5,6 +5,7 @@ use Rattle.std.specs.Prelude.{Option, Some, None, is_some}
 use Rattle.std.specs.Option.{option_and_then, option_map_or}
 use Rattle.std.specs.List.{find}
 use Rattle.std.specs.Cmp.Lexicographic.{pointwise}
+use Rattle.cargo_core.specs.Blocks.{block_bytes}
 use Rattle.cargo_core.specs.declared.item.Ask.{Ask}
 use Rattle.cargo_core.specs.declared.item.Code.{Code}
 use Rattle.cargo_core.specs.declared.item.Code.TheVariants as Asked
@@ -154,7 +155,7 @@ unfoldable pub blk_write_line : Plan → List ℕ → List ℕ → List ℕ → 
 blk_write_line plan client first many word =
     with_number client (λ c. with_number first (λ block. with_number many (λ count.
     with_data word (λ bytes.
-    kept_if (is_blk_client plan c && is_reach block count && length bytes == count * 4096)
+    kept_if (is_blk_client plan c && is_reach block count && length bytes == count * block_bytes)
     (Some (Event.Request c
     (record { code = Asked.Write; block = block; count = count; fill = bytes })))))))
 

@@ -2,6 +2,7 @@
 use Rattle.std.specs.Prelude.{◌≡◌, ℕ, zero, suc, ◌+◌, ◌*◌, ◌^◌, ◌<◌, ◌≤◌, ◌==◌, ◌||◌, nat_le}
 use Rattle.std.specs.Prelude.{nat_lt, Bool, false, if◌then◌else◌, List, [], ◌∷◌, ◌++◌, length}
 use Rattle.std.specs.Prelude.{count_by, sum_by, replicate, Option, Some, None, MatchBool}
+use Rattle.cargo_core.specs.Blocks.{sector_bytes}
 use Rattle.cargo_core.specs.Lists.{replaced}
 use Rattle.sdf_plan.specs.declared.plan.Plan.{Plan}
 use Rattle.trace_text.specs.declared.reader.Reader.{Reader}
@@ -58,7 +59,7 @@ reader_with r (Event.Say c bytes) = record r {
   stream_bytes = r.stream_bytes + length bytes;
 }
 reader_with r (Event.Disk sectors) = record r {
-  trace = record r.trace { image = replicate (512 * sectors) 0 };
+  trace = record r.trace { image = replicate (sector_bytes * sectors) 0 };
   disk_lines = r.disk_lines + 1;
 }
 reader_with r (Event.Patch at bytes) =

@@ -1,5 +1,6 @@
 -- What a trace that was read is made of, for those who play it and needn't know the lines.
 use Rattle.std.specs.Prelude.{◌≡◌, ℕ, ◌*◌, ◌≤◌, All, List, [], length, MatchOption}
+use Rattle.cargo_core.specs.Blocks.{block_bytes}
 use Rattle.cargo_core.specs.declared.item.Ask.{Ask}
 use Rattle.cargo_core.specs.declared.item.Code.{Code}
 use Rattle.cargo_core.specs.declared.item.Code.TheVariants as Asked
@@ -14,7 +15,7 @@ IsFrame frame = (frame_least ≤ length frame) × (length frame ≤ frame_most)
 -- the bytes of a disk: 1 to 8,192 blocks of 4,096 bytes
 abbrev pub IsDisk : List ℕ → Type 0
 IsDisk image =
-    (blocks : ℕ) × (1 ≤ blocks) × (length image ≡ blocks * 4096) × (blocks ≤ 8192)
+    (blocks : ℕ) × (1 ≤ blocks) × (length image ≡ blocks * block_bytes) × (blocks ≤ 8192)
 
 -- a request for 1 to 8 blocks from one on, whose number has 32 bits
 abbrev pub NamesBlocks : Ask → Type 0
@@ -27,7 +28,7 @@ NamesNoBlock ask = (ask.block ≡ 0) × (ask.count ≡ 0) × (ask.fill ≡ [])
 -- the form of a request of a code: a write alone has bytes of its own, those of its blocks
 abbrev pub HasForm : Code → Ask → Type 0
 HasForm Asked.Read ask = NamesBlocks ask × (ask.fill ≡ [])
-HasForm Asked.Write ask = NamesBlocks ask × (length ask.fill ≡ ask.count * 4096)
+HasForm Asked.Write ask = NamesBlocks ask × (length ask.fill ≡ ask.count * block_bytes)
 HasForm Asked.Flush ask = NamesNoBlock ask
 HasForm Asked.Barrier ask = NamesNoBlock ask
 

@@ -4,6 +4,7 @@ use Rattle.std.specs.Prelude.{nat_lt, Bool, true, false, if◌then◌else◌, Li
 use Rattle.std.specs.Prelude.{fold, sum_by, count_by, replicate, slice_get, Option, Some, None}
 use Rattle.std.specs.Prelude.{is_some}
 use Rattle.std.specs.List.{flat_map, filter_map}
+use Rattle.cargo_core.specs.Blocks.{sector_bytes}
 use Rattle.cargo_core.specs.Lists.{replaced}
 use Rattle.cargo_core.specs.declared.item.Ask.{Ask}
 use Rattle.sdf_plan.specs.declared.plan.Plan.{Plan}
@@ -39,7 +40,7 @@ asks_in client _ = []
 
 -- the image after one more event
 abbrev pub image_after : List ℕ → Event → List ℕ
-image_after image (Event.Disk sectors) = replicate (512 * sectors) 0
+image_after image (Event.Disk sectors) = replicate (sector_bytes * sectors) 0
 image_after image (Event.Patch at bytes) = replaced image at bytes
 image_after image _ = image
 

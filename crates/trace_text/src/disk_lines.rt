@@ -6,12 +6,9 @@ ghost use Rattle.trace_text.specs.Reading.{IsRead};
 use crate::data::read_data;
 use crate::number::{read_below, read_number};
 use crate::reader::Reader;
-use cargo_core::{Bytes, Memory};
+use cargo_core::{Bytes, Memory, SECTOR_BYTES};
 use sdf_plan::Plan;
 use std::alloc::Global;
-
-/// The bytes of a sector.
-const SECTOR: usize = 512;
 
 /// The most sectors of a disk.
 const MOST_SECTORS: u64 = 65536;
@@ -38,7 +35,7 @@ impl Reader {
         if sectors % 8 != 0 {
             return Ok(false);
         }
-        self.trace.image = Bytes::from_vec(vec![in alloc; 0; SECTOR * sectors as usize]?);
+        self.trace.image = Bytes::from_vec(vec![in alloc; 0; SECTOR_BYTES * sectors as usize]?);
         self.disk_lines += 1;
         Ok(true)
     }

@@ -10,12 +10,9 @@ use crate::lists::add_ask;
 use crate::number::read_below;
 use crate::reader::{LINES, Reader};
 use crate::text::same_text;
-use cargo_core::{Ask, Bytes, Code, Memory};
+use cargo_core::{Ask, BLOCK_BYTES, Bytes, Code, Memory};
 use sdf_plan::Plan;
 use std::alloc::Global;
-
-/// The bytes of a block.
-const BLOCK: usize = 4096;
 
 /// How many numbers of blocks there are.
 const BLOCK_NUMBERS: u64 = 4294967296;
@@ -141,11 +138,11 @@ impl Reader {
         if self.request_lines >= LINES {
             return Ok(false);
         }
-        let fill = match read_data(alloc, word, count as usize * BLOCK)? {
+        let fill = match read_data(alloc, word, count as usize * BLOCK_BYTES)? {
             Some(fill) => fill,
             None => return Ok(false),
         };
-        if fill.len() != count as usize * BLOCK {
+        if fill.len() != count as usize * BLOCK_BYTES {
             return Ok(false);
         }
         let ask = Ask {

@@ -1,6 +1,7 @@
 -- The actors of the network and of the block class in a cast: of either there are none, or they are
 -- the whole class at the layout's queues.
 use Rattle.std.specs.Prelude.{◌≡◌, ◌⊎◌, ◌+◌, ◌*◌, ◌<◌, ◌≤◌, ℕ, Some, List, length, slice_get}
+use Rattle.cargo_core.specs.Blocks.{block_bytes}
 use Rattle.cargo_core.specs.Items.{kind_of}
 use Rattle.cargo_core.specs.declared.item.Ask.{Ask}
 use Rattle.cargo_core.specs.declared.item.QueueKind.TheVariants as Kind
@@ -106,7 +107,7 @@ pub record HasBlk (rows : List QueueRow) (place : BlkPlace) (cast : List Part) :
   pub some : (k : ℕ) (pool : PoolAt) → slice_get place.pools k ≡ Some pool → 1 ≤ pool.buffers
   pub blocks : ℕ
   pub some_blocks : 1 ≤ blocks
-  pub image_long : length place.image ≡ blocks * 4096
+  pub image_long : length place.image ≡ blocks * block_bytes
   pub image_is : (scene_of cast).image ≡ place.image
   pub sized : (k : ℕ) (asks : List Ask) → slice_get place.asks k ≡ Some asks → AreSized asks
   pub apart : (j k entry : ℕ) → slice_get place.entries j ≡ Some entry

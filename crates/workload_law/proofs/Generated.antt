@@ -9,6 +9,7 @@ use Rattle.hex.proofs.HexLemmas.{length-encode_with}
 use Rattle.sdf_model.specs.Counts.{text_most}
 use Rattle.frame_core.specs.Frames.{is_frame_of, broadcast}
 use Rattle.sdf_plan.specs.declared.plan.Plan.{Plan}
+use Rattle.trace_text.specs.Limits.{frame_most}
 use Rattle.trace_text.specs.Texts.{words_of, number_of, piece_of, data_of}
 use Rattle.trace_text.specs.Events.{Event, meaning, is_source, is_speaker, is_blk_client, is_reach, bare_ask, words_say, is_skipped, rx_line as rx_meaning, in_line as in_meaning, send_line as send_meaning, say_line as say_meaning, disk_line, bytes_line, blk_read_line, blk_write_line}
 use Rattle.trace_text.specs.Traces.{HasNoBadLine, trace_from}
@@ -49,7 +50,7 @@ not_skipped c rest h = rw (not_equal (length (c ∷ rest)) 0 (λ none. omega (ar
 
 -- ---- what the lines say
 
-rx_says : (plan : Plan) (bytes : List ℕ) → is_some plan.net ≡ true → IsBytes bytes → 0 < length bytes → is_frame_of bytes ≡ true
+rx_says : (plan : Plan) (bytes : List ℕ) → is_some plan.net ≡ true → IsBytes bytes → 0 < length bytes → is_frame_of bytes frame_most ≡ true
     → meaning plan (codes "rx " ++ encode_lower bytes) ≡ Some (Event.Rx bytes)
 unfolding rx_meaning
 rx_says plan bytes net is some whole =
@@ -58,7 +59,7 @@ rx_says plan bytes net is some whole =
     ∙ two_rx plan (codes "rx") (encode_lower bytes) refl
     ∙ rw (data_hex bytes is some, net, whole) refl
 
-send_says : (plan : Plan) (bytes : List ℕ) → is_source plan 0 ≡ true → IsBytes bytes → 0 < length bytes → is_frame_of bytes ≡ true
+send_says : (plan : Plan) (bytes : List ℕ) → is_source plan 0 ≡ true → IsBytes bytes → 0 < length bytes → is_frame_of bytes frame_most ≡ true
     → meaning plan (codes "send 0 " ++ encode_lower bytes) ≡ Some (Event.Send 0 bytes)
 unfolding send_meaning
 send_says plan bytes source is some whole =
@@ -167,11 +168,11 @@ frame_long to from many value t f =
     let rest = replicate many value in
     omega (arith, t, f, length-append (to ++ from) (8 ∷ 0 ∷ rest), length-append to from, length-replicate {A = ℕ} many value)
 
-frame_is : (bytes : List ℕ) (many : ℕ) → length bytes ≡ 14 + many → many < 64 → is_frame_of bytes ≡ true
+frame_is : (bytes : List ℕ) (many : ℕ) → length bytes ≡ 14 + many → many < 64 → is_frame_of bytes frame_most ≡ true
 frame_is bytes many long few =
     let least : 14 ≤ length bytes = omega (arith, long) in
-    let most : length bytes ≤ 1514 = omega (arith, long, few) in
-    rw (le-leb 14 (length bytes) least, le-leb (length bytes) 1514 most) refl
+    let most : length bytes ≤ frame_most = omega (arith, long, few) in
+    rw (le-leb 14 (length bytes) least, le-leb (length bytes) frame_most most) refl
 
 destination_bytes : (i : ℕ) → IsBytes (destination i)
 destination_bytes i =

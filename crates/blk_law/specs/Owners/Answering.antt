@@ -1,6 +1,7 @@
 -- What the items of the block class's queues name: a request the buffer at its address, and a
 -- response that of the request of its place.
 use Rattle.std.specs.Prelude.{◌≡◌, ◌*◌, ◌≤◌, ℕ, Some, List, [], ◌∷◌, length, map, slice_get}
+use Rattle.cargo_core.specs.Blocks.{blk_buffer_bytes}
 use Rattle.cargo_core.specs.Items.{kind_of}
 use Rattle.cargo_core.specs.Lists.{IsPrefix}
 use Rattle.cargo_core.specs.Ranges.{IsApart}
@@ -17,11 +18,11 @@ use Rattle.blk_law.specs.Sheets.Parts.{BlkPart, DiskDevice, BlkDriver, BlkVirt, 
 
 -- a pool's buffers, of 32,768 bytes each, by device addresses
 abbrev pub block_window : PoolAt → Window
-block_window p = record { pool = p.number; base = p.base; size = 32768; buffers = p.buffers }
+block_window p = record { pool = p.number; base = p.base; size = blk_buffer_bytes; buffers = p.buffers }
 
 -- its buffers by offsets
 abbrev pub offset_window : PoolAt → Window
-offset_window p = record { pool = p.number; base = 0; size = 32768; buffers = p.buffers }
+offset_window p = record { pool = p.number; base = 0; size = blk_buffer_bytes; buffers = p.buffers }
 
 -- the virtualiser's own buffer and those of its clients, by device addresses
 abbrev pub disk_windows : PoolAt → List Sharer → List Window
@@ -56,7 +57,7 @@ NamesBlk naming (BlkClient req resp asks pool) =
 
 -- the device addresses of a pool's buffers
 abbrev pub block_range : PoolAt → Range
-block_range p = record { base = p.base; size = p.buffers * 32768 }
+block_range p = record { base = p.base; size = p.buffers * blk_buffer_bytes }
 
 -- the virtualiser and each of its clients have buffers, and no two of these pools have an address
 -- in common

@@ -1,6 +1,7 @@
 -- The block class by the number of its first queue, in the order of the layout's table: two queues
 -- at the disk, two at the driver's other side, and then two for each client.
 use Rattle.std.specs.Prelude.{◌≡◌, ◌+◌, ◌*◌, ◌/◌, ℕ, Some, List, [], ◌∷◌, length, slice_get}
+use Rattle.cargo_core.specs.Blocks.{sector_bytes}
 use Rattle.cargo_core.specs.declared.item.Ask.{Ask}
 use Rattle.owner_law.specs.Pools.Places.{PoolAt, own_pool}
 use Rattle.blk_law.specs.Sheets.Parts.{BlkPart, DiskDevice, BlkDriver, BlkVirt, BlkClient, Sharer}
@@ -40,9 +41,10 @@ sharers_from first k (entry ∷ entries) (pool ∷ pools) =
     record { req = first + 4 + 2 * k; resp = first + 5 + 2 * k; entry = entry; pool = pool }
     ∷ sharers_from first (k + 1) entries pools
 
--- the virtualiser's part; a sector has 512 bytes
+-- the virtualiser's part
 abbrev pub virt_at : BlkPlace → BlkPart
-virt_at place = BlkVirt (place.first + 2) (place.first + 3) (length place.image / 512) place.pool
+virt_at place =
+    BlkVirt (place.first + 2) (place.first + 3) (length place.image / sector_bytes) place.pool
     (sharers_from place.first 0 place.entries place.pools)
 
 -- the part of the client of a number, with what it asks and its pool

@@ -1,6 +1,7 @@
 -- Which part each actor of the block class plays, and what the laws ask of what passed at its ends.
 use Rattle.std.specs.Prelude.{◌≡◌, ◌≤◌, ◌/◌, ℕ, false, None, Some, List, [], ◌∷◌, All, length, map}
 use Rattle.std.specs.Prelude.{take, slice_get}
+use Rattle.cargo_core.specs.Blocks.{sector_bytes, blk_buffer_bytes}
 use Rattle.cargo_core.specs.Ranges.{AreRanges}
 use Rattle.wire_core.specs.declared.names.QueueId.{QueueId}
 use Rattle.wire_core.specs.Deeds.{Cargo}
@@ -32,7 +33,12 @@ blk_driver_part ps = DriverPart (map way_of ps)
 
 -- the pool of a client's buffers
 abbrev pub holder_pool : Holder → PoolAt
-holder_pool h = record { number = h.pool.0; base = h.base; buffers = h.buffers; size = 32768 }
+holder_pool h = record {
+  number = h.pool.0;
+  base = h.base;
+  buffers = h.buffers;
+  size = blk_buffer_bytes;
+}
 
 -- clients with these pools and queues
 abbrev pub sharers : List Holder → (from to : List QueueId) → List Sharer
@@ -49,14 +55,19 @@ virt_part v = VirtPart v.ends.output.queue.0 v.ends.input.queue.0 v.work.opening
     (record {
       number = v.work.opening.own.pool.0;
       base = v.work.opening.base;
-      buffers = 1; size = 32768;
+      buffers = 1; size = blk_buffer_bytes;
     })
     (sharers (holders v.work.desk) (from_queues v.ends) (to_queues v.ends))
 
 -- a client's part
 abbrev pub blk_client_part : BlkClient → BlkPart
 blk_client_part c = ClientPart (req_queue c) (resp_queue c) c.asking.script.items
-    (record { number = c.asking.pool.0; base = 0; buffers = c.asking.buffers; size = 32768 })
+    (record {
+      number = c.asking.pool.0;
+      base = 0;
+      buffers = c.asking.buffers;
+      size = blk_buffer_bytes;
+    })
 
 -- a disk with this image at the start took nothing out of turn
 pub record DiskInTurn (start : List ℕ) (d : DiskDevice) (passed : Passed) : Type 0 where
@@ -72,8 +83,8 @@ pub record VirtInTurn (image : List ℕ) (v : BlkVirt) (passed : Passed) : Type 
   pub answered : length (passed.taken v.ends.input.queue.0)
       ≤ length (passed.sent v.ends.output.queue.0)
   pub sector : (y : Cargo) → slice_get (passed.taken v.ends.input.queue.0) 0 ≡ Some y
-      → sector_of y.1 ≡ take 512 image
-  pub sectors : v.work.opening.disk_sectors ≡ length image / 512
+      → sector_of y.1 ≡ take sector_bytes image
+  pub sectors : v.work.opening.disk_sectors ≡ length image / sector_bytes
   pub good : (k : ℕ) (h : Holder) (q : QueueId) → slice_get (holders v.work.desk) k ≡ Some h
       → slice_get (from_queues v.ends) k ≡ Some q
       → All (λ (x : Cargo). is_bad h x ≡ false) (passed.taken q.0)

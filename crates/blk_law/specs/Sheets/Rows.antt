@@ -3,6 +3,7 @@ use Rattle.std.specs.Prelude.{◌≡◌, ◌+◌, ◌*◌, ◌<◌, ◌≤◌, �
 use Rattle.std.specs.Prelude.{if◌then◌else◌, Option, Some, List, [], ◌∷◌, length, map, take, drop}
 use Rattle.std.specs.Prelude.{slice_get}
 use Rattle.std.specs.List.{filter}
+use Rattle.cargo_core.specs.Blocks.{blk_buffer_bytes}
 use Rattle.cargo_core.specs.Lists.{IsPrefix, PrefixMerge}
 use Rattle.cargo_core.specs.Ranges.{is_within}
 use Rattle.cargo_core.specs.declared.item.Ask.{Ask}
@@ -42,7 +43,7 @@ abbrev pub asked_items : (id used hand buffers : ℕ) → List Ask → List Item
 asked_items id used hand buffers [] = []
 asked_items id used hand buffers (a ∷ asks) =
     if needs_buffer a.code then (if nat_lt used hand then
-    (request_for a id ((used % buffers) * 32768)
+    (request_for a id ((used % buffers) * blk_buffer_bytes)
     ∷ asked_items (id + 1) (used + 1) hand buffers asks)
     else []) else (request_for a id 0 ∷ asked_items (id + 1) used hand buffers asks)
 
@@ -95,7 +96,7 @@ passed_item id i = ItemOf.Resp (record {
 -- a request of the driver's queue is at one of a pool's buffers
 abbrev pub is_item_at : PoolAt → Item → Bool
 is_item_at p i =
-    is_within (record { base = p.base; size = p.buffers * 32768 }) (request_of i).addr
+    is_within (record { base = p.base; size = p.buffers * blk_buffer_bytes }) (request_of i).addr
 
 -- of the responses from the driver, of which each answers the request of its place, those to
 -- requests at a pool's buffers
@@ -141,7 +142,7 @@ first_item pool = ItemOf.Req
 -- a read or a write is at the offset of one of a pool's buffers
 abbrev pub IsRequestIn : PoolAt → Item → Type 0
 IsRequestIn p i = moves_blocks (request_of i).code ≡ true
-    → (number : ℕ) × (number < p.buffers) × ((request_of i).addr ≡ number * 32768)
+    → (number : ℕ) × (number < p.buffers) × ((request_of i).addr ≡ number * blk_buffer_bytes)
 
 -- what the virtualiser may have put, by the partitions of this image: first its own request, and
 -- then a merge of beginnings of what of each client's requests goes to the disk, all with rising

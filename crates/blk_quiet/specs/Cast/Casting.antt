@@ -1,6 +1,7 @@
 -- The block class in a system: which actors stand at the layout's queues, told by the number of the
 -- class's first queue, what is asked of them, and what clients may put.
 use Rattle.std.specs.Prelude.{◌≡◌, ◌+◌, ◌*◌, ◌<◌, ◌≤◌, ℕ, false, Some, List, length, map, slice_get}
+use Rattle.cargo_core.specs.Blocks.{block_bytes, blk_buffer_bytes}
 use Rattle.cargo_core.specs.Items.{kind_of}
 use Rattle.cargo_core.specs.Ranges.{AreRanges}
 use Rattle.cargo_core.specs.declared.item.Ask.{Ask}
@@ -40,7 +41,7 @@ holder_of p = record {
 
 -- a page has 32,768 bytes
 abbrev pub IsWhole : Body → Type 0
-IsWhole (Carried.Page page) = length page.bytes ≡ 32768
+IsWhole (Carried.Page page) = length page.bytes ≡ blk_buffer_bytes
 IsWhole (Carried.Lease lease) = Unit {0}
 IsWhole Carried.Empty = Unit {0}
 
@@ -92,7 +93,7 @@ pub record IsBlkCast (place : BlkPlace) (passed : Passed) : Type 0 where
       → (c : BlkClient) × IsAskingClient place k asks pool c passed
   pub blocks : ℕ
   pub some_blocks : 1 ≤ blocks
-  pub image_long : length place.image ≡ blocks * 4096
+  pub image_long : length place.image ≡ blocks * block_bytes
   pub some : (k : ℕ) (pool : PoolAt) → slice_get place.pools k ≡ Some pool → 1 ≤ pool.buffers
 
 -- each client put requests in its own buffers alone

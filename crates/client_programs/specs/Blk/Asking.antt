@@ -3,6 +3,7 @@ use Rattle.std.specs.Prelude.{◌≡◌, ◌+◌, ◌-◌, ◌*◌, ◌<◌, ◌
 use Rattle.std.specs.Prelude.{if◌then◌else◌, Option, None, Some, List, [], ◌∷◌, ◌++◌, length, map}
 use Rattle.std.specs.Prelude.{drop, option_to_list}
 use Rattle.std.specs.Option.{ForSome}
+use Rattle.cargo_core.specs.Blocks.{block_bytes, blk_buffer_bytes}
 use Rattle.cargo_core.specs.declared.item.Ask.{Ask}
 use Rattle.cargo_core.specs.declared.item.BlkResp.{BlkResp}
 use Rattle.cargo_core.specs.declared.item.BlkStatus.{BlkStatus}
@@ -59,7 +60,7 @@ page_for Asked.Barrier bytes page = page
 -- the entry that asks it in a buffer, whose offset is its address
 abbrev pub asked_in : Ask → ℕ → Paged → Cargo
 asked_in a id page =
-    (request_for a id (page.no * 32768), Carried.Page (page_for a.code a.fill page))
+    (request_for a id (page.no * blk_buffer_bytes), Carried.Page (page_for a.code a.fill page))
 
 -- the entry that asks it without a buffer
 abbrev pub asked_bare : Ask → ℕ → Cargo
@@ -98,7 +99,7 @@ came_blocks Answered.NoDevice count = 0
 -- how many bytes of its buffer a response brings: those of the blocks that came, where so many were
 -- asked for
 abbrev pub read_bytes : Ask → BlkResp → ℕ
-read_bytes a r = min (read_blocks a.code a.count) (came_blocks r.status r.count) * 4096
+read_bytes a r = min (read_blocks a.code a.count) (came_blocks r.status r.count) * block_bytes
 
 -- what is recorded of a response: the response, and for a read that went well the first bytes of
 -- its buffer
@@ -141,7 +142,7 @@ left w = drop (made w) w.script.items
 -- how many bytes the reply to what was asked may have
 abbrev pub reply_room : Option Ask → ℕ
 reply_room None = 0
-reply_room (Some a) = read_blocks a.code a.count * 4096
+reply_room (Some a) = read_blocks a.code a.count * block_bytes
 
 -- the bodies in its hand: that of the next request, and the buffers
 abbrev pub asking_hand : Asking → List Body
@@ -161,7 +162,7 @@ pub record IsAsking (w : Asking) : Type 0 where
 
 -- these are its buffers at the start, in rising number
 pub record IsHoard (w : Asking) (start : List Paged) : Type 0 where
-  pub are_pool : ArePool 0 w.pool 32768 start
+  pub are_pool : ArePool 0 w.pool blk_buffer_bytes start
   pub many : length start ≡ w.buffers
 
 -- it put its requests in their order, in its buffers as they came to hand, and whatever buffers

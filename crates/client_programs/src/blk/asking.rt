@@ -2,6 +2,7 @@
 ghost use Rattle.std.specs.Prelude.{◌≡◌, ◌-◌, ◌+◌, ◌*◌, ◌<◌, ◌≤◌, ◌^◌, ◌∷◌, ◌++◌, ℕ, [], List};
 ghost use Rattle.std.specs.Prelude.{None, Some, OnOk, OnErr, nat_lt, length, slice_get};
 ghost use Rattle.std.specs.Option.{ForSome, option_to_list};
+ghost use Rattle.cargo_core.specs.Blocks.{blk_buffer_bytes};
 ghost use Rattle.cargo_core.specs.Bodies.{buffers_of, buffers_in};
 ghost use Rattle.cargo_core.specs.declared.item.Ask.{Ask};
 ghost use Rattle.cargo_core.specs.declared.item.QueueKind.TheVariants as Kind;
@@ -19,16 +20,11 @@ ghost use Rattle.client_programs.specs.Blk.Asking.{reply_room, asking_hand};
 
 use crate::blk::Keeping;
 use cargo_core::{
-    Ask, BlkReq, BlkResp, BlkStatus, Body, Bytes, Code, Item, Memory, Page, PoolId, Reply,
+    Ask, BLK_BUFFER_BYTES, BLOCK_BYTES, BlkReq, BlkResp, BlkStatus, Body, Bytes, Code, Item, Memory,
+    Page, PoolId, Reply,
 };
 use std::alloc::Global;
 use turn_kit::count_held;
-
-/// The size of a block buffer, in bytes.
-const BUFFER_SIZE: u64 = 32_768;
-
-/// The size of a block, in bytes.
-const BLOCK_SIZE: usize = 4096;
 
 /// What a client asks. `sent` counts the requests that were put; `next` is the request that is put
 /// next, which is ready where one can be put; `kept` has the replies and the buffers in hand. At
@@ -45,7 +41,8 @@ pub struct Asking {
 
 // The pool of some buffers. Where there is none, any pool will do.
 fn pool_of(pages: &[Page]) -> PoolId
-    ensures { (pool : PoolId) → ArePool 0 pool 32768 pages.now → ArePool 0 result 32768 pages.now }
+    ensures { (pool : PoolId) → ArePool 0 pool blk_buffer_bytes pages.now
+        → ArePool 0 result blk_buffer_bytes pages.now }
 {
     match pages.first() {
         Some(page) => page.pool(),
@@ -90,7 +87,7 @@ fn page_for(code: Code, fill: &Bytes, mut page: Page) -> Page
 fn asked_in(ask: &Ask, id: u32, page: Page) -> (Item, Body)
     ensures { result ≡ asked_in ask.now id page }
 {
-    let item = request_for(ask, id, page.no() as u64 * BUFFER_SIZE);
+    let item = request_for(ask, id, page.no() as u64 * BLK_BUFFER_BYTES as u64);
     (item, Body::Page(page_for(ask.code, &ask.fill, page)))
 }
 
@@ -157,7 +154,7 @@ impl Asking {
     /// Nothing asked yet: the script's first request is ready, where it can be put. The pages are
     /// the client's buffers, in rising number. It takes no memory.
     pub fn new(alloc: Global, pages: Vec<Page>, script: Vec<Ask>) -> Asking
-        requires pool { (pool : PoolId) × ArePool 0 pool 32768 pages.items }
+        requires pool { (pool : PoolId) × ArePool 0 pool blk_buffer_bytes pages.items }
         requires few { length pages.items + length script.items < 2 ^ 32 - 2 }
         ensures script { result.script ≡ script }
         ensures asking { IsAsking result }
@@ -236,7 +233,7 @@ impl Asking {
             (length self.now.kept.shown)) }
     {
         match self.script.get(self.kept.len()) {
-            Some(ask) => read_blocks(ask).min(came_blocks(resp)) as usize * BLOCK_SIZE,
+            Some(ask) => read_blocks(ask).min(came_blocks(resp)) as usize * BLOCK_BYTES,
             None => 0,
         }
     }
@@ -252,7 +249,7 @@ impl Asking {
         ensures err { OnErr result (self.new ≡ self.old) }
     {
         let len = match self.script.get(self.kept.len()) {
-            Some(ask) => read_blocks(ask) as usize * BLOCK_SIZE,
+            Some(ask) => read_blocks(ask) as usize * BLOCK_BYTES,
             None => 0,
         };
         self.kept.reserve(len)

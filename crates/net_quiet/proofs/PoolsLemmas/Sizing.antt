@@ -10,7 +10,7 @@ use Rattle.play_core.specs.Sheets.{Scene}
 use Rattle.play_core.proofs.Lists.{some_is, map_from, there_is, there_below}
 use Rattle.owner_law.specs.Things.{Window, Names, NoBuffers, Buffer}
 use Rattle.net_law.specs.Owners.Names.{ClientPools, client_names, net_names}
-use Rattle.owner_law.specs.Pools.Places.{PoolAt, by_address, by_offset, numbers_from, sizes_of, AreNumbered}
+use Rattle.owner_law.specs.Pools.Places.{PoolAt, by_address, by_offset, sizes_of, AreNumbered}
 use Rattle.net_law.specs.Owners.Lending.{receivers_of}
 use Rattle.net_law.specs.Parts.Numbers.{layout_naming, lessees_from}
 use Rattle.net_law.specs.Parts.Rows.{lender_of}

@@ -13,13 +13,13 @@ use Rattle.sdf_plan.specs.declared.plan.NetClient.{NetClient}
 use Rattle.sdf_plan.specs.declared.plan.Blk.{Blk}
 use Rattle.sdf_plan.specs.declared.plan.BlkClient.{BlkClient}
 use Rattle.class_table.specs.declared.uses.Grant.{Grant}
-use Rattle.class_table.specs.Rows.{reads as granted_to_read}
+use Rattle.class_table.specs.Rows.{reads as granted_to_read, net_buffer, blk_buffer}
 use Rattle.sdf_check.specs.Names.{region_names, region_named}
 use Rattle.sdf_check.specs.ClassRules.{IsGranted, HasStranger}
 use Rattle.sdf_check.specs.Valid.{Valid}
 use Rattle.sdf_check.proofs.SoughtLemmas.{here-some}
 use Rattle.sdf_check.proofs.SweepLemmas.{some-inj}
-use Rattle.region_layout.specs.Rows.{pool_in, net_buffer, blk_buffer, net_client_pools, net_pools, blk_client_pools, blk_pools, pools_of, each_client, client_name}
+use Rattle.region_layout.specs.Rows.{pool_in, net_client_pools, net_pools, blk_client_pools, blk_pools, pools_of, each_client, client_name}
 use Rattle.region_layout.proofs.SameLemmas.{pools_same}
 use Rattle.layout_laws.proofs.Lists.{there_is}
 use Rattle.layout_laws.proofs.Found.{found-at}
