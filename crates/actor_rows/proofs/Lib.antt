@@ -7,3 +7,4 @@ pub mod Merging
 pub mod SeatsLemmas
 pub mod NetTx
 pub mod Emptiness
+pub mod Sizing

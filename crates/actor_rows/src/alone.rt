@@ -5,7 +5,12 @@ ghost use Rattle.std.specs.Prelude.{List};
 ghost use Rattle.wire_core.specs.Queues.{Queue};
 ghost use Rattle.actor_rows.specs.Standings.{DriverStands, RxStands, TxStands};
 ghost use Rattle.actor_rows.specs.NetTx.Standings.{Stands};
+ghost use Rattle.actor_rows.specs.Sizes.{DeviceStands, LenderStands, CopierStands, ClientStands};
 
+use client_programs::NetClient;
+use device_model::EthDevice;
+use net_copier::NetCopier;
+use net_virt_rx::NetVirtRx;
 use net_virt_tx::NetVirtTx;
 use plain_wires::World;
 use serial_virt::{SerialVirtRx, SerialVirtTx};
@@ -19,7 +24,7 @@ pub trait Alone {
     /// It stands at these queues.
     ghost stands: { List Queue → Self → Type 0 };
 
-    /// Makes one call.
+    /// Makes one call, or none where memory is wanting.
     fn call(&mut self, world: &mut World)
         requires { stands world.old self.old }
         ensures { stands world.new self.new };
@@ -54,6 +59,38 @@ impl Alone for NetVirtTx {
 
     fn call(&mut self, world: &mut World) {
         self.step(world);
+    }
+}
+
+impl Alone for EthDevice {
+    ghost stands = { DeviceStands };
+
+    fn call(&mut self, world: &mut World) {
+        let _called = self.step(world);
+    }
+}
+
+impl Alone for NetVirtRx {
+    ghost stands = { LenderStands };
+
+    fn call(&mut self, world: &mut World) {
+        let _called = self.step(world);
+    }
+}
+
+impl Alone for NetCopier {
+    ghost stands = { CopierStands };
+
+    fn call(&mut self, world: &mut World) {
+        self.step(world);
+    }
+}
+
+impl Alone for NetClient {
+    ghost stands = { ClientStands };
+
+    fn call(&mut self, world: &mut World) {
+        let _called = self.step(world);
     }
 }
 

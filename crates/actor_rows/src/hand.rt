@@ -52,8 +52,9 @@ pub fn give(world: &mut World, q: QueueId, byte: u8) -> bool
     put_in(world, q, Item::Byte(byte), Body::Empty)
 }
 
-/// Takes an entry, and notifies the producer where it wants that; None where none stands there.
-pub fn get(world: &mut World, q: QueueId) -> Option<Item>
+/// Takes an entry with its body, and notifies the producer where it wants that; None where none
+/// stands there.
+pub fn get_entry(world: &mut World, q: QueueId) -> Option<(Item, Body)>
     requires { q.0 < length world.old }
     ensures { OnlyAt Consumer q.0 world.old world.new }
 {
@@ -66,7 +67,16 @@ pub fn get(world: &mut World, q: QueueId) -> Option<Item>
     if !world.see(q) {
         return None;
     }
-    let (item, _body) = world.take(q);
+    let entry = world.take(q);
     notify(world, q, Side::Backward);
+    Some(entry)
+}
+
+/// The same without the body.
+pub fn get(world: &mut World, q: QueueId) -> Option<Item>
+    requires { q.0 < length world.old }
+    ensures { OnlyAt Consumer q.0 world.old world.new }
+{
+    let (item, _body) = get_entry(world, q)?;
     Some(item)
 }

@@ -15,7 +15,9 @@ pub mod seats;
 #[cfg(test)]
 mod serial_tests;
 #[cfg(test)]
+mod size_tests;
+#[cfg(test)]
 mod start_tests;
 
-pub use hand::{get, give, put_in};
+pub use hand::{get, get_entry, give, put_in};
 pub use rows::{one_or_two, queues, queues_of, row};

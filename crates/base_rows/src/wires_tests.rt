@@ -1,6 +1,6 @@
 //! All queues of a system, in lists: notifications, want of room, queues that are filled and
 //! emptied, and rings that go on as queues. Each helper makes one call where the discipline allows
-//! it, and answers None where it doesn't.
+//! it, and answers None where it doesn't; rows of calls are made by `first_wrong`.
 
 ghost use Rattle.std.specs.Prelude.{◌≡◌, ◌<◌, ◌≤◌, length, All, IfOk};
 ghost use Rattle.cargo_core.specs.Items.{kind_of};
@@ -127,6 +127,82 @@ fn wake(world: &mut World, side: Side) -> bool
     world.wake(Q, side)
 }
 
+/// A call, or a question about the queue that changes nothing.
+#[derive(Clone, Copy, Debug, PartialEq, Eq)]
+enum Call {
+    See,
+    Room,
+    Put(u8),
+    Take,
+    Signal(Side),
+    Ask(Side),
+    Wake(Side),
+    IsPending(u16),
+    Len,
+}
+
+/// What came of it.
+#[derive(Clone, Copy, Debug, PartialEq, Eq)]
+enum Told {
+    NotAllowed,
+    Done,
+    Yes,
+    No,
+    Entry(Item),
+    Count(u32),
+}
+
+fn yes_or_no(answer: Option<bool>) -> Told {
+    match answer {
+        Some(true) => Told::Yes,
+        Some(false) => Told::No,
+        None => Told::NotAllowed,
+    }
+}
+
+// Makes a call at the queue.
+fn make(world: &mut World, call: Call) -> Told
+    requires there { 0 < length world.old }
+    requires byte { (end_at world.old Producer 0).kind ≡ QueueKind.Byte }
+    ensures len { length world.new ≡ length world.old }
+    ensures kind { (end_at world.new Producer 0).kind ≡ (end_at world.old Producer 0).kind }
+{
+    match call {
+        Call::See => yes_or_no(see(world)),
+        Call::Room => yes_or_no(room(world)),
+        Call::Put(byte) => yes_or_no(put(world, byte)),
+        Call::Take => match take(world) {
+            Some(item) => Told::Entry(item),
+            None => Told::NotAllowed,
+        },
+        Call::Signal(side) => yes_or_no(signal(world, side)),
+        Call::Ask(side) => match ask(world, side) {
+            Some(()) => Told::Done,
+            None => Told::NotAllowed,
+        },
+        Call::Wake(side) => yes_or_no(Some(wake(world, side))),
+        Call::IsPending(actor) => yes_or_no(Some(world.is_pending(ActorId(actor)))),
+        Call::Len => Told::Count(world.len(Q)),
+    }
+}
+
+// Makes the calls of rows in their order, up to the first of which something else comes than stands
+// beside it, if any.
+fn first_wrong(world: &mut World, rows: &[(Call, Told)]) -> Option<(Call, Told)>
+    requires there { 0 < length world.old }
+    requires byte { (end_at world.old Producer 0).kind ≡ QueueKind.Byte }
+    ensures len { length world.new ≡ length world.old }
+    ensures kind { (end_at world.new Producer 0).kind ≡ (end_at world.old Producer 0).kind }
+{
+    for (call, want) in rows {
+        let got = make(world, *call);
+        if got != *want {
+            return Some((*call, got));
+        }
+    }
+    None
+}
+
 // 1, 2, 16, and the largest capacity.
 fn capacity(size: u8) -> u32
     ensures { IsCapacity result }
@@ -230,24 +306,30 @@ fn ended_rings_go_on_as_queues(rt: HostRuntime) -> Result<(), Fail> {
 
 #[test]
 fn a_consumer_that_asked_is_notified_once(rt: HostRuntime) -> Result<(), Fail> {
-    for size in [0, 1] {
+    for (size, second) in [(0, Told::No), (1, Told::Yes)] {
         let mut world = one_queue(rt.alloc(), size)?;
-        assert_eq!(rt; see(&mut world), Some(false));
-        assert_eq!(rt; ask(&mut world, Side::Forward), Some(()));
-        assert_eq!(rt; see(&mut world), Some(false));
-        assert_eq!(rt; see(&mut world), None);
-        assert!(rt; !world.is_pending(ActorId(1)));
-        assert_eq!(rt; put(&mut world, 97), Some(true));
-        assert_eq!(rt; signal(&mut world, Side::Forward), Some(true));
-        assert!(rt; world.is_pending(ActorId(1)));
-        assert!(rt; !world.is_pending(ActorId(0)));
-        assert!(rt; wake(&mut world, Side::Forward));
-        assert!(rt; !wake(&mut world, Side::Forward));
-        assert_eq!(rt; take(&mut world), Some(Item::Byte(97)));
-        assert_eq!(rt; put(&mut world, 98), Some(true));
-        assert_eq!(rt; signal(&mut world, Side::Forward), Some(false));
-        assert_eq!(rt; put(&mut world, 99), Some(size == 1));
-        assert_eq!(rt; take(&mut world), Some(Item::Byte(98)));
+        let wrong = first_wrong(
+            &mut world,
+            &[
+                (Call::See, Told::No),
+                (Call::Ask(Side::Forward), Told::Done),
+                (Call::See, Told::No),
+                (Call::See, Told::NotAllowed),
+                (Call::IsPending(1), Told::No),
+                (Call::Put(97), Told::Yes),
+                (Call::Signal(Side::Forward), Told::Yes),
+                (Call::IsPending(1), Told::Yes),
+                (Call::IsPending(0), Told::No),
+                (Call::Wake(Side::Forward), Told::Yes),
+                (Call::Wake(Side::Forward), Told::No),
+                (Call::Take, Told::Entry(Item::Byte(97))),
+                (Call::Put(98), Told::Yes),
+                (Call::Signal(Side::Forward), Told::No),
+                (Call::Put(99), second),
+                (Call::Take, Told::Entry(Item::Byte(98))),
+            ],
+        );
+        assert!(rt; wrong.is_none(), "capacity {size}: {wrong:?}");
     }
     Ok(())
 }
@@ -255,17 +337,23 @@ fn a_consumer_that_asked_is_notified_once(rt: HostRuntime) -> Result<(), Fail> {
 #[test]
 fn a_producer_that_asked_for_room_is_notified(rt: HostRuntime) -> Result<(), Fail> {
     let mut world = one_queue(rt.alloc(), 0)?;
-    assert_eq!(rt; put(&mut world, 1), Some(true));
-    assert_eq!(rt; room(&mut world), Some(false));
-    assert_eq!(rt; ask(&mut world, Side::Backward), Some(()));
-    assert_eq!(rt; room(&mut world), Some(false));
-    assert_eq!(rt; room(&mut world), None);
-    assert_eq!(rt; take(&mut world), Some(Item::Byte(1)));
-    assert_eq!(rt; signal(&mut world, Side::Backward), Some(true));
-    assert!(rt; world.is_pending(ActorId(0)));
-    assert!(rt; wake(&mut world, Side::Backward));
-    assert_eq!(rt; put(&mut world, 2), Some(true));
-    assert_eq!(rt; world.len(Q), 1);
+    let wrong = first_wrong(
+        &mut world,
+        &[
+            (Call::Put(1), Told::Yes),
+            (Call::Room, Told::No),
+            (Call::Ask(Side::Backward), Told::Done),
+            (Call::Room, Told::No),
+            (Call::Room, Told::NotAllowed),
+            (Call::Take, Told::Entry(Item::Byte(1))),
+            (Call::Signal(Side::Backward), Told::Yes),
+            (Call::IsPending(0), Told::Yes),
+            (Call::Wake(Side::Backward), Told::Yes),
+            (Call::Put(2), Told::Yes),
+            (Call::Len, Told::Count(1)),
+        ],
+    );
+    assert!(rt; wrong.is_none(), "{wrong:?}");
     Ok(())
 }
 

@@ -1,5 +1,6 @@
-//! Short examples of the libraries that are taken by themselves: each module makes the main calls of
-//! one library, or of two, and gives what they come to as a text, which is printed here.
+//! Short examples of the libraries that are taken by themselves, but for those that play: each module
+//! makes the main calls of one library, or of two, and gives what they come to as a text, which is
+//! printed here.
 #![tactic(auto)]
 
 ghost use Rattle.sdf_check.specs.Valid.{Valid};
@@ -7,11 +8,9 @@ ghost use Rattle.sdf_check.specs.Valid.{Valid};
 mod description;
 mod discipline;
 mod layout;
-mod program;
 mod report;
 mod ring;
 mod seats;
-mod system;
 mod trace;
 mod world;
 
@@ -19,14 +18,12 @@ use cargo_core::Memory;
 use description::{MISSPELT, judged, show_description};
 use discipline::show_discipline;
 use layout::show_layout;
-use program::show_program;
 use report::show_report;
 use ring::show_ring;
 use sdf_model::TEXT_MOST;
 use sdf_plan::Plan;
 use seats::show_seats;
 use std::{fs, io};
-use system::show_system;
 use trace::show_trace;
 use world::show_world;
 
@@ -54,11 +51,6 @@ fn print_plan(rt: &HostRuntime, plan: &Plan) -> io::Result<()>
         rt,
         "trace_text",
         show_trace(alloc, plan, "say 0 616263\nsay 1 61\n"),
-    )?;
-    print(
-        rt,
-        "system_core",
-        show_system(alloc, plan, "say 0 616263\n"),
     )
 }
 
@@ -85,15 +77,5 @@ fn main(rt: HostRuntime) -> io::Result<()> {
     {
         print_plan(&rt, &plan)?;
     }
-    print(&rt, "report_text", show_report(alloc))?;
-    print(
-        &rt,
-        "sddf_top",
-        show_program(&rt, alloc, "check serial.toml", text),
-    )?;
-    print(
-        &rt,
-        "sddf_top",
-        show_program(&rt, alloc, "play serial.toml hello.trace", text),
-    )
+    print(&rt, "report_text", show_report(alloc))
 }

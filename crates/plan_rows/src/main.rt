@@ -1,7 +1,8 @@
 //! Judges and lays out descriptions that are edited from others. A row of the input names a file
-//! with a description, or its layout as `layout of FILE`, and may replace fragments of it, each as
-//! ` | OLD => NEW`. For each row the program writes what an accepted description has, or its
-//! layout, or the rule that a refused one breaks and the place.
+//! with a description, or its layout as `layout of FILE`, or its plan as `plan of FILE`, and may
+//! replace fragments of it, each as ` | OLD => NEW`. For each row the program writes what an
+//! accepted description has, or its layout, or the parts of its plan, or the rule that a refused
+//! one breaks and the place.
 #![tactic(auto)]
 
 ghost use Rattle.std.specs.Prelude.{◌≤◌, IfOk, length};
@@ -27,25 +28,53 @@ fn judged(alloc: Global, text: &str) -> Result<Plan, SdfFault>
     Ok(plan)
 }
 
+/// What is written of an accepted description.
+#[derive(Clone, Copy)]
+enum Told {
+    Accepted,
+    Layout,
+    Plan,
+}
+
+// The parts of a plan, a line each.
+fn write_plan(alloc: Global, plan: &Plan) -> Result<String, Memory> {
+    let mut text = format!(in alloc; "version {}\n", plan.version)?;
+    for region in plan.memory_region.as_slice() {
+        write!(text, "{region:?}\n")?;
+    }
+    for domain in plan.protection_domain.as_slice() {
+        write!(text, "{domain:?}\n")?;
+    }
+    for channel in plan.channel.as_slice() {
+        write!(text, "{channel:?}\n")?;
+    }
+    write!(text, "net {:?}\n", plan.net)?;
+    write!(text, "serial {:?}\n", plan.serial)?;
+    write!(text, "blk {:?}\n", plan.blk)?;
+    Ok(text)
+}
+
 // What is written of a valid plan.
-fn accepted(alloc: Global, plan: &Plan, lays_out: bool) -> Result<String, Memory>
+fn accepted(alloc: Global, plan: &Plan, told: Told) -> Result<String, Memory>
     requires { Valid plan.now }
 {
-    if lays_out {
-        let layout = lay_out(alloc, plan)?;
-        write_layout(alloc, plan, &layout)
-    } else {
-        write_accepted(alloc, plan)
+    match told {
+        Told::Accepted => write_accepted(alloc, plan),
+        Told::Layout => {
+            let layout = lay_out(alloc, plan)?;
+            write_layout(alloc, plan, &layout)
+        }
+        Told::Plan => write_plan(alloc, plan),
     }
 }
 
 // What is written of a description.
-fn answer(alloc: Global, text: &str, lays_out: bool) -> Result<String, Memory> {
+fn answer(alloc: Global, text: &str, told: Told) -> Result<String, Memory> {
     if text.len() > TEXT_MOST {
         return write_too_long(alloc);
     }
     match judged(alloc, text) {
-        Ok(plan) => accepted(alloc, &plan, lays_out),
+        Ok(plan) => accepted(alloc, &plan, told),
         Err(SdfFault::Refused(refusal)) => write_refused(alloc, &refusal),
         Err(SdfFault::Memory(memory)) => Err(memory),
     }
@@ -84,9 +113,12 @@ fn row(rt: &HostRuntime, row: &str) -> io::Result<()> {
         Some((name, edits)) => (name, Some(edits)),
         None => (row, None),
     };
-    let (file, lays_out) = match name.strip_prefix("layout of ") {
-        Some(file) => (file, true),
-        None => (name, false),
+    let (file, told) = if let Some(file) = name.strip_prefix("layout of ") {
+        (file, Told::Layout)
+    } else if let Some(file) = name.strip_prefix("plan of ") {
+        (file, Told::Plan)
+    } else {
+        (name, Told::Accepted)
     };
     let text = fs::read_to_string(rt, file)?;
     let changed = match edits {
@@ -96,7 +128,7 @@ fn row(rt: &HostRuntime, row: &str) -> io::Result<()> {
     let Some(text) = changed else {
         return rt.println("a fragment doesn't stand there once");
     };
-    match answer(rt.alloc(), text.as_str(), lays_out) {
+    match answer(rt.alloc(), text.as_str(), told) {
         Ok(lines) => rt.print(lines),
         Err(_) => rt.println("no memory"),
     }

@@ -1,15 +1,24 @@
 //! A ring call by call on one thread, and between two threads.
-ghost use Rattle.std.specs.Prelude.{◌≡◌, true};
+ghost use Rattle.std.specs.Prelude.{◌≡◌, ◌≤◌, true};
 ghost use Rattle.cargo_core.specs.declared.item.QueueKind.TheVariants as Kind;
 ghost use Rattle.wire_core.specs.Ends.{is_busy_or_off, is_free_or_put};
 
 use crate::{byte_ring, give_up, offer, poll, send, send_by_bells, take, take_by_bells};
-use cargo_core::{Body, Item};
-use spsc_queue::{Consumer, Producer, Ring};
+use cargo_core::{Body, Item, Memory};
+use spsc_queue::{Consumer, Ended, Producer, Ring};
+use std::alloc::Global;
 use std::marker::Brand;
 use std::test::Fail;
-use std::thread::join_mut;
+use std::thread::{Threads, join_mut};
 use wire_core::{BellState, Ringer, Side, Waiter};
+
+// The next entry that was left, if any.
+fn left(ended: &mut Ended) -> Option<Item> {
+    match ended.next() {
+        Some((item, _body)) => Some(item),
+        None => None,
+    }
+}
 
 #[test]
 fn a_ring_of_two_places_call_by_call(rt: HostRuntime) -> Result<(), Fail> {
@@ -26,8 +35,8 @@ fn a_ring_of_two_places_call_by_call(rt: HostRuntime) -> Result<(), Fail> {
         ringer: Ringer::Put,
     };
     assert!(rt; ended.bell(Side::Forward) == bell);
-    assert!(rt; ended.next().map(|e| e.0) == Some(Item::Byte(2)));
-    assert!(rt; ended.next().map(|e| e.0) == None);
+    assert!(rt; left(&mut ended) == Some(Item::Byte(2)));
+    assert!(rt; left(&mut ended).is_none());
     Ok(())
 }
 
@@ -106,31 +115,30 @@ fn the_largest_ring_is_filled_and_emptied(rt: HostRuntime) -> Result<(), Fail> {
     Ok(())
 }
 
-#[test]
-fn bytes_cross_one_place(rt: HostRuntime) -> Result<(), Fail> {
-    let (ring, mut producer, mut consumer) = byte_ring(rt.alloc(), 0)?;
+// Whether so many bytes go from one thread to another over a ring whose capacity is 2 to a power,
+// and none is left.
+fn cross(rt: &impl Threads, alloc: Global, power: u32, count: u32) -> Result<bool, Memory>
+    requires { power ≤ 15 }
+{
+    let (ring, mut producer, mut consumer) = byte_ring(alloc, power)?;
     let (sent, taken) = join_mut(
-        &rt,
-        &mut || send(&mut producer, &ring, 10_000, 100_000_000),
-        &mut || take(&mut consumer, &ring, 10_000, 100_000_000),
+        rt,
+        &mut || send(&mut producer, &ring, count, 100_000_000),
+        &mut || take(&mut consumer, &ring, count, 100_000_000),
     );
-    assert!(rt; sent == 10_000 && taken == 10_000);
     let mut ended = give_up(ring, producer, consumer)?;
-    assert!(rt; ended.next().is_none());
+    Ok(sent == count && taken == count && left(&mut ended).is_none())
+}
+
+#[test]
+fn bytes_cross_one_place(rt: HostRuntime) -> Result<(), Memory> {
+    assert!(rt; cross(&rt, rt.alloc(), 0, 10_000)?);
     Ok(())
 }
 
 #[test]
-fn bytes_cross_sixteen_places(rt: HostRuntime) -> Result<(), Fail> {
-    let (ring, mut producer, mut consumer) = byte_ring(rt.alloc(), 4)?;
-    let (sent, taken) = join_mut(
-        &rt,
-        &mut || send(&mut producer, &ring, 70_000, 100_000_000),
-        &mut || take(&mut consumer, &ring, 70_000, 100_000_000),
-    );
-    assert!(rt; sent == 70_000 && taken == 70_000);
-    let mut ended = give_up(ring, producer, consumer)?;
-    assert!(rt; ended.next().is_none());
+fn bytes_cross_sixteen_places(rt: HostRuntime) -> Result<(), Memory> {
+    assert!(rt; cross(&rt, rt.alloc(), 4, 70_000)?);
     Ok(())
 }
 

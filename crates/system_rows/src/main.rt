@@ -46,11 +46,11 @@ fn read_with_names(alloc: Global, text: &str, names: Option<&str>) -> Result<Opt
     requires { length text.now ≤ text_most }
     ensures { IfOk result (λ plan. IfSome plan IsNumbered) }
 {
-    let plan = read_description(alloc, text.as_bytes())?;
+    let mut plan = read_description(alloc, text.as_bytes())?;
     let Some((old, new)) = names.and_then(|names| names.split_once(" as ")) else {
         return Ok(Some(plan));
     };
-    let plan = rename_domain(alloc, plan, old, new)?;
+    rename_domain(alloc, &mut plan, old, new)?;
     if is_numbered(&plan) {
         Ok(Some(plan))
     } else {

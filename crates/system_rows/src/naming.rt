@@ -4,6 +4,7 @@
 use cargo_core::{Memory, Series, Text};
 use sdf_plan::{Channel, Domain, Plan, Serial};
 use std::alloc::Global;
+use std::mem::replace;
 
 // The new name in place of the old one.
 fn rename_text(alloc: Global, name: &mut Text, old: &str, new: &str) -> Result<(), Memory> {
@@ -54,41 +55,27 @@ fn rename_channels(
     Ok(channels_now)
 }
 
-fn rename_serial(alloc: Global, serial: Serial, old: &str, new: &str) -> Result<Serial, Memory> {
-    let mut serial = serial;
+fn rename_serial(alloc: Global, serial: &mut Serial, old: &str, new: &str) -> Result<(), Memory> {
     rename_text(alloc, &mut serial.driver, old, new)?;
     rename_text(alloc, &mut serial.rx_virt, old, new)?;
     rename_text(alloc, &mut serial.tx_virt, old, new)?;
-    let mut clients = serial.client.into_vec();
+    let mut clients = replace(&mut serial.client, Series::new(alloc)).into_vec();
     for client in &mut clients {
         rename_text(alloc, &mut client.pd, old, new)?;
     }
     serial.client = Series::from_vec(clients);
-    Ok(serial)
+    Ok(())
 }
 
-/// The plan with a domain of another name: in the domains, the channels and the serial class. The
-/// other classes keep their names.
-pub fn rename_domain(alloc: Global, plan: Plan, old: &str, new: &str) -> Result<Plan, Memory> {
-    let Plan {
-        version,
-        memory_region,
-        protection_domain,
-        channel,
-        net,
-        serial,
-        blk,
-    } = plan;
-    Ok(Plan {
-        version,
-        memory_region,
-        protection_domain: rename_domains(alloc, protection_domain, old, new)?,
-        channel: rename_channels(alloc, channel, old, new)?,
-        net,
-        serial: match serial {
-            Some(serial) => Some(rename_serial(alloc, serial, old, new)?),
-            None => None,
-        },
-        blk,
-    })
+/// Gives a domain another name: in the domains, the channels and the serial class. The other
+/// classes keep their names. After want of memory the plan isn't whole.
+pub fn rename_domain(alloc: Global, plan: &mut Plan, old: &str, new: &str) -> Result<(), Memory> {
+    let domains = replace(&mut plan.protection_domain, Series::new(alloc));
+    plan.protection_domain = rename_domains(alloc, domains, old, new)?;
+    let channels = replace(&mut plan.channel, Series::new(alloc));
+    plan.channel = rename_channels(alloc, channels, old, new)?;
+    if let Some(serial) = &mut plan.serial {
+        rename_serial(alloc, serial, old, new)?;
+    }
+    Ok(())
 }

@@ -2,9 +2,9 @@
 //! pools.
 ghost use Rattle.sdf_plan.specs.Elements.{IsNumbered};
 
-use cargo_core::{QueueKind, Series, Text};
-use class_table::{Ends, QueueUse, classes_of};
-use sdf_plan::{Place, Plan, Serial, SerialClient};
+use cargo_core::{Memory, Series, Text};
+use class_table::{Classes, classes_of};
+use sdf_plan::{Plan, Serial, SerialClient};
 use std::alloc::Global;
 use std::process::Abort;
 
@@ -45,52 +45,44 @@ fn plan(rt: &impl Abort, alloc: Global) -> Plan
     }
 }
 
-/// The queue goes over this region from one domain to the other, with so many bytes.
-fn goes(queue: Option<&QueueUse<&str>>, region: &str, from: &str, to: &str, capacity: u64) -> bool {
-    match queue {
-        Some(queue) => match queue.ends {
-            Ends::Across(link) => {
-                link.region == region
-                    && link.from == from
-                    && link.to == to
-                    && queue.capacity == capacity
-                    && queue.kind == QueueKind::Byte
-            }
-            _ => false,
-        },
-        None => false,
+/// What each element of the serial class uses, and its queues a line each.
+fn uses(alloc: Global, classes: &Classes) -> Result<String, Memory> {
+    let mut text = String::new(alloc);
+    for class in classes.serial.as_slice() {
+        write!(
+            text,
+            "{:?} driver {:?} roles {}",
+            class.place,
+            class.driver,
+            class.roles.len()
+        )?;
+        write!(text, " pools {}\n", class.pools.len())?;
+        for queue in class.queues.as_slice() {
+            write!(
+                text,
+                "{:?} {:?} {}\n",
+                queue.kind, queue.ends, queue.capacity
+            )?;
+        }
     }
+    Ok(text)
 }
 
 #[test]
 fn serial_queues_go_where_the_tables_say(rt: HostRuntime) {
     let plan = plan(&rt, rt.alloc());
     let classes = classes_of(rt.alloc(), &plan).expect(&rt, "memory");
-    assert!(&rt; classes.serial.len() == 2 && classes.net.is_empty() && classes.blk.is_empty());
-    let class = classes.serial.get(0);
-    assert!(&rt; class.place == Place::Serial);
-    assert!(&rt; class.driver == Some("uart"));
-    assert!(&rt; class.roles.len() == 3 && class.queues.len() == 4 && class.pools.is_empty());
-    assert!(&rt; goes(class.queues.as_slice().get(2), "rxq", "uart", "ser_rx", 16));
-    assert!(&rt; goes(class.queues.as_slice().get(3), "txq", "ser_tx", "uart", 64));
-    let client = classes.serial.get(1);
-    assert!(&rt; client.place == Place::SerialClient(0));
-    assert!(&rt;
-        goes(
-            client.queues.as_slice().get(0),
-            "rxq0",
-            "ser_rx",
-            "term0",
-            8
-        )
-    );
-    assert!(&rt;
-        goes(
-            client.queues.as_slice().get(1),
-            "txq0",
-            "term0",
-            "ser_tx",
-            32
-        )
+    assert!(&rt; classes.net.is_empty() && classes.blk.is_empty());
+    let text = uses(rt.alloc(), &classes).expect(&rt, "memory");
+    assert_eq!(&rt;
+        text.as_str(),
+        "Serial driver Some(\"uart\") roles 3 pools 0\n\
+         Byte FromDevice(\"uart\") 16\n\
+         Byte ToDevice(\"uart\") 64\n\
+         Byte Across(Link { region: \"rxq\", from: \"uart\", to: \"ser_rx\" }) 16\n\
+         Byte Across(Link { region: \"txq\", from: \"ser_tx\", to: \"uart\" }) 64\n\
+         SerialClient(0) driver None roles 1 pools 0\n\
+         Byte Across(Link { region: \"rxq0\", from: \"ser_rx\", to: \"term0\" }) 8\n\
+         Byte Across(Link { region: \"txq0\", from: \"term0\", to: \"ser_tx\" }) 32\n"
     );
 }

@@ -26,10 +26,8 @@ fn places_print_as_the_keys_that_lead_to_them(rt: HostRuntime) -> Result<(), Fai
         (Place::BlkClient(4294967295), "blk.client[4294967295]"),
     ];
     for (place, text) in rows {
-        assert_eq!(rt;
-            write_place(alloc, place).ok().as_ref().map(|s| s.as_str()),
-            Some(text)
-        );
+        let printed = write_place(alloc, place)?;
+        assert!(rt; printed.as_str() == text, "{text}");
     }
     Ok(())
 }

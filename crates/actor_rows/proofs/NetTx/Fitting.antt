@@ -20,18 +20,18 @@ use Rattle.actor_rows.specs.Standings.{queue}
 use Rattle.actor_rows.specs.NetTx.Standings.{IsNewAlone, Stands}
 
 -- the one queue of a list of one
-one_at : (q r : QueueId) (k : ℕ) → slice_get (q ∷ []) k ≡ Some r → (k ≡ 0) × (r ≡ q)
+pub one_at : (q r : QueueId) (k : ℕ) → slice_get (q ∷ []) k ≡ Some r → (k ≡ 0) × (r ≡ q)
 one_at q r zero at = (refl, sym (some_is at))
 one_at q r (suc k) at = absurd cc
 
-one_apart : (q : QueueId) → AreApart (q ∷ [])
+pub one_apart : (q : QueueId) → AreApart (q ∷ [])
 one_apart q k j r s at there same = let a = (one_at q r k at).0 in let b = (one_at q s j there).0 in omega (arith, a, b)
 
-intake_one : (q : QueueId) (i : Intake) (k : ℕ) → slice_get (map new_intake (q ∷ [])) k ≡ Some i → i ≡ new_intake q
+pub intake_one : (q : QueueId) (i : Intake) (k : ℕ) → slice_get (map new_intake (q ∷ [])) k ≡ Some i → i ≡ new_intake q
 intake_one q i zero at = sym (some_is at)
 intake_one q i (suc k) at = absurd cc
 
-outlet_one : (q : QueueId) (o : Outlet) (k : ℕ) → slice_get (map new_outlet (q ∷ [])) k ≡ Some o → o ≡ new_outlet q
+pub outlet_one : (q : QueueId) (o : Outlet) (k : ℕ) → slice_get (map new_outlet (q ∷ [])) k ≡ Some o → o ≡ new_outlet q
 outlet_one q o zero at = sym (some_is at)
 outlet_one q o (suc k) at = absurd cc
 

@@ -53,54 +53,63 @@ fn of_blocks(alloc: Global, code: Code, block: u32, count: u16) -> Result<BlkSta
 
 #[test]
 fn buffers_of_requests(rt: HostRuntime) -> Result<(), Fail> {
-    let alloc = rt.alloc();
     let own = (BlkStatus::Ok, false);
     let bad = (BlkStatus::Invalid, true);
-    assert_eq!(rt; with_buffer(alloc, PART, 0, 5, 0)?, own);
-    assert_eq!(rt; with_buffer(alloc, PART, 32_768, 5, 1)?, own);
-    // of another pool
-    assert_eq!(rt; with_buffer(alloc, PART, 0, 6, 0)?, bad);
-    // past the last one
-    assert_eq!(rt; with_buffer(alloc, PART, 65_536, 5, 2)?, bad);
-    // an address inside the buffer, of the other buffer, and of the device
-    assert_eq!(rt; with_buffer(alloc, PART, 1, 5, 0)?, bad);
-    assert_eq!(rt; with_buffer(alloc, PART, 32_768, 5, 0)?, bad);
-    assert_eq!(rt; with_buffer(alloc, PART, 0x4000_0000, 5, 0)?, bad);
-    // without a partition
-    let no_device = BlkStatus::NoDevice;
-    assert_eq!(rt; with_buffer(alloc, None, 0, 5, 0)?, (no_device, false));
-    assert_eq!(rt; with_buffer(alloc, None, 0, 6, 0)?, (no_device, true));
+    for (part, addr, pool, no, want) in [
+        (PART, 0, 5, 0, own),
+        (PART, 32_768, 5, 1, own),
+        // of another pool
+        (PART, 0, 6, 0, bad),
+        // past the last one
+        (PART, 65_536, 5, 2, bad),
+        // an address inside the buffer, of the other buffer, and of the device
+        (PART, 1, 5, 0, bad),
+        (PART, 32_768, 5, 0, bad),
+        (PART, 0x4000_0000, 5, 0, bad),
+        // without a partition
+        (None, 0, 5, 0, (BlkStatus::NoDevice, false)),
+        (None, 0, 6, 0, (BlkStatus::NoDevice, true)),
+    ] {
+        let got = with_buffer(rt.alloc(), part, addr, pool, no)?;
+        assert!(rt; got == want, "buffer {no} of pool {pool} at {addr}");
+    }
     Ok(())
 }
 
+// A request without a buffer is judged so, and its buffer is another's or not.
 #[test]
 fn requests_without_a_buffer(rt: HostRuntime) {
-    let read = (request(Code::Read, 0, 0, 1), Body::Empty);
-    assert_eq!(rt; CLIENT.judge(PART, &read), BlkStatus::Invalid);
-    assert_eq!(rt; CLIENT.is_bad(&read), true);
-    let flush = (request(Code::Flush, 0, 0, 0), Body::Empty);
-    assert_eq!(rt; CLIENT.judge(PART, &flush), BlkStatus::Ok);
-    assert_eq!(rt; CLIENT.is_bad(&flush), false);
-    let barrier = (request(Code::Barrier, 0, 0, 0), Body::Empty);
-    assert_eq!(rt; CLIENT.judge(None, &barrier), BlkStatus::NoDevice);
+    for (code, count, part, want, is_bad) in [
+        (Code::Read, 1, PART, BlkStatus::Invalid, true),
+        (Code::Flush, 0, PART, BlkStatus::Ok, false),
+        (Code::Barrier, 0, None, BlkStatus::NoDevice, false),
+    ] {
+        let entry = (request(code, 0, 0, count), Body::Empty);
+        assert!(rt; CLIENT.judge(part, &entry) == want, "{code:?}");
+        assert!(rt; CLIENT.is_bad(&entry) == is_bad, "{code:?}");
+    }
 }
 
 #[test]
 fn blocks_of_requests(rt: HostRuntime) -> Result<(), Fail> {
-    let alloc = rt.alloc();
     let ok = BlkStatus::Ok;
     let invalid = BlkStatus::Invalid;
-    assert_eq!(rt; of_blocks(alloc, Code::Read, 0, 0)?, invalid);
-    assert_eq!(rt; of_blocks(alloc, Code::Read, 0, 1)?, ok);
-    assert_eq!(rt; of_blocks(alloc, Code::Read, 0, 8)?, ok);
-    assert_eq!(rt; of_blocks(alloc, Code::Read, 0, 9)?, invalid);
-    assert_eq!(rt; of_blocks(alloc, Code::Write, 0, 9)?, invalid);
-    // the last block, and the one after
-    assert_eq!(rt; of_blocks(alloc, Code::Write, 8, 1)?, ok);
-    assert_eq!(rt; of_blocks(alloc, Code::Write, 9, 1)?, invalid);
-    assert_eq!(rt; of_blocks(alloc, Code::Write, 8, 2)?, invalid);
-    assert_eq!(rt; of_blocks(alloc, Code::Read, 1, 8)?, ok);
-    assert_eq!(rt; of_blocks(alloc, Code::Read, 2, 8)?, invalid);
-    assert_eq!(rt; of_blocks(alloc, Code::Read, u32::MAX, 8)?, invalid);
+    for (code, block, count, want) in [
+        (Code::Read, 0, 0, invalid),
+        (Code::Read, 0, 1, ok),
+        (Code::Read, 0, 8, ok),
+        (Code::Read, 0, 9, invalid),
+        (Code::Write, 0, 9, invalid),
+        // the last block, and the one after
+        (Code::Write, 8, 1, ok),
+        (Code::Write, 9, 1, invalid),
+        (Code::Write, 8, 2, invalid),
+        (Code::Read, 1, 8, ok),
+        (Code::Read, 2, 8, invalid),
+        (Code::Read, u32::MAX, 8, invalid),
+    ] {
+        let got = of_blocks(rt.alloc(), code, block, count)?;
+        assert!(rt; got == want, "{code:?} of {count} blocks from {block}");
+    }
     Ok(())
 }

@@ -3,7 +3,7 @@ use Rattle.wire_core.specs.declared.names.Op.TheVariants as Do
 use Rattle.wire_core.specs.Ends.{Consumer}
 use Rattle.wire_core.specs.Deeds.{look_deed, move_deed}
 use Rattle.actor_rows.proofs.Moved.{one, then}
-use Rattle.actor_rows.proofs.hand.get.Goals as goal
+use Rattle.actor_rows.proofs.hand.get_entry.Goals as goal
 
 pub returns : goal.returns
 returns c = then Consumer c.args.q.0 _ c.take-item.new.self _

@@ -1,0 +1,56 @@
+-- Actors of the network at four queues, of which the first and the third come to them and were
+-- filled by hand before.
+use Rattle.std.specs.Prelude.{◌≡◌, ◌⊎◌, ℕ, true, List, length}
+use Rattle.cargo_core.specs.declared.item.PoolId.{PoolId}
+use Rattle.cargo_core.specs.declared.item.QueueKind.TheVariants as Kind
+use Rattle.wire_core.specs.Ends.{Consumer, Producer}
+use Rattle.wire_core.specs.Queues.{Queue, start_bells, end_of, end_at}
+use Rattle.device_model.specs.Ethernet.Devices.{FitsDevice}
+use Rattle.device_model.specs.declared.ethernet.EthDevice.{EthDevice}
+use Rattle.net_virt_rx.specs.Receiving.{FitsRx}
+use Rattle.net_virt_rx.specs.declared.NetVirtRx.{NetVirtRx}
+use Rattle.net_copier.specs.Copying.{FitsCopier}
+use Rattle.net_copier.specs.declared.NetCopier.{NetCopier}
+use Rattle.client_programs.specs.Net.Clients.{FitsClient}
+use Rattle.client_programs.specs.declared.net.NetClient.{NetClient}
+
+-- the pool of all buffers of these tests
+abbrev pub pool : PoolId
+pool = record { 0 = 0 }
+
+-- a queue that comes to the actor
+abbrev pub IsInput : ℕ → Type 0
+IsInput n = (n ≡ 0) ⊎ (n ≡ 2)
+
+-- a queue that goes from it
+abbrev pub IsOutput : ℕ → Type 0
+IsOutput n = (n ≡ 1) ⊎ (n ≡ 3)
+
+-- the actor's ends are in their start state, and all queues are of the network
+pub record AreFed (w : List Queue) : Type 0 where
+  pub long : length w ≡ 4
+  pub inputs : (n : ℕ) → IsInput n → end_at w Consumer n ≡ end_of true Kind.Net start_bells Consumer
+  pub outputs : (n : ℕ) → IsOutput n
+      → end_at w Producer n ≡ end_of true Kind.Net start_bells Producer
+  pub hands : (n : ℕ) → IsInput n → (end_at w Producer n).kind ≡ Kind.Net
+
+-- an actor stands at four queues that it fits
+pub record StandsAt (Fits : Type 0) (w : List Queue) : Type 0 where
+  pub fits : Fits
+  pub long : length w ≡ 4
+
+-- an Ethernet device stands there
+abbrev pub DeviceStands : List Queue → EthDevice → Type 0
+DeviceStands w d = StandsAt (FitsDevice (end_at w) d) w
+
+-- a receiving virtualiser
+abbrev pub LenderStands : List Queue → NetVirtRx → Type 0
+LenderStands w v = StandsAt (FitsRx (end_at w) v) w
+
+-- a copier
+abbrev pub CopierStands : List Queue → NetCopier → Type 0
+CopierStands w c = StandsAt (FitsCopier (end_at w) c) w
+
+-- a client
+abbrev pub ClientStands : List Queue → NetClient → Type 0
+ClientStands w c = StandsAt (FitsClient (end_at w) c) w

@@ -1,0 +1,256 @@
+//! Frames of 9,014 bytes in buffers of 16,384. Each actor of the network but the sending virtualiser
+//! stands alone at four queues: what comes to it was put by hand into the queues 0 and 2, and what
+//! it makes of that is found on the queues 1 and 3. A buffer of 4,096 bytes is too short for such a
+//! frame, and is left as it is.
+
+ghost use Rattle.std.specs.Prelude.{◌≡◌, ◌<◌, ◌≤◌, ◌^◌, IfOk, All, length};
+ghost use Rattle.cargo_core.specs.Items.{kind_of};
+ghost use Rattle.cargo_core.specs.declared.item.QueueKind.TheVariants as Kind;
+ghost use Rattle.buffer_kit.specs.Pools.{ArePool};
+ghost use Rattle.actor_rows.specs.Sizes.{AreFed, IsInput, pool};
+
+use crate::alone::settle;
+use crate::{get_entry, one_or_two, put_in, queues_of};
+use buffer_kit::frame;
+use cargo_core::{Body, FrameLog, Item, Memory, NetDesc, Page, PoolId, QueueKind};
+use client_programs::NetClient;
+use client_programs::net::NetProgram;
+use device_model::EthDevice;
+use frame_core::Mac;
+use net_copier::NetCopier;
+use net_virt_rx::{LeaseEnds, NetVirtRx};
+use plain_wires::World;
+use std::alloc::Global;
+use wire_core::QueueId;
+
+/// How many bytes the longest frame has.
+const LONGEST: usize = 9_014;
+
+/// How many bytes a buffer has that is long enough, and one that isn't.
+const LONG: u32 = 16_384;
+
+const SHORT: u32 = 4_096;
+
+/// The address of the one client.
+const OWN: Mac = Mac([2, 0, 0, 0, 0, 1]);
+
+// The longest frame to the client, whose last byte is another than those before it.
+fn longest() -> [u8; LONGEST] {
+    let mut bytes = [7; LONGEST];
+    bytes[..6].copy_from_slice(&OWN.0);
+    bytes[LONGEST - 1] = 99;
+    bytes
+}
+
+// Whether these are the bytes of that frame.
+fn is_longest(bytes: &[u8]) -> bool {
+    bytes == longest().as_slice()
+}
+
+// That frame so many times.
+fn frames(alloc: Global, count: u8) -> Result<FrameLog, Memory>
+    ensures { IfOk result (All (λ frame. length frame < 2 ^ 16)) }
+{
+    let mut log = FrameLog::new(alloc);
+    for _frame in 0..count {
+        log.push(&longest())?;
+    }
+    Ok(log)
+}
+
+fn descriptor(addr: u64, len: u16) -> Item
+    ensures { kind_of result ≡ Kind.Net }
+{
+    Item::Net(NetDesc { addr, len })
+}
+
+// A buffer of pool 0 with nothing in it.
+fn empty(alloc: Global, no: u32, size: u32) -> Result<Page, Memory>
+    ensures { IfOk result (λ p. (p.pool ≡ pool) × (p.no ≡ no) × (length p.bytes ≡ size)) }
+{
+    Page::new(alloc, PoolId(0), no, size)
+}
+
+// A long buffer of pool 0 with the longest frame at its front.
+fn full(alloc: Global, no: u32) -> Result<Page, Memory>
+    ensures { IfOk result (λ p. length p.bytes ≡ 16384) }
+{
+    let mut page = empty(alloc, no, LONG)?;
+    page.fill(0, &longest());
+    Ok(page)
+}
+
+// A pool of one long buffer.
+fn one_buffer(alloc: Global) -> Result<Vec<Page>, Memory>
+    ensures few { IfOk result (λ v. length v.items ≡ 1) }
+    ensures are_pool { IfOk result (λ v. ArePool 0 pool 16384 v.items) }
+{
+    Ok(vec![in alloc; empty(alloc, 0, LONG)?]?)
+}
+
+// Four queues of two entries each, with nothing in them.
+fn fed(alloc: Global) -> Result<World, Memory>
+    ensures { IfOk result AreFed }
+{
+    queues_of(alloc, QueueKind::Net, 4, one_or_two(true))
+}
+
+// Puts an entry into a queue that comes to the actor; false where there is no room.
+fn feed(world: &mut World, q: QueueId, item: Item, body: Body) -> bool
+    requires fed { AreFed world.old }
+    requires input { IsInput q.0 }
+    requires kind { kind_of item ≡ Kind.Net }
+    ensures { AreFed world.new }
+{
+    put_in(world, q, item, body)
+}
+
+// Whether the next entry of a queue is this one, with a page in which the longest frame stands.
+fn brings(world: &mut World, q: QueueId, item: Item) -> bool
+    requires { q.0 < length world.old }
+    ensures { length world.new ≡ length world.old }
+{
+    match get_entry(world, q) {
+        Some(entry) => entry.0 == item && is_longest(frame(&entry)),
+        None => false,
+    }
+}
+
+// Whether the next entry of a queue is this one, with a page of which each byte is zero.
+fn brings_zeros(world: &mut World, q: QueueId, item: Item, size: u32) -> bool
+    requires { q.0 < length world.old }
+    ensures { length world.new ≡ length world.old }
+{
+    match get_entry(world, q) {
+        Some((got, Body::Page(page))) => {
+            got == item
+                && page.bytes().len() == size as usize
+                && page.bytes().iter().all(|byte| *byte == 0)
+        }
+        _ => false,
+    }
+}
+
+// Whether the next entry of a queue is this one, with a lease by which the longest frame is read.
+fn lends(world: &mut World, q: QueueId, item: Item) -> bool
+    requires { q.0 < length world.old }
+    ensures { length world.new ≡ length world.old }
+{
+    match get_entry(world, q) {
+        Some((got, Body::Lease(lease))) => got == item && is_longest(lease.bytes()),
+        _ => false,
+    }
+}
+
+// A device whose first free buffer is short, and which is given a frame to send.
+#[test]
+fn a_device_fills_a_long_buffer_and_leaves_a_short_one(rt: HostRuntime) -> Result<(), Memory> {
+    let alloc = rt.alloc();
+    let mut wires = fed(alloc)?;
+    let short = Body::Page(empty(alloc, 0, SHORT)?);
+    let long = Body::Page(empty(alloc, 1, LONG)?);
+    let sent = Body::Page(full(alloc, 2)?);
+    assert!(rt; feed(&mut wires, QueueId(0), descriptor(0, 0), short));
+    assert!(rt; feed(&mut wires, QueueId(0), descriptor(16_384, 0), long));
+    assert!(rt; feed(&mut wires, QueueId(2), descriptor(32_768, 9_014), sent));
+    let mut device = EthDevice::new(
+        alloc,
+        QueueId(0),
+        QueueId(1),
+        QueueId(2),
+        QueueId(3),
+        frames(alloc, 2)?,
+    );
+    settle(&mut device, &mut wires);
+    assert!(rt; brings_zeros(&mut wires, QueueId(1), descriptor(0, 9_014), SHORT));
+    assert!(rt; brings(&mut wires, QueueId(1), descriptor(16_384, 9_014)));
+    assert!(rt; brings(&mut wires, QueueId(3), descriptor(32_768, 9_014)));
+    assert!(rt; device.wire().len() == 1 && is_longest(device.wire().get(0)));
+    Ok(())
+}
+
+// A virtualiser whose one buffer begins at 2^28, and of which the queues 3 and 2 are the client's.
+fn lender(alloc: Global) -> Result<NetVirtRx, Memory> {
+    let client = LeaseEnds {
+        mac: OWN,
+        active: QueueId(3),
+        free: QueueId(2),
+    };
+    let clients = vec![in alloc; client]?;
+    let pages = one_buffer(alloc)?;
+    NetVirtRx::new(alloc, QueueId(0), QueueId(1), clients, pages, 0x1000_0000)
+}
+
+#[test]
+fn a_virtualiser_lends_all_of_the_longest_frame(rt: HostRuntime) -> Result<(), Memory> {
+    let alloc = rt.alloc();
+    let mut wires = fed(alloc)?;
+    let came = Body::Page(full(alloc, 0)?);
+    assert!(rt; feed(&mut wires, QueueId(0), descriptor(0x1000_0000, 9_014), came));
+    let mut virt = lender(alloc)?;
+    settle(&mut virt, &mut wires);
+    assert!(rt; brings_zeros(&mut wires, QueueId(1), descriptor(0x1000_0000, 0), LONG));
+    assert!(rt; lends(&mut wires, QueueId(3), descriptor(0, 9_014)));
+    assert!(rt; virt.lent() == 1);
+    Ok(())
+}
+
+// A copier that is lent two frames, and whose first free buffer is short.
+#[test]
+fn a_copier_copies_all_of_the_longest_frame(rt: HostRuntime) -> Result<(), Memory> {
+    let alloc = rt.alloc();
+    let mut wires = fed(alloc)?;
+    let lent = full(alloc, 0)?.lease(LONGEST)?;
+    let again = Body::Lease(lent.again()?);
+    let short = Body::Page(empty(alloc, 0, SHORT)?);
+    let long = Body::Page(empty(alloc, 1, LONG)?);
+    assert!(rt;
+        feed(
+            &mut wires,
+            QueueId(0),
+            descriptor(0, 9_014),
+            Body::Lease(lent)
+        )
+    );
+    assert!(rt; feed(&mut wires, QueueId(0), descriptor(0, 9_014), again));
+    assert!(rt; feed(&mut wires, QueueId(2), descriptor(0, 0), short));
+    assert!(rt; feed(&mut wires, QueueId(2), descriptor(16_384, 0), long));
+    let mut copier = NetCopier::new(QueueId(0), QueueId(1), QueueId(3), QueueId(2));
+    settle(&mut copier, &mut wires);
+    assert!(rt; brings_zeros(&mut wires, QueueId(3), descriptor(0, 9_014), SHORT));
+    assert!(rt; brings(&mut wires, QueueId(3), descriptor(16_384, 9_014)));
+    assert!(rt; lends(&mut wires, QueueId(1), descriptor(0, 9_014)));
+    Ok(())
+}
+
+// A client that sends the longest frame and is given it.
+fn source(alloc: Global) -> Result<NetClient, Memory> {
+    let pages = one_buffer(alloc)?;
+    let spare = one_buffer(alloc)?;
+    let script = frames(alloc, 1)?;
+    Ok(NetClient::new(
+        alloc,
+        NetProgram::Source,
+        OWN,
+        [QueueId(0), QueueId(1)],
+        [QueueId(3), QueueId(2)],
+        pages,
+        spare,
+        script,
+    ))
+}
+
+#[test]
+fn a_client_sends_and_records_the_longest_frame(rt: HostRuntime) -> Result<(), Memory> {
+    let alloc = rt.alloc();
+    let mut wires = fed(alloc)?;
+    let came = Body::Page(full(alloc, 0)?);
+    assert!(rt; feed(&mut wires, QueueId(0), descriptor(0, 9_014), came));
+    let mut client = source(alloc)?;
+    settle(&mut client, &mut wires);
+    assert!(rt; brings_zeros(&mut wires, QueueId(1), descriptor(0, 0), LONG));
+    assert!(rt; brings(&mut wires, QueueId(1), descriptor(0, 9_014)));
+    assert!(rt; brings(&mut wires, QueueId(3), descriptor(0, 9_014)));
+    assert!(rt; client.got().len() == 1 && is_longest(client.got().get(0)));
+    Ok(())
+}
