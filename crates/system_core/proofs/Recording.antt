@@ -1,4 +1,4 @@
-use Rattle.std.proofs.Common.{◌≡◌, ◌≤◌, ◌+◌, ◌*◌, ℕ, Option, Some, List, [], length, map, slice_get, sym, ap, ◌∙◌, subst, arith}
+use Rattle.std.proofs.Common.{◌≡◌, ◌≤◌, ◌+◌, ◌*◌, ℕ, Option, Some, List, [], length, map, slice_get, sym, ap, ◌∙◌, subst, arith, inl, inr}
 use Rattle.std.proofs.lemmas.List.{length-map}
 use Rattle.std.specs.Option.{option_map, option_map_or}
 use Rattle.cargo_core.specs.Lists.{IsPrefix, PrefixMerge}
@@ -15,24 +15,36 @@ use Rattle.wire_core.specs.Journal.{History}
 use Rattle.net_expect.specs.Expecting.{Program, frames_for}
 use Rattle.buffer_kit.specs.Entries.{frame_of}
 use Rattle.net_law.specs.Owners.Names.{ClientPools}
-use Rattle.owner_law.specs.Pools.Places.{PoolAt}
+use Rattle.owner_law.specs.Pools.Places.{PoolAt, own_pool}
 use Rattle.net_law.specs.Parts.Numbers.{client_first, device_at, client_at}
 use Rattle.net_law.specs.TxParts.Numbers.{NetPlace}
 use Rattle.net_quiet.specs.TxCast.Casting.{sends_at, wire_at}
-use Rattle.actor_set.specs.Parts.{NetworkPart, BlockPart}
+use Rattle.actor_set.specs.Parts.{Part, NetworkPart, BlockPart}
 use Rattle.actor_set.specs.Actors.{part_of}
 use Rattle.actor_set.specs.declared.actor.Actor.{Actor}
 use Rattle.actor_set.specs.Laws.Kinds.{scene_of}
 use Rattle.actor_set.specs.Laws.Records.{frames_got, frames_by, replies_got, replies_by}
 use Rattle.actor_set.proofs.LawsLemmas.Rows.{frames_here, replies_here}
 use Rattle.client_programs.proofs.BlkLemmas.Asks.{replies_long}
-use Rattle.wired_law.specs.Wiring.{HasWhole, HasBlk, AreAtWork}
+use Rattle.wired_law.specs.Wiring.{HasWhole, HasBlk, AreAtWork, IsOfNetwork}
 use Rattle.wired_law.proofs.Wiring.{recorded, sent_on, sent_told}
 use Rattle.wired_law.proofs.BlkReplies.Casts.{replied}
 use Rattle.play_core.specs.Moved.{taken}
 use Rattle.play_core.proofs.Lists.{some_is, map_from}
 use Rattle.system_core.specs.States.{frames_from, replies_from}
 use Rattle.system_core.specs.Systems.{Holds}
+
+-- a client of the network receives in buffers that take the longest frame
+client_fits : (rows : List QueueRow) (net : NetPlace) (cast : List Part) (frames : List (List ℕ)) → HasWhole rows net cast → (j : ℕ) (program : Program) (mac : Mac) (pools : ClientPools) → IsOfNetwork net frames (NetworkPart (client_at net.first j program mac pools)) → net.most ≤ pools.rx.size
+client_fits rows net cast frames whole j program mac pools (inl e) = absurd cc
+client_fits rows net cast frames whole j program mac pools (inr (inl e)) = absurd cc
+client_fits rows net cast frames whole j program mac pools (inr (inr (inl e))) = absurd cc
+client_fits rows net cast frames whole j program mac pools (inr (inr (inr (inl e)))) = absurd cc
+client_fits rows net cast frames whole j program mac pools (inr (inr (inr (inr (inl x))))) = let e = x.2 in absurd cc
+client_fits rows net cast frames whole j program mac pools (inr (inr (inr (inr (inr x))))) =
+    let e = x.5 in
+    let rx : pools.rx ≡ own_pool x.3.rx = cc in
+    subst (λ (p : PoolAt). net.most ≤ p.size) (sym rx) (whole.fits_client x.0 x.3 x.4.pools).0
 
 module _ (history : History) (rows : List QueueRow) (w : List Queue) (actors : List Actor) (journal : List Entry) (h : Holds history rows w actors journal) where
   at_work : AreAtWork (end_at w) rows actors h.passed
@@ -55,7 +67,7 @@ module _ (history : History) (rows : List QueueRow) (w : List Queue) (actors : L
       let m = map_from (frames_from actors) numbers c got at in
       let same : m.0 ≡ k = some_is (sym m.1 ∙ number) in
       let is : frames_got x.0 ≡ got = sym (ap (λ o. option_map_or frames_got o []) x.1) ∙ (ap (frames_from actors) (sym same) ∙ m.2) in
-      let begun = recorded (end_at w) rows actors h.passed net whole at_work k j x.0 program mac pools x.1 x.2 some address in
+      let begun = recorded (end_at w) rows actors h.passed net whole at_work k j x.0 program mac pools x.1 x.2 some (client_fits rows net (map part_of actors) (scene_of (map part_of actors)).frames whole j program mac pools (whole.only k (client_at net.first j program mac pools) part)) address in
       let long = shown_long x.0 (client_first net.first j + 2) (frames_here h.passed x.0 (h.stands k x.0 x.1) ∙ ap (frames_by h.passed) x.2) in
       subst (λ g. IsPrefix g (frames_for mac (scene_of (map part_of actors)).frames) × (length g ≡ length (taken history (client_first net.first j + 2) journal))) is (begun, long)
 

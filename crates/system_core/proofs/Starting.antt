@@ -54,8 +54,8 @@ start_holds rows actors s = record {
   fits = s.fits;
   stands = s.stands;
   carry = λ place placed. carry_start (cast_naming (scene_of (map part_of actors)) place) rows;
-  sends = nothing_sent (map part_of actors);
-  in_turn = in_turn (end_at (starts rows)) rows actors nothing_passed s.wired (record { fits = s.fits; stands = s.stands; hands_over = λ n. ([], refl); kinds = λ n row at k c there. cc }) (nothing_sent (map part_of actors));
+  sends = nothing_sent rows (map part_of actors);
+  in_turn = in_turn (end_at (starts rows)) rows actors nothing_passed s.wired (record { fits = s.fits; stands = s.stands; hands_over = λ n. ([], refl); kinds = λ n row at k c there. cc }) (nothing_sent rows (map part_of actors));
   owners = s.owners;
   paced = λ k x at calm. paced_anew (pendings (start_history rows) []) (actor_round x) (s.rounds k x at);
   peers = s.peers;
