@@ -97,21 +97,20 @@ fn say_usage(alloc: Global, k: u32) -> Result<Decided, Memory>
 }
 
 /// What `check` says of a description that is accepted.
-fn say_accepted(alloc: Global, plan: &Plan) -> Result<Decided, Memory>
-    ensures { IfOk result (λ d. decision_of d ≡ Say Status.Ok (accepted_text plan.now)) }
+fn say_accepted(alloc: Global, plan: Plan) -> Result<Decided, Memory>
+    ensures { IfOk result (λ d. decision_of d ≡ Say Status.Ok (accepted_text plan)) }
 {
-    let text = write_accepted(alloc, plan)?;
+    let text = write_accepted(alloc, &plan)?;
     Ok(Decided::Say(Status::Ok, text))
 }
 
 /// What `layout` says of a description that is accepted.
-fn say_layout(alloc: Global, plan: &Plan) -> Result<Decided, Memory>
-    requires { IsAcceptedPlan plan.now }
-    ensures { IfOk result (λ d. decision_of d
-        ≡ Say Status.Ok (layout_text plan.now (layout_of plan.now))) }
+fn say_layout(alloc: Global, plan: Plan) -> Result<Decided, Memory>
+    requires { IsAcceptedPlan plan }
+    ensures { IfOk result (λ d. decision_of d ≡ Say Status.Ok (layout_text plan (layout_of plan))) }
 {
-    let layout = lay_out(alloc, plan)?;
-    let text = write_layout(alloc, plan, &layout)?;
+    let layout = lay_out(alloc, &plan)?;
+    let text = write_layout(alloc, &plan, &layout)?;
     Ok(Decided::Say(Status::Ok, text))
 }
 
@@ -186,8 +185,8 @@ fn decide_plan<F: Shelf>(
         (OfEach (LeavesPlan (F.text shelf.old) (texts_of words.now))) shelf.old shelf.new result }
 {
     match command {
-        Command::Check => Ok(say_accepted(alloc, &plan)?),
-        Command::Layout => Ok(say_layout(alloc, &plan)?),
+        Command::Check => Ok(say_accepted(alloc, plan)?),
+        Command::Layout => Ok(say_layout(alloc, plan)?),
         Command::Play(options) => {
             decide_named(alloc, shelf, words, plan, Asked::Play(Showing::Report(options)))
         }

@@ -1,4 +1,5 @@
 use Rattle.std.proofs.Common.{◌≡◌, inl, inr, refl, sym, subst}
+use Rattle.std.proofs.lemmas.Result.{err_from_is_err_and}
 use Rattle.command_words.specs.declared.command.Command.TheVariants as Do
 use Rattle.command_words.specs.Words.{texts_of, Spells}
 use Rattle.shelf_core.specs.Reading.{WasRead}
@@ -47,3 +48,37 @@ pub decide_named-requires-in-Run : goal.decide_named-requires-in-Run
 decide_named-requires-in-Run g c =
     let s : Spells (texts_of c.args.words.now) (Do.Run c.in-Run.steps) = rw c.in-Run.is at c.requires.spells in
     (s.0, s.1, to_run c.in-Run.steps s.2)
+
+pub returns-in_err-say_accepted-in-Check-clause-reads : goal.returns-in_err-say_accepted-in-Check-clause-reads
+returns-in_err-say_accepted-in-Check-clause-reads g c =
+    let p = err_from_is_err_and c.from_residual.result c.from_residual.ensures.1 in
+    rw (p.1, p.2) (record {
+      texts = λ n. refl;
+      opened = inl refl;
+      last = tt;
+      calm = tt;
+      stopped = refl;
+    })
+
+pub returns-in_err-say_layout-in-Layout-clause-reads : goal.returns-in_err-say_layout-in-Layout-clause-reads
+returns-in_err-say_layout-in-Layout-clause-reads g c =
+    let p = err_from_is_err_and c.from_residual-in_err-say_layout-in-Layout.result c.from_residual-in_err-say_layout-in-Layout.ensures.1 in
+    rw (p.1, p.2) (record {
+      texts = λ n. refl;
+      opened = inl refl;
+      last = tt;
+      calm = tt;
+      stopped = refl;
+    })
+
+pub returns-in-Play-clause-decides : goal.returns-in-Play-clause-decides
+returns-in-Play-clause-decides g c = c.decide_named.ensures.decides
+
+pub returns-in-Play-clause-reads : goal.returns-in-Play-clause-reads
+returns-in-Play-clause-reads g c = c.decide_named.ensures.reads
+
+pub returns-in-Run-clause-decides : goal.returns-in-Run-clause-decides
+returns-in-Run-clause-decides g c = c.decide_named-in-Run.ensures.decides
+
+pub returns-in-Run-clause-reads : goal.returns-in-Run-clause-reads
+returns-in-Run-clause-reads g c = c.decide_named-in-Run.ensures.reads

@@ -55,7 +55,7 @@ returns-in_ok-say_usage-in-Err-clause-reads g c = record {
 
 pub returns-in_err-say_usage-in-Err-clause-reads : goal.returns-in_err-say_usage-in-Err-clause-reads
 returns-in_err-say_usage-in-Err-clause-reads g c =
-    let p = err_from_is_err_and c.from_residual-in_err-say_usage.result c.from_residual-in_err-say_usage.ensures.1 in
+    let p = err_from_is_err_and c.from_residual-in_err-say_usage-in-Err.result c.from_residual-in_err-say_usage-in-Err.ensures.1 in
     rw (p.1, p.2) (record {
       texts = λ n. refl;
       opened = opens_nothing (λ desc named. let s = names-spell (texts_of c.args.words.now) desc named in bad-none (texts_of c.args.words.now) c.in-Err.k s.0 c.in-Err.ensures.bad s.1) refl;
