@@ -7,7 +7,11 @@ ghost use Rattle.std.specs.Prelude.{◌≡◌, ◌<◌, ◌≤◌, ◌^◌, IfOk
 ghost use Rattle.cargo_core.specs.Items.{kind_of};
 ghost use Rattle.cargo_core.specs.declared.item.QueueKind.TheVariants as Kind;
 ghost use Rattle.buffer_kit.specs.Pools.{ArePool};
-ghost use Rattle.actor_rows.specs.Sizes.{AreFed, IsInput, pool};
+ghost use Rattle.net_copier.specs.Copying.{CopierStandsFor, IsNewCopier};
+ghost use Rattle.wire_core.specs.Lists.{nothing_passed};
+ghost use Rattle.device_model.specs.Ethernet.Devices.{IsNewDevice};
+ghost use Rattle.actor_rows.specs.Standings.{queue};
+ghost use Rattle.actor_rows.specs.Sizes.{AreFed, IsInput, IsNewLender, IsNewSource, pool};
 
 use crate::alone::settle;
 use crate::{get_entry, one_or_two, put_in, queues_of};
@@ -35,7 +39,9 @@ const SHORT: u32 = 4_096;
 const OWN: Mac = Mac([2, 0, 0, 0, 0, 1]);
 
 // The longest frame to the client, whose last byte is another than those before it.
-fn longest() -> [u8; LONGEST] {
+fn longest() -> [u8; LONGEST]
+    ensures { length result ≡ 9014 }
+{
     let mut bytes = [7; LONGEST];
     bytes[..6].copy_from_slice(&OWN.0);
     bytes[LONGEST - 1] = 99;
@@ -142,6 +148,33 @@ fn lends(world: &mut World, q: QueueId, item: Item) -> bool
     }
 }
 
+// A device that sends and receives at the four queues has time to be at rest.
+fn run_device(device: &mut EthDevice, world: &mut World)
+    requires fed { AreFed world.old }
+    requires new { IsNewDevice (queue 0) (queue 1) (queue 2) (queue 3) device.old.frames device.old }
+    requires short { All (λ frame. length frame < 2 ^ 16) device.old.frames }
+    ensures { length world.new ≡ 4 }
+{
+    settle(device, world);
+}
+
+// A device in its start state with two frames to receive.
+fn device(alloc: Global) -> Result<EthDevice, Memory>
+    ensures new { IfOk result
+        (λ d. IsNewDevice (queue 0) (queue 1) (queue 2) (queue 3) d.frames d) }
+    ensures short { IfOk result (λ d. All (λ frame. length frame < 2 ^ 16) d.frames) }
+{
+    let frames = frames(alloc, 2)?;
+    Ok(EthDevice::new(
+        alloc,
+        QueueId(0),
+        QueueId(1),
+        QueueId(2),
+        QueueId(3),
+        frames,
+    ))
+}
+
 // A device whose first free buffer is short, and which is given a frame to send.
 #[test]
 fn a_device_fills_a_long_buffer_and_leaves_a_short_one(rt: HostRuntime) -> Result<(), Memory> {
@@ -153,15 +186,8 @@ fn a_device_fills_a_long_buffer_and_leaves_a_short_one(rt: HostRuntime) -> Resul
     assert!(rt; feed(&mut wires, QueueId(0), descriptor(0, 0), short));
     assert!(rt; feed(&mut wires, QueueId(0), descriptor(16_384, 0), long));
     assert!(rt; feed(&mut wires, QueueId(2), descriptor(32_768, 9_014), sent));
-    let mut device = EthDevice::new(
-        alloc,
-        QueueId(0),
-        QueueId(1),
-        QueueId(2),
-        QueueId(3),
-        frames(alloc, 2)?,
-    );
-    settle(&mut device, &mut wires);
+    let mut device = device(alloc)?;
+    run_device(&mut device, &mut wires);
     assert!(rt; brings_zeros(&mut wires, QueueId(1), descriptor(0, 9_014), SHORT));
     assert!(rt; brings(&mut wires, QueueId(1), descriptor(16_384, 9_014)));
     assert!(rt; brings(&mut wires, QueueId(3), descriptor(32_768, 9_014)));
@@ -170,7 +196,9 @@ fn a_device_fills_a_long_buffer_and_leaves_a_short_one(rt: HostRuntime) -> Resul
 }
 
 // A virtualiser whose one buffer begins at 2^28, and of which the queues 3 and 2 are the client's.
-fn lender(alloc: Global) -> Result<NetVirtRx, Memory> {
+fn lender(alloc: Global) -> Result<NetVirtRx, Memory>
+    ensures { IfOk result IsNewLender }
+{
     let client = LeaseEnds {
         mac: OWN,
         active: QueueId(3),
@@ -178,7 +206,17 @@ fn lender(alloc: Global) -> Result<NetVirtRx, Memory> {
     };
     let clients = vec![in alloc; client]?;
     let pages = one_buffer(alloc)?;
-    NetVirtRx::new(alloc, QueueId(0), QueueId(1), clients, pages, 0x1000_0000)
+    let virt = NetVirtRx::new(alloc, QueueId(0), QueueId(1), clients, pages, 0x1000_0000)?;
+    Ok(virt)
+}
+
+// It has time to be at rest.
+fn run_lender(virt: &mut NetVirtRx, world: &mut World)
+    requires fed { AreFed world.old }
+    requires new { IsNewLender virt.old }
+    ensures { length world.new ≡ 4 }
+{
+    settle(virt, world);
 }
 
 #[test]
@@ -188,11 +226,21 @@ fn a_virtualiser_lends_all_of_the_longest_frame(rt: HostRuntime) -> Result<(), M
     let came = Body::Page(full(alloc, 0)?);
     assert!(rt; feed(&mut wires, QueueId(0), descriptor(0x1000_0000, 9_014), came));
     let mut virt = lender(alloc)?;
-    settle(&mut virt, &mut wires);
+    run_lender(&mut virt, &mut wires);
     assert!(rt; brings_zeros(&mut wires, QueueId(1), descriptor(0x1000_0000, 0), LONG));
     assert!(rt; lends(&mut wires, QueueId(3), descriptor(0, 9_014)));
     assert!(rt; virt.lent() == 1);
     Ok(())
+}
+
+// A copier between the four queues has time to be at rest.
+fn run_copier(copier: &mut NetCopier, world: &mut World)
+    requires fed { AreFed world.old }
+    requires new { IsNewCopier (queue 0) (queue 1) (queue 3) (queue 2) copier.old }
+    requires stands { CopierStandsFor copier.old nothing_passed }
+    ensures { length world.new ≡ 4 }
+{
+    settle(copier, world);
 }
 
 // A copier that is lent two frames, and whose first free buffer is short.
@@ -216,7 +264,7 @@ fn a_copier_copies_all_of_the_longest_frame(rt: HostRuntime) -> Result<(), Memor
     assert!(rt; feed(&mut wires, QueueId(2), descriptor(0, 0), short));
     assert!(rt; feed(&mut wires, QueueId(2), descriptor(16_384, 0), long));
     let mut copier = NetCopier::new(QueueId(0), QueueId(1), QueueId(3), QueueId(2));
-    settle(&mut copier, &mut wires);
+    run_copier(&mut copier, &mut wires);
     assert!(rt; brings_zeros(&mut wires, QueueId(3), descriptor(0, 9_014), SHORT));
     assert!(rt; brings(&mut wires, QueueId(3), descriptor(16_384, 9_014)));
     assert!(rt; lends(&mut wires, QueueId(1), descriptor(0, 9_014)));
@@ -224,7 +272,9 @@ fn a_copier_copies_all_of_the_longest_frame(rt: HostRuntime) -> Result<(), Memor
 }
 
 // A client that sends the longest frame and is given it.
-fn source(alloc: Global) -> Result<NetClient, Memory> {
+fn source(alloc: Global) -> Result<NetClient, Memory>
+    ensures { IfOk result IsNewSource }
+{
     let pages = one_buffer(alloc)?;
     let spare = one_buffer(alloc)?;
     let script = frames(alloc, 1)?;
@@ -240,6 +290,15 @@ fn source(alloc: Global) -> Result<NetClient, Memory> {
     ))
 }
 
+// It has time to be at rest.
+fn run_source(client: &mut NetClient, world: &mut World)
+    requires fed { AreFed world.old }
+    requires new { IsNewSource client.old }
+    ensures { length world.new ≡ 4 }
+{
+    settle(client, world);
+}
+
 #[test]
 fn a_client_sends_and_records_the_longest_frame(rt: HostRuntime) -> Result<(), Memory> {
     let alloc = rt.alloc();
@@ -247,7 +306,7 @@ fn a_client_sends_and_records_the_longest_frame(rt: HostRuntime) -> Result<(), M
     let came = Body::Page(full(alloc, 0)?);
     assert!(rt; feed(&mut wires, QueueId(0), descriptor(0, 9_014), came));
     let mut client = source(alloc)?;
-    settle(&mut client, &mut wires);
+    run_source(&mut client, &mut wires);
     assert!(rt; brings_zeros(&mut wires, QueueId(1), descriptor(0, 0), LONG));
     assert!(rt; brings(&mut wires, QueueId(1), descriptor(0, 9_014)));
     assert!(rt; brings(&mut wires, QueueId(3), descriptor(0, 9_014)));
