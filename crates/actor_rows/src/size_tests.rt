@@ -15,7 +15,6 @@ ghost use Rattle.actor_rows.specs.Sizes.{AreFed, IsInput, IsNewLender, IsNewSour
 
 use crate::alone::settle;
 use crate::{get_entry, one_or_two, put_in, queues_of};
-use buffer_kit::frame;
 use cargo_core::{Body, FrameLog, Item, Memory, NetDesc, Page, PoolId, QueueKind};
 use client_programs::NetClient;
 use client_programs::net::NetProgram;
@@ -91,7 +90,9 @@ fn one_buffer(alloc: Global) -> Result<Vec<Page>, Memory>
     ensures few { IfOk result (λ v. length v.items ≡ 1) }
     ensures are_pool { IfOk result (λ v. ArePool 0 pool 16384 v.items) }
 {
-    Ok(vec![in alloc; empty(alloc, 0, LONG)?]?)
+    let page = empty(alloc, 0, LONG)?;
+    let pages = vec![in alloc; page]?;
+    Ok(pages)
 }
 
 // Four queues of two entries each, with nothing in them.
@@ -111,39 +112,23 @@ fn feed(world: &mut World, q: QueueId, item: Item, body: Body) -> bool
     put_in(world, q, item, body)
 }
 
-// Whether the next entry of a queue is this one, with a page in which the longest frame stands.
-fn brings(world: &mut World, q: QueueId, item: Item) -> bool
+// The next entry of a queue.
+fn next(world: &mut World, q: QueueId) -> Option<(Item, Body)>
     requires { q.0 < length world.old }
     ensures { length world.new ≡ length world.old }
 {
-    match get_entry(world, q) {
-        Some(entry) => entry.0 == item && is_longest(frame(&entry)),
-        None => false,
-    }
+    get_entry(world, q)
 }
 
-// Whether the next entry of a queue is this one, with a page of which each byte is zero.
-fn brings_zeros(world: &mut World, q: QueueId, item: Item, size: u32) -> bool
+// Whether the next entry of a queue is this one, and these are the first bytes of its page, or all
+// that its lease lets one read.
+fn brings(world: &mut World, q: QueueId, item: Item, bytes: &[u8]) -> bool
     requires { q.0 < length world.old }
     ensures { length world.new ≡ length world.old }
 {
-    match get_entry(world, q) {
-        Some((got, Body::Page(page))) => {
-            got == item
-                && page.bytes().len() == size as usize
-                && page.bytes().iter().all(|byte| *byte == 0)
-        }
-        _ => false,
-    }
-}
-
-// Whether the next entry of a queue is this one, with a lease by which the longest frame is read.
-fn lends(world: &mut World, q: QueueId, item: Item) -> bool
-    requires { q.0 < length world.old }
-    ensures { length world.new ≡ length world.old }
-{
-    match get_entry(world, q) {
-        Some((got, Body::Lease(lease))) => got == item && is_longest(lease.bytes()),
+    match next(world, q) {
+        Some((got, Body::Page(page))) => got == item && page.bytes().starts_with(bytes),
+        Some((got, Body::Lease(lease))) => got == item && lease.bytes() == bytes,
         _ => false,
     }
 }
@@ -188,9 +173,23 @@ fn a_device_fills_a_long_buffer_and_leaves_a_short_one(rt: HostRuntime) -> Resul
     assert!(rt; feed(&mut wires, QueueId(2), descriptor(32_768, 9_014), sent));
     let mut device = device(alloc)?;
     run_device(&mut device, &mut wires);
-    assert!(rt; brings_zeros(&mut wires, QueueId(1), descriptor(0, 9_014), SHORT));
-    assert!(rt; brings(&mut wires, QueueId(1), descriptor(16_384, 9_014)));
-    assert!(rt; brings(&mut wires, QueueId(3), descriptor(32_768, 9_014)));
+    assert!(rt; brings(&mut wires, QueueId(1), descriptor(0, 9_014), &[0; 4_096]));
+    assert!(rt;
+        brings(
+            &mut wires,
+            QueueId(1),
+            descriptor(16_384, 9_014),
+            &longest()
+        )
+    );
+    assert!(rt;
+        brings(
+            &mut wires,
+            QueueId(3),
+            descriptor(32_768, 9_014),
+            &longest()
+        )
+    );
     assert!(rt; device.wire().len() == 1 && is_longest(device.wire().get(0)));
     Ok(())
 }
@@ -227,8 +226,15 @@ fn a_virtualiser_lends_all_of_the_longest_frame(rt: HostRuntime) -> Result<(), M
     assert!(rt; feed(&mut wires, QueueId(0), descriptor(0x1000_0000, 9_014), came));
     let mut virt = lender(alloc)?;
     run_lender(&mut virt, &mut wires);
-    assert!(rt; brings_zeros(&mut wires, QueueId(1), descriptor(0x1000_0000, 0), LONG));
-    assert!(rt; lends(&mut wires, QueueId(3), descriptor(0, 9_014)));
+    assert!(rt;
+        brings(
+            &mut wires,
+            QueueId(1),
+            descriptor(0x1000_0000, 0),
+            &[0; 16_384]
+        )
+    );
+    assert!(rt; brings(&mut wires, QueueId(3), descriptor(0, 9_014), &longest()));
     assert!(rt; virt.lent() == 1);
     Ok(())
 }
@@ -265,9 +271,16 @@ fn a_copier_copies_all_of_the_longest_frame(rt: HostRuntime) -> Result<(), Memor
     assert!(rt; feed(&mut wires, QueueId(2), descriptor(16_384, 0), long));
     let mut copier = NetCopier::new(QueueId(0), QueueId(1), QueueId(3), QueueId(2));
     run_copier(&mut copier, &mut wires);
-    assert!(rt; brings_zeros(&mut wires, QueueId(3), descriptor(0, 9_014), SHORT));
-    assert!(rt; brings(&mut wires, QueueId(3), descriptor(16_384, 9_014)));
-    assert!(rt; lends(&mut wires, QueueId(1), descriptor(0, 9_014)));
+    assert!(rt; brings(&mut wires, QueueId(3), descriptor(0, 9_014), &[0; 4_096]));
+    assert!(rt;
+        brings(
+            &mut wires,
+            QueueId(3),
+            descriptor(16_384, 9_014),
+            &longest()
+        )
+    );
+    assert!(rt; brings(&mut wires, QueueId(1), descriptor(0, 9_014), &longest()));
     Ok(())
 }
 
@@ -307,9 +320,9 @@ fn a_client_sends_and_records_the_longest_frame(rt: HostRuntime) -> Result<(), M
     assert!(rt; feed(&mut wires, QueueId(0), descriptor(0, 9_014), came));
     let mut client = source(alloc)?;
     run_source(&mut client, &mut wires);
-    assert!(rt; brings_zeros(&mut wires, QueueId(1), descriptor(0, 0), LONG));
-    assert!(rt; brings(&mut wires, QueueId(1), descriptor(0, 9_014)));
-    assert!(rt; brings(&mut wires, QueueId(3), descriptor(0, 9_014)));
+    assert!(rt; brings(&mut wires, QueueId(1), descriptor(0, 0), &[0; 16_384]));
+    assert!(rt; brings(&mut wires, QueueId(1), descriptor(0, 9_014), &longest()));
+    assert!(rt; brings(&mut wires, QueueId(3), descriptor(0, 9_014), &longest()));
     assert!(rt; client.got().len() == 1 && is_longest(client.got().get(0)));
     Ok(())
 }
