@@ -1,18 +1,23 @@
 -- Actors of the network at four queues, of which the first and the third come to them and were
 -- filled by hand before.
-use Rattle.std.specs.Prelude.{◌≡◌, ◌⊎◌, ℕ, true, List, length}
+use Rattle.std.specs.Prelude.{◌≡◌, ◌⊎◌, ◌<◌, ◌^◌, ℕ, true, List, [], ◌∷◌, All, length}
 use Rattle.cargo_core.specs.declared.item.PoolId.{PoolId}
 use Rattle.cargo_core.specs.declared.item.QueueKind.TheVariants as Kind
+use Rattle.cargo_core.specs.Pages.{Paged}
+use Rattle.frame_core.specs.declared.mac.Mac.{Mac}
+use Rattle.wire_core.specs.Lists.{nothing_passed}
 use Rattle.wire_core.specs.Ends.{Consumer, Producer}
 use Rattle.wire_core.specs.Queues.{Queue, start_bells, end_of, end_at}
 use Rattle.device_model.specs.Ethernet.Devices.{FitsDevice}
 use Rattle.device_model.specs.declared.ethernet.EthDevice.{EthDevice}
-use Rattle.net_virt_rx.specs.Receiving.{FitsRx}
+use Rattle.net_virt_rx.specs.Receiving.{FitsRx, IsNewRx, RxStandsFor}
 use Rattle.net_virt_rx.specs.declared.NetVirtRx.{NetVirtRx}
 use Rattle.net_copier.specs.Copying.{FitsCopier}
 use Rattle.net_copier.specs.declared.NetCopier.{NetCopier}
-use Rattle.client_programs.specs.Net.Clients.{FitsClient}
+use Rattle.client_programs.specs.Net.Clients.{FitsClient, IsNewClient}
 use Rattle.client_programs.specs.declared.net.NetClient.{NetClient}
+use Rattle.client_programs.specs.declared.net.program.NetProgram.{NetProgram}
+use Rattle.actor_rows.specs.Standings.{queue}
 
 -- the pool of all buffers of these tests
 abbrev pub pool : PoolId
@@ -54,3 +59,24 @@ CopierStands w c = StandsAt (FitsCopier (end_at w) c) w
 -- a client
 abbrev pub ClientStands : List Queue → NetClient → Type 0
 ClientStands w c = StandsAt (FitsClient (end_at w) c) w
+
+-- a receiving virtualiser of one client in its start state
+pub record IsNewLender (v : NetVirtRx) : Type 0 where
+  pub mac : Mac
+  pub pages : List Paged
+  pub new : IsNewRx (queue 0) (queue 1) 268435456
+      (record { mac = mac; active = queue 3; free = queue 2 } ∷ []) pages v
+  pub stands : RxStandsFor v nothing_passed
+
+-- a client in its start state with one buffer each way; each frame of its script has at most 65,535
+-- bytes
+pub record IsNewSource (c : NetClient) : Type 0 where
+  pub program : NetProgram
+  pub mac : Mac
+  pub pages : List Paged
+  pub spare : List Paged
+  pub script : List (List ℕ)
+  pub new : IsNewClient program mac (queue 0) (queue 1) (queue 3) (queue 2) pages spare script c
+  pub one : length pages ≡ 1
+  pub one_spare : length spare ≡ 1
+  pub short : All (λ frame. length frame < 2 ^ 16) script

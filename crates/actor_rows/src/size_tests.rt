@@ -7,11 +7,14 @@ ghost use Rattle.std.specs.Prelude.{◌≡◌, ◌<◌, ◌≤◌, ◌^◌, IfOk
 ghost use Rattle.cargo_core.specs.Items.{kind_of};
 ghost use Rattle.cargo_core.specs.declared.item.QueueKind.TheVariants as Kind;
 ghost use Rattle.buffer_kit.specs.Pools.{ArePool};
-ghost use Rattle.actor_rows.specs.Sizes.{AreFed, IsInput, pool};
+ghost use Rattle.net_copier.specs.Copying.{CopierStandsFor, IsNewCopier};
+ghost use Rattle.wire_core.specs.Lists.{nothing_passed};
+ghost use Rattle.device_model.specs.Ethernet.Devices.{IsNewDevice};
+ghost use Rattle.actor_rows.specs.Standings.{queue};
+ghost use Rattle.actor_rows.specs.Sizes.{AreFed, IsInput, IsNewLender, IsNewSource, pool};
 
 use crate::alone::settle;
 use crate::{get_entry, one_or_two, put_in, queues_of};
-use buffer_kit::frame;
 use cargo_core::{Body, FrameLog, Item, Memory, NetDesc, Page, PoolId, QueueKind};
 use client_programs::NetClient;
 use client_programs::net::NetProgram;
@@ -35,7 +38,9 @@ const SHORT: u32 = 4_096;
 const OWN: Mac = Mac([2, 0, 0, 0, 0, 1]);
 
 // The longest frame to the client, whose last byte is another than those before it.
-fn longest() -> [u8; LONGEST] {
+fn longest() -> [u8; LONGEST]
+    ensures { length result ≡ 9014 }
+{
     let mut bytes = [7; LONGEST];
     bytes[..6].copy_from_slice(&OWN.0);
     bytes[LONGEST - 1] = 99;
@@ -85,7 +90,9 @@ fn one_buffer(alloc: Global) -> Result<Vec<Page>, Memory>
     ensures few { IfOk result (λ v. length v.items ≡ 1) }
     ensures are_pool { IfOk result (λ v. ArePool 0 pool 16384 v.items) }
 {
-    Ok(vec![in alloc; empty(alloc, 0, LONG)?]?)
+    let page = empty(alloc, 0, LONG)?;
+    let pages = vec![in alloc; page]?;
+    Ok(pages)
 }
 
 // Four queues of two entries each, with nothing in them.
@@ -105,41 +112,52 @@ fn feed(world: &mut World, q: QueueId, item: Item, body: Body) -> bool
     put_in(world, q, item, body)
 }
 
-// Whether the next entry of a queue is this one, with a page in which the longest frame stands.
-fn brings(world: &mut World, q: QueueId, item: Item) -> bool
+// The next entry of a queue.
+fn next(world: &mut World, q: QueueId) -> Option<(Item, Body)>
     requires { q.0 < length world.old }
     ensures { length world.new ≡ length world.old }
 {
-    match get_entry(world, q) {
-        Some(entry) => entry.0 == item && is_longest(frame(&entry)),
-        None => false,
-    }
+    get_entry(world, q)
 }
 
-// Whether the next entry of a queue is this one, with a page of which each byte is zero.
-fn brings_zeros(world: &mut World, q: QueueId, item: Item, size: u32) -> bool
+// Whether the next entry of a queue is this one, and these are the first bytes of its page, or all
+// that its lease lets one read.
+fn brings(world: &mut World, q: QueueId, item: Item, bytes: &[u8]) -> bool
     requires { q.0 < length world.old }
     ensures { length world.new ≡ length world.old }
 {
-    match get_entry(world, q) {
-        Some((got, Body::Page(page))) => {
-            got == item
-                && page.bytes().len() == size as usize
-                && page.bytes().iter().all(|byte| *byte == 0)
-        }
+    match next(world, q) {
+        Some((got, Body::Page(page))) => got == item && page.bytes().starts_with(bytes),
+        Some((got, Body::Lease(lease))) => got == item && lease.bytes() == bytes,
         _ => false,
     }
 }
 
-// Whether the next entry of a queue is this one, with a lease by which the longest frame is read.
-fn lends(world: &mut World, q: QueueId, item: Item) -> bool
-    requires { q.0 < length world.old }
-    ensures { length world.new ≡ length world.old }
+// A device that sends and receives at the four queues has time to be at rest.
+fn run_device(device: &mut EthDevice, world: &mut World)
+    requires fed { AreFed world.old }
+    requires new { IsNewDevice (queue 0) (queue 1) (queue 2) (queue 3) device.old.frames device.old }
+    requires short { All (λ frame. length frame < 2 ^ 16) device.old.frames }
+    ensures { length world.new ≡ 4 }
 {
-    match get_entry(world, q) {
-        Some((got, Body::Lease(lease))) => got == item && is_longest(lease.bytes()),
-        _ => false,
-    }
+    settle(device, world);
+}
+
+// A device in its start state with two frames to receive.
+fn device(alloc: Global) -> Result<EthDevice, Memory>
+    ensures new { IfOk result
+        (λ d. IsNewDevice (queue 0) (queue 1) (queue 2) (queue 3) d.frames d) }
+    ensures short { IfOk result (λ d. All (λ frame. length frame < 2 ^ 16) d.frames) }
+{
+    let frames = frames(alloc, 2)?;
+    Ok(EthDevice::new(
+        alloc,
+        QueueId(0),
+        QueueId(1),
+        QueueId(2),
+        QueueId(3),
+        frames,
+    ))
 }
 
 // A device whose first free buffer is short, and which is given a frame to send.
@@ -153,24 +171,33 @@ fn a_device_fills_a_long_buffer_and_leaves_a_short_one(rt: HostRuntime) -> Resul
     assert!(rt; feed(&mut wires, QueueId(0), descriptor(0, 0), short));
     assert!(rt; feed(&mut wires, QueueId(0), descriptor(16_384, 0), long));
     assert!(rt; feed(&mut wires, QueueId(2), descriptor(32_768, 9_014), sent));
-    let mut device = EthDevice::new(
-        alloc,
-        QueueId(0),
-        QueueId(1),
-        QueueId(2),
-        QueueId(3),
-        frames(alloc, 2)?,
+    let mut device = device(alloc)?;
+    run_device(&mut device, &mut wires);
+    assert!(rt; brings(&mut wires, QueueId(1), descriptor(0, 9_014), &[0; 4_096]));
+    assert!(rt;
+        brings(
+            &mut wires,
+            QueueId(1),
+            descriptor(16_384, 9_014),
+            &longest()
+        )
     );
-    settle(&mut device, &mut wires);
-    assert!(rt; brings_zeros(&mut wires, QueueId(1), descriptor(0, 9_014), SHORT));
-    assert!(rt; brings(&mut wires, QueueId(1), descriptor(16_384, 9_014)));
-    assert!(rt; brings(&mut wires, QueueId(3), descriptor(32_768, 9_014)));
+    assert!(rt;
+        brings(
+            &mut wires,
+            QueueId(3),
+            descriptor(32_768, 9_014),
+            &longest()
+        )
+    );
     assert!(rt; device.wire().len() == 1 && is_longest(device.wire().get(0)));
     Ok(())
 }
 
 // A virtualiser whose one buffer begins at 2^28, and of which the queues 3 and 2 are the client's.
-fn lender(alloc: Global) -> Result<NetVirtRx, Memory> {
+fn lender(alloc: Global) -> Result<NetVirtRx, Memory>
+    ensures { IfOk result IsNewLender }
+{
     let client = LeaseEnds {
         mac: OWN,
         active: QueueId(3),
@@ -178,7 +205,17 @@ fn lender(alloc: Global) -> Result<NetVirtRx, Memory> {
     };
     let clients = vec![in alloc; client]?;
     let pages = one_buffer(alloc)?;
-    NetVirtRx::new(alloc, QueueId(0), QueueId(1), clients, pages, 0x1000_0000)
+    let virt = NetVirtRx::new(alloc, QueueId(0), QueueId(1), clients, pages, 0x1000_0000)?;
+    Ok(virt)
+}
+
+// It has time to be at rest.
+fn run_lender(virt: &mut NetVirtRx, world: &mut World)
+    requires fed { AreFed world.old }
+    requires new { IsNewLender virt.old }
+    ensures { length world.new ≡ 4 }
+{
+    settle(virt, world);
 }
 
 #[test]
@@ -188,11 +225,28 @@ fn a_virtualiser_lends_all_of_the_longest_frame(rt: HostRuntime) -> Result<(), M
     let came = Body::Page(full(alloc, 0)?);
     assert!(rt; feed(&mut wires, QueueId(0), descriptor(0x1000_0000, 9_014), came));
     let mut virt = lender(alloc)?;
-    settle(&mut virt, &mut wires);
-    assert!(rt; brings_zeros(&mut wires, QueueId(1), descriptor(0x1000_0000, 0), LONG));
-    assert!(rt; lends(&mut wires, QueueId(3), descriptor(0, 9_014)));
+    run_lender(&mut virt, &mut wires);
+    assert!(rt;
+        brings(
+            &mut wires,
+            QueueId(1),
+            descriptor(0x1000_0000, 0),
+            &[0; 16_384]
+        )
+    );
+    assert!(rt; brings(&mut wires, QueueId(3), descriptor(0, 9_014), &longest()));
     assert!(rt; virt.lent() == 1);
     Ok(())
+}
+
+// A copier between the four queues has time to be at rest.
+fn run_copier(copier: &mut NetCopier, world: &mut World)
+    requires fed { AreFed world.old }
+    requires new { IsNewCopier (queue 0) (queue 1) (queue 3) (queue 2) copier.old }
+    requires stands { CopierStandsFor copier.old nothing_passed }
+    ensures { length world.new ≡ 4 }
+{
+    settle(copier, world);
 }
 
 // A copier that is lent two frames, and whose first free buffer is short.
@@ -216,15 +270,24 @@ fn a_copier_copies_all_of_the_longest_frame(rt: HostRuntime) -> Result<(), Memor
     assert!(rt; feed(&mut wires, QueueId(2), descriptor(0, 0), short));
     assert!(rt; feed(&mut wires, QueueId(2), descriptor(16_384, 0), long));
     let mut copier = NetCopier::new(QueueId(0), QueueId(1), QueueId(3), QueueId(2));
-    settle(&mut copier, &mut wires);
-    assert!(rt; brings_zeros(&mut wires, QueueId(3), descriptor(0, 9_014), SHORT));
-    assert!(rt; brings(&mut wires, QueueId(3), descriptor(16_384, 9_014)));
-    assert!(rt; lends(&mut wires, QueueId(1), descriptor(0, 9_014)));
+    run_copier(&mut copier, &mut wires);
+    assert!(rt; brings(&mut wires, QueueId(3), descriptor(0, 9_014), &[0; 4_096]));
+    assert!(rt;
+        brings(
+            &mut wires,
+            QueueId(3),
+            descriptor(16_384, 9_014),
+            &longest()
+        )
+    );
+    assert!(rt; brings(&mut wires, QueueId(1), descriptor(0, 9_014), &longest()));
     Ok(())
 }
 
 // A client that sends the longest frame and is given it.
-fn source(alloc: Global) -> Result<NetClient, Memory> {
+fn source(alloc: Global) -> Result<NetClient, Memory>
+    ensures { IfOk result IsNewSource }
+{
     let pages = one_buffer(alloc)?;
     let spare = one_buffer(alloc)?;
     let script = frames(alloc, 1)?;
@@ -240,6 +303,15 @@ fn source(alloc: Global) -> Result<NetClient, Memory> {
     ))
 }
 
+// It has time to be at rest.
+fn run_source(client: &mut NetClient, world: &mut World)
+    requires fed { AreFed world.old }
+    requires new { IsNewSource client.old }
+    ensures { length world.new ≡ 4 }
+{
+    settle(client, world);
+}
+
 #[test]
 fn a_client_sends_and_records_the_longest_frame(rt: HostRuntime) -> Result<(), Memory> {
     let alloc = rt.alloc();
@@ -247,10 +319,10 @@ fn a_client_sends_and_records_the_longest_frame(rt: HostRuntime) -> Result<(), M
     let came = Body::Page(full(alloc, 0)?);
     assert!(rt; feed(&mut wires, QueueId(0), descriptor(0, 9_014), came));
     let mut client = source(alloc)?;
-    settle(&mut client, &mut wires);
-    assert!(rt; brings_zeros(&mut wires, QueueId(1), descriptor(0, 0), LONG));
-    assert!(rt; brings(&mut wires, QueueId(1), descriptor(0, 9_014)));
-    assert!(rt; brings(&mut wires, QueueId(3), descriptor(0, 9_014)));
+    run_source(&mut client, &mut wires);
+    assert!(rt; brings(&mut wires, QueueId(1), descriptor(0, 0), &[0; 16_384]));
+    assert!(rt; brings(&mut wires, QueueId(1), descriptor(0, 9_014), &longest()));
+    assert!(rt; brings(&mut wires, QueueId(3), descriptor(0, 9_014), &longest()));
     assert!(rt; client.got().len() == 1 && is_longest(client.got().get(0)));
     Ok(())
 }

@@ -6,16 +6,17 @@
 //! `| pools` behind it has also where the buffers of each pool are.
 #![tactic(auto)]
 
-ghost use Rattle.std.specs.Prelude.{◌<◌, ◌≤◌, IfOk, length};
+ghost use Rattle.std.specs.Prelude.{◌≡◌, ◌<◌, ◌≤◌, IfOk, length};
 ghost use Rattle.sdf_check.specs.Valid.{Valid};
 ghost use Rattle.sdf_model.specs.Counts.{text_most};
 ghost use Rattle.trace_text.specs.Traces.{IsReadFor};
+ghost use Rattle.region_layout.specs.Layouts.{layout_of};
 
 use cargo_core::{FrameLog, Memory};
 use expect_core::{Report, frames_for};
 use frame_core::read_mac;
 use net_expect::answers_for;
-use region_layout::lay_out;
+use region_layout::{Layout, lay_out};
 use sdf_check::check;
 use sdf_model::{TEXT_MOST, read_description};
 use sdf_plan::{Net, Plan, SdfFault};
@@ -203,6 +204,24 @@ fn told(
     Ok(line)
 }
 
+// What one play comes to.
+fn play(
+    alloc: Global,
+    plan: &Plan,
+    layout: &Layout,
+    trace: &Trace,
+    seed: u64,
+    pools: bool,
+) -> Result<String, Memory>
+    requires valid { Valid plan.now }
+    requires layout { layout.now ≡ layout_of plan.now }
+    requires trace { IsReadFor plan.now trace.now }
+{
+    let (system, ending) = System::played(alloc, plan, layout, trace, seed, STEPS)?;
+    let report = system.into_report()?;
+    told(alloc, plan, &report, trace, ending, pools)
+}
+
 // What plays of a plan come to, with a trace that was read for it.
 fn plays(alloc: Global, plan: &Plan, trace: &Trace, seeds: Seeds) -> Result<String, Memory>
     requires valid { Valid plan.now }
@@ -212,9 +231,7 @@ fn plays(alloc: Global, plan: &Plan, trace: &Trace, seeds: Seeds) -> Result<Stri
     let mut text = String::new(alloc);
     for k in 0..seeds.count {
         let seed = seeds.first.saturating_add(k);
-        let (system, ending) = System::played(alloc, plan, &layout, trace, seed, STEPS)?;
-        let report = system.into_report()?;
-        let line = told(alloc, plan, &report, trace, ending, seeds.pools)?;
+        let line = play(alloc, plan, &layout, trace, seed, seeds.pools)?;
         text.push_str(line.as_str())?;
     }
     Ok(text)

@@ -133,10 +133,11 @@ fn describe(alloc: Global, plan: &Plan, trace: &Trace) -> Result<String, Memory>
     Ok(line)
 }
 
-// What is answered at the text of a trace.
-fn read(alloc: Global, plan: &Plan, text: &str) -> Result<String, Memory>
+// What is answered at the lines of a trace.
+fn read(alloc: Global, plan: &Plan, lines: &str) -> Result<String, Memory>
     requires { Valid plan.now }
 {
+    let text = trace_of(alloc, lines)?;
     match read_trace(alloc, text.as_bytes(), plan) {
         Ok(trace) => describe(alloc, plan, &trace),
         Err(TraceFault::BadLine(line)) => write_bad_trace(alloc, line),
@@ -163,10 +164,7 @@ fn answer(alloc: Global, text: &str, lines: Option<&str>) -> Result<String, Memo
     match judge(alloc, text) {
         Ok(plan) => match lines {
             None => laid_out(alloc, &plan),
-            Some(lines) => {
-                let text = trace_of(alloc, lines)?;
-                read(alloc, &plan, text.as_str())
-            }
+            Some(lines) => read(alloc, &plan, lines),
         },
         Err(SdfFault::Refused(refusal)) => write_refused(alloc, &refusal),
         Err(SdfFault::Memory(memory)) => Err(memory),
