@@ -1,5 +1,5 @@
--- The units of the block class: what requests count in, what a partition table counts in, and what a
--- buffer holds.
+-- The units of the block class: what requests count in, what a partition table counts in, and what
+-- a buffer holds.
 use Rattle.std.specs.Prelude.{ℕ}
 
 -- how many bytes a block has

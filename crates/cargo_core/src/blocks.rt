@@ -1,5 +1,5 @@
-//! The units of the block class. A block is what requests count in (from sDDF's block queue header),
-//! a sector what a partition table counts in, and a buffer takes eight blocks.
+//! The units of the block class. A block is what requests count in (from sDDF's block queue
+//! header), a sector what a partition table counts in, and a buffer takes eight blocks.
 
 /// How many bytes a block has.
 pub const BLOCK_BYTES: usize = 4096;

@@ -199,7 +199,7 @@ module _ (rows : List PoolRow) (clients most : ℕ) (ends : List TxEnds) (v : Ne
 
 -- the rows of the class's pools are there
 pub net_rows : (rows : List PoolRow) (clients : ℕ) → HasPools rows clients → 1 + 2 * clients ≤ length rows
-net_rows rows zero pools = let below = there_below rows 0 pools.first.row pools.first.there in omega (arith, below)
+net_rows rows zero pools = let below = there_below _ 0 pools.first.row pools.first.there in omega (arith, below)
 net_rows rows (suc n) pools =
     let last = pools.tx n (omega arith) in
     let below = there_below rows (2 + 2 * n) last.row last.there in

@@ -49,8 +49,8 @@ pub record HaveRanges (clients : List TxEnds) : Type 0 where
   pub sized : All (λ (c : TxEnds). 1 ≤ c.size) clients
   pub ends : All (λ (c : TxEnds). c.base + c.buffers * c.size ≤ 2 ^ 62) clients
 
--- the pool of a number is there, with 1 to 512 buffers of this size, which isn't 0, and ends at most
--- at 2^62
+-- the pool of a number is there, with 1 to 512 buffers of this size, which isn't 0, and ends at
+-- most at 2^62
 pub record HasPool (size : ℕ) (rows : List PoolRow) (n : ℕ) : Type 0 where
   pub row : PoolRow
   pub there : slice_get rows n ≡ Some row
@@ -66,12 +66,12 @@ HasNetPool rows n = HasPool (pool_at rows n).size rows n
 
 -- the pools of a network class with so many clients are there: the device's, and two of each
 -- client, and no two clients send in buffers at one address
-pub record HasPools (rows : List PoolRow) (clients : ℕ) : Type 0 where
-  pub first : HasNetPool rows 0
-  pub rx : (c : ℕ) → c < clients → HasNetPool rows (1 + 2 * c)
-  pub tx : (c : ℕ) → c < clients → HasNetPool rows (2 + 2 * c)
+pub record HasPools (pools : List PoolRow) (clients : ℕ) : Type 0 where
+  pub first : HasNetPool pools 0
+  pub rx : (c : ℕ) → c < clients → HasNetPool pools (1 + 2 * c)
+  pub tx : (c : ℕ) → c < clients → HasNetPool pools (2 + 2 * c)
   pub apart : (j k : ℕ) → j < k → k < clients
-      → IsApart (tx_range (tx_ends rows k)) (tx_range (tx_ends rows j))
+      → IsApart (tx_range (tx_ends pools k)) (tx_range (tx_ends pools j))
 
 -- each frame has at most 65,535 bytes
 abbrev pub AreShort : List (List ℕ) → Type 0
