@@ -173,14 +173,7 @@ fn sender(alloc: Global, pools: &[PoolRow], clients: u16) -> Result<NetVirtTx, M
 {
     let ends = tx_ends(alloc, pools, clients)?;
     let ranges = ranges(alloc, &ends)?;
-    Ok(NetVirtTx::new(
-        alloc,
-        QueueId(6),
-        QueueId(7),
-        ends,
-        ranges,
-        LONGEST_FRAME,
-    )?)
+    Ok(NetVirtTx::new(alloc, QueueId(6), QueueId(7), ends, ranges, LONGEST_FRAME)?)
 }
 
 // The copier of the client of a number.

@@ -363,7 +363,6 @@ module _ (plan : Plan) (trace : Trace) (actors : List Actor) (valid : Valid plan
             let told : (pool_at (pools_of plan) n).size ≡ row.size = ap (λ (o : Option PoolRow). option_map_or (λ (r : PoolRow). r.size) o 0) at in
             omega (arith, size, told)
 
-
   pub network_is : IsReadFor plan trace → HasNoNetwork cast ⊎ ((net : NetPlace) × HasWhole (queues_of plan) net cast)
   network_is read = by plan.net refl
     where

@@ -148,7 +148,11 @@ pub record SameTx (old new : NetVirtTx) : Type 0 where
 -- a client as it sends, where the longest frame has so many bytes
 abbrev pub sender_of : ℕ → TxEnds → Sender
 sender_of most c = record {
-  pool = c.pool; buffers = c.buffers; base = c.base; size = c.size; most = most;
+  pool = c.pool;
+  buffers = c.buffers;
+  base = c.base;
+  size = c.size;
+  most = most;
 }
 
 -- the device addresses of a client's buffers

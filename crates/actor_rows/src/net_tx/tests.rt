@@ -134,7 +134,14 @@ fn the_longest_frame_goes_on_in_a_buffer_of_16384_bytes(rt: HostRuntime) -> Resu
     let first = Page::new(alloc, PoolId(7), 0, 16_384)?;
     let second = Page::new(alloc, PoolId(7), 1, 16_384)?;
     let good = descriptor(16_384, 9_014);
-    assert!(rt; send(&mut virt, &mut wires, descriptor(0, 9_015), Body::Page(first)));
+    assert!(rt;
+        send(
+            &mut virt,
+            &mut wires,
+            descriptor(0, 9_015),
+            Body::Page(first)
+        )
+    );
     assert!(rt; returned(&mut virt, &mut wires) == Some(descriptor(0, 9_015)));
     assert!(rt; send(&mut virt, &mut wires, good, Body::Page(second)));
     assert!(rt; sent(&mut virt, &mut wires) == Some(descriptor(24_576, 9_014)));

@@ -55,7 +55,8 @@ virt_part v = VirtPart v.ends.output.queue.0 v.ends.input.queue.0 v.work.opening
     (record {
       number = v.work.opening.own.pool.0;
       base = v.work.opening.base;
-      buffers = 1; size = blk_buffer_bytes;
+      buffers = 1;
+      size = blk_buffer_bytes;
     })
     (sharers (holders v.work.desk) (from_queues v.ends) (to_queues v.ends))
 

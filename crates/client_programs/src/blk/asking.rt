@@ -20,8 +20,8 @@ ghost use Rattle.client_programs.specs.Blk.Asking.{reply_room, asking_hand};
 
 use crate::blk::Keeping;
 use cargo_core::{
-    Ask, BLK_BUFFER_BYTES, BLOCK_BYTES, BlkReq, BlkResp, BlkStatus, Body, Bytes, Code, Item, Memory,
-    Page, PoolId, Reply,
+    Ask, BLK_BUFFER_BYTES, BLOCK_BYTES, BlkReq, BlkResp, BlkStatus, Body, Bytes, Code, Item,
+    Memory, Page, PoolId, Reply,
 };
 use std::alloc::Global;
 use turn_kit::count_held;
