@@ -188,7 +188,13 @@ fn decide_plan<F: Shelf>(
         Command::Check => Ok(say_accepted(alloc, plan)?),
         Command::Layout => Ok(say_layout(alloc, plan)?),
         Command::Play(options) => {
-            decide_named(alloc, shelf, words, plan, Asked::Play(Showing::Report(options)))
+            decide_named(
+                alloc,
+                shelf,
+                words,
+                plan,
+                Asked::Play(Showing::Report(options)),
+            )
         }
         Command::Run(steps) => decide_named(alloc, shelf, words, plan, Asked::Run(steps)),
         Command::Gen(_) => unreachable!(),

@@ -44,5 +44,14 @@ returns-clause-reads g c =
     reads-for g.F.Shelf.text g.F.Shelf.left g.F.Shelf.opens g.F.Shelf.faults g.F.Shelf.failed (Opens c.as_str.result.now) (OpensTrace (texts_of c.args.words.now))
     (LeavesRest (g.F.Shelf.text c.args.shelf.now) c.as_str.result.now) (OfEach (LeavesPlan (g.F.Shelf.text c.args.shelf.now) (texts_of c.args.words.now))) _ _ c.in_ok-bytes.bytes c.in_ok-decide_trace.field-0 c.in_ok-bytes.ensures.reads
     (λ o. inr (c.requires.0, c.as_str.result.now, c.args.asked, asks, o))
-    (λ rest status e. inr (c.requires.0, c.as_str.result.now, c.args.asked, asks, rest,
-    trace-status _ _ _ _ _ status (subst (λ x. IsRead (g.F.Shelf.text c.args.shelf.now c.as_str.result.now) x) (sym c.as_slice.ensures) c.in_ok-bytes.ensures.bytes) c.in_ok-decide_trace.ensures e, c.in_ok-bytes.ensures.reads.opened))
+    (λ rest status e. inr (
+      c.requires.0,
+      c.as_str.result.now,
+      c.args.asked,
+      asks,
+      (
+        rest,
+        trace-status _ _ _ _ _ status (subst (λ x. IsRead (g.F.Shelf.text c.args.shelf.now c.as_str.result.now) x) (sym c.as_slice.ensures) c.in_ok-bytes.ensures.bytes) c.in_ok-decide_trace.ensures e,
+        c.in_ok-bytes.ensures.reads.opened,
+      ),
+    ))
