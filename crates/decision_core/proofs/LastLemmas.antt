@@ -61,7 +61,7 @@ unfolding Behind
 plan-read-last told told' same words desc first old new start before after s named behind o within (inl h) = read_description desc named (h.1 ∙ behind) (h.2 ∙ o) (inr (within, h.0))
 plan-read-last told told' same words desc first old new start before after s named behind o within (inr h) =
     read_trace h.0 h.1 h.2 h.3 (subst (λ d. IsWithinLimit (told d)) (same-desc words desc h.0 named (inr (inr (h.1, h.2, h.3)))) within)
-    (h.4 ∙ ap (option_map (drop read_most)) (same h.1)) (opened-both words desc h.0 h.1 h.2 start before after named h.3 o h.6) (subst (λ o. IsOfText o IsOfPlay s) (same h.1) h.5)
+    (h.4.0 ∙ ap (option_map (drop read_most)) (same h.1)) (opened-both words desc h.0 h.1 h.2 start before after named h.3 o h.4.2) (subst (λ o. IsOfText o IsOfPlay s) (same h.1) h.4.1)
 
 -- what was read last, once the description was read
 pub last-read : (told told' : List ℕ → Option (List ℕ)) → ((n : List ℕ) → told' n ≡ told n) → (words : List (List ℕ)) (desc bytes : List ℕ) (first old new : Option (List ℕ)) (start before after : Option (List (List ℕ))) (s : Status)

@@ -49,7 +49,9 @@ returns-clause-reads g c =
       c.as_str.result.now,
       c.args.asked,
       asks,
-      rest,
-      trace-status _ _ _ _ _ status (subst (λ x. IsRead (g.F.Shelf.text c.args.shelf.now c.as_str.result.now) x) (sym c.as_slice.ensures) c.in_ok-bytes.ensures.bytes) c.in_ok-decide_trace.ensures e,
-      c.in_ok-bytes.ensures.reads.opened,
+      (
+        rest,
+        trace-status _ _ _ _ _ status (subst (λ x. IsRead (g.F.Shelf.text c.args.shelf.now c.as_str.result.now) x) (sym c.as_slice.ensures) c.in_ok-bytes.ensures.bytes) c.in_ok-decide_trace.ensures e,
+        c.in_ok-bytes.ensures.reads.opened,
+      ),
     ))
