@@ -80,8 +80,8 @@ after_call S w u a b e st long = ap length st.happened.after_is ∙ (length-set 
 
 -- and so does one for which memory was wanting
 pub after_try : {A : Type 0} (S : A → Passed → Type 0) (w u : List Queue) (a b : A) (r : Result Event Memory) → IfOk r (λ e. Stepped S (λ old d new. Happens old d new) w u a b e) → OnErr r (u ≡ w) → length w ≡ 4 → length u ≡ 4
-after_try S w u a b (Ok e) st no long = after_call S w u a b e st long
-after_try S w u a b (Err m) st no long = ap length no ∙ long
+after_try S w u a b (Ok e) st same long = after_call S w u a b e st long
+after_try S w u a b (Err m) st same long = ap length same ∙ long
 
 no_load : (o : Option Cargo) → o ≡ None → (c : Cargo) → o ≡ Some c → ⊥
 no_load o none c some = let e : None ≡ Some c = sym none ∙ some in cc
@@ -255,20 +255,13 @@ module _ (w : List Queue) (fed : AreFed w) where
         long = fed.long;
       }
 
--- a list of one page is a pool
-pub one_pool : (size : ℕ) (p : Paged) → 0 < size → size ≤ 2 ^ 32 → p.pool ≡ pool → p.no ≡ 0 → length p.bytes ≡ size → ArePool 0 pool size (p ∷ [])
-one_pool size p some few same no long = record {
-  same_pool = λ k q at. ap (λ (x : Paged). x.pool) (is_it k q at).1 ∙ same;
-  numbered = λ k q at. ap (λ (x : Paged). x.no) (is_it k q at).1 ∙ (no ∙ sym (is_it k q at).0);
-  sized = λ k q at. ap (λ (x : Paged). length x.bytes) (is_it k q at).1 ∙ long;
-  some = some;
-  few = omega arith;
-  ends = omega (arith, few);
+-- a pool of one buffer is one where that begins at another address
+pub moved_pool : (base : ℕ) (pages : List Paged) → base ≤ 2 ^ 32 → length pages ≡ 1 → ArePool 0 pool 16384 pages → ArePool base pool 16384 pages
+moved_pool base pages low one p = record {
+  same_pool = p.same_pool;
+  numbered = p.numbered;
+  sized = p.sized;
+  some = p.some;
+  few = p.few;
+  ends = omega (arith, low, one);
 }
-  where
-    is_it : (k : ℕ) (q : Paged) → slice_get (p ∷ []) k ≡ Some q → (k ≡ 0) × (q ≡ p)
-    is_it zero q at = (refl, sym (is_some at))
-      where
-        is_some : {a b : Paged} → Some a ≡ Some b → a ≡ b
-        is_some h = cc
-    is_it (suc k) q at = absurd cc
