@@ -53,7 +53,7 @@ pub note-requires-clause-there : goal.note-requires-clause-there
 note-requires-clause-there c = slice_get_within c.self.inside.running.list c.args.place c.at-number.result c.at-number.ensures
 
 pub is_runnable-runs-requires : goal.is_runnable-runs-requires
-is_runnable-runs-requires c k rung = rw c.deref.ensures.value (rung_there _ _ _ c.self.inside.actors.items _ c.self.invariant.holds c.at-number.result c.step.new.self c.in_ok-event.event c.index-row.result.now k c.in_ok-event.ensures.stepped.happened.there c.index-row.ensures (sym c.reach-other.ensures ∙ rung))
+is_runnable-runs-requires c = record { there = λ k rung. rw c.deref.ensures.value (rung_there _ _ _ c.self.inside.actors.items _ c.self.invariant.holds c.at-number.result c.step.new.self c.in_ok-event.event c.index-row.result.now k c.in_ok-event.ensures.stepped.happened.there c.index-row.ensures (sym c.reach-other.ensures ∙ rung)) }
 
 pub note-requires-clause-room : goal.note-requires-clause-room
 note-requires-clause-room c = (system_then (history_of c.self.inside.rows.items c.self.inside.past.value.items) c.self.inside.rows.items c.self.inside.pools.items c.self.inside.net c.self.inside.serial c.self.inside.blk c.self.inside.world c.step.new.wires c.self.inside.actors.items c.self.inside.journal.items c.at-number.result c.index_mut-actor.result.now c.step.new.self c.index-actor.result.now c.in_ok-event.event c.index-row.result.now c.reach-other.result c.is_runnable-runs.result c.is_idle-idle.result c.args.place c.self.inside.running.list c.self.inside.running.room
