@@ -1,7 +1,7 @@
-//! Frames of 9,014 bytes in buffers of 16,384. Each actor of the network but the sending virtualiser
-//! stands alone at four queues: what comes to it was put by hand into the queues 0 and 2, and what
-//! it makes of that is found on the queues 1 and 3. A buffer of 4,096 bytes is too short for such a
-//! frame, and is left as it is.
+//! Frames of 9,014 bytes in buffers of 16,384. Each actor of the network but the sending
+//! virtualiser stands alone at four queues: what comes to it was put by hand into the queues 0 and
+//! 2, and what it makes of that is found on the queues 1 and 3. A buffer of 4,096 bytes is too
+//! short for such a frame, and is left as it is.
 
 ghost use Rattle.std.specs.Prelude.{◌≡◌, ◌<◌, ◌≤◌, ◌^◌, IfOk, All, length};
 ghost use Rattle.cargo_core.specs.Items.{kind_of};
@@ -136,7 +136,8 @@ fn brings(world: &mut World, q: QueueId, item: Item, bytes: &[u8]) -> bool
 // A device that sends and receives at the four queues has time to be at rest.
 fn run_device(device: &mut EthDevice, world: &mut World)
     requires fed { AreFed world.old }
-    requires new { IsNewDevice (queue 0) (queue 1) (queue 2) (queue 3) device.old.frames device.old }
+    requires new { IsNewDevice (queue 0) (queue 1) (queue 2) (queue 3) device.old.frames
+        device.old }
     requires short { All (λ frame. length frame < 2 ^ 16) device.old.frames }
     ensures { length world.new ≡ 4 }
 {

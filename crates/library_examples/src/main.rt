@@ -1,6 +1,6 @@
-//! Short examples of the libraries that are taken by themselves, but for those that play: each module
-//! makes the main calls of one library, or of two, and gives what they come to as a text, which is
-//! printed here.
+//! Short examples of the libraries that are taken by themselves, but for those that play: each
+//! module makes the main calls of one library, or of two, and gives what they come to as a text,
+//! which is printed here.
 #![tactic(auto)]
 
 ghost use Rattle.sdf_check.specs.Valid.{Valid};

@@ -8,7 +8,7 @@ use std::alloc::Global;
 use std::test::Fail;
 
 /// What a reply says, and how many bytes of the one value that all of them have it brings.
-#[derive(Clone, Copy, Debug, PartialEq, Eq)]
+#[derive(Clone, Copy, PartialEq, Eq)]
 struct Summary {
     status: BlkStatus,
     count: u16,
