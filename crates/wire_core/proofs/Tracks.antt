@@ -91,6 +91,7 @@ shown_carries row q t s (Do.Wake x) c item h e = none_of item c h e
 shown_carries row q t s (Do.Wanted x) c item h e = none_of item c h e
 shown_carries row q t s (Do.Settle x) c item h e = none_of item c h e
 shown_carries row q t s (Do.Ring x) c item h e = none_of item c h e
+shown_carries row q t s (Do.Store w v) c item h e = none_of item c h e
 
 lists_after : (row : QueueRow) (q : Queue) (t : Track) → IsShown row q t → (o : Op) (c : List Cargo) (item : Option Item) → Carries q o c → option_to_list item ≡ items_of c → sent_after t.sent o (option_to_list item) ≡ taken_after t.taken o (option_to_list item) ++ items_of (entries_after q.entries o c)
 lists_after row q t s Do.Take c item h e = rw (e, h.1, append_assoc t.taken (h.0.0 ∷ []) (items_of (drop 1 q.entries))) (s.lists ∙ ap (λ es. t.taken ++ items_of es) h.2)
@@ -103,6 +104,7 @@ lists_after row q t s (Do.Wake x) c item h e = s.lists
 lists_after row q t s (Do.Wanted x) c item h e = s.lists
 lists_after row q t s (Do.Settle x) c item h e = s.lists
 lists_after row q t s (Do.Ring x) c item h e = s.lists
+lists_after row q t s (Do.Store w v) c item h e = s.lists
 
 -- after a call the queue is what the track then shows
 pub shown_after : (row : QueueRow) (q : Queue) (t : Track) (d : Deed) → IsShown row q t → May q d → IsShown row (after q d) (track_after t d.event)

@@ -28,6 +28,7 @@ if_taken (Do.Wake s) c = []
 if_taken (Do.Wanted s) c = []
 if_taken (Do.Settle s) c = []
 if_taken (Do.Ring s) c = []
+if_taken (Do.Store w v) c = []
 
 -- the entry of a put
 abbrev pub if_put : Op → List Cargo → List Cargo
@@ -41,6 +42,7 @@ if_put (Do.Wake s) c = []
 if_put (Do.Wanted s) c = []
 if_put (Do.Settle s) c = []
 if_put (Do.Ring s) c = []
+if_put (Do.Store w v) c = []
 
 -- what a deed takes from each queue
 abbrev pub taken_by : Deed → Lists
