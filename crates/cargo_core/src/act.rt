@@ -1,8 +1,8 @@
 //! What a hostile client does with its ends of queues.
 
 /// A word of a queue, which a hostile end may store: the two indices, and of each of its two bells
-/// the flag and the pending word. `Flag` and `Pending` are the forward bell's, at which the consumer
-/// waits.
+/// the flag and the pending word. `Flag` and `Pending` are those of the forward bell, at which the
+/// consumer waits.
 #[derive(Clone, Copy, Debug, PartialEq, Eq)]
 pub enum Word {
     Head,

@@ -16,7 +16,8 @@ use Rattle.wire_core.specs.declared.names.Answer.{Answer}
 use Rattle.wire_core.specs.declared.names.Answer.TheVariants.{Done, Yes, No}
 use Rattle.wire_core.specs.Bells.{BellHolds}
 use Rattle.wire_core.specs.Ends.{Role, Consumer, Producer, Condition, role_of}
-use Rattle.wire_core.specs.Queues.{Bells, Queue, items_of, bells_after, start_bells, end_of, is_store, Finds, Tells}
+use Rattle.wire_core.specs.Queues.{Bells, Queue, items_of, bells_after, start_bells, end_of}
+use Rattle.wire_core.specs.Queues.{is_store, Finds, Tells}
 
 -- what one end did: its looks that answered no, and its steps
 pub record Tally : Type 0 where
@@ -121,8 +122,10 @@ steps_after n (Do.Ring s) = n + 1
 
 -- each call is one step of the end that makes it
 abbrev pub tally_after : Tally → Role → Role → Op → Answer → Tally
-tally_after y Consumer Consumer o a = record { noes = noes_after y.noes o a; steps = steps_after y.steps o }
-tally_after y Producer Producer o a = record { noes = noes_after y.noes o a; steps = steps_after y.steps o }
+tally_after y Consumer Consumer o a =
+    record { noes = noes_after y.noes o a; steps = steps_after y.steps o }
+tally_after y Producer Producer o a =
+    record { noes = noes_after y.noes o a; steps = steps_after y.steps o }
 tally_after y Consumer Producer o a = y
 tally_after y Producer Consumer o a = y
 
@@ -263,8 +266,8 @@ pub record Flows (row : QueueRow) (t : Track) : Type 0 where
   pub begins : IsPrefix t.taken t.sent
   pub within : length t.sent ≤ length t.taken + row.capacity
 
--- at every queue, also one with a hostile end, what was taken is a beginning of what was put, and at
--- most the capacity behind it
+-- at every queue, also one with a hostile end, what was taken is a beginning of what was put, and
+-- at most the capacity behind it
 abbrev pub QueuesFlow : History → List QueueRow → List Entry → Type 0
 QueuesFlow history rows journal = (n : ℕ) (row : QueueRow) → slice_get rows n ≡ Some row
     → Flows row (track history n journal)

@@ -269,8 +269,8 @@ Finds filled room (Do.Settle s) a = Unit {0}
 Finds filled room (Do.Ring s) a = Unit {0}
 Finds filled room (Do.Store w v) a = Unit {0}
 
--- what a look for an entry answers: whether one stands there; once a word was stored, only where the
--- difference of the tail that it reads to what the consumer itself took fits too
+-- what a look for an entry answers: whether one stands there; once a word was stored, only where
+-- the difference of the tail that it reads to what the consumer itself took fits too
 abbrev pub sees : Queue → Bool
 sees q = is_filled q && (not q.indices.stored
     || (nat_lt 0 (ahead q.indices.taken q.indices.tail)
@@ -317,7 +317,8 @@ items_of cs = map (λ c. c.0) cs
 -- the call may come here, and answers and moves what it does
 pub record May (q : Queue) (d : Deed) : Type 0 where
   pub condition : Condition (end_of true q.kind q.bells (role_of d.event.op)) d.event.op
-  pub tells : Answers (is_filled q) (has_room q) (sees q) (finds_room q) q.bells d.event.op d.event.answer
+  pub tells : Answers (is_filled q) (has_room q) (sees q) (finds_room q) q.bells
+      d.event.op d.event.answer
   pub carries : Carries q d.event.op (cargo_of d)
   pub item : option_to_list d.event.item ≡ items_of (cargo_of d)
 
