@@ -233,6 +233,8 @@ CallDid n h (Do.Wanted Backward) r a c h' =
     (h' ≡ after_wanted 4 r h) × (a ≡ answer_of (nat_eq r 0)) × (c ≡ [])
 CallDid n h (Do.Settle s) r a c h' = (h' ≡ after_settle 1 h) × (a ≡ Done) × (c ≡ [])
 CallDid n h (Do.Ring s) r a c h' = (h' ≡ after_ring 1 h) × (a ≡ Done) × (c ≡ [])
+-- no end of such a ring stores
+CallDid n h (Do.Store w v) r a c h' = ⊥
 
 -- the same, where what was read is what the end remembers as its last read
 abbrev pub EndDid : ℕ → Half → Op → Answer → List Cargo → Half → Type 0
