@@ -132,13 +132,13 @@ impl BlkClient {
         ensures others { self.new
             ≡ record self.old { asking = self.new.asking; stray = self.new.stray } }
         ensures stands { (responses requests : ℕ) (passed : Passed) (took put : Lists)
-            → ((n : ℕ) → took n ≡ if_there (responses == n) (entry ∷ []))
+            (calls : List Event) → ((n : ℕ) → took n ≡ if_there (responses == n) (entry ∷ []))
             → ((n : ℕ) → put n ≡ []) → BlkStands responses requests self.old.asking [] passed
             → BlkStands responses requests self.new.asking (option_to_list self.new.stray)
             (record {
               taken = with passed.taken took;
               sent = with passed.sent put;
-              dropped = passed.dropped;
+              calls = calls;
             }) }
     {
         if self.asking.is_due() {
