@@ -58,7 +58,8 @@ pub fn cast_bound_law()
         → BellsHold (hostiles cast) history (queues_of plan) []
         → QueuesFlow history (queues_of plan) []
         → LegalJournal (hostiles cast) history (queues_of plan) journal
-        → Brisk (hostiles cast) (queues_of plan) no_drops journal → NetMoves plan trace (moved history journal)
+        → Brisk (hostiles cast) (queues_of plan) no_drops journal
+        → NetMoves plan trace (moved history journal)
         → SerialMoves plan trace (moved history journal)
         → BlkMoves plan trace (moved history journal) → length journal < budget_of plan trace }
 {}

@@ -14,8 +14,8 @@ pub record IsEndedOf (row : QueueRow) (e : EndedIs) : Type 0 where
   pub kinds : All (λ c. kind_of c.0 ≡ row.kind) e.left
   pub within : length e.left ≤ row.capacity
 
--- the queue of a row with the entries that are left, both bells as they were, and the index words at
--- what was taken and sent; no look is kept, and no word was stored
+-- the queue of a row with the entries that are left, both bells as they were, and the index words
+-- at what was taken and sent; no look is kept, and no word was stored
 abbrev pub adopted : QueueRow × EndedIs → Queue
 adopted x = record {
   kind = x.0.kind;

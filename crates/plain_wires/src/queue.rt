@@ -1,7 +1,7 @@
 //! One queue: what stands in it, its two bells, and the looks that answered yes and aren't used.
 
-ghost use Rattle.std.specs.Prelude.{◌≡◌, ◌<◌, ◌≤◌, ◌&&◌, not, true, false, length, IfOk, Some, None};
-ghost use Rattle.std.specs.Prelude.{[], ◌∷◌, nat_lt, nat_le};
+ghost use Rattle.std.specs.Prelude.{◌≡◌, ◌<◌, ◌≤◌, ◌&&◌, not, true, false, length, IfOk, Some};
+ghost use Rattle.std.specs.Prelude.{None, [], ◌∷◌, nat_lt, nat_le};
 ghost use Rattle.cargo_core.specs.Items.{kind_of};
 ghost use Rattle.wire_core.specs.Deeds.{answer_of};
 ghost use Rattle.wire_core.specs.Ends.{Condition, Consumer, Producer};

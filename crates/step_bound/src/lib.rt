@@ -27,7 +27,8 @@ pub fn brisk_law()
         (rows : List QueueRow) (journal : List Entry) (hops actors ends : ℕ)
         → AreCalm hostile rows → BellsHold hostile history rows []
         → QueuesFlow history rows [] → LegalJournal hostile history rows journal
-        → Brisk hostile rows drops journal → AreOwned rows actors → ((a : ℕ) → ends_of a rows ≤ ends)
+        → Brisk hostile rows drops journal → AreOwned rows actors
+        → ((a : ℕ) → ends_of a rows ≤ ends)
         → all_sent history rows journal + dropped drops journal ≤ hops → length journal < 32 *
         (hops + actors + 1) * (ends + 1) }
 {}
