@@ -3,7 +3,7 @@
 //! this project's own; that a client has one queue each way is sDDF's.
 
 ghost use Rattle.std.specs.Prelude.{◌≡◌, ◌+◌, ◌-◌, ◌<◌, ◌≤◌, ◌^◌, ◌==◌, ◌∷◌, [], ℕ, None, IfOk};
-ghost use Rattle.std.specs.Prelude.{OnErr, is_none, false, length, slice_get};
+ghost use Rattle.std.specs.Prelude.{OnErr, is_none, false, length, slice_get, List};
 ghost use Rattle.std.specs.Option.{option_to_list};
 ghost use Rattle.cargo_core.specs.Bodies.{buffers_of};
 ghost use Rattle.wire_core.specs.Ends.{role_of, Role, End};
