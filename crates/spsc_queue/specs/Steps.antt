@@ -1,5 +1,5 @@
 -- What each step on a ring tells.
-use Rattle.std.specs.Prelude.{◌≡◌, ◌≢◌, ℕ, ⊥, ◌+◌, ◌%◌, ◌<◌, Bool, true, false, not, List, [], ◌∷◌}
+use Rattle.std.specs.Prelude.{◌≡◌, ◌≢◌, ℕ, ◌+◌, ◌%◌, ◌<◌, Bool, true, false, not, List, [], ◌∷◌}
 use Rattle.std.specs.Prelude.{◌++◌, length, Option, Some, None, nat_eq, nat_lt, is_some}
 use Rattle.atomic_table.specs.Table.{Me, Step}
 use Rattle.cargo_core.specs.declared.item.QueueKind.{QueueKind}
