@@ -36,7 +36,10 @@ use Rattle.client_programs.specs.declared.net.program.NetProgram.{NetProgram}
 use Rattle.frame_core.specs.declared.mac.Mac.{Mac}
 use Rattle.actor_rows.specs.Hands.{OnlyAt, AreQueues}
 use Rattle.actor_rows.specs.Standings.{queue}
-use Rattle.actor_rows.specs.Sizes.{IsInput, IsOutput, AreFed, DeviceStands, LenderStands, CopierStands, ClientStands, pool}
+use Rattle.actor_rows.specs.Sizes.{IsInput, IsOutput, AreFed, DeviceStands, LenderStands, CopierStands, ClientStands, pool, AreFedEight, FourStand, IsNewFour}
+use Rattle.pipe_driver.specs.Drivers.{FitsPipes}
+use Rattle.eth_driver.specs.Four.{four_pipes}
+use Rattle.eth_driver.specs.declared.EthDriver.{EthDriver}
 use Rattle.actor_rows.proofs.NetTx.Fitting.{one_at, one_apart, intake_one, outlet_one}
 
 below : (n : ℕ) → (n ≡ 0) ⊎ (n ≡ 2) → n < 4
@@ -74,8 +77,8 @@ after_feed w u q at fed only = record {
 pub feed_there : (w : List Queue) (q : ℕ) → IsInput q → AreFed w → q < length w
 feed_there w q at fed = let few = below q at in let long = fed.long in omega (arith, few, long)
 
--- a call leaves four queues
-pub after_call : {A : Type 0} (S : A → Passed → Type 0) (w u : List Queue) (a b : A) (e : Event) → Stepped S (λ old d new. Happens old d new) w u a b e → length w ≡ 4 → length u ≡ 4
+-- a call leaves as many queues
+pub after_call : {A : Type 0} {n : ℕ} (S : A → Passed → Type 0) (w u : List Queue) (a b : A) (e : Event) → Stepped S (λ old d new. Happens old d new) w u a b e → length w ≡ n → length u ≡ n
 after_call S w u a b e st long = ap length st.happened.after_is ∙ (length-set w e.queue.0 _ ∙ long)
 
 -- and so does one for which memory was wanting
@@ -265,3 +268,64 @@ moved_pool base pages low one p = record {
   few = p.few;
   ends = omega (arith, low, one);
 }
+
+-- eight queues in their start state
+pub new_eight : (w : List Queue) → AreQueues Kind.Net 8 w → AreFedEight w
+new_eight w b = record {
+  long = b.long;
+  inputs = λ k lt. b.start Consumer (2 * k) (omega (arith, lt));
+  outputs = λ k lt. b.start Producer (2 * k + 1) (omega (arith, lt));
+  hands = λ k lt. ap (λ e. e.kind) (b.start Producer (2 * k) (omega (arith, lt)));
+}
+
+-- what the hand puts leaves the driver's ends
+pub after_pipe : (w u : List Queue) (k : ℕ) → k < 4 → AreFedEight w → OnlyAt Producer (2 * k) w u → AreFedEight u
+after_pipe w u k lt fed only = record {
+  long = only.long ∙ fed.long;
+  inputs = λ n few. only.rest Consumer (2 * n) (λ r same. absurd cc) ∙ fed.inputs n few;
+  outputs = λ n few. only.rest Producer (2 * n + 1) (λ r same. omega (arith, same)) ∙ fed.outputs n few;
+  hands = λ n few. only.kinds Producer (2 * n) ∙ fed.hands n few;
+}
+
+pub pipe_there : (w : List Queue) (k : ℕ) → k < 4 → AreFedEight w → 2 * k < length w
+pipe_there w k lt fed = let long = fed.long in omega (arith, lt, long)
+
+module _ (w : List Queue) (fed : AreFedEight w) where
+  pipe_at : (p : Pipe) (k : ℕ) → k < 4 → IsNewPipe (queue (2 * k)) (queue (2 * k + 1)) p → FitsPipe (end_at w) p
+  pipe_at p k lt new = record {
+    input = rw (new.input, new.input_state, fed.inputs k lt) (record { owned = refl; waiter = refl; ringer = refl; looked = λ h. absurd cc });
+    output = rw (new.output, new.output_state, fed.outputs k lt) (record { owned = refl; waiter = refl; ringer = refl; looked = λ h. absurd cc });
+    kinds = rw (new.input, new.output) (ap (λ e. e.kind) (fed.inputs k lt) ∙ sym (ap (λ e. e.kind) (fed.outputs k lt)));
+    load = for_none p.load (λ c. kind_of c.0 ≡ (end_at w Producer p.output.queue.0).kind) new.load;
+  }
+
+  pub new_four : (d : EthDriver) → IsNewFour d → FourStand w d
+  new_four d new =
+      let a : d.driver.pipes.first.input.queue.0 ≡ 0 = ap (λ (q : QueueId). q.0) new.first.input in
+      let b : d.driver.pipes.rest.first.input.queue.0 ≡ 2 = ap (λ (q : QueueId). q.0) new.second.input in
+      let c : d.driver.pipes.rest.rest.first.input.queue.0 ≡ 4 = ap (λ (q : QueueId). q.0) new.third.input in
+      let e : d.driver.pipes.rest.rest.rest.input.queue.0 ≡ 6 = ap (λ (q : QueueId). q.0) new.fourth.input in
+      let a' : d.driver.pipes.first.output.queue.0 ≡ 1 = ap (λ (q : QueueId). q.0) new.first.output in
+      let b' : d.driver.pipes.rest.first.output.queue.0 ≡ 3 = ap (λ (q : QueueId). q.0) new.second.output in
+      let c' : d.driver.pipes.rest.rest.first.output.queue.0 ≡ 5 = ap (λ (q : QueueId). q.0) new.third.output in
+      let e' : d.driver.pipes.rest.rest.rest.output.queue.0 ≡ 7 = ap (λ (q : QueueId). q.0) new.fourth.output in
+      record {
+        fits = record {
+          each = (
+            pipe_at d.driver.pipes.first 0 (omega arith) new.first,
+            (
+              pipe_at d.driver.pipes.rest.first 1 (omega arith) new.second,
+              (pipe_at d.driver.pipes.rest.rest.first 2 (omega arith) new.third, (pipe_at d.driver.pipes.rest.rest.rest 3 (omega arith) new.fourth, tt)),
+            ),
+          );
+          inputs = (
+            ((λ h. omega (arith, h, a, b)), ((λ h. omega (arith, h, a, c)), ((λ h. omega (arith, h, a, e)), tt))),
+            (((λ h. omega (arith, h, b, c)), ((λ h. omega (arith, h, b, e)), tt)), (((λ h. omega (arith, h, c, e)), tt), (tt, tt))),
+          );
+          outputs = (
+            ((λ h. omega (arith, h, a', b')), ((λ h. omega (arith, h, a', c')), ((λ h. omega (arith, h, a', e')), tt))),
+            (((λ h. omega (arith, h, b', c')), ((λ h. omega (arith, h, b', e')), tt)), (((λ h. omega (arith, h, c', e')), tt), (tt, tt))),
+          );
+        };
+        long = fed.long;
+      }

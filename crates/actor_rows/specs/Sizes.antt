@@ -1,6 +1,6 @@
 -- Actors of the network at four queues, of which the first and the third come to them and were
 -- filled by hand before.
-use Rattle.std.specs.Prelude.{◌≡◌, ◌⊎◌, ◌<◌, ◌^◌, ℕ, true, List, [], ◌∷◌, All, length}
+use Rattle.std.specs.Prelude.{◌≡◌, ◌⊎◌, ◌<◌, ◌+◌, ◌*◌, ◌^◌, ℕ, true, List, [], ◌∷◌, All, length}
 use Rattle.cargo_core.specs.declared.item.PoolId.{PoolId}
 use Rattle.cargo_core.specs.declared.item.QueueKind.TheVariants as Kind
 use Rattle.cargo_core.specs.Pages.{Paged}
@@ -17,6 +17,10 @@ use Rattle.net_copier.specs.declared.NetCopier.{NetCopier}
 use Rattle.client_programs.specs.Net.Clients.{FitsClient, IsNewClient}
 use Rattle.client_programs.specs.declared.net.NetClient.{NetClient}
 use Rattle.client_programs.specs.declared.net.program.NetProgram.{NetProgram}
+use Rattle.turn_kit.specs.Pipes.{IsNewPipe}
+use Rattle.pipe_driver.specs.Drivers.{FitsPipes}
+use Rattle.eth_driver.specs.Four.{four_pipes}
+use Rattle.eth_driver.specs.declared.EthDriver.{EthDriver}
 use Rattle.actor_rows.specs.Standings.{queue}
 
 -- the pool of all buffers of these tests
@@ -80,3 +84,25 @@ pub record IsNewSource (c : NetClient) : Type 0 where
   pub one : length pages ≡ 1
   pub one_spare : length spare ≡ 1
   pub short : All (λ frame. length frame < 2 ^ 16) script
+
+-- of eight queues of the network those of even number come to the actor and the others go from it:
+-- the actor's ends are in their start state
+pub record AreFedEight (w : List Queue) : Type 0 where
+  pub long : length w ≡ 8
+  pub inputs : (k : ℕ) → k < 4
+      → end_at w Consumer (2 * k) ≡ end_of true Kind.Net start_bells Consumer
+  pub outputs : (k : ℕ) → k < 4
+      → end_at w Producer (2 * k + 1) ≡ end_of true Kind.Net start_bells Producer
+  pub hands : (k : ℕ) → k < 4 → (end_at w Producer (2 * k)).kind ≡ Kind.Net
+
+-- a driver stands at eight queues that it fits
+pub record FourStand (w : List Queue) (d : EthDriver) : Type 0 where
+  pub fits : FitsPipes (end_at w) (four_pipes d.driver.pipes)
+  pub long : length w ≡ 8
+
+-- a driver in its start state, each of whose pipes leads from a queue of even number to the next
+pub record IsNewFour (d : EthDriver) : Type 0 where
+  pub first : IsNewPipe (queue 0) (queue 1) d.driver.pipes.first
+  pub second : IsNewPipe (queue 2) (queue 3) d.driver.pipes.rest.first
+  pub third : IsNewPipe (queue 4) (queue 5) d.driver.pipes.rest.rest.first
+  pub fourth : IsNewPipe (queue 6) (queue 7) d.driver.pipes.rest.rest.rest

@@ -6,9 +6,11 @@ ghost use Rattle.wire_core.specs.Queues.{Queue};
 ghost use Rattle.actor_rows.specs.Standings.{DriverStands, RxStands, TxStands};
 ghost use Rattle.actor_rows.specs.NetTx.Standings.{Stands};
 ghost use Rattle.actor_rows.specs.Sizes.{DeviceStands, LenderStands, CopierStands, ClientStands};
+ghost use Rattle.actor_rows.specs.Sizes.{FourStand};
 
 use client_programs::NetClient;
 use device_model::EthDevice;
+use eth_driver::EthDriver;
 use net_copier::NetCopier;
 use net_virt_rx::NetVirtRx;
 use net_virt_tx::NetVirtTx;
@@ -56,6 +58,14 @@ impl Alone for UartDriver {
 
 impl Alone for NetVirtTx {
     ghost stands = { Stands };
+
+    fn call(&mut self, world: &mut World) {
+        self.step(world);
+    }
+}
+
+impl Alone for EthDriver {
+    ghost stands = { FourStand };
 
     fn call(&mut self, world: &mut World) {
         self.step(world);

@@ -1,7 +1,7 @@
 //! Frames of 9,014 bytes in buffers of 16,384. Each actor of the network but the sending
-//! virtualiser stands alone at four queues: what comes to it was put by hand into the queues 0 and
-//! 2, and what it makes of that is found on the queues 1 and 3. A buffer of 4,096 bytes is too
-//! short for such a frame, and is left as it is.
+//! virtualiser stands alone at four queues, or eight for the driver: what comes to it was put by
+//! hand into queues of even number, and what it makes of that is found on the others. A buffer of
+//! 4,096 bytes is too short for such a frame, and is left as it is.
 
 ghost use Rattle.std.specs.Prelude.{◌≡◌, ◌<◌, ◌≤◌, ◌^◌, IfOk, All, length};
 ghost use Rattle.cargo_core.specs.Items.{kind_of};
@@ -12,6 +12,7 @@ ghost use Rattle.wire_core.specs.Lists.{nothing_passed};
 ghost use Rattle.device_model.specs.Ethernet.Devices.{IsNewDevice};
 ghost use Rattle.actor_rows.specs.Standings.{queue};
 ghost use Rattle.actor_rows.specs.Sizes.{AreFed, IsInput, IsNewLender, IsNewSource, pool};
+ghost use Rattle.actor_rows.specs.Sizes.{AreFedEight, IsNewFour};
 
 use crate::alone::settle;
 use crate::{get_entry, one_or_two, put_in, queues_of};
@@ -19,6 +20,7 @@ use cargo_core::{Body, FrameLog, Item, Memory, NetDesc, Page, PoolId, QueueKind}
 use client_programs::NetClient;
 use client_programs::net::NetProgram;
 use device_model::EthDevice;
+use eth_driver::EthDriver;
 use frame_core::Mac;
 use net_copier::NetCopier;
 use net_virt_rx::{LeaseEnds, NetVirtRx};
@@ -325,5 +327,63 @@ fn a_client_sends_and_records_the_longest_frame(rt: HostRuntime) -> Result<(), M
     assert!(rt; brings(&mut wires, QueueId(1), descriptor(0, 9_014), &longest()));
     assert!(rt; brings(&mut wires, QueueId(3), descriptor(0, 9_014), &longest()));
     assert!(rt; client.got().len() == 1 && is_longest(client.got().get(0)));
+    Ok(())
+}
+
+// Eight queues of two entries each, with nothing in them.
+fn eight(alloc: Global) -> Result<World, Memory>
+    ensures { IfOk result AreFedEight }
+{
+    queues_of(alloc, QueueKind::Net, 8, one_or_two(true))
+}
+
+// Puts an entry into the queue from which a pipe leads; false where there is no room.
+fn feed_pipe(world: &mut World, pipe: u16, item: Item, body: Body) -> bool
+    requires fed { AreFedEight world.old }
+    requires pipe { pipe < 4 }
+    requires kind { kind_of item ≡ Kind.Net }
+    ensures { AreFedEight world.new }
+{
+    put_in(world, QueueId(2 * pipe), item, body)
+}
+
+// A driver whose four pipes lead from the queues 0, 2, 4 and 6 to the next ones.
+fn driver() -> EthDriver
+    ensures { IsNewFour result }
+{
+    EthDriver::new(
+        [QueueId(1), QueueId(2), QueueId(5), QueueId(6)],
+        [QueueId(0), QueueId(3), QueueId(4), QueueId(7)],
+    )
+}
+
+// It has time to be at rest.
+fn run_driver(driver: &mut EthDriver, world: &mut World)
+    requires fed { AreFedEight world.old }
+    requires new { IsNewFour driver.old }
+    ensures { length world.new ≡ 8 }
+{
+    settle(driver, world);
+}
+
+#[test]
+fn a_driver_moves_the_longest_frame_with_its_buffer(rt: HostRuntime) -> Result<(), Memory> {
+    let alloc = rt.alloc();
+    let mut wires = eight(alloc)?;
+    let came = Body::Page(full(alloc, 0)?);
+    let sent = Body::Page(full(alloc, 1)?);
+    assert!(rt; feed_pipe(&mut wires, 1, descriptor(0, 9_014), came));
+    assert!(rt; feed_pipe(&mut wires, 2, descriptor(16_384, 9_014), sent));
+    let mut driver = driver();
+    run_driver(&mut driver, &mut wires);
+    assert!(rt; brings(&mut wires, QueueId(3), descriptor(0, 9_014), &longest()));
+    assert!(rt;
+        brings(
+            &mut wires,
+            QueueId(5),
+            descriptor(16_384, 9_014),
+            &longest()
+        )
+    );
     Ok(())
 }

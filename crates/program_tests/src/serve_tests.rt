@@ -18,18 +18,13 @@ fn shelf(alloc: Global, trace: &[u8]) -> Result<MemShelf, Fail> {
     Ok(shelf)
 }
 
-/// The words `play S T`.
-fn words(alloc: Global) -> Result<Vec<String>, Fail> {
-    let mut words = Vec::new(alloc);
-    for word in ["play", "S", "T"] {
-        words.push(String::from_str(alloc, word)?)?;
-    }
-    Ok(words)
-}
-
 /// How `play S T` ends.
 fn play(alloc: Global, shelf: &mut MemShelf, sink: &mut MemSink) -> Result<u8, Fail> {
-    let words = words(alloc)?;
+    let words = vec![in alloc;
+        String::from_str(alloc, "play")?,
+        String::from_str(alloc, "S")?,
+        String::from_str(alloc, "T")?,
+    ]?;
     let mut played = Played::Nothing;
     let status = serve_alone(alloc, &words, shelf, sink, &mut played);
     played.forget();
@@ -68,7 +63,11 @@ fn a_failing_write_leaves_the_beginning(rt: HostRuntime) -> Result<(), Fail> {
 #[test]
 fn a_sure_outside_has_no_faults(rt: HostRuntime) -> Result<(), Fail> {
     let alloc = rt.alloc();
-    let words = words(alloc)?;
+    let words = vec![in alloc;
+        String::from_str(alloc, "play")?,
+        String::from_str(alloc, "S")?,
+        String::from_str(alloc, "T")?,
+    ]?;
     let desc = Text::new(alloc, "protection_domain = []\n")?;
     let mut shelf = SureShelf::new(Text::new(alloc, "S")?, desc, Text::new(alloc, "")?);
     let mut sink = SureSink::new();
