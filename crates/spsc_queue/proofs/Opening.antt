@@ -71,6 +71,8 @@ starts kind n some_place few divides = let hs : List (maybe.Option Slot) = map s
       words_are = refl;
       forward_told = record { flag_is = refl; settled_within = omega arith; pending_is = refl; woken_within = omega arith };
       backward_told = record { flag_is = refl; settled_within = omega arith; pending_is = refl; woken_within = omega arith };
+      room_ahead = omega arith;
+      entries_ahead = omega arith;
       forward = record { signalled = λ is. cc; asked = λ is. ⊎_elim (λ z. cc) (λ z. cc) is; counted = omega arith };
       backward = record { signalled = λ is. cc; asked = λ is. ⊎_elim (λ z. cc) (λ z. cc) is; counted = omega arith };
     };

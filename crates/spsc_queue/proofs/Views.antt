@@ -13,9 +13,9 @@ use Rattle.wire_core.specs.Ends.{is_clear, is_free_or_put}
 use Rattle.spsc_queue.specs.declared.view.Half.{Half}
 use Rattle.spsc_queue.specs.declared.view.View.{View}
 use Rattle.spsc_queue.specs.Rule.{Slot, wrap, EndsHold, RingHolds}
-use Rattle.spsc_queue.specs.Steps.{Seated, slots_held, room_done, put_done, tells_room, room_told, sent_one, with_producer, with_consumer, see_told, took_one, take_done, see_done, tells_entry, Granted, producing_part, consuming_part, whole, memory_of, spent, sent_home, producer_home, consumer_home}
+use Rattle.spsc_queue.specs.Steps.{Seated, slots_held, room_done, room_again, put_done, tells_room, room_ahead, room_read, room_kept, sent_one, with_producer, with_consumer, see_read, see_kept, took_one, take_done, see_done, see_again, tells_entry, entries_ahead, Granted, producing_part, consuming_part, whole, memory_of, spent, sent_home, producer_home, consumer_home}
 use Rattle.spsc_queue.proofs.Places.{below, one_more}
-use Rattle.spsc_queue.proofs.Ends.{LooksRoom, room_step, put_ends, LooksEntry, see_step, take_ends, first_time, home_ends, home_back_ends}
+use Rattle.spsc_queue.proofs.Ends.{LooksRoom, room_step, room_known, put_ends, LooksEntry, see_step, see_known, take_ends, first_time, home_ends, home_back_ends}
 
 module _ (kind : QueueKind) (s : State Slot View) (r : RingHolds kind s) (id : ℕ) (v : View) where
   -- the producing seat's view is the one that the rule speaks of
@@ -137,13 +137,26 @@ module _ (kind : QueueKind) (slots id : ℕ) (me : Seated) where
       let e = producer_ends s r size at does in let p : Half = me.0.producer in let c : Half = r.consuming.consumer in let t : ℕ = wrap (length c.entries) in let x : ℕ = slice_index s.words 0 in
       let word : t ≡ x = ap (λ (z : List ℕ). slice_index z 0) (sym e.shared.words_are) in
       let same : set s.words 0 x ≡ s.words = ap (λ (z : List ℕ). set z 0 (slice_index z 0)) e.shared.words_are ∙ sym e.shared.words_are in
-      let go : LooksRoom kind slots s.words s.homes p c (tells_room slots (length p.entries) x) x me.1 =
-      subst (λ (z : ℕ × List (ℕ × Slot)). LooksRoom kind slots s.words s.homes p c (tells_room slots (length p.entries) z.0) z.0 z.1) (λ k. (word k, sym holding k)) (room_step kind slots s.words s.homes p c e calm) in (
-        with_producer me.0 (room_told slots p 0 x),
+      let go : LooksRoom kind slots s.words s.homes p c (tells_room slots (length p.entries) x) 0 x (room_ahead slots (length p.entries) x) me.1 =
+      subst (λ (z : ℕ × List (ℕ × Slot)). LooksRoom kind slots s.words s.homes p c (tells_room slots (length p.entries) z.0) 0 z.0 (room_ahead slots (length p.entries) z.0) z.1) (λ k. (word k, sym holding k)) (room_step kind slots s.words s.homes p c e calm) in (
+        with_producer me.0 (room_read slots p 0 x),
         go.0,
         go.1,
-        producer_steps kind s r id me.0 (room_told slots p 0 x) (set s.words 0 x) (homes_after s.homes me.1 go.0) slots at does not (subst (λ (z : List ℕ). EndsHold kind slots z (homes_after s.homes me.1 go.0) (room_told slots p 0 x) c) (sym same) go.2),
+        producer_steps kind s r id me.0 (room_read slots p 0 x) (set s.words 0 x) (homes_after s.homes me.1 go.0) slots at does not (subst (λ (z : List ℕ). EndsHold kind slots z (homes_after s.homes me.1 go.0) (room_read slots p 0 x) c) (sym same) go.2),
         (subst (λ (z : ℕ). z < 65536) word (mod-lt (length c.entries) (lit< tt)), refl, go.3),
+      )
+
+  pub room_again_allowed : me.0.produces ≡ true → me.0.consumes ≡ false → is_clear me.0.producer.waiter ≡ false → 0 < me.0.producer.ahead → me.1 ≡ slots_held me.0.producer.grant (length me.0.producer.entries % slots)
+      → Allows (RingHolds kind) slots id me 1 (λ n. n) (room_again (step slots 1 0 0 none) me)
+  room_again_allowed does not calm more holding s r size at bound =
+      let e = producer_ends s r size at does in let p : Half = me.0.producer in let c : Half = r.consuming.consumer in let x : ℕ = slice_index s.words 1 in
+      let same : set s.words 1 x ≡ s.words = ap (λ (z : List ℕ). set z 1 (slice_index z 1)) e.shared.words_are ∙ sym e.shared.words_are in
+      let go : LooksRoom kind slots s.words s.homes p c true 1 x p.ahead me.1 = subst (LooksRoom kind slots s.words s.homes p c true 1 x p.ahead) (sym holding) (room_known kind slots s.words s.homes p c e 1 x calm more) in (
+        with_producer me.0 (room_kept p 1 x),
+        go.0,
+        go.1,
+        producer_steps kind s r id me.0 (room_kept p 1 x) (set s.words 1 x) (homes_after s.homes me.1 go.0) slots at does not (subst (λ (z : List ℕ). EndsHold kind slots z (homes_after s.homes me.1 go.0) (room_kept p 1 x) c) (sym same) go.2),
+        (refl, go.3),
       )
 
   pub put_allowed : (x : Cargo) (time new : ℕ) → me.0.produces ≡ true → me.0.consumes ≡ false → kind_of x.0 ≡ me.0.producer.kind → is_clear me.0.producer.waiter ≡ false → is_free_or_put me.0.producer.ringer ≡ true → me.0.producer.grant ≡ Some None
@@ -214,14 +227,27 @@ module _ (kind : QueueKind) (slots id : ℕ) (me : Seated) where
       → Allows (RingHolds kind) slots id me 1 (λ n. n) (see_done (step slots 1 0 0 none) me)
   see_allowed does not calm holding s r size at bound = let e = consumer_ends s r size at does in let c : Half = me.0.consumer in let p : Half = r.producing.producer in let t : ℕ = wrap (length p.entries) in let x : ℕ = slice_index s.words 1 in
       let word : t ≡ x = ap (λ (z : List ℕ). slice_index z 1) (sym e.shared.words_are) in let same : set s.words 1 x ≡ s.words = ap (λ (z : List ℕ). set z 1 (slice_index z 1)) e.shared.words_are ∙ sym e.shared.words_are in
-      let go : LooksEntry kind slots s.words s.homes p c (tells_entry (length c.entries) x) x me.1 =
-      subst (λ (z : ℕ × List (ℕ × Slot)). LooksEntry kind slots s.words s.homes p c (tells_entry (length c.entries) z.0) z.0 z.1) (λ k. (word k, sym holding k)) (see_step kind slots s.words s.homes p c e calm) in (
-        with_consumer me.0 (see_told go.2.0 c 1 x),
+      let go : LooksEntry kind slots s.words s.homes p c (tells_entry (length c.entries) x) 1 x (entries_ahead (length c.entries) x) me.1 =
+      subst (λ (z : ℕ × List (ℕ × Slot)). LooksEntry kind slots s.words s.homes p c (tells_entry (length c.entries) z.0) 1 z.0 (entries_ahead (length c.entries) z.0) z.1) (λ k. (word k, sym holding k)) (see_step kind slots s.words s.homes p c e calm) in (
+        with_consumer me.0 (see_read go.2.0 c 1 x),
         go.0,
         go.1,
-        consumer_steps kind s r id me.0 (see_told go.2.0 c 1 x) (set s.words 1 x) (homes_after s.homes me.1 go.0) slots at does not
-            (subst (λ (z : List ℕ). EndsHold kind slots z (homes_after s.homes me.1 go.0) p (see_told go.2.0 c 1 x)) (sym same) go.2.2),
+        consumer_steps kind s r id me.0 (see_read go.2.0 c 1 x) (set s.words 1 x) (homes_after s.homes me.1 go.0) slots at does not
+            (subst (λ (z : List ℕ). EndsHold kind slots z (homes_after s.homes me.1 go.0) p (see_read go.2.0 c 1 x)) (sym same) go.2.2),
         (go.2.0, subst (λ (z : QueueKind). Granted z (tells_entry (length c.entries) x) go.2.0) (sym e.lists.consumer_kind) go.2.1, refl, go.2.3),
+      )
+
+  pub see_again_allowed : me.0.consumes ≡ true → me.0.produces ≡ false → is_clear me.0.consumer.waiter ≡ false → 0 < me.0.consumer.ahead → me.1 ≡ slots_held me.0.consumer.grant (length me.0.consumer.entries % slots)
+      → Allows (RingHolds kind) slots id me 0 (λ n. n) (see_again (step slots 0 0 0 none) me)
+  see_again_allowed does not calm more holding s r size at bound = let e = consumer_ends s r size at does in let c : Half = me.0.consumer in let p : Half = r.producing.producer in let x : ℕ = slice_index s.words 0 in
+      let same : set s.words 0 x ≡ s.words = ap (λ (z : List ℕ). set z 0 (slice_index z 0)) e.shared.words_are ∙ sym e.shared.words_are in
+      let go : LooksEntry kind slots s.words s.homes p c true 0 x c.ahead me.1 = subst (LooksEntry kind slots s.words s.homes p c true 0 x c.ahead) (sym holding) (see_known kind slots s.words s.homes p c e 0 x calm more) in (
+        with_consumer me.0 (see_kept go.2.0 c 0 x),
+        go.0,
+        go.1,
+        consumer_steps kind s r id me.0 (see_kept go.2.0 c 0 x) (set s.words 0 x) (homes_after s.homes me.1 go.0) slots at does not
+            (subst (λ (z : List ℕ). EndsHold kind slots z (homes_after s.homes me.1 go.0) p (see_kept go.2.0 c 0 x)) (sym same) go.2.2),
+        (go.2.0, subst (λ (z : QueueKind). Granted z true go.2.0) (sym e.lists.consumer_kind) go.2.1, refl, go.2.3),
       )
 
   pub take_allowed : (x : Cargo) (new : ℕ) → me.0.consumes ≡ true → me.0.produces ≡ false → is_clear me.0.consumer.waiter ≡ false → is_free_or_put me.0.consumer.ringer ≡ true → me.0.consumer.grant ≡ Some (Some x) → new ≡ wrap (length me.0.consumer.entries + 1)

@@ -92,7 +92,8 @@ pub record WordsTold (flag pending wishes : Bool) (asks settled rings woken : �
   pub woken_within : woken ≤ rings
 
 -- the words: the two indices, and the flag and pending word of each bell, which are what the two
--- ends did and meet the bell law
+-- ends did and meet the bell law; and for what an end may still put or take there is room, or it is
+-- there
 pub record WordsHold (n : ℕ) (words : List ℕ) (left : List Cargo) (p c : Half) : Type 0 where
   pub flag : Bool
   pub pending : Bool
@@ -102,6 +103,8 @@ pub record WordsHold (n : ℕ) (words : List ℕ) (left : List Cargo) (p c : Hal
       ∷ bit pending ∷ bit flag_back ∷ bit pending_back ∷ []
   pub forward_told : WordsTold flag pending c.wishes c.asks p.settled p.rings c.woken
   pub backward_told : WordsTold flag_back pending_back p.wishes p.asks c.settled c.rings p.woken
+  pub room_ahead : p.ahead + length left ≤ n
+  pub entries_ahead : c.ahead ≤ length left
   pub forward : BellHolds (forward_bell flag pending p c) (nat_lt 0 (length left))
       (length p.entries)
   pub backward : BellHolds (backward_bell flag_back pending_back p c) (nat_lt (length left) n)
@@ -142,6 +145,7 @@ first_producer k = record {
   ringer = Rung.Free;
   grant = None;
   noes = 0;
+  ahead = 0;
   wishes = false;
   asks = 0;
   woken = 0;
@@ -160,6 +164,7 @@ first_consumer k = record {
   ringer = Rung.Free;
   grant = None;
   noes = 0;
+  ahead = 0;
   wishes = true;
   asks = 1;
   woken = 0;

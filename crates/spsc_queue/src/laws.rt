@@ -31,7 +31,8 @@ pub fn ring_law()
     ensures event { (kind : QueueKind) (n : ℕ) (words : List ℕ) (homes : List (maybe.Option Slot))
         (p c : Half) (o : Op) (a : Answer) (cargo : List Cargo) (h : Half)
         → EndsHold kind n words homes p c → Condition (known_end (half_of (role_of o) p c)) o
-        → CallDid n (half_of (role_of o) p c) o (read_by words o) a cargo h
+        → CallDid n (half_of (role_of o) p c) o (read_by words (half_of (role_of o) p c) o)
+        a cargo h
         → IsEvent kind n words p c o a cargo h }
     ensures words { (kind : QueueKind) (n : ℕ) (words : List ℕ) (homes : List (maybe.Option Slot))
         (p c : Half) → EndsHold kind n words homes p c → words ≡ words_of p c }

@@ -1,10 +1,11 @@
 //! The producing end: each call is one step on one word of the ring, and the queue law's next event
 //! on its queue.
-ghost use Rattle.std.specs.Prelude.{◌≡◌, [], ◌∷◌, ◌++◌};
+ghost use Rattle.std.specs.Prelude.{◌≡◌, ◌<◌, [], ◌∷◌, ◌++◌, length};
 ghost use Rattle.cargo_core.specs.Items.{kind_of};
 ghost use Rattle.wire_core.specs.Deeds.{answer_of};
 ghost use Rattle.wire_core.specs.Ends.{Condition};
-ghost use Rattle.spsc_queue.specs.Steps.{EndDid, known_end};
+ghost use Rattle.spsc_queue.specs.Steps.{EndDid, known_end, last_value, tells_room, room_kept};
+ghost use Rattle.spsc_queue.specs.Steps.{room_read};
 
 use crate::clock::Clock;
 use crate::plays;
@@ -14,12 +15,14 @@ use cargo_core::{Body, Item};
 use std::marker::Model;
 use wire_core::{Answer, Op, Ringer, Side, Waiter};
 
-/// The end that puts entries. It keeps its own index and what it is about on the two bells; its
-/// calls take no memory and wait for nobody.
+/// The end that puts entries. It keeps its own index, for how many entries there is room by the
+/// head that it read last, and what it is about on the two bells; its calls take no memory and wait
+/// for nobody.
 #[derive(Drop)]
 pub struct Producer {
     pub(crate) seat: Place,
     pub(crate) tail: u16,
+    pub(crate) ahead: u64,
     pub(crate) waiter: Waiter,
     pub(crate) ringer: Ringer,
 }
@@ -37,7 +40,41 @@ impl Model for Producer {
 }
 
 impl Producer {
-    /// Whether the queue has room at this step. A no makes a waiter that asked clear.
+    // A look at its own index, where it knows of room.
+    fn room_again(&mut self, ring: &Ring)
+        requires own { self.old.ring ≡ ring.now.id }
+        requires condition { Condition (known_end self.old.knows) Op.Room }
+        requires known { 0 < self.old.knows.ahead }
+        ensures own { self.new.ring ≡ self.old.ring }
+        ensures did { self.new.knows ≡ room_kept self.old.knows 1 (last_value self.new.knows) }
+    {
+        ring.table
+            .shared
+            .load::<plays::RoomAgain>(&mut self.seat, TAIL);
+    }
+
+    // A look at the head.
+    fn room_anew(&mut self, ring: &Ring) -> bool
+        requires own { self.old.ring ≡ ring.now.id }
+        requires condition { Condition (known_end self.old.knows) Op.Room }
+        ensures own { self.new.ring ≡ self.old.ring }
+        ensures did { self.new.knows ≡ room_read self.old.ring.slots self.old.knows 0
+            (last_value self.new.knows) }
+        ensures answer { result ≡ tells_room self.old.ring.slots (length self.old.knows.entries)
+            (last_value self.new.knows) }
+    {
+        let head = ring.table.shared.load::<plays::Room>(&mut self.seat, HEAD);
+        let has_room = (head as u16).wrapping_add(ring.capacity) != self.tail;
+        let end = head % 65536 + u64::from(ring.capacity);
+        self.ahead = (end + (65536 - u64::from(self.tail))) % 65536;
+        if !has_room && self.waiter == Waiter::Asked {
+            self.waiter = Waiter::Clear;
+        }
+        has_room
+    }
+
+    /// Whether the queue has room at this step. A no makes a waiter that asked clear. Where the head
+    /// that was read last tells of room, it isn't read again: a look at one's own index is the step.
     pub fn room(&mut self, ring: &Ring) -> bool
         requires own { self.old.ring ≡ ring.now.id }
         requires condition { Condition (known_end self.old.knows) Op.Room }
@@ -45,12 +82,11 @@ impl Producer {
         ensures did { EndDid self.old.ring.slots self.old.knows Op.Room
             (answer_of result) [] self.new.knows }
     {
-        let head = ring.table.shared.load::<plays::Room>(&mut self.seat, HEAD);
-        let has_room = (head as u16).wrapping_add(ring.capacity) != self.tail;
-        if !has_room && self.waiter == Waiter::Asked {
-            self.waiter = Waiter::Clear;
+        if self.ahead != 0 {
+            self.room_again(ring);
+            return true;
         }
-        has_room
+        self.room_anew(ring)
     }
 
     /// Puts an entry of the ring's kind behind the others, at the time that the caller picks. The
@@ -74,6 +110,7 @@ impl Producer {
             .shared
             .store::<plays::Put<C>>(&mut self.seat, TAIL, u64::from(next));
         self.tail = next;
+        self.ahead = self.ahead.saturating_sub(1);
         self.ringer = Ringer::Put;
         drop(old);
     }

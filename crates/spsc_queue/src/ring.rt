@@ -59,12 +59,14 @@ pub fn open(
         Producer {
             seat,
             tail: 0,
+            ahead: 0,
             waiter: Waiter::Off,
             ringer: Ringer::Free,
         },
         Consumer {
             seat: other,
             head: 0,
+            ahead: 0,
             waiter: Waiter::Busy,
             ringer: Ringer::Free,
         },
