@@ -15,7 +15,7 @@ use Rattle.wire_core.specs.Ends.{Condition, role_of}
 use Rattle.wire_core.specs.Queues.{Queue, queue_after}
 use Rattle.spsc_queue.specs.declared.view.Half.{Half}
 use Rattle.spsc_queue.specs.Rule.{Slot, wrap, ListsHold, EndsHold}
-use Rattle.spsc_queue.specs.Steps.{empty_if, after_look, Granted, tells_room, tells_entry, room_ahead, entries_ahead, knows_one, room_kept, room_read, see_kept, see_read, sent_one, took_one, after_wake, after_wanted, known_end, CallDid}
+use Rattle.spsc_queue.specs.Steps.{empty_if, after_look, Granted, tells_room, tells_entry, room_ahead, entries_ahead, knows_one, sent_one, took_one, after_wake, after_wanted, known_end, CallDid}
 use Rattle.spsc_queue.specs.Shown.{ring_queue, half_of, words_after, read_by, IsEvent}
 use Rattle.spsc_queue.proofs.Looks.{room_tells, entry_tells}
 use Rattle.spsc_queue.proofs.Calls.{granted_some}
@@ -67,7 +67,7 @@ module _ (kind : QueueKind) (n : ℕ) (hs : List (maybe.Option Slot)) (p c : Hal
   see_after false w r k g h = subst (λ (z : Option Slot). ring_queue kind n words p (after_look false w r z k c) ≡ queue_after shown Do.See (answer_of false) []) (sym h) refl
 
   see_goes : (b : Bool) (g : Option Slot) → Granted c.kind (b || tells_entry (length c.entries) (slice_index words (if b then 0 else 1))) g
-      → ring_queue kind n (slice_set words (if b then 0 else 1) (slice_index words (if b then 0 else 1))) p (if b then see_kept g c 0 (slice_index words (if b then 0 else 1)) else see_read g c 1 (slice_index words (if b then 0 else 1))) ≡ queue_after shown Do.See (answer_of (b || tells_entry (length c.entries) (slice_index words (if b then 0 else 1)))) []
+      → ring_queue kind n (slice_set words (if b then 0 else 1) (slice_index words (if b then 0 else 1))) p (after_look (b || tells_entry (length c.entries) (slice_index words (if b then 0 else 1))) (if b then 0 else 1) (slice_index words (if b then 0 else 1)) g (if b then c.ahead else entries_ahead (length c.entries) (slice_index words (if b then 0 else 1))) c) ≡ queue_after shown Do.See (answer_of (b || tells_entry (length c.entries) (slice_index words (if b then 0 else 1)))) []
   see_goes true g h = see_after true 0 (wrap (length c.entries)) c.ahead g h
   see_goes false g h = see_after (tells_entry (length c.entries) (wrap (length p.entries))) 1 (wrap (length p.entries)) (entries_ahead (length c.entries) (wrap (length p.entries))) g h
 
@@ -75,7 +75,7 @@ module _ (kind : QueueKind) (n : ℕ) (hs : List (maybe.Option Slot)) (p c : Hal
   room_after true w r k = refl
   room_after false w r k = refl
 
-  room_goes : (b : Bool) → ring_queue kind n (slice_set words (if b then 1 else 0) (slice_index words (if b then 1 else 0))) (if b then room_kept p 1 (slice_index words (if b then 1 else 0)) else room_read n p 0 (slice_index words (if b then 1 else 0))) c
+  room_goes : (b : Bool) → ring_queue kind n (slice_set words (if b then 1 else 0) (slice_index words (if b then 1 else 0))) (after_look (b || tells_room n (length p.entries) (slice_index words (if b then 1 else 0))) (if b then 1 else 0) (slice_index words (if b then 1 else 0)) (empty_if (b || tells_room n (length p.entries) (slice_index words (if b then 1 else 0)))) (if b then p.ahead else room_ahead n (length p.entries) (slice_index words (if b then 1 else 0))) p) c
       ≡ queue_after shown Do.Room (answer_of (b || tells_room n (length p.entries) (slice_index words (if b then 1 else 0)))) []
   room_goes true = room_after true 1 (wrap (length p.entries)) p.ahead
   room_goes false = room_after (tells_room n (length p.entries) (wrap (length c.entries))) 0 (wrap (length c.entries)) (room_ahead n (length p.entries) (wrap (length c.entries)))

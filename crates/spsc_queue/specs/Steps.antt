@@ -128,7 +128,9 @@ room_answer n h r = knows_one h || tells_room n (length h.entries) r
 -- the producer after a look for room whose step read r: at its own index where it knows of room,
 -- and else at the head
 abbrev pub room_told : ℕ → Half → ℕ → Half
-room_told n h r = if knows_one h then room_kept h 1 r else room_read n h 0 r
+room_told n h r = after_look (room_answer n h r) (if knows_one h then 1 else 0) r
+    (empty_if (room_answer n h r))
+    (if knows_one h then h.ahead else room_ahead n (length h.entries) r) h
 
 -- the producer after a put at a time, where r was stored at the word w
 abbrev pub sent_one : Cargo → ℕ → ℕ → ℕ → Half → Half
@@ -185,7 +187,8 @@ see_answer h r = knows_one h || tells_entry (length h.entries) r
 -- the consumer after a look for an entry whose step read r: at its own index where it knows of one,
 -- and else at the tail
 abbrev pub see_told : Option Slot → Half → ℕ → Half
-see_told g h r = if knows_one h then see_kept g h 0 r else see_read g h 1 r
+see_told g h r = after_look (see_answer h r) (if knows_one h then 0 else 1) r g
+    (if knows_one h then h.ahead else entries_ahead (length h.entries) r) h
 
 -- the consumer after it took what was put at a time, where r was stored at the word w
 abbrev pub took_one : Cargo → ℕ → ℕ → ℕ → Half → Half
