@@ -14,7 +14,7 @@ use Rattle.wire_core.specs.Deeds.{Cargo, answer_of}
 use Rattle.wire_core.specs.Ends.{Condition, role_of}
 use Rattle.wire_core.specs.Queues.{Queue, queue_after}
 use Rattle.spsc_queue.specs.declared.view.Half.{Half}
-use Rattle.spsc_queue.specs.Rule.{Slot, wrap, ListsHold, EndsHold}
+use Rattle.spsc_queue.specs.Rule.{Slot, wrap, head_word, tail_word, flag_word, pending_word, laid, ListsHold, EndsHold}
 use Rattle.spsc_queue.specs.Steps.{empty_if, after_look, Granted, tells_room, tells_entry, room_ahead, entries_ahead, knows_one, sent_one, took_one, after_wake, after_wanted, known_end, CallDid}
 use Rattle.spsc_queue.specs.Shown.{ring_queue, half_of, words_after, read_by, IsEvent}
 use Rattle.spsc_queue.proofs.Looks.{room_tells, entry_tells}
@@ -36,7 +36,7 @@ drop_next (suc t) (x ∷ xs) = drop_next t xs
 
 module _ (kind : QueueKind) (n : ℕ) (hs : List (maybe.Option Slot)) (p c : Half) (l : ListsHold kind n hs p c) (ra : p.ahead + length l.left ≤ n) (ea : c.ahead ≤ length l.left) (flag pending flag_back pending_back : Bool) where
   abbrev words : List ℕ
-  words = wrap (length c.entries) ∷ wrap (length p.entries) ∷ bit flag ∷ bit pending ∷ bit flag_back ∷ bit pending_back ∷ []
+  words = laid (wrap (length c.entries)) (wrap (length p.entries)) (bit flag) (bit pending) (bit flag_back) (bit pending_back)
 
   abbrev shown : Queue
   shown = ring_queue kind n words p c
@@ -54,11 +54,11 @@ module _ (kind : QueueKind) (n : ℕ) (hs : List (maybe.Option Slot)) (p c : Hal
   room_answers = ap (λ (z : ℕ). tells_room n z (wrap (length c.entries))) counts ∙ (room_tells n (length c.entries) (length l.left) l.slots.within l.few ∙ ap (λ (z : List Cargo). nat_lt (length z) n) (sym left_is))
 
   -- what the looks answer, also where they need no other index
-  see_answers : (b : Bool) → knows_one c ≡ b → (b || tells_entry (length c.entries) (slice_index words (if b then 0 else 1))) ≡ nat_lt 0 (length (drop (length c.entries) p.entries))
+  see_answers : (b : Bool) → knows_one c ≡ b → (b || tells_entry (length c.entries) (slice_index words (if b then head_word else tail_word))) ≡ nat_lt 0 (length (drop (length c.entries) p.entries))
   see_answers true is = let some = ltb-true 0 c.ahead is in sym (ap (λ (z : List Cargo). nat_lt 0 (length z)) left_is ∙ lt-ltb 0 (length l.left) (omega (arith, ea, some)))
   see_answers false is = entry_answers
 
-  room_answers_too : (b : Bool) → knows_one p ≡ b → (b || tells_room n (length p.entries) (slice_index words (if b then 1 else 0))) ≡ nat_lt (length (drop (length c.entries) p.entries)) n
+  room_answers_too : (b : Bool) → knows_one p ≡ b → (b || tells_room n (length p.entries) (slice_index words (if b then tail_word else head_word))) ≡ nat_lt (length (drop (length c.entries) p.entries)) n
   room_answers_too true is = let some = ltb-true 0 p.ahead is in sym (ap (λ (z : List Cargo). nat_lt (length z) n) left_is ∙ lt-ltb (length l.left) n (omega (arith, ra, some)))
   room_answers_too false is = room_answers
 
@@ -66,40 +66,40 @@ module _ (kind : QueueKind) (n : ℕ) (hs : List (maybe.Option Slot)) (p c : Hal
   see_after true w r k g h = subst (λ (z : Option Slot). ring_queue kind n words p (after_look true w r z k c) ≡ queue_after shown Do.See (answer_of true) []) (sym h.1) refl
   see_after false w r k g h = subst (λ (z : Option Slot). ring_queue kind n words p (after_look false w r z k c) ≡ queue_after shown Do.See (answer_of false) []) (sym h) refl
 
-  see_goes : (b : Bool) (g : Option Slot) → Granted c.kind (b || tells_entry (length c.entries) (slice_index words (if b then 0 else 1))) g
-      → ring_queue kind n (slice_set words (if b then 0 else 1) (slice_index words (if b then 0 else 1))) p (after_look (b || tells_entry (length c.entries) (slice_index words (if b then 0 else 1))) (if b then 0 else 1) (slice_index words (if b then 0 else 1)) g (if b then c.ahead else entries_ahead (length c.entries) (slice_index words (if b then 0 else 1))) c) ≡ queue_after shown Do.See (answer_of (b || tells_entry (length c.entries) (slice_index words (if b then 0 else 1)))) []
-  see_goes true g h = see_after true 0 (wrap (length c.entries)) c.ahead g h
-  see_goes false g h = see_after (tells_entry (length c.entries) (wrap (length p.entries))) 1 (wrap (length p.entries)) (entries_ahead (length c.entries) (wrap (length p.entries))) g h
+  see_goes : (b : Bool) (g : Option Slot) → Granted c.kind (b || tells_entry (length c.entries) (slice_index words (if b then head_word else tail_word))) g
+      → ring_queue kind n (slice_set words (if b then head_word else tail_word) (slice_index words (if b then head_word else tail_word))) p (after_look (b || tells_entry (length c.entries) (slice_index words (if b then head_word else tail_word))) (if b then head_word else tail_word) (slice_index words (if b then head_word else tail_word)) g (if b then c.ahead else entries_ahead (length c.entries) (slice_index words (if b then head_word else tail_word))) c) ≡ queue_after shown Do.See (answer_of (b || tells_entry (length c.entries) (slice_index words (if b then head_word else tail_word)))) []
+  see_goes true g h = see_after true head_word (wrap (length c.entries)) c.ahead g h
+  see_goes false g h = see_after (tells_entry (length c.entries) (wrap (length p.entries))) tail_word (wrap (length p.entries)) (entries_ahead (length c.entries) (wrap (length p.entries))) g h
 
   room_after : (b : Bool) (w r k : ℕ) → ring_queue kind n words (after_look b w r (empty_if b) k p) c ≡ queue_after shown Do.Room (answer_of b) []
   room_after true w r k = refl
   room_after false w r k = refl
 
-  room_goes : (b : Bool) → ring_queue kind n (slice_set words (if b then 1 else 0) (slice_index words (if b then 1 else 0))) (after_look (b || tells_room n (length p.entries) (slice_index words (if b then 1 else 0))) (if b then 1 else 0) (slice_index words (if b then 1 else 0)) (empty_if (b || tells_room n (length p.entries) (slice_index words (if b then 1 else 0)))) (if b then p.ahead else room_ahead n (length p.entries) (slice_index words (if b then 1 else 0))) p) c
-      ≡ queue_after shown Do.Room (answer_of (b || tells_room n (length p.entries) (slice_index words (if b then 1 else 0)))) []
-  room_goes true = room_after true 1 (wrap (length p.entries)) p.ahead
-  room_goes false = room_after (tells_room n (length p.entries) (wrap (length c.entries))) 0 (wrap (length c.entries)) (room_ahead n (length p.entries) (wrap (length c.entries)))
+  room_goes : (b : Bool) → ring_queue kind n (slice_set words (if b then tail_word else head_word) (slice_index words (if b then tail_word else head_word))) (after_look (b || tells_room n (length p.entries) (slice_index words (if b then tail_word else head_word))) (if b then tail_word else head_word) (slice_index words (if b then tail_word else head_word)) (empty_if (b || tells_room n (length p.entries) (slice_index words (if b then tail_word else head_word)))) (if b then p.ahead else room_ahead n (length p.entries) (slice_index words (if b then tail_word else head_word))) p) c
+      ≡ queue_after shown Do.Room (answer_of (b || tells_room n (length p.entries) (slice_index words (if b then tail_word else head_word)))) []
+  room_goes true = room_after true tail_word (wrap (length p.entries)) p.ahead
+  room_goes false = room_after (tells_room n (length p.entries) (wrap (length c.entries))) head_word (wrap (length c.entries)) (room_ahead n (length p.entries) (wrap (length c.entries)))
 
-  take_after : (x : Cargo) (time : ℕ) → ring_queue kind n (words_after words c Do.Take) p (took_one x time 0 (wrap (length c.entries + 1)) c) ≡ queue_after shown Do.Take Done (x ∷ [])
+  take_after : (x : Cargo) (time : ℕ) → ring_queue kind n (words_after words c Do.Take) p (took_one x time head_word (wrap (length c.entries + 1)) c) ≡ queue_after shown Do.Take Done (x ∷ [])
   take_after x time = let more : length (c.entries ++ x ∷ []) ≡ suc (length c.entries) = length-append c.entries (x ∷ []) ∙ (let z : length c.entries + 1 ≡ suc (length c.entries) = omega arith in z) in
       ap (λ (z : List Cargo). record (queue_after shown Do.Take Done (x ∷ [])) { entries = z }) (ap (λ (z : ℕ). drop z p.entries) more ∙ drop_next (length c.entries) p.entries)
 
-  put_after : (x : Cargo) (time : ℕ) → ring_queue kind n (words_after words p Do.Put) (sent_one x time 1 (wrap (length p.entries + 1)) p) c ≡ queue_after shown Do.Put Done (x ∷ [])
+  put_after : (x : Cargo) (time : ℕ) → ring_queue kind n (words_after words p Do.Put) (sent_one x time tail_word (wrap (length p.entries + 1)) p) c ≡ queue_after shown Do.Put Done (x ∷ [])
   put_after x time = let k = counts in let within : length c.entries ≤ length p.entries = omega arith in ap (λ (z : List Cargo). record (queue_after shown Do.Put Done (x ∷ [])) { entries = z }) (drop_short (length c.entries) p.entries (x ∷ []) within)
 
-  wake_after : (b : Bool) (k : ℕ) → b ≡ pending → ring_queue kind n (words_after words c (Do.Wake Forward)) p (after_wake 3 (bit b) k c) ≡ queue_after shown (Do.Wake Forward) (answer_of (nat_eq (bit b) 1)) []
+  wake_after : (b : Bool) (k : ℕ) → b ≡ pending → ring_queue kind n (words_after words c (Do.Wake Forward)) p (after_wake (pending_word Forward) (bit b) k c) ≡ queue_after shown (Do.Wake Forward) (answer_of (nat_eq (bit b) 1)) []
   wake_after true k is = refl
   wake_after false k is = ap (λ (z : Bool). record (queue_after shown (Do.Wake Forward) (answer_of false) []) { bells = record shown.bells { forward = record shown.bells.forward { pending = nat_eq (bit z) 1 } } }) is
 
-  wake_back_after : (b : Bool) (k : ℕ) → b ≡ pending_back → ring_queue kind n (words_after words p (Do.Wake Backward)) (after_wake 5 (bit b) k p) c ≡ queue_after shown (Do.Wake Backward) (answer_of (nat_eq (bit b) 1)) []
+  wake_back_after : (b : Bool) (k : ℕ) → b ≡ pending_back → ring_queue kind n (words_after words p (Do.Wake Backward)) (after_wake (pending_word Backward) (bit b) k p) c ≡ queue_after shown (Do.Wake Backward) (answer_of (nat_eq (bit b) 1)) []
   wake_back_after true k is = refl
   wake_back_after false k is = ap (λ (z : Bool). record (queue_after shown (Do.Wake Backward) (answer_of false) []) { bells = record shown.bells { backward = record shown.bells.backward { pending = nat_eq (bit z) 1 } } }) is
 
-  wanted_after : (b : Bool) → ring_queue kind n words (after_wanted 2 (bit b) p) c ≡ queue_after shown (Do.Wanted Forward) (answer_of (nat_eq (bit b) 0)) []
+  wanted_after : (b : Bool) → ring_queue kind n words (after_wanted (flag_word Forward) (bit b) p) c ≡ queue_after shown (Do.Wanted Forward) (answer_of (nat_eq (bit b) 0)) []
   wanted_after true = refl
   wanted_after false = refl
 
-  wanted_back_after : (b : Bool) → ring_queue kind n words p (after_wanted 4 (bit b) c) ≡ queue_after shown (Do.Wanted Backward) (answer_of (nat_eq (bit b) 0)) []
+  wanted_back_after : (b : Bool) → ring_queue kind n words p (after_wanted (flag_word Backward) (bit b) c) ≡ queue_after shown (Do.Wanted Backward) (answer_of (nat_eq (bit b) 0)) []
   wanted_back_after true = refl
   wanted_back_after false = refl
 

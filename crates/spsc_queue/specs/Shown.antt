@@ -4,13 +4,14 @@ use Rattle.std.specs.Prelude.{is_some, if◌then◌else◌}
 use Rattle.cargo_core.specs.declared.item.QueueKind.{QueueKind}
 use Rattle.wire_core.specs.declared.names.Op.{Op}
 use Rattle.wire_core.specs.declared.names.Op.TheVariants as Do
+use Rattle.wire_core.specs.declared.names.Side.TheVariants.{Forward, Backward}
 use Rattle.wire_core.specs.declared.names.Answer.{Answer}
 use Rattle.wire_core.specs.Deeds.{Cargo}
 use Rattle.wire_core.specs.Ends.{Role, Consumer, Producer, role_of}
 use Rattle.wire_core.specs.Queues.{Queue, Tells, Carries, is_filled, has_room, queue_after}
 use Rattle.spsc_queue.specs.declared.view.Half.{Half}
-use Rattle.spsc_queue.specs.Rule.{wrap, forward_bell, backward_bell}
-use Rattle.spsc_queue.specs.Steps.{flag_word, pending_word, knows_one}
+use Rattle.spsc_queue.specs.Rule.{wrap, head_word, tail_word, flag_word, pending_word, forward_bell, backward_bell}
+use Rattle.spsc_queue.specs.Steps.{knows_one}
 
 -- whether a flag or pending word is 1
 abbrev pub is_set : List ℕ → ℕ → Bool
@@ -26,8 +27,8 @@ ring_queue kind n words p c = record {
   consumer = 0;
   entries = drop (length c.entries) p.entries;
   bells = record {
-    forward = forward_bell (is_set words 2) (is_set words 3) p c;
-    backward = backward_bell (is_set words 4) (is_set words 5) p c;
+    forward = forward_bell (is_set words (flag_word Forward)) (is_set words (pending_word Forward)) p c;
+    backward = backward_bell (is_set words (flag_word Backward)) (is_set words (pending_word Backward)) p c;
     seen = is_some c.grant;
     roomed = is_some p.grant;
   };
@@ -35,10 +36,10 @@ ring_queue kind n words p c = record {
 
 -- the word that a call of this end reads or writes
 abbrev pub word_of : Half → Op → ℕ
-word_of h Do.See = if knows_one h then 0 else 1
-word_of h Do.Room = if knows_one h then 1 else 0
-word_of h Do.Take = 0
-word_of h Do.Put = 1
+word_of h Do.See = if knows_one h then head_word else tail_word
+word_of h Do.Room = if knows_one h then tail_word else head_word
+word_of h Do.Take = head_word
+word_of h Do.Put = tail_word
 word_of h (Do.Ask s) = flag_word s
 word_of h (Do.Waive s) = flag_word s
 word_of h (Do.Wake s) = pending_word s

@@ -7,8 +7,6 @@ use Rattle.cargo_core.specs.declared.item.QueueKind.{QueueKind}
 use Rattle.cargo_core.specs.Items.{kind_of}
 use Rattle.wire_core.specs.declared.names.Op.{Op}
 use Rattle.wire_core.specs.declared.names.Op.TheVariants as Do
-use Rattle.wire_core.specs.declared.names.Side.{Side}
-use Rattle.wire_core.specs.declared.names.Side.TheVariants.{Forward, Backward}
 use Rattle.wire_core.specs.declared.names.Answer.{Answer}
 use Rattle.wire_core.specs.declared.names.Answer.TheVariants.{Done}
 use Rattle.wire_core.specs.declared.names.Ringer.TheVariants as Rung
@@ -18,7 +16,7 @@ use Rattle.wire_core.specs.Deeds.{Cargo, answer_of}
 use Rattle.wire_core.specs.Ends.{End, looked_waiter, woken_waiter, wanted_ringer}
 use Rattle.spsc_queue.specs.declared.view.Half.{Half}
 use Rattle.spsc_queue.specs.declared.view.View.{View}
-use Rattle.spsc_queue.specs.Rule.{Slot, wrap, first_view}
+use Rattle.spsc_queue.specs.Rule.{Slot, wrap, head_word, tail_word, flag_word, pending_word, first_view}
 
 -- what a seat knows, and the slots that it holds
 abbrev pub Seated : Type 0
@@ -40,16 +38,6 @@ room_ahead n sent head = (wrap head + n + (65536 - wrap sent)) % 65536
 -- whether an entry stands there where the tail is this
 abbrev pub tells_entry : ℕ → ℕ → Bool
 tells_entry taken tail = not (nat_eq tail (wrap taken))
-
--- the flag word of a bell
-abbrev pub flag_word : Side → ℕ
-flag_word Forward = 2
-flag_word Backward = 4
-
--- the pending word of a bell
-abbrev pub pending_word : Side → ℕ
-pending_word Forward = 3
-pending_word Backward = 5
 
 -- the value of the last of these steps
 abbrev pub last_of : List (ℕ × ℕ) → ℕ
@@ -128,7 +116,7 @@ room_answer n h r = knows_one h || tells_room n (length h.entries) r
 -- the producer after a look for room whose step read r: at its own index where it knows of room,
 -- and else at the head
 abbrev pub room_told : ℕ → Half → ℕ → Half
-room_told n h r = after_look (room_answer n h r) (if knows_one h then 1 else 0) r
+room_told n h r = after_look (room_answer n h r) (if knows_one h then tail_word else head_word) r
     (empty_if (room_answer n h r))
     (if knows_one h then h.ahead else room_ahead n (length h.entries) r) h
 
@@ -187,7 +175,7 @@ see_answer h r = knows_one h || tells_entry (length h.entries) r
 -- the consumer after a look for an entry whose step read r: at its own index where it knows of one,
 -- and else at the tail
 abbrev pub see_told : Option Slot → Half → ℕ → Half
-see_told g h r = after_look (see_answer h r) (if knows_one h then 0 else 1) r g
+see_told g h r = after_look (see_answer h r) (if knows_one h then head_word else tail_word) r g
     (if knows_one h then h.ahead else entries_ahead (length h.entries) r) h
 
 -- the consumer after it took what was put at a time, where r was stored at the word w
@@ -337,9 +325,9 @@ CallDid n h Do.See r a c h' = (h' ≡ see_told h'.grant h r)
 CallDid n h Do.Room r a c h' = (h' ≡ room_told n h r)
     × (a ≡ answer_of (room_answer n h r)) × (c ≡ [])
 CallDid n h Do.Take r a c h' = (x : Cargo) × (t : ℕ) × (c ≡ x ∷ []) × (h.grant ≡ Some (Some x))
-    × (h' ≡ took_one x t 0 (wrap (length h.entries + 1)) h) × (a ≡ Done)
+    × (h' ≡ took_one x t head_word (wrap (length h.entries + 1)) h) × (a ≡ Done)
 CallDid n h Do.Put r a c h' = (x : Cargo) × (t : ℕ) × (c ≡ x ∷ [])
-    × (h' ≡ sent_one x t 1 (wrap (length h.entries + 1)) h) × (a ≡ Done) × (kind_of x.0 ≡ h.kind)
+    × (h' ≡ sent_one x t tail_word (wrap (length h.entries + 1)) h) × (a ≡ Done) × (kind_of x.0 ≡ h.kind)
 CallDid n h (Do.Ask s) r a c h' = (h' ≡ asked (flag_word s) 0 h) × (a ≡ Done) × (c ≡ [])
 CallDid n h (Do.Waive s) r a c h' = (h' ≡ waived (flag_word s) 1 h) × (a ≡ Done) × (c ≡ [])
 CallDid n h (Do.Wake s) r a c h' = (h' ≡ after_wake (pending_word s) r h'.woken h)

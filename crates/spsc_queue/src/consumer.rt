@@ -4,6 +4,7 @@ ghost use Rattle.std.specs.Prelude.{◌≡◌, ◌<◌, true, [], ◌∷◌, len
 ghost use Rattle.cargo_core.specs.Items.{kind_of};
 ghost use Rattle.wire_core.specs.Deeds.{answer_of};
 ghost use Rattle.wire_core.specs.Ends.{Condition};
+ghost use Rattle.spsc_queue.specs.Rule.{head_word, tail_word};
 ghost use Rattle.spsc_queue.specs.Steps.{EndDid, known_end, last_value, tells_entry, see_kept};
 ghost use Rattle.spsc_queue.specs.Steps.{see_read, Granted};
 
@@ -45,7 +46,7 @@ impl Consumer {
         requires condition { Condition (known_end self.old.knows) Op.See }
         requires known { 0 < self.old.knows.ahead }
         ensures own { self.new.ring ≡ self.old.ring }
-        ensures did { self.new.knows ≡ see_kept self.new.knows.grant self.old.knows 0
+        ensures did { self.new.knows ≡ see_kept self.new.knows.grant self.old.knows head_word
             (last_value self.new.knows) }
         ensures granted { Granted self.old.knows.kind true self.new.knows.grant }
     {
@@ -59,7 +60,7 @@ impl Consumer {
         requires own { self.old.ring ≡ ring.now.id }
         requires condition { Condition (known_end self.old.knows) Op.See }
         ensures own { self.new.ring ≡ self.old.ring }
-        ensures did { self.new.knows ≡ see_read self.new.knows.grant self.old.knows 1
+        ensures did { self.new.knows ≡ see_read self.new.knows.grant self.old.knows tail_word
             (last_value self.new.knows) }
         ensures answer { result ≡ tells_entry (length self.old.knows.entries)
             (last_value self.new.knows) }

@@ -1,10 +1,10 @@
 //! What a step on a ring means for the queue that the ring shows.
-ghost use Rattle.std.specs.Prelude.{◌≡◌, ℕ, [], ◌∷◌, List};
+ghost use Rattle.std.specs.Prelude.{◌≡◌, ℕ, [], List};
 ghost use mathlib.Core.Option as maybe;
 ghost use Rattle.wire_core.specs.Deeds.{Cargo};
 ghost use Rattle.wire_core.specs.Ends.{Condition, role_of};
 ghost use Rattle.wire_core.specs.Queues.{start_bells};
-ghost use Rattle.spsc_queue.specs.Rule.{Slot, EndsHold, words_of, first_producer, first_consumer};
+ghost use Rattle.spsc_queue.specs.Rule.{Slot, EndsHold, laid, words_of, first_producer, first_consumer};
 ghost use Rattle.spsc_queue.specs.Steps.{CallDid, known_end};
 ghost use Rattle.spsc_queue.specs.Shown.{ring_queue, half_of, read_by, IsEvent};
 
@@ -19,7 +19,7 @@ use wire_core::{Answer, Op};
 /// two ends know, so no other words fit a new ring.
 pub fn ring_law()
     ensures start { (kind : QueueKind) (n : ℕ)
-        → ring_queue kind n (0 ∷ 0 ∷ 0 ∷ 0 ∷ 1 ∷ 0 ∷ []) (first_producer kind)
+        → ring_queue kind n (laid 0 0 0 0 1 0) (first_producer kind)
         (first_consumer kind) ≡ record {
           kind = kind;
           capacity = n;
@@ -37,5 +37,5 @@ pub fn ring_law()
     ensures words { (kind : QueueKind) (n : ℕ) (words : List ℕ) (homes : List (maybe.Option Slot))
         (p c : Half) → EndsHold kind n words homes p c → words ≡ words_of p c }
     ensures opened { (kind : QueueKind) → words_of (first_producer kind) (first_consumer kind)
-        ≡ 0 ∷ 0 ∷ 0 ∷ 0 ∷ 1 ∷ 0 ∷ [] }
+        ≡ laid 0 0 0 0 1 0 }
 {}

@@ -4,6 +4,7 @@ ghost use Rattle.std.specs.Prelude.{◌≡◌, ◌<◌, [], ◌∷◌, ◌++◌,
 ghost use Rattle.cargo_core.specs.Items.{kind_of};
 ghost use Rattle.wire_core.specs.Deeds.{answer_of};
 ghost use Rattle.wire_core.specs.Ends.{Condition};
+ghost use Rattle.spsc_queue.specs.Rule.{head_word, tail_word};
 ghost use Rattle.spsc_queue.specs.Steps.{EndDid, known_end, last_value, tells_room, room_kept};
 ghost use Rattle.spsc_queue.specs.Steps.{room_read};
 
@@ -46,7 +47,7 @@ impl Producer {
         requires condition { Condition (known_end self.old.knows) Op.Room }
         requires known { 0 < self.old.knows.ahead }
         ensures own { self.new.ring ≡ self.old.ring }
-        ensures did { self.new.knows ≡ room_kept self.old.knows 1 (last_value self.new.knows) }
+        ensures did { self.new.knows ≡ room_kept self.old.knows tail_word (last_value self.new.knows) }
     {
         ring.table
             .shared
@@ -58,7 +59,7 @@ impl Producer {
         requires own { self.old.ring ≡ ring.now.id }
         requires condition { Condition (known_end self.old.knows) Op.Room }
         ensures own { self.new.ring ≡ self.old.ring }
-        ensures did { self.new.knows ≡ room_read self.old.ring.slots self.old.knows 0
+        ensures did { self.new.knows ≡ room_read self.old.ring.slots self.old.knows head_word
             (last_value self.new.knows) }
         ensures answer { result ≡ tells_room self.old.ring.slots (length self.old.knows.entries)
             (last_value self.new.knows) }
