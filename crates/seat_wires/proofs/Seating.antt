@@ -51,8 +51,8 @@ wanted_end w r b h e = refl
 
 -- the end that made the call is changed by the table
 pub end_did : (n : ℕ) (h : Half) (o : Op) (a : Answer) (c : List Cargo) (h' : Half) → EndDid n h o a c h' → known_end h' ≡ end_after (known_end h) o a
-end_did n h Do.See a c h' d = ap known_end d.0 ∙ (see_end (see_answer h (last_value h')) h'.grant h _ (last_value h') _ h.kind d.3 ∙ ap (λ (z : Answer). end_after (known_end h) Do.See z) (sym d.1))
-end_did n h Do.Room a c h' d = ap known_end d.0 ∙ (room_end (room_answer n h (last_value h')) h _ (last_value h') _ ∙ ap (λ (z : Answer). end_after (known_end h) Do.Room z) (sym d.1))
+end_did n h Do.See a c h' d = ap known_end d.0 ∙ (see_end (see_answer h (last_value h')) h'.grant h 0 (last_value h') 0 h.kind d.3 ∙ ap (λ (z : Answer). end_after (known_end h) Do.See z) (sym d.1))
+end_did n h Do.Room a c h' d = ap known_end d.0 ∙ (room_end (room_answer n h (last_value h')) h 0 (last_value h') 0 ∙ ap (λ (z : Answer). end_after (known_end h) Do.Room z) (sym d.1))
 end_did n h Do.Take a c h' d = ap known_end d.4
 end_did n h Do.Put a c h' d = ap known_end d.3
 end_did n h (Do.Ask s) a c h' d = ap known_end d.0
