@@ -1,5 +1,5 @@
 -- What one call adds to the lists and to the times at the ends of an actor.
-use Rattle.std.proofs.Common.{◌≡◌, ◌≢◌, ◌⊎◌, inl, inr, ⊎_elim, ◌∙◌, ℕ, zero, suc, ◌+◌, ◌<◌, ◌≤◌, Bool, true, false, List, [], ◌∷◌, ◌++◌, length, length-append, refl, sym, ap, subst, arith, append-nil, Option, Some, None, slice_get, eqb, eq-eqb, ne_eqb}
+use Rattle.std.proofs.Common.{◌≡◌, ◌≢◌, ◌⊎◌, inl, inr, ⊎_elim, ◌∙◌, ℕ, ◌+◌, ◌<◌, ◌≤◌, Bool, true, false, List, [], ◌∷◌, ◌++◌, length, length-append, refl, sym, ap, subst, arith, append-nil, Option, Some, None, eqb, eq-eqb, ne_eqb}
 use mathlib.Core.Logic.{dite}
 use native.Mathlib.Decide.{ℕ_discrete}
 use Rattle.wire_core.specs.declared.names.Op.{Op}
@@ -8,14 +8,14 @@ use Rattle.wire_core.specs.declared.names.Side.TheVariants.{Forward, Backward}
 use Rattle.wire_core.specs.declared.names.Answer.{Answer}
 use Rattle.wire_core.specs.Deeds.{Deed, Cargo, cargo_of}
 use Rattle.wire_core.specs.Ends.{Role, Consumer, Producer, role_of}
-use Rattle.wire_core.specs.Lists.{Lists, if_there, if_taken, if_put, taken_by, put_by, with}
+use Rattle.wire_core.specs.Lists.{Lists, if_there, if_taken, if_put, taken_by, put_by}
 use Rattle.spsc_queue.specs.declared.view.Half.{Half}
 use Rattle.spsc_queue.specs.Known.Ends.{EndIs}
 use Rattle.spsc_queue.specs.Steps.{EndDid}
 use Rattle.seat_wires.specs.Places.Are.{SeatsAre}
-use Rattle.seat_wires.specs.Places.{ends_of, stands_at, joined_get, SeatDid}
-use Rattle.seat_wires.specs.Times.{times_at, ComesAfter, AddsTime, TimesGo}
-use Rattle.seat_wires.specs.Went.{ring_at, ring_known}
+use Rattle.seat_wires.specs.Places.{ends_of, stands_at, SeatDid}
+use Rattle.seat_wires.specs.Times.{times_at, AddsTime, TimesGo}
+use Rattle.seat_wires.specs.Went.{ring_known}
 use Rattle.seat_wires.proofs.Timing.{times_go}
 use Rattle.seat_wires.proofs.Listing.{taken_grow, sent_grow}
 use Rattle.seat_wires.proofs.Going.{went_one}

@@ -1,5 +1,5 @@
 -- One order of all calls: the call of the lowest rank is next.
-use Rattle.std.proofs.Common.{◌≡◌, ◌≢◌, ◌∙◌, ℕ, zero, suc, ◌+◌, ◌*◌, ◌<◌, ◌≤◌, List, [], ◌∷◌, ◌++◌, length, length-append, map, refl, sym, ap, subst, arith, append-nil, append_assoc, Option, Some, None, slice_get, slice_set}
+use Rattle.std.proofs.Common.{◌≡◌, ◌≢◌, ◌∙◌, ℕ, zero, suc, ◌+◌, ◌*◌, ◌<◌, ◌≤◌, List, [], ◌∷◌, ◌++◌, length, length-append, refl, sym, ap, subst, arith, append-nil, append_assoc, Option, Some, None, slice_get, slice_set}
 use Rattle.std.specs.Option.{option_map_or}
 use mathlib.Core.Logic.{dite}
 use native.Mathlib.Decide.{ℕ_discrete, dec_le}
@@ -7,13 +7,11 @@ use Rattle.cargo_core.specs.Lists.{IsPrefix}
 use Rattle.wire_core.specs.declared.names.QueueRow.{QueueRow}
 use Rattle.wire_core.specs.declared.names.Op.{Op}
 use Rattle.wire_core.specs.declared.names.Op.TheVariants as Do
-use Rattle.wire_core.specs.declared.names.Side.TheVariants.{Forward, Backward}
-use Rattle.wire_core.specs.Deeds.{Deed, Cargo, cargo_of}
+use Rattle.wire_core.specs.Deeds.{Cargo}
 use Rattle.wire_core.specs.Ends.{Role, Consumer, Producer, role_of}
 use Rattle.wire_core.specs.Journal.{owner_of}
 use Rattle.wire_core.specs.Lists.{Passed, nothing_passed, with_deed}
 use Rattle.spsc_queue.specs.Known.Ends.{EndIs}
-use Rattle.seat_wires.specs.Places.Are.{SeatsAre}
 use Rattle.seat_wires.specs.Places.{ends_of, stands_at, joined_get, seat_end}
 use Rattle.seat_wires.specs.Times.{times_at, AddsTime}
 use Rattle.seat_wires.proofs.Timing.{times_go}
@@ -21,8 +19,8 @@ use Rattle.actor_set.specs.declared.actor.Actor.{Actor}
 use Rattle.order_law.specs.Tales.{Call, Made, Goes}
 use Rattle.order_law.specs.Orders.{Seated, Turn, IsTurn, InOrder, HaveRun, actors_of, entries_at, listed, passed_by}
 use Rattle.order_law.proofs.Lists.{same_some, same_heads, get_there, get_within, get_front, get_last, set_there, set_beside, length_set, same_lists, two_prefixes, prefix_same, prefix_then, map_set, map_there}
-use Rattle.order_law.proofs.Moving.{moved_by, moved, moved_else, moved_there, moved_few, moved_take, entries_go, end_there, sized_go}
-use Rattle.order_law.proofs.Ranking.{rank, rank_of, rank_take, times_grow, entries_grow, comes_before}
+use Rattle.order_law.proofs.Moving.{moved_by, moved_else, moved_there, moved_few, moved_take, entries_go, end_there, sized_go}
+use Rattle.order_law.proofs.Ranking.{rank, rank_take, times_grow, entries_grow, comes_before}
 
 -- how many calls are to come
 abbrev total : List (List Call) → ℕ

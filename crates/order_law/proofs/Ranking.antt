@@ -1,20 +1,20 @@
 -- Which call may come first: a put at a time before the take of what was put then, and both after
 -- all that came before.
-use Rattle.std.proofs.Common.{◌≡◌, ◌≢◌, ◌⊎◌, inl, inr, ⊎_elim, ◌∙◌, ℕ, zero, suc, ◌+◌, ◌*◌, ◌<◌, ◌≤◌, List, [], ◌∷◌, ◌++◌, length, length-append, refl, sym, ap, subst, arith, append-nil, append_assoc, Option, Some, None, slice_get}
+use Rattle.std.proofs.Common.{◌≡◌, ◌⊎◌, inl, inr, ⊎_elim, ◌∙◌, ℕ, ◌+◌, ◌*◌, ◌<◌, ◌≤◌, List, [], ◌∷◌, ◌++◌, length, length-append, refl, sym, ap, subst, arith, append-nil, append_assoc, Some, slice_get}
 use mathlib.Core.Logic.{dite}
 use native.Mathlib.Decide.{ℕ_discrete, dec_le}
 use Rattle.wire_core.specs.declared.names.Op.{Op}
 use Rattle.wire_core.specs.declared.names.Op.TheVariants as Do
 use Rattle.wire_core.specs.declared.names.Side.TheVariants.{Forward, Backward}
-use Rattle.wire_core.specs.Deeds.{Deed, Cargo}
+use Rattle.wire_core.specs.Deeds.{Cargo}
 use Rattle.wire_core.specs.Ends.{Role, Consumer, Producer, role_of}
 use Rattle.seat_wires.specs.Places.Are.{SeatsAre}
-use Rattle.seat_wires.specs.Times.{times_at, ComesAfter, AddsTime, TimesGo}
+use Rattle.seat_wires.specs.Times.{times_at, ComesAfter, AddsTime}
 use Rattle.seat_wires.proofs.Timing.{times_go}
 use Rattle.actor_set.specs.declared.actor.Actor.{Actor}
 use Rattle.order_law.specs.Tales.{Call, Made, Goes}
 use Rattle.order_law.specs.Orders.{entries_at}
-use Rattle.order_law.proofs.Lists.{get_front, get_last, get_within, get_there, same_some}
+use Rattle.order_law.proofs.Lists.{get_front, get_last, get_within, same_some}
 use Rattle.order_law.proofs.Moving.{moved_by, entries_go, times_begin}
 
 -- the last time of these

@@ -1,18 +1,15 @@
 -- What an actor at rest does: it only looks for a notification, or wants none.
-use Rattle.std.proofs.Common.{◌≡◌, ◌∙◌, Bool, true, false, Option, Some, None, refl, sym, ap, subst}
+use Rattle.std.proofs.Common.{◌≡◌, ◌∙◌, Bool, true, false, Option, refl, sym, ap}
 use Rattle.wire_core.specs.declared.names.Event.{Event}
 use Rattle.wire_core.specs.declared.names.Side.{Side}
 use Rattle.wire_core.specs.declared.names.Waiter.{Waiter}
 use Rattle.wire_core.specs.declared.names.Waiter.TheVariants as Wait
 use Rattle.wire_core.specs.declared.names.Ringer.{Ringer}
 use Rattle.wire_core.specs.declared.names.Ringer.TheVariants as Rung
-use Rattle.wire_core.specs.Bells.{is_free}
-use Rattle.wire_core.specs.Ends.{is_clear}
-use Rattle.turn_kit.specs.declared.end_state.EndState.{EndState}
-use Rattle.turn_kit.specs.Table.{next_op, next_of, is_settled}
+use Rattle.turn_kit.specs.Table.{next_of, is_settled}
 use Rattle.turn_kit.specs.Turns.{Round, Turned, is_at_rest}
 use Rattle.turn_kit.proofs.Turning.{rest_at}
-use Rattle.actor_set.specs.Actors.{ActorTurned, actor_rests, actor_round}
+use Rattle.actor_set.specs.Actors.{actor_rests, actor_round}
 use Rattle.actor_set.specs.declared.actor.Actor.{Actor}
 use Rattle.order_law.specs.Tales.{is_waiting}
 

@@ -1,5 +1,5 @@
 -- Calls after calls.
-use Rattle.std.proofs.Common.{◌≡◌, List, [], ◌∷◌, ◌++◌, refl, sym, subst}
+use Rattle.std.proofs.Common.{List, [], ◌∷◌, ◌++◌, refl, subst}
 use Rattle.seat_wires.specs.Places.Are.{SeatsAre}
 use Rattle.actor_set.specs.declared.actor.Actor.{Actor}
 use Rattle.order_law.specs.Tales.{Call, Made, Goes}

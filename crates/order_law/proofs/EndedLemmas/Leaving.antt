@@ -1,6 +1,6 @@
 -- Queues that go on from ended rings.
-use Rattle.std.proofs.Common.{◌≡◌, ◌<◌, ◌≤◌, ◌+◌, ◌++◌, ℕ, Bool, true, false, nat_lt, Option, Some, None, List, [], ◌∷◌, All, length, length-append, map, slice_get, refl, sym, ap, ◌∙◌, subst, arith}
-use Rattle.std.specs.List.{AllZip, zip}
+use Rattle.std.proofs.Common.{◌≡◌, ◌+◌, ◌++◌, ℕ, Bool, true, nat_lt, Some, List, All, length, length-append, slice_get, refl, sym, ap, ◌∙◌, subst, arith}
+use Rattle.std.specs.List.{zip}
 use Rattle.std.proofs.lemmas.Bool.{lt-ltb}
 use Rattle.std.proofs.lemmas.List.{length-map, map-append}
 use Rattle.std.proofs.Math.Seq.{drop-append_seam}
@@ -22,11 +22,10 @@ use Rattle.seat_wires.specs.Places.{end_known}
 use Rattle.play_core.specs.Still.{IsPeopled}
 use Rattle.play_core.proofs.Lists.{some_is, map_get, there_is, there_below}
 use Rattle.plain_wires.specs.Adopted.{IsEndedOf, adopted, all_adopted}
-use Rattle.actor_set.specs.Actors.{FitsActor, ActorEnd, Forgot}
 use Rattle.actor_set.specs.declared.actor.Actor.{Actor}
 use Rattle.actor_set.specs.Adopting.Looks.{SameButLook}
 use Rattle.actor_set.proofs.AdoptingLemmas.Looks.{fits_anew}
-use Rattle.order_law.specs.ActorParts.Parting.{Apart, AreApart, HasItsEnds, IsRingOf, ends_at, end_in, apart_end}
+use Rattle.order_law.specs.ActorParts.Parting.{Apart, AreApart, IsRingOf, apart_end}
 use Rattle.order_law.specs.ActorParts.Finished.{HasEnded, OwnEnd, AreFinished}
 use Rattle.order_law.specs.Ended.Tracks.{track_of, TellsEnds}
 use Rattle.order_law.specs.Ended.Leaving.{history_left, GoesOnAt, AreLeft}

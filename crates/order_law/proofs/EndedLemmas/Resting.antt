@@ -1,21 +1,16 @@
 -- An actor at ends that it gave up was at rest where the tracks say so: with its looks on them, the
 -- queues that are left are its ends as they were.
-use Rattle.std.proofs.Common.{◌≡◌, ◌<◌, ◌+◌, ℕ, zero, suc, Bool, true, false, ◌&&◌, nat_lt, Some, List, [], ◌∷◌, length, slice_get, refl, sym, ap, ◌∙◌, subst, arith}
-use Rattle.cargo_core.specs.declared.item.Item.{Item}
-use Rattle.wire_core.specs.declared.names.QueueRow.{QueueRow}
+use Rattle.std.proofs.Common.{◌≡◌, ◌<◌, ◌+◌, ℕ, zero, suc, Bool, ◌&&◌, nat_lt, List, [], ◌∷◌, length, refl, sym, ap, ◌∙◌, subst, arith}
 use Rattle.wire_core.specs.declared.names.BellState.{BellState}
 use Rattle.wire_core.specs.Ends.{Role, Consumer, Producer, End}
-use Rattle.wire_core.specs.Journal.{Track, History, history_at, track}
+use Rattle.wire_core.specs.Journal.{Track, History, history_at}
 use Rattle.wire_core.specs.Lists.{Passed}
 use Rattle.wire_core.specs.Queues.{Bells, Queue, queue_at, end_at, end_of}
-use Rattle.spsc_queue.specs.Known.Ends.{RingIs, EndedIs}
 use Rattle.play_core.specs.Moved.{Moved, moved}
-use Rattle.play_core.specs.Still.{IsPeopled}
 use Rattle.play_core.specs.Sheets.{Scene}
-use Rattle.play_core.specs.Wants.{Want, all_settled, want_settled, bells_settled, end_settled}
+use Rattle.play_core.specs.Wants.{Want, all_settled, bells_settled, end_settled}
 use Rattle.play_core.specs.Rests.Showing.{HaveItems, HaveBells}
 use Rattle.actor_set.specs.Actors.{FitsActor, ActorStandsFor, ActorEnd, part_of, actor_rests}
-use Rattle.actor_set.specs.declared.actor.Actor.{Actor}
 use Rattle.actor_set.specs.Laws.Kinds.{sheet}
 use Rattle.actor_set.specs.Laws.Turning.{InTurn}
 use Rattle.actor_set.proofs.LawsLemmas.Beside.{fits_beside}

@@ -1,5 +1,5 @@
 -- An actor that fits its ends has them apart, and so takes them in a round.
-use Rattle.std.proofs.Common.{◌≡◌, ◌≢◌, ℕ, inl, refl}
+use Rattle.std.proofs.Common.{ℕ}
 use Rattle.wire_core.specs.Ends.{Role, End}
 use Rattle.turn_kit.specs.Turns.{IsRound}
 use Rattle.buffer_kit.specs.Virtualising.{FitsVirt}

@@ -6,13 +6,12 @@ use Rattle.wire_core.specs.declared.names.QueueRow.{QueueRow}
 use Rattle.wire_core.specs.Ends.{Role, Consumer, Producer}
 use Rattle.wire_core.specs.Journal.{History, IsShown, TrackHolds, Flows, history_at, owner_of}
 use Rattle.wire_core.specs.Queues.{queue_at, end_at}
-use Rattle.spsc_queue.specs.Known.Ends.{EndIs, RingIs, EndedIs}
-use Rattle.play_core.specs.Still.{IsPeopled}
+use Rattle.spsc_queue.specs.Known.Ends.{EndIs, EndedIs}
 use Rattle.plain_wires.specs.Adopted.{IsEndedOf, all_adopted}
 use Rattle.actor_set.specs.Actors.{FitsActor, ActorEnd, Forgot}
 use Rattle.actor_set.specs.declared.actor.Actor.{Actor}
-use Rattle.order_law.specs.ActorParts.Parting.{Apart, AreApart, apart_end}
-use Rattle.order_law.specs.ActorParts.Finished.{OwnEnd, AreFinished}
+use Rattle.order_law.specs.ActorParts.Parting.{Apart, apart_end}
+use Rattle.order_law.specs.ActorParts.Finished.{OwnEnd}
 use Rattle.order_law.specs.Ended.Tracks.{track_of, TellsEnds}
 
 -- what the queues had when their rings came to their end
