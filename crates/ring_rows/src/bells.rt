@@ -6,10 +6,10 @@ ghost use Rattle.cargo_core.specs.declared.item.QueueKind.TheVariants as Kind;
 ghost use Rattle.wire_core.specs.declared.names.Ringer.TheVariants as Rung;
 ghost use Rattle.wire_core.specs.Ends.{is_busy_or_off};
 
+use crate::pause::pause;
 use cargo_core::{Body, Item};
 use spsc_queue::{Consumer, Producer, Ring};
 use std::marker::Brand;
-use std::thread::yield_now;
 
 // Notifies the consumer where it wants that.
 fn notify_consumer(producer: &mut Producer, ring: &Ring)
@@ -49,7 +49,7 @@ fn await_room(producer: &mut Producer, ring: &Ring, looks: u64) -> Option<bool>
         if producer.wake(ring) {
             return Some(producer.room(ring));
         }
-        yield_now();
+        pause();
     }
     None
 }
@@ -138,7 +138,7 @@ fn await_entry(consumer: &mut Consumer, ring: &Ring, looks: u64) -> Option<bool>
         if consumer.wake(ring) {
             return Some(consumer.see(ring));
         }
-        yield_now();
+        pause();
     }
     None
 }

@@ -4,11 +4,11 @@ ghost use Rattle.cargo_core.specs.declared.item.QueueKind.TheVariants as Kind;
 ghost use Rattle.wire_core.specs.Ends.{is_busy_or_off, is_free_or_put};
 ghost use Rattle.spsc_queue.specs.Rule.{first_producer, first_consumer};
 
+use crate::pause::pause;
 use cargo_core::{Body, Item, Memory, QueueKind};
 use spsc_queue::{Consumer, Ended, Producer, Ring, finish, open};
 use std::alloc::Global;
 use std::marker::Brand;
-use std::thread::yield_now;
 
 /// A ring of bytes in its start state, whose capacity is 2 to a power.
 pub fn byte_ring(alloc: Global, power: u32) -> Result<(Ring, Producer, Consumer), Memory>
@@ -78,7 +78,7 @@ pub fn send(producer: &mut Producer, ring: &Ring, count: u32, looks: u64) -> u32
         if offer(producer, ring, (sent % 251) as u8) {
             sent += 1;
         } else {
-            yield_now();
+            pause();
         }
     }
     sent
@@ -106,7 +106,7 @@ pub fn take(consumer: &mut Consumer, ring: &Ring, count: u32, looks: u64) -> u32
             }
             taken += 1;
         } else {
-            yield_now();
+            pause();
         }
     }
     taken
