@@ -2,10 +2,10 @@
 use std::hint::spin_loop;
 use std::thread::yield_now;
 
-// Some pauses of the processor, so that the other end moves several entries before it is looked at
-// again, and then another thread's turn, if one waits for this processor.
-pub(crate) fn pause() {
-    for _ in 0..48u32 {
+// So many pauses of the processor, in which the other end may move several entries, and then the
+// turn of another thread, if one waits for this processor.
+pub(crate) fn pause(pauses: u32) {
+    for _ in 0..pauses {
         spin_loop();
     }
     yield_now();
