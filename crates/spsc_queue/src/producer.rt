@@ -1,17 +1,18 @@
 //! The producing end: each call is one step on one word of the ring, and the queue law's next event
 //! on its queue.
-ghost use Rattle.std.specs.Prelude.{◌≡◌, ◌<◌, [], ◌∷◌, ◌++◌, length};
+ghost use Rattle.std.specs.Prelude.{◌≡◌, ◌<◌, [], ◌∷◌, ◌++◌, length, Some};
+ghost use Rattle.atomic_table.specs.Table.{rest};
 ghost use Rattle.cargo_core.specs.Items.{kind_of};
 ghost use Rattle.wire_core.specs.Deeds.{answer_of};
 ghost use Rattle.wire_core.specs.Ends.{Condition};
-ghost use Rattle.spsc_queue.specs.Rule.{head_word, tail_word};
+ghost use Rattle.spsc_queue.specs.Rule.{Slot, head_word, tail_word};
 ghost use Rattle.spsc_queue.specs.Steps.{EndDid, known_end, last_value, tells_room, room_kept};
 ghost use Rattle.spsc_queue.specs.Steps.{room_read};
 
 use crate::clock::Clock;
 use crate::plays;
 use crate::ring::Ring;
-use crate::rule::{FLAG, FLAG_BACK, HEAD, PENDING, PENDING_BACK, Place, TAIL};
+use crate::rule::{Board, FLAG, FLAG_BACK, HEAD, PENDING, PENDING_BACK, Place, TAIL};
 use cargo_core::{Body, Item};
 use std::marker::Model;
 use wire_core::{Answer, Op, Ringer, Side, Waiter};
@@ -38,6 +39,17 @@ impl Model for Producer {
     ghost view = { producer_is };
 
     ghost invariant = { IsProducer };
+}
+
+// Writes an entry in the slot that the seat holds, where the slot lies.
+fn fill(seat: &mut Place, board: &Board, slot: usize, item: Item, body: Body)
+    requires { (seat.old.table_id ≡ board.now.shared.table_id)
+        × ((old : Slot) × (seat.old.me.1 ≡ (slot, old) ∷ rest seat.old.me.1)) }
+    ensures { (seat.new.table_id ≡ seat.old.table_id) × (seat.new.id ≡ seat.old.id)
+        × (seat.new.me ≡ (seat.old.me.0, (slot, Some (item, body)) ∷ rest seat.old.me.1)) }
+{
+    let place = seat.slot_mut(&board.shared, slot);
+    *place = Some((item, body));
 }
 
 impl Producer {
@@ -103,17 +115,13 @@ impl Producer {
     {
         let slot = usize::from(self.tail % ring.capacity);
         let next = self.tail.wrapping_add(1);
-        let old = ring
-            .table
-            .shared
-            .exchange(&mut self.seat, slot, Some((item, body)));
+        fill(&mut self.seat, &ring.table, slot, item, body);
         ring.table
             .shared
             .store::<plays::Put<C>>(&mut self.seat, TAIL, u64::from(next));
         self.tail = next;
         self.ahead = self.ahead.saturating_sub(1);
         self.ringer = Ringer::Put;
-        drop(old);
     }
 
     /// Whether the consumer wants a notification of entries, by the flag.
