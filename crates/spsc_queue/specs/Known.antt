@@ -50,7 +50,8 @@ pub record IsConsumer (p : Use.Inside) : Type 0 where
 abbrev pub consumer_is : Use.Inside → EndIs
 consumer_is p = record { ring = p.seat.table_id; knows = p.seat.me.0.consumer }
 
--- a ring has thirty-six words, of which six are used, and its capacity divides the numbers of an index
+-- a ring has thirty-six words, of which six are used, and its capacity divides the numbers of an
+-- index
 pub record IsRing (r : Lie.Inside) : Type 0 where
   pub words : r.table.shared.table_id.words ≡ 36
   pub slots : r.table.shared.table_id.slots ≡ r.capacity

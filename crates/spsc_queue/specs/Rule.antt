@@ -109,8 +109,8 @@ flag_of waiter ringer = not (waiter.wishes && nat_lt ringer.settled waiter.asks)
 abbrev pub pending_of : Half → Half → Bool
 pending_of waiter ringer = nat_lt waiter.woken ringer.rings
 
--- the flag and pending word of a bell are what its two ends did, of which neither knows of more than
--- there was
+-- the flag and pending word of a bell are what its two ends did, of which neither knows of more
+-- than there was
 pub record WordsTold (flag pending wishes : Bool) (asks settled rings woken : ℕ) : Type 0 where
   pub flag_is : flag ≡ not (wishes && nat_lt settled asks)
   pub settled_within : settled ≤ asks
@@ -125,7 +125,8 @@ pub record WordsHold (n : ℕ) (words : List ℕ) (left : List Cargo) (p c : Hal
   pub pending : Bool
   pub flag_back : Bool
   pub pending_back : Bool
-  pub words_are : words ≡ laid (wrap (length c.entries)) (wrap (length p.entries)) (bit flag) (bit pending) (bit flag_back) (bit pending_back)
+  pub words_are : words ≡ laid (wrap (length c.entries)) (wrap (length p.entries)) (bit flag)
+      (bit pending) (bit flag_back) (bit pending_back)
   pub forward_told : WordsTold flag pending c.wishes c.asks p.settled p.rings c.woken
   pub backward_told : WordsTold flag_back pending_back p.wishes p.asks c.settled c.rings p.woken
   pub room_ahead : p.ahead + length left ≤ n
@@ -137,7 +138,8 @@ pub record WordsHold (n : ℕ) (words : List ℕ) (left : List Cargo) (p c : Hal
 
 -- what these words are is what the two ends know
 abbrev pub words_of : Half → Half → List ℕ
-words_of p c = laid (wrap (length c.entries)) (wrap (length p.entries)) (bit (flag_of c p)) (bit (pending_of c p)) (bit (flag_of p c)) (bit (pending_of p c))
+words_of p c = laid (wrap (length c.entries)) (wrap (length p.entries)) (bit (flag_of c p))
+    (bit (pending_of c p)) (bit (flag_of p c)) (bit (pending_of p c))
 
 -- what the two ends know, with the slots and the words
 pub record EndsHold (kind : QueueKind) (n : ℕ) (words : List ℕ) (homes : List (maybe.Option Slot))

@@ -10,7 +10,8 @@ use Rattle.wire_core.specs.Deeds.{Cargo}
 use Rattle.wire_core.specs.Ends.{Role, Consumer, Producer, role_of}
 use Rattle.wire_core.specs.Queues.{Queue, Tells, Carries, is_filled, has_room, queue_after}
 use Rattle.spsc_queue.specs.declared.view.Half.{Half}
-use Rattle.spsc_queue.specs.Rule.{wrap, head_word, tail_word, flag_word, pending_word, forward_bell, backward_bell}
+use Rattle.spsc_queue.specs.Rule.{wrap, head_word, tail_word, flag_word, pending_word}
+use Rattle.spsc_queue.specs.Rule.{forward_bell, backward_bell}
 use Rattle.spsc_queue.specs.Steps.{knows_one}
 
 -- whether a flag or pending word is 1
@@ -27,8 +28,10 @@ ring_queue kind n words p c = record {
   consumer = 0;
   entries = drop (length c.entries) p.entries;
   bells = record {
-    forward = forward_bell (is_set words (flag_word Forward)) (is_set words (pending_word Forward)) p c;
-    backward = backward_bell (is_set words (flag_word Backward)) (is_set words (pending_word Backward)) p c;
+    forward = forward_bell (is_set words (flag_word Forward))
+        (is_set words (pending_word Forward)) p c;
+    backward = backward_bell (is_set words (flag_word Backward))
+        (is_set words (pending_word Backward)) p c;
     seen = is_some c.grant;
     roomed = is_some p.grant;
   };

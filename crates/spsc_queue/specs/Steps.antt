@@ -1,7 +1,7 @@
 -- What each step on a ring tells.
-use Rattle.std.specs.Prelude.{◌≡◌, ◌≢◌, ℕ, ◌+◌, ◌-◌, ◌%◌, ◌<◌, Bool, true, false, not, ◌||◌, List, []}
-use Rattle.std.specs.Prelude.{◌∷◌, ◌++◌, length, Option, Some, None, nat_eq, nat_lt, is_some}
-use Rattle.std.specs.Prelude.{if◌then◌else◌}
+use Rattle.std.specs.Prelude.{◌≡◌, ◌≢◌, ℕ, ◌+◌, ◌-◌, ◌%◌, ◌<◌, Bool, true, false, not, ◌||◌}
+use Rattle.std.specs.Prelude.{List, [], ◌∷◌, ◌++◌, length, Option, Some, None, nat_eq, nat_lt}
+use Rattle.std.specs.Prelude.{is_some, if◌then◌else◌}
 use Rattle.atomic_table.specs.Table.{Me, Step}
 use Rattle.cargo_core.specs.declared.item.QueueKind.{QueueKind}
 use Rattle.cargo_core.specs.Items.{kind_of}
@@ -16,7 +16,8 @@ use Rattle.wire_core.specs.Deeds.{Cargo, answer_of}
 use Rattle.wire_core.specs.Ends.{End, looked_waiter, woken_waiter, wanted_ringer}
 use Rattle.spsc_queue.specs.declared.view.Half.{Half}
 use Rattle.spsc_queue.specs.declared.view.View.{View}
-use Rattle.spsc_queue.specs.Rule.{Slot, wrap, head_word, tail_word, flag_word, pending_word, first_view}
+use Rattle.spsc_queue.specs.Rule.{Slot, wrap, head_word, tail_word, flag_word, pending_word}
+use Rattle.spsc_queue.specs.Rule.{first_view}
 
 -- what a seat knows, and the slots that it holds
 abbrev pub Seated : Type 0
@@ -327,7 +328,8 @@ CallDid n h Do.Room r a c h' = (h' ≡ room_told n h r)
 CallDid n h Do.Take r a c h' = (x : Cargo) × (t : ℕ) × (c ≡ x ∷ []) × (h.grant ≡ Some (Some x))
     × (h' ≡ took_one x t head_word (wrap (length h.entries + 1)) h) × (a ≡ Done)
 CallDid n h Do.Put r a c h' = (x : Cargo) × (t : ℕ) × (c ≡ x ∷ [])
-    × (h' ≡ sent_one x t tail_word (wrap (length h.entries + 1)) h) × (a ≡ Done) × (kind_of x.0 ≡ h.kind)
+    × (h' ≡ sent_one x t tail_word (wrap (length h.entries + 1)) h) × (a ≡ Done)
+    × (kind_of x.0 ≡ h.kind)
 CallDid n h (Do.Ask s) r a c h' = (h' ≡ asked (flag_word s) 0 h) × (a ≡ Done) × (c ≡ [])
 CallDid n h (Do.Waive s) r a c h' = (h' ≡ waived (flag_word s) 1 h) × (a ≡ Done) × (c ≡ [])
 CallDid n h (Do.Wake s) r a c h' = (h' ≡ after_wake (pending_word s) r h'.woken h)

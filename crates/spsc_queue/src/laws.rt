@@ -4,7 +4,8 @@ ghost use mathlib.Core.Option as maybe;
 ghost use Rattle.wire_core.specs.Deeds.{Cargo};
 ghost use Rattle.wire_core.specs.Ends.{Condition, role_of};
 ghost use Rattle.wire_core.specs.Queues.{start_bells};
-ghost use Rattle.spsc_queue.specs.Rule.{Slot, EndsHold, laid, words_of, first_producer, first_consumer};
+ghost use Rattle.spsc_queue.specs.Rule.{Slot, EndsHold, laid, words_of};
+ghost use Rattle.spsc_queue.specs.Rule.{first_producer, first_consumer};
 ghost use Rattle.spsc_queue.specs.Steps.{CallDid, known_end};
 ghost use Rattle.spsc_queue.specs.Shown.{ring_queue, half_of, read_by, IsEvent};
 

@@ -59,7 +59,8 @@ impl Producer {
         requires condition { Condition (known_end self.old.knows) Op.Room }
         requires known { 0 < self.old.knows.ahead }
         ensures own { self.new.ring ≡ self.old.ring }
-        ensures did { self.new.knows ≡ room_kept self.old.knows tail_word (last_value self.new.knows) }
+        ensures did { self.new.knows ≡ room_kept self.old.knows tail_word
+            (last_value self.new.knows) }
     {
         ring.table
             .shared
@@ -86,8 +87,9 @@ impl Producer {
         has_room
     }
 
-    /// Whether the queue has room at this step. A no makes a waiter that asked clear. Where the head
-    /// that was read last tells of room, it isn't read again: a look at one's own index is the step.
+    /// Whether the queue has room at this step. A no makes a waiter that asked clear. Where the
+    /// head that was read last tells of room, it isn't read again: a look at one's own index is the
+    /// step.
     pub fn room(&mut self, ring: &Ring) -> bool
         requires own { self.old.ring ≡ ring.now.id }
         requires condition { Condition (known_end self.old.knows) Op.Room }
