@@ -83,8 +83,8 @@ flag_of waiter ringer = not (waiter.wishes && nat_lt ringer.settled waiter.asks)
 abbrev pub pending_of : Half → Half → Bool
 pending_of waiter ringer = nat_lt waiter.woken ringer.rings
 
--- the flag and pending word of a bell are what its two ends did, of which neither knows of more than
--- there was
+-- the flag and pending word of a bell are what its two ends did, of which neither knows of more
+-- than there was
 pub record WordsTold (flag pending wishes : Bool) (asks settled rings woken : ℕ) : Type 0 where
   pub flag_is : flag ≡ not (wishes && nat_lt settled asks)
   pub settled_within : settled ≤ asks
