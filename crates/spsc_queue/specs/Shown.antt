@@ -1,16 +1,18 @@
 -- The queue that the words and the two ends show at a moment, and how a call goes on from there.
 use Rattle.std.specs.Prelude.{◌≡◌, ℕ, ◌+◌, Bool, List, length, drop, nat_eq, slice_index, slice_set}
-use Rattle.std.specs.Prelude.{is_some}
+use Rattle.std.specs.Prelude.{is_some, if◌then◌else◌}
 use Rattle.cargo_core.specs.declared.item.QueueKind.{QueueKind}
 use Rattle.wire_core.specs.declared.names.Op.{Op}
 use Rattle.wire_core.specs.declared.names.Op.TheVariants as Do
+use Rattle.wire_core.specs.declared.names.Side.TheVariants.{Forward, Backward}
 use Rattle.wire_core.specs.declared.names.Answer.{Answer}
 use Rattle.wire_core.specs.Deeds.{Cargo}
 use Rattle.wire_core.specs.Ends.{Role, Consumer, Producer, role_of}
 use Rattle.wire_core.specs.Queues.{Queue, Tells, Carries, is_filled, has_room, queue_after}
 use Rattle.spsc_queue.specs.declared.view.Half.{Half}
-use Rattle.spsc_queue.specs.Rule.{wrap, forward_bell, backward_bell}
-use Rattle.spsc_queue.specs.Steps.{flag_word, pending_word}
+use Rattle.spsc_queue.specs.Rule.{wrap, head_word, tail_word, flag_word, pending_word}
+use Rattle.spsc_queue.specs.Rule.{forward_bell, backward_bell}
+use Rattle.spsc_queue.specs.Steps.{knows_one}
 
 -- whether a flag or pending word is 1
 abbrev pub is_set : List ℕ → ℕ → Bool
@@ -26,25 +28,27 @@ ring_queue kind n words p c = record {
   consumer = 0;
   entries = drop (length c.entries) p.entries;
   bells = record {
-    forward = forward_bell (is_set words 2) (is_set words 3) p c;
-    backward = backward_bell (is_set words 4) (is_set words 5) p c;
+    forward = forward_bell (is_set words (flag_word Forward))
+        (is_set words (pending_word Forward)) p c;
+    backward = backward_bell (is_set words (flag_word Backward))
+        (is_set words (pending_word Backward)) p c;
     seen = is_some c.grant;
     roomed = is_some p.grant;
   };
 }
 
--- the word that a call reads or writes
-abbrev pub word_of : Op → ℕ
-word_of Do.See = 1
-word_of Do.Room = 0
-word_of Do.Take = 0
-word_of Do.Put = 1
-word_of (Do.Ask s) = flag_word s
-word_of (Do.Waive s) = flag_word s
-word_of (Do.Wake s) = pending_word s
-word_of (Do.Wanted s) = flag_word s
-word_of (Do.Settle s) = flag_word s
-word_of (Do.Ring s) = pending_word s
+-- the word that a call of this end reads or writes
+abbrev pub word_of : Half → Op → ℕ
+word_of h Do.See = if knows_one h then head_word else tail_word
+word_of h Do.Room = if knows_one h then tail_word else head_word
+word_of h Do.Take = head_word
+word_of h Do.Put = tail_word
+word_of h (Do.Ask s) = flag_word s
+word_of h (Do.Waive s) = flag_word s
+word_of h (Do.Wake s) = pending_word s
+word_of h (Do.Wanted s) = flag_word s
+word_of h (Do.Settle s) = flag_word s
+word_of h (Do.Ring s) = pending_word s
 
 -- what stands in that word after the call of this end, where r stood there
 abbrev pub word_after : Half → Op → ℕ → ℕ
@@ -60,12 +64,12 @@ word_after h (Do.Settle s) r = 1
 word_after h (Do.Ring s) r = 1
 
 -- what the call reads, and the words after it
-abbrev pub read_by : List ℕ → Op → ℕ
-read_by words o = slice_index words (word_of o)
+abbrev pub read_by : List ℕ → Half → Op → ℕ
+read_by words h o = slice_index words (word_of h o)
 
 -- the words after the call
 abbrev pub words_after : List ℕ → Half → Op → List ℕ
-words_after words h o = slice_set words (word_of o) (word_after h o (read_by words o))
+words_after words h o = slice_set words (word_of h o) (word_after h o (read_by words h o))
 
 -- of the two ends, the one that makes the calls of a role
 abbrev pub half_of : Role → Half → Half → Half
