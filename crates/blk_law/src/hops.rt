@@ -15,7 +15,7 @@ ghost use Rattle.blk_law.specs.Hops.Hops.{blk_put, blk_moves, IsBlock};
 pub fn hop_law()
     ensures { (scene : Scene) (hostile : Hostiles) (history : History) (rows : List QueueRow)
         (journal : List Entry) (place : BlkPlace)
-        → QueuesFlow hostile history rows journal
+        → QueuesFlow history rows journal
         → IsBlock scene hostile rows (moved history journal) place
         → blk_put place.first (length place.entries) (moved history journal)
         ≤ blk_moves place.asks }

@@ -71,12 +71,17 @@ moved e e' same w passed h =
     (subst (λ (qs : List QueueId). VirtStands e.input.queue.0 e.output.queue.0 qs (to_queues e') w passed) (sym same.from_clients)
     (subst (λ (qs : List QueueId). VirtStands e.input.queue.0 e.output.queue.0 (from_queues e) qs w passed) (sym same.to_clients) h)))
 
-pub still : (i o : ℕ) (f t : List QueueId) (w : Work) (passed : Passed) (took put : Lists) → ((n : ℕ) → took n ≡ []) → ((n : ℕ) → put n ≡ []) → VirtStands i o f t w passed → VirtStands i o f t w (record { taken = with passed.taken took; sent = with passed.sent put; dropped = passed.dropped })
-still i o f t w passed took put takes puts h = subst (λ (p : Passed). VirtStands i o f t w p) (nothing passed took put takes puts) h
+-- whatever was called
+with_calls : (i o : ℕ) (f t : List QueueId) (w : Work) (passed : Passed) (calls : List Event) → VirtStands i o f t w passed → VirtStands i o f t w (record passed { calls = calls })
+with_calls i o f t w passed calls h = record { work = h.work; start = h.start; long = h.long; back = h.back; taken = h.taken; stands = h.stands; stray = h.stray; balances = h.balances }
 
-module _ (i o : ℕ) (f t : List QueueId) (w w' : Work) (same : SameWork w w') (fits : IsWork w') (passed : Passed) (took put : Lists) (h : VirtStands i o f t w passed) where
+-- where nothing moved, all stays
+pub still : (i o : ℕ) (f t : List QueueId) (w : Work) (passed : Passed) (took put : Lists) (calls : List Event) → ((n : ℕ) → took n ≡ []) → ((n : ℕ) → put n ≡ []) → VirtStands i o f t w passed → VirtStands i o f t w (record { taken = with passed.taken took; sent = with passed.sent put; calls = calls })
+still i o f t w passed took put calls takes puts h = subst (λ (p : Passed). VirtStands i o f t w p) (nothing passed took put calls takes puts) (with_calls i o f t w passed calls h)
+
+module _ (i o : ℕ) (f t : List QueueId) (w w' : Work) (same : SameWork w w') (fits : IsWork w') (passed : Passed) (took put : Lists) (calls : List Event) (h : VirtStands i o f t w passed) where
   abbrev after : Passed
-  after = record { taken = with passed.taken took; sent = with passed.sent put; dropped = passed.dropped }
+  after = record { taken = with passed.taken took; sent = with passed.sent put; calls = calls }
 
   none_on : (lists more : Lists) (n : ℕ) → more n ≡ [] → lists n ++ more n ≡ lists n
   none_on lists more n e = ap (λ c. lists n ++ c) e ∙ append-nil (lists n)

@@ -7,6 +7,7 @@ use Rattle.std.proofs.lemmas.Option.{slice_get-get_or, get_or_from_slice_get}
 use Rattle.std.proofs.lemmas.List.{append-nil}
 use Rattle.std.proofs.lemmas.List.Elements.{All-nil, All-cons}
 use Rattle.cargo_core.specs.declared.item.PoolId.{PoolId}
+use Rattle.wire_core.specs.declared.names.Event.{Event}
 use Rattle.wire_core.specs.declared.names.QueueId.{QueueId}
 use Rattle.wire_core.specs.Deeds.{Cargo}
 use Rattle.wire_core.specs.Lists.{Lists, Passed, with, if_there}
@@ -102,9 +103,9 @@ there_more lists k j more e = ap (λ b. lists j ++ if_there b more) (eq-eqb k j 
 pub other_more : (lists : ℕ → List Cargo) (k j : ℕ) (more : List Cargo) → (k ≡ j → ⊥) → with_more lists k more j ≡ lists j
 other_more lists k j more ne = ap (λ b. lists j ++ if_there b more) (ne_eqb k j ne) ∙ append-nil (lists j)
 
--- where nothing moved, all stays
-pub nothing : (passed : Passed) (took put : Lists) → ((n : ℕ) → took n ≡ []) → ((n : ℕ) → put n ≡ []) → passed ≡ record { taken = with passed.taken took; sent = with passed.sent put; dropped = passed.dropped }
-nothing passed took put takes puts = sym (λ j. record { taken = none_more passed.taken took takes j; sent = none_more passed.sent put puts j; dropped = passed.dropped })
+-- where nothing moved, all lists stay
+pub nothing : (passed : Passed) (took put : Lists) (calls : List Event) → ((n : ℕ) → took n ≡ []) → ((n : ℕ) → put n ≡ []) → record passed { calls = calls } ≡ record { taken = with passed.taken took; sent = with passed.sent put; calls = calls }
+nothing passed took put calls takes puts = sym (λ j. record { taken = none_more passed.taken took takes j; sent = none_more passed.sent put puts j; calls = calls })
 
 pub none_if : (b : Bool) → if_there b [] ≡ []
 none_if true = refl

@@ -1,8 +1,11 @@
-//! What queues carry, and the lists and texts in which reports and descriptions are kept.
+//! What queues carry, the acts of hostile clients, and the lists and texts in which reports and
+//! descriptions are kept.
 #![tactic(auto)]
 
+mod act;
 mod blocks;
 mod bytes;
+mod census;
 mod frame_log;
 mod frame_tape;
 mod item;
@@ -14,8 +17,10 @@ mod series;
 mod tape;
 mod text;
 
+pub use act::{Act, Word};
 pub use blocks::{BLK_BUFFER_BYTES, BLOCK_BYTES, SECTOR_BYTES};
 pub use bytes::Bytes;
+pub use census::Census;
 pub use frame_log::FrameLog;
 pub use frame_tape::FrameTape;
 pub use item::{

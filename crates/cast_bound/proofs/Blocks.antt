@@ -80,7 +80,7 @@ module _ (plan : Plan) (trace : Trace) (cast : List Part) (history : History) (j
         record { row = r.0; there = r.1; calm = calm_row cast r.0; enough = omega arith };
   }
 
-  pub few_put : QueuesFlow (hostiles cast) history (queues_of plan) journal → blk_put (blk_first plan) (length blk.client) (moved history journal) ≤ blk_moves trace.asks
+  pub few_put : QueuesFlow history (queues_of plan) journal → blk_put (blk_first plan) (length blk.client) (moved history journal) ≤ blk_moves trace.asks
   few_put flows =
       let few = blk_moved (scene_of cast) (hostiles cast) history (queues_of plan) journal place flows is_block in
       let asks = asks_few (length (blk_clients plan)) trace.asks in
@@ -89,7 +89,7 @@ module _ (plan : Plan) (trace : Trace) (cast : List Part) (history : History) (j
       omega (arith, few, asks, here)
 
 pub blk_within : (plan : Plan) (trace : Trace) (cast : List Part) (history : History) (journal : List Entry) → Valid plan → ((blk : Blk) → plan.blk ≡ Some blk → HasBlk (queues_of plan) (blk_place plan trace) cast)
-    → QueuesFlow (hostiles cast) history (queues_of plan) journal → RowsHold (sheet (scene_of cast)) (hostiles cast) cast (moved history journal) → BlkMoves plan trace (moved history journal)
+    → QueuesFlow history (queues_of plan) journal → RowsHold (sheet (scene_of cast)) (hostiles cast) cast (moved history journal) → BlkMoves plan trace (moved history journal)
 blk_within plan trace cast history journal valid has flows rows = by plan.blk refl
   where
     by : (o : Option Blk) → plan.blk ≡ o → BlkMoves plan trace (moved history journal)

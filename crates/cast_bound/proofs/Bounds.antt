@@ -21,7 +21,7 @@ use Rattle.cast_bound.specs.PlayBound.Standing.{StandsFrom, Carries, serial_firs
 use Rattle.cast_bound.proofs.PlayBound.Bounding.{within_budget}
 use Rattle.cast_bound.proofs.PlayBound.Classes.{classes_within}
 
-pub serial_within : (plan : Plan) (trace : Trace) (cast : List Part) (history : History) (journal : List Entry) → QueuesFlow (hostiles cast) history (queues_of plan) journal
+pub serial_within : (plan : Plan) (trace : Trace) (cast : List Part) (history : History) (journal : List Entry) → QueuesFlow history (queues_of plan) journal
     → ((serial : Serial) → plan.serial ≡ Some serial → (class : SerialClass) × StandsFrom (serial_first plan.net) (length serial.client) class × Carries trace class × IsSerial (λ p. (serial_sheet p).row (moved history journal)) (hostiles cast) (queues_of plan) class)
     → SerialMoves plan trace (moved history journal)
 serial_within plan trace cast history journal flows has = by plan.serial refl
@@ -33,7 +33,7 @@ serial_within plan trace cast history journal flows has = by plan.serial refl
         with_serial serial h.0 is h.1 h.2 (serial_moves (hostiles cast) history (queues_of plan) journal h.0 flows h.3)
 
 pub short : (plan : Plan) (trace : Trace) (cast : List Part) (history : History) (journal : List Entry) → Valid plan → length cast ≡ length (actors_of plan) → IsPeopled (queues_of plan) (length cast)
-    → BellsHold (hostiles cast) history (queues_of plan) [] → QueuesFlow (hostiles cast) history (queues_of plan) [] → LegalJournal (hostiles cast) history (queues_of plan) journal → Brisk (hostiles cast) no_drops journal
+    → BellsHold (hostiles cast) history (queues_of plan) [] → QueuesFlow history (queues_of plan) [] → LegalJournal (hostiles cast) history (queues_of plan) journal → Brisk (hostiles cast) (queues_of plan) no_drops journal
     → NetMoves plan trace (moved history journal) → SerialMoves plan trace (moved history journal) → BlkMoves plan trace (moved history journal) → length journal < budget_of plan trace
 short plan trace cast history journal valid count peopled bells flows legal brisk net serial blk =
     within_budget plan trace (hostiles cast) history journal valid (λ n row at. calm_row cast row) bells flows legal brisk (subst (IsPeopled (queues_of plan)) count peopled) (classes_within plan trace history journal net serial blk)

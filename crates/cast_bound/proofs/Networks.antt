@@ -119,7 +119,7 @@ module _ (plan : Plan) (trace : Trace) (cast : List Part) (history : History) (j
   }
 
 pub net_within : (plan : Plan) (trace : Trace) (cast : List Part) (history : History) (journal : List Entry) → Valid plan → ((net : Net) → plan.net ≡ Some net → HasWhole (queues_of plan) (net_place plan trace) cast) → scene_of cast ≡ scene_for plan trace
-    → QueuesFlow (hostiles cast) history (queues_of plan) journal → RowsHold (sheet (scene_of cast)) (hostiles cast) cast (moved history journal) → NetMoves plan trace (moved history journal)
+    → QueuesFlow history (queues_of plan) journal → RowsHold (sheet (scene_of cast)) (hostiles cast) cast (moved history journal) → NetMoves plan trace (moved history journal)
 net_within plan trace cast history journal valid whole scene flows rows = by plan.net refl
   where
     by : (o : Option Net) → plan.net ≡ o → NetMoves plan trace (moved history journal)

@@ -36,17 +36,17 @@ pub fn cast_bound_law()
         (journal : List Entry) → Valid plan → ((net : Net) → plan.net ≡ Some net
         → HasWhole (queues_of plan) (net_place plan trace) cast)
         → scene_of cast ≡ scene_for plan trace
-        → QueuesFlow (hostiles cast) history (queues_of plan) journal
+        → QueuesFlow history (queues_of plan) journal
         → RowsHold (sheet (scene_of cast)) (hostiles cast) cast (moved history journal)
         → NetMoves plan trace (moved history journal) }
     ensures block { (plan : Plan) (trace : Trace) (cast : List Part) (history : History)
         (journal : List Entry) → Valid plan → ((blk : Blk) → plan.blk ≡ Some blk
         → HasBlk (queues_of plan) (blk_place plan trace) cast)
-        → QueuesFlow (hostiles cast) history (queues_of plan) journal
+        → QueuesFlow history (queues_of plan) journal
         → RowsHold (sheet (scene_of cast)) (hostiles cast) cast (moved history journal)
         → BlkMoves plan trace (moved history journal) }
     ensures serial { (plan : Plan) (trace : Trace) (cast : List Part) (history : History)
-        (journal : List Entry) → QueuesFlow (hostiles cast) history (queues_of plan) journal
+        (journal : List Entry) → QueuesFlow history (queues_of plan) journal
         → ((serial : Serial) → plan.serial ≡ Some serial → (class : SerialClass)
         × StandsFrom (serial_first plan.net) (length serial.client) class × Carries trace class
         × IsSerial (λ p. (serial_sheet p).row (moved history journal)) (hostiles cast)
@@ -56,9 +56,10 @@ pub fn cast_bound_law()
         (journal : List Entry) → Valid plan
         → length cast ≡ length (actors_of plan) → IsPeopled (queues_of plan) (length cast)
         → BellsHold (hostiles cast) history (queues_of plan) []
-        → QueuesFlow (hostiles cast) history (queues_of plan) []
+        → QueuesFlow history (queues_of plan) []
         → LegalJournal (hostiles cast) history (queues_of plan) journal
-        → Brisk (hostiles cast) no_drops journal → NetMoves plan trace (moved history journal)
+        → Brisk (hostiles cast) (queues_of plan) no_drops journal
+        → NetMoves plan trace (moved history journal)
         → SerialMoves plan trace (moved history journal)
         → BlkMoves plan trace (moved history journal) → length journal < budget_of plan trace }
 {}

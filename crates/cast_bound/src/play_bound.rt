@@ -21,8 +21,9 @@ pub fn bound_law()
     ensures bounded { (plan : Plan) (trace : Trace) (hostile : Hostiles) (history : History)
         (journal : List Entry) → Valid plan → AreCalm hostile (queues_of plan)
         → BellsHold hostile history (queues_of plan) []
-        → QueuesFlow hostile history (queues_of plan) []
-        → LegalJournal hostile history (queues_of plan) journal → Brisk hostile no_drops journal
+        → QueuesFlow history (queues_of plan) []
+        → LegalJournal hostile history (queues_of plan) journal
+        → Brisk hostile (queues_of plan) no_drops journal
         → AreOwned (queues_of plan) (length (actors_of plan))
         → all_sent history (queues_of plan) journal ≤ hops_of (counts_of plan trace)
         → length journal < budget_of plan trace }

@@ -2,6 +2,7 @@
 //! came to their end.
 
 ghost use Rattle.std.specs.Prelude.{◌≡◌, ◌++◌, ℕ, List};
+ghost use Rattle.wire_core.specs.declared.names.Event.{Event};
 ghost use Rattle.wire_core.specs.declared.names.QueueRow.{QueueRow};
 ghost use Rattle.spsc_queue.specs.Known.Ends.{RingIs, EndedIs};
 ghost use Rattle.actor_set.specs.declared.actor.Actor.{Actor};
@@ -12,16 +13,17 @@ ghost use Rattle.cast_law.specs.Gone.Gone.{HaveGone, passed_of, left_at, actors_
 
 /// Where the actors of a wired cast stood apart with nothing passed, made their calls at their own
 /// ends, and their rings came to their end, each actor is of the part that it was and stands for
-/// what the ended rings say passed, of which nothing came out of turn; the clients put good
-/// descriptors and requests alone; and entries carry the pages that their items name. Each queue
-/// handed over in order: what was put there is what was taken and then what is left.
+/// what the ended rings say passed, by some calls, of which nothing came out of turn; the clients
+/// put good descriptors and requests alone; and entries carry the pages that their items name. Each
+/// queue handed over in order: what was put there is what was taken and then what is left.
 pub fn gone_law()
     ensures held { (rows : List QueueRow) (rings : List RingIs) (olds news : List Apart)
         (actors : List Actor) (ended : List EndedIs) → HaveGone rows rings olds news
         → AreFinished rows rings news actors ended
-        → HaveHeld rows (actors_apart olds) actors (passed_of ended) }
+        → (calls : List Event)
+        × HaveHeld rows (actors_apart olds) actors (passed_of ended calls) }
     ensures hands_over { (rows : List QueueRow) (rings : List RingIs) (olds news : List Apart)
         (actors : List Actor) (ended : List EndedIs) → HaveGone rows rings olds news
-        → AreFinished rows rings news actors ended → (n : ℕ)
-        → (passed_of ended).sent n ≡ (passed_of ended).taken n ++ left_at ended n }
+        → AreFinished rows rings news actors ended → (calls : List Event) (n : ℕ)
+        → (passed_of ended calls).sent n ≡ (passed_of ended calls).taken n ++ left_at ended n }
 {}

@@ -3,7 +3,7 @@
 //! this project's own; that a client has one queue each way is sDDF's.
 
 ghost use Rattle.std.specs.Prelude.{◌≡◌, ◌+◌, ◌-◌, ◌<◌, ◌≤◌, ◌^◌, ◌==◌, ◌∷◌, [], ℕ, None, IfOk};
-ghost use Rattle.std.specs.Prelude.{OnErr, is_none, false, length, slice_get};
+ghost use Rattle.std.specs.Prelude.{OnErr, is_none, false, length, slice_get, List};
 ghost use Rattle.std.specs.Option.{option_to_list};
 ghost use Rattle.cargo_core.specs.Blocks.{blk_buffer_bytes};
 ghost use Rattle.cargo_core.specs.Bodies.{buffers_of};
@@ -133,13 +133,13 @@ impl BlkClient {
         ensures others { self.new
             ≡ record self.old { asking = self.new.asking; stray = self.new.stray } }
         ensures stands { (responses requests : ℕ) (passed : Passed) (took put : Lists)
-            → ((n : ℕ) → took n ≡ if_there (responses == n) (entry ∷ []))
+            (calls : List Event) → ((n : ℕ) → took n ≡ if_there (responses == n) (entry ∷ []))
             → ((n : ℕ) → put n ≡ []) → BlkStands responses requests self.old.asking [] passed
             → BlkStands responses requests self.new.asking (option_to_list self.new.stray)
             (record {
               taken = with passed.taken took;
               sent = with passed.sent put;
-              dropped = passed.dropped;
+              calls = calls;
             }) }
     {
         if self.asking.is_due() {

@@ -6,6 +6,7 @@ mod counts;
 mod expected;
 mod report;
 
+pub use cargo_core::Census;
 pub use counts::{ClassCounts, budget};
 pub use expected::{client_entry, frames_for, input_of, replies_of};
-pub use report::{Census, Report};
+pub use report::Report;

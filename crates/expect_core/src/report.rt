@@ -1,6 +1,6 @@
 //! What a play shows, as a value: the system fills it, and the printer reads it.
 
-use cargo_core::{Bytes, FrameLog, Reply, Series, Text};
+use cargo_core::{Bytes, Census, FrameLog, Reply, Series};
 
 /// What a play shows: how it ended, what the wire, the serial line and each client got, and where
 /// the buffers are. The lists of clients are empty, and `wire` and `line` are `None`, where the
@@ -25,15 +25,4 @@ pub struct Report {
     pub pools: Series<Census>,
     /// The descriptors and requests that the virtualisers counted as bad.
     pub bad: u64,
-}
-
-/// Where the buffers of a pool are. Each is counted once, and a lent one once, however many
-/// receivers it has.
-#[derive(Debug, Drop)]
-pub struct Census {
-    pub name: Text,
-    pub buffers: u32,
-    pub queues: u32,
-    pub hands: u32,
-    pub lent: u32,
 }

@@ -28,7 +28,7 @@ no_buffer lease None none h = refl
 no_buffer lease (Some b) none h = let t : is_some {T = Cargo} None ≡ true = ap is_some (sym none) ∙ h refl in cc
 
 -- a lease came
-module _ (c : NetCopier) (i : Intake) (s : Stage) (x : Cargo) (passed : Passed) (took put : Lists)
+module _ (c : NetCopier) (i : Intake) (s : Stage) (x : Cargo) (passed : Passed) (took put : Lists) (calls : List Event)
     (queue : i.queue ≡ c.lease_input.queue) (none : c.lease ≡ None) (at : IsAt s x) (new : is_copied s ≡ false)
     (apart : c.lease_input.queue.0 ≡ c.buffer_input.queue.0 → ⊥)
     (takes : (n : ℕ) → took n ≡ if_there (c.lease_input.queue.0 == n) (x ∷ [])) (puts : (n : ℕ) → put n ≡ []) (h : CopierStandsFor c passed) where
@@ -66,7 +66,7 @@ module _ (c : NetCopier) (i : Intake) (s : Stage) (x : Cargo) (passed : Passed) 
       let ra_is : length (passed.sent ra ++ option_to_list c.buffer) ≡ length (passed.sent ra) = ap (λ (b : Option Cargo). length (passed.sent ra ++ option_to_list b)) buffer_none ∙ ap length (append-nil (passed.sent ra)) in
       omega (arith, long, same, ra_is, h.takes, h.puts, returned)
 
-  pub lease_came : CopierStandsFor (record c { lease_input = i; lease = Some x; stage = s }) (record { taken = with passed.taken took; sent = with passed.sent put; dropped = passed.dropped })
+  pub lease_came : CopierStandsFor (record c { lease_input = i; lease = Some x; stage = s }) (record { taken = with passed.taken took; sent = with passed.sent put; calls = calls })
   lease_came = record {
     leases = rw (queue, came, puts lf, append-nil (passed.sent lf), all_back) refl;
     copies = rw (queue, came, came_not, puts ra, append-nil (passed.sent ra), append-nil (passed.taken rf), map-append leased_bytes (passed.taken la) (x ∷ []), filled_still (map leased_bytes (passed.taken la)) (leased_bytes x ∷ []) (passed.taken rf) few) h.copies;
@@ -77,7 +77,7 @@ module _ (c : NetCopier) (i : Intake) (s : Stage) (x : Cargo) (passed : Passed) 
   }
 
 -- a buffer came, and was filled
-module _ (c : NetCopier) (i : Intake) (x e : Cargo) (passed : Passed) (took put : Lists)
+module _ (c : NetCopier) (i : Intake) (x e : Cargo) (passed : Passed) (took put : Lists) (calls : List Event)
     (queue : i.queue ≡ c.buffer_input.queue) (lease : c.lease ≡ Some x) (none : c.buffer ≡ None) (stage : c.stage ≡ At.Taken)
     (apart : c.buffer_input.queue.0 ≡ c.lease_input.queue.0 → ⊥)
     (takes : (n : ℕ) → took n ≡ if_there (c.buffer_input.queue.0 == n) (e ∷ [])) (puts : (n : ℕ) → put n ≡ []) (h : CopierStandsFor c passed) where
@@ -117,7 +117,7 @@ module _ (c : NetCopier) (i : Intake) (x e : Cargo) (passed : Passed) (took put 
   copied : passed.sent ra' ++ filled (leased_bytes x) e ∷ [] ≡ all_filled (map leased_bytes (passed.taken la')) (passed.taken rf' ++ e ∷ [])
   copied = ap (λ cs. cs ++ filled (leased_bytes x) e ∷ []) (sym all_put ∙ h.copies) ∙ sym (filled_more (map leased_bytes (passed.taken la')) (passed.taken rf') (leased_bytes x) e its_lease)
 
-  pub buffer_came : CopierStandsFor (record c { buffer_input = i; buffer = Some (filled (leased_bytes x) e) }) (record { taken = with passed.taken took; sent = with passed.sent put; dropped = passed.dropped })
+  pub buffer_came : CopierStandsFor (record c { buffer_input = i; buffer = Some (filled (leased_bytes x) e) }) (record { taken = with passed.taken took; sent = with passed.sent put; calls = calls })
   buffer_came = record {
     leases = rw (got_not, puts lf', append-nil (passed.sent lf'), append-nil (passed.taken la')) h.leases;
     copies = rw (queue, got, got_not, puts ra', append-nil (passed.sent ra'), append-nil (passed.taken la')) copied;
@@ -132,7 +132,7 @@ module _ (c : NetCopier) (i : Intake) (x e : Cargo) (passed : Passed) (took put 
   }
 
 -- the lease went back, or stayed
-module _ (c : NetCopier) (o : Outlet) (p l' : Option Cargo) (passed : Passed) (took put : Lists)
+module _ (c : NetCopier) (o : Outlet) (p l' : Option Cargo) (passed : Passed) (took put : Lists) (calls : List Event)
     (queue : o.queue ≡ c.lease_output.queue) (stage : c.stage ≡ At.Copied) (parts : option_to_list c.lease ≡ option_to_list p ++ option_to_list l')
     (apart : c.lease_output.queue.0 ≡ c.buffer_output.queue.0 → ⊥)
     (takes : (n : ℕ) → took n ≡ []) (puts : (n : ℕ) → put n ≡ if_there (c.lease_output.queue.0 == n) (option_to_list p)) (h : CopierStandsFor c passed) where
@@ -195,7 +195,7 @@ module _ (c : NetCopier) (o : Outlet) (p l' : Option Cargo) (passed : Passed) (t
       gone None f = refl
       gone (Some x) f = let no : At.Copied ≡ At.Taken = sym stage ∙ (f refl).1 in absurd cc
 
-  pub lease_went : CopierStandsFor (record c { lease_output = o; lease = l' }) (record { taken = with passed.taken took; sent = with passed.sent put; dropped = passed.dropped })
+  pub lease_went : CopierStandsFor (record c { lease_output = o; lease = l' }) (record { taken = with passed.taken took; sent = with passed.sent put; calls = calls })
   lease_went = record {
     leases = rw (queue, takes lb, went, append-nil (passed.taken lb)) (h.leases ∙ (ap (λ xs. passed.sent lg ++ xs) parts ∙ sym (append_assoc (passed.sent lg) (option_to_list p) (option_to_list l'))));
     copies = rw (takes lb, takes rg, went_not, append-nil (passed.taken lb), append-nil (passed.taken rg), append-nil (passed.sent rb)) h.copies;
@@ -244,8 +244,8 @@ pub puts_none : (e : Event) (n m : ℕ) → if_there (n == m) (option_to_list (p
 puts_none e n m = ap (λ (o : Option Cargo). if_there (n == m) (option_to_list o)) (given_none e.item) ∙ none_there (n == m)
 
 -- nothing moved where leases go
-pub none_went : (c : NetCopier) (o : Outlet) (passed : Passed) (took put : Lists) → o.queue ≡ c.lease_output.queue → ((n : ℕ) → took n ≡ []) → ((n : ℕ) → put n ≡ []) → CopierStandsFor c passed → CopierStandsFor (record c { lease_output = o }) (record { taken = with passed.taken took; sent = with passed.sent put; dropped = passed.dropped })
-none_went c o passed took put queue takes puts h =
+pub none_went : (c : NetCopier) (o : Outlet) (passed : Passed) (took put : Lists) (calls : List Event) → o.queue ≡ c.lease_output.queue → ((n : ℕ) → took n ≡ []) → ((n : ℕ) → put n ≡ []) → CopierStandsFor c passed → CopierStandsFor (record c { lease_output = o }) (record { taken = with passed.taken took; sent = with passed.sent put; calls = calls })
+none_went c o passed took put calls queue takes puts h =
     let la = takes c.lease_input.queue.0 in
     let rf = takes c.buffer_input.queue.0 in
     let ra = puts c.buffer_output.queue.0 in

@@ -17,7 +17,7 @@ ghost use Rattle.net_law.specs.Hops.Hops.{net_put, net_moves, IsNetwork};
 pub fn hop_law()
     ensures { (scene : Scene) (hostile : Hostiles) (history : History) (rows : List QueueRow)
         (journal : List Entry) (net : NetPlace)
-        → QueuesFlow hostile history rows journal
+        → QueuesFlow history rows journal
         → IsNetwork scene hostile rows (moved history journal) net
         → net_put net.first (length net.macs) (moved history journal)
         ≤ net_moves net scene.frames }

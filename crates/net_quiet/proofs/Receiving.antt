@@ -113,7 +113,7 @@ module _ (hostile : Hostiles) (h : History) (rows : List QueueRow) (actors : Nee
   queue = queue_at hostile h rows actors j scene net still w
 
   begins_at : (n : ℕ) → Holds hostile rows n 1 → IsPrefix (got n) (put n)
-  begins_at n there = (still.flows n there.row there.there there.calm).begins
+  begins_at n there = (still.flows n there.row there.there).begins
 
   flow_at : (n : ℕ) → Holds hostile rows n 1 → length (got n) ≤ length (put n)
   flow_at n there = flow hostile h rows actors j still n 1 there
@@ -248,7 +248,7 @@ module _ (hostile : Hostiles) (h : History) (rows : List QueueRow) (actors : Nee
 
     came_back : IsPrefix (got lf) (due mac)
     came_back =
-        let back : IsPrefix (got lf) (put lf) = (still.flows lf at_lf.row at_lf.there at_lf.calm).begins in
+        let back : IsPrefix (got lf) (put lf) = (still.flows lf at_lf.row at_lf.there).begins in
         let given = copier_row.gives_back in
         prefix_trans (got lf) (put lf) (due mac) back (prefix_trans (put lf) (got la) (due mac) given (prefix_trans (got la) (put la) (due mac) (begins_at la at_la) lent))
 

@@ -47,15 +47,20 @@ moved e e' same w passed h =
     (subst (λ (qs : List QueueId). RxStands e.input.queue.0 e.output.queue.0 qs (to_queues e') w passed) (sym same.from_clients)
     (subst (λ (qs : List QueueId). RxStands e.input.queue.0 e.output.queue.0 (from_queues e) qs w passed) (sym same.to_clients) h)))
 
--- where nothing moved, all stays
-pub nothing : (passed : Passed) (took put : Lists) → ((n : ℕ) → took n ≡ []) → ((n : ℕ) → put n ≡ []) → passed ≡ record { taken = with passed.taken took; sent = with passed.sent put; dropped = passed.dropped }
-nothing passed took put takes puts = sym (λ j. record { taken = none_more passed.taken took takes j; sent = none_more passed.sent put puts j; dropped = passed.dropped })
+-- the lists stay
+lists_stay : (passed : Passed) (took put : Lists) (calls : List Event) → ((n : ℕ) → took n ≡ []) → ((n : ℕ) → put n ≡ []) → record passed { calls = calls } ≡ record { taken = with passed.taken took; sent = with passed.sent put; calls = calls }
+lists_stay passed took put calls takes puts = sym (λ j. record { taken = none_more passed.taken took takes j; sent = none_more passed.sent put puts j; calls = calls })
 
-pub still : (e e' : VirtEnds) → SameVirt e e' → (w w' : Sharer) → w' ≡ w → (passed : Passed) (took put : Lists) → ((n : ℕ) → took n ≡ []) → ((n : ℕ) → put n ≡ []) → RxStands e.input.queue.0 e.output.queue.0 (from_queues e) (to_queues e) w passed → RxStands e'.input.queue.0 e'.output.queue.0 (from_queues e') (to_queues e') w' (record { taken = with passed.taken took; sent = with passed.sent put; dropped = passed.dropped })
-still e e' same w w' is passed took put takes puts h =
-    moved e e' same w' (record { taken = with passed.taken took; sent = with passed.sent put; dropped = passed.dropped })
-    (subst (λ (v : Sharer). RxStands e.input.queue.0 e.output.queue.0 (from_queues e) (to_queues e) v (record { taken = with passed.taken took; sent = with passed.sent put; dropped = passed.dropped })) (sym is)
-    (subst (λ (p : Passed). RxStands e.input.queue.0 e.output.queue.0 (from_queues e) (to_queues e) w p) (nothing passed took put takes puts) h))
+-- whatever was called
+with_calls : (i o : ℕ) (f t : List QueueId) (w : Sharer) (passed : Passed) (calls : List Event) → RxStands i o f t w passed → RxStands i o f t w (record passed { calls = calls })
+with_calls i o f t w passed calls h = record { work = h.work; start = h.start; is_start = h.is_start; turn = h.turn; place = h.place; taken = h.taken; stands = h.stands; stray = h.stray; balances = h.balances }
+
+-- where nothing moved, all stays
+pub still : (e e' : VirtEnds) → SameVirt e e' → (w w' : Sharer) → w' ≡ w → (passed : Passed) (took put : Lists) (calls : List Event) → ((n : ℕ) → took n ≡ []) → ((n : ℕ) → put n ≡ []) → RxStands e.input.queue.0 e.output.queue.0 (from_queues e) (to_queues e) w passed → RxStands e'.input.queue.0 e'.output.queue.0 (from_queues e') (to_queues e') w' (record { taken = with passed.taken took; sent = with passed.sent put; calls = calls })
+still e e' same w w' is passed took put calls takes puts h =
+    moved e e' same w' (record { taken = with passed.taken took; sent = with passed.sent put; calls = calls })
+    (subst (λ (v : Sharer). RxStands e.input.queue.0 e.output.queue.0 (from_queues e) (to_queues e) v (record { taken = with passed.taken took; sent = with passed.sent put; calls = calls })) (sym is)
+    (subst (λ (p : Passed). RxStands e.input.queue.0 e.output.queue.0 (from_queues e) (to_queues e) w p) (lists_stay passed took put calls takes puts) (with_calls e.input.queue.0 e.output.queue.0 (from_queues e) (to_queues e) w passed calls h)))
 
 pub none_if : (b : Bool) → if_there b [] ≡ []
 none_if true = refl
@@ -103,9 +108,9 @@ balance_out pool start taken took sent put came went w w' p takes one hand lent 
     let kept = ap (λ (l : List (Option Loan)). buffers_of pool (lent_bodies l)) lent in
     omega (arith, more, same, kept, one, hand, was)
 
-module _ (i o : ℕ) (f t : List QueueId) (w w' : Sharer) (same : SameSharer w w') (fits : IsSharer w') (passed : Passed) (took put : Lists) (h : RxStands i o f t w passed) where
+module _ (i o : ℕ) (f t : List QueueId) (w w' : Sharer) (same : SameSharer w w') (fits : IsSharer w') (passed : Passed) (took put : Lists) (calls : List Event) (h : RxStands i o f t w passed) where
   abbrev after : Passed
-  after = record { taken = with passed.taken took; sent = with passed.sent put; dropped = passed.dropped }
+  after = record { taken = with passed.taken took; sent = with passed.sent put; calls = calls }
 
   turn_on : w.stray ≡ None → w'.stray ≡ None → (n : ℕ) → passed.taken n ++ took n ≡ (h.turn n ++ took n) ++ if_there (h.place == n) (option_to_list w'.stray)
   turn_on none none' n = ap (λ c. c ++ took n) (h.taken n ∙ (ap (λ c. h.turn n ++ c) (stray_none (h.place == n) w.stray none) ∙ append-nil (h.turn n))) ∙ (sym (append-nil (h.turn n ++ took n)) ∙ ap (λ c. (h.turn n ++ took n) ++ c) (sym (stray_none (h.place == n) w'.stray none')))
@@ -197,7 +202,7 @@ module _ (i o : ℕ) (f t : List QueueId) (w w' : Sharer) (same : SameSharer w w
         (λ pool. later_more pool put p o t k q at apart ne puts)
 
 -- an entry strayed
-module _ (i o : ℕ) (f t : List QueueId) (w : Sharer) (x : Cargo) (passed : Passed) (took put : Lists) (place : ℕ) (h : RxStands i o f t w passed) (fits : IsSharer (record w { stray = Some x })) (none : w.stray ≡ None)
+module _ (i o : ℕ) (f t : List QueueId) (w : Sharer) (x : Cargo) (passed : Passed) (took put : Lists) (calls : List Event) (place : ℕ) (h : RxStands i o f t w passed) (fits : IsSharer (record w { stray = Some x })) (none : w.stray ≡ None)
     (takes : (n : ℕ) → took n ≡ if_there (place == n) (x ∷ [])) (puts : (n : ℕ) → put n ≡ []) where
   abbrev ws : Sharer
   ws = record w { stray = Some x }
@@ -229,8 +234,8 @@ module _ (i o : ℕ) (f t : List QueueId) (w : Sharer) (x : Cargo) (passed : Pas
       let one = cargo-cons pool x [] in
       omega (arith, now, then, hand, hand', gone, one)
 
-  pub strays : IsOutOfTurn i o f w h.turn passed.sent place x → ((pool : PoolId) → buffers_of pool (bodies_at took (i ∷ map (λ q. q.0) f)) ≡ buffers_of pool (bodies_of (x ∷ []))) → RxStands i o f t ws (record { taken = with passed.taken took; sent = with passed.sent put; dropped = passed.dropped })
-  strays out one = subst (λ (s : Lists). RxStands i o f t ws (record { taken = with passed.taken took; sent = s; dropped = passed.dropped })) (sym (none_more passed.sent put puts)) (record {
+  pub strays : IsOutOfTurn i o f w h.turn passed.sent place x → ((pool : PoolId) → buffers_of pool (bodies_at took (i ∷ map (λ q. q.0) f)) ≡ buffers_of pool (bodies_of (x ∷ []))) → RxStands i o f t ws (record { taken = with passed.taken took; sent = with passed.sent put; calls = calls })
+  strays out one = subst (λ (s : Lists). RxStands i o f t ws (record { taken = with passed.taken took; sent = s; calls = calls })) (sym (none_more passed.sent put puts)) (record {
     work = fits;
     start = h.start;
     is_start = h.is_start;
@@ -386,32 +391,32 @@ is_there None x e = absurd cc
 is_there (Some y) x e = refl
 
 -- a frame came, in turn or out of it
-pub rx_takes : (i o : ℕ) (f t : List QueueId) (w w' : Sharer) → IsSharer w → IsSharer w' → is_idle w ≡ true → length f ≡ length w.macs.items → (x : Cargo) (passed : Passed) (took put : Lists) → SameSharer w w' → (is_back w x ≡ true → w'.stray ≡ w.stray)
+pub rx_takes : (i o : ℕ) (f t : List QueueId) (w w' : Sharer) → IsSharer w → IsSharer w' → is_idle w ≡ true → length f ≡ length w.macs.items → (x : Cargo) (passed : Passed) (took put : Lists) (calls : List Event) → SameSharer w w' → (is_back w x ≡ true → w'.stray ≡ w.stray)
     → (is_back w x ≡ true → (start : List Paged) (frames given : List Cargo) (shared back : ℕ → List Cargo) → SharerStands w start frames given shared back → SharerStands w' start (frames ++ x ∷ []) given shared back)
     → (is_back w x ≡ false → w' ≡ record w { stray = Some x }) → ((pool : PoolId) → buffers_of pool (sharer_bodies w') ≡ buffers_of pool (sharer_bodies w) + buffers_in pool x.1)
     → ((k : ℕ) (q : QueueId) → slice_get f k ≡ Some q → i ≡ q.0 → ⊥) → ((n : ℕ) → took n ≡ if_there (i == n) (x ∷ [])) → ((n : ℕ) → put n ≡ []) → RxStands i o f t w passed → (is_back w x ≡ true) ⊎ (is_back w x ≡ false)
-    → RxStands i o f t w' (record { taken = with passed.taken took; sent = with passed.sent put; dropped = passed.dropped })
-rx_takes i o f t w w' work fits idle from_each x passed took put same turn stands stray held apart takes puts h (inl turned_in) =
-    frame_in i o f t w w' same fits passed took put h x puts from_each (no_stray w work idle) (turn turned_in) held (stands turned_in) apart takes
-rx_takes i o f t w w' work fits idle from_each x passed took put same turn stands stray held apart takes puts h (inr strayed) =
-    subst (λ (v : Sharer). RxStands i o f t v (record { taken = with passed.taken took; sent = with passed.sent put; dropped = passed.dropped })) (sym (stray strayed))
-    (strays i o f t w x passed took put i h (subst IsSharer (stray strayed) fits) (no_stray w work idle) takes puts (inl (refl, frame_out w work idle x strayed h.start (h.turn i) (passed.sent o) (λ k. passed.sent (queue_at t k)) (λ k. h.turn (queue_at f k)) h.stands)) (λ pool. first_more pool took (x ∷ []) i f apart takes))
+    → RxStands i o f t w' (record { taken = with passed.taken took; sent = with passed.sent put; calls = calls })
+rx_takes i o f t w w' work fits idle from_each x passed took put calls same turn stands stray held apart takes puts h (inl turned_in) =
+    frame_in i o f t w w' same fits passed took put calls h x puts from_each (no_stray w work idle) (turn turned_in) held (stands turned_in) apart takes
+rx_takes i o f t w w' work fits idle from_each x passed took put calls same turn stands stray held apart takes puts h (inr strayed) =
+    subst (λ (v : Sharer). RxStands i o f t v (record { taken = with passed.taken took; sent = with passed.sent put; calls = calls })) (sym (stray strayed))
+    (strays i o f t w x passed took put calls i h (subst IsSharer (stray strayed) fits) (no_stray w work idle) takes puts (inl (refl, frame_out w work idle x strayed h.start (h.turn i) (passed.sent o) (λ k. passed.sent (queue_at t k)) (λ k. h.turn (queue_at f k)) h.stands)) (λ pool. first_more pool took (x ∷ []) i f apart takes))
 
 -- a lease came back, in turn or out of it
-pub rx_returns : (i o : ℕ) (f t : List QueueId) (w w' : Sharer) → IsSharer w → IsSharer w' → is_idle w ≡ true → length f ≡ length w.macs.items → (k : ℕ) (q : QueueId) → slice_get f k ≡ Some q → AreApart f → (i ≡ q.0 → ⊥) → (x : Cargo) (passed : Passed) (took put : Lists) → SameSharer w w' → (is_returned w k x ≡ true → w'.stray ≡ w.stray)
+pub rx_returns : (i o : ℕ) (f t : List QueueId) (w w' : Sharer) → IsSharer w → IsSharer w' → is_idle w ≡ true → length f ≡ length w.macs.items → (k : ℕ) (q : QueueId) → slice_get f k ≡ Some q → AreApart f → (i ≡ q.0 → ⊥) → (x : Cargo) (passed : Passed) (took put : Lists) (calls : List Event) → SameSharer w w' → (is_returned w k x ≡ true → w'.stray ≡ w.stray)
     → (is_returned w k x ≡ true → (start : List Paged) (frames given : List Cargo) (shared back : ℕ → List Cargo) → SharerStands w start frames given shared back → SharerStands w' start frames given shared (with_more back k (x ∷ [])))
     → (is_returned w k x ≡ false → w' ≡ record w { stray = Some x }) → ((pool : PoolId) → buffers_of pool (sharer_bodies w') ≡ buffers_of pool (sharer_bodies w) + buffers_in pool x.1)
     → ((n : ℕ) → took n ≡ if_there (q.0 == n) (x ∷ [])) → ((n : ℕ) → put n ≡ []) → RxStands i o f t w passed → (is_returned w k x ≡ true) ⊎ (is_returned w k x ≡ false)
-    → RxStands i o f t w' (record { taken = with passed.taken took; sent = with passed.sent put; dropped = passed.dropped })
-rx_returns i o f t w w' work fits idle from_each k q at apart ne x passed took put same turn stands stray held takes puts h (inl turned_in) =
-    lease_in i o f t w w' same fits passed took put h x puts from_each (no_stray w work idle) (turn turned_in) held k q at apart ne (stands turned_in) takes
-rx_returns i o f t w w' work fits idle from_each k q at apart ne x passed took put same turn stands stray held takes puts h (inr strayed) =
+    → RxStands i o f t w' (record { taken = with passed.taken took; sent = with passed.sent put; calls = calls })
+rx_returns i o f t w w' work fits idle from_each k q at apart ne x passed took put calls same turn stands stray held takes puts h (inl turned_in) =
+    lease_in i o f t w w' same fits passed took put calls h x puts from_each (no_stray w work idle) (turn turned_in) held k q at apart ne (stands turned_in) takes
+rx_returns i o f t w w' work fits idle from_each k q at apart ne x passed took put calls same turn stands stray held takes puts h (inr strayed) =
     let there : k < length w.macs.items = (let l = slice_get_within f k q at in omega (arith, l, from_each)) in
     let mac : Mac = slice_index_or w.macs.items k (record { 0 = [] }) in
     let mac_at : slice_get w.macs.items k ≡ Some mac = slice_get-get_or w.macs.items k (record { 0 = [] }) there in
     let place : q.0 ≡ queue_at f k = sym (queue_is f k q at) in
-    subst (λ (v : Sharer). RxStands i o f t v (record { taken = with passed.taken took; sent = with passed.sent put; dropped = passed.dropped })) (sym (stray strayed))
-    (strays i o f t w x passed took put q.0 h (subst IsSharer (stray strayed) fits) (no_stray w work idle) takes puts
+    subst (λ (v : Sharer). RxStands i o f t v (record { taken = with passed.taken took; sent = with passed.sent put; calls = calls })) (sym (stray strayed))
+    (strays i o f t w x passed took put calls q.0 h (subst IsSharer (stray strayed) fits) (no_stray w work idle) takes puts
     (inr (k, mac, mac_at, place, λ b. lease_stray w work k mac mac_at x strayed (h.turn i) h.stands.earlier (passed.sent (queue_at t k)) (h.turn (queue_at f k)) (h.stands.clients k mac mac_at) (subst (λ n. IsLeaseInTurn w.stock mac (h.turn i) (h.turn n) x) place b)))
     (λ pool. later_more pool took (x ∷ []) i f k q at apart ne takes))
 

@@ -46,18 +46,23 @@ moved e e' same w passed h =
     (subst (λ (qs : List QueueId). TxStands e.input.queue.0 e.output.queue.0 qs (to_queues e') w passed) (sym same.from_clients)
     (subst (λ (qs : List QueueId). TxStands e.input.queue.0 e.output.queue.0 (from_queues e) qs w passed) (sym same.to_clients) h)))
 
-pub still : (e e' : VirtEnds) → SameVirt e e' → (w : Traffic) (passed : Passed) (took put : Lists) → ((n : ℕ) → took n ≡ []) → ((n : ℕ) → put n ≡ []) → TxStands e.input.queue.0 e.output.queue.0 (from_queues e) (to_queues e) w passed → TxStands e'.input.queue.0 e'.output.queue.0 (from_queues e') (to_queues e') w (record { taken = with passed.taken took; sent = with passed.sent put; dropped = passed.dropped })
-still e e' same w passed took put takes puts h =
-    moved e e' same w (record { taken = with passed.taken took; sent = with passed.sent put; dropped = passed.dropped })
-    (subst (λ (p : Passed). TxStands e.input.queue.0 e.output.queue.0 (from_queues e) (to_queues e) w p) (nothing passed took put takes puts) h)
+-- whatever was called
+with_calls : (i o : ℕ) (f t : List QueueId) (w : Traffic) (passed : Passed) (calls : List Event) → TxStands i o f t w passed → TxStands i o f t w (record passed { calls = calls })
+with_calls i o f t w passed calls h = record { work = h.work; from_each = h.from_each; to_each = h.to_each; turn = h.turn; place = h.place; taken = h.taken; stands = h.stands; stray = h.stray; balances = h.balances }
+
+-- where nothing moved, all stays
+pub still : (e e' : VirtEnds) → SameVirt e e' → (w : Traffic) (passed : Passed) (took put : Lists) (calls : List Event) → ((n : ℕ) → took n ≡ []) → ((n : ℕ) → put n ≡ []) → TxStands e.input.queue.0 e.output.queue.0 (from_queues e) (to_queues e) w passed → TxStands e'.input.queue.0 e'.output.queue.0 (from_queues e') (to_queues e') w (record { taken = with passed.taken took; sent = with passed.sent put; calls = calls })
+still e e' same w passed took put calls takes puts h =
+    moved e e' same w (record { taken = with passed.taken took; sent = with passed.sent put; calls = calls })
+    (subst (λ (p : Passed). TxStands e.input.queue.0 e.output.queue.0 (from_queues e) (to_queues e) w p) (nothing passed took put calls takes puts) (with_calls e.input.queue.0 e.output.queue.0 (from_queues e) (to_queues e) w passed calls h))
 
 pub stray_none : (b : Bool) (s : Option Cargo) → s ≡ None → if_there b (option_to_list s) ≡ []
 stray_none b s e = ap (λ (o : Option Cargo). if_there b (option_to_list o)) e ∙ none_if b
 
 -- a client was served further
-module _ (i o : ℕ) (f t : List QueueId) (w w' : Traffic) (k : ℕ) (came sent returned back : List Cargo) (m : OneMoved w w' k came sent returned back) (none : w.stray ≡ None) (passed : Passed) (took put : Lists) (h : TxStands i o f t w passed) where
+module _ (i o : ℕ) (f t : List QueueId) (w w' : Traffic) (k : ℕ) (came sent returned back : List Cargo) (m : OneMoved w w' k came sent returned back) (none : w.stray ≡ None) (passed : Passed) (took put : Lists) (calls : List Event) (h : TxStands i o f t w passed) where
   abbrev after : Passed
-  after = record { taken = with passed.taken took; sent = with passed.sent put; dropped = passed.dropped }
+  after = record { taken = with passed.taken took; sent = with passed.sent put; calls = calls }
 
   none' : w'.stray ≡ None
   none' = m.stray ∙ none
@@ -112,13 +117,13 @@ not_client : (n : ℕ) (qs : List QueueId) (more : Lists) (x : List Cargo) → (
 not_client n qs more x apart h k j there = h (queue_at qs j) ∙ (beside n (queue_at qs j) x (apart j (slice_index_or qs j (record { 0 = 0 })) (queue_there qs j there)) ∙ sym (none_if (k == j)))
 
 -- each of the four ways in which a client is served
-module _ (i o : ℕ) (f t : List QueueId) (w w' : Traffic) (k : ℕ) (passed : Passed) (took put : Lists) (from_each : length f ≡ length w.clients.items) (to_each : length t ≡ length w.clients.items) (none : w.stray ≡ None) (h : TxStands i o f t w passed) where
+module _ (i o : ℕ) (f t : List QueueId) (w w' : Traffic) (k : ℕ) (passed : Passed) (took put : Lists) (calls : List Event) (from_each : length f ≡ length w.clients.items) (to_each : length t ≡ length w.clients.items) (none : w.stray ≡ None) (h : TxStands i o f t w passed) where
   abbrev then : Passed
-  then = record { taken = with passed.taken took; sent = with passed.sent put; dropped = passed.dropped }
+  then = record { taken = with passed.taken took; sent = with passed.sent put; calls = calls }
 
   -- a descriptor came in turn
   pub descriptor_in : (x : Cargo) → OneMoved w w' k (x ∷ []) [] [] [] → (q : QueueId) → slice_get f k ≡ Some q → AreApart f → (i ≡ q.0 → ⊥) → ((n : ℕ) → took n ≡ if_there (q.0 == n) (x ∷ [])) → ((n : ℕ) → put n ≡ []) → TxStands i o f t w' then
-  descriptor_in x m q at apart ne takes puts = served i o f t w w' k (x ∷ []) [] [] [] m none passed took put h
+  descriptor_in x m q at apart ne takes puts = served i o f t w w' k (x ∷ []) [] [] [] m none passed took put calls h
       (λ j there. at_client f k q at apart took (x ∷ []) takes j (omega (arith, from_each, there)) (cases_eq k j))
       (puts o)
       (takes i ∙ beside q.0 i (x ∷ []) (λ e. ne (sym e)))
@@ -128,7 +133,7 @@ module _ (i o : ℕ) (f t : List QueueId) (w w' : Traffic) (k : ℕ) (passed : P
 
   -- a buffer came back in turn
   pub buffer_in : (x : Cargo) → OneMoved w w' k [] [] (x ∷ []) [] → ((j : ℕ) (q : QueueId) → slice_get f j ≡ Some q → i ≡ q.0 → ⊥) → ((n : ℕ) → took n ≡ if_there (i == n) (x ∷ [])) → ((n : ℕ) → put n ≡ []) → TxStands i o f t w' then
-  buffer_in x m apart takes puts = served i o f t w w' k [] [] (x ∷ []) [] m none passed took put h
+  buffer_in x m apart takes puts = served i o f t w w' k [] [] (x ∷ []) [] m none passed took put calls h
       (λ j there. not_client i f took (x ∷ []) apart takes k j (omega (arith, from_each, there)))
       (puts o)
       (takes i ∙ if_there_here i (x ∷ []))
@@ -138,7 +143,7 @@ module _ (i o : ℕ) (f t : List QueueId) (w w' : Traffic) (k : ℕ) (passed : P
 
   -- a descriptor went to the driver
   pub descriptor_out : (p : List Cargo) → OneMoved w w' k [] p [] [] → ((j : ℕ) (q : QueueId) → slice_get t j ≡ Some q → o ≡ q.0 → ⊥) → ((n : ℕ) → took n ≡ []) → ((n : ℕ) → put n ≡ if_there (o == n) p) → TxStands i o f t w' then
-  descriptor_out p m apart takes puts = served i o f t w w' k [] p [] [] m none passed took put h
+  descriptor_out p m apart takes puts = served i o f t w w' k [] p [] [] m none passed took put calls h
       (λ j there. takes (queue_at f j) ∙ sym (none_if (k == j)))
       (puts o ∙ if_there_here o p)
       (takes i)
@@ -148,7 +153,7 @@ module _ (i o : ℕ) (f t : List QueueId) (w w' : Traffic) (k : ℕ) (passed : P
 
   -- an entry went back to the client
   pub entry_back : (p : List Cargo) → OneMoved w w' k [] [] [] p → (q : QueueId) → slice_get t k ≡ Some q → AreApart t → (o ≡ q.0 → ⊥) → ((n : ℕ) → took n ≡ []) → ((n : ℕ) → put n ≡ if_there (q.0 == n) p) → TxStands i o f t w' then
-  entry_back p m q at apart ne takes puts = served i o f t w w' k [] [] [] p m none passed took put h
+  entry_back p m q at apart ne takes puts = served i o f t w w' k [] [] [] p m none passed took put calls h
       (λ j there. takes (queue_at f j) ∙ sym (none_if (k == j)))
       (puts o ∙ beside q.0 o p (λ e. ne (sym e)))
       (takes i)
@@ -157,7 +162,7 @@ module _ (i o : ℕ) (f t : List QueueId) (w w' : Traffic) (k : ℕ) (passed : P
       (λ pool. later_more pool put p o t k q at apart ne puts ∙ sym (zero-add (carried pool p)))
 
 -- an entry strayed
-module _ (i o : ℕ) (f t : List QueueId) (w : Traffic) (x : Cargo) (passed : Passed) (took put : Lists) (place : ℕ) (h : TxStands i o f t w passed) (none : w.stray ≡ None)
+module _ (i o : ℕ) (f t : List QueueId) (w : Traffic) (x : Cargo) (passed : Passed) (took put : Lists) (calls : List Event) (place : ℕ) (h : TxStands i o f t w passed) (none : w.stray ≡ None)
     (takes : (n : ℕ) → took n ≡ if_there (place == n) (x ∷ [])) (puts : (n : ℕ) → put n ≡ []) where
   abbrev ws : Traffic
   ws = record w { stray = Some x }
@@ -165,8 +170,8 @@ module _ (i o : ℕ) (f t : List QueueId) (w : Traffic) (x : Cargo) (passed : Pa
   pub strays_work : IsTraffic ws
   strays_work = record { each = h.work.each; ranges_are = h.work.ranges_are; apart = h.work.apart; few = h.work.few }
 
-  pub strays : IsOutOfTurn i o f t (senders w) h.turn passed.sent place x → ((pool : PoolId) → buffers_of pool (bodies_at took (i ∷ map (λ q. q.0) f)) ≡ carried pool (x ∷ [])) → TxStands i o f t ws (record { taken = with passed.taken took; sent = with passed.sent put; dropped = passed.dropped })
-  strays out one = subst (λ (s : Lists). TxStands i o f t ws (record { taken = with passed.taken took; sent = s; dropped = passed.dropped })) (sym (none_more passed.sent put puts)) (record {
+  pub strays : IsOutOfTurn i o f t (senders w) h.turn passed.sent place x → ((pool : PoolId) → buffers_of pool (bodies_at took (i ∷ map (λ q. q.0) f)) ≡ carried pool (x ∷ [])) → TxStands i o f t ws (record { taken = with passed.taken took; sent = with passed.sent put; calls = calls })
+  strays out one = subst (λ (s : Lists). TxStands i o f t ws (record { taken = with passed.taken took; sent = s; calls = calls })) (sym (none_more passed.sent put puts)) (record {
     work = strays_work;
     from_each = h.from_each;
     to_each = h.to_each;
@@ -273,21 +278,21 @@ descriptor_stray c h came sent returned back s x idle good mark turn =
     omega (arith, le, p, q, split, sends, sends', none, counts, rets, rets', bads, bads', good_none, merge, marks, leaves, one)
 
 -- an entry came back from the driver, in turn or out of it
-pub tx_back : (i o : ℕ) (f t : List QueueId) (w w' : Traffic) (x : Cargo) (passed : Passed) (took put : Lists) → length f ≡ length w.clients.items → length t ≡ length w.clients.items → w.stray ≡ None → TxStands i o f t w passed → TookBack w w' x → ((j : ℕ) (q : QueueId) → slice_get f j ≡ Some q → i ≡ q.0 → ⊥)
-    → ((n : ℕ) → took n ≡ if_there (i == n) (x ∷ [])) → ((n : ℕ) → put n ≡ []) → TxStands i o f t w' (record { taken = with passed.taken took; sent = with passed.sent put; dropped = passed.dropped })
-tx_back i o f t w w' x passed took put from_each to_each none h (inl (k, m)) apart takes puts = buffer_in i o f t w w' k passed took put from_each to_each none h x m apart takes puts
-tx_back i o f t w w' x passed took put from_each to_each none h (inr (off, is)) apart takes puts =
-    subst (λ (v : Traffic). TxStands i o f t v (record { taken = with passed.taken took; sent = with passed.sent put; dropped = passed.dropped })) (sym is)
-    (strays i o f t w x passed took put i h none takes puts (inl (refl, back_stray w h.work (λ k. h.turn (queue_at f k)) (passed.sent o) (h.turn i) (λ k. passed.sent (queue_at t k)) h.stands x off)) (λ pool. first_more pool took (x ∷ []) i f apart takes))
+pub tx_back : (i o : ℕ) (f t : List QueueId) (w w' : Traffic) (x : Cargo) (passed : Passed) (took put : Lists) (calls : List Event) → length f ≡ length w.clients.items → length t ≡ length w.clients.items → w.stray ≡ None → TxStands i o f t w passed → TookBack w w' x → ((j : ℕ) (q : QueueId) → slice_get f j ≡ Some q → i ≡ q.0 → ⊥)
+    → ((n : ℕ) → took n ≡ if_there (i == n) (x ∷ [])) → ((n : ℕ) → put n ≡ []) → TxStands i o f t w' (record { taken = with passed.taken took; sent = with passed.sent put; calls = calls })
+tx_back i o f t w w' x passed took put calls from_each to_each none h (inl (k, m)) apart takes puts = buffer_in i o f t w w' k passed took put calls from_each to_each none h x m apart takes puts
+tx_back i o f t w w' x passed took put calls from_each to_each none h (inr (off, is)) apart takes puts =
+    subst (λ (v : Traffic). TxStands i o f t v (record { taken = with passed.taken took; sent = with passed.sent put; calls = calls })) (sym is)
+    (strays i o f t w x passed took put calls i h none takes puts (inl (refl, back_stray w h.work (λ k. h.turn (queue_at f k)) (passed.sent o) (h.turn i) (λ k. passed.sent (queue_at t k)) h.stands x off)) (λ pool. first_more pool took (x ∷ []) i f apart takes))
 
 -- a descriptor came from a client, in turn or out of it
-pub tx_in : (i o : ℕ) (f t : List QueueId) (w w' : Traffic) (k : ℕ) (q : QueueId) (x : Cargo) (passed : Passed) (took put : Lists) → length f ≡ length w.clients.items → length t ≡ length w.clients.items → w.stray ≡ None → TxStands i o f t w passed → TookIn w w' k x → slice_get f k ≡ Some q → AreApart f → (i ≡ q.0 → ⊥)
-    → ((n : ℕ) → took n ≡ if_there (q.0 == n) (x ∷ [])) → ((n : ℕ) → put n ≡ []) → TxStands i o f t w' (record { taken = with passed.taken took; sent = with passed.sent put; dropped = passed.dropped })
-tx_in i o f t w w' k q x passed took put from_each to_each none h (inl m) at apart ne takes puts = descriptor_in i o f t w w' k passed took put from_each to_each none h x m q at apart ne takes puts
-tx_in i o f t w w' k q x passed took put from_each to_each none h (inr ((c, there, idle, good, mark), is)) at apart ne takes puts =
+pub tx_in : (i o : ℕ) (f t : List QueueId) (w w' : Traffic) (k : ℕ) (q : QueueId) (x : Cargo) (passed : Passed) (took put : Lists) (calls : List Event) → length f ≡ length w.clients.items → length t ≡ length w.clients.items → w.stray ≡ None → TxStands i o f t w passed → TookIn w w' k x → slice_get f k ≡ Some q → AreApart f → (i ≡ q.0 → ⊥)
+    → ((n : ℕ) → took n ≡ if_there (q.0 == n) (x ∷ [])) → ((n : ℕ) → put n ≡ []) → TxStands i o f t w' (record { taken = with passed.taken took; sent = with passed.sent put; calls = calls })
+tx_in i o f t w w' k q x passed took put calls from_each to_each none h (inl m) at apart ne takes puts = descriptor_in i o f t w w' k passed took put calls from_each to_each none h x m q at apart ne takes puts
+tx_in i o f t w w' k q x passed took put calls from_each to_each none h (inr ((c, there, idle, good, mark), is)) at apart ne takes puts =
     let place : q.0 ≡ queue_at f k = sym (queue_is f k q at) in
-    subst (λ (v : Traffic). TxStands i o f t v (record { taken = with passed.taken took; sent = with passed.sent put; dropped = passed.dropped })) (sym is)
-    (strays i o f t w x passed took put q.0 h none takes puts
+    subst (λ (v : Traffic). TxStands i o f t v (record { taken = with passed.taken took; sent = with passed.sent put; calls = calls })) (sym is)
+    (strays i o f t w x passed took put calls q.0 h none takes puts
     (inr (k, c.sender, get_map (λ (y : Client). y.sender) w.clients.items k c there, place, λ b. descriptor_stray c (h.work.each k c there) (h.turn (queue_at f k)) (own_of c.sender (passed.sent o)) (own_of c.sender (h.turn i)) (passed.sent (queue_at t k)) (h.stands.clients k c there) x idle good mark (subst (λ n. IsDescriptorInTurn c.sender (h.turn n) (passed.sent (queue_at t k)) x) place b)))
     (λ pool. later_more pool took (x ∷ []) i f k q at apart ne takes))
 

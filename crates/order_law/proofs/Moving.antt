@@ -56,7 +56,9 @@ idle (Do.Wanted s) c Producer h = refl
 idle (Do.Settle s) c Consumer h = refl
 idle (Do.Settle s) c Producer h = refl
 idle (Do.Ring s) c Consumer h = refl
+idle (Do.Store w v) c Consumer h = refl
 idle (Do.Ring s) c Producer h = refl
+idle (Do.Store w v) c Producer h = refl
 
 pub same_role : (r r' : Role) → (r' ≢ r) ⊎ (r' ≡ r)
 same_role Consumer Consumer = inr refl
@@ -97,6 +99,7 @@ one_each n h (Do.Settle Forward) a c h' s t q d adds = omega (arith, ap length a
 one_each n h (Do.Settle Backward) a c h' s t q d adds = omega (arith, ap length adds)
 one_each n h (Do.Ring Forward) a c h' s t q d adds = omega (arith, ap length adds)
 one_each n h (Do.Ring Backward) a c h' s t q d adds = omega (arith, ap length adds)
+one_each n h (Do.Store w v) a c h' s t q d adds = absurd d
 
 one_entry : (n : ℕ) (h : Half) (o : Op) (a : Answer) (c : List Cargo) (h' : Half) → EndDid n h o a c h' → length (moved (role_of o) o c) ≤ 1
 one_entry n h Do.See a c h' d = omega arith
@@ -115,6 +118,7 @@ one_entry n h (Do.Settle Forward) a c h' d = omega arith
 one_entry n h (Do.Settle Backward) a c h' d = omega arith
 one_entry n h (Do.Ring Forward) a c h' d = omega arith
 one_entry n h (Do.Ring Backward) a c h' d = omega arith
+one_entry n h (Do.Store w v) a c h' d = absurd d
 
 -- what is added stands behind what was there
 here_begins : (o : Op) (s t : SeatsAre) (q : ℕ) → AddsTime o s q t → (more : List ℕ) × (times_at t (role_of o) q ≡ times_at s (role_of o) q ++ more)
@@ -128,6 +132,7 @@ here_begins (Do.Wake x) s t q adds = ([], adds ∙ sym (append-nil _))
 here_begins (Do.Wanted x) s t q adds = ([], adds ∙ sym (append-nil _))
 here_begins (Do.Settle x) s t q adds = ([], adds ∙ sym (append-nil _))
 here_begins (Do.Ring x) s t q adds = ([], adds ∙ sym (append-nil _))
+here_begins (Do.Store w v) s t q adds = ([], adds ∙ sym (append-nil _))
 
 ring_there : (x : Option EndIs) (y : Option EndIs) (e : EndIs) → ring_known x ≡ ring_known y → x ≡ Some e → (f : EndIs) × (y ≡ Some f)
 ring_there x None e same is = absurd (let z : ring_known x ≡ Some e.ring = ap ring_known is in cc)
@@ -199,6 +204,7 @@ takes (Do.Wake x) c some = absurd (omega arith)
 takes (Do.Wanted x) c some = absurd (omega arith)
 takes (Do.Settle x) c some = absurd (omega arith)
 takes (Do.Ring x) c some = absurd (omega arith)
+takes (Do.Store w v) c some = absurd (omega arith)
 
 some_there : (b : Bool) (c : List Cargo) → 0 < length (if_there b c) → 0 < length c
 some_there true c some = some

@@ -4,6 +4,7 @@ use Rattle.std.specs.Option.{option_map_or}
 use mathlib.Core.Logic.{dite}
 use native.Mathlib.Decide.{ℕ_discrete, dec_le}
 use Rattle.cargo_core.specs.Lists.{IsPrefix}
+use Rattle.wire_core.specs.declared.names.Event.{Event}
 use Rattle.wire_core.specs.declared.names.QueueRow.{QueueRow}
 use Rattle.wire_core.specs.declared.names.Op.{Op}
 use Rattle.wire_core.specs.declared.names.Op.TheVariants as Do
@@ -248,11 +249,11 @@ module _ (rows : List QueueRow) (news : List Seated) (peers : (n : ℕ) (row : Q
           (λ ne. let away : r ≡ role_of l.call.deed.event.op → n ≡ l.call.deed.event.queue.0 → ⊥ = (λ same at. ne (ap (λ (w : QueueRow). owner_of w r) (same_some row own_row.0 (sym is ∙ (ap (λ (m : ℕ). slice_get rows m) at ∙ own_row.1))) ∙ (ap (owner_of own_row.0) same ∙ own_row.2))) in
           listed_row rows sits' r n row z.0 is (set_beside sits k (owner_of row r) new ne ∙ z.1) ∙ (sym (listed_row rows sits r n row z.0 is z.1) ∙ (sym (append-nil (listed rows sits r n)) ∙ ap (λ (w : List Cargo). listed rows sits r n ++ w) (sym (moved_else l.call.deed r n away)))))
 
-      passed_next : passed_by rows sits' ≡ with_deed (passed_by rows sits) l.call.deed
-      passed_next = λ i. record {
+      passed_next : (calls : List Event) → passed_by rows sits' (calls ++ l.call.deed.event ∷ []) ≡ with_deed (passed_by rows sits calls) l.call.deed
+      passed_next calls = λ i. record {
         taken = λ n. listed_at Consumer n (slice_get rows n) refl i;
         sent = λ n. listed_at Producer n (slice_get rows n) refl i;
-        dropped = λ n. [];
+        calls = calls ++ l.call.deed.event ∷ [];
       }
 
       abbrev turn : Turn
@@ -261,8 +262,8 @@ module _ (rows : List QueueRow) (news : List Seated) (peers : (n : ℕ) (row : Q
       actors_next : actors_of sits' ≡ slice_set (actors_of sits) k l.call.actor
       actors_next = map_set (λ (w : Seated). w.actor) sits k new
 
-      is_turn : ((n : ℕ) → IsPrefix (listed rows sits' Consumer n) (listed rows sits' Producer n)) → IsTurn (actors_of sits) (passed_by rows sits) turn
-      is_turn over = record {
+      is_turn : (calls : List Event) → ((n : ℕ) → IsPrefix (listed rows sits' Consumer n) (listed rows sits' Producer n)) → IsTurn (actors_of sits) (passed_by rows sits calls) turn
+      is_turn calls over = record {
         old = x.actor;
         there = map_there (λ (w : Seated). w.actor) sits k x at_k.1;
         own = made.own;
@@ -270,7 +271,7 @@ module _ (rows : List QueueRow) (news : List Seated) (peers : (n : ℕ) (row : Q
         kept = made.kept;
         ends = seat_end l.call.seats;
         fits = made.fits;
-        hands_over = λ n. subst (λ (p : Passed). IsPrefix (p.taken n) (p.sent n)) passed_next (over n);
+        hands_over = λ n. subst (λ (p : Passed). IsPrefix (p.taken n) (p.sent n)) (passed_next calls) (over n);
       }
 
   -- where no call is to come, all is as it is at the end
@@ -281,12 +282,12 @@ module _ (rows : List QueueRow) (news : List Seated) (peers : (n : ℕ) (row : Q
       g.1 ∙ ap (λ (z : Seated). Some z) (λ i. record { actor = done.0 i; seats = done.1 i })
       ))
 
-  order : (many : ℕ) (sits : List Seated) (rest : List (List Call)) → total rest ≡ many → Under rows news sits rest → (turns : List Turn) × InOrder (actors_of sits) (passed_by rows sits) turns (actors_of news) (passed_by rows news)
-  order zero sits rest none u = let same = at_end sits rest u none in ([], (ap actors_of (sym same), ap (passed_by rows) (sym same)))
-  order (suc m) sits rest some u = let l = least rest (omega (arith, some)) in let u' = next sits rest u l in
+  order : (many : ℕ) (sits : List Seated) (rest : List (List Call)) (calls : List Event) → total rest ≡ many → Under rows news sits rest → (turns : List Turn) × (after : List Event) × InOrder (actors_of sits) (passed_by rows sits calls) turns (actors_of news) (passed_by rows news after)
+  order zero sits rest calls none u = let same = at_end sits rest u none in ([], calls, (ap actors_of (sym same), ap (λ (z : List Seated). passed_by rows z calls) (sym same)))
+  order (suc m) sits rest calls some u = let l = least rest (omega (arith, some)) in let u' = next sits rest u l in
       let fewer : total (rest' sits rest u l) ≡ m = omega (arith, total_set rest l.place l.call l.calls l.there, some) in
-      let go = order m (sits' sits rest u l) (rest' sits rest u l) fewer u' in
-      (turn sits rest u l ∷ go.0, (is_turn sits rest u l (hands (sits' sits rest u l) (rest' sits rest u l) u'), subst (λ (z : List Actor × Passed). InOrder z.0 z.1 go.0 (actors_of news) (passed_by rows news)) (λ i. (actors_next sits rest u l i, passed_next sits rest u l i)) go.1))
+      let go = order m (sits' sits rest u l) (rest' sits rest u l) (calls ++ l.call.deed.event ∷ []) fewer u' in
+      (turn sits rest u l ∷ go.0, go.1, (is_turn sits rest u l calls (hands (sits' sits rest u l) (rest' sits rest u l) u'), subst (λ (z : List Actor × Passed). InOrder z.0 z.1 go.0 (actors_of news) (passed_by rows news go.1)) (λ i. (actors_next sits rest u l i, passed_next sits rest u l calls i)) go.2))
 
 -- at the start
 listed_by : (rows : List QueueRow) (olds : List Seated) (r : Role) (n : ℕ) (row : QueueRow) → slice_get rows n ≡ Some row → listed rows olds r n ≡ option_map_or (λ (y : Seated). entries_at y.seats r n) (slice_get olds (owner_of row r)) []
@@ -301,11 +302,11 @@ module _ (rows : List QueueRow) (olds : List Seated) (anew : (k : ℕ) (x : Seat
   nothing_at r n None is = listed_none rows olds r n is
   nothing_at r n (Some row) is = listed_by rows olds r n row is ∙ of_owner r n (owner_of row r) (slice_get olds (owner_of row r)) refl
 
-  nothing_yet : passed_by rows olds ≡ nothing_passed
+  nothing_yet : passed_by rows olds [] ≡ nothing_passed
   nothing_yet = λ i. record {
     taken = λ n. nothing_at Consumer n (slice_get rows n) refl i;
     sent = λ n. nothing_at Producer n (slice_get rows n) refl i;
-    dropped = λ n. [];
+    calls = [];
   }
 
 tales_at : (P : ℕ → List Call → Type 0) (first : List Call) → P 0 first → (rest : List (List Call)) → ((k : ℕ) (cs : List Call) → slice_get rest k ≡ Some cs → P (suc k) cs) → (k : ℕ) (cs : List Call) → slice_get (first ∷ rest) k ≡ Some cs → P k cs
@@ -331,17 +332,17 @@ module _ (rows : List QueueRow) (olds news : List Seated) (run : HaveRun rows ol
     λ z is. (t.0, t.1, subst (λ (w : Seated). Goes w.actor w.seats t.2 t.0.actor t.0.seats) (same_some x.0 z (sym x.1 ∙ is)) t.3),
   )
 
-  pub ordered : (turns : List Turn) × InOrder (actors_of olds) nothing_passed turns (actors_of news) (passed_by rows news)
+  pub ordered : (turns : List Turn) × (calls : List Event) × InOrder (actors_of olds) nothing_passed turns (actors_of news) (passed_by rows news calls)
   ordered = let all = tales_in (length olds) Tells tells in
       let none : (k : ℕ) (x : Seated) → slice_get olds k ≡ Some x → (r : Role) (n : ℕ) → length (entries_at x.seats r n) ≡ 0 = (λ k x is r n. ap length (run.anew k x is r n).0) in
-      let go = order rows news (λ n row is r. (let lt = run.peers n row is r in omega (arith, lt, run.many))) run.flows (total all.0) olds all.0 refl record {
+      let go = order rows news (λ n row is r. (let lt = run.peers n row is r in omega (arith, lt, run.many))) run.flows (total all.0) olds all.0 [] refl record {
         many = sym run.many;
         rests = all.1 ∙ sym run.many;
         goes = λ k x cs is todo. all.2 k cs todo x is;
         own = run.own;
         sized = λ k x is r n. none k x is r n ∙ sym (ap length (run.anew k x is r n).1);
         few = λ n row is p c at_p at_c. omega (arith, none row.consumer.0 c at_c Consumer n);
-      } in (go.0, subst (λ (p : Passed). InOrder (actors_of olds) p go.0 (actors_of news) (passed_by rows news)) (nothing_yet rows olds (λ k x is r n. (run.anew k x is r n).0)) go.1)
+      } in (go.0, go.1, subst (λ (p : Passed). InOrder (actors_of olds) p go.0 (actors_of news) (passed_by rows news go.1)) (nothing_yet rows olds (λ k x is r n. (run.anew k x is r n).0)) go.2)
 
 -- what was put stays
 pub grows : (actors after : List Actor) (passed last : Passed) (turns : List Turn) → InOrder actors passed turns after last → (n : ℕ) → IsPrefix (passed.sent n) (last.sent n)

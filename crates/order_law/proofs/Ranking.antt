@@ -5,6 +5,7 @@ use mathlib.Core.Logic.{dite}
 use native.Mathlib.Decide.{ℕ_discrete, dec_le}
 use Rattle.wire_core.specs.declared.names.Op.{Op}
 use Rattle.wire_core.specs.declared.names.Op.TheVariants as Do
+use Rattle.cargo_core.specs.declared.act.Word.TheVariants as Words
 use Rattle.wire_core.specs.declared.names.Side.TheVariants.{Forward, Backward}
 use Rattle.wire_core.specs.Deeds.{Cargo}
 use Rattle.wire_core.specs.Ends.{Role, Consumer, Producer, role_of}
@@ -38,6 +39,7 @@ rank_of (Do.Wake x) n t = 0
 rank_of (Do.Wanted x) n t = 0
 rank_of (Do.Settle x) n t = 0
 rank_of (Do.Ring x) n t = 0
+rank_of (Do.Store w v) n t = 0
 
 abbrev pub rank : Call → ℕ
 rank c = rank_of c.deed.event.op c.deed.event.queue.0 c.seats
@@ -56,6 +58,7 @@ low (Do.Wake x) s t n time adds after = omega arith
 low (Do.Wanted x) s t n time adds after = omega arith
 low (Do.Settle x) s t n time adds after = omega arith
 low (Do.Ring x) s t n time adds after = omega arith
+low (Do.Store w v) s t n time adds after = omega arith
 
 -- a call leaves the times of a producing end as they are, or it puts there
 stays_or_puts : (o : Op) (s t : SeatsAre) (q n : ℕ) → AddsTime o s q t → ((r : Role) (m : ℕ) → (r ≡ role_of o → m ≡ q → ⊥) → times_at t r m ≡ times_at s r m)
@@ -76,6 +79,12 @@ stays_or_puts (Do.Settle Forward) s t q n adds others = dite (ℕ_discrete n q) 
 stays_or_puts (Do.Settle Backward) s t q n adds others = inl (others Producer n (λ e _. (let z : Producer ≡ Consumer = e in cc)))
 stays_or_puts (Do.Ring Forward) s t q n adds others = dite (ℕ_discrete n q) (λ at. inl (subst (λ (z : ℕ). times_at t Producer z ≡ times_at s Producer z) (sym at) adds)) (λ ne. inl (others Producer n (λ _ e. ne e)))
 stays_or_puts (Do.Ring Backward) s t q n adds others = inl (others Producer n (λ e _. (let z : Producer ≡ Consumer = e in cc)))
+stays_or_puts (Do.Store Words.Head v) s t q n adds others = inl (others Producer n (λ e _. (let z : Producer ≡ Consumer = e in cc)))
+stays_or_puts (Do.Store Words.Tail v) s t q n adds others = dite (ℕ_discrete n q) (λ at. inl (subst (λ (z : ℕ). times_at t Producer z ≡ times_at s Producer z) (sym at) adds)) (λ ne. inl (others Producer n (λ _ e. ne e)))
+stays_or_puts (Do.Store Words.Flag v) s t q n adds others = inl (others Producer n (λ e _. (let z : Producer ≡ Consumer = e in cc)))
+stays_or_puts (Do.Store Words.FlagBack v) s t q n adds others = dite (ℕ_discrete n q) (λ at. inl (subst (λ (z : ℕ). times_at t Producer z ≡ times_at s Producer z) (sym at) adds)) (λ ne. inl (others Producer n (λ _ e. ne e)))
+stays_or_puts (Do.Store Words.Pending v) s t q n adds others = inl (others Producer n (λ e _. (let z : Producer ≡ Consumer = e in cc)))
+stays_or_puts (Do.Store Words.PendingBack v) s t q n adds others = dite (ℕ_discrete n q) (λ at. inl (subst (λ (z : ℕ). times_at t Producer z ≡ times_at s Producer z) (sym at) adds)) (λ ne. inl (others Producer n (λ _ e. ne e)))
 
 -- over more calls what stands at an end stays there
 pub times_grow : (x : Actor) (s : SeatsAre) (cs : List Call) (y : Actor) (t : SeatsAre) → Goes x s cs y t → (r : Role) (n : ℕ) → (more : List ℕ) × (times_at t r n ≡ times_at s r n ++ more)

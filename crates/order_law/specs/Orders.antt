@@ -4,6 +4,7 @@ use Rattle.std.specs.Prelude.{slice_set}
 use Rattle.std.specs.Option.{option_map_or}
 use Rattle.cargo_core.specs.Lists.{IsPrefix}
 use Rattle.wire_core.specs.declared.names.QueueRow.{QueueRow}
+use Rattle.wire_core.specs.declared.names.Event.{Event}
 use Rattle.wire_core.specs.Deeds.{Deed, Cargo}
 use Rattle.wire_core.specs.Ends.{Role, Consumer, Producer, End, role_of}
 use Rattle.wire_core.specs.Journal.{owner_of}
@@ -36,12 +37,12 @@ listed rows all r n = option_map_or (λ (row : QueueRow).
     option_map_or (λ (x : Seated). entries_at x.seats r n) (slice_get all (owner_of row r)) [])
     (slice_get rows n) []
 
--- what passed at all queues: over rings nothing is dropped
-abbrev pub passed_by : List QueueRow → List Seated → Passed
-passed_by rows all = record {
+-- what passed at all queues, where these calls were made
+abbrev pub passed_by : List QueueRow → List Seated → List Event → Passed
+passed_by rows all calls = record {
   taken = listed rows all Consumer;
   sent = listed rows all Producer;
-  dropped = λ n. [];
+  calls = calls;
 }
 
 -- the actor at a place made a call, and is this one then

@@ -28,6 +28,7 @@ is_waiting (Do.Ask s) = false
 is_waiting (Do.Wanted s) = false
 is_waiting (Do.Settle s) = false
 is_waiting (Do.Ring s) = false
+is_waiting (Do.Store w v) = false
 
 -- an actor made this call at an end of its own, and fits its ends then: whatever it stood for, it
 -- now stands for that with what the call moved; at rest it only looked for a notification or wanted

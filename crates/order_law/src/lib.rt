@@ -5,6 +5,7 @@
 
 ghost use Rattle.std.specs.Prelude.{◌≡◌, ℕ, List, map};
 ghost use Rattle.cargo_core.specs.Lists.{IsPrefix};
+ghost use Rattle.wire_core.specs.declared.names.Event.{Event};
 ghost use Rattle.wire_core.specs.declared.names.QueueRow.{QueueRow};
 ghost use Rattle.wire_core.specs.Lists.{Passed, nothing_passed};
 ghost use Rattle.actor_set.specs.declared.actor.Actor.{Actor};
@@ -23,8 +24,9 @@ pub use actor_parts::{
 /// at a queue is a beginning of what was put there. What was put stays there.
 pub fn order_law()
     ensures ordered { (rows : List QueueRow) (olds news : List Seated) → HaveRun rows olds news
-        → (turns : List Turn)
-        × InOrder (actors_of olds) nothing_passed turns (actors_of news) (passed_by rows news) }
+        → (turns : List Turn) × (calls : List Event)
+        × InOrder (actors_of olds) nothing_passed turns (actors_of news)
+        (passed_by rows news calls) }
     ensures grows { (actors after : List Actor) (passed end : Passed) (turns : List Turn)
         → InOrder actors passed turns after end → (n : ℕ) → IsPrefix (passed.sent n) (end.sent n) }
 {}

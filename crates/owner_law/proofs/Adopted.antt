@@ -27,7 +27,7 @@ actor_is keepers f k p at = ap (λ o. number_of o f) at
 actor_past : (keepers : List Keeper) (f : Keeper → ℕ) (k : ℕ) → length keepers ≤ k → of_actor keepers f k ≡ 0
 actor_past keepers f k le = ap (λ o. number_of o f) (slice_get_past keepers k le)
 
-module _ (naming : Naming) (lender : ℕ) (hostile : Hostiles) (history : History) (rows : List QueueRow) (keepers : List Keeper) (is : IsNaming naming lender hostile rows) (flows : QueuesFlow hostile history rows []) (keeps : (k : ℕ) (p : Keeper) → slice_get keepers k ≡ Some p → Keeps p.hand (all_taken naming (moved history []) p.ends) (all_put naming (moved history []) p.ends)) (there : lender < length keepers) (one : HaveOnePlace naming lender keepers (length rows) (moved history [])) where
+module _ (naming : Naming) (lender : ℕ) (hostile : Hostiles) (history : History) (rows : List QueueRow) (keepers : List Keeper) (is : IsNaming naming lender hostile rows) (flows : QueuesFlow history rows []) (keeps : (k : ℕ) (p : Keeper) → slice_get keepers k ≡ Some p → Keeps p.hand (all_taken naming (moved history []) p.ends) (all_put naming (moved history []) p.ends)) (there : lender < length keepers) (one : HaveOnePlace naming lender keepers (length rows) (moved history [])) where
   abbrev m : Moved
   m = moved history []
 
@@ -43,7 +43,7 @@ module _ (naming : Naming) (lender : ℕ) (hostile : Hostiles) (history : Histor
           let zero_ : sum_by f (things_taken naming m n) ≡ 0 = subst (λ (x : Names). sum_by f (things_from x (requests_of x m) 0 (m.taken n)) ≡ 0) (sym h) (nothing_sum f none [] 0 (m.taken n)) in
           omega (arith, zero_)
       by (inr h) =
-          let begins : IsPrefix (taken history n []) (sent history n []) = (flows n h.row h.there h.calm).begins in
+          let begins : IsPrefix (taken history n []) (sent history n []) = (flows n h.row h.there).begins in
           let rs = requests_of (naming n) m in
           let whole : sum_by f (things_from (naming n) rs 0 (taken history n [] ++ begins.0)) ≡ sum_by f (things_sent naming m n) = ap (λ xs. sum_by f (things_from (naming n) rs 0 xs)) begins.1 in
           omega (arith, sum_things f (naming n) rs (taken history n []) begins.0, whole)

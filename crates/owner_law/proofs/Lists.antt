@@ -37,6 +37,7 @@ sent_more xs (Do.Wake s) c = sym (append-nil xs)
 sent_more xs (Do.Wanted s) c = sym (append-nil xs)
 sent_more xs (Do.Settle s) c = sym (append-nil xs)
 sent_more xs (Do.Ring s) c = sym (append-nil xs)
+sent_more xs (Do.Store w v) c = sym (append-nil xs)
 
 taken_more : (xs : List Item) (o : Op) (c : List Item) → taken_after xs o c ≡ xs ++ taken_after [] o c
 taken_more xs Do.Take c = refl
@@ -49,6 +50,7 @@ taken_more xs (Do.Wake s) c = sym (append-nil xs)
 taken_more xs (Do.Wanted s) c = sym (append-nil xs)
 taken_more xs (Do.Settle s) c = sym (append-nil xs)
 taken_more xs (Do.Ring s) c = sym (append-nil xs)
+taken_more xs (Do.Store w v) c = sym (append-nil xs)
 
 on_sent : (b : Bool) (t : Track) (e : Event) → (if_on b (track_after t e) t).sent ≡ t.sent ++ cond b (puts_of e) []
 on_sent true t e = sent_more t.sent e.op (option_to_list e.item)

@@ -98,7 +98,7 @@ module _ (naming : Naming) (lender : ℕ) (hostile : Hostiles) (history : Histor
       by : (naming q ≡ NoBuffers) ⊎ Holds hostile rows q 0 → Enough (naming q) (requests_of (naming q) (moved history j)) (length (taken history q j))
       by (inl none) = subst (λ (x : Names). Enough x (requests_of x (moved history j)) (length (taken history q j))) (sym none) tt
       by (inr holds) =
-          let few : length (taken history q j) ≤ length (sent history q j) = begins_few (taken history q j) (sent history q j) (kept.flows q holds.row holds.there holds.calm).begins in
+          let few : length (taken history q j) ≤ length (sent history q j) = begins_few (taken history q j) (sent history q j) (kept.flows q holds.row holds.there).begins in
           enough_less (naming q) (requests_of (naming q) (moved history j)) (length (sent history q j)) (length (taken history q j)) few (sent_enough j kept q)
 
   module _ (before : List Entry) (e : Entry) (legal : LegalEntry hostile history rows before e) (kept : IsKept naming hostile history rows keepers before) (next : IsKept naming hostile history rows keepers (before ++ e ∷ [])) (t : Table) (counted : AreCounted t) (shown : IsShownBy naming lender keepers (moved history before) t) where
@@ -268,7 +268,7 @@ module _ (naming : Naming) (lender : ℕ) (hostile : Hostiles) (history : Histor
       -- what was taken is among what was put
       among : (f : Thing → ℕ) → is_calm hostile legal.row ≡ true → sum_by f (things_taken naming m' n) ≤ sum_by f (things_sent naming m' n)
       among f calm =
-          let begins : IsPrefix (taken history n (before ++ e ∷ [])) (sent history n (before ++ e ∷ [])) = (next.flows n legal.row legal.there calm).begins in
+          let begins : IsPrefix (taken history n (before ++ e ∷ [])) (sent history n (before ++ e ∷ [])) = (next.flows n legal.row legal.there).begins in
           let names = naming n in
           let rs = requests_of names m' in
           let whole : sum_by f (things_from names rs 0 (taken history n (before ++ e ∷ []) ++ begins.0)) ≡ sum_by f (things_sent naming m' n) = ap (λ xs. sum_by f (things_from names rs 0 xs)) begins.1 in
@@ -326,6 +326,7 @@ module _ (naming : Naming) (lender : ℕ) (hostile : Hostiles) (history : Histor
     by_call (Do.Wanted s) item role moves = stay_step moves
     by_call (Do.Settle s) item role moves = stay_step moves
     by_call (Do.Ring s) item role moves = stay_step moves
+    by_call (Do.Store w v) item role moves = stay_step moves
     by_call (Do.Wake s) item role moves = stay_step moves
 
     pub entry_step : Result (move_of naming m e)

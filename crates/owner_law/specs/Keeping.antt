@@ -160,7 +160,7 @@ pub record IsKept (naming : Naming) (hostile : Hostiles) (history : History) (ro
   pub keeps : (k : ℕ) (p : Keeper) → hostile k ≡ false → slice_get keepers k ≡ Some p
       → Keeps p.hand (all_taken naming (moved history journal) p.ends)
       (all_put naming (moved history journal) p.ends)
-  pub flows : QueuesFlow hostile history rows journal
+  pub flows : QueuesFlow history rows journal
   pub answers : (n q : ℕ) (ws : List Window) → naming n ≡ Answers q ws
       → length (sent history n journal) ≤ length (sent history q journal)
 

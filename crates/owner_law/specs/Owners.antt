@@ -131,6 +131,7 @@ call_move (Do.Waive s) item put take = Stays
 call_move (Do.Wanted s) item put take = Stays
 call_move (Do.Settle s) item put take = Stays
 call_move (Do.Ring s) item put take = Stays
+call_move (Do.Store w v) item put take = Stays
 call_move (Do.Wake s) item put take = Stays
 
 -- what an entry of the journal moves, where so much went through the queues before it

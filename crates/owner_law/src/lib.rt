@@ -74,7 +74,7 @@ pub fn shown_law()
         → IsPool (shown_table naming lender keepers queues m) pool buffers }
     ensures shown { (naming : Naming) (lender : ℕ) (hostile : Hostiles) (history : History)
         (rows : List QueueRow) (keepers : List Keeper)
-        → IsNaming naming lender hostile rows → QueuesFlow hostile history rows []
+        → IsNaming naming lender hostile rows → QueuesFlow history rows []
         → ((k : ℕ) (p : Keeper) → slice_get keepers k ≡ Some p → Keeps p.hand
         (all_taken naming (moved history []) p.ends) (all_put naming (moved history []) p.ends))
         → lender < length keepers

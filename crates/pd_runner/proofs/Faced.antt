@@ -59,7 +59,7 @@ module _ (rings : List RingIs) (limit : ℕ) (k : Kept) (p q : Part) (l : Kept) 
     once = numbered_once (apart_of l) (part_seats rings q) numbers;
     on = numbered_on (apart_of l) (part_seats rings q) numbers ends_on;
     fits = subst (λ (z : (Role → ℕ → End) × Actor). FitsActor z.0 z.1) (λ i. (ends_same rings (apart_of l) (part_seats rings q) after_is i, (sym is.worker i).actor)) lawful.came.stands.sits.fits;
-    stands = subst (λ (z : Actor × Passed). ActorStandsFor z.0 z.1) (λ i. ((sym is.worker i).actor, passed_same rings (apart_of l) (part_seats rings q) after_is i)) lawful.came.stands.sits.lists;
+    stands = (lawful.came.stands.sits.lists.0, subst (λ (z : Actor × Passed). ActorStandsFor z.0 z.1) (λ i. ((sym is.worker i).actor, passed_same rings (apart_of l) (part_seats rings q) after_is lawful.came.stands.sits.lists.0 i)) lawful.came.stands.sits.lists.1);
     fine = ap (λ (w : Worker). w.wanted) is.worker ∙ lawful.fine;
   }
 
@@ -138,7 +138,7 @@ module _ (rings : List RingIs) (limit : ℕ) (k : Kept) (apart : IsApart rings k
     ended = sat;
     comes = comes_none k.0.actor sitting record {
       fits = subst (λ (z : Role → ℕ → End). FitsActor z k.0.actor) (sym (ends_same rings (apart_of k) sitting sat)) apart.fits;
-      lists = subst (ActorStandsFor k.0.actor) (sym (passed_same rings (apart_of k) sitting sat)) apart.stands;
+      lists = (apart.stands.0, subst (ActorStandsFor k.0.actor) (sym (passed_same rings (apart_of k) sitting sat apart.stands.0)) apart.stands.1);
     };
   }
 

@@ -1,5 +1,6 @@
 -- An actor apart sits at its ends by place as it stood apart, and stands apart as it sat.
 use Rattle.std.proofs.Common.{◌≡◌, ◌∙◌, ℕ, List, [], refl, sym, ap, arith, Option, Some, None, slice_get}
+use Rattle.wire_core.specs.declared.names.Event.{Event}
 use Rattle.wire_core.specs.declared.names.QueueId.{QueueId}
 use Rattle.wire_core.specs.declared.names.QueueRow.{QueueRow}
 use Rattle.wire_core.specs.Ends.{Role, Consumer, Producer}
@@ -25,8 +26,8 @@ module _ (rings : List RingIs) (p : Apart) (s : SeatsAre) (are : AreSeatsOf ring
       ends_at_is Producer n = ap end_known (are.same Producer n)
 
   -- and what passed there
-  pub passed_same : passed_at s ≡ apart_passed p
-  passed_same = λ i. record { taken = λ n. ap entries_known (are.same Consumer n) i; sent = λ n. ap entries_known (are.same Producer n) i; dropped = λ n. [] }
+  pub passed_same : (calls : List Event) → passed_at s calls ≡ apart_passed p calls
+  passed_same calls = λ i. record { taken = λ n. ap entries_known (are.same Consumer n) i; sent = λ n. ap entries_known (are.same Producer n) i; calls = calls }
 
   -- each end is of the ring at its place
   pub ends_on : ((r : Role) (i : ℕ) (x : QueueId × EndIs) → slice_get (ends_at p r) i ≡ Some x → (ring : RingIs) × (slice_get rings x.0.0 ≡ Some ring) × (x.1.ring ≡ ring.id)) → (r : Role) → EndsOn s.rings (ends_of s r)

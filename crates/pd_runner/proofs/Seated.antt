@@ -45,7 +45,7 @@ module _ (rings : List RingIs) (k : Kept) (apart : IsApart rings k) where
       few_consumers = few_places few k.2.items p.consumers.items consumers;
       sits = record {
         fits = subst (λ (z : (Role → ℕ → End) × Actor). FitsActor z.0 z.1) (λ i. (sym (ends_same rings (apart_of k) (part_seats rings p) are_seats) i, (sym same i).actor)) apart.fits;
-        lists = subst (λ (z : Actor × Passed). ActorStandsFor z.0 z.1) (λ i. ((sym same i).actor, sym (passed_same rings (apart_of k) (part_seats rings p) are_seats) i)) apart.stands;
+        lists = (apart.stands.0, subst (λ (z : Actor × Passed). ActorStandsFor z.0 z.1) (λ i. ((sym same i).actor, sym (passed_same rings (apart_of k) (part_seats rings p) are_seats apart.stands.0) i)) apart.stands.1);
       };
     }
 

@@ -20,8 +20,8 @@ pub comes_none : (a : Actor) (s : SeatsAre) → Sits a s → Comes a s 0 a s
 comes_none a s h = record { same = refl; sits = h; went = went_none s; calls = []; goes = (refl, refl) }
 
 -- what passed at its ends grows by what the call moved
-passed_on : (s : SeatsAre) (d : Deed) (t : SeatsAre) → SeatDid s d t → passed_at t ≡ with_deed (passed_at s) d
-passed_on s d t h = λ i. record { taken = taken_grow s d t h i; sent = sent_grow s d t h i; dropped = λ n. [] }
+passed_on : (s : SeatsAre) (d : Deed) (t : SeatsAre) (calls : List Event) → SeatDid s d t → passed_at t (calls ++ d.event ∷ []) ≡ with_deed (passed_at s calls) d
+passed_on s d t calls h = λ i. record { taken = taken_grow s d t h i; sent = sent_grow s d t h i; calls = calls ++ d.event ∷ [] }
 
 pub comes_on : (a : Actor) (s : SeatsAre) (n : ℕ) (b : Actor) (t : SeatsAre) (c : Actor) (u : SeatsAre) (e : Event)
     → Comes a s n b t → FitsActor (seat_end u) c → part_of c ≡ part_of b → Stepped ActorStandsFor SeatDid t u b c e → ActorEnd b (role_of e.op) e.queue.0 → (actor_rests b ≡ true → is_waiting e.op ≡ true) → Comes a s (n + 1) c u
@@ -29,7 +29,7 @@ comes_on a s n b t c u e h fits same st own due =
     let d : Deed = record { event = e; body = st.body } in
     record {
       same = same ∙ h.same;
-      sits = record { fits = fits; lists = subst (ActorStandsFor c) (sym (passed_on t d u st.happened)) (st.kept (passed_at t) h.sits.lists) };
+      sits = record { fits = fits; lists = (h.sits.lists.0 ++ e ∷ [], subst (ActorStandsFor c) (sym (passed_on t d u h.sits.lists.0 st.happened)) (st.kept (passed_at t h.sits.lists.0) h.sits.lists.1)) };
       went = went_then s n t 1 u h.went (went_one t d u st.happened);
       calls = h.calls ++ record { deed = d; actor = c; seats = u } ∷ [];
       goes = goes_on a s h.calls b t (record { deed = d; actor = c; seats = u }) h.goes record { did = st.happened; own = own; due = due; part = same; kept = st.kept; fits = fits };
@@ -76,7 +76,7 @@ module _ (rings : List RingIs) (old : Part) (n : ℕ) (new : Part) (s : SeatsAre
       sits = there.sits;
     };
     comes = there;
-    row = rows new.worker.actor (passed_at (part_seats rings new)) there.sits.lists;
+    row = (there.sits.lists.0, rows new.worker.actor (passed_at (part_seats rings new) there.sits.lists.0) there.sits.lists.1);
   }
 
   pub came_of : Comes old.worker.actor (part_seats rings old) n new.worker.actor s → Came rings old n new

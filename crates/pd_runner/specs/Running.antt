@@ -1,5 +1,6 @@
 -- What a run leaves of each part.
 use Rattle.std.specs.Prelude.{◌≡◌, ◌≤◌, ℕ, false, None, List, [], ◌∷◌, length}
+use Rattle.wire_core.specs.declared.names.Event.{Event}
 use Rattle.wire_core.specs.Lists.{Passed}
 use Rattle.spsc_queue.specs.Known.Ends.{RingIs}
 use Rattle.seat_wires.specs.Places.Are.{SeatsAre}
@@ -10,14 +11,14 @@ use Rattle.actor_set.specs.declared.actor.Actor.{Actor}
 use Rattle.order_law.specs.Tales.{Call, Goes}
 use Rattle.pd_runner.specs.declared.part.Part.{Part}
 
--- what passed at the ends of an actor, as the ends show it: over rings nothing is dropped
-abbrev pub passed_at : SeatsAre → Passed
-passed_at s = record { taken = seats_taken s; sent = seats_sent s; dropped = λ n. [] }
+-- what passed at the ends of an actor, as the ends show it, where these calls were made
+abbrev pub passed_at : SeatsAre → List Event → Passed
+passed_at s calls = record { taken = seats_taken s; sent = seats_sent s; calls = calls }
 
--- the actor's ends are as it keeps them, and it stands for their lists
+-- the actor's ends are as it keeps them, and it stands for their lists, by some calls
 pub record Sits (a : Actor) (s : SeatsAre) : Type 0 where
   pub fits : FitsActor (seat_end s) a
-  pub lists : ActorStandsFor a (passed_at s)
+  pub lists : (calls : List Event) × ActorStandsFor a (passed_at s calls)
 
 -- the same actor came this far by n steps: its ends stayed, and their lists begin with those that
 -- they had; call by call this is what it did
@@ -59,7 +60,8 @@ pub record Came (rings : List RingIs) (old : Part) (n : ℕ) (new : Part) : Type
   pub stands : Stands rings new
   pub comes : Comes old.worker.actor (part_seats rings old) n new.worker.actor
       (part_seats rings new)
-  pub row : ActorRow new.worker.actor (passed_at (part_seats rings new))
+  pub row : (calls : List Event)
+      × ActorRow new.worker.actor (passed_at (part_seats rings new) calls)
 
 -- none of these calls was made at rest
 abbrev pub AreAtWork : Actor → List Call → Type 0

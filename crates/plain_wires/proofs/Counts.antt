@@ -1,4 +1,4 @@
-use Rattle.std.proofs.Common.{◌≡◌, ◌≢◌, ◌⊎◌, ◌==◌, ◌+◌, ◌<◌, ◌≤◌, ◌&&◌, ◌||◌, ℕ, Bool, true, false, not, nat_lt, List, [], ◌∷◌, ◌++◌, length, take, replicate, slice_index_or, slice_set, length-set, get_or-set_same, get_or-set_other, refl, sym, ap, ◌∙◌, subst, inl, inr, arith, All, sum_by, eq-eqb}
+use Rattle.std.proofs.Common.{◌%◌, is_none, Some, ◌≡◌, ◌≢◌, ◌⊎◌, ◌==◌, ◌+◌, ◌<◌, ◌≤◌, ◌&&◌, ◌||◌, ℕ, Bool, true, false, not, nat_lt, List, [], ◌∷◌, ◌++◌, length, take, replicate, slice_index_or, slice_set, length-set, get_or-set_same, get_or-set_other, refl, sym, ap, ◌∙◌, subst, inl, inr, arith, All, sum_by, eq-eqb}
 use Rattle.std.proofs.Math.Dec.{eqb}
 use Rattle.std.proofs.lemmas.Bool.Decides.{eqb_tells}
 use Rattle.std.proofs.lemmas.Bool.{ltb-true, ltb-false}
@@ -8,6 +8,8 @@ use Rattle.std.proofs.lemmas.List.Elements.{All-nil, All-cons, All-append, All-s
 use Rattle.wire_core.specs.declared.names.Side.{Side}
 use Rattle.wire_core.specs.declared.names.Side.TheVariants.{Forward, Backward}
 use Rattle.wire_core.specs.declared.names.Op.{Op}
+use Rattle.cargo_core.specs.declared.act.Word.{Word}
+use Rattle.cargo_core.specs.declared.act.Word.TheVariants as Words
 use Rattle.wire_core.specs.declared.names.Op.TheVariants as Do
 use Rattle.wire_core.specs.declared.names.Answer.{Answer}
 use Rattle.wire_core.specs.declared.names.Answer.TheVariants.{Done, Yes, No}
@@ -17,7 +19,7 @@ use Rattle.wire_core.specs.Deeds.{Cargo}
 use Rattle.wire_core.specs.Ends.{Role}
 use Rattle.wire_core.proofs.Moving.{there_if_owned}
 use Rattle.wire_core.specs.Queues.{Queue, end_at, bell_of, queue_after, start_queue, starts, is_pending}
-use Rattle.plain_wires.specs.Pendings.{pending_of, IsAmong, IsCounted, waiting_actor}
+use Rattle.plain_wires.specs.Pendings.{pending_of, IsAmong, IsCounted, pending_side, waiting_actor}
 
 -- a count is above 0 exactly where one is pending
 bits : (a b : Bool) (n : ℕ) (v : Bool) → nat_lt 0 n ≡ v → nat_lt 0 (bit a + bit b + n) ≡ ((a || b) || v)
@@ -79,6 +81,27 @@ woken_away : (q : Queue) (s : Side) (b : ℕ) → (b ≡ waiting_actor q s → �
 woken_away q Forward b away = ap (λ n. n + bit (q.producer == b && q.bells.backward.pending)) (bit_away q.consumer b false q.bells.forward.pending away)
 woken_away q Backward b away = ap (λ n. bit (q.consumer == b && q.bells.forward.pending) + n) (bit_away q.producer b false q.bells.backward.pending away)
 
+-- a store to a pending word counts for the actor that waits there
+stored_here : (q : Queue) (w : Word) (s : Side) (x : ℕ) → pending_side w ≡ Some s → pending_of (waiting_actor q s) (queue_after q (Do.Store w x) Done []) + bit (bell_of q.bells s).pending ≡ pending_of (waiting_actor q s) q + bit (x % 2 == 1)
+stored_here q Words.Pending Forward x h = let a = bit_here q.consumer q.bells.forward.pending in let b = bit_here q.consumer (x % 2 == 1) in omega (arith, a, b)
+stored_here q Words.PendingBack Backward x h = let a = bit_here q.producer q.bells.backward.pending in let b = bit_here q.producer (x % 2 == 1) in omega (arith, a, b)
+stored_here q Words.Pending Backward x h = cc
+stored_here q Words.PendingBack Forward x h = cc
+stored_here q Words.Head s x h = cc
+stored_here q Words.Tail s x h = cc
+stored_here q Words.Flag s x h = cc
+stored_here q Words.FlagBack s x h = cc
+
+stored_away : (q : Queue) (w : Word) (s : Side) (x b : ℕ) → pending_side w ≡ Some s → (b ≡ waiting_actor q s → ⊥) → pending_of b (queue_after q (Do.Store w x) Done []) ≡ pending_of b q
+stored_away q Words.Pending Forward x b h away = ap (λ n. n + bit (q.producer == b && q.bells.backward.pending)) (bit_away q.consumer b (x % 2 == 1) q.bells.forward.pending away)
+stored_away q Words.PendingBack Backward x b h away = ap (λ n. bit (q.consumer == b && q.bells.forward.pending) + n) (bit_away q.producer b (x % 2 == 1) q.bells.backward.pending away)
+stored_away q Words.Pending Backward x b h away = cc
+stored_away q Words.PendingBack Forward x b h away = cc
+stored_away q Words.Head s x b h away = cc
+stored_away q Words.Tail s x b h away = cc
+stored_away q Words.Flag s x b h away = cc
+stored_away q Words.FlagBack s x b h away = cc
+
 -- the pending words are as they were
 pub record SamePending (q v : Queue) : Type 0 where
   pub producer : v.producer ≡ q.producer
@@ -106,10 +129,17 @@ is_quiet (Do.Ask s) = true
 is_quiet (Do.Waive s) = true
 is_quiet (Do.Wanted s) = true
 is_quiet (Do.Settle s) = true
+is_quiet (Do.Store w v) = is_none (pending_side w)
 
 quiet_call : (q : Queue) (o : Op) (a : Answer) (c : List Cargo) → is_quiet o ≡ true → SamePending q (queue_after q o a c)
 quiet_call q (Do.Ring s) a c h = cc
 quiet_call q (Do.Wake s) a c h = cc
+quiet_call q (Do.Store Words.Pending v) a c h = cc
+quiet_call q (Do.Store Words.PendingBack v) a c h = cc
+quiet_call q (Do.Store Words.Head v) a c h = record { producer = refl; consumer = refl; forward = refl; backward = refl }
+quiet_call q (Do.Store Words.Tail v) a c h = record { producer = refl; consumer = refl; forward = refl; backward = refl }
+quiet_call q (Do.Store Words.Flag v) a c h = record { producer = refl; consumer = refl; forward = refl; backward = refl }
+quiet_call q (Do.Store Words.FlagBack v) a c h = record { producer = refl; consumer = refl; forward = refl; backward = refl }
 quiet_call q Do.See a c h = record { producer = refl; consumer = refl; forward = refl; backward = refl }
 quiet_call q Do.Room a c h = record { producer = refl; consumer = refl; forward = refl; backward = refl }
 quiet_call q Do.Take a c h = record { producer = refl; consumer = refl; forward = refl; backward = refl }
@@ -176,6 +206,9 @@ module _ (counts : List ℕ) (w : List Queue) (k : ℕ) (q : Queue) (ok : IsCoun
 
   pub woken : (v : Queue) (s : Side) (a n : ℕ) → a ≡ waiting_actor q s → n + 1 ≡ slice_index_or counts a 0 → (bell_of q.bells s).pending ≡ true → v ≡ queue_after q (Do.Wake s) Yes [] → IsCounted (slice_set counts a n) (slice_set w k v)
   woken v s a n who now h is = rw (who, is) (changed (queue_after q (Do.Wake s) Yes []) (waiting_actor q s) n 1 0 refl refl (waits_there s) (let e : n + 1 ≡ slice_index_or counts (waiting_actor q s) 0 = subst (λ x. n + 1 ≡ slice_index_or counts x 0) who now in omega (arith, e)) (let e = woken_here q s h in omega (arith, e)) (woken_away q s))
+
+  pub stored : (v : Queue) (word : Word) (s : Side) (x a n : ℕ) → pending_side word ≡ Some s → a ≡ waiting_actor q s → n + bit (bell_of q.bells s).pending ≡ slice_index_or counts a 0 + bit (x % 2 == 1) → v ≡ queue_after q (Do.Store word x) Done [] → IsCounted (slice_set counts a n) (slice_set w k v)
+  stored v word s x a n side who now is = rw (who, is) (changed (queue_after q (Do.Store word x) Done []) (waiting_actor q s) n (bit (bell_of q.bells s).pending) (bit (x % 2 == 1)) refl refl (waits_there s) (subst (λ y. n + bit (bell_of q.bells s).pending ≡ slice_index_or counts y 0 + bit (x % 2 == 1)) who now) (stored_here q word s x side) (λ b away. stored_away q word s x b side away))
 
   -- what was read at the place of the actor that waits is its count
   pub count_is : (s : Side) (a n : ℕ) → a ≡ waiting_actor q s → n ≡ slice_index_or counts a n → n ≡ slice_index_or counts a 0

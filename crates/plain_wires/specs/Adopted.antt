@@ -1,5 +1,5 @@
 -- The queues that rings leave behind which came to their end.
-use Rattle.std.specs.Prelude.{◌≡◌, ◌≤◌, false, List, length, map, All}
+use Rattle.std.specs.Prelude.{◌≡◌, ◌≤◌, ◌%◌, false, List, length, map, All}
 use Rattle.std.specs.List.{zip}
 use Rattle.cargo_core.specs.Items.{kind_of}
 use Rattle.wire_core.specs.declared.names.QueueRow.{QueueRow}
@@ -14,7 +14,8 @@ pub record IsEndedOf (row : QueueRow) (e : EndedIs) : Type 0 where
   pub kinds : All (λ c. kind_of c.0 ≡ row.kind) e.left
   pub within : length e.left ≤ row.capacity
 
--- the queue of a row with the entries that are left and both bells as they were; no look is kept
+-- the queue of a row with the entries that are left, both bells as they were, and the index words
+-- at what was taken and sent; no look is kept, and no word was stored
 abbrev pub adopted : QueueRow × EndedIs → Queue
 adopted x = record {
   kind = x.0.kind;
@@ -27,6 +28,13 @@ adopted x = record {
     backward = x.1.backward;
     seen = false;
     roomed = false;
+  };
+  indices = record {
+    head = length x.1.consumer.entries % 65536;
+    tail = length x.1.producer.entries % 65536;
+    taken = length x.1.consumer.entries % 65536;
+    sent = length x.1.producer.entries % 65536;
+    stored = false;
   };
 }
 

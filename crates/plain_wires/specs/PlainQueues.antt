@@ -13,6 +13,13 @@ queue_of l = record {
   consumer = l.consumer.0;
   entries = l.cargo.entries;
   bells = record { forward = l.front; backward = l.back; seen = l.saw; roomed = l.free };
+  indices = record {
+    head = l.head;
+    tail = l.tail;
+    taken = l.taken;
+    sent = l.sent;
+    stored = l.stored;
+  };
 }
 
 -- a look that answered yes and isn't used still holds, and each entry has the queue's kind

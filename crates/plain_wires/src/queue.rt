@@ -1,23 +1,38 @@
 //! One queue: what stands in it, its two bells, and the looks that answered yes and aren't used.
 
-ghost use Rattle.std.specs.Prelude.{◌≡◌, ◌<◌, ◌≤◌, not, true, false, length, IfOk, Some, None, []};
-ghost use Rattle.std.specs.Prelude.{◌∷◌};
+ghost use Rattle.std.specs.Prelude.{◌≡◌, ◌<◌, ◌≤◌, ◌&&◌, not, true, false, length, IfOk, Some};
+ghost use Rattle.std.specs.Prelude.{None, [], ◌∷◌, nat_lt, nat_le};
 ghost use Rattle.cargo_core.specs.Items.{kind_of};
 ghost use Rattle.wire_core.specs.Deeds.{answer_of};
 ghost use Rattle.wire_core.specs.Ends.{Condition, Consumer, Producer};
 ghost use Rattle.wire_core.specs.Queues.{Queue, queue_after, start_queue, end_of, bell_of};
-ghost use Rattle.wire_core.specs.Queues.{with_bell, is_filled, has_room};
+ghost use Rattle.wire_core.specs.Queues.{with_bell, is_filled, has_room, sees, finds_room, ahead};
 ghost use Rattle.cargo_core.specs.Capacities.{IsCapacity};
 ghost use Rattle.plain_wires.specs.Adopted.{IsEndedOf, adopted};
 ghost use Rattle.plain_wires.specs.Pages.{pages_at};
 ghost use Rattle.plain_wires.specs.Pendings.{waiting_actor};
 
 use crate::slots::Slots;
-use cargo_core::{Body, Item, Memory, PoolId, QueueKind};
+use cargo_core::{Body, Item, Memory, PoolId, QueueKind, Word};
 use spsc_queue::Ended;
 use std::alloc::Global;
 use std::marker::Model;
 use wire_core::{ActorId, Answer, BellState, Op, QueueRow, Ringer, Side, Waiter};
+
+// Whether the tail that a consumer reads tells of entries that it hasn't taken.
+fn fits_entry(taken: u16, tail: u16, capacity: u16) -> bool
+    ensures { result ≡ (nat_lt 0 (ahead taken tail) && nat_le (ahead taken tail) capacity) }
+{
+    let ahead = tail.wrapping_sub(taken);
+    0 < ahead && ahead <= capacity
+}
+
+// Whether the head that a producer reads tells of room behind what it put.
+fn fits_room(head: u16, sent: u16, capacity: u16) -> bool
+    ensures { result ≡ nat_lt (ahead head sent) capacity }
+{
+    sent.wrapping_sub(head) < capacity
+}
 
 /// One queue. `saw` and `free` are the last looks of its two ends, as long as they aren't used.
 #[derive(Drop)]
@@ -30,6 +45,12 @@ pub struct PlainQueue {
     back: BellState,
     saw: bool,
     free: bool,
+    // The index words, and what the two ends themselves count; and whether a word was stored.
+    head: u16,
+    tail: u16,
+    taken: u16,
+    sent: u16,
+    stored: bool,
     // What is kept of the ring that the queue was made of, if any. Its entries were moved out.
     ended: Option<Ended>,
 }
@@ -71,12 +92,17 @@ impl PlainQueue {
             },
             saw: false,
             free: false,
+            head: 0,
+            tail: 0,
+            taken: 0,
+            sent: 0,
+            stored: false,
             ended: None,
         })
     }
 
-    /// The queue of a row with the entries that an ended ring left and with its two bells. The
-    /// ended ring is kept. Memory is the answer for want of memory alone.
+    /// The queue of a row with the entries that an ended ring left, with its two bells and with its
+    /// indices. The ended ring is kept. Memory is the answer for want of memory alone.
     pub fn adopt(alloc: Global, row: &QueueRow, mut ended: Ended) -> Result<PlainQueue, Memory>
         requires sized { IsCapacity row.now.capacity }
         requires left { IsEndedOf row.now ended }
@@ -88,6 +114,10 @@ impl PlainQueue {
         }
         queue.front = ended.bell(Side::Forward);
         queue.back = ended.bell(Side::Backward);
+        queue.taken = ended.taken();
+        queue.head = queue.taken;
+        queue.sent = ended.sent();
+        queue.tail = queue.sent;
         queue.ended = Some(ended);
         Ok(queue)
     }
@@ -136,10 +166,11 @@ impl PlainQueue {
     }
 
     pub fn see(&mut self) -> bool
-        ensures now { result ≡ is_filled self.old }
+        ensures now { result ≡ sees self.old }
         ensures after { self.new ≡ queue_after self.old Op.See (answer_of result) [] }
     {
-        self.saw = !self.cargo.is_empty();
+        let fits = fits_entry(self.taken, self.tail, self.cargo.capacity());
+        self.saw = !self.cargo.is_empty() && (!self.stored || fits);
         if !self.saw && self.front.waiter == Waiter::Asked {
             self.front.waiter = Waiter::Clear;
         }
@@ -147,10 +178,11 @@ impl PlainQueue {
     }
 
     pub fn room(&mut self) -> bool
-        ensures now { result ≡ has_room self.old }
+        ensures now { result ≡ finds_room self.old }
         ensures after { self.new ≡ queue_after self.old Op.Room (answer_of result) [] }
     {
-        self.free = !self.cargo.is_full();
+        let fits = fits_room(self.head, self.sent, self.cargo.capacity());
+        self.free = !self.cargo.is_full() && (!self.stored || fits);
         if !self.free && self.back.waiter == Waiter::Asked {
             self.back.waiter = Waiter::Clear;
         }
@@ -166,6 +198,8 @@ impl PlainQueue {
     {
         self.saw = false;
         self.back.ringer = Ringer::Put;
+        self.taken = self.taken.wrapping_add(1);
+        self.head = self.taken;
         self.cargo.pop()
     }
 
@@ -177,6 +211,8 @@ impl PlainQueue {
     {
         self.free = false;
         self.front.ringer = Ringer::Put;
+        self.sent = self.sent.wrapping_add(1);
+        self.tail = self.sent;
         self.cargo.push((item, body));
     }
 
@@ -262,5 +298,22 @@ impl PlainQueue {
                 ..bell
             },
         );
+    }
+
+    /// Stores a value in a word: an index word holds it modulo 65,536, another modulo 2.
+    pub fn store(&mut self, word: Word, value: u64)
+        ensures { self.new ≡ queue_after self.old (Op.Store word value) Answer.Done [] }
+    {
+        let index = (value % 65536) as u16;
+        let bit = value % 2 == 1;
+        self.stored = true;
+        match word {
+            Word::Head => self.head = index,
+            Word::Tail => self.tail = index,
+            Word::Flag => self.front.flag = bit,
+            Word::FlagBack => self.back.flag = bit,
+            Word::Pending => self.front.pending = bit,
+            Word::PendingBack => self.back.pending = bit,
+        }
     }
 }

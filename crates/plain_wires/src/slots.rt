@@ -84,6 +84,13 @@ impl Slots {
         })
     }
 
+    /// How many entries it holds at most.
+    pub fn capacity(&self) -> u16
+        ensures { result ≡ self.now.capacity }
+    {
+        self.capacity
+    }
+
     /// How many entries stand there.
     pub fn len(&self) -> u16
         ensures { result ≡ length self.now.entries }

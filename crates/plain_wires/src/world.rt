@@ -1,25 +1,29 @@
 //! All queues of a system, and how many notifications are pending for each actor.
 
 ghost use Rattle.std.specs.Prelude.{◌≡◌, ◌<◌, ◌≤◌, ◌^◌, ◌+◌, length, map, All, IfOk, IfSome, OnOk};
-ghost use Rattle.std.specs.Prelude.{slice_get, slice_index_or, slice_set, Some, []};
+ghost use Rattle.std.specs.Prelude.{slice_get, slice_index_or, slice_set, Some, None, []};
 ghost use Rattle.std.specs.List.{AllZip};
 ghost use Rattle.wire_core.specs.Bells.{bit};
 ghost use Rattle.wire_core.specs.Sizes.{AreSized};
+ghost use Rattle.wire_core.specs.declared.names.Answer.TheVariants.{Done};
 ghost use Rattle.wire_core.specs.Queues.{Happens, bell_of, queue_at, end_at, starts, is_pending};
+ghost use Rattle.wire_core.specs.Queues.{queue_after};
 ghost use Rattle.plain_wires.specs.Adopted.{IsEndedOf, all_adopted};
 ghost use Rattle.plain_wires.specs.Pages.{pages_in};
-ghost use Rattle.plain_wires.specs.Pendings.{IsAmong, IsCounted, waiting_actor};
+ghost use Rattle.plain_wires.specs.Pendings.{IsAmong, IsCounted, waiting_actor, pending_side};
+ghost use Rattle.plain_wires.specs.Wildness.{stays};
 
 use crate::queue::PlainQueue;
-use cargo_core::{Body, Item, Memory, PoolId};
+use cargo_core::{Body, Item, Memory, PoolId, Word};
 use spsc_queue::Ended;
 use std::alloc::Global;
 use std::marker::Model;
-use wire_core::{ActorId, BellState, Op, QueueId, QueueRow, Side, Wires};
+use wire_core::{ActorId, BellState, Op, QueueId, QueueRow, Side, WildWires, Wires};
 
-/// All queues, each with what stands in it and its two bells: contracts see the list of them in
-/// full. Each of the ten calls takes constant time and no memory, is the next event of the queue
-/// law, the bell law and the discipline on its queue, and changes no other.
+/// All queues, each with what stands in it, its two bells and its index words: contracts see the
+/// list of them in full. Each of the ten calls takes constant time and no memory, is the next event
+/// of the queue law, the bell law and the discipline on its queue, and changes no other; so is a
+/// store, which may come on each queue. After it the looks there heed the index words too.
 #[derive(Drop)]
 pub struct World {
     queues: Vec<PlainQueue>,
@@ -237,4 +241,65 @@ impl Wires for World {
             self.pending[actor.0 as usize] += 1;
         }
     }
+}
+
+// One where it is so, and else none.
+fn bit_of(yes: bool) -> u64
+    ensures bit { result ≡ bit yes }
+    ensures few { result ≤ 1 }
+{
+    u64::from(yes)
+}
+
+// The bell of whose pending word a word is, if it is one.
+fn pending_side(word: Word) -> Option<Side>
+    ensures { result ≡ pending_side word }
+{
+    match word {
+        Word::Pending => Some(Side::Forward),
+        Word::PendingBack => Some(Side::Backward),
+        _ => None,
+    }
+}
+
+impl World {
+    // Stores a value in a pending word, which is counted for the actor that waits there.
+    fn store_pending(&mut self, q: QueueId, side: Side, word: Word, value: u64)
+        requires there { q.0 < length self.old }
+        requires word { pending_side word ≡ Some side }
+        ensures { self.new ≡ slice_set self.old q.0
+            (queue_after (queue_at self.old q.0) (Op.Store word value) Done []) }
+    {
+        let queue = &mut self.queues[q.0 as usize];
+        let actor = queue.waiting_actor(side);
+        let was = queue.bell(side).pending;
+        queue.store(word, value);
+        let now = value % 2 == 1;
+        let count = self.pending[actor.0 as usize] + bit_of(now);
+        self.pending[actor.0 as usize] = count - bit_of(was);
+    }
+
+    // Stores a value in another word.
+    fn store_plain(&mut self, q: QueueId, word: Word, value: u64)
+        requires there { q.0 < length self.old }
+        requires word { pending_side word ≡ None }
+        ensures { self.new ≡ slice_set self.old q.0
+            (queue_after (queue_at self.old q.0) (Op.Store word value) Done []) }
+    {
+        let queue = &mut self.queues[q.0 as usize];
+        queue.store(word, value);
+    }
+}
+
+impl WildWires for World {
+    ghost wild = { λ w n. n < length w };
+
+    fn store(&mut self, q: QueueId, word: Word, value: u64) {
+        match pending_side(word) {
+            Some(side) => self.store_pending(q, side, word, value),
+            None => self.store_plain(q, word, value),
+        }
+    }
+
+    ghost stays = { stays };
 }

@@ -7,6 +7,7 @@ use Rattle.wire_core.specs.declared.names.Entry.{Entry}
 use Rattle.wire_core.specs.declared.names.Event.{Event}
 use Rattle.wire_core.specs.declared.names.Side.TheVariants.{Forward, Backward}
 use Rattle.wire_core.specs.declared.names.Op.{Op}
+use Rattle.cargo_core.specs.declared.act.Word.TheVariants as Words
 use Rattle.wire_core.specs.declared.names.Op.TheVariants as Do
 use Rattle.wire_core.specs.declared.names.Answer.{Answer}
 use Rattle.wire_core.specs.declared.names.Answer.TheVariants.{Done, Yes, No}
@@ -90,6 +91,12 @@ calls_same row b (Do.Wake Backward) No i own rung = refl
 calls_same row b (Do.Wake Backward) Done i own rung = refl
 calls_same row b (Do.Ring Forward) a i own rung = rw (not_here row.consumer.0 i (λ e. rung (ap Some (sym e))) (eqb_tells row.consumer.0 i)) refl
 calls_same row b (Do.Ring Backward) a i own rung = rw (not_here row.producer.0 i (λ e. rung (ap Some (sym e))) (eqb_tells row.producer.0 i)) refl
+calls_same row b (Do.Store Words.Head v) a i own rung = refl
+calls_same row b (Do.Store Words.Tail v) a i own rung = refl
+calls_same row b (Do.Store Words.Flag v) a i own rung = refl
+calls_same row b (Do.Store Words.FlagBack v) a i own rung = refl
+calls_same row b (Do.Store Words.Pending v) a i own rung = rw (not_here row.consumer.0 i own (eqb_tells row.consumer.0 i)) refl
+calls_same row b (Do.Store Words.PendingBack v) a i own rung = rw (not_here row.producer.0 i own (eqb_tells row.producer.0 i)) refl
 
 true_after : (b : Bool) → (b || true) ≡ true
 true_after true = refl
@@ -108,6 +115,7 @@ calls_rung row b (Do.Settle s) a i rung = cc
 calls_rung row b (Do.Wake s) a i rung = cc
 calls_rung row b (Do.Ring Forward) a i rung = rw (eq-eqb row.consumer.0 i (some_is rung)) refl
 calls_rung row b (Do.Ring Backward) a i rung = rw (eq-eqb row.producer.0 i (some_is rung)) (true_after (row.consumer.0 == i && b.forward.pending))
+calls_rung row b (Do.Store w v) a i rung = cc
 
 -- a call that rings reaches
 rung_reaches : (o : Op) (row : QueueRow) (i : ℕ) → rung_at o row ≡ Some i → reaches o ≡ true
@@ -121,6 +129,7 @@ rung_reaches (Do.Wanted s) row i rung = cc
 rung_reaches (Do.Settle s) row i rung = cc
 rung_reaches (Do.Wake s) row i rung = cc
 rung_reaches (Do.Ring s) row i rung = refl
+rung_reaches (Do.Store w v) row i rung = cc
 
 -- one of the two owners is rung, or nobody
 rung_owns : (o : Op) (row : QueueRow) (i : ℕ) → rung_at o row ≡ Some i → (r : Role) × (owner_of row r ≡ i)
@@ -134,6 +143,7 @@ rung_owns (Do.Wanted s) row i rung = cc
 rung_owns (Do.Settle s) row i rung = cc
 rung_owns (Do.Wake s) row i rung = cc
 rung_owns (Do.Ring s) row i rung = (waiting_role s, some_is rung)
+rung_owns (Do.Store w v) row i rung = cc
 
 -- the other owner of a queue is one of the two
 other_owns : (row : QueueRow) (k : ℕ) → (r : Role) × (owner_of row r ≡ other_owner row k)
@@ -196,6 +206,18 @@ other_settled b (Do.Ring Forward) a Consumer need other = refl
 other_settled b (Do.Ring Forward) a Producer need other = absurd (other refl)
 other_settled b (Do.Ring Backward) a Consumer need other = absurd (other refl)
 other_settled b (Do.Ring Backward) a Producer need other = refl
+other_settled b (Do.Store Words.Head v) a Consumer need other = absurd (other refl)
+other_settled b (Do.Store Words.Head v) a Producer need other = refl
+other_settled b (Do.Store Words.Tail v) a Producer need other = absurd (other refl)
+other_settled b (Do.Store Words.Tail v) a Consumer need other = refl
+other_settled b (Do.Store Words.Flag v) a Consumer need other = absurd (other refl)
+other_settled b (Do.Store Words.Flag v) a Producer need other = refl
+other_settled b (Do.Store Words.FlagBack v) a Producer need other = absurd (other refl)
+other_settled b (Do.Store Words.FlagBack v) a Consumer need other = refl
+other_settled b (Do.Store Words.Pending v) a Consumer need other = absurd (other refl)
+other_settled b (Do.Store Words.Pending v) a Producer need other = refl
+other_settled b (Do.Store Words.PendingBack v) a Producer need other = absurd (other refl)
+other_settled b (Do.Store Words.PendingBack v) a Consumer need other = refl
 
 -- whose waiters the queues call goes on, where it does at each queue
 called_goes : (actor n : ℕ) (history : History) (j j' : List Entry) (rows : List QueueRow) → ((m : ℕ) (row : QueueRow) → slice_get rows m ≡ Some row → calls actor row.producer.0 row.consumer.0 (track history (n + m) j').bells ≡ calls actor row.producer.0 row.consumer.0 (track history (n + m) j).bells) → called_from actor n history rows j' ≡ called_from actor n history rows j

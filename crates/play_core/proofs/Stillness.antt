@@ -86,7 +86,7 @@ module _ (hostile : Hostiles) (history : History) (rows : List QueueRow) (actors
 
     -- what rests between two actors, of whatever class
     pub rests_now : QueueRests row here needed owed
-    rests_now = queue_rests row here needed owed (still.bells_hold n row at calm) (still.flows n row at calm) forward backward
+    rests_now = queue_rests row here needed owed (still.bells_hold n row at calm) (still.flows n row at) forward backward
 
   pub pays_now : (n : ℕ) (row : QueueRow) (needed : Bool) (due : ℕ) → slice_get rows n ≡ Some row → is_calm hostile row ≡ true → Needs hostile actors n needed → Owes hostile actors n (is_due (track history n journal) due) → QueuePays row (track history n journal) needed due
   pays_now n row needed due at calm needs owes = queue_pays row (track history n journal) needed due (rests_now n row needed (is_due (track history n journal) due) at calm needs owes)

@@ -50,6 +50,8 @@ tracked_after t e (Do.Settle s) is Consumer other = rw is refl
 tracked_after t e (Do.Settle s) is Producer other = rw is refl
 tracked_after t e (Do.Ring s) is Consumer other = rw is refl
 tracked_after t e (Do.Ring s) is Producer other = rw is refl
+tracked_after t e (Do.Store w v) is Consumer other = rw is refl
+tracked_after t e (Do.Store w v) is Producer other = rw is refl
 
 -- after a call of actor k
 module _ (history : History) (journal : List Entry) (k : ℕ) (e : Event) where

@@ -25,7 +25,7 @@ module _ (hostile : Hostiles) (h : History) (rows : List QueueRow) (actors : Nee
   needs_as n a b e w = subst (λ v. Needs hostile actors n v) e w
 
   pub flow : (n least : ℕ) → Holds hostile rows n least → length (taken h n j) ≤ length (sent h n j)
-  flow n least there = begins_few (taken h n j) (sent h n j) (still.flows n there.row there.there there.calm).begins
+  flow n least there = begins_few (taken h n j) (sent h n j) (still.flows n there.row there.there).begins
 
   -- what stands in a needed queue: nothing
   pub drained : (n least : ℕ) (owed : Bool) → Holds hostile rows n least → Needs hostile actors n true → Owes hostile actors n owed → sent h n j ≡ taken h n j

@@ -50,6 +50,8 @@ runnable manner history rows actors journal =
 -- the actor whose pending word a call on a queue of this row sets, if it sets one
 abbrev pub rung_at : Op → QueueRow → Option ℕ
 rung_at (Do.Ring s) row = Some (owner_of row (waiting_role s))
+-- a store to a pending word is at the end whose word it is
+rung_at (Do.Store w v) row = None
 rung_at (Do.Ask s) row = None
 rung_at (Do.Waive s) row = None
 rung_at (Do.Wake s) row = None
@@ -68,6 +70,7 @@ other_owner row k = if row.producer.0 == k then row.consumer.0 else row.producer
 -- stores a word of that one's notifications
 abbrev pub reaches : Op → Bool
 reaches (Do.Ring s) = true
+reaches (Do.Store w v) = false
 reaches (Do.Ask s) = false
 reaches (Do.Waive s) = false
 reaches (Do.Wake s) = false

@@ -25,7 +25,7 @@ HasPlaces rows = (n : ℕ) (row : QueueRow) → slice_get rows n ≡ Some row �
 pub record IsQuiet (manner : Manners) (history : History) (rows : List QueueRow) (actors : Needful)
     (journal : List Entry) : Type 0 where
   pub bells_hold : BellsHold (hostile_by manner) history rows journal
-  pub flows : QueuesFlow (hostile_by manner) history rows journal
+  pub flows : QueuesFlow history rows journal
   pub peopled : IsPeopled rows (length actors)
   pub quiet : runnable manner history rows actors journal ≡ []
 
@@ -34,7 +34,7 @@ pub record IsQuiet (manner : Manners) (history : History) (rows : List QueueRow)
 pub record IsStill (hostile : Hostiles) (history : History) (rows : List QueueRow)
     (actors : Needful) (journal : List Entry) : Type 0 where
   pub bells_hold : BellsHold hostile history rows journal
-  pub flows : QueuesFlow hostile history rows journal
+  pub flows : QueuesFlow history rows journal
   pub peopled : IsPeopled rows (length actors)
   pub settled : (k : ℕ) (ws : List Want) → hostile k ≡ false → slice_get actors k ≡ Some ws
       → all_settled history journal ws ≡ true

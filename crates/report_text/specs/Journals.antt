@@ -4,6 +4,8 @@ use Rattle.std.specs.Option.{option_map_or}
 use Rattle.std.specs.Fmt.{decimal}
 use Rattle.hex.specs.Hex.{encode_lower}
 use Rattle.cargo_core.specs.Items.{code_number, status_number}
+use Rattle.cargo_core.specs.declared.act.Word.{Word}
+use Rattle.cargo_core.specs.declared.act.Word.TheVariants as Words
 use Rattle.cargo_core.specs.declared.item.Item.{Item}
 use Rattle.cargo_core.specs.declared.item.Item.TheVariants as Carried
 use Rattle.wire_core.specs.declared.names.Answer.{Answer}
@@ -23,6 +25,15 @@ abbrev pub side_text : Side → List ℕ
 side_text Bell.Forward = []
 side_text Bell.Backward = codes "_back"
 
+-- the name of a word
+abbrev pub word_text : Word → List ℕ
+word_text Words.Head = codes "head"
+word_text Words.Tail = codes "tail"
+word_text Words.Flag = codes "flag"
+word_text Words.FlagBack = codes "flag_back"
+word_text Words.Pending = codes "pending"
+word_text Words.PendingBack = codes "pending_back"
+
 -- the name of a call
 abbrev pub op_text : Op → List ℕ
 op_text Do.See = codes "see"
@@ -35,6 +46,21 @@ op_text (Do.Wanted side) = codes "wanted" ++ side_text side
 op_text (Do.Settle side) = codes "settle" ++ side_text side
 op_text (Do.Ring side) = codes "ring" ++ side_text side
 op_text (Do.Wake side) = codes "wake" ++ side_text side
+op_text (Do.Store word value) = codes "store_" ++ word_text word
+
+-- the value of a store, behind a space
+abbrev pub stored_text : Op → List ℕ
+stored_text (Do.Store word value) = codes " " ++ decimal value
+stored_text Do.See = []
+stored_text Do.Take = []
+stored_text Do.Put = []
+stored_text Do.Room = []
+stored_text (Do.Ask side) = []
+stored_text (Do.Waive side) = []
+stored_text (Do.Wanted side) = []
+stored_text (Do.Settle side) = []
+stored_text (Do.Ring side) = []
+stored_text (Do.Wake side) = []
 
 -- what a call answers: nothing where it only acts
 abbrev pub answer_text : Answer → List ℕ
@@ -64,13 +90,14 @@ carried_text (Some item) = codes " " ++ item_text item
 abbrev pub queue_name : List QueueRow → ℕ → List ℕ
 queue_name queues q = option_map_or (λ (queue : QueueRow). queue.name) (slice_get queues q) []
 
--- an entry of the journal: who called, on which queue, which call, what it answered, and the item
--- that was put or taken
+-- an entry of the journal: who called, on which queue, which call, what it answered, the value that
+-- was stored, and the item that was put or taken
 abbrev pub entry_line : Layout → Entry → List ℕ
 entry_line layout e =
     name_at layout.actors e.actor.0 ++ (codes " " ++ (queue_name layout.queues e.event.queue.0
     ++ (codes " " ++ (op_text e.event.op
-    ++ (codes " " ++ (answer_text e.event.answer ++ carried_text e.event.item))))))
+    ++ (codes " " ++ (answer_text e.event.answer ++ (stored_text e.event.op
+    ++ carried_text e.event.item)))))))
 
 -- the text of a journal
 abbrev pub journal_text : Layout → List Entry → List ℕ

@@ -7,7 +7,7 @@ use Rattle.cargo_core.specs.declared.item.BlkStatus.{BlkStatus}
 use Rattle.cargo_core.specs.declared.item.BlkStatus.TheVariants as Answered
 use Rattle.cargo_core.specs.declared.item.Reply.{Reply}
 use Rattle.expect_core.specs.declared.report.Report.{Report}
-use Rattle.expect_core.specs.declared.report.Census.{Census}
+use Rattle.cargo_core.specs.declared.census.Census.{Census}
 use Rattle.report_text.specs.Lines.{text_of}
 use Rattle.report_text.specs.Runs.{runs_of, runs_text}
 

@@ -3,11 +3,12 @@
 ghost use Rattle.std.specs.Prelude.{◌≡◌, [], ◌∷◌, ◌++◌, map, IfOk, OnOk, string_bytes};
 ghost use Rattle.hex.specs.Hex.{encode_lower};
 ghost use Rattle.report_text.specs.Lines.{text_of};
-ghost use Rattle.report_text.specs.Journals.{side_text, op_text, answer_text, item_text};
+ghost use Rattle.report_text.specs.Journals.{side_text, word_text, op_text, answer_text, item_text};
+ghost use Rattle.report_text.specs.Journals.{stored_text};
 ghost use Rattle.report_text.specs.Journals.{carried_text, queue_name, entry_line, journal_text};
 
 use crate::layout::name_at;
-use cargo_core::{BlkReq, BlkResp, Item, Memory};
+use cargo_core::{BlkReq, BlkResp, Item, Memory, Word};
 use region_layout::{Layout, QueueRow};
 use std::alloc::Global;
 use wire_core::{Answer, Entry, Op, Side};
@@ -22,7 +23,21 @@ fn side_text(side: Side) -> &'static str
     }
 }
 
-// The name of a call that has a bell, without its ending, and the ending.
+// The name of a word.
+fn word_text(word: Word) -> &'static str
+    ensures { result.now ≡ word_text word }
+{
+    match word {
+        Word::Head => "head",
+        Word::Tail => "tail",
+        Word::Flag => "flag",
+        Word::FlagBack => "flag_back",
+        Word::Pending => "pending",
+        Word::PendingBack => "pending_back",
+    }
+}
+
+// The name of a call without the ending that tells its bell or its word, and the ending.
 fn op_parts(op: Op) -> (&'static str, &'static str)
     ensures { result.0.now ++ result.1.now ≡ op_text op }
 {
@@ -37,6 +52,7 @@ fn op_parts(op: Op) -> (&'static str, &'static str)
         Op::Settle(side) => ("settle", side_text(side)),
         Op::Ring(side) => ("ring", side_text(side)),
         Op::Wake(side) => ("wake", side_text(side)),
+        Op::Store(word, _) => ("store_", word_text(word)),
     }
 }
 
@@ -93,6 +109,19 @@ fn add_item(to: &mut String, item: Item) -> Result<(), Memory>
     }
 }
 
+// Appends the value of a store, behind a space.
+fn add_stored(to: &mut String, op: Op) -> Result<(), Memory>
+    ensures { OnOk result (string_bytes to.new ≡ string_bytes to.old ++ stored_text op) }
+{
+    match op {
+        Op::Store(_, value) => {
+            write!(to, " {}", value)?;
+            Ok(())
+        }
+        _ => Ok(()),
+    }
+}
+
 // Appends an item that is there, behind a space.
 fn add_carried(to: &mut String, item: Option<Item>) -> Result<(), Memory>
     ensures { OnOk result (string_bytes to.new ≡ string_bytes to.old ++ carried_text item) }
@@ -126,6 +155,7 @@ fn add_entry(to: &mut String, layout: &Layout, entry: &Entry) -> Result<(), Memo
     let (op, side) = op_parts(entry.event.op);
     write!(to, "{} {} {}{}", actor, queue, op, side)?;
     write!(to, " {}", answer_text(entry.event.answer))?;
+    add_stored(to, entry.event.op)?;
     add_carried(to, entry.event.item)?;
     to.push_str("\n")?;
     Ok(())

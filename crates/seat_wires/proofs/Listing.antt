@@ -38,6 +38,7 @@ grows n h (Do.Settle Forward) a c h' d = ap (λ (z : Half). z.entries) d.0 ∙ s
 grows n h (Do.Settle Backward) a c h' d = ap (λ (z : Half). z.entries) d.0 ∙ sym (append-nil h.entries)
 grows n h (Do.Ring Forward) a c h' d = ap (λ (z : Half). z.entries) d.0 ∙ sym (append-nil h.entries)
 grows n h (Do.Ring Backward) a c h' d = ap (λ (z : Half). z.entries) d.0 ∙ sym (append-nil h.entries)
+grows n h (Do.Store w v) a c h' d = absurd d
 
 -- the other role's list stays
 idle : (o : Op) (c : List Cargo) (r : Role) → r ≢ role_of o → added r o c ≡ []
@@ -60,7 +61,9 @@ idle (Do.Wanted s) c Producer h = refl
 idle (Do.Settle s) c Consumer h = refl
 idle (Do.Settle s) c Producer h = refl
 idle (Do.Ring s) c Consumer h = refl
+idle (Do.Store w v) c Consumer h = refl
 idle (Do.Ring s) c Producer h = refl
+idle (Do.Store w v) c Producer h = refl
 
 if_nothing : (b : Bool) → if_there b [] ≡ []
 if_nothing true = refl

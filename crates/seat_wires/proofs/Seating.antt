@@ -63,6 +63,7 @@ end_did n h (Do.Wanted Forward) a c h' d = ap known_end d.0 ∙ ap (λ (z : Answ
 end_did n h (Do.Wanted Backward) a c h' d = ap known_end d.0 ∙ ap (λ (z : Answer). end_after (known_end h) (Do.Wanted Backward) z) (sym d.1)
 end_did n h (Do.Settle s) a c h' d = ap known_end d.0
 end_did n h (Do.Ring s) a c h' d = ap known_end d.0
+end_did n h (Do.Store w v) a c h' d = absurd d
 
 -- the kind stays
 pub kind_stays : (n : ℕ) (h : Half) (o : Op) (a : Answer) (c : List Cargo) (h' : Half) → EndDid n h o a c h' → h'.kind ≡ h.kind
@@ -78,6 +79,7 @@ kind_stays n h (Do.Wanted Forward) a c h' d = ap (λ (z : Half). z.kind) d.0
 kind_stays n h (Do.Wanted Backward) a c h' d = ap (λ (z : Half). z.kind) d.0
 kind_stays n h (Do.Settle s) a c h' d = ap (λ (z : Half). z.kind) d.0
 kind_stays n h (Do.Ring s) a c h' d = ap (λ (z : Half). z.kind) d.0
+kind_stays n h (Do.Store w v) a c h' d = absurd d
 
 -- the ends of one role, after those were written anew
 pub ends_with : (s : SeatsAre) (r : Role) (es : List (Option EndIs)) → ends_of (with_ends s r es) r ≡ es

@@ -45,6 +45,7 @@ Adds (Do.Wake x) s old new = new ≡ old
 Adds (Do.Wanted x) s old new = new ≡ old
 Adds (Do.Settle x) s old new = new ≡ old
 Adds (Do.Ring x) s old new = new ≡ old
+Adds (Do.Store w v) s old new = new ≡ old
 
 adds : (s : SeatsAre) (n : ℕ) (h : Half) (o : Op) (a : Answer) (c : List Cargo) (h' : Half) → EndDid n h o a c h' → (o ≡ Do.Put → IsTimely s h h') → Adds o s h.times h'.times
 adds s n h Do.See a c h' d timely = ap (λ (z : Half). z.times) d.0
@@ -59,6 +60,7 @@ adds s n h (Do.Wanted Forward) a c h' d timely = ap (λ (z : Half). z.times) d.0
 adds s n h (Do.Wanted Backward) a c h' d timely = ap (λ (z : Half). z.times) d.0
 adds s n h (Do.Settle x) a c h' d timely = ap (λ (z : Half). z.times) d.0
 adds s n h (Do.Ring x) a c h' d timely = ap (λ (z : Half). z.times) d.0
+adds s n h (Do.Store w v) a c h' d timely = absurd d
 
 -- the same, as the times at a place are told
 adds_time : (o : Op) (s t : SeatsAre) (n : ℕ) → Adds o s (times_at s (role_of o) n) (times_at t (role_of o) n) → AddsTime o s n t
@@ -72,6 +74,7 @@ adds_time (Do.Wake x) s t n a = a
 adds_time (Do.Wanted x) s t n a = a
 adds_time (Do.Settle x) s t n a = a
 adds_time (Do.Ring x) s t n a = a
+adds_time (Do.Store w v) s t n a = a
 
 times_is : (s : SeatsAre) (r : Role) (n : ℕ) → times_at s r n ≡ times_or (slice_get (ends_of s r) n)
 times_is s Consumer n = refl

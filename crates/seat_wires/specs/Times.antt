@@ -53,6 +53,8 @@ AddsTime (Do.Settle side) s n t =
     times_at t (role_of (Do.Settle side)) n ≡ times_at s (role_of (Do.Settle side)) n
 AddsTime (Do.Ring side) s n t =
     times_at t (role_of (Do.Ring side)) n ≡ times_at s (role_of (Do.Ring side)) n
+AddsTime (Do.Store word value) s n t =
+    times_at t (role_of (Do.Store word value)) n ≡ times_at s (role_of (Do.Store word value)) n
 
 -- the times at the ends of one actor after a call: one more where it put or took, and else the same
 pub record TimesGo (s : SeatsAre) (d : Deed) (t : SeatsAre) : Type 0 where

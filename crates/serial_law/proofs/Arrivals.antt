@@ -40,7 +40,7 @@ as_there A B turn hostile rows c w = record {
 abbrev pub RowAt : Moved → SerialPart → Type 0
 RowAt m p = (serial_sheet p).row m
 
-module _ (hostile : Hostiles) (history : History) (rows : List QueueRow) (j : List Entry) (c : SerialClass) (flows : QueuesFlow hostile history rows j) (w : IsSerial (RowAt (moved history j)) hostile rows c) where
+module _ (hostile : Hostiles) (history : History) (rows : List QueueRow) (j : List Entry) (c : SerialClass) (flows : QueuesFlow history rows j) (w : IsSerial (RowAt (moved history j)) hostile rows c) where
   abbrev got : ℕ → List Item
   got n = taken history n j
 
@@ -48,7 +48,7 @@ module _ (hostile : Hostiles) (history : History) (rows : List QueueRow) (j : Li
   put n = sent history n j
 
   flow : (n : ℕ) → Holds hostile rows n 1 → IsPrefix (got n) (put n)
-  flow n there = (flows n there.row there.there there.calm).begins
+  flow n there = (flows n there.row there.there).begins
 
   -- from the device's input to the receiving virtualiser
   reached : IsPrefix (bytes_in (got c.rx)) c.input

@@ -15,7 +15,7 @@ ghost use Rattle.serial_law.specs.Hops.Hops.{serial_put, serial_bytes};
 pub fn hop_law()
     ensures { (hostile : Hostiles) (history : History) (rows : List QueueRow)
         (journal : List Entry) (class : SerialClass)
-        → QueuesFlow hostile history rows journal
+        → QueuesFlow history rows journal
         → IsSerial (λ p. (serial_sheet p).row (moved history journal)) hostile rows class
         → serial_put class (moved history journal) ≤ 3 * serial_bytes class }
 {}

@@ -33,7 +33,7 @@ pub fn table_law()
 pub fn serial_law()
     ensures part { (hostile : Hostiles) (history : History) (rows : List QueueRow)
         (journal : List Entry) (class : SerialClass)
-        → QueuesFlow hostile history rows journal
+        → QueuesFlow history rows journal
         → IsSerial (λ p. (serial_sheet p).row (moved history journal)) hostile rows class
         → ArrivesInPart class (moved history journal) }
     ensures whole { (hostile : Hostiles) (history : History) (rows : List QueueRow)

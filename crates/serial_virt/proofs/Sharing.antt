@@ -4,6 +4,7 @@ use Rattle.std.proofs.Math.Dec.{eqb}
 use Rattle.std.proofs.lemmas.Bool.Decides.{eqb_tells}
 use Rattle.std.proofs.lemmas.List.{append-nil, map-append}
 use Rattle.std.proofs.lemmas.Grind.{flat_map-append}
+use Rattle.wire_core.specs.declared.names.Event.{Event}
 use Rattle.wire_core.specs.declared.names.QueueId.{QueueId}
 use Rattle.wire_core.specs.Deeds.{Cargo}
 use Rattle.wire_core.specs.Lists.{Lists, Passed, with, if_there}
@@ -77,7 +78,7 @@ still_owed None None (Some c) parts some = cc
 still_owed None (Some x) (Some c) parts some = cc
 
 -- a step of the input
-module _ (old new : SerialVirtRx) (passed : Passed) (took put : Lists) (came : Option Cargo) (given : Option (ℕ × ℕ))
+module _ (old new : SerialVirtRx) (passed : Passed) (took put : Lists) (calls : List Event) (came : Option Cargo) (given : Option (ℕ × ℕ))
     (outputs : new.outputs ≡ old.outputs) (input : new.input.queue ≡ old.input.queue) (load : new.load ≡ loaded_with old.load given) (to : new.to ≡ loaded_for old.to given)
     (after : (clients : ℕ) (bytes : List ℕ) → StandsAfter clients bytes old.switch → StandsAfter clients (bytes ++ bytes_carried (option_to_list came)) new.switch)
     (gives : (clients : ℕ) (bytes : List ℕ) → StandsAfter clients bytes old.switch → (client : ℕ) → input_of clients client (bytes ++ bytes_carried (option_to_list came)) ≡ input_of clients client bytes ++ given_to client given)
@@ -99,11 +100,11 @@ module _ (old new : SerialVirtRx) (passed : Passed) (took put : Lists) (came : O
   switched_now : StandsAfter (clients_of new) (bytes_carried (with passed.taken took new.input.queue.0)) new.switch
   switched_now = subst (λ n. StandsAfter n (bytes_carried (with passed.taken took new.input.queue.0)) new.switch) (sym clients_now) (subst (λ bs. StandsAfter (clients_of old) bs new.switch) (sym bytes_now) (after (clients_of old) (bytes_carried (passed.taken old.input.queue.0)) h.switched))
 
-  pub rx_takes : RxStandsFor new (record { taken = with passed.taken took; sent = with passed.sent put; dropped = passed.dropped })
+  pub rx_takes : RxStandsFor new (record { taken = with passed.taken took; sent = with passed.sent put; calls = calls })
   rx_takes = record { switched = switched_now; to = λ some. rw (clients_now, to) (owner_there (clients_of old) old.to old.load given h.to (known (clients_of old) (bytes_carried (passed.taken old.input.queue.0)) h.switched) (sym (ap is_some load) ∙ some)); given = given_now }
 
 -- a step of an output
-module _ (old new : SerialVirtRx) (passed : Passed) (took put : Lists) (k : ℕ) (q : QueueId) (p : Option Cargo)
+module _ (old new : SerialVirtRx) (passed : Passed) (took put : Lists) (calls : List Event) (k : ℕ) (q : QueueId) (p : Option Cargo)
     (queues : outlet_queues new.outputs ≡ outlet_queues old.outputs) (input : new.input ≡ old.input) (switch : new.switch ≡ old.switch) (to : new.to ≡ old.to) (is : k ≡ old.to)
     (at : slice_get (outlet_queues old.outputs) k ≡ Some q) (apart : AreApart (outlet_queues old.outputs)) (parts : option_to_list old.load ≡ option_to_list p ++ option_to_list new.load)
     (takes : (n : ℕ) → took n ≡ []) (puts : (n : ℕ) → put n ≡ if_there (q.0 == n) (option_to_list p)) (h : RxStandsFor old passed) where
@@ -123,7 +124,7 @@ module _ (old new : SerialVirtRx) (passed : Passed) (took put : Lists) (k : ℕ)
   switched_then : StandsAfter (clients_of new) (bytes_carried (with passed.taken took new.input.queue.0)) new.switch
   switched_then = subst (StandsAfter (clients_of new) (bytes_carried (with passed.taken took new.input.queue.0))) (sym switch) (subst (λ n. StandsAfter n (bytes_carried (with passed.taken took new.input.queue.0)) old.switch) (sym same_clients) (subst (λ bs. StandsAfter (clients_of old) bs old.switch) (sym same_bytes) h.switched))
 
-  pub rx_puts : RxStandsFor new (record { taken = with passed.taken took; sent = with passed.sent put; dropped = passed.dropped })
+  pub rx_puts : RxStandsFor new (record { taken = with passed.taken took; sent = with passed.sent put; calls = calls })
   rx_puts = record { switched = switched_then; to = λ some. rw (same_clients, to) (h.to (still_owed old.load p new.load parts some)); given = given_then }
 
 pub few_load : (load : Option Cargo) → length (option_to_list load) ≤ 1

@@ -1,6 +1,7 @@
 -- Each call on a ring is the queue law's next event on the queue that the ring shows.
 use Rattle.std.proofs.Common.{◌≡◌, ℕ, zero, suc, ◌+◌, ◌≤◌, Bool, true, false, not, nat_lt, nat_eq, List, [], ◌∷◌, ◌++◌, length, drop, length-append, refl, sym, ap, ◌∙◌, subst, arith, Option, Some, is_some}
 use Rattle.std.proofs.lemmas.Bool.{lt-ltb}
+use Rattle.std.proofs.Math.Nat.{mod-add-mod}
 use mathlib.Core.Option as maybe
 use Rattle.cargo_core.specs.declared.item.QueueKind.{QueueKind}
 use Rattle.wire_core.specs.declared.names.Op.{Op}
@@ -11,7 +12,7 @@ use Rattle.wire_core.specs.declared.names.Answer.TheVariants.{Done}
 use Rattle.wire_core.specs.Bells.{bit}
 use Rattle.wire_core.specs.Deeds.{Cargo, answer_of}
 use Rattle.wire_core.specs.Ends.{Condition, role_of}
-use Rattle.wire_core.specs.Queues.{Queue, queue_after}
+use Rattle.wire_core.specs.Queues.{Queue, queue_after, next_index}
 use Rattle.spsc_queue.specs.declared.view.Half.{Half}
 use Rattle.spsc_queue.specs.Rule.{Slot, wrap, ListsHold, EndsHold}
 use Rattle.spsc_queue.specs.Steps.{empty_if, after_look, Granted, tells_room, tells_entry, sent_one, took_one, after_wake, after_wanted, known_end, CallDid}
@@ -62,10 +63,17 @@ module _ (kind : QueueKind) (n : ℕ) (hs : List (maybe.Option Slot)) (p c : Hal
 
   take_after : (x : Cargo) (time : ℕ) → ring_queue kind n (words_after words c Do.Take) p (took_one x time 0 (wrap (length c.entries + 1)) c) ≡ queue_after shown Do.Take Done (x ∷ [])
   take_after x time = let more : length (c.entries ++ x ∷ []) ≡ suc (length c.entries) = length-append c.entries (x ∷ []) ∙ (let z : length c.entries + 1 ≡ suc (length c.entries) = omega arith in z) in
-      ap (λ (z : List Cargo). record (queue_after shown Do.Take Done (x ∷ [])) { entries = z }) (ap (λ (z : ℕ). drop z p.entries) more ∙ drop_next (length c.entries) p.entries)
+      let left : drop (length (c.entries ++ x ∷ [])) p.entries ≡ drop 1 (drop (length c.entries) p.entries) = ap (λ (z : ℕ). drop z p.entries) more ∙ drop_next (length c.entries) p.entries in
+      let next : wrap (length c.entries + 1) ≡ next_index (wrap (length c.entries)) = sym (mod-add-mod (length c.entries) 65536 1) in
+      let mine : wrap (length (c.entries ++ x ∷ [])) ≡ next_index (wrap (length c.entries)) = ap wrap (length-append c.entries (x ∷ [])) ∙ next in
+      λ i. record (queue_after shown Do.Take Done (x ∷ [])) { entries = left i; indices = record shown.indices { head = next i; taken = mine i } }
 
   put_after : (x : Cargo) (time : ℕ) → ring_queue kind n (words_after words p Do.Put) (sent_one x time 1 (wrap (length p.entries + 1)) p) c ≡ queue_after shown Do.Put Done (x ∷ [])
-  put_after x time = let k = counts in let within : length c.entries ≤ length p.entries = omega arith in ap (λ (z : List Cargo). record (queue_after shown Do.Put Done (x ∷ [])) { entries = z }) (drop_short (length c.entries) p.entries (x ∷ []) within)
+  put_after x time = let k = counts in let within : length c.entries ≤ length p.entries = omega arith in
+      let left : drop (length c.entries) (p.entries ++ x ∷ []) ≡ drop (length c.entries) p.entries ++ x ∷ [] = drop_short (length c.entries) p.entries (x ∷ []) within in
+      let next : wrap (length p.entries + 1) ≡ next_index (wrap (length p.entries)) = sym (mod-add-mod (length p.entries) 65536 1) in
+      let mine : wrap (length (p.entries ++ x ∷ [])) ≡ next_index (wrap (length p.entries)) = ap wrap (length-append p.entries (x ∷ [])) ∙ next in
+      λ i. record (queue_after shown Do.Put Done (x ∷ [])) { entries = left i; indices = record shown.indices { tail = next i; sent = mine i } }
 
   wake_after : (b : Bool) (k : ℕ) → b ≡ pending → ring_queue kind n (words_after words c (Do.Wake Forward)) p (after_wake 3 (bit b) k c) ≡ queue_after shown (Do.Wake Forward) (answer_of (nat_eq (bit b) 1)) []
   wake_after true k is = refl
@@ -177,6 +185,7 @@ module _ (kind : QueueKind) (n : ℕ) (hs : List (maybe.Option Slot)) (p c : Hal
     carries = d.2;
     after = subst (λ (z : Half × (Answer × List Cargo)). ring_queue kind n (words_after words c (Do.Ring Backward)) p z.0 ≡ queue_after shown (Do.Ring Backward) z.1.0 z.1.1) (λ i. (sym d.0 i, (sym d.1 i, sym d.2 i))) refl;
   }
+  event (Do.Store w v) a cargo h may d = absurd d
 
 -- the same on the words as they are
 pub is_event : (kind : QueueKind) (n : ℕ) (words : List ℕ) (hs : List (maybe.Option Slot)) (p c : Half) (o : Op) (a : Answer) (cargo : List Cargo) (h : Half) → EndsHold kind n words hs p c

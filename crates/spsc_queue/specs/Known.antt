@@ -65,6 +65,11 @@ abbrev pub only_view : List View → View
 only_view [] = first_view Kind.Byte
 only_view (v ∷ vs) = v
 
+-- an ended ring keeps the wrapped numbers of what was sent and of what was taken
+pub record IsEnded (e : Rest.Inside) : Type 0 where
+  pub sent : e.sent ≡ wrap (length (only_view e.badge.views).producer.entries)
+  pub taken : e.taken ≡ wrap (length (only_view e.badge.views).consumer.entries)
+
 -- what a caller sees of an ended ring
 abbrev pub ended_is : Rest.Inside → EndedIs
 ended_is e = record {

@@ -1,7 +1,9 @@
 -- The queue that the words and the two ends show at a moment, and how a call goes on from there.
-use Rattle.std.specs.Prelude.{◌≡◌, ℕ, ◌+◌, Bool, List, length, drop, nat_eq, slice_index, slice_set}
-use Rattle.std.specs.Prelude.{is_some}
+use Rattle.std.specs.Prelude.{◌≡◌, ℕ, ◌+◌, ◌%◌, Bool, false, List, length, drop, nat_eq, is_some}
+use Rattle.std.specs.Prelude.{slice_index, slice_set}
 use Rattle.cargo_core.specs.declared.item.QueueKind.{QueueKind}
+use Rattle.cargo_core.specs.declared.act.Word.{Word}
+use Rattle.cargo_core.specs.declared.act.Word.TheVariants as Words
 use Rattle.wire_core.specs.declared.names.Op.{Op}
 use Rattle.wire_core.specs.declared.names.Op.TheVariants as Do
 use Rattle.wire_core.specs.declared.names.Answer.{Answer}
@@ -31,7 +33,32 @@ ring_queue kind n words p c = record {
     seen = is_some c.grant;
     roomed = is_some p.grant;
   };
+  indices = record {
+    head = slice_index words 0;
+    tail = slice_index words 1;
+    taken = wrap (length c.entries);
+    sent = wrap (length p.entries);
+    stored = false;
+  };
 }
+
+-- the place of a word
+abbrev pub place_of_word : Word → ℕ
+place_of_word Words.Head = 0
+place_of_word Words.Tail = 1
+place_of_word Words.Flag = 2
+place_of_word Words.FlagBack = 4
+place_of_word Words.Pending = 3
+place_of_word Words.PendingBack = 5
+
+-- what a word holds after a store of a value: the index words hold 16 bits of it, the others one
+abbrev pub stored_value : Word → ℕ → ℕ
+stored_value Words.Head v = v % 65536
+stored_value Words.Tail v = v % 65536
+stored_value Words.Flag v = v % 2
+stored_value Words.FlagBack v = v % 2
+stored_value Words.Pending v = v % 2
+stored_value Words.PendingBack v = v % 2
 
 -- the word that a call reads or writes
 abbrev pub word_of : Op → ℕ
@@ -45,6 +72,7 @@ word_of (Do.Wake s) = pending_word s
 word_of (Do.Wanted s) = flag_word s
 word_of (Do.Settle s) = flag_word s
 word_of (Do.Ring s) = pending_word s
+word_of (Do.Store w v) = place_of_word w
 
 -- what stands in that word after the call of this end, where r stood there
 abbrev pub word_after : Half → Op → ℕ → ℕ
@@ -58,6 +86,7 @@ word_after h (Do.Wake s) r = 0
 word_after h (Do.Wanted s) r = r
 word_after h (Do.Settle s) r = 1
 word_after h (Do.Ring s) r = 1
+word_after h (Do.Store w v) r = stored_value w v
 
 -- what the call reads, and the words after it
 abbrev pub read_by : List ℕ → Op → ℕ

@@ -291,6 +291,8 @@ CallDid n h (Do.Wanted s) r a c h' = (h' ≡ after_wanted (flag_word s) r h)
 CallDid n h (Do.Settle s) r a c h' = (h' ≡ after_settle (flag_word s) 1 h'.settled h)
     × (a ≡ Done) × (c ≡ [])
 CallDid n h (Do.Ring s) r a c h' = (h' ≡ after_ring (pending_word s) 1 h) × (a ≡ Done) × (c ≡ [])
+-- no end of such a ring stores
+CallDid n h (Do.Store w v) r a c h' = ⊥
 
 -- the same, where what was read is what the end did last
 abbrev pub EndDid : ℕ → Half → Op → Answer → List Cargo → Half → Type 0

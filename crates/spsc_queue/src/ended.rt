@@ -1,6 +1,6 @@
 //! How a ring comes to its end: both ends are given up, and what was sent, taken and left is known,
 //! with both bells.
-ghost use Rattle.std.specs.Prelude.{◌≡◌, ◌<◌, ◌≤◌, ◌++◌, length, drop, nat_lt, slice_get, All};
+ghost use Rattle.std.specs.Prelude.{◌≡◌, ◌<◌, ◌≤◌, ◌++◌, ◌%◌, length, drop, nat_lt, slice_get, All};
 ghost use Rattle.std.specs.Prelude.{IfOk, List, ℕ};
 ghost use Rattle.std.specs.Slots.{slots_len, slots_items, IsFull};
 ghost use Rattle.cargo_core.specs.Items.{kind_of};
@@ -32,6 +32,9 @@ pub struct Ended {
     pub(crate) left: VecDeque<(Item, Body)>,
     pub(crate) forward: BellState,
     pub(crate) backward: BellState,
+    // The indices of the two ends.
+    pub(crate) sent: u16,
+    pub(crate) taken: u16,
 }
 
 impl Model for Ended {
@@ -39,9 +42,11 @@ impl Model for Ended {
 
     ghost Value = { EndedIs };
 
-    ghost use Rattle.spsc_queue.specs.Known.{ended_is};
+    ghost use Rattle.spsc_queue.specs.Known.{ended_is, IsEnded};
 
     ghost view = { ended_is };
+
+    ghost invariant = { IsEnded };
 }
 
 impl Ended {
@@ -62,6 +67,20 @@ impl Ended {
             Side::Forward => self.forward,
             Side::Backward => self.backward,
         }
+    }
+
+    /// How many entries were sent, modulo 65,536: the index that the producer kept.
+    pub fn sent(&self) -> u16
+        ensures { result ≡ length self.now.producer.entries % 65536 }
+    {
+        self.sent
+    }
+
+    /// How many entries were taken, modulo 65,536: the index that the consumer kept.
+    pub fn taken(&self) -> u16
+        ensures { result ≡ length self.now.consumer.entries % 65536 }
+    {
+        self.taken
     }
 }
 
@@ -142,7 +161,7 @@ pub fn finish(ring: Ring, producer: Producer, consumer: Consumer) -> Result<Ende
     } = ring;
     let Producer {
         mut seat,
-        tail: _,
+        tail,
         waiter: waiter_back,
         ringer,
     } = producer;
@@ -178,5 +197,7 @@ pub fn finish(ring: Ring, producer: Producer, consumer: Consumer) -> Result<Ende
             waiter: waiter_back,
             ringer: ringer_back,
         },
+        sent: tail,
+        taken: head,
     })
 }

@@ -3,7 +3,7 @@ ghost use Rattle.std.specs.Prelude.{◌≡◌, ℕ, [], ◌∷◌, List};
 ghost use mathlib.Core.Option as maybe;
 ghost use Rattle.wire_core.specs.Deeds.{Cargo};
 ghost use Rattle.wire_core.specs.Ends.{Condition, role_of};
-ghost use Rattle.wire_core.specs.Queues.{start_bells};
+ghost use Rattle.wire_core.specs.Queues.{start_bells, start_indices};
 ghost use Rattle.spsc_queue.specs.Rule.{Slot, EndsHold, words_of, first_producer, first_consumer};
 ghost use Rattle.spsc_queue.specs.Steps.{CallDid, known_end};
 ghost use Rattle.spsc_queue.specs.Shown.{ring_queue, half_of, read_by, IsEvent};
@@ -27,6 +27,7 @@ pub fn ring_law()
           consumer = 0;
           entries = [];
           bells = start_bells;
+          indices = start_indices;
         } }
     ensures event { (kind : QueueKind) (n : ℕ) (words : List ℕ) (homes : List (maybe.Option Slot))
         (p c : Half) (o : Op) (a : Answer) (cargo : List Cargo) (h : Half)

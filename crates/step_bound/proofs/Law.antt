@@ -49,7 +49,7 @@ few_queue marks s0 k0 d0 s1 k1 d1 a b c = omega (arith, a, b, c)
 prefix_short : (t : Type 0) (xs ys : List t) → IsPrefix xs ys → length xs ≤ length ys
 prefix_short t xs ys p = let h = ap length p.1 in let l = length-append xs p.0 in omega (arith, h, l)
 
-module _ (hostile : Hostiles) (history : History) (rows : List QueueRow) (journal : List Entry) (calm : AreCalm hostile rows) (hold : BellsHold hostile history rows []) (flow : QueuesFlow hostile history rows []) (legal : LegalJournal hostile history rows journal) where
+module _ (hostile : Hostiles) (history : History) (rows : List QueueRow) (journal : List Entry) (calm : AreCalm hostile rows) (hold : BellsHold hostile history rows []) (flow : QueuesFlow history rows []) (legal : LegalJournal hostile history rows journal) where
   marks_queue : (n : ℕ) → n < length rows → marks_on n journal ≤ 4 * length (track history n journal).sent
   marks_queue n l =
       let r = row_at rows n l in
@@ -57,8 +57,8 @@ module _ (hostile : Hostiles) (history : History) (rows : List QueueRow) (journa
       let start = hold n r.0 r.1 (calm n r.0 r.1) in
       let cf = start.forward.counted in
       let cb = start.backward.counted in
-      let ends = EachMoment-at (QueuesFlow hostile history rows) journal journal (queues_flow hostile history rows journal flow legal) ([], append-nil journal) in
-      let short = prefix_short _ _ _ (ends n r.0 r.1 (calm n r.0 r.1)).begins in
+      let ends = EachMoment-at (QueuesFlow history rows) journal journal (queues_flow hostile history rows journal flow legal) ([], append-nil journal) in
+      let short = prefix_short _ _ _ (ends n r.0 r.1).begins in
       omega (arith, pays, cf, cb, short)
 
   pub few_marks : plain_marks journal ≤ 4 * all_sent history rows journal
@@ -74,10 +74,10 @@ spread x a m = grind arith
 narrow : (x m : ℕ) → (8 * m + 1) * (4 * x) ≡ 32 * (m * x) + 4 * x
 narrow x m = grind arith
 
-pub bounded : (hostile : Hostiles) (drops : Drops) (history : History) (rows : List QueueRow) (journal : List Entry) (hops actors most : ℕ) → AreCalm hostile rows → BellsHold hostile history rows [] → QueuesFlow hostile history rows [] → LegalJournal hostile history rows journal → Brisk hostile drops journal → AreOwned rows actors → ((a : ℕ) → ends_of a rows ≤ most) → all_sent history rows journal + dropped drops journal ≤ hops → length journal < 32 * (hops + actors + 1) * (most + 1)
+pub bounded : (hostile : Hostiles) (drops : Drops) (history : History) (rows : List QueueRow) (journal : List Entry) (hops actors most : ℕ) → AreCalm hostile rows → BellsHold hostile history rows [] → QueuesFlow history rows [] → LegalJournal hostile history rows journal → Brisk hostile rows drops journal → AreOwned rows actors → ((a : ℕ) → ends_of a rows ≤ most) → all_sent history rows journal + dropped drops journal ≤ hops → length journal < 32 * (hops + actors + 1) * (most + 1)
 bounded hostile drops history rows journal hops actors most calm hold flow legal brisk owned ends sent =
     let w = walk drops hostile history rows actors most owned ends calm [] journal legal (λ a. tt) brisk.0 brisk.1 in
-    let now = EachMoment-at (AreFew hostile drops) journal journal brisk ([], append-nil journal) in
+    let now = EachMoment-at (AreFew hostile rows drops) journal journal brisk ([], append-nil journal) in
     let top = sum_le (λ a. length (since drops a journal)) (λ a. 8 * most) actors (λ a l. few_now drops hostile history rows actors most owned ends calm journal w.1 now a) in
     let tops = sum_times (8 * most) actors in
     let marks = few_marks hostile history rows journal calm hold flow legal in

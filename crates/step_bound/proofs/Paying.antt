@@ -70,6 +70,7 @@ module _ (row : QueueRow) (t : Track) where
   call_pays (Do.Settle Backward) a item c s m = let h : at_work t.bells.backward.ringer ≡ 1 = ap at_work c in omega (arith, h)
   call_pays (Do.Ring Forward) a item c s m = let h : at_work t.bells.forward.ringer ≡ 1 = ap at_work c in omega (arith, h)
   call_pays (Do.Ring Backward) a item c s m = let h : at_work t.bells.backward.ringer ≡ 1 = ap at_work c in omega (arith, h)
+  call_pays (Do.Store w v) a item c s m = absurd s
 
 -- the marks on queue n
 abbrev pub marks_on : ℕ → List Entry → ℕ
@@ -90,7 +91,7 @@ module _ (hostile : Hostiles) (history : History) (rows : List QueueRow) (n : �
           let same : e.event.queue.0 ≡ n = eqb-true e.event.queue.0 n h in
           let row_is : l.row ≡ row = some_is l.row row (sym l.there ∙ (ap (slice_get rows) same ∙ at)) in
           let legal : Legal hostile row (track history n before) e = subst (λ m. Legal hostile row (track history m before) e) same (subst (λ r. Legal hostile r (track history e.event.queue.0 before) e) row_is l.legal) in
-          call_pays row (track history n before) e.event.op e.event.answer e.event.item legal.condition (legal.tells calm) (legal.carries calm)
+          call_pays row (track history n before) e.event.op e.event.answer e.event.item legal.condition (legal.tells calm) legal.carries
 
   pub journal_pays : (before es : List Entry) → EachFrom (LegalEntry hostile history rows) before es → marks_on n es + rich (track history n before).sent (track history n before).taken + debt (track history n (before ++ es)).bells ≤ rich (track history n (before ++ es)).sent (track history n (before ++ es)).taken + debt (track history n before).bells
   journal_pays before [] l = rw (append-nil before) omega arith

@@ -33,11 +33,11 @@ module _ (drops : Drops) (hostile : Hostiles) (history : History) (rows : List Q
       let no : true ≡ false = sym h ∙ is in
       cc
 
-  pub few_now : (j : List Entry) → AllOwn j → AreFew hostile drops j → (a : ℕ) → length (since drops a j) ≤ 8 * most
+  pub few_now : (j : List Entry) → AllOwn j → AreFew hostile rows drops j → (a : ℕ) → length (since drops a j) ≤ 8 * most
   few_now j own few a = go (hostile a) refl
     where
       go : (b : Bool) → hostile a ≡ b → length (since drops a j) ≤ 8 * most
-      go false h = let f = few_since a rows (since drops a j) (own a) (few a h) in let m = ends a in omega (arith, f, m)
+      go false h = let f = few_since a rows (since drops a j) (own a) (few a (record { calm = h; queues = λ n row at r o. calm n row at })) in let m = ends a in omega (arith, f, m)
       go true h = let n = none_own a h (since drops a j) (own a) in omega (arith, n)
 
   own_next : (j : List Entry) (e : Entry) → LegalEntry hostile history rows j e → AllOwn j → AllOwn (j ++ e ∷ [])
@@ -48,7 +48,7 @@ module _ (drops : Drops) (hostile : Hostiles) (history : History) (rows : List Q
       go true h true = tt
       go true h false = own_append a rows (since drops a j) e.event (own a) (record { row = l.row; there = l.there; owner = calm_caller hostile l.row (role_of e.event.op) e.actor.0 (calm e.event.queue.0 l.row l.there) l.legal.caller ∙ eqb-true e.actor.0 a h })
 
-  one_step : (j : List Entry) (e : Entry) → LegalEntry hostile history rows j e → AllOwn j → AreFew hostile drops j → held j + 1 ≤ held (j ++ e ∷ []) + cond (is_marked drops e) (8 * most + 1) 0
+  one_step : (j : List Entry) (e : Entry) → LegalEntry hostile history rows j e → AllOwn j → AreFew hostile rows drops j → held j + 1 ≤ held (j ++ e ∷ []) + cond (is_marked drops e) (8 * most + 1) 0
   one_step j e l own few =
       let x : e.actor.0 < actors = subst (λ n. n < actors) l.legal.caller.some.1 (owned e.event.queue.0 l.row l.there l.legal.caller.some.0) in
       let w = sum_written (λ a. length (since drops a j)) (λ a. length (since drops a (j ++ e ∷ []))) actors e.actor.0 x other in
@@ -70,7 +70,7 @@ module _ (drops : Drops) (hostile : Hostiles) (history : History) (rows : List Q
       go true w f g = omega (arith, w, f, g)
       go false w f g = omega (arith, w, f, g)
 
-  pub walk : (j es : List Entry) → EachFrom (LegalEntry hostile history rows) j es → AllOwn j → AreFew hostile drops j → EachFrom (λ b e. AreFew hostile drops (b ++ e ∷ [])) j es → (length es + held j ≤ weigh drops (8 * most + 1) es + held (j ++ es)) × AllOwn (j ++ es)
+  pub walk : (j es : List Entry) → EachFrom (LegalEntry hostile history rows) j es → AllOwn j → AreFew hostile rows drops j → EachFrom (λ b e. AreFew hostile rows drops (b ++ e ∷ [])) j es → (length es + held j ≤ weigh drops (8 * most + 1) es + held (j ++ es)) × AllOwn (j ++ es)
   walk j [] l own few all = (rw (append-nil j) omega arith, subst AllOwn (sym (append-nil j)) own)
   walk j (e ∷ es) l own few all =
       let one = one_step j e l.0 own few in

@@ -26,8 +26,9 @@ pub fn brisk_law()
     ensures bounded { (hostile : Hostiles) (drops : Drops) (history : History)
         (rows : List QueueRow) (journal : List Entry) (hops actors ends : ℕ)
         → AreCalm hostile rows → BellsHold hostile history rows []
-        → QueuesFlow hostile history rows [] → LegalJournal hostile history rows journal
-        → Brisk hostile drops journal → AreOwned rows actors → ((a : ℕ) → ends_of a rows ≤ ends)
+        → QueuesFlow history rows [] → LegalJournal hostile history rows journal
+        → Brisk hostile rows drops journal → AreOwned rows actors
+        → ((a : ℕ) → ends_of a rows ≤ ends)
         → all_sent history rows journal + dropped drops journal ≤ hops → length journal < 32 *
         (hops + actors + 1) * (ends + 1) }
 {}

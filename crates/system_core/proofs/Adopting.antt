@@ -6,6 +6,7 @@ use Rattle.std.proofs.lemmas.List.{length-map}
 use Rattle.std.proofs.lemmas.Option.{get_or_from_slice_get}
 use Rattle.cargo_core.specs.Items.{kind_of}
 use Rattle.cargo_core.specs.Lists.{IsPrefix}
+use Rattle.wire_core.specs.declared.names.Event.{Event}
 use Rattle.wire_core.specs.declared.names.PoolRow.{PoolRow}
 use Rattle.wire_core.specs.declared.names.QueueRow.{QueueRow}
 use Rattle.wire_core.specs.Deeds.{Cargo}
@@ -63,12 +64,12 @@ use Rattle.system_core.specs.Lawful.{IsFitted}
 use Rattle.system_core.specs.Systems.{Holds, HoldsBefore, GoesOn}
 use Rattle.system_core.specs.Adopting.{HaveComeFrom, IsAdopted, rests_first}
 
-taken_shown : (ended : List EndedIs) (n : ℕ) → items_of ((passed_of ended).taken n) ≡ (history_at (history_left ended) n).taken
+taken_shown : (ended : List EndedIs) (n : ℕ) → items_of ((passed_of ended []).taken n) ≡ (history_at (history_left ended) n).taken
 taken_shown [] n = refl
 taken_shown (e ∷ ended) zero = refl
 taken_shown (e ∷ ended) (suc n) = taken_shown ended n
 
-sent_shown : (ended : List EndedIs) (n : ℕ) → items_of ((passed_of ended).sent n) ≡ (history_at (history_left ended) n).sent
+sent_shown : (ended : List EndedIs) (n : ℕ) → items_of ((passed_of ended []).sent n) ≡ (history_at (history_left ended) n).sent
 sent_shown [] n = refl
 sent_shown (e ∷ ended) zero = refl
 sent_shown (e ∷ ended) (suc n) = sent_shown ended n
@@ -96,17 +97,24 @@ parts_same [] (y ∷ ys) all = absurd all
 parts_same (x ∷ xs) [] all = absurd all
 parts_same (x ∷ xs) (y ∷ ys) all = ap (λ (p : Part). p ∷ map part_of ys) all.0.part ∙ ap (λ (ps : List Part). part_of x ∷ ps) (parts_same xs ys all.1)
 
+-- no word was stored there
+none_stored : (rows : List QueueRow) (ended : List EndedIs) (n : ℕ) → (queue_at (all_adopted rows ended) n).indices.stored ≡ false
+none_stored [] ended n = refl
+none_stored (row ∷ rows) [] n = refl
+none_stored (row ∷ rows) (e ∷ ended) zero = refl
+none_stored (row ∷ rows) (e ∷ ended) (suc n) = none_stored rows ended n
+
 map_twice : (ps : List Apart) → map part_of (actors_apart ps) ≡ map (λ (p : Apart). part_of p.actor) ps
 map_twice [] = refl
 map_twice (p ∷ ps) = ap (λ (l : List Part). part_of p.actor ∷ l) (map_twice ps)
 
 module _ (s : Setting) (rings : List RingIs) (parts : List Apart) (fitted : IsFitted s) (few : length s.cast ≤ 65536) (apart : AreApart s.rows rings parts) (actors nows : List Actor) (ended : List EndedIs) (done : AreFinished s.rows rings parts actors ended) (forgotten : AllZip IsForgotten actors nows) (cast : map part_of actors ≡ s.cast)
-    (olds : List Actor) (held : HaveHeld s.rows olds actors (passed_of ended)) (over : (n : ℕ) → (passed_of ended).sent n ≡ (passed_of ended).taken n ++ left_at ended n) where
+    (olds : List Actor) (calls : List Event) (held : HaveHeld s.rows olds actors (passed_of ended calls)) (over : (n : ℕ) → (passed_of ended calls).sent n ≡ (passed_of ended calls).taken n ++ left_at ended n) where
   abbrev rows : List QueueRow
   rows = s.rows
 
   abbrev passed : Passed
-  passed = passed_of ended
+  passed = passed_of ended calls
 
   abbrev world : List Queue
   world = all_adopted rows ended
@@ -226,6 +234,7 @@ module _ (s : Setting) (rings : List RingIs) (parts : List Apart) (fitted : IsFi
     sends = sends_now;
     in_turn = turns_now;
     owners = λ k x at r n own row there. (let o = own_now k x at r n own in ap (λ (w : QueueRow). owner_of w r) (some_is (sym there ∙ o.1)) ∙ o.2);
+    unstored = λ n row at calm. none_stored rows ended n;
     paced = λ k x at calm. paced_anew (pendings history []) (actor_round x) (fits_round (end_at world) x (fits_now k x at) (no_loop k x at));
     peers = λ n row at r. subst (λ (m : ℕ). owner_of row r < m) (sym nows_many) (fitted.peopled n row at r);
     few = subst (λ (m : ℕ). m ≤ 65536) (sym nows_many) few;
@@ -233,7 +242,7 @@ module _ (s : Setting) (rings : List RingIs) (parts : List Apart) (fitted : IsFi
   }
 
   pub before : HoldsBefore (record s { history = history })
-  before = record { bells_hold = λ n row at calm. (left.each n row at).bells_hold; flows = λ n row at calm. (left.each n row at).flows }
+  before = record { bells_hold = λ n row at calm. (left.each n row at).bells_hold; flows = λ n row at. (left.each n row at).flows }
 
   -- the cast is at play
   pub at_play : AreAtPlay history rows nows [] passed world
@@ -242,7 +251,7 @@ module _ (s : Setting) (rings : List RingIs) (parts : List Apart) (fitted : IsFi
     seated = subst (λ (c : List Part). AreSeated (sheet (scene_of c)) rows c) (sym cast_now) fitted.seated;
     filled = subst (λ (c : List Part). AreFilled (sheet (scene_of c)) rows c) (sym cast_now) fitted.ends;
     legal = tt;
-    flows = (subst (λ (c : List Part). QueuesFlow (hostiles c) history rows []) (sym cast_now) before.flows, tt);
+    flows = (before.flows, tt);
     rows_hold = (rows_at rows nows passed (moved history []) items turns_now stands_now, tt);
     items = items;
     stands_there = stands_there;
@@ -323,29 +332,29 @@ module _ (s : Setting) (rings : List RingIs) (parts : List Apart) (come : HaveCo
 
   -- so the system that takes over what is left goes on from it
   module _ (few : length s.cast ≤ 65536) (actors nows : List Actor) (ended : List EndedIs) (done : AreFinished s.rows rings parts actors ended) (forgotten : AllZip IsForgotten actors nows) where
-    held : HaveHeld s.rows (actors_apart come.olds) actors (passed_of ended)
+    held : (calls : List Event) × HaveHeld s.rows (actors_apart come.olds) actors (passed_of ended calls)
     held = went_on s.rows rings come.olds parts actors ended have_gone done
 
-    over : (n : ℕ) → (passed_of ended).sent n ≡ (passed_of ended).taken n ++ left_at ended n
-    over n = hand_over s.rows rings come.olds parts actors ended have_gone done n
+    over : (n : ℕ) → (passed_of ended held.0).sent n ≡ (passed_of ended held.0).taken n ++ left_at ended n
+    over n = hand_over s.rows rings come.olds parts actors ended have_gone done held.0 n
 
     cast_is : map part_of actors ≡ s.cast
-    cast_is = held.parts ∙ old_cast
+    cast_is = held.1.parts ∙ old_cast
 
     owners : (place : PoolPlace) → IsPlaced s.rows place (map part_of nows) → HasPools s.pools place → HasOwners (history_left ended) s.rows place (map part_of nows)
-    owners place placed has = past_owned (history_left ended) s.rows s.pools place nows (passed_of ended) (all_adopted s.rows ended) placed has (at_play s rings parts come.fitted few come.after actors nows ended done forgotten cast_is (actors_apart come.olds) held over)
+    owners place placed has = past_owned (history_left ended) s.rows s.pools place nows (passed_of ended held.0) (all_adopted s.rows ended) placed has (at_play s rings parts come.fitted few come.after actors nows ended done forgotten cast_is (actors_apart come.olds) held.0 held.1 over)
 
     many : length ended ≡ length s.rows
     many = done.many ∙ all_long IsRingOf s.rows rings come.after.rings_are
 
     come_ended : AllZip IsEndedOf s.rows ended
-    come_ended = (left s rings parts come.fitted few come.after actors nows ended done forgotten cast_is (actors_apart come.olds) held over).ended_of
+    come_ended = (left s rings parts come.fitted few come.after actors nows ended done forgotten cast_is (actors_apart come.olds) held.0 held.1 over).ended_of
 
     come_goes : GoesOn (begun (history_of s.rows ended) s.rows s.pools nows s.net s.serial s.blk) (all_adopted s.rows ended) nows
-    come_goes = subst (λ (h : History). GoesOn (begun h s.rows s.pools nows s.net s.serial s.blk) (all_adopted s.rows ended) nows) (sym (history_is s.rows ended many)) (goes_on s rings parts come.fitted few come.after actors nows ended done forgotten cast_is (actors_apart come.olds) held over owners)
+    come_goes = subst (λ (h : History). GoesOn (begun h s.rows s.pools nows s.net s.serial s.blk) (all_adopted s.rows ended) nows) (sym (history_is s.rows ended many)) (goes_on s rings parts come.fitted few come.after actors nows ended done forgotten cast_is (actors_apart come.olds) held.0 held.1 over owners)
 
     come_adopted : (t : Shown) → t ≡ started (history_of s.rows ended) s.rows s.pools (all_adopted s.rows ended) nows s.net s.serial s.blk → IsAdopted s parts t
-    come_adopted t is = is_adopted s rings parts come.fitted few come.after actors nows ended done forgotten cast_is (actors_apart come.olds) held over owners t (is ∙ ap (λ (h : History). started h s.rows s.pools (all_adopted s.rows ended) nows s.net s.serial s.blk) (history_is s.rows ended many))
+    come_adopted t is = is_adopted s rings parts come.fitted few come.after actors nows ended done forgotten cast_is (actors_apart come.olds) held.0 held.1 over owners t (is ∙ ap (λ (h : History). started h s.rows s.pools (all_adopted s.rows ended) nows s.net s.serial s.blk) (history_is s.rows ended many))
 
 -- the same at the rows, the pools and the crews of a plan
 abbrev Given : Type 0

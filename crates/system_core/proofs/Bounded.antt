@@ -3,6 +3,7 @@ use Rattle.std.proofs.Common.{◌≡◌, ◌<◌, ◌+◌, ◌*◌, ℕ, None, S
 use Rattle.std.specs.Option.{option_map_or}
 use Rattle.wire_core.specs.declared.names.Entry.{Entry}
 use Rattle.wire_core.specs.Journal.{LegalJournal, BellsHold, QueuesFlow}
+use Rattle.wire_core.specs.Marks.{no_drops, Brisk}
 use Rattle.sdf_plan.specs.declared.plan.Plan.{Plan}
 use Rattle.sdf_plan.specs.declared.plan.Net.{Net}
 use Rattle.sdf_plan.specs.declared.plan.Serial.{Serial}
@@ -60,11 +61,11 @@ module _ (plan : Plan) (trace : Trace) (valid : Valid plan) (s : Shown) (cast : 
   rows_now : RowsStand s.setting s.journal
   rows_now = last_moment (RowsStand s.setting) s.journal stands.lawful.rows_hold
 
-  flows_at : (j : List Entry) → QueuesFlow (hostile_in s.setting) s.setting.history s.setting.rows j → QueuesFlow (hostile_in s.setting) s.setting.history (queues_of plan) j
-  flows_at j = subst (λ rs. QueuesFlow (hostile_in s.setting) s.setting.history rs j) cast.rows
+  flows_at : (j : List Entry) → QueuesFlow s.setting.history s.setting.rows j → QueuesFlow s.setting.history (queues_of plan) j
+  flows_at j = subst (λ rs. QueuesFlow s.setting.history rs j) cast.rows
 
-  flows_now : QueuesFlow (hostile_in s.setting) s.setting.history (queues_of plan) s.journal
-  flows_now = flows_at s.journal (last_moment (QueuesFlow (hostile_in s.setting) s.setting.history s.setting.rows) s.journal stands.lawful.flows)
+  flows_now : QueuesFlow s.setting.history (queues_of plan) s.journal
+  flows_now = flows_at s.journal (last_moment (QueuesFlow s.setting.history s.setting.rows) s.journal stands.lawful.flows)
 
   module _ (serial : Serial) (has : plan.serial ≡ Some serial) where
     abbrev class : SerialClass
@@ -86,7 +87,7 @@ module _ (plan : Plan) (trace : Trace) (valid : Valid plan) (s : Shown) (cast : 
       (subst (λ rs. BellsHold (hostile_in s.setting) s.setting.history rs []) cast.rows stands.lawful.bells_hold.0)
       (flows_at [] stands.lawful.flows.0)
       (subst (λ rs. LegalJournal (hostile_in s.setting) s.setting.history rs s.journal) cast.rows stands.lawful.legal)
-      stands.lawful.brisk
+      (subst (λ rs. Brisk (hostile_in s.setting) rs no_drops s.journal) cast.rows stands.lawful.brisk)
       (net_within plan trace s.setting.cast s.setting.history s.journal valid (λ net has. subst (λ rs. HasWhole rs (net_place plan trace) s.setting.cast) cast.rows (cast.whole net has)) cast.scene flows_now rows_now)
       (serial_within plan trace s.setting.cast s.setting.history s.journal flows_now (λ serial has. (class serial has, class_at serial has, carries serial has, rows_of_class serial has)))
       (blk_within plan trace s.setting.cast s.setting.history s.journal valid (λ blk has. subst (λ rs. HasBlk rs (blk_place plan trace) s.setting.cast) cast.rows (cast.whole_block blk has)) flows_now rows_now)

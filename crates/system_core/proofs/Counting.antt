@@ -5,7 +5,7 @@ use Rattle.cargo_core.specs.declared.item.PoolId.{PoolId}
 use Rattle.cargo_core.specs.Bodies.{buffers_of}
 use Rattle.wire_core.specs.declared.names.PoolRow.{PoolRow}
 use Rattle.wire_core.specs.Queues.{Queue}
-use Rattle.expect_core.specs.declared.report.Census.{Census as Line}
+use Rattle.cargo_core.specs.declared.census.Census.{Census as Line}
 use Rattle.play_core.specs.Sheets.{Scene}
 use Rattle.play_core.proofs.Lists.{some_is}
 use Rattle.owner_law.specs.Pools.Lines.{Holder}

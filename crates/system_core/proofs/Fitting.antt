@@ -78,6 +78,6 @@ module _ (rows : List QueueRow) (actors : List Actor) (s : AreSeated rows actors
 pub start_goes : (rows : List QueueRow) (pools : List PoolRow) (actors : List Actor) (net serial blk : Crew) → AreSeated rows actors → ArePooled rows pools (map part_of actors) → GoesOn (begun (start_history rows) rows pools actors net serial blk) (starts rows) actors
 start_goes rows pools actors net serial blk s pooled = record {
   fitted = seated_fit rows actors s (start_history rows) pools net serial blk pooled (λ place placed has. owners_anew rows (map part_of actors) (end_given rows actors s) place placed has.numbered);
-  before = record { bells_hold = starts_hold (hostiles (map part_of actors)) rows; flows = starts_flow (hostiles (map part_of actors)) rows };
+  before = record { bells_hold = starts_hold (hostiles (map part_of actors)) rows; flows = starts_flow rows };
   holds = start_holds rows actors (seated_start rows actors s);
 }

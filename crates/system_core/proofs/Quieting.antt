@@ -40,7 +40,7 @@ module _ (s : Shown) (stands : StandsLawful s) (quiet : runnable_now s ≡ []) w
   pub still_now : IsStill (hostile_in s.setting) s.setting.history s.setting.rows actors s.journal
   still_now = quiet_still (manner_in s.setting) s.setting.history s.setting.rows actors s.journal (record {
     bells_hold = last_moment (BellsHold (hostile_in s.setting) s.setting.history s.setting.rows) s.journal stands.lawful.bells_hold;
-    flows = last_moment (QueuesFlow (hostile_in s.setting) s.setting.history s.setting.rows) s.journal stands.lawful.flows;
+    flows = last_moment (QueuesFlow s.setting.history s.setting.rows) s.journal stands.lawful.flows;
     peopled = λ n row at r. let lt = stands.fitted.peopled n row at r in let size = length-map s.setting.cast (λ p. (sheet_in s.setting p).wants (moved_in s.setting s.journal)) in omega (arith, lt, size);
     quiet = quiet;
   })

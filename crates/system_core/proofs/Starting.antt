@@ -41,6 +41,11 @@ nothing_there [] n = refl
 nothing_there (a ∷ rows) zero = refl
 nothing_there (a ∷ rows) (suc n) = nothing_there rows n
 
+none_stored : (rows : List QueueRow) (n : ℕ) → (queue_at (starts rows) n).indices.stored ≡ false
+none_stored [] n = refl
+none_stored (a ∷ rows) zero = refl
+none_stored (a ∷ rows) (suc n) = none_stored rows n
+
 -- a start state holds
 pub start_holds : (rows : List QueueRow) (actors : List Actor) → AreStarting rows actors → Holds (start_history rows) rows (starts rows) actors []
 start_holds rows actors s = record {
@@ -57,6 +62,7 @@ start_holds rows actors s = record {
   sends = nothing_sent rows (map part_of actors);
   in_turn = in_turn (end_at (starts rows)) rows actors nothing_passed s.wired (record { fits = s.fits; stands = s.stands; hands_over = λ n. ([], refl); kinds = λ n row at k c there. cc }) (nothing_sent rows (map part_of actors));
   owners = s.owners;
+  unstored = λ n row at calm. none_stored rows n;
   paced = λ k x at calm. paced_anew (pendings (start_history rows) []) (actor_round x) (s.rounds k x at);
   peers = s.peers;
   few = s.few;

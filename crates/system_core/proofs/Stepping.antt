@@ -203,7 +203,7 @@ nobody_since hostile history rows actors a before (e ∷ es) peers le l =
     rw off (nobody_since hostile history rows actors a (before ++ e ∷ []) es peers le l.1)
 
 -- each actor made few calls since its last mark
-few_holds : (history : History) (rows : List QueueRow) (w : List Queue) (actors : List Actor) (journal : List Entry) → Holds history rows w actors journal → AreFew (hostiles (map part_of actors)) no_drops journal
+few_holds : (history : History) (rows : List QueueRow) (w : List Queue) (actors : List Actor) (journal : List Entry) → Holds history rows w actors journal → AreFew (hostiles (map part_of actors)) rows no_drops journal
 few_holds history rows w actors journal h a calm r n = elim (get_case actors a) [
   | inl y ↦ pace_few (pendings history journal) (since no_drops a journal) (actor_round y.0) (h.paced a y.0 y.1 calm) r n
   | inr past ↦ let none : since no_drops a journal ≡ [] = nobody_since (hostiles (map part_of actors)) history rows (length actors) a [] journal h.peers past h.legal in subst (λ es. calls_at r n es ≤ 8) (sym none) (omega arith)
@@ -214,7 +214,7 @@ pub record StepThen (setting : Setting) (v : List Queue) (actors : List Actor) (
   pub holds : Holds setting.history setting.rows v actors journal
   pub cast_is : map part_of actors ≡ setting.cast
   pub rows_hold : EachMoment (RowsStand setting) journal
-  pub brisk : Brisk (hostile_in setting) no_drops journal
+  pub brisk : Brisk (hostile_in setting) setting.rows no_drops journal
   pub running : list ≡ runs setting journal
   pub room_is : length actors ≤ room
   pub few : length list ≤ room
@@ -223,7 +223,7 @@ module _ (history : History) (rows : List QueueRow) (pools : List PoolRow) (net 
   abbrev setting : Setting
   setting = record { history = history; rows = rows; pools = pools; cast = map part_of actors; net = net; serial = serial; blk = blk }
 
-  pub system_then : IsFitted setting → Holds history rows w actors journal → EachMoment (RowsStand setting) journal → list ≡ runs setting journal → length actors ≤ room → Brisk (hostile_in setting) no_drops journal
+  pub system_then : IsFitted setting → Holds history rows w actors journal → EachMoment (RowsStand setting) journal → list ≡ runs setting journal → length actors ≤ room → Brisk (hostile_in setting) rows no_drops journal
       → slice_get list place ≡ Some k → x ≡ slice_index_or actors k x → ActorEnd x (role_of e.op) e.queue.0 → Stepped ActorStandsFor Happens w v x x' e → ActorTurned x e x' → FitsActor (end_at v) x' → part_of x' ≡ part_of x
       → y ≡ slice_index_or (slice_set actors k x') k y → row ≡ slice_index_or rows e.queue.0 row → idle ≡ idles (manner_of (part_of y)) (actor_rests y) (is_pending k v) → rung ≡ reach_of e.op row k → IsAsked (slice_set actors k x') v rung woken
       → StepThen setting v (slice_set actors k x') (journal ++ entry_of k e ∷ []) (with_option rung woken (removed_if idle list place)) room
@@ -244,7 +244,7 @@ module _ (history : History) (rows : List QueueRow) (pools : List PoolRow) (net 
         holds = new;
         cast_is = cast_is;
         rows_hold = (rows_old.0, EachFrom-append _ [] journal _ rows_old.1 (subst (λ cast. RowsHold (sheet (scene_of (map part_of actors))) (hostiles (map part_of actors)) cast (moved history (journal ++ entry_of k e ∷ []))) cast_is (rows_now (scene_of (map part_of actors)) history rows v (slice_set actors k x') (journal ++ entry_of k e ∷ []) new (ap scene_of cast_is) (hostiles (map part_of actors)))));
-        brisk = (brisk.0, EachFrom-append (λ b d. AreFew (hostile_in setting) no_drops (b ++ d ∷ [])) [] journal (entry_of k e) brisk.1 (subst (λ cast. AreFew (hostiles cast) no_drops (journal ++ entry_of k e ∷ [])) cast_is (few_holds history rows v (slice_set actors k x') (journal ++ entry_of k e ∷ []) new)));
+        brisk = (brisk.0, EachFrom-append (λ b d. AreFew (hostile_in setting) rows no_drops (b ++ d ∷ [])) [] journal (entry_of k e) brisk.1 (subst (λ cast. AreFew (hostiles cast) rows no_drops (journal ++ entry_of k e ∷ [])) cast_is (few_holds history rows v (slice_set actors k x') (journal ++ entry_of k e ∷ []) new)));
         running = list_is;
         room_is = rw length-set le;
         few = rw list_is (running_few history rows (map part_of actors) room (omega (arith, le, size)) (journal ++ entry_of k e ∷ []));

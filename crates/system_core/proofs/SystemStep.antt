@@ -15,18 +15,19 @@ use Rattle.wire_core.specs.declared.names.Op.TheVariants as Do
 use Rattle.wire_core.specs.Deeds.{Deed, Cargo, cargo_of}
 use Rattle.wire_core.specs.Ends.{Role, Consumer, Producer, Moves, role_of}
 use Rattle.wire_core.specs.Lists.{Passed, Stepped, with_deed, if_there, if_taken, if_put}
-use Rattle.wire_core.specs.Queues.{Queue, Happens, Carries, queue_at, no_queue, end_at, items_of, entries_after, after}
-use Rattle.wire_core.specs.Journal.{Track, track, track_after, sent_after, taken_after, History, Hostiles, history_at, if_on, IsShown, LegalEntry, LegalJournal, owner_of}
+use Rattle.wire_core.specs.Queues.{Queue, Happens, Carries, queue_at, no_queue, end_at, items_of, entries_after, after, is_store}
+use Rattle.wire_core.specs.Journal.{Track, track, track_after, sent_after, taken_after, History, Hostiles, history_at, if_on, IsShown, LegalEntry, LegalJournal, owner_of, is_calm}
 use Rattle.wire_core.proofs.Moving.{moves}
 use Rattle.wire_core.proofs.Places.{slice_get_written, slice_get_beside}
 use Rattle.wire_core.proofs.Beside.{take_beside, put_beside}
-use Rattle.wire_core.proofs.Tracks.{EachFrom-append, track_from-append, shown_tells, shown_condition, shown_carries, shown_after}
+use Rattle.wire_core.proofs.Tracks.{EachFrom-append, track_from-append, shown_tells, shown_finds, shown_condition, shown_carries, shown_after}
 use Rattle.wire_core.specs.Ends.{waiting_role}
-use Rattle.wire_core.specs.Marks.{no_drops, since}
+use Rattle.wire_core.specs.Marks.{HasCalmQueues, no_drops, since}
+use Rattle.wire_core.proofs.Answering.{finds, tells, stays}
 use Rattle.turn_kit.specs.Turns.{Turned, is_at_rest}
 use Rattle.turn_kit.specs.Pace.{Paced, pendings, IsCalled}
 use Rattle.turn_kit.proofs.Playing.{pace_own, pace_beside}
-use Rattle.actor_set.proofs.LawsLemmas.Calm.{calm_row}
+use Rattle.turn_kit.proofs.Plainness.{plain_next}
 use Rattle.actor_set.proofs.LawsLemmas.Paces.{post_end, post_waits}
 use Rattle.actor_set.specs.Actors.{FitsActor, ActorStandsFor, ActorEnd, ActorTurned, IsWhole, part_of, actor_round}
 use Rattle.actor_set.proofs.LawsLemmas.Rounds.{turned_is}
@@ -66,6 +67,7 @@ taken_more (Do.Wake s) ts item c xs e h = rw append-nil h
 taken_more (Do.Wanted s) ts item c xs e h = rw append-nil h
 taken_more (Do.Settle s) ts item c xs e h = rw append-nil h
 taken_more (Do.Ring s) ts item c xs e h = rw append-nil h
+taken_more (Do.Store w v) ts item c xs e h = rw append-nil h
 
 sent_more : (o : Op) (ts : List Item) (item : List Item) (c xs : List Cargo) → item ≡ items_of c → items_of xs ≡ ts → items_of (xs ++ if_put o c) ≡ sent_after ts o item
 sent_more Do.Put ts item c xs e h = map-append (λ x. x.0) xs c ∙ rw (h, e) refl
@@ -78,6 +80,7 @@ sent_more (Do.Wake s) ts item c xs e h = rw append-nil h
 sent_more (Do.Wanted s) ts item c xs e h = rw append-nil h
 sent_more (Do.Settle s) ts item c xs e h = rw append-nil h
 sent_more (Do.Ring s) ts item c xs e h = rw append-nil h
+sent_more (Do.Store w v) ts item c xs e h = rw append-nil h
 
 taken_shown : (b : Bool) (t : Track) (e : Event) (c xs : List Cargo) → option_to_list e.item ≡ items_of c → items_of xs ≡ t.taken → items_of (xs ++ if_there b (if_taken e.op c)) ≡ (if_on b (track_after t e) t).taken
 taken_shown false t e c xs item h = rw append-nil h
@@ -109,6 +112,7 @@ moved_there q (Do.Wake s) c ss ts m h = still_there q.entries ss ts h
 moved_there q (Do.Wanted s) c ss ts m h = still_there q.entries ss ts h
 moved_there q (Do.Settle s) c ss ts m h = still_there q.entries ss ts h
 moved_there q (Do.Ring s) c ss ts m h = still_there q.entries ss ts h
+moved_there q (Do.Store w v) c ss ts m h = still_there q.entries ss ts h
 
 last_or : {X : Type 0} (xs : List X) (l x : X) (k : ℕ) → slice_get (xs ++ l ∷ []) k ≡ Some x → (slice_get xs k ≡ Some x) ⊎ (l ≡ x)
 last_or [] l x zero at = inr (some_is at)
@@ -135,6 +139,7 @@ put_kind q (Do.Wake s) c ss m k x at = inl (none_put ss k x at)
 put_kind q (Do.Wanted s) c ss m k x at = inl (none_put ss k x at)
 put_kind q (Do.Settle s) c ss m k x at = inl (none_put ss k x at)
 put_kind q (Do.Ring s) c ss m k x at = inl (none_put ss k x at)
+put_kind q (Do.Store w v) c ss m k x at = inl (none_put ss k x at)
 
 -- actor k, which is x, makes the call of event e, and is then x'
 module _ (history : History) (rows : List QueueRow) (w v : List Queue) (actors : List Actor) (journal : List Entry) (k : ℕ) (x x' : Actor) (e : Event) (here : slice_get actors k ≡ Some x) (old : Holds history rows w actors journal) (own : ActorEnd x (role_of e.op) e.queue.0) (st : Stepped ActorStandsFor Happens w v x x' e) (turned : ActorTurned x e x') (runs : is_at_rest (actor_round x) ≡ true → IsCalled (pendings history journal) (actor_round x).posts) where
@@ -224,6 +229,22 @@ module _ (history : History) (rows : List QueueRow) (w v : List Queue) (actors :
   abbrev hostile : Hostiles
   hostile = hostiles (map part_of actors)
 
+  turn : Turned (actor_round x) e (actor_round x')
+  turn = turned_is x x' e turned
+
+  -- it made no store
+  plain : is_store e.op ≡ false
+  plain = ap is_store turn.posted.posted.op ∙ plain_next turn.posted.post.state turn.posted.post.side turn.need
+
+  unstored' : (n : ℕ) (row : QueueRow) → slice_get rows n ≡ Some row → is_calm hostile row ≡ true → ((eqb e.queue.0 n ≡ true) × (e.queue.0 ≡ n)) ⊎ ((eqb e.queue.0 n ≡ false) × (e.queue.0 ≢ n)) → (queue_at v n).indices.stored ≡ false
+  unfolding deed
+  unstored' n row at calm (inl same) =
+      rw (st.happened.after_is, ← same.1, get_or-set_same w e.queue.0 (after (queue_at w e.queue.0) deed) no_queue st.happened.there)
+      (stays (queue_at w e.queue.0) deed plain ∙ old.unstored e.queue.0 row (rw same.1 at) calm)
+  unstored' n row at calm (inr away) =
+      rw (st.happened.after_is, get_or-set_other w e.queue.0 n (after (queue_at w e.queue.0) deed) no_queue (λ h. away.1 (sym h)))
+      (old.unstored n row at calm)
+
   legal' : LegalEntry hostile history rows journal (entry_of k e)
   unfolding deed
   legal' =
@@ -234,24 +255,23 @@ module _ (history : History) (rows : List QueueRow) (w v : List Queue) (actors :
         there = row;
         legal = record {
           condition = shown_condition (get_or rows e.queue.0 no_row) (queue_at w e.queue.0) (track history e.queue.0 journal) shown e.op st.happened.may.condition;
-          tells = λ calm. shown_tells (get_or rows e.queue.0 no_row) (queue_at w e.queue.0) (track history e.queue.0 journal) shown e.op e.answer st.happened.may.tells;
-          carries = λ calm. shown_carries (get_or rows e.queue.0 no_row) (queue_at w e.queue.0) (track history e.queue.0 journal) shown e.op (cargo_of deed) e.item st.happened.may.carries st.happened.may.item;
+          stores = λ h. let no : true ≡ false = sym h ∙ plain in absurd cc;
+          finds = shown_finds (get_or rows e.queue.0 no_row) (queue_at w e.queue.0) (track history e.queue.0 journal) shown e.op e.answer (finds (queue_at w e.queue.0) deed st.happened.may);
+          tells = λ calm. shown_tells (get_or rows e.queue.0 no_row) (queue_at w e.queue.0) (track history e.queue.0 journal) shown e.op e.answer (tells (queue_at w e.queue.0) deed st.happened.may (old.unstored e.queue.0 (get_or rows e.queue.0 no_row) row calm) plain);
+          carries = shown_carries (get_or rows e.queue.0 no_row) (queue_at w e.queue.0) (track history e.queue.0 journal) shown e.op (cargo_of deed) e.item st.happened.may.carries st.happened.may.item;
           caller = let is = old.owners k x here (role_of e.op) e.queue.0 own (get_or rows e.queue.0 no_row) row in record { some = (role_of e.op, is); own = λ calm. is };
         };
       }
 
-  turn : Turned (actor_round x) e (actor_round x')
-  turn = turned_is x x' e turned
-
-  paced' : (j : ℕ) (y : Actor) → slice_get (slice_set actors k x') j ≡ Some y → hostile j ≡ false → ((eqb j k ≡ true) × (j ≡ k)) ⊎ ((eqb j k ≡ false) × (j ≢ k)) → Paced (pendings history (journal ++ entry_of k e ∷ [])) (since no_drops j (journal ++ entry_of k e ∷ [])) (actor_round y)
+  paced' : (j : ℕ) (y : Actor) → slice_get (slice_set actors k x') j ≡ Some y → HasCalmQueues hostile rows j → ((eqb j k ≡ true) × (j ≡ k)) ⊎ ((eqb j k ≡ false) × (j ≢ k)) → Paced (pendings history (journal ++ entry_of k e ∷ [])) (since no_drops j (journal ++ entry_of k e ∷ [])) (actor_round y)
   paced' j y at calm (inl same) =
       let is : x' ≡ y = some_is (sym (slice_get_written actors k x x' here) ∙ (ap (slice_get (slice_set actors k x')) (sym same.1) ∙ at)) in
-      let was = old.paced k x here (subst (λ i. hostile i ≡ false) same.1 calm) in
-      let now = pace_own hostile no_drops history rows journal (entry_of k e) legal' (calm_row (map part_of actors) legal'.row) (actor_round x) (actor_round x') was turn (post_waits x e turn.place turn.posted.post turn.posted.there) runs in
+      let was = old.paced k x here (subst (HasCalmQueues hostile rows) same.1 calm) in
+      let now = pace_own hostile no_drops history rows journal (entry_of k e) legal' (subst (HasCalmQueues hostile rows) same.1 calm) (actor_round x) (actor_round x') was turn (post_waits x e turn.place turn.posted.post turn.posted.there) runs in
       subst (λ i. Paced (pendings history (journal ++ entry_of k e ∷ [])) (since no_drops i (journal ++ entry_of k e ∷ [])) (actor_round y)) (sym same.1) (subst (λ a. Paced (pendings history (journal ++ entry_of k e ∷ [])) (since no_drops k (journal ++ entry_of k e ∷ [])) (actor_round a)) is now)
   paced' j y at calm (inr away) =
       let was : slice_get actors j ≡ Some y = sym (slice_get_beside actors k j x' away.1) ∙ at in
-      pace_beside hostile no_drops history rows journal (entry_of k e) legal' (calm_row (map part_of actors) legal'.row) j (actor_round y) (λ h. away.1 (sym h)) (λ i p pat row rat. old.owners j y was (waiting_role p.side) p.queue (post_end y i p pat) row rat) (old.paced j y was calm)
+      pace_beside hostile no_drops history rows journal (entry_of k e) legal' j calm (actor_round y) (λ h. away.1 (sym h)) (λ i p pat row rat. old.owners j y was (waiting_role p.side) p.queue (post_end y i p pat) row rat) (old.paced j y was calm)
 
   all_parts : part_of x' ≡ part_of x → map part_of (slice_set actors k x') ≡ map part_of actors
   all_parts part = map_same part_of actors k x x' here part
@@ -317,7 +337,8 @@ module _ (history : History) (rows : List QueueRow) (w v : List Queue) (actors :
     sends = sends' wired new part;
     in_turn = in_turn (end_at v) rows (slice_set actors k x') passed' (subst (IsWired rows) (sym (all_parts part)) wired) (works' new) (sends' wired new part);
     owners = λ j y at. owners' part (fits_whole (end_at v) x' new) j y at (eqb_tells j k);
-    paced = λ j y at calm. paced' j y at (subst (λ cast. hostiles cast j ≡ false) (map_same part_of actors k x x' here part) calm) (eqb_tells j k);
+    unstored = λ n row at calm. unstored' n row at (subst (λ cast. is_calm (hostiles cast) row ≡ true) (map_same part_of actors k x x' here part) calm) (eqb_tells e.queue.0 n);
+    paced = λ j y at calm. paced' j y at (subst (λ cast. HasCalmQueues (hostiles cast) rows j) (map_same part_of actors k x x' here part) calm) (eqb_tells j k);
     peers = λ n row at r. rw length-set (old.peers n row at r);
     few = rw length-set old.few;
     legal = subst (λ cast. LegalJournal (hostiles cast) history rows (journal ++ entry_of k e ∷ [])) (sym (map_same part_of actors k x x' here part)) (EachFrom-append (LegalEntry hostile history rows) [] journal (entry_of k e) old.legal legal');

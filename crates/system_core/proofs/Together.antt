@@ -45,7 +45,7 @@ plays_as s hostile actors m p = subst (Plays hostile actors m) (sheet_is (scene_
 -- the law of the serial class
 abbrev pub LawInPart : Type 0
 LawInPart =
-    (hostile : Hostiles) (history : History) (rows : List QueueRow) (journal : List Entry) (class : SerialClass) → QueuesFlow hostile history rows journal
+    (hostile : Hostiles) (history : History) (rows : List QueueRow) (journal : List Entry) (class : SerialClass) → QueuesFlow history rows journal
     → IsSerial (λ p. (serial_sheet p).row (moved history journal)) hostile rows class → ArrivesInPart class (moved history journal)
 
 abbrev pub LawWhole : Type 0
@@ -55,13 +55,13 @@ LawWhole =
 
 -- a system with the serial class
 module _ (s : Shown) (stands : StandsLawful s) (class : SerialClass) (there : IsSerial (There s.setting) (hostile_in s.setting) s.setting.rows class) where
-  arrives_at : LawInPart → (j : List Entry) → RowsStand s.setting j → QueuesFlow (hostile_in s.setting) s.setting.history s.setting.rows j → ArrivesInPart class (moved_in s.setting j)
+  arrives_at : LawInPart → (j : List Entry) → RowsStand s.setting j → QueuesFlow s.setting.history s.setting.rows j → ArrivesInPart class (moved_in s.setting j)
   arrives_at law j rows flows =
       law (hostile_in s.setting) s.setting.history s.setting.rows j class flows
       (as_there (There s.setting) (RowAt (moved_in s.setting j)) (λ p at. row_as s.setting (moved_in s.setting j) p (rows at.0 (serial_part p) (calm_actor s.setting.cast at.0) at.1)) (hostile_in s.setting) s.setting.rows class there)
 
   arrives : LawInPart → EachMoment (λ j. ArrivesInPart class (moved_in s.setting j)) s.journal
-  arrives law = each_moment (RowsStand s.setting) (QueuesFlow (hostile_in s.setting) s.setting.history s.setting.rows) (λ j. ArrivesInPart class (moved_in s.setting j)) (arrives_at law) s.journal stands.lawful.rows_hold stands.lawful.flows
+  arrives law = each_moment (RowsStand s.setting) (QueuesFlow s.setting.history s.setting.rows) (λ j. ArrivesInPart class (moved_in s.setting j)) (arrives_at law) s.journal stands.lawful.rows_hold stands.lawful.flows
 
   arrives_now : LawInPart → ArrivesInPart class (moved_in s.setting s.journal)
   arrives_now law = last_moment (λ j. ArrivesInPart class (moved_in s.setting j)) s.journal (arrives law)

@@ -29,7 +29,7 @@ pub record IsSystem (a : Inside) : Type 0 where
   pub before : HoldsBefore (setting_of a)
   pub holds : Holds (setting_of a).history a.rows.items a.world a.actors.items a.journal.items
   pub rows_hold : EachMoment (RowsStand (setting_of a)) a.journal.items
-  pub brisk : Brisk (hostile_in (setting_of a)) no_drops a.journal.items
+  pub brisk : Brisk (hostile_in (setting_of a)) (setting_of a).rows no_drops a.journal.items
   -- the runnable actors are kept
   pub running : a.running.list ≡ runs (setting_of a) a.journal.items
   pub room : length a.actors.items ≤ a.running.room

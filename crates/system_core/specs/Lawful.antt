@@ -62,14 +62,14 @@ pub record IsFitted (s : Setting) : Type 0 where
 
 -- each queue hands over what was put, once and in order, each call is in discipline, at each moment
 -- bells, queues and rows hold and queues have what is of their kind, and between two marks no actor
--- but a hostile one makes more than 8 calls on an end
+-- makes more than 8 calls on an end, but a hostile one or one that has a queue with a hostile end
 pub record IsLawful (s : Setting) (journal : List Entry) : Type 0 where
   pub legal : LegalJournal (hostile_in s) s.history s.rows journal
   pub bells_hold : EachMoment (BellsHold (hostile_in s) s.history s.rows) journal
-  pub flows : EachMoment (QueuesFlow (hostile_in s) s.history s.rows) journal
+  pub flows : EachMoment (QueuesFlow s.history s.rows) journal
   pub rows_hold : EachMoment (RowsStand s) journal
   pub kinds : EachMoment (AreKindly s.history s.rows) journal
-  pub brisk : Brisk (hostile_in s) no_drops journal
+  pub brisk : Brisk (hostile_in s) s.rows no_drops journal
 
 -- the bytes that the actor at a place recorded
 abbrev pub record_at : Shown → ℕ → List ℕ

@@ -3,7 +3,7 @@
 use Rattle.std.specs.Prelude.{◌≡◌, ◌+◌, ℕ, Some, List, slice_get}
 use Rattle.wire_core.specs.declared.names.Entry.{Entry}
 use Rattle.wire_core.specs.Journal.{EachMoment}
-use Rattle.expect_core.specs.declared.report.Census.{Census}
+use Rattle.cargo_core.specs.declared.census.Census.{Census}
 use Rattle.owner_law.specs.Owners.{Table, OneOwner, replay}
 use Rattle.owner_law.specs.Keeping.{start_table}
 use Rattle.owner_law.specs.Census.{IsPool}

@@ -7,7 +7,7 @@ use Rattle.wire_core.specs.declared.names.QueueRow.{QueueRow}
 use Rattle.wire_core.specs.declared.names.Event.{Event}
 use Rattle.wire_core.specs.declared.names.Entry.{Entry}
 use Rattle.wire_core.specs.Journal.{History, Hostiles}
-use Rattle.expect_core.specs.declared.report.Census.{Census}
+use Rattle.cargo_core.specs.declared.census.Census.{Census}
 use Rattle.play_core.specs.Moved.{Moved, moved}
 use Rattle.play_core.specs.Sheets.{Sheet, needful, RowsHold}
 use Rattle.play_core.specs.Manners.{Manners}

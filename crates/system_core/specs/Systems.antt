@@ -1,13 +1,14 @@
 -- The invariant of a system at play: history, queues, actors and journal belong together.
-use Rattle.std.specs.Prelude.{◌≡◌, ◌<◌, ◌≤◌, ℕ, false, Some, List, [], ◌++◌, length, map, slice_get}
+use Rattle.std.specs.Prelude.{◌≡◌, ◌<◌, ◌≤◌, ℕ, true, false, Some, List, [], ◌++◌, length, map}
+use Rattle.std.specs.Prelude.{slice_get}
 use Rattle.wire_core.specs.declared.names.QueueRow.{QueueRow}
 use Rattle.wire_core.specs.declared.names.Entry.{Entry}
 use Rattle.wire_core.specs.Ends.{Role}
 use Rattle.wire_core.specs.Lists.{Passed}
 use Rattle.wire_core.specs.Queues.{Queue, queue_at, end_at, items_of}
 use Rattle.wire_core.specs.Journal.{History, track, IsShown, LegalJournal, BellsHold, QueuesFlow}
-use Rattle.wire_core.specs.Journal.{owner_of}
-use Rattle.wire_core.specs.Marks.{no_drops, since}
+use Rattle.wire_core.specs.Journal.{owner_of, is_calm}
+use Rattle.wire_core.specs.Marks.{HasCalmQueues, no_drops, since}
 use Rattle.play_core.specs.Moved.{moved}
 use Rattle.owner_law.specs.Pages.{CarryPages}
 use Rattle.turn_kit.specs.Pace.{Paced, pendings}
@@ -47,9 +48,13 @@ pub record Holds (history : History) (rows : List QueueRow) (world : List Queue)
       → InTurn (scene_of (map part_of actors)) x passed
   pub owners : (k : ℕ) (x : Actor) → slice_get actors k ≡ Some x → (r : Role) (n : ℕ)
       → ActorEnd x r n → (row : QueueRow) → slice_get rows n ≡ Some row → owner_of row r ≡ k
-  -- what each actor that isn't hostile did since its last mark
+  -- at a queue with no hostile end no word was stored
+  pub unstored : (n : ℕ) (row : QueueRow) → slice_get rows n ≡ Some row
+      → is_calm (hostiles (map part_of actors)) row ≡ true
+      → (queue_at world n).indices.stored ≡ false
+  -- what each actor did since its last mark that isn't hostile and has no queue with a hostile end
   pub paced : (k : ℕ) (x : Actor) → slice_get actors k ≡ Some x
-      → hostiles (map part_of actors) k ≡ false
+      → HasCalmQueues (hostiles (map part_of actors)) rows k
       → Paced (pendings history journal) (since no_drops k journal) (actor_round x)
   pub peers : (n : ℕ) (row : QueueRow) → slice_get rows n ≡ Some row → (r : Role)
       → owner_of row r < length actors
@@ -59,7 +64,7 @@ pub record Holds (history : History) (rows : List QueueRow) (world : List Queue)
 -- bells and queues hold before the journal begins
 pub record HoldsBefore (s : Setting) : Type 0 where
   pub bells_hold : BellsHold (hostile_in s) s.history s.rows []
-  pub flows : QueuesFlow (hostile_in s) s.history s.rows []
+  pub flows : QueuesFlow s.history s.rows []
 
 -- queues and actors, as they are, go on from this history: the start state from one in which
 -- nothing happened

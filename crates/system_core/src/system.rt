@@ -33,7 +33,7 @@ use crate::lines::{bad, lines, pool_copies};
 use crate::records::{frame_records, line, records, replies, wire};
 use crate::running::Running;
 use actor_set::Actor;
-use cargo_core::{Memory, Series};
+use cargo_core::{Memory, Series, Word};
 use cast_core::{cast, copies};
 use expect_core::Report;
 use plain_wires::World;
@@ -108,6 +108,14 @@ fn end_owner(row: &QueueRow, op: Op) -> u16
         Op::Wanted(side) | Op::Settle(side) | Op::Ring(side) => match side {
             Side::Forward => row.producer.0,
             Side::Backward => row.consumer.0,
+        },
+        Op::Store(word, _) => match word {
+            Word::Head => row.consumer.0,
+            Word::Tail => row.producer.0,
+            Word::Flag => row.consumer.0,
+            Word::FlagBack => row.producer.0,
+            Word::Pending => row.consumer.0,
+            Word::PendingBack => row.producer.0,
         },
     }
 }

@@ -1,5 +1,5 @@
 //! A journal whose calls, sides, answers and items are spelt out by hand.
-use cargo_core::{BlkReq, BlkResp, BlkStatus, Code, Item, NetDesc, QueueKind, Series, Text};
+use cargo_core::{BlkReq, BlkResp, BlkStatus, Code, Item, NetDesc, QueueKind, Series, Text, Word};
 use region_layout::{Layout, QueueRow};
 use report_text::write_journal;
 use std::alloc::Global;
@@ -73,6 +73,12 @@ fn journal_spells_calls_sides_answers_and_items(rt: HostRuntime) -> Result<(), F
         entry(1, Op::Settle(Side::Backward), Answer::Done, None),
         entry(0, Op::Ring(Side::Forward), Answer::Done, None),
         entry(0, Op::Wake(Side::Backward), Answer::No, None),
+        entry(0, Op::Store(Word::Head, 0), Answer::Done, None),
+        entry(0, Op::Store(Word::Tail, 77), Answer::Done, None),
+        entry(0, Op::Store(Word::Flag, 65536), Answer::Done, None),
+        entry(0, Op::Store(Word::FlagBack, 1), Answer::Done, None),
+        entry(1, Op::Store(Word::Pending, u64::MAX), Answer::Done, None),
+        entry(1, Op::Store(Word::PendingBack, 2), Answer::Done, None),
     ];
     let text = write_journal(alloc, &layout, &journal)?;
     assert_eq!(rt;
@@ -88,7 +94,13 @@ fn journal_spells_calls_sides_answers_and_items(rt: HostRuntime) -> Result<(), F
          app0 net.0.tx.active wanted yes\n\
          @eth net.0.tx.active settle_back -\n\
          app0 net.0.tx.active ring -\n\
-         app0 net.0.tx.active wake_back no\n"
+         app0 net.0.tx.active wake_back no\n\
+         app0 net.0.tx.active store_head - 0\n\
+         app0 net.0.tx.active store_tail - 77\n\
+         app0 net.0.tx.active store_flag - 65536\n\
+         app0 net.0.tx.active store_flag_back - 1\n\
+         @eth net.0.tx.active store_pending - 18446744073709551615\n\
+         @eth net.0.tx.active store_pending_back - 2\n"
     );
     Ok(())
 }

@@ -31,6 +31,7 @@ may_answer (Do.Ask s) a = not (is_told a)
 may_answer (Do.Waive s) a = not (is_told a)
 may_answer (Do.Settle s) a = not (is_told a)
 may_answer (Do.Ring s) a = not (is_told a)
+may_answer (Do.Store w v) a = not (is_told a)
 
 -- the calls until the ringer is free
 abbrev pub ring_left : Ringer → ℕ

@@ -82,6 +82,7 @@ state_after k (Do.Wake s) a =
 state_after k (Do.Wanted s) a = record k { ringer = wanted_ringer a }
 state_after k (Do.Settle s) a = record k { ringer = Rung.Ringing }
 state_after k (Do.Ring s) a = record k { ringer = Rung.Free }
+state_after k (Do.Store w v) a = k
 
 -- the ringer is free and, where the end is needed, the waiter is clear
 abbrev pub is_settled : EndState → Bool → Bool
@@ -99,15 +100,16 @@ abbrev pub start_state : Side → EndState
 start_state Forward = record { waiter = Wait.Busy; ringer = Rung.Free; look = None }
 start_state Backward = record { waiter = Wait.Off; ringer = Rung.Free; look = None }
 
--- the call is a take or a put
-abbrev pub moves_entry : Op → Bool
-moves_entry Do.Take = true
-moves_entry Do.Put = true
-moves_entry Do.See = false
-moves_entry Do.Room = false
-moves_entry (Do.Ask s) = false
-moves_entry (Do.Waive s) = false
-moves_entry (Do.Wake s) = false
-moves_entry (Do.Wanted s) = false
-moves_entry (Do.Settle s) = false
-moves_entry (Do.Ring s) = false
+-- the call is a look or one on a bell: those of the table that move no entry
+abbrev pub is_plain_call : Op → Bool
+is_plain_call Do.Take = false
+is_plain_call Do.Put = false
+is_plain_call Do.See = true
+is_plain_call Do.Room = true
+is_plain_call (Do.Ask s) = true
+is_plain_call (Do.Waive s) = true
+is_plain_call (Do.Wake s) = true
+is_plain_call (Do.Wanted s) = true
+is_plain_call (Do.Settle s) = true
+is_plain_call (Do.Ring s) = true
+is_plain_call (Do.Store w v) = false

@@ -13,7 +13,7 @@ ghost use Rattle.turn_kit.specs.Calls.{may_answer};
 ghost use Rattle.turn_kit.specs.Turns.{Posted};
 ghost use Rattle.turn_kit.specs.Posts.{intake_post, outlet_post};
 ghost use Rattle.turn_kit.specs.Table.{next_op, state_after, start_state, is_settled, Agrees};
-ghost use Rattle.turn_kit.specs.Table.{moves_entry};
+ghost use Rattle.turn_kit.specs.Table.{is_plain_call};
 
 use crate::EndState;
 use crate::each::Listed;
@@ -29,7 +29,7 @@ fn yes_or_no(yes: bool) -> Answer
 // A call that moves no entry.
 fn call<W: Wires>(wires: &mut W, queue: QueueId, op: Op) -> Event
     requires may { Allows (W.ends wires.old (role_of op) queue.0) op }
-    requires plain { moves_entry op ≡ false }
+    requires plain { is_plain_call op ≡ true }
     ensures queue { result.queue ≡ queue }
     ensures op { result.op ≡ op }
     ensures item { result.item ≡ None }
@@ -58,7 +58,7 @@ fn call<W: Wires>(wires: &mut W, queue: QueueId, op: Op) -> Event
             wires.ring(queue, side);
             Answer::Done
         }
-        Op::Take | Op::Put => unreachable!(),
+        Op::Take | Op::Put | Op::Store(_, _) => unreachable!(),
     };
     Event {
         queue,

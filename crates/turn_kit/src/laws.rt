@@ -11,8 +11,8 @@ ghost use Rattle.turn_kit.specs.Turns.{WokenInVain};
 ghost use Rattle.turn_kit.specs.Marks.{StandsSince, SinceClaims};
 ghost use Rattle.turn_kit.specs.Pace.{Pendings, pendings, IsCalled, Paced, AreOwnPosts};
 ghost use Rattle.wire_core.specs.Ends.{Role};
-ghost use Rattle.wire_core.specs.Journal.{History, Hostiles, LegalEntry, is_calm};
-ghost use Rattle.wire_core.specs.Marks.{Drops, since, calls_after, calls_at};
+ghost use Rattle.wire_core.specs.Journal.{History, Hostiles, LegalEntry};
+ghost use Rattle.wire_core.specs.Marks.{Drops, HasCalmQueues, since, calls_after, calls_at};
 
 use crate::EndState;
 use wire_core::{Entry, Event, QueueRow};
@@ -74,24 +74,24 @@ pub fn mark_law()
 
 /// Where each entry of a legal journal is a turn of an actor that wasn't at rest, or was called,
 /// the pace of all actors is kept: an actor begins, and goes on after each mark, with no calls
-/// since; its own turns and the entries of the others, on queues without a hostile end, keep what
-/// is known of it; and from this it follows that it made at most 8 calls on each end since its last
-/// mark.
+/// since; where it isn't hostile and no queue of its own has a hostile end, its own turns and the
+/// entries of the others, on whatever queue, keep what is known of it; and from this it follows
+/// that it made at most 8 calls on each end since its last mark.
 pub fn pace_law()
     ensures begins { (pending : Pendings) (now : Round) → IsRound now → Paced pending [] now }
     ensures own { (hostile : Hostiles) (drops : Drops) (history : History) (rows : List QueueRow)
         (before : List Entry) (e : Entry) → (legal : LegalEntry hostile history rows before e)
-        → is_calm hostile legal.row ≡ true → (old new : Round) → Paced (pendings history before)
-        (since drops e.actor.0 before) old → (t : Turned old e.event new) → drops e
-        ≡ is_drop t.posted.post e.event → (is_at_rest old ≡ true → IsCalled
-        (pendings history before) old.posts) → Paced (pendings history (before ++ e ∷ []))
+        → HasCalmQueues hostile rows e.actor.0 → (old new : Round) → Paced
+        (pendings history before) (since drops e.actor.0 before) old
+        → (t : Turned old e.event new) → drops e ≡ is_drop t.posted.post e.event
+        → (is_at_rest old ≡ true → IsCalled (pendings history before) old.posts) → Paced (pendings history (before ++ e ∷ []))
         (since drops e.actor.0 (before ++ e ∷ [])) new }
     ensures beside { (hostile : Hostiles) (drops : Drops) (history : History)
         (rows : List QueueRow) (before : List Entry) (e : Entry) →
-        (legal : LegalEntry hostile history rows before e) → is_calm hostile legal.row ≡ true →
-        (a : ℕ) (now : Round) → (e.actor.0 ≡ a → ⊥) → AreOwnPosts rows a now.posts → Paced
-        (pendings history before) (since drops a before) now → Paced (pendings history
-        (before ++ e ∷ [])) (since drops a (before ++ e ∷ [])) now }
+        (legal : LegalEntry hostile history rows before e) →
+        (a : ℕ) → HasCalmQueues hostile rows a → (now : Round) → (e.actor.0 ≡ a → ⊥)
+        → AreOwnPosts rows a now.posts → Paced (pendings history before) (since drops a before) now
+        → Paced (pendings history (before ++ e ∷ [])) (since drops a (before ++ e ∷ [])) now }
     ensures few { (pending : Pendings) (calls : List Event) (now : Round)
         → Paced pending calls now → (r : Role) (n : ℕ) → calls_at r n calls ≤ 8 }
 {}

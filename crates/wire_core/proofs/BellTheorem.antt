@@ -10,7 +10,7 @@ use Rattle.wire_core.specs.declared.names.Op.{Op}
 use Rattle.wire_core.specs.declared.names.Op.TheVariants as Do
 use Rattle.wire_core.specs.declared.names.Answer.{Answer}
 use Rattle.wire_core.specs.Ends.{role_of, Condition}
-use Rattle.wire_core.specs.Queues.{Bells, bells_after, end_of, Tells}
+use Rattle.wire_core.specs.Queues.{Bells, bells_after, end_of, Finds, Tells}
 use Rattle.wire_core.specs.declared.names.Event.{Event}
 use Rattle.wire_core.specs.Journal.{Track, Tally, History, Hostiles, track, history_at, start_history, track_after, start_track, sent_after, taken_after, if_on, CarriesItem, Legal, LegalEntry, LegalJournal, EachFrom, EachMoment, TrackHolds, BellsHold, Flows, QueuesFlow, is_calm, is_sent, is_open}
 use Rattle.wire_core.proofs.Tracks.{track_from-append}
@@ -37,6 +37,7 @@ module _ (row : QueueRow) (t : Track) (h : TrackHolds row t) where
   call_holds y z (Do.Settle Backward) a item c s m = record { forward = h.forward; backward = settle_holds _ _ _ c h.backward }
   call_holds y z (Do.Ring Forward) a item c s m = record { forward = ring_holds _ _ _ c h.forward; backward = h.backward }
   call_holds y z (Do.Ring Backward) a item c s m = record { forward = h.forward; backward = ring_holds _ _ _ c h.backward }
+  call_holds y z (Do.Store w v) a item c s m = absurd s
 
 -- a call that meets its condition keeps the bells of its queue
 pub event_holds : (row : QueueRow) (t : Track) (e : Event) → TrackHolds row t → Condition (end_of true row.kind t.bells (role_of e.op)) e.op → Tells (is_sent t) (is_open row t) t.bells e.op e.answer → CarriesItem row.kind t e.op e.item → TrackHolds row (track_after t e)
@@ -44,12 +45,12 @@ event_holds row t e h c s m = call_holds row t h _ _ e.op e.answer e.item c s m
 
 -- a legal entry keeps them
 pub entry_holds : (hostile : Hostiles) (row : QueueRow) (t : Track) (e : Entry) → is_calm hostile row ≡ true → TrackHolds row t → Legal hostile row t e → TrackHolds row (track_after t e.event)
-entry_holds hostile row t e calm h l = event_holds row t e.event h l.condition (l.tells calm) (l.carries calm)
+entry_holds hostile row t e calm h l = event_holds row t e.event h l.condition (l.tells calm) l.carries
 
 -- what holds of a queue's track and is kept by each legal entry of it holds of each queue's after one entry more
-module _ (P : QueueRow → Track → Type 0) (hostile : Hostiles) (history : History) (rows : List QueueRow) (kept : (row : QueueRow) (t : Track) (e : Entry) → is_calm hostile row ≡ true → P row t → Legal hostile row t e → P row (track_after t e.event)) where
+module _ (C : QueueRow → Type 0) (P : QueueRow → Track → Type 0) (hostile : Hostiles) (history : History) (rows : List QueueRow) (kept : (row : QueueRow) (t : Track) (e : Entry) → C row → P row t → Legal hostile row t e → P row (track_after t e.event)) where
   abbrev Now : List Entry → Type 0
-  Now journal = (n : ℕ) (row : QueueRow) → slice_get rows n ≡ Some row → is_calm hostile row ≡ true → P row (track history n journal)
+  Now journal = (n : ℕ) (row : QueueRow) → slice_get rows n ≡ Some row → C row → P row (track history n journal)
 
   if_on_kept : (row : QueueRow) (t new : Track) (b : Bool) → P row t → (b ≡ true → P row new) → P row (if_on b new t)
   if_on_kept row t new true h f = f refl
@@ -72,7 +73,7 @@ module _ (P : QueueRow → Track → Type 0) (hostile : Hostiles) (history : His
 
 -- the bells hold at each moment of a legal journal, where they do at its beginning
 pub bells_hold : (hostile : Hostiles) (history : History) (rows : List QueueRow) (journal : List Entry) → BellsHold hostile history rows [] → LegalJournal hostile history rows journal → EachMoment (BellsHold hostile history rows) journal
-bells_hold hostile history rows journal h l = (h, all_from TrackHolds hostile history rows (entry_holds hostile) [] journal h l)
+bells_hold hostile history rows journal h l = (h, all_from (λ row. is_calm hostile row ≡ true) TrackHolds hostile history rows (entry_holds hostile) [] journal h l)
 
 -- the bells at the start
 pub start_holds : (row : QueueRow) → TrackHolds row start_track
@@ -106,9 +107,9 @@ put_begins : (taken sent more : List Item) → IsPrefix taken sent → IsPrefix 
 put_begins taken sent more p = (p.0 ++ more, sym (append_assoc taken p.0 more) ∙ ap (λ xs. xs ++ more) p.1)
 
 module _ (row : QueueRow) (t : Track) (h : Flows row t) where
-  flow_call : (y z : Tally) (b : Bells) (o : Op) (a : Answer) (item : Option Item) → Tells (is_sent t) (is_open row t) t.bells o a → CarriesItem row.kind t o item → Flows row (record { sent = sent_after t.sent o (option_to_list item); taken = taken_after t.taken o (option_to_list item); bells = b; consumer = y; producer = z })
+  flow_call : (y z : Tally) (b : Bells) (o : Op) (a : Answer) (item : Option Item) → Finds (is_sent t) (is_open row t) o a → CarriesItem row.kind t o item → Flows row (record { sent = sent_after t.sent o (option_to_list item); taken = taken_after t.taken o (option_to_list item); bells = b; consumer = y; producer = z })
   flow_call y z b Do.Take a item s m = record { begins = rw m.1 (take_begins t.taken t.sent m.0 h.begins m.2); within = let l : length t.taken + 1 ≡ length (t.taken ++ option_to_list item) = one_more t.taken m.0 item m.1 in omega (arith, h.within, l) }
-  flow_call y z b Do.Put a item s m = record { begins = put_begins t.taken t.sent (option_to_list item) h.begins; within = let l : length t.sent + 1 ≡ length (t.sent ++ option_to_list item) = one_more t.sent m.0 item m.1 in let r : length t.sent < length t.taken + row.capacity = ltb-true _ _ s.1 in omega (arith, l, r) }
+  flow_call y z b Do.Put a item s m = record { begins = put_begins t.taken t.sent (option_to_list item) h.begins; within = let l : length t.sent + 1 ≡ length (t.sent ++ option_to_list item) = one_more t.sent m.0 item m.1 in let r : length t.sent < length t.taken + row.capacity = ltb-true _ _ s in omega (arith, l, r) }
   flow_call y z b Do.See a item s m = record { begins = h.begins; within = h.within }
   flow_call y z b Do.Room a item s m = record { begins = h.begins; within = h.within }
   flow_call y z b (Do.Ask x) a item s m = record { begins = h.begins; within = h.within }
@@ -117,15 +118,20 @@ module _ (row : QueueRow) (t : Track) (h : Flows row t) where
   flow_call y z b (Do.Wanted x) a item s m = record { begins = h.begins; within = h.within }
   flow_call y z b (Do.Settle x) a item s m = record { begins = h.begins; within = h.within }
   flow_call y z b (Do.Ring x) a item s m = record { begins = h.begins; within = h.within }
+  flow_call y z b (Do.Store w v) a item s m = record { begins = h.begins; within = h.within }
 
-pub entry_flows : (hostile : Hostiles) (row : QueueRow) (t : Track) (e : Entry) → is_calm hostile row ≡ true → Flows row t → Legal hostile row t e → Flows row (track_after t e.event)
-entry_flows hostile row t e calm h l = flow_call row t h _ _ _ e.event.op e.event.answer e.event.item (l.tells calm) (l.carries calm)
+pub entry_flows : (hostile : Hostiles) (row : QueueRow) (t : Track) (e : Entry) → Flows row t → Legal hostile row t e → Flows row (track_after t e.event)
+entry_flows hostile row t e h l = flow_call row t h _ _ _ e.event.op e.event.answer e.event.item l.finds l.carries
 
-pub queues_flow : (hostile : Hostiles) (history : History) (rows : List QueueRow) (journal : List Entry) → QueuesFlow hostile history rows [] → LegalJournal hostile history rows journal → EachMoment (QueuesFlow hostile history rows) journal
-queues_flow hostile history rows journal h l = (h, all_from Flows hostile history rows (entry_flows hostile) [] journal h l)
+pub queues_flow : (hostile : Hostiles) (history : History) (rows : List QueueRow) (journal : List Entry) → QueuesFlow history rows [] → LegalJournal hostile history rows journal → EachMoment (QueuesFlow history rows) journal
+queues_flow hostile history rows journal h l = (h, each journal [] (all_from (λ row. Unit {0}) Flows hostile history rows (λ row t e u. entry_flows hostile row t e) [] journal (λ n row at u. h n row at) l))
+  where
+    each : (es before : List Entry) → EachFrom (λ b e. (n : ℕ) (row : QueueRow) → slice_get rows n ≡ Some row → Unit {0} → Flows row (track history n (b ++ e ∷ []))) before es → EachFrom (λ b e. QueuesFlow history rows (b ++ e ∷ [])) before es
+    each [] before l = tt
+    each (e ∷ es) before l = ((λ n row at. l.0 n row at tt), each es (before ++ e ∷ []) l.1)
 
 pub start_flows : (row : QueueRow) → Flows row start_track
 start_flows row = record { begins = ([], refl); within = omega arith }
 
-pub starts_flow : (hostile : Hostiles) (rows : List QueueRow) → QueuesFlow hostile (start_history rows) rows []
-starts_flow hostile rows n row at calm = subst (Flows row) (sym (start_is rows n)) (start_flows row)
+pub starts_flow : (rows : List QueueRow) → QueuesFlow (start_history rows) rows []
+starts_flow rows n row at = subst (Flows row) (sym (start_is rows n)) (start_flows row)

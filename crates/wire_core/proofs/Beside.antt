@@ -18,6 +18,7 @@ no_take true (Do.Wake s) c h = refl
 no_take true (Do.Wanted s) c h = refl
 no_take true (Do.Settle s) c h = refl
 no_take true (Do.Ring s) c h = refl
+no_take true (Do.Store w v) c h = refl
 
 no_put : (b : Bool) (o : Op) (c : List Cargo) → (role_of o ≡ Producer → b ≡ true → ⊥) → if_there b (if_put o c) ≡ []
 no_put false o c h = refl
@@ -31,6 +32,7 @@ no_put true (Do.Wake s) c h = refl
 no_put true (Do.Wanted s) c h = refl
 no_put true (Do.Settle s) c h = refl
 no_put true (Do.Ring s) c h = refl
+no_put true (Do.Store w v) c h = refl
 
 -- a call takes nothing from where it isn't made
 pub take_beside : (d : Deed) (n : ℕ) → (role_of d.event.op ≡ Consumer → d.event.queue.0 ≡ n → ⊥) → taken_by d n ≡ []

@@ -3,12 +3,13 @@ use Rattle.std.specs.Option.{option_to_list}
 use Rattle.cargo_core.specs.declared.item.QueueKind.{QueueKind}
 use Rattle.wire_core.specs.declared.names.Side.TheVariants.{Forward, Backward}
 use Rattle.wire_core.specs.declared.names.Op.{Op}
+use Rattle.cargo_core.specs.declared.act.Word.TheVariants as Words
 use Rattle.wire_core.specs.declared.names.Op.TheVariants as Do
 use Rattle.wire_core.specs.declared.names.Answer.{Answer}
 use Rattle.wire_core.specs.declared.names.Answer.TheVariants.{Done, Yes, No}
 use Rattle.wire_core.specs.Deeds.{Deed, cargo_of}
 use Rattle.wire_core.specs.Ends.{Role, Consumer, Producer, Moves, Allows, Condition, role_of, end_after}
-use Rattle.wire_core.specs.Queues.{Bells, Queue, Happens, bells_after, after, end_of, end_at, queue_at, no_queue, Tells, Carries, items_of, is_filled, has_room}
+use Rattle.wire_core.specs.Queues.{Bells, Queue, Happens, bells_after, after, end_of, end_at, queue_at, no_queue, Answers, sees, finds_room, Carries, items_of, is_filled, has_room}
 use Rattle.std.proofs.lemmas.Bool.{ltb-true}
 use Rattle.std.proofs.lemmas.List.{get_or_default}
 use Rattle.std.proofs.Math.Dec.{eqb}
@@ -36,6 +37,12 @@ this_end mine k b (Do.Settle Forward) a = refl
 this_end mine k b (Do.Settle Backward) a = refl
 this_end mine k b (Do.Ring Forward) a = refl
 this_end mine k b (Do.Ring Backward) a = refl
+this_end mine k b (Do.Store Words.Head v) a = refl
+this_end mine k b (Do.Store Words.Tail v) a = refl
+this_end mine k b (Do.Store Words.Flag v) a = refl
+this_end mine k b (Do.Store Words.FlagBack v) a = refl
+this_end mine k b (Do.Store Words.Pending v) a = refl
+this_end mine k b (Do.Store Words.PendingBack v) a = refl
 
 -- the queue's other end stays
 pub other_end : (mine : Bool) (k : QueueKind) (b : Bells) (o : Op) (a : Answer) (r : Role) → (r ≡ role_of o → ⊥) → end_of mine k (bells_after b o a) r ≡ end_of mine k b r
@@ -75,6 +82,18 @@ other_end mine k b (Do.Ring Forward) a Consumer h = refl
 other_end mine k b (Do.Ring Forward) a Producer h = absurd (h refl)
 other_end mine k b (Do.Ring Backward) a Consumer h = absurd (h refl)
 other_end mine k b (Do.Ring Backward) a Producer h = refl
+other_end mine k b (Do.Store Words.Head v) a Consumer h = absurd (h refl)
+other_end mine k b (Do.Store Words.Head v) a Producer h = refl
+other_end mine k b (Do.Store Words.Tail v) a Producer h = absurd (h refl)
+other_end mine k b (Do.Store Words.Tail v) a Consumer h = refl
+other_end mine k b (Do.Store Words.Flag v) a Consumer h = absurd (h refl)
+other_end mine k b (Do.Store Words.Flag v) a Producer h = refl
+other_end mine k b (Do.Store Words.FlagBack v) a Producer h = absurd (h refl)
+other_end mine k b (Do.Store Words.FlagBack v) a Consumer h = refl
+other_end mine k b (Do.Store Words.Pending v) a Consumer h = absurd (h refl)
+other_end mine k b (Do.Store Words.Pending v) a Producer h = refl
+other_end mine k b (Do.Store Words.PendingBack v) a Producer h = absurd (h refl)
+other_end mine k b (Do.Store Words.PendingBack v) a Consumer h = refl
 
 -- the queue at a place that was written, and at any other
 same_place : (w : List Queue) (n : ℕ) (q : Queue) (r : Role) → n < length w → end_at (slice_set w n q) r n ≡ end_of (nat_lt n (length w)) q.kind q.bells r
@@ -118,13 +137,19 @@ condition_at mine k b (Do.Settle Forward) h = h
 condition_at mine k b (Do.Settle Backward) h = h
 condition_at mine k b (Do.Ring Forward) h = h
 condition_at mine k b (Do.Ring Backward) h = h
+condition_at mine k b (Do.Store Words.Head v) h = h
+condition_at mine k b (Do.Store Words.Tail v) h = h
+condition_at mine k b (Do.Store Words.Flag v) h = h
+condition_at mine k b (Do.Store Words.FlagBack v) h = h
+condition_at mine k b (Do.Store Words.Pending v) h = h
+condition_at mine k b (Do.Store Words.PendingBack v) h = h
 
 owned_at : (mine : Bool) (k : QueueKind) (b : Bells) (r : Role) → (end_of mine k b r).owned ≡ true → mine ≡ true
 owned_at mine k b Consumer h = h
 owned_at mine k b Producer h = h
 
 -- one call, from what the line at its place did
-happens_at : (w : List Queue) (d : Deed) (q v : Queue) → Allows (end_at w (role_of d.event.op) d.event.queue.0) d.event.op → q ≡ slice_index_or w d.event.queue.0 q → Tells (is_filled q) (has_room q) q.bells d.event.op d.event.answer → Carries q d.event.op (cargo_of d) → option_to_list d.event.item ≡ items_of (cargo_of d) → v ≡ after q d → Happens w d (slice_set w d.event.queue.0 v)
+happens_at : (w : List Queue) (d : Deed) (q v : Queue) → Allows (end_at w (role_of d.event.op) d.event.queue.0) d.event.op → q ≡ slice_index_or w d.event.queue.0 q → Answers (is_filled q) (has_room q) (sees q) (finds_room q) q.bells d.event.op d.event.answer → Carries q d.event.op (cargo_of d) → option_to_list d.event.item ≡ items_of (cargo_of d) → v ≡ after q d → Happens w d (slice_set w d.event.queue.0 v)
 happens_at w d q v allows at tells carries item now =
     let there : d.event.queue.0 < length w = ltb-true d.event.queue.0 (length w) (owned_at (nat_lt d.event.queue.0 (length w)) (queue_at w d.event.queue.0).kind (queue_at w d.event.queue.0).bells (role_of d.event.op) allows.owned) in
     let here : queue_at w d.event.queue.0 ≡ q = get_or_default w d.event.queue.0 no_queue q there ∙ sym at in
@@ -140,7 +165,7 @@ happens_at w d q v allows at tells carries item now =
     }
 
 -- the same, where the lines are the queues w
-pub happens_here : (lines w : List Queue) (d : Deed) (q v : Queue) → lines ≡ w → Allows (end_at w (role_of d.event.op) d.event.queue.0) d.event.op → q ≡ slice_index_or lines d.event.queue.0 q → Tells (is_filled q) (has_room q) q.bells d.event.op d.event.answer → Carries q d.event.op (cargo_of d) → option_to_list d.event.item ≡ items_of (cargo_of d) → v ≡ after q d → Happens w d (slice_set lines d.event.queue.0 v)
+pub happens_here : (lines w : List Queue) (d : Deed) (q v : Queue) → lines ≡ w → Allows (end_at w (role_of d.event.op) d.event.queue.0) d.event.op → q ≡ slice_index_or lines d.event.queue.0 q → Answers (is_filled q) (has_room q) (sees q) (finds_room q) q.bells d.event.op d.event.answer → Carries q d.event.op (cargo_of d) → option_to_list d.event.item ≡ items_of (cargo_of d) → v ≡ after q d → Happens w d (slice_set lines d.event.queue.0 v)
 happens_here lines w d q v same allows at tells carries item now = rw same (happens_at w d q v allows (at ∙ ap (λ xs. slice_index_or xs d.event.queue.0 q) same) tells carries item now)
 
 -- the line at an end's place is the queue there

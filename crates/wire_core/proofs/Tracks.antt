@@ -11,7 +11,7 @@ use Rattle.wire_core.specs.declared.names.Op.TheVariants as Do
 use Rattle.wire_core.specs.declared.names.Answer.{Answer}
 use Rattle.wire_core.specs.Deeds.{Deed, Cargo, cargo_of}
 use Rattle.wire_core.specs.Ends.{Condition, role_of}
-use Rattle.wire_core.specs.Queues.{Queue, bells_after, entries_after, after, end_of, Tells, Carries, May, items_of, is_filled, has_room, calls, is_called}
+use Rattle.wire_core.specs.Queues.{Queue, bells_after, entries_after, after, end_of, Finds, Tells, Carries, May, items_of, is_filled, has_room, calls, is_called}
 use Rattle.wire_core.specs.Journal.{Track, track_after, sent_after, taken_after, track_from, if_on, CarriesItem, EachFrom, EachMoment, IsShown}
 use Rattle.wire_core.specs.Picks.{PickedFrom, next_seed, place_of, drawn}
 
@@ -62,6 +62,12 @@ module _ (row : QueueRow) (q : Queue) (t : Track) (shown : IsShown row q t) wher
       let h2 = subst (λ r. Tells (nat_lt (length t.taken) (length t.sent)) r q.bells o a) room_is h1 in
       subst (λ b. Tells (nat_lt (length t.taken) (length t.sent)) (nat_lt (length t.sent) (length t.taken + row.capacity)) b o a) shown.bells h2
 
+  -- what a call finds is what was put and taken
+  pub shown_finds : (o : Op) (a : Answer) → Finds (is_filled q) (has_room q) o a → Finds (nat_lt (length t.taken) (length t.sent)) (nat_lt (length t.sent) (length t.taken + row.capacity)) o a
+  shown_finds o a h =
+      let h1 = subst (λ f. Finds f (has_room q) o a) filled_is h in
+      subst (λ r. Finds (nat_lt (length t.taken) (length t.sent)) r o a) room_is h1
+
   pub shown_condition : (o : Op) → Condition (end_of true q.kind q.bells (role_of o)) o → Condition (end_of true row.kind t.bells (role_of o)) o
   shown_condition o h =
       let h1 = subst (λ k. Condition (end_of true k q.bells (role_of o)) o) shown.kind h in
@@ -91,6 +97,7 @@ shown_carries row q t s (Do.Wake x) c item h e = none_of item c h e
 shown_carries row q t s (Do.Wanted x) c item h e = none_of item c h e
 shown_carries row q t s (Do.Settle x) c item h e = none_of item c h e
 shown_carries row q t s (Do.Ring x) c item h e = none_of item c h e
+shown_carries row q t s (Do.Store w v) c item h e = none_of item c h e
 
 lists_after : (row : QueueRow) (q : Queue) (t : Track) → IsShown row q t → (o : Op) (c : List Cargo) (item : Option Item) → Carries q o c → option_to_list item ≡ items_of c → sent_after t.sent o (option_to_list item) ≡ taken_after t.taken o (option_to_list item) ++ items_of (entries_after q.entries o c)
 lists_after row q t s Do.Take c item h e = rw (e, h.1, append_assoc t.taken (h.0.0 ∷ []) (items_of (drop 1 q.entries))) (s.lists ∙ ap (λ es. t.taken ++ items_of es) h.2)
@@ -103,6 +110,7 @@ lists_after row q t s (Do.Wake x) c item h e = s.lists
 lists_after row q t s (Do.Wanted x) c item h e = s.lists
 lists_after row q t s (Do.Settle x) c item h e = s.lists
 lists_after row q t s (Do.Ring x) c item h e = s.lists
+lists_after row q t s (Do.Store w v) c item h e = s.lists
 
 -- after a call the queue is what the track then shows
 pub shown_after : (row : QueueRow) (q : Queue) (t : Track) (d : Deed) → IsShown row q t → May q d → IsShown row (after q d) (track_after t d.event)

@@ -4,6 +4,8 @@ use Rattle.cargo_core.specs.declared.item.QueueKind.{QueueKind}
 use Rattle.wire_core.specs.declared.names.Event.{Event}
 use Rattle.wire_core.specs.declared.names.Side.{Side}
 use Rattle.wire_core.specs.declared.names.Side.TheVariants.{Forward, Backward}
+use Rattle.cargo_core.specs.declared.act.Word.{Word}
+use Rattle.cargo_core.specs.declared.act.Word.TheVariants as Words
 use Rattle.wire_core.specs.declared.names.Op.{Op}
 use Rattle.wire_core.specs.declared.names.Op.TheVariants as Do
 use Rattle.wire_core.specs.declared.names.Answer.{Answer}
@@ -37,6 +39,16 @@ abbrev pub ringing_role : Side → Role
 ringing_role Forward = Producer
 ringing_role Backward = Consumer
 
+-- whose word it is: the head the consumer's, the tail the producer's, and the two words of a bell
+-- its waiter's
+abbrev pub word_role : Word → Role
+word_role Words.Head = Consumer
+word_role Words.Tail = Producer
+word_role Words.Flag = Consumer
+word_role Words.FlagBack = Producer
+word_role Words.Pending = Consumer
+word_role Words.PendingBack = Producer
+
 -- which end makes the call
 abbrev pub role_of : Op → Role
 role_of Do.See = Consumer
@@ -49,6 +61,8 @@ role_of (Do.Wake s) = waiting_role s
 role_of (Do.Wanted s) = ringing_role s
 role_of (Do.Settle s) = ringing_role s
 role_of (Do.Ring s) = ringing_role s
+-- a store is at the end whose word it is, whoever makes it
+role_of (Do.Store w v) = word_role w
 
 -- the waiter hasn't asked
 abbrev pub is_busy_or_off : Waiter → Bool
@@ -85,6 +99,7 @@ Condition e (Do.Wake s) = Unit {0}
 Condition e (Do.Wanted s) = e.ringer ≡ Rung.Put
 Condition e (Do.Settle s) = e.ringer ≡ Rung.Hot
 Condition e (Do.Ring s) = e.ringer ≡ Rung.Ringing
+Condition e (Do.Store w v) = Unit {0}
 
 -- the end is the caller's own, and the call's condition holds there
 pub record Allows (e : End) (o : Op) : Type 0 where
@@ -130,6 +145,7 @@ end_after e (Do.Wake s) a = record e { waiter = woken_waiter e.waiter a }
 end_after e (Do.Wanted s) a = record e { ringer = wanted_ringer a }
 end_after e (Do.Settle s) a = record e { ringer = Rung.Ringing }
 end_after e (Do.Ring s) a = record e { ringer = Rung.Free }
+end_after e (Do.Store w v) a = e
 
 -- the call changed the one end that made it, as the table says
 pub record Moves (old : Role → ℕ → End) (e : Event) (new : Role → ℕ → End) : Type 0 where

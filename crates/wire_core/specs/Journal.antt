@@ -16,7 +16,8 @@ use Rattle.wire_core.specs.declared.names.Answer.{Answer}
 use Rattle.wire_core.specs.declared.names.Answer.TheVariants.{Done, Yes, No}
 use Rattle.wire_core.specs.Bells.{BellHolds}
 use Rattle.wire_core.specs.Ends.{Role, Consumer, Producer, Condition, role_of}
-use Rattle.wire_core.specs.Queues.{Bells, Queue, items_of, bells_after, start_bells, end_of, Tells}
+use Rattle.wire_core.specs.Queues.{Bells, Queue, items_of, bells_after, start_bells, end_of}
+use Rattle.wire_core.specs.Queues.{is_store, Finds, Tells}
 
 -- what one end did: its looks that answered no, and its steps
 pub record Tally : Type 0 where
@@ -71,6 +72,7 @@ sent_after xs (Do.Wake s) c = xs
 sent_after xs (Do.Wanted s) c = xs
 sent_after xs (Do.Settle s) c = xs
 sent_after xs (Do.Ring s) c = xs
+sent_after xs (Do.Store w v) c = xs
 
 -- what was taken, after one more call
 abbrev pub taken_after : List Item → Op → List Item → List Item
@@ -84,6 +86,7 @@ taken_after xs (Do.Wake s) c = xs
 taken_after xs (Do.Wanted s) c = xs
 taken_after xs (Do.Settle s) c = xs
 taken_after xs (Do.Ring s) c = xs
+taken_after xs (Do.Store w v) c = xs
 
 -- a look that answers no is one more no
 abbrev pub noes_after : ℕ → Op → Answer → ℕ
@@ -101,11 +104,28 @@ noes_after n (Do.Wake s) a = n
 noes_after n (Do.Wanted s) a = n
 noes_after n (Do.Settle s) a = n
 noes_after n (Do.Ring s) a = n
+noes_after n (Do.Store w v) a = n
+
+-- a store may be another's, so it is no step of the end whose word it is
+abbrev pub steps_after : ℕ → Op → ℕ
+steps_after n (Do.Store w v) = n
+steps_after n Do.See = n + 1
+steps_after n Do.Room = n + 1
+steps_after n Do.Take = n + 1
+steps_after n Do.Put = n + 1
+steps_after n (Do.Ask s) = n + 1
+steps_after n (Do.Waive s) = n + 1
+steps_after n (Do.Wake s) = n + 1
+steps_after n (Do.Wanted s) = n + 1
+steps_after n (Do.Settle s) = n + 1
+steps_after n (Do.Ring s) = n + 1
 
 -- each call is one step of the end that makes it
 abbrev pub tally_after : Tally → Role → Role → Op → Answer → Tally
-tally_after y Consumer Consumer o a = record { noes = noes_after y.noes o a; steps = y.steps + 1 }
-tally_after y Producer Producer o a = record { noes = noes_after y.noes o a; steps = y.steps + 1 }
+tally_after y Consumer Consumer o a =
+    record { noes = noes_after y.noes o a; steps = steps_after y.steps o }
+tally_after y Producer Producer o a =
+    record { noes = noes_after y.noes o a; steps = steps_after y.steps o }
 tally_after y Consumer Producer o a = y
 tally_after y Producer Consumer o a = y
 
@@ -155,6 +175,7 @@ CarriesItem k t (Do.Wake s) item = item ≡ None
 CarriesItem k t (Do.Wanted s) item = item ≡ None
 CarriesItem k t (Do.Settle s) item = item ≡ None
 CarriesItem k t (Do.Ring s) item = item ≡ None
+CarriesItem k t (Do.Store w v) item = item ≡ None
 
 -- the actor at an end of a queue
 abbrev pub owner_of : QueueRow → Role → ℕ
@@ -188,17 +209,21 @@ pub record MayCall (hostile : Hostiles) (row : QueueRow) (r : Role) (k : ℕ) : 
   pub own : hostile k ≡ false → owner_of row r ≡ k
 
 -- the queue law and the discipline at one entry of a journal on a queue of this row, where t is the
--- queue's track just before it; the queue law is claimed of a queue with no hostile end
+-- queue's track just before it. That entries are handed over in order, and within the capacity, is
+-- claimed of every queue; that answers are by the words and the lists of one with no hostile end
 pub record Legal (hostile : Hostiles) (row : QueueRow) (t : Track) (e : Entry) : Type 0 where
   -- the call is made by an actor that may make it
   pub caller : MayCall hostile row (role_of e.event.op) e.actor.0
+  -- nobody but a hostile actor stores
+  pub stores : is_store e.event.op ≡ true → hostile e.actor.0 ≡ true
   -- the discipline: its condition holds
   pub condition : Condition (end_of true row.kind t.bells (role_of e.event.op)) e.event.op
+  -- once and in order, within the capacity, and of the queue's kind
+  pub finds : Finds (is_sent t) (is_open row t) e.event.op e.event.answer
+  pub carries : CarriesItem row.kind t e.event.op e.event.item
   -- it answers by what was put and taken, and by the last stores
   pub tells : is_calm hostile row ≡ true
       → Tells (is_sent t) (is_open row t) t.bells e.event.op e.event.answer
-  -- once and in order, and of the queue's kind
-  pub carries : is_calm hostile row ≡ true → CarriesItem row.kind t e.event.op e.event.item
 
 -- an entry is legal where its queue is there and it is legal on it
 pub record LegalEntry (hostile : Hostiles) (history : History) (rows : List QueueRow)
@@ -241,9 +266,8 @@ pub record Flows (row : QueueRow) (t : Track) : Type 0 where
   pub begins : IsPrefix t.taken t.sent
   pub within : length t.sent ≤ length t.taken + row.capacity
 
--- at each queue with no hostile end, what was taken is a beginning of what was put, and at most the
--- capacity behind it
-abbrev pub QueuesFlow : Hostiles → History → List QueueRow → List Entry → Type 0
-QueuesFlow hostile history rows journal =
-    (n : ℕ) (row : QueueRow) → slice_get rows n ≡ Some row → is_calm hostile row ≡ true
+-- at every queue, also one with a hostile end, what was taken is a beginning of what was put, and
+-- at most the capacity behind it
+abbrev pub QueuesFlow : History → List QueueRow → List Entry → Type 0
+QueuesFlow history rows journal = (n : ℕ) (row : QueueRow) → slice_get rows n ≡ Some row
     → Flows row (track history n journal)

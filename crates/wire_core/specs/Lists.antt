@@ -1,6 +1,6 @@
 -- What an actor moved, queue by queue, and what one step of it adds: the words in which each
 -- actor's contract speaks.
-use Rattle.std.specs.Prelude.{◌==◌, ℕ, Bool, true, false, Option, List, [], ◌++◌}
+use Rattle.std.specs.Prelude.{◌==◌, ℕ, Bool, true, false, Option, List, [], ◌∷◌, ◌++◌}
 use Rattle.cargo_core.specs.declared.item.Body.{Body}
 use Rattle.wire_core.specs.declared.names.Event.{Event}
 use Rattle.wire_core.specs.declared.names.Op.{Op}
@@ -28,6 +28,7 @@ if_taken (Do.Wake s) c = []
 if_taken (Do.Wanted s) c = []
 if_taken (Do.Settle s) c = []
 if_taken (Do.Ring s) c = []
+if_taken (Do.Store w v) c = []
 
 -- the entry of a put
 abbrev pub if_put : Op → List Cargo → List Cargo
@@ -41,6 +42,7 @@ if_put (Do.Wake s) c = []
 if_put (Do.Wanted s) c = []
 if_put (Do.Settle s) c = []
 if_put (Do.Ring s) c = []
+if_put (Do.Store w v) c = []
 
 -- what a deed takes from each queue
 abbrev pub taken_by : Deed → Lists
@@ -54,23 +56,23 @@ put_by d n = if_there (d.event.queue.0 == n) (if_put d.event.op (cargo_of d))
 abbrev pub with : Lists → Lists → Lists
 with old more n = old n ++ more n
 
--- what passed at the ends of an actor: for each queue the entries that it took there, those that it
--- put there, and those that it let go where a look there told that it can't put them
+-- what passed: for each queue the entries that were taken there and those that were put there, and
+-- the calls of all actors, one after another
 pub record Passed : Type 0 where
   pub taken : Lists
   pub sent : Lists
-  pub dropped : Lists
+  pub calls : List Event
 
 -- nothing passed yet
 abbrev pub nothing_passed : Passed
-nothing_passed = record { taken = λ n. []; sent = λ n. []; dropped = λ n. [] }
+nothing_passed = record { taken = λ n. []; sent = λ n. []; calls = [] }
 
--- what this deed took and put is added, and nothing was dropped
+-- with what this deed took and put, and its call
 abbrev pub with_deed : Passed → Deed → Passed
 with_deed p d = record {
   taken = with p.taken (taken_by d);
   sent = with p.sent (put_by d);
-  dropped = p.dropped;
+  calls = p.calls ++ d.event ∷ [];
 }
 
 -- one step of an actor that stands for what passed at its ends:

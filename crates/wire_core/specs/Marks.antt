@@ -12,7 +12,7 @@ use Rattle.wire_core.specs.declared.names.Answer.{Answer}
 use Rattle.wire_core.specs.declared.names.Answer.TheVariants.{Done, Yes, No}
 use Rattle.wire_core.specs.Bells.{bit}
 use Rattle.wire_core.specs.Ends.{Role, Consumer, Producer, role_of}
-use Rattle.wire_core.specs.Journal.{History, Hostiles, track, owner_of, EachMoment}
+use Rattle.wire_core.specs.Journal.{History, Hostiles, is_calm, track, owner_of, EachMoment}
 
 -- a call that is a mark wherever it is made: a take, a put, or a wake that answers yes
 abbrev pub is_mark : Op → Answer → Bool
@@ -28,6 +28,7 @@ is_mark (Do.Waive s) a = false
 is_mark (Do.Wanted s) a = false
 is_mark (Do.Settle s) a = false
 is_mark (Do.Ring s) a = false
+is_mark (Do.Store w v) a = false
 
 -- a look that answers no
 abbrev pub is_vain_look : Op → Answer → Bool
@@ -45,6 +46,7 @@ is_vain_look (Do.Wake s) a = false
 is_vain_look (Do.Wanted s) a = false
 is_vain_look (Do.Settle s) a = false
 is_vain_look (Do.Ring s) a = false
+is_vain_look (Do.Store w v) a = false
 
 -- at which entries an actor drops what it had yet to put: looks that answer no, at ends where it
 -- doesn't wait
@@ -94,15 +96,22 @@ abbrev pub calls_at : Role → ℕ → List Event → ℕ
 calls_at r n [] = 0
 calls_at r n (e ∷ es) = bit (is_role (role_of e.op) r && (e.queue.0 == n)) + calls_at r n es
 
--- since its last mark each actor that isn't hostile made at most 8 calls on each of its ends
-abbrev pub AreFew : Hostiles → Drops → List Entry → Type 0
-AreFew hostile drops journal = (a : ℕ) → hostile a ≡ false → (r : Role) (n : ℕ)
+-- actor a isn't hostile, and no queue of which it has an end has a hostile one
+pub record HasCalmQueues (hostile : Hostiles) (rows : List QueueRow) (a : ℕ) : Type 0 where
+  pub calm : hostile a ≡ false
+  pub queues : (n : ℕ) (row : QueueRow) → slice_get rows n ≡ Some row → (r : Role)
+      → owner_of row r ≡ a → is_calm hostile row ≡ true
+
+-- since its last mark each actor with calm queues alone made at most 8 calls on each of its ends
+abbrev pub AreFew : Hostiles → List QueueRow → Drops → List Entry → Type 0
+AreFew hostile rows drops journal = (a : ℕ) → HasCalmQueues hostile rows a → (r : Role) (n : ℕ)
     → calls_at r n (since drops a journal) ≤ 8
 
 -- a journal is brisk where this is so at each moment: between two marks of an actor that follow
--- each other, and after its last one, it makes at most 8 calls on each of its ends
-abbrev pub Brisk : Hostiles → Drops → List Entry → Type 0
-Brisk hostile drops journal = EachMoment (AreFew hostile drops) journal
+-- each other, and after its last one, it makes at most 8 calls on each of its ends; of an actor
+-- with a hostile one at the other end of a queue it isn't claimed
+abbrev pub Brisk : Hostiles → List QueueRow → Drops → List Entry → Type 0
+Brisk hostile rows drops journal = EachMoment (AreFew hostile rows drops) journal
 
 -- how many ends of queues actor a has
 abbrev pub ends_of : ℕ → List QueueRow → ℕ

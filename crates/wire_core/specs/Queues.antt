@@ -1,6 +1,7 @@
--- A queue with its two bells, and what each of the ten calls does to it.
-use Rattle.std.specs.Prelude.{◌≡◌, ◌==◌, ◌&&◌, ◌||◌, ℕ, Bool, true, false, not, nat_lt, ◌<◌, List}
-use Rattle.std.specs.Prelude.{[], ◌∷◌, ◌++◌, length, drop, map, slice_index_or, slice_set}
+-- A queue with its two bells and its index words, and what each call does to it.
+use Rattle.std.specs.Prelude.{◌≡◌, ◌==◌, ◌%◌, ◌+◌, ◌-◌, ◌&&◌, ◌||◌, ℕ, Bool, true, false, not}
+use Rattle.std.specs.Prelude.{nat_lt, nat_le, ◌<◌, List, [], ◌∷◌, ◌++◌, length, drop, map}
+use Rattle.std.specs.Prelude.{slice_index_or, slice_set}
 use Rattle.std.specs.Option.{option_to_list}
 use Rattle.std.specs.List.{list_any}
 use Rattle.cargo_core.specs.declared.item.Item.{Item}
@@ -11,6 +12,8 @@ use Rattle.wire_core.specs.declared.names.QueueRow.{QueueRow}
 use Rattle.wire_core.specs.declared.names.BellState.{BellState}
 use Rattle.wire_core.specs.declared.names.Side.{Side}
 use Rattle.wire_core.specs.declared.names.Side.TheVariants.{Forward, Backward}
+use Rattle.cargo_core.specs.declared.act.Word.{Word}
+use Rattle.cargo_core.specs.declared.act.Word.TheVariants as Words
 use Rattle.wire_core.specs.declared.names.Op.{Op}
 use Rattle.wire_core.specs.declared.names.Op.TheVariants as Do
 use Rattle.wire_core.specs.declared.names.Answer.{Answer}
@@ -28,6 +31,15 @@ pub record Bells : Type 0 where
   pub seen : Bool
   pub roomed : Bool
 
+-- the index words of a queue, and how many entries its two ends themselves count, all by 16 bits;
+-- and whether a word was stored there by a call of its own since the queue was made
+pub record Indices : Type 0 where
+  pub head : ℕ
+  pub tail : ℕ
+  pub taken : ℕ
+  pub sent : ℕ
+  pub stored : Bool
+
 -- a queue: what it carries, how many entries it holds at most, the actors at its ends, what stands
 -- in it, and its bells
 pub record Queue : Type 0 where
@@ -37,6 +49,7 @@ pub record Queue : Type 0 where
   pub consumer : ℕ
   pub entries : List Cargo
   pub bells : Bells
+  pub indices : Indices
 
 -- the forward bell at the start: the consumer is busy and would be notified
 abbrev pub start_forward : BellState
@@ -55,6 +68,10 @@ start_bells = record {
   roomed = false;
 }
 
+-- the index words at the start: nothing was put or taken, and no word stored
+abbrev pub start_indices : Indices
+start_indices = record { head = 0; tail = 0; taken = 0; sent = 0; stored = false }
+
 -- the queue of a row in its start state
 abbrev pub start_queue : QueueRow → Queue
 start_queue row = record {
@@ -64,6 +81,7 @@ start_queue row = record {
   consumer = row.consumer.0;
   entries = [];
   bells = start_bells;
+  indices = start_indices;
 }
 
 -- what an end's owner knows of it
@@ -99,6 +117,29 @@ waked b Yes = record b { pending = false; waiter = Wait.Busy }
 waked b No = b
 waked b Done = b
 
+-- the call is a store of a word
+abbrev pub is_store : Op → Bool
+is_store (Do.Store w v) = true
+is_store Do.See = false
+is_store Do.Room = false
+is_store Do.Take = false
+is_store Do.Put = false
+is_store (Do.Ask s) = false
+is_store (Do.Waive s) = false
+is_store (Do.Wake s) = false
+is_store (Do.Wanted s) = false
+is_store (Do.Settle s) = false
+is_store (Do.Ring s) = false
+
+-- a store to a flag or a pending word; it changes no waiter, no ringer and no look
+abbrev pub stored_bells : Bells → Word → Bool → Bells
+stored_bells b Words.Head x = b
+stored_bells b Words.Tail x = b
+stored_bells b Words.Flag x = with_bell b Forward (record b.forward { flag = x })
+stored_bells b Words.FlagBack x = with_bell b Backward (record b.backward { flag = x })
+stored_bells b Words.Pending x = with_bell b Forward (record b.forward { pending = x })
+stored_bells b Words.PendingBack x = with_bell b Backward (record b.backward { pending = x })
+
 -- what a call does to the bells and looks
 abbrev pub bells_after : Bells → Op → Answer → Bells
 bells_after b Do.See a = record b {
@@ -127,6 +168,7 @@ bells_after b (Do.Settle s) a = with_bell b s
     (record (bell_of b s) { flag = true; ringer = Rung.Ringing })
 bells_after b (Do.Ring s) a = with_bell b s
     (record (bell_of b s) { pending = true; ringer = Rung.Free })
+bells_after b (Do.Store w v) a = stored_bells b w (v % 2 == 1)
 
 -- what a call does to what stands in the queue
 abbrev pub entries_after : List Cargo → Op → List Cargo → List Cargo
@@ -140,6 +182,38 @@ entries_after es (Do.Wake s) c = es
 entries_after es (Do.Wanted s) c = es
 entries_after es (Do.Settle s) c = es
 entries_after es (Do.Ring s) c = es
+entries_after es (Do.Store w v) c = es
+
+-- the index one entry further
+abbrev pub next_index : ℕ → ℕ
+next_index n = (n + 1) % 65536
+
+-- a store of a word of the indices, or of another word
+abbrev pub stored_index : Indices → Word → ℕ → Indices
+stored_index x Words.Head v = record x { head = v; stored = true }
+stored_index x Words.Tail v = record x { tail = v; stored = true }
+stored_index x Words.Flag v = record x { stored = true }
+stored_index x Words.FlagBack v = record x { stored = true }
+stored_index x Words.Pending v = record x { stored = true }
+stored_index x Words.PendingBack v = record x { stored = true }
+
+-- what a call does to the indices: a take and a put store their own word
+abbrev pub indices_after : Indices → Op → Indices
+indices_after x Do.Take = record x { taken = next_index x.taken; head = next_index x.taken }
+indices_after x Do.Put = record x { sent = next_index x.sent; tail = next_index x.sent }
+indices_after x Do.See = x
+indices_after x Do.Room = x
+indices_after x (Do.Ask s) = x
+indices_after x (Do.Waive s) = x
+indices_after x (Do.Wake s) = x
+indices_after x (Do.Wanted s) = x
+indices_after x (Do.Settle s) = x
+indices_after x (Do.Ring s) = x
+indices_after x (Do.Store w v) = stored_index x w (v % 65536)
+
+-- how far it is from one index up to another
+abbrev pub ahead : ℕ → ℕ → ℕ
+ahead head tail = (tail + (65536 - head)) % 65536
 
 -- the queue after a call
 abbrev pub queue_after : Queue → Op → Answer → List Cargo → Queue
@@ -150,6 +224,7 @@ queue_after q o a c = record {
   consumer = q.consumer;
   entries = entries_after q.entries o c;
   bells = bells_after q.bells o a;
+  indices = indices_after q.indices o;
 }
 
 -- a queue after one call
@@ -168,6 +243,8 @@ Tells filled room b (Do.Wake s) a = a ≡ answer_of (bell_of b s).pending
 Tells filled room b (Do.Wanted s) a = a ≡ answer_of (not (bell_of b s).flag)
 Tells filled room b (Do.Settle s) a = a ≡ Done
 Tells filled room b (Do.Ring s) a = a ≡ Done
+-- on such a queue nobody stores
+Tells filled room b (Do.Store w v) a = ⊥
 
 -- an entry stands in the queue
 abbrev pub is_filled : Queue → Bool
@@ -176,6 +253,48 @@ is_filled q = nat_lt 0 (length q.entries)
 -- fewer entries stand in the queue than its capacity
 abbrev pub has_room : Queue → Bool
 has_room q = nat_lt (length q.entries) q.capacity
+
+-- a take comes only where an entry stands there, and a put only where there is room; and a look
+-- answers yes only so
+abbrev pub Finds : (filled room : Bool) → Op → Answer → Type 0
+Finds filled room Do.Take a = filled ≡ true
+Finds filled room Do.Put a = room ≡ true
+Finds filled room Do.See a = a ≡ Yes → filled ≡ true
+Finds filled room Do.Room a = a ≡ Yes → room ≡ true
+Finds filled room (Do.Ask s) a = Unit {0}
+Finds filled room (Do.Waive s) a = Unit {0}
+Finds filled room (Do.Wake s) a = Unit {0}
+Finds filled room (Do.Wanted s) a = Unit {0}
+Finds filled room (Do.Settle s) a = Unit {0}
+Finds filled room (Do.Ring s) a = Unit {0}
+Finds filled room (Do.Store w v) a = Unit {0}
+
+-- what a look for an entry answers: whether one stands there; once a word was stored, only where
+-- the difference of the tail that it reads to what the consumer itself took fits too
+abbrev pub sees : Queue → Bool
+sees q = is_filled q && (not q.indices.stored
+    || (nat_lt 0 (ahead q.indices.taken q.indices.tail)
+    && nat_le (ahead q.indices.taken q.indices.tail) q.capacity))
+
+-- what a look for room answers: whether there is some; once a word was stored, only where the
+-- difference of what the producer itself put to the head that it reads fits too
+abbrev pub finds_room : Queue → Bool
+finds_room q = has_room q && (not q.indices.stored
+    || nat_lt (ahead q.indices.head q.indices.sent) q.capacity)
+
+-- what a call answers, where looks answer so
+abbrev pub Answers : (filled room seen roomed : Bool) → Bells → Op → Answer → Type 0
+Answers filled room seen roomed b Do.See a = a ≡ answer_of seen
+Answers filled room seen roomed b Do.Room a = a ≡ answer_of roomed
+Answers filled room seen roomed b Do.Take a = (a ≡ Done) × (filled ≡ true)
+Answers filled room seen roomed b Do.Put a = (a ≡ Done) × (room ≡ true)
+Answers filled room seen roomed b (Do.Ask s) a = a ≡ Done
+Answers filled room seen roomed b (Do.Waive s) a = a ≡ Done
+Answers filled room seen roomed b (Do.Wake s) a = a ≡ answer_of (bell_of b s).pending
+Answers filled room seen roomed b (Do.Wanted s) a = a ≡ answer_of (not (bell_of b s).flag)
+Answers filled room seen roomed b (Do.Settle s) a = a ≡ Done
+Answers filled room seen roomed b (Do.Ring s) a = a ≡ Done
+Answers filled room seen roomed b (Do.Store w v) a = a ≡ Done
 
 -- what a call moves: a take the first entry, a put one of the queue's kind, another call none
 abbrev pub Carries : Queue → Op → List Cargo → Type 0
@@ -189,6 +308,7 @@ Carries q (Do.Wake s) c = c ≡ []
 Carries q (Do.Wanted s) c = c ≡ []
 Carries q (Do.Settle s) c = c ≡ []
 Carries q (Do.Ring s) c = c ≡ []
+Carries q (Do.Store w v) c = c ≡ []
 
 -- the items of entries
 abbrev pub items_of : List Cargo → List Item
@@ -197,7 +317,8 @@ items_of cs = map (λ c. c.0) cs
 -- the call may come here, and answers and moves what it does
 pub record May (q : Queue) (d : Deed) : Type 0 where
   pub condition : Condition (end_of true q.kind q.bells (role_of d.event.op)) d.event.op
-  pub tells : Tells (is_filled q) (has_room q) q.bells d.event.op d.event.answer
+  pub tells : Answers (is_filled q) (has_room q) (sees q) (finds_room q) q.bells
+      d.event.op d.event.answer
   pub carries : Carries q d.event.op (cargo_of d)
   pub item : option_to_list d.event.item ≡ items_of (cargo_of d)
 
@@ -210,6 +331,7 @@ no_queue = record {
   consumer = 0;
   entries = [];
   bells = start_bells;
+  indices = start_indices;
 }
 
 -- the queue at a place of the table

@@ -1,6 +1,6 @@
 -- What queues can be made of: the sizes that a lock-free ring with indices of 16 bits takes too, so
 -- that every wiring of queues has one condition.
-use Rattle.std.specs.Prelude.{◌≡◌, ◌≤◌, ◌^◌, ℕ, List, length, All}
+use Rattle.std.specs.Prelude.{◌≤◌, List, length, All}
 use Rattle.cargo_core.specs.Capacities.{IsCapacity}
 use Rattle.wire_core.specs.declared.names.QueueRow.{QueueRow}
 

@@ -4,11 +4,13 @@
 mod laws;
 mod names;
 mod picks;
+mod wild;
 mod wires;
 
-pub use laws::{bell_law, journal_law};
+pub use laws::{bell_law, journal_law, wild_law};
 pub use names::{
     ActorId, Answer, BellState, Entry, Event, Op, PoolRow, QueueId, QueueRow, Ringer, Side, Waiter,
 };
 pub use picks::{next_seed, place_of};
+pub use wild::WildWires;
 pub use wires::Wires;

@@ -1,5 +1,5 @@
 //! Queues, actors, sides, calls and events, by which a journal is written.
-use cargo_core::{Item, QueueKind, Text};
+use cargo_core::{Item, QueueKind, Text, Word};
 
 /// A queue, by its place among the queues of a layout, counted from 0.
 #[derive(Clone, Copy, Debug, PartialEq, Eq)]
@@ -54,6 +54,7 @@ pub enum Op {
     Settle(Side),
     Ring(Side),
     Wake(Side),
+    Store(Word, u64),
 }
 
 /// What a call answers: `Yes` or `No` where it is a look, `Done` where it only acts.
@@ -67,8 +68,8 @@ pub enum Answer {
 /// One call, and what it answered. The item is there exactly for a put and a take.
 #[derive(Clone, Copy, Debug, PartialEq, Eq)]
 pub struct Event {
-    pub queue: QueueId,
     pub op: Op,
+    pub queue: QueueId,
     pub answer: Answer,
     pub item: Option<Item>,
 }
@@ -115,4 +116,4 @@ pub struct PoolRow {
     pub size: u32,
 }
 
-const _: () = prove!(size_of::<Entry>() <= 64);
+const _: () = prove!(size_of::<Entry>() <= 72);

@@ -17,6 +17,7 @@ puts_or_not (Do.Wake s) = inr (λ cs. refl)
 puts_or_not (Do.Wanted s) = inr (λ cs. refl)
 puts_or_not (Do.Settle s) = inr (λ cs. refl)
 puts_or_not (Do.Ring s) = inr (λ cs. refl)
+puts_or_not (Do.Store w v) = inr (λ cs. refl)
 
 nothing_more : (b : Bool) (xs : List Cargo) → xs ++ if_there b [] ≡ xs
 nothing_more true xs = append-nil xs

@@ -93,7 +93,7 @@ sum_pairs f (suc k) =
     let b : f (2 * k + 1) ≡ f (1 + 2 * k) = ap f (let z : 2 * k + 1 ≡ 1 + 2 * k = omega arith in z) in
     omega (arith, e, parts, h, a, b)
 
-module _ (scene : Scene) (hostile : Hostiles) (history : History) (rows : List QueueRow) (j : List Entry) (place : BlkPlace) (flows : QueuesFlow hostile history rows j) (w : IsBlock scene hostile rows (moved history j) place) where
+module _ (scene : Scene) (hostile : Hostiles) (history : History) (rows : List QueueRow) (j : List Entry) (place : BlkPlace) (flows : QueuesFlow history rows j) (w : IsBlock scene hostile rows (moved history j) place) where
   abbrev first : ℕ
   first = place.first
 
@@ -116,7 +116,7 @@ module _ (scene : Scene) (hostile : Hostiles) (history : History) (rows : List Q
   count = length place.entries
 
   flow : (i : ℕ) → i < 4 + 2 * count → got i ≤ put i
-  flow i there = let h = w.holds i there in begins_few (m.taken (first + i)) (m.sent (first + i)) (flows (first + i) h.row h.there h.calm).begins
+  flow i there = let h = w.holds i there in begins_few (m.taken (first + i)) (m.sent (first + i)) (flows (first + i) h.row h.there).begins
 
   -- the disk answers what it took, and the driver copies
   disk_puts : put 1 ≤ got 0

@@ -18,7 +18,7 @@ no_dropped [] = refl
 no_dropped (e ∷ es) = let h = no_dropped es in omega (arith, h)
 
 -- a journal of a plan is shorter than its budget
-pub within_budget : (plan : Plan) (trace : Trace) (hostile : Hostiles) (history : History) (journal : List Entry) → Valid plan → AreCalm hostile (queues_of plan) → BellsHold hostile history (queues_of plan) [] → QueuesFlow hostile history (queues_of plan) [] → LegalJournal hostile history (queues_of plan) journal → Brisk hostile no_drops journal → AreOwned (queues_of plan) (length (actors_of plan)) → all_sent history (queues_of plan) journal ≤ hops_of (counts_of plan trace) → length journal < budget_of plan trace
+pub within_budget : (plan : Plan) (trace : Trace) (hostile : Hostiles) (history : History) (journal : List Entry) → Valid plan → AreCalm hostile (queues_of plan) → BellsHold hostile history (queues_of plan) [] → QueuesFlow history (queues_of plan) [] → LegalJournal hostile history (queues_of plan) journal → Brisk hostile (queues_of plan) no_drops journal → AreOwned (queues_of plan) (length (actors_of plan)) → all_sent history (queues_of plan) journal ≤ hops_of (counts_of plan trace) → length journal < budget_of plan trace
 within_budget plan trace hostile history journal valid calm bells flows legal brisk owned moves =
     let none = no_dropped journal in
     let all : all_sent history (queues_of plan) journal + dropped no_drops journal ≤ hops_of (counts_of plan trace) = omega (arith, moves, none) in

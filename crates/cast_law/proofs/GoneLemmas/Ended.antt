@@ -6,6 +6,7 @@ use Rattle.std.proofs.lemmas.Slice.Zip.{AllZip-long}
 use Rattle.std.proofs.lemmas.Option.{get_or_from_slice_get}
 use Rattle.cargo_core.specs.Items.{kind_of}
 use Rattle.cargo_core.specs.declared.item.QueueKind.{QueueKind}
+use Rattle.wire_core.specs.declared.names.Event.{Event}
 use Rattle.wire_core.specs.declared.names.QueueRow.{QueueRow}
 use Rattle.wire_core.specs.Deeds.{Cargo}
 use Rattle.wire_core.specs.Ends.{Role, Consumer, Producer}
@@ -84,17 +85,17 @@ module _ (rows : List QueueRow) (rings : List RingIs) (parts : List Apart) (acto
           (ap entries_known is ∙ sym taken.0, ap times_known is ∙ sym taken.1)
 
   -- what passed is of the kinds of its queues
-  pub kinds_kept : AreOfKind rows (passed_of ended)
-  kinds_kept n row at k c there =
+  pub kinds_kept : (calls : List Event) → AreOfKind rows (passed_of ended calls)
+  kinds_kept calls n row at k c there =
       let kept = kept_at n row at in
-      let sent : (passed_of ended).sent n ≡ kept.e.producer.entries = ap (λ (o : Option EndedIs). option_map_or (λ (e : EndedIs). e.producer.entries) o []) kept.there in
+      let sent : (passed_of ended calls).sent n ≡ kept.e.producer.entries = ap (λ (o : Option EndedIs). option_map_or (λ (e : EndedIs). e.producer.entries) o []) kept.there in
       all_there (λ (x : Cargo). kind_of x.0 ≡ row.kind) kept.e.producer.entries kept.kinds k c (ap (λ (l : List Cargo). slice_get l k) (sym sent) ∙ there)
 
   -- what was put is what was taken, and then what is left
-  pub handed : (n : ℕ) → (passed_of ended).sent n ≡ (passed_of ended).taken n ++ left_at ended n
-  handed n = by (cases_lt n (length rows))
+  pub handed : (calls : List Event) (n : ℕ) → (passed_of ended calls).sent n ≡ (passed_of ended calls).taken n ++ left_at ended n
+  handed calls n = by (cases_lt n (length rows))
     where
-      by : (n < length rows) ⊎ (length rows ≤ n) → (passed_of ended).sent n ≡ (passed_of ended).taken n ++ left_at ended n
+      by : (n < length rows) ⊎ (length rows ≤ n) → (passed_of ended calls).sent n ≡ (passed_of ended calls).taken n ++ left_at ended n
       by (inl lt) =
           let row = there_is rows n lt in
           let kept = kept_at n row.0 row.1 in

@@ -3,6 +3,7 @@ use Rattle.std.proofs.Common.{◌≡◌, ◌∙◌, ◌<◌, ◌≤◌, ◌⊎�
 use Rattle.std.specs.Option.{option_map_or}
 use Rattle.std.proofs.lemmas.List.{length-map}
 use Rattle.std.proofs.lemmas.Bool.{cases_lt}
+use Rattle.wire_core.specs.declared.names.Event.{Event}
 use Rattle.wire_core.specs.declared.names.QueueRow.{QueueRow}
 use Rattle.wire_core.specs.Deeds.{Cargo}
 use Rattle.wire_core.specs.Ends.{Role, Consumer, Producer, End}
@@ -15,6 +16,8 @@ use Rattle.seat_wires.specs.Times.{times_known, times_at, times_or}
 use Rattle.play_core.proofs.Lists.{map_get, map_from, there_is}
 use Rattle.actor_set.specs.Actors.{FitsActor, ActorStandsFor}
 use Rattle.actor_set.specs.declared.actor.Actor.{Actor}
+use Rattle.actor_set.proofs.LawsLemmas.Beside.{stands_beside}
+use Rattle.actor_set.proofs.LawsLemmas.Starts.{fits_whole}
 use Rattle.order_law.specs.Tales.{Goes}
 use Rattle.order_law.specs.Orders.{Seated, Turn, HaveRun, InOrder, actors_of, entries_at, listed, passed_by}
 use Rattle.order_law.proofs.Ordering.{ordered}
@@ -152,8 +155,8 @@ module _ (rows : List QueueRow) (rings : List RingIs) (olds news : List Apart) (
             ap at_row row.1 ∙ (ap (λ (o : Option Seated). option_map_or (λ (y : Seated). entries_at y.seats r n) o []) x.1 ∙ (entries_kept n row.0 kept r x.0 x.1 ∙ sym (ap of_ring kept.there)))
         by (inr le) = ap at_row (none_beyond rows n le) ∙ sym (ap of_ring (none_beyond ended n (let long = ended_long rows rings news actors ended gone.stand peopled done in omega (arith, le, long))))
 
-    passed_is : passed_by rows now ≡ passed_of ended
-    passed_is = λ i. record { taken = λ n. told_is Consumer n i; sent = λ n. told_is Producer n i; dropped = λ n. [] }
+    passed_is : (calls : List Event) → passed_by rows now calls ≡ passed_of ended calls
+    passed_is calls = λ i. record { taken = λ n. told_is Consumer n i; sent = λ n. told_is Producer n i; calls = calls }
 
     begun_are : actors_of begun ≡ actors_apart olds
     begun_are = maps_same before (λ (x : Seated). x.actor) (λ (w : Way). w.one.actor) ws (λ w. refl) ∙ (sym (maps_same (λ (w : Way). w.one) (λ (p : Apart). p.actor) (λ (w : Way). w.one.actor) ws (λ w. refl)) ∙ ap actors_apart olds_are)
@@ -161,15 +164,12 @@ module _ (rows : List QueueRow) (rings : List RingIs) (olds news : List Apart) (
     now_are : actors_of now ≡ actors
     now_are = maps_same after (λ (x : Seated). x.actor) (λ (w : Way). w.other.actor) ws (λ w. refl) ∙ (sym (maps_same (λ (w : Way). w.other) (λ (p : Apart). p.actor) (λ (w : Way). w.other.actor) ws (λ w. refl)) ∙ (ap actors_apart news_are ∙ sym done.actors_are))
 
-    in_order : (turns : List Turn) × InOrder (actors_apart olds) nothing_passed turns actors (passed_of ended)
+    in_order : (turns : List Turn) × (calls : List Event) × InOrder (actors_apart olds) nothing_passed turns actors (passed_of ended calls)
     in_order = let o = ordered rows begun now run in
-        (o.0, subst (λ (z : List Actor × List Actor × Passed). InOrder z.0 nothing_passed o.0 z.1 z.2) (λ i. (begun_are i, now_are i, passed_is i)) o.1)
+        (o.0, o.1, subst (λ (z : List Actor × List Actor × Passed). InOrder z.0 nothing_passed o.0 z.1 z.2) (λ i. (begun_are i, now_are i, passed_is o.1 i)) o.2)
 
   abbrev no_ends : Role → ℕ → End
   no_ends r n = no_end
-
-  nothing_yet : (k : ℕ) (p : Apart) → slice_get olds k ≡ Some p → apart_passed p ≡ nothing_passed
-  nothing_yet k p at = λ i. record { taken = λ n. (gone.nothing k p at Consumer n).0 i; sent = λ n. (gone.nothing k p at Producer n).0 i; dropped = λ n. [] }
 
   ready : AreReady rows (actors_apart olds)
   ready = record {
@@ -183,15 +183,17 @@ module _ (rows : List QueueRow) (rings : List RingIs) (olds news : List Apart) (
         );
     stands = λ k x at. (
         let p = map_from (λ (q : Apart). q.actor) olds k x at in
-        subst (λ (y : Actor). ActorStandsFor y nothing_passed) p.2 (subst (ActorStandsFor p.0.actor) (nothing_yet k p.0 p.1) (gone.stood.stand k p.0 p.1).stands)
+        let stood = gone.stood.stand k p.0 p.1 in
+        subst (λ (y : Actor). ActorStandsFor y nothing_passed) p.2 (stands_beside (apart_passed p.0 stood.stands.0) nothing_passed p.0.actor (fits_whole (apart_end p.0) p.0.actor stood.fits)
+            (λ n e. sym (gone.nothing k p.0 p.1 Consumer n).0) (λ n e. sym (gone.nothing k p.0 p.1 Producer n).0) stood.stands.1)
         );
   }
 
-  pub have_gone : HaveHeld rows (actors_apart olds) actors (passed_of ended)
+  pub have_gone : (calls : List Event) × HaveHeld rows (actors_apart olds) actors (passed_of ended calls)
   have_gone =
       let w = pairs (HasGone rings) olds news gone.many gone.gone in
       let o = in_order w.0 w.1 w.2 in
-      have_held rows (actors_apart olds) actors o.0 (passed_of ended) ready o.1 (kinds_kept rows rings news actors ended gone.stand peopled done)
+      (o.1, have_held rows (actors_apart olds) actors o.0 (passed_of ended o.1) ready o.2 (kinds_kept rows rings news actors ended gone.stand peopled done o.1))
 
-  pub hand_over : (n : ℕ) → (passed_of ended).sent n ≡ (passed_of ended).taken n ++ left_at ended n
+  pub hand_over : (calls : List Event) (n : ℕ) → (passed_of ended calls).sent n ≡ (passed_of ended calls).taken n ++ left_at ended n
   hand_over = handed rows rings news actors ended gone.stand peopled done

@@ -26,7 +26,7 @@ use Rattle.actor_set.specs.Parts.{Part}
 use Rattle.actor_set.specs.Actors.{part_of}
 use Rattle.actor_set.specs.declared.actor.Actor.{Actor}
 use Rattle.actor_set.specs.Laws.Kinds.{sheet, scene_of, hostiles}
-use Rattle.actor_set.proofs.LawsLemmas.Calm.{calm_actor, calm_row}
+use Rattle.actor_set.proofs.LawsLemmas.Calm.{calm_actor}
 use Rattle.cast_law.specs.Pools.Places.{PoolPlace, HasNetAt, IsPlaced, HasPools, cast_naming, place_sizes}
 use Rattle.cast_law.specs.Pools.Pooling.{keepers_at, AreAtPlay, HasOwners, IsKindly, AreKindly}
 use Rattle.cast_law.proofs.PoolsLemmas.Table.{at_receiver}
@@ -84,7 +84,7 @@ module _ (history : History) (rows : List QueueRow) (pools : List PoolRow) (plac
   over q = by (slice_get rows q) refl (kindly q)
     where
       by : (o : Option QueueRow) → slice_get rows q ≡ o → IsKindly o (m.sent q) (m.taken q) → IsPrefix (m.taken q) (m.sent q)
-      by (Some row) at kinds = (play.flows.0 q row at (calm_row cast row)).begins
+      by (Some row) at kinds = (play.flows.0 q row at).begins
       by None at kinds = kinds
 
   order : IsInOrder naming m

@@ -26,6 +26,7 @@ sent_first xs (Do.Wake s) new j i at = at
 sent_first xs (Do.Wanted s) new j i at = at
 sent_first xs (Do.Settle s) new j i at = at
 sent_first xs (Do.Ring s) new j i at = at
+sent_first xs (Do.Store w v) new j i at = at
 
 -- a call leaves each queue as kindly as it found it
 before_call : (o : Option QueueRow) (t : Track) (e : Event) (here : Bool) → (here ≡ true → o ≡ None → ⊥) → IsKindly o (if_on here (track_after t e) t).sent (if_on here (track_after t e) t).taken → IsKindly o t.sent t.taken

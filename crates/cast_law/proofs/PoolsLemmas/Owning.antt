@@ -131,15 +131,15 @@ module _ (rows : List QueueRow) (cast : List Part) (seated : AreSeated (sheet (s
 
     -- a journal of actors that may put only what was in their hands
     module _ (lender : ℕ) (is : IsNaming naming lender hostile rows) (history : History) (start : Table) (journal : List Entry) (filled : AreFilled (sheet scene) rows cast) (peopled : IsPeopled rows (length cast)) (apart : (k : ℕ) (p : Part) → slice_get cast k ≡ Some p → AreApart (sheet scene p).ends) (own : (k : ℕ) (p : Part) → slice_get cast k ≡ Some p → PutsItsOwnInOrder naming (sheet scene p))
-        (legal : LegalJournal hostile history rows journal) (flows : EachMoment (QueuesFlow hostile history rows) journal) (rows_hold : EachMoment (λ j. RowsHold (sheet scene) hostile cast (moved history j)) journal) (kindly : EachMoment (AreKindly history rows) journal) (counted : AreCounted start) (shown : IsShownBy naming lender (keepers_at cast) (moved history []) start) where
-      over : (j : List Entry) → QueuesFlow hostile history rows j → AreKindly history rows j → (q : ℕ) → IsPrefix ((moved history j).taken q) ((moved history j).sent q)
+        (legal : LegalJournal hostile history rows journal) (flows : EachMoment (QueuesFlow history rows) journal) (rows_hold : EachMoment (λ j. RowsHold (sheet scene) hostile cast (moved history j)) journal) (kindly : EachMoment (AreKindly history rows) journal) (counted : AreCounted start) (shown : IsShownBy naming lender (keepers_at cast) (moved history []) start) where
+      over : (j : List Entry) → QueuesFlow history rows j → AreKindly history rows j → (q : ℕ) → IsPrefix ((moved history j).taken q) ((moved history j).sent q)
       over j flow kindly q = by (slice_get rows q) refl (kindly q)
         where
           by : (o : Option QueueRow) → slice_get rows q ≡ o → IsKindly o ((moved history j).sent q) ((moved history j).taken q) → IsPrefix ((moved history j).taken q) ((moved history j).sent q)
-          by (Some row) at kinds = (flow q row at (calm_row cast row)).begins
+          by (Some row) at kinds = (flow q row at).begins
           by None at kinds = kinds
 
-      kept_at : (j : List Entry) → RowsHold (sheet scene) hostile cast (moved history j) → QueuesFlow hostile history rows j × AreKindly history rows j → IsKept naming hostile history rows (keepers_at cast) j
+      kept_at : (j : List Entry) → RowsHold (sheet scene) hostile cast (moved history j) → QueuesFlow history rows j × AreKindly history rows j → IsKept naming hostile history rows (keepers_at cast) j
       kept_at j hold both =
           let m : Moved = moved history j in
           let order : IsInOrder naming m = in_order rows n cast m hold (over j both.0 both.1) b has_blk (λ q row at. subst (λ o. IsKindly o (m.sent q) (m.taken q)) at (both.1 q)) in
@@ -156,8 +156,8 @@ module _ (rows : List QueueRow) (cast : List Part) (seated : AreSeated (sheet (s
         naming_is = is;
         keepers_are = cast_keepers (sheet scene) cast apart rows seated filled peopled;
         legal = legal;
-        kept = each_moment (λ j. RowsHold (sheet scene) hostile cast (moved history j)) (λ j. QueuesFlow hostile history rows j × AreKindly history rows j) (IsKept naming hostile history rows (keepers_at cast)) kept_at journal rows_hold
-            (each_moment (QueuesFlow hostile history rows) (AreKindly history rows) (λ j. QueuesFlow hostile history rows j × AreKindly history rows j) (λ j f k. (f, k)) journal flows kindly);
+        kept = each_moment (λ j. RowsHold (sheet scene) hostile cast (moved history j)) (λ j. QueuesFlow history rows j × AreKindly history rows j) (IsKept naming hostile history rows (keepers_at cast)) kept_at journal rows_hold
+            (each_moment (QueuesFlow history rows) (AreKindly history rows) (λ j. QueuesFlow history rows j × AreKindly history rows j) (λ j f k. (f, k)) journal flows kindly);
         counted = counted;
         shown = shown;
       }

@@ -1,6 +1,7 @@
 -- Actors that have gone apart, and what passed at rings that came to their end.
 use Rattle.std.specs.Prelude.{◌≡◌, ℕ, Some, List, [], length, map, slice_get}
 use Rattle.std.specs.Option.{option_map_or}
+use Rattle.wire_core.specs.declared.names.Event.{Event}
 use Rattle.wire_core.specs.declared.names.QueueRow.{QueueRow}
 use Rattle.wire_core.specs.Deeds.{Cargo}
 use Rattle.wire_core.specs.Lists.{Passed}
@@ -19,12 +20,12 @@ use Rattle.order_law.specs.ActorParts.Going.{HasGone}
 abbrev pub left_at : List EndedIs → ℕ → List Cargo
 left_at ended n = option_map_or (λ (e : EndedIs). e.left) (slice_get ended n) []
 
--- what passed at all queues, by what is kept of their ended rings: over rings nothing is dropped
-abbrev pub passed_of : List EndedIs → Passed
-passed_of ended = record {
+-- what passed at all queues, by what is kept of their ended rings, where these calls were made
+abbrev pub passed_of : List EndedIs → List Event → Passed
+passed_of ended calls = record {
   taken = λ n. option_map_or (λ (e : EndedIs). e.consumer.entries) (slice_get ended n) [];
   sent = λ n. option_map_or (λ (e : EndedIs). e.producer.entries) (slice_get ended n) [];
-  dropped = λ n. [];
+  calls = calls;
 }
 
 -- the actors without their ends

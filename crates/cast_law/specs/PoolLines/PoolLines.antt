@@ -7,7 +7,7 @@ use Rattle.wire_core.specs.Queues.{Queue}
 use Rattle.turn_kit.specs.Hands.{bodies_of}
 use Rattle.owner_law.specs.Owners.{Table}
 use Rattle.owner_law.specs.Census.{Census, census}
-use Rattle.expect_core.specs.declared.report.Census.{Census as Line}
+use Rattle.cargo_core.specs.declared.census.Census.{Census as Line}
 use Rattle.owner_law.specs.Pools.Lines.{Holder}
 
 -- a pool's line: its name and how many buffers it has, and where they are

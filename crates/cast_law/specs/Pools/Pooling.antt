@@ -52,7 +52,7 @@ pub record AreAtPlay (history : History) (rows : List QueueRow) (actors : List A
   pub seated : AreSeated (sheet (scene_of (map part_of actors))) rows (map part_of actors)
   pub filled : AreFilled (sheet (scene_of (map part_of actors))) rows (map part_of actors)
   pub legal : LegalJournal (hostiles (map part_of actors)) history rows journal
-  pub flows : EachMoment (QueuesFlow (hostiles (map part_of actors)) history rows) journal
+  pub flows : EachMoment (QueuesFlow history rows) journal
   pub rows_hold : EachMoment (λ j. RowsHold (sheet (scene_of (map part_of actors)))
       (hostiles (map part_of actors)) (map part_of actors) (moved history j)) journal
   pub items : HaveItems passed (moved history journal)

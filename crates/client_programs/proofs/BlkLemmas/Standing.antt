@@ -5,6 +5,7 @@ use Rattle.std.proofs.lemmas.List.{append-nil}
 use Rattle.cargo_core.specs.declared.item.PoolId.{PoolId}
 use Rattle.cargo_core.specs.Bodies.{buffers_of, buffers_in}
 use Rattle.cargo_core.specs.Pages.{Paged}
+use Rattle.wire_core.specs.declared.names.Event.{Event}
 use Rattle.wire_core.specs.Deeds.{Cargo}
 use Rattle.wire_core.specs.Lists.{Lists, Passed, with, if_there}
 use Rattle.wire_core.proofs.Places.{if_there_here}
@@ -40,9 +41,9 @@ same_hoard : (w w' : Asking) → SameAsking w w' → (start : List Paged) → Is
 same_hoard w w' same start h = record { are_pool = rw same.same_pool h.are_pool; many = h.many ∙ sym same.buffers }
 
 -- what passed at a queue where nothing more came
-module _ (i o : ℕ) (w w' : Asking) (same : SameAsking w w') (passed : Passed) (took put : Lists) (h : BlkStands i o w [] passed) where
+module _ (i o : ℕ) (w w' : Asking) (same : SameAsking w w') (passed : Passed) (took put : Lists) (calls : List Event) (h : BlkStands i o w [] passed) where
   abbrev after : Passed
-  after = record { taken = with passed.taken took; sent = with passed.sent put; dropped = passed.dropped }
+  after = record { taken = with passed.taken took; sent = with passed.sent put; calls = calls }
 
   in_hand : (pool : PoolId) (x : Asking) (stray : List Cargo) → buffers_of pool (asking_hand x ++ bodies_of stray) ≡ buffers_of pool (asking_hand x) + buffers_of pool (bodies_of stray)
   in_hand pool x stray = buffers-append pool (asking_hand x) (bodies_of stray)
@@ -131,7 +132,7 @@ module _ (i o : ℕ) (w w' : Asking) (same : SameAsking w w') (passed : Passed) 
               omega (arith, was, none, now, came, went, one, hand);
         }
 
-pub new_stands : (i o : ℕ) (w : Asking) (pages : List Paged) → IsHoard w pages → AskingStands w pages [] [] → ((pool : PoolId) → buffers_of pool (asking_hand w) ≡ buffers_of pool (page_bodies pages)) → BlkStands i o w [] (record { taken = λ n. []; sent = λ n. []; dropped = λ n. [] })
+pub new_stands : (i o : ℕ) (w : Asking) (pages : List Paged) → IsHoard w pages → AskingStands w pages [] [] → ((pool : PoolId) → buffers_of pool (asking_hand w) ≡ buffers_of pool (page_bodies pages)) → BlkStands i o w [] (record { taken = λ n. []; sent = λ n. []; calls = [] })
 new_stands i o w pages hoard stands held = record {
   start = pages;
   is_start = hoard;

@@ -3,6 +3,7 @@ use Rattle.std.specs.Option.{option_to_list}
 use Rattle.std.proofs.lemmas.Bool.{ne_eqb}
 use Rattle.std.proofs.lemmas.List.{append-nil, length-append, length-map, map-append}
 use Rattle.cargo_core.specs.Pages.{Paged}
+use Rattle.wire_core.specs.declared.names.Event.{Event}
 use Rattle.wire_core.specs.declared.names.QueueId.{QueueId}
 use Rattle.wire_core.specs.Deeds.{Cargo}
 use Rattle.wire_core.specs.Lists.{Lists, Passed, with, if_there}
@@ -192,9 +193,9 @@ pub record SameEnds (c d : NetClient) : Type 0 where
   pub tx_free : d.sent.queue ≡ c.sent.queue
 
 -- what one call took or put, and at which of the client's queues
-module _ (c d : NetClient) (p : Passed) (took put : Lists) (xs : List Cargo) (same : SameEnds c d) where
+module _ (c d : NetClient) (p : Passed) (took put : Lists) (calls : List Event) (xs : List Cargo) (same : SameEnds c d) where
   abbrev After : Passed
-  After = record { taken = with p.taken took; sent = with p.sent put; dropped = p.dropped }
+  After = record { taken = with p.taken took; sent = with p.sent put; calls = calls }
 
   pub frames_took : (rx_active c ≡ tx_free c → ⊥) → ((n : ℕ) → took n ≡ if_there (rx_active c == n) xs) → ((n : ℕ) → put n ≡ []) → ClientHolds d (p.taken (rx_active c) ++ xs) (p.sent (rx_free c)) (p.taken (tx_free c)) (p.sent (tx_active c)) → ClientStandsFor d After
   frames_took apart takes puts h = held_on d _ _ _ _ _ _ _ _

@@ -2,6 +2,7 @@ use Rattle.std.proofs.Common.{◌≡◌, ◌==◌, ◌&&◌, ℕ, Bool, true, fa
 use Rattle.std.specs.Option.{option_to_list}
 use Rattle.std.proofs.lemmas.List.{append-nil}
 use Rattle.std.proofs.lemmas.List.Elements.{All-push}
+use Rattle.wire_core.specs.declared.names.Event.{Event}
 use Rattle.wire_core.specs.Deeds.{Cargo}
 use Rattle.wire_core.specs.Lists.{Lists, Passed, with, if_there}
 use Rattle.wire_core.proofs.Places.{if_there_here}
@@ -15,7 +16,7 @@ some_eq : {a b : Cargo} → Some a ≡ Some b → a ≡ b
 some_eq e = cc
 
 -- a request came, which was done, or is kept where it is out of turn
-module _ (start : List ℕ) (d : DiskDevice) (i : Intake) (x : Cargo) (passed : Passed) (took put : Lists)
+module _ (start : List ℕ) (d : DiskDevice) (i : Intake) (x : Cargo) (passed : Passed) (took put : Lists) (calls : List Event)
     (queue : i.queue ≡ d.input.queue) (no_load : d.load ≡ None) (no_stray : d.stray ≡ None) (size : length (disk_with (record d { input = i }) x).image ≡ length d.image)
     (takes : (n : ℕ) → took n ≡ if_there (req d == n) (x ∷ [])) (puts : (n : ℕ) → put n ≡ []) (h : DiskStandsFor start d passed) where
   came : took (req d) ≡ x ∷ []
@@ -29,7 +30,7 @@ module _ (start : List ℕ) (d : DiskDevice) (i : Intake) (x : Cargo) (passed : 
 
   -- what passed now
   abbrev after : Passed
-  after = record { taken = with passed.taken took; sent = with passed.sent put; dropped = passed.dropped }
+  after = record { taken = with passed.taken took; sent = with passed.sent put; calls = calls }
 
   answer_now : answers_to start h.requests ++ answer_to d.image x ∷ [] ≡ answers_to start (h.requests ++ x ∷ [])
   answer_now = ap (λ image. answers_to start h.requests ++ answer_to image x ∷ []) h.image ∙ sym (answers_more start h.requests x)

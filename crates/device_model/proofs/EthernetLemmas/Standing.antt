@@ -2,6 +2,7 @@ use Rattle.std.proofs.Common.{◌≡◌, ◌+◌, ◌==◌, ◌<◌, ◌&&◌, �
 use Rattle.std.specs.Option.{option_to_list}
 use Rattle.std.proofs.lemmas.Bool.{ne_eqb, ltb-true}
 use Rattle.std.proofs.lemmas.List.{append-nil, length-append}
+use Rattle.wire_core.specs.declared.names.Event.{Event}
 use Rattle.wire_core.specs.Deeds.{Cargo}
 use Rattle.wire_core.specs.Lists.{Lists, Passed, with, if_there}
 use Rattle.wire_core.proofs.Places.{if_there_here}
@@ -12,7 +13,7 @@ use Rattle.device_model.specs.declared.ethernet.EthDevice.{EthDevice}
 use Rattle.device_model.specs.Ethernet.Devices.{DeviceStandsFor, is_filling, rx_free, rx_active, tx_active, tx_free}
 
 -- a free buffer came, and was filled with the next frame
-module _ (d : EthDevice) (i : Intake) (next : ℕ) (f : List ℕ) (e : Cargo) (passed : Passed) (took put : Lists)
+module _ (d : EthDevice) (i : Intake) (next : ℕ) (f : List ℕ) (e : Cargo) (passed : Passed) (took put : Lists) (calls : List Event)
     (queue : i.queue ≡ d.free.queue) (none : d.load ≡ None) (at : slice_get d.frames d.next ≡ Some f) (more : next ≡ d.next + 1) (left : d.next < length d.frames)
     (apart : rx_free d ≡ tx_active d → ⊥) (takes : (n : ℕ) → took n ≡ if_there (rx_free d == n) (e ∷ [])) (puts : (n : ℕ) → put n ≡ []) (h : DeviceStandsFor d passed) where
   came : took (rx_free d) ≡ e ∷ []
@@ -27,7 +28,7 @@ module _ (d : EthDevice) (i : Intake) (next : ℕ) (f : List ℕ) (e : Cargo) (p
   filled_now : passed.sent (rx_active d) ++ filled f e ∷ [] ≡ all_filled d.frames (passed.taken (rx_free d) ++ e ∷ [])
   filled_now = ap (λ cs. cs ++ filled f e ∷ []) (sym all_put ∙ h.filled) ∙ sym (filled_more d.frames (passed.taken (rx_free d)) f e (ap (slice_get d.frames) h.takes ∙ at))
 
-  pub buffer_came : DeviceStandsFor (record d { free = i; load = Some (filled f e); next = next }) (record { taken = with passed.taken took; sent = with passed.sent put; dropped = passed.dropped })
+  pub buffer_came : DeviceStandsFor (record d { free = i; load = Some (filled f e); next = next }) (record { taken = with passed.taken took; sent = with passed.sent put; calls = calls })
   buffer_came = record {
     filled = rw (queue, came, puts (rx_active d), append-nil (passed.sent (rx_active d))) filled_now;
     takes = let long = length-append (passed.taken (rx_free d)) (e ∷ []) in rw (queue, came, more) (omega (arith, long, h.takes));

@@ -25,7 +25,7 @@ use Rattle.net_law.specs.Hops.Hops.{net_put, net_moves, script_frames, IsNetwork
 use Rattle.net_law.proofs.HopsLemmas.Sums.{sum_parts, sum_sixes, times_each, below_list, each_is}
 use Rattle.net_law.proofs.HopsLemmas.Queues.{sized_few, sends_few, leases_few, frees_few, lessee_there, shipper_there, came_from, sends_total, merge_few, ranges_few, home_few}
 
-module _ (scene : Scene) (hostile : Hostiles) (history : History) (rows : List QueueRow) (j : List Entry) (net : NetPlace) (flows : QueuesFlow hostile history rows j) (w : IsNetwork scene hostile rows (moved history j) net) where
+module _ (scene : Scene) (hostile : Hostiles) (history : History) (rows : List QueueRow) (j : List Entry) (net : NetPlace) (flows : QueuesFlow history rows j) (w : IsNetwork scene hostile rows (moved history j) net) where
   abbrev m : Moved
   m = moved history j
 
@@ -43,7 +43,7 @@ module _ (scene : Scene) (hostile : Hostiles) (history : History) (rows : List Q
   frames = length scene.frames
 
   flow : (i : ℕ) → i < 8 + 6 * count → got i ≤ put i
-  flow i there = let h = w.holds i there in begins_few (m.taken (net.first + i)) (m.sent (net.first + i)) (flows (net.first + i) h.row h.there h.calm).begins
+  flow i there = let h = w.holds i there in begins_few (m.taken (net.first + i)) (m.sent (net.first + i)) (flows (net.first + i) h.row h.there).begins
 
   device_row : FillsFrames scene.frames (m.taken net.first) (m.sent (net.first + 1)) (m.taken (net.first + 2)) (m.sent (net.first + 3))
   device_row = w.device

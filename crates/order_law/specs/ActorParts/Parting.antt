@@ -3,6 +3,7 @@ use Rattle.std.specs.Prelude.{◌≡◌, ◌==◌, if◌then◌else◌, ℕ, Opt
 use Rattle.std.specs.Prelude.{slice_get}
 use Rattle.std.specs.List.{AllZip}
 use Rattle.cargo_core.specs.declared.memory.Memory.{Memory}
+use Rattle.wire_core.specs.declared.names.Event.{Event}
 use Rattle.wire_core.specs.declared.names.QueueId.{QueueId}
 use Rattle.wire_core.specs.declared.names.QueueRow.{QueueRow}
 use Rattle.wire_core.specs.Ends.{Role, Consumer, Producer, End}
@@ -35,23 +36,24 @@ end_in (x ∷ xs) n = if x.0.0 == n then Some x.1 else end_in xs n
 abbrev pub apart_end : Apart → Role → ℕ → End
 apart_end p r n = end_known (end_in (ends_at p r) n)
 
--- what passed at its ends: over rings nothing is dropped
-abbrev pub apart_passed : Apart → Passed
-apart_passed p = record {
+-- what passed at its ends, where these calls were made
+abbrev pub apart_passed : Apart → List Event → Passed
+apart_passed p calls = record {
   taken = λ n. entries_known (end_in p.consumers n);
   sent = λ n. entries_known (end_in p.producers n);
-  dropped = λ n. [];
+  calls = calls;
 }
 
 -- no two of an actor's ends on one side are of one queue, and each is of the ring at its queue's
--- place; the actor fits them and stands for what passed there, and no step of it wanted memory
+-- place; the actor fits them and stands for what passed there by some calls, and no step of it
+-- wanted memory
 pub record StandsApart (rings : List RingIs) (p : Apart) : Type 0 where
   pub once : (r : Role) (i j : ℕ) (x y : QueueId × EndIs) → slice_get (ends_at p r) i ≡ Some x
       → slice_get (ends_at p r) j ≡ Some y → x.0.0 ≡ y.0.0 → i ≡ j
   pub on : (r : Role) (i : ℕ) (x : QueueId × EndIs) → slice_get (ends_at p r) i ≡ Some x
       → (ring : RingIs) × (slice_get rings x.0.0 ≡ Some ring) × (x.1.ring ≡ ring.id)
   pub fits : FitsActor (apart_end p) p.actor
-  pub stands : ActorStandsFor p.actor (apart_passed p)
+  pub stands : (calls : List Event) × ActorStandsFor p.actor (apart_passed p calls)
   pub fine : p.wanted ≡ None
 
 -- actor k has just the ends that the rows give it

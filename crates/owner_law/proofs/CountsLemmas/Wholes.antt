@@ -75,7 +75,7 @@ module _ (naming : Naming) (lender : ℕ) (hostile : Hostiles) (history : Histor
           let zero_ : sum_by f (things_taken naming m n) ≡ 0 = subst (λ (x : Names). sum_by f (things_from x (requests_of x m) 0 (m.taken n)) ≡ 0) (sym h) (nothing_sum f none [] 0 (m.taken n)) in
           omega (arith, zero_)
       by (inr h) =
-          let begins : IsPrefix (taken history n journal) (sent history n journal) = (theirs.flows n h.row h.there h.calm).begins in
+          let begins : IsPrefix (taken history n journal) (sent history n journal) = (theirs.flows n h.row h.there).begins in
           let rs = requests_of (naming n) m in
           let whole : sum_by f (things_from (naming n) rs 0 (taken history n journal ++ begins.0)) ≡ sum_by f (things_sent naming m n) = ap (λ xs. sum_by f (things_from (naming n) rs 0 xs)) begins.1 in
           omega (arith, sum_things f (naming n) rs (taken history n journal) begins.0, whole)

@@ -42,7 +42,7 @@ pub record IsCast {P : Type 0} (naming : Naming) (lender : ℕ) (hostile : Hosti
       → PutsItsOwn naming (sheet p)
   pub legal : LegalJournal hostile history rows journal
   pub rows_hold : EachMoment (λ j. RowsHold sheet hostile cast (moved history j)) journal
-  pub flows : EachMoment (QueuesFlow hostile history rows) journal
+  pub flows : EachMoment (QueuesFlow history rows) journal
   pub answered : EachMoment (AreAnswered naming history) journal
 
 module _ {P : Type 0} (naming : Naming) (lender : ℕ) (hostile : Hostiles) (history : History) (rows : List QueueRow) (sheet : P → Sheet) (cast : List P) (journal : List Entry) (is : IsCast naming lender hostile history rows sheet cast journal) where
@@ -50,11 +50,11 @@ module _ {P : Type 0} (naming : Naming) (lender : ℕ) (hostile : Hostiles) (his
   keepers = keepers_in sheet cast
 
   cast_kept : EachMoment (IsKept naming hostile history rows keepers) journal
-  cast_kept = each_moment (λ j. RowsHold sheet hostile cast (moved history j)) (λ j. QueuesFlow hostile history rows j × AreAnswered naming history j) (IsKept naming hostile history rows keepers) (λ j row both. record {
+  cast_kept = each_moment (λ j. RowsHold sheet hostile cast (moved history j)) (λ j. QueuesFlow history rows j × AreAnswered naming history j) (IsKept naming hostile history rows keepers) (λ j row both. record {
     keeps = cast_keeps sheet cast is.apart naming hostile (moved history j) is.own row;
     flows = both.0;
     answers = both.1;
-  }) journal is.rows_hold (each_moment (QueuesFlow hostile history rows) (AreAnswered naming history) (λ j. QueuesFlow hostile history rows j × AreAnswered naming history j) (λ j a b. (a, b)) journal is.flows is.answered)
+  }) journal is.rows_hold (each_moment (QueuesFlow history rows) (AreAnswered naming history) (λ j. QueuesFlow history rows j × AreAnswered naming history j) (λ j a b. (a, b)) journal is.flows is.answered)
 
   cast_owned : (start : Table) → AreCounted start → IsShownBy naming lender keepers (moved history []) start → IsOwned naming lender hostile history rows keepers start journal
   cast_owned start counted shown = record {

@@ -57,6 +57,7 @@ puts_or_not (Do.Wake s) = inr (λ c. refl)
 puts_or_not (Do.Wanted s) = inr (λ c. refl)
 puts_or_not (Do.Settle s) = inr (λ c. refl)
 puts_or_not (Do.Ring s) = inr (λ c. refl)
+puts_or_not (Do.Store w v) = inr (λ c. refl)
 
 there_or_not : (b : Bool) (c : List Cargo) → c ≡ [] → if_there b c ≡ []
 there_or_not true c h = h

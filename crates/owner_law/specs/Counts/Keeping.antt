@@ -13,7 +13,7 @@ pub record KeepTheirs (naming : Naming) (lender : ℕ) (hostile : Hostiles) (his
     (rows : List QueueRow) (keepers : List Keeper) (journal : List Entry) : Type 0 where
   pub naming_is : IsNaming naming lender hostile rows
   pub keepers_are : AreKeepers rows keepers
-  pub flows : QueuesFlow hostile history rows journal
+  pub flows : QueuesFlow history rows journal
   pub keeps : (k : ℕ) (p : Keeper) → slice_get keepers k ≡ Some p → Keeps p.hand
       (all_taken naming (moved history journal) p.ends)
       (all_put naming (moved history journal) p.ends)

@@ -72,7 +72,7 @@ taken_total m (q ∷ qs) h =
     let rest = taken_total m qs (λ k p at. h (suc k) p at) in
     omega (arith, one, rest)
 
-module _ (hostile : Hostiles) (history : History) (rows : List QueueRow) (j : List Entry) (c : SerialClass) (flows : QueuesFlow hostile history rows j) (w : IsSerial (RowAt (moved history j)) hostile rows c) where
+module _ (hostile : Hostiles) (history : History) (rows : List QueueRow) (j : List Entry) (c : SerialClass) (flows : QueuesFlow history rows j) (w : IsSerial (RowAt (moved history j)) hostile rows c) where
   abbrev m : Moved
   m = moved history j
 
@@ -83,7 +83,7 @@ module _ (hostile : Hostiles) (history : History) (rows : List QueueRow) (j : Li
   got n = length (m.taken n)
 
   flow : (n : ℕ) → Holds hostile rows n 1 → got n ≤ put n
-  flow n there = shorter (m.taken n) (m.sent n) (flows n there.row there.there there.calm).begins
+  flow n there = shorter (m.taken n) (m.sent n) (flows n there.row there.there).begins
 
   -- the device puts no more than comes in, and the driver hands it on
   device_puts : put c.device_rx ≤ length c.input

@@ -2,7 +2,7 @@
 -- owners says.
 use Rattle.std.proofs.Common.{◌≡◌, ◌+◌, ◌<◌, ◌≤◌, ℕ, zero, suc, Some, List, [], ◌∷◌, length, slice_get, refl, sym, ap, ◌∙◌, subst, arith}
 use Rattle.wire_core.specs.declared.names.PoolRow.{PoolRow}
-use Rattle.expect_core.specs.declared.report.Census.{Census}
+use Rattle.cargo_core.specs.declared.census.Census.{Census}
 use Rattle.play_core.proofs.Lists.{some_is}
 use Rattle.owner_law.specs.Owners.{Table}
 use Rattle.owner_law.specs.Census.{census, IsPool}

@@ -15,5 +15,5 @@ returns-in-Some-clause-stepped g c =
       body = option_map (λ x. x.1) c.step-got.result.1;
       happened = c.step-got.ensures.did;
       kept = λ passed h. subst (λ b. CopierStandsFor (record c.args.self.now { buffer_input = c.step-got.new.self; buffer = Some b }) (with_deed passed (deed_of c.step-got.result.0 c.step-got.result.1))) (sym is)
-          (buffer_came c.args.self.now c.step-got.new.self w.0 c.in-Some.entry passed _ _ c.step-got.ensures.queue w.1 w.2 w.3 (λ e. c.requires.inputs_apart (sym e)) (λ n. c.step-got.ensures.takes n ∙ ap (λ o. if_there (c.args.self.now.buffer_input.queue.0 == n) (option_to_list o)) c.in-Some.is) c.step-got.ensures.puts h);
+          (buffer_came c.args.self.now c.step-got.new.self w.0 c.in-Some.entry passed _ _ _ c.step-got.ensures.queue w.1 w.2 w.3 (λ e. c.requires.inputs_apart (sym e)) (λ n. c.step-got.ensures.takes n ∙ ap (λ o. if_there (c.args.self.now.buffer_input.queue.0 == n) (option_to_list o)) c.in-Some.is) c.step-got.ensures.puts h);
     }

@@ -15,7 +15,7 @@ pub returns-then-is_none-clause-stepped : goal.returns-then-is_none-clause-stepp
 returns-then-is_none-clause-stepped g c = record {
   body = option_map (λ x. x.1) (put_of c.step_output.result None);
   happened = c.step_output.ensures.did;
-  kept = λ passed h. still c.args.self.now.ends c.step_output.new.self c.step_output.ensures.same c.args.self.now.work c.args.self.now.work refl passed _ _ c.step_output.ensures.takes (λ n. c.step_output.ensures.puts n ∙ puts_none c.step_output.result c.args.self.now.ends.output.queue.0 n) h;
+  kept = λ passed h. still c.args.self.now.ends c.step_output.new.self c.step_output.ensures.same c.args.self.now.work c.args.self.now.work refl passed _ _ _ c.step_output.ensures.takes (λ n. c.step_output.ensures.puts n ∙ puts_none c.step_output.result c.args.self.now.ends.output.queue.0 n) h;
 }
 
 same : (g : _) (c : goal.After-refill g) → SameStock c.args.self.now.work.stock c.refill.new.self
@@ -48,7 +48,7 @@ returns-then-is_none-2-clause-stepped g c =
       body = option_map (λ x. x.1) (put_of c.step_output-event.result c.args.self.now.work.stock.next);
       happened = c.step_output-event.ensures.did;
       kept = λ passed h. moved c.args.self.now.ends c.step_output-event.new.self c.step_output-event.ensures.same w' (with_deed passed (deed_of c.step_output-event.result (put_of c.step_output-event.result c.args.self.now.work.stock.next)))
-          (buffer_out c.args.self.now.ends.input.queue.0 c.args.self.now.ends.output.queue.0 (from_queues c.args.self.now.ends) (to_queues c.args.self.now.ends) w w' (record { stock = same g c; macs = refl }) (work g c) passed _ _ h (option_to_list (put_of c.step_output-event.result c.args.self.now.work.stock.next)) c.requires.to_each c.step_output-event.ensures.takes
+          (buffer_out c.args.self.now.ends.input.queue.0 c.args.self.now.ends.output.queue.0 (from_queues c.args.self.now.ends) (to_queues c.args.self.now.ends) w w' (record { stock = same g c; macs = refl }) (work g c) passed _ _ _ h (option_to_list (put_of c.step_output-event.result c.args.self.now.work.stock.next)) c.requires.to_each c.step_output-event.ensures.takes
           (stray_gone w.stray w.stock.next c.requires.work.strayed (loaded g c)) refl refl (λ pool. hand_less pool w w' (option_to_list (put_of c.step_output-event.result c.args.self.now.work.stock.next)) (list_is g c) refl) (λ b j. refl)
           (λ j. ap (λ n. if_there (slice_index_or w.owed j false) (lease_entry n w.shared (take w.len (page_at w.lent w.shared).bytes) ∷ [])) c.refill.ensures.same.size) (list_is g c) c.requires.ends_fit.outputs_apart c.step_output-event.ensures.puts);
     }
@@ -71,5 +71,5 @@ returns-else-is_none-2-clause-stepped g c =
       body = option_map (λ x. x.1) (put_of c.step_output-event.result c.args.self.now.work.stock.next);
       happened = c.step_output-event.ensures.did;
       kept = λ passed h. still c.args.self.now.ends c.step_output-event.new.self c.step_output-event.ensures.same c.args.self.now.work (record c.args.self.now.work { stock = record c.args.self.now.work.stock { next = c.step_output-event.new.load } })
-          (ap (λ (n : Option Cargo). record c.args.self.now.work { stock = record c.args.self.now.work.stock { next = n } }) s.0) passed _ _ c.step_output-event.ensures.takes (λ n. c.step_output-event.ensures.puts n ∙ (ap (λ l. if_there (c.args.self.now.ends.output.queue.0 == n) l) s.1 ∙ none_if (c.args.self.now.ends.output.queue.0 == n))) h;
+          (ap (λ (n : Option Cargo). record c.args.self.now.work { stock = record c.args.self.now.work.stock { next = n } }) s.0) passed _ _ _ c.step_output-event.ensures.takes (λ n. c.step_output-event.ensures.puts n ∙ (ap (λ l. if_there (c.args.self.now.ends.output.queue.0 == n) l) s.1 ∙ none_if (c.args.self.now.ends.output.queue.0 == n))) h;
     }

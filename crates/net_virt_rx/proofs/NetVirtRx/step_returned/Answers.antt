@@ -12,7 +12,7 @@ pub returns-in_default-clause-stepped : goal.returns-in_default-clause-stepped
 returns-in_default-clause-stepped g c = record {
   body = option_map (λ x. x.1) c.step_from_client-got.result.1;
   happened = c.step_from_client-got.ensures.did;
-  kept = λ passed h. still c.args.self.now.ends c.step_from_client-got.new.self c.step_from_client-got.ensures.same c.args.self.now.work c.args.self.now.work refl passed _ _ (λ n. c.step_from_client-got.ensures.takes n ∙ (ap (λ o. if_there (c.step_from_client-got.result.0.queue.0 == n) (option_to_list o)) c.in_default.is ∙ none_if (c.step_from_client-got.result.0.queue.0 == n))) c.step_from_client-got.ensures.puts h;
+  kept = λ passed h. still c.args.self.now.ends c.step_from_client-got.new.self c.step_from_client-got.ensures.same c.args.self.now.work c.args.self.now.work refl passed _ _ _ (λ n. c.step_from_client-got.ensures.takes n ∙ (ap (λ o. if_there (c.step_from_client-got.result.0.queue.0 == n) (option_to_list o)) c.in_default.is ∙ none_if (c.step_from_client-got.result.0.queue.0 == n))) c.step_from_client-got.ensures.puts h;
 }
 
 pub returns-in-Some-clause-stepped : goal.returns-in-Some-clause-stepped
@@ -22,6 +22,6 @@ returns-in-Some-clause-stepped g c =
       body = option_map (λ x. x.1) c.step_from_client-got.result.1;
       happened = c.step_from_client-got.ensures.did;
       kept = λ passed h. moved c.args.self.now.ends c.step_from_client-got.new.self c.step_from_client-got.ensures.same c.take_back.new.self (with_deed passed (deed_of c.step_from_client-got.result.0 c.step_from_client-got.result.1))
-          (rx_returns c.args.self.now.ends.input.queue.0 c.args.self.now.ends.output.queue.0 (from_queues c.args.self.now.ends) (to_queues c.args.self.now.ends) c.args.self.now.work c.take_back.new.self c.requires.fits.work c.take_back.ensures.work idle c.requires.fits.from_each c.args.client c.step_from_client-got.result.0.queue c.step_from_client-got.ensures.on c.requires.fits.ends_fit.from_clients.apart (c.requires.fits.ends_fit.inputs_apart c.args.client c.step_from_client-got.result.0.queue c.step_from_client-got.ensures.on) c.in-Some.entry passed _ _ c.take_back.ensures.same c.take_back.ensures.turn c.take_back.ensures.stands c.take_back.ensures.stray c.take_back.ensures.held
+          (rx_returns c.args.self.now.ends.input.queue.0 c.args.self.now.ends.output.queue.0 (from_queues c.args.self.now.ends) (to_queues c.args.self.now.ends) c.args.self.now.work c.take_back.new.self c.requires.fits.work c.take_back.ensures.work idle c.requires.fits.from_each c.args.client c.step_from_client-got.result.0.queue c.step_from_client-got.ensures.on c.requires.fits.ends_fit.from_clients.apart (c.requires.fits.ends_fit.inputs_apart c.args.client c.step_from_client-got.result.0.queue c.step_from_client-got.ensures.on) c.in-Some.entry passed _ _ _ c.take_back.ensures.same c.take_back.ensures.turn c.take_back.ensures.stands c.take_back.ensures.stray c.take_back.ensures.held
           (λ n. c.step_from_client-got.ensures.takes n ∙ ap (λ o. if_there (c.step_from_client-got.result.0.queue.0 == n) (option_to_list o)) c.in-Some.is) c.step_from_client-got.ensures.puts h (cases_Bool (is_returned c.args.self.now.work c.args.client c.in-Some.entry)));
     }

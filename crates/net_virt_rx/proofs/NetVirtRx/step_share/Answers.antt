@@ -15,7 +15,7 @@ pub returns-then-not-has-clause-stepped : goal.returns-then-not-has-clause-stepp
 returns-then-not-has-clause-stepped g c = record {
   body = option_map (λ x. x.1) (put_of c.step_to_client.result None);
   happened = c.step_to_client.ensures.did;
-  kept = λ passed h. still c.args.self.now.ends c.step_to_client.new.self c.step_to_client.ensures.same c.args.self.now.work c.args.self.now.work refl passed _ _ c.step_to_client.ensures.takes (λ n. c.step_to_client.ensures.puts n ∙ puts_none c.step_to_client.result c.step_to_client.result.queue.0 n) h;
+  kept = λ passed h. still c.args.self.now.ends c.step_to_client.new.self c.step_to_client.ensures.same c.args.self.now.work c.args.self.now.work refl passed _ _ _ c.step_to_client.ensures.takes (λ n. c.step_to_client.ensures.puts n ∙ puts_none c.step_to_client.result c.step_to_client.result.queue.0 n) h;
 }
 
 work : (g : _) (c : goal.After-remove g) → IsSharer (record c.args.self.now.work { ready = c.step_to_client-event.new.load; owed = c.remove.new.self })
@@ -57,7 +57,7 @@ returns-then-is_none-clause-stepped g c =
       body = option_map (λ x. x.1) p;
       happened = c.step_to_client-event.ensures.did;
       kept = λ passed h. moved c.args.self.now.ends c.step_to_client-event.new.self c.step_to_client-event.ensures.same (record c.args.self.now.work { ready = c.step_to_client-event.new.load; owed = c.remove.new.self }) (with_deed passed (deed_of c.step_to_client-event.result p))
-          (lease_out c.args.self.now.ends.input.queue.0 c.args.self.now.ends.output.queue.0 (from_queues c.args.self.now.ends) (to_queues c.args.self.now.ends) w (record c.args.self.now.work { ready = c.step_to_client-event.new.load; owed = c.remove.new.self }) (record { stock = record { same_pool = refl; buffers = refl; base = refl; size = refl }; macs = refl }) (work g c) passed _ _ h (owed_lease w ∷ []) c.requires.fits.to_each c.step_to_client-event.ensures.takes
+          (lease_out c.args.self.now.ends.input.queue.0 c.args.self.now.ends.output.queue.0 (from_queues c.args.self.now.ends) (to_queues c.args.self.now.ends) w (record c.args.self.now.work { ready = c.step_to_client-event.new.load; owed = c.remove.new.self }) (record { stock = record { same_pool = refl; buffers = refl; base = refl; size = refl }; macs = refl }) (work g c) passed _ _ _ h (owed_lease w ∷ []) c.requires.fits.to_each c.step_to_client-event.ensures.takes
           (c.requires.fits.work.owing owes).stray refl refl (λ pool. lease_hand pool w (buffers_of pool (sharer_hand w))) (λ b j. refl)
           c.args.client c.step_to_client-event.result.queue c.step_to_client-event.ensures.on c.requires.fits.ends_fit.to_clients.apart (c.requires.fits.ends_fit.outputs_apart c.args.client c.step_to_client-event.result.queue c.step_to_client-event.ensures.on)
           (λ j. ap (λ (o : List Bool). if_there (c.args.client == j) (owed_lease w ∷ []) ++ if_there (slice_index_or o j false) (owed_lease w ∷ [])) c.remove.ensures ∙ owed_after w c.step_to_client-event.new.load c.args.client mine j (cases_eq c.args.client j)) refl
@@ -72,5 +72,5 @@ returns-else-is_none-clause-stepped g c =
       body = option_map (λ x. x.1) (put_of c.step_to_client-event.result c.args.self.now.work.ready);
       happened = c.step_to_client-event.ensures.did;
       kept = λ passed h. still c.args.self.now.ends c.step_to_client-event.new.self c.step_to_client-event.ensures.same c.args.self.now.work (record c.args.self.now.work { ready = c.step_to_client-event.new.load })
-          (ap (λ (n : Option Cargo). record c.args.self.now.work { ready = n }) s.0) passed _ _ c.step_to_client-event.ensures.takes (λ n. c.step_to_client-event.ensures.puts n ∙ (ap (λ l. if_there (c.step_to_client-event.result.queue.0 == n) l) s.1 ∙ none_if (c.step_to_client-event.result.queue.0 == n))) h;
+          (ap (λ (n : Option Cargo). record c.args.self.now.work { ready = n }) s.0) passed _ _ _ c.step_to_client-event.ensures.takes (λ n. c.step_to_client-event.ensures.puts n ∙ (ap (λ l. if_there (c.step_to_client-event.result.queue.0 == n) l) s.1 ∙ none_if (c.step_to_client-event.result.queue.0 == n))) h;
     }

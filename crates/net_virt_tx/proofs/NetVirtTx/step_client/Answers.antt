@@ -14,7 +14,7 @@ pub returns-in_default-clause-stepped : goal.returns-in_default-clause-stepped
 returns-in_default-clause-stepped g c = record {
   body = option_map (λ x. x.1) c.step_from_client-got.result.1;
   happened = c.step_from_client-got.ensures.did;
-  kept = λ passed h. still c.args.self.now.ends c.step_from_client-got.new.self c.step_from_client-got.ensures.same c.args.self.now.work passed _ _ (λ n. c.step_from_client-got.ensures.takes n ∙ (ap (λ o. if_there (c.step_from_client-got.result.0.queue.0 == n) (option_to_list o)) c.in_default.is ∙ none_if (c.step_from_client-got.result.0.queue.0 == n))) c.step_from_client-got.ensures.puts h;
+  kept = λ passed h. still c.args.self.now.ends c.step_from_client-got.new.self c.step_from_client-got.ensures.same c.args.self.now.work passed _ _ _ (λ n. c.step_from_client-got.ensures.takes n ∙ (ap (λ o. if_there (c.step_from_client-got.result.0.queue.0 == n) (option_to_list o)) c.in_default.is ∙ none_if (c.step_from_client-got.result.0.queue.0 == n))) c.step_from_client-got.ensures.puts h;
 }
 
 pub receive-requires-clause-needed : goal.receive-requires-clause-needed
@@ -37,7 +37,7 @@ returns-in-Some-clause-stepped g c =
       body = option_map (λ x. x.1) c.step_from_client-got.result.1;
       happened = c.step_from_client-got.ensures.did;
       kept = λ passed h. moved c.args.self.now.ends c.step_from_client-got.new.self c.step_from_client-got.ensures.same c.receive.new.self (with_deed passed (deed_of c.step_from_client-got.result.0 c.step_from_client-got.result.1))
-          (tx_in c.args.self.now.ends.input.queue.0 c.args.self.now.ends.output.queue.0 (from_queues c.args.self.now.ends) (to_queues c.args.self.now.ends) c.args.self.now.work c.receive.new.self c.args.client c.step_from_client-got.result.0.queue c.in-Some.entry passed _ _ c.requires.fits.from_each c.requires.fits.to_each (free_none c.args.self.now.work.stray free) h c.receive.ensures
+          (tx_in c.args.self.now.ends.input.queue.0 c.args.self.now.ends.output.queue.0 (from_queues c.args.self.now.ends) (to_queues c.args.self.now.ends) c.args.self.now.work c.receive.new.self c.args.client c.step_from_client-got.result.0.queue c.in-Some.entry passed _ _ _ c.requires.fits.from_each c.requires.fits.to_each (free_none c.args.self.now.work.stray free) h c.receive.ensures
           c.step_from_client-got.ensures.on c.requires.fits.ends_fit.from_clients.apart (c.requires.fits.ends_fit.inputs_apart c.args.client c.step_from_client-got.result.0.queue c.step_from_client-got.ensures.on)
           (λ n. c.step_from_client-got.ensures.takes n ∙ ap (λ o. if_there (c.step_from_client-got.result.0.queue.0 == n) (option_to_list o)) c.in-Some.is) c.step_from_client-got.ensures.puts);
     }

@@ -12,7 +12,7 @@ pub returns-in_default-clause-stepped : goal.returns-in_default-clause-stepped
 returns-in_default-clause-stepped g c = record {
   body = option_map (λ x. x.1) c.step_input-got.result.1;
   happened = c.step_input-got.ensures.did;
-  kept = λ passed h. still c.args.self.now.ends c.step_input-got.new.self c.step_input-got.ensures.same c.args.self.now.work passed _ _ (λ n. c.step_input-got.ensures.takes n ∙ (ap (λ o. if_there (c.args.self.now.ends.input.queue.0 == n) (option_to_list o)) c.in_default.is ∙ none_if (c.args.self.now.ends.input.queue.0 == n))) c.step_input-got.ensures.puts h;
+  kept = λ passed h. still c.args.self.now.ends c.step_input-got.new.self c.step_input-got.ensures.same c.args.self.now.work passed _ _ _ (λ n. c.step_input-got.ensures.takes n ∙ (ap (λ o. if_there (c.args.self.now.ends.input.queue.0 == n) (option_to_list o)) c.in_default.is ∙ none_if (c.args.self.now.ends.input.queue.0 == n))) c.step_input-got.ensures.puts h;
 }
 
 pub returns-in-Some-clause-fits : goal.returns-in-Some-clause-fits
@@ -31,6 +31,6 @@ returns-in-Some-clause-stepped g c =
       body = option_map (λ x. x.1) c.step_input-got.result.1;
       happened = c.step_input-got.ensures.did;
       kept = λ passed h. moved c.args.self.now.ends c.step_input-got.new.self c.step_input-got.ensures.same c.take_back.new.self (with_deed passed (deed_of c.step_input-got.result.0 c.step_input-got.result.1))
-          (tx_back c.args.self.now.ends.input.queue.0 c.args.self.now.ends.output.queue.0 (from_queues c.args.self.now.ends) (to_queues c.args.self.now.ends) c.args.self.now.work c.take_back.new.self c.in-Some.entry passed _ _ c.requires.from_each c.requires.to_each (free_none c.args.self.now.work.stray free) h c.take_back.ensures c.requires.ends_fit.inputs_apart
+          (tx_back c.args.self.now.ends.input.queue.0 c.args.self.now.ends.output.queue.0 (from_queues c.args.self.now.ends) (to_queues c.args.self.now.ends) c.args.self.now.work c.take_back.new.self c.in-Some.entry passed _ _ _ c.requires.from_each c.requires.to_each (free_none c.args.self.now.work.stray free) h c.take_back.ensures c.requires.ends_fit.inputs_apart
           (λ n. c.step_input-got.ensures.takes n ∙ ap (λ o. if_there (c.args.self.now.ends.input.queue.0 == n) (option_to_list o)) c.in-Some.is) c.step_input-got.ensures.puts);
     }

@@ -11,7 +11,7 @@ pub returns-in-None-clause-stepped : goal.returns-in-None-clause-stepped
 returns-in-None-clause-stepped g c = record {
   body = option_map (λ x. x.1) (put_of c.step_output.result None);
   happened = c.step_output.ensures.did;
-  kept = λ passed h. still c.args.self.now.ends c.step_output.new.self c.step_output.ensures.same c.args.self.now.work passed _ _ c.step_output.ensures.takes (λ n. c.step_output.ensures.puts n ∙ puts_none c.step_output.result c.args.self.now.ends.output.queue.0 n) h;
+  kept = λ passed h. still c.args.self.now.ends c.step_output.new.self c.step_output.ensures.same c.args.self.now.work passed _ _ _ c.step_output.ensures.takes (λ n. c.step_output.ensures.puts n ∙ puts_none c.step_output.result c.args.self.now.ends.output.queue.0 n) h;
 }
 
 pub returns-in-Some-clause-fits : goal.returns-in-Some-clause-fits
@@ -30,6 +30,6 @@ returns-in-Some-clause-stepped g c =
       body = option_map (λ x. x.1) p;
       happened = c.send.ensures.did;
       kept = λ passed h. moved c.args.self.now.ends c.send.new.ends c.send.ensures.same c.send.new.self (with_deed passed (deed_of c.send.result p))
-          (descriptor_out c.args.self.now.ends.input.queue.0 c.args.self.now.ends.output.queue.0 (from_queues c.args.self.now.ends) (to_queues c.args.self.now.ends) c.args.self.now.work c.send.new.self c.in-Some.place passed _ _ c.requires.from_each c.requires.to_each c.in-Some.ensures.1 h (option_to_list p) c.send.ensures.moved
+          (descriptor_out c.args.self.now.ends.input.queue.0 c.args.self.now.ends.output.queue.0 (from_queues c.args.self.now.ends) (to_queues c.args.self.now.ends) c.args.self.now.work c.send.new.self c.in-Some.place passed _ _ _ c.requires.from_each c.requires.to_each c.in-Some.ensures.1 h (option_to_list p) c.send.ensures.moved
           c.requires.ends_fit.outputs_apart c.send.ensures.takes c.send.ensures.puts);
     }

@@ -13,7 +13,7 @@ pub returns-else-is_loaded-clause-stepped : goal.returns-else-is_loaded-clause-s
 returns-else-is_loaded-clause-stepped g c = record {
   body = option_map (λ x. x.1) (put_of c.step_to_client.result None);
   happened = c.step_to_client.ensures.did;
-  kept = λ passed h. still c.args.self.now.ends c.step_to_client.new.self c.step_to_client.ensures.same c.args.self.now.work passed _ _ c.step_to_client.ensures.takes (λ n. c.step_to_client.ensures.puts n ∙ puts_none c.step_to_client.result c.step_to_client.result.queue.0 n) h;
+  kept = λ passed h. still c.args.self.now.ends c.step_to_client.new.self c.step_to_client.ensures.same c.args.self.now.work passed _ _ _ c.step_to_client.ensures.takes (λ n. c.step_to_client.ensures.puts n ∙ puts_none c.step_to_client.result c.step_to_client.result.queue.0 n) h;
 }
 
 pub returns-then-is_loaded-clause-fits : goal.returns-then-is_loaded-clause-fits
@@ -34,6 +34,6 @@ returns-then-is_loaded-clause-stepped g c =
       body = option_map (λ x. x.1) p;
       happened = c.give.ensures.did;
       kept = λ passed h. moved c.args.self.now.ends c.give.new.ends c.give.ensures.same c.give.new.self (with_deed passed (deed_of c.give.result p))
-          (entry_back c.args.self.now.ends.input.queue.0 c.args.self.now.ends.output.queue.0 (from_queues c.args.self.now.ends) (to_queues c.args.self.now.ends) c.args.self.now.work c.give.new.self c.args.client passed _ _ c.requires.fits.from_each c.requires.fits.to_each (free_none c.args.self.now.work.stray free) h (option_to_list p) c.give.ensures.moved
+          (entry_back c.args.self.now.ends.input.queue.0 c.args.self.now.ends.output.queue.0 (from_queues c.args.self.now.ends) (to_queues c.args.self.now.ends) c.args.self.now.work c.give.new.self c.args.client passed _ _ _ c.requires.fits.from_each c.requires.fits.to_each (free_none c.args.self.now.work.stray free) h (option_to_list p) c.give.ensures.moved
           c.give.result.queue c.give.ensures.on c.requires.fits.ends_fit.to_clients.apart (c.requires.fits.ends_fit.outputs_apart c.args.client c.give.result.queue c.give.ensures.on) c.give.ensures.takes c.give.ensures.puts);
     }

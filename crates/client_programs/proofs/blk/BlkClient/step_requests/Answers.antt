@@ -24,7 +24,7 @@ returns-then-is_none-clause-stepped g c =
           let q = resp_queue c.args.self.now in
           let d = deed_of c.step-event.result (put_of c.step-event.result w.next) in
           same_queue q (req_queue c.args.self.now) c.step-event.new.self.queue.0 c.go_on.new.self c.args.self.now.stray (with_deed passed d) (ap (λ r. r.0) c.step-event.ensures.queue) there.1
-          (request_put q (req_queue c.args.self.now) w c.go_on.new.self (record { script = c.go_on.ensures.same.script; same_pool = c.go_on.ensures.same.same_pool; buffers = c.go_on.ensures.same.buffers }) passed _ _ (subst (λ (s : Option Cargo). BlkStands q (req_queue c.args.self.now) w (option_to_list s) passed) there.1 h) x
+          (request_put q (req_queue c.args.self.now) w c.go_on.new.self (record { script = c.go_on.ensures.same.script; same_pool = c.go_on.ensures.same.same_pool; buffers = c.go_on.ensures.same.buffers }) passed _ _ _ (subst (λ (s : Option Cargo). BlkStands q (req_queue c.args.self.now) w (option_to_list s) passed) there.1 h) x
           c.step-event.ensures.takes (λ n. c.step-event.ensures.puts n ∙ ap (λ (cs : List Cargo). if_there (req_queue c.args.self.now == n) cs) put)
           (λ start came sent s. c.go_on.ensures.stands start came sent x (subst (λ (v : Asking). AskingStands v start came sent) (sym back) s))
           (λ pool. hand_put pool w x there.0.1 ∙ ap (λ n. n + buffers_in pool x.1) (ap (λ (o : Option Cargo). buffers_of pool (asking_hand (record w { next = o }))) (sym none) ∙ sym (c.go_on.ensures.held pool))));

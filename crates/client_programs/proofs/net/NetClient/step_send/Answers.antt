@@ -1,4 +1,4 @@
-use Rattle.std.proofs.Common.{◌∙◌, ◌≡◌, ℕ, List, refl, subst}
+use Rattle.std.proofs.Common.{[], ◌∙◌, ◌≡◌, ℕ, List, refl, subst}
 use Rattle.std.specs.Option.{option_map, option_to_list}
 use Rattle.wire_core.specs.Deeds.{Cargo, put_of}
 use Rattle.client_programs.specs.Net.Programs.{frames_out}
@@ -16,6 +16,6 @@ returns-clause-stepped g c =
     record {
       body = option_map (λ x. x.1) went;
       happened = c.step.ensures.did;
-      kept = λ p h. frames_put old _ p _ _ (option_to_list went) (record { rx_active = refl; rx_free = refl; tx_active = c.step.ensures.queue; tx_free = refl }) c.requires.outputs_apart c.step.ensures.takes c.step.ensures.puts
+      kept = λ p h. frames_put old _ p _ _ [] (option_to_list went) (record { rx_active = refl; rx_free = refl; tx_active = c.step.ensures.queue; tx_free = refl }) c.requires.outputs_apart c.step.ensures.takes c.step.ensures.puts
           (frame_put old c.step.new.self mid (record { stock = mid.stock; load = c.step.new.load; next = mid.next }) (option_to_list went) (p.taken (rx_active old)) (p.sent (rx_free old)) (p.taken (tx_free old)) (p.sent (tx_active old)) ready c.step.ensures.load refl refl h);
     }

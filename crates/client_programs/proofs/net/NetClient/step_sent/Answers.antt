@@ -1,4 +1,4 @@
-use Rattle.std.proofs.Common.{◌∙◌, ◌≡◌, sym, ap, refl}
+use Rattle.std.proofs.Common.{[], ◌∙◌, ◌≡◌, sym, ap, refl}
 use Rattle.std.specs.Option.{option_map, option_to_list}
 use Rattle.client_programs.specs.Net.Sending.{needs_buffer}
 use Rattle.client_programs.specs.Net.Clients.{rx_active, rx_free, tx_active, tx_free}
@@ -15,7 +15,7 @@ returns-then-is_some-clause-stepped g c =
     record {
       body = option_map (λ x. x.1) got;
       happened = c.step-got.ensures.did;
-      kept = λ p h. buffers_took old _ p _ _ (option_to_list got) (record { rx_active = refl; rx_free = refl; tx_active = refl; tx_free = c.step-got.ensures.queue }) c.requires.inputs_apart c.step-got.ensures.takes c.step-got.ensures.puts
+      kept = λ p h. buffers_took old _ p _ _ [] (option_to_list got) (record { rx_active = refl; rx_free = refl; tx_active = refl; tx_free = c.step-got.ensures.queue }) c.requires.inputs_apart c.step-got.ensures.takes c.step-got.ensures.puts
           (buffer_came_back old c.step-got.new.self got (p.taken (rx_active old)) (p.sent (rx_free old)) (p.taken (tx_free old)) (p.sent (tx_active old)) some need c.requires.outbox.stock h);
     }
 
@@ -27,7 +27,7 @@ returns-else-is_some-clause-stepped g c =
     record {
       body = option_map (λ x. x.1) got;
       happened = c.step-got.ensures.did;
-      kept = λ p h. buffers_took old _ p _ _ (option_to_list got) (record { rx_active = refl; rx_free = refl; tx_active = refl; tx_free = c.step-got.ensures.queue }) c.requires.inputs_apart c.step-got.ensures.takes c.step-got.ensures.puts
+      kept = λ p h. buffers_took old _ p _ _ [] (option_to_list got) (record { rx_active = refl; rx_free = refl; tx_active = refl; tx_free = c.step-got.ensures.queue }) c.requires.inputs_apart c.step-got.ensures.takes c.step-got.ensures.puts
           (no_buffer_more _ (p.taken (rx_active old)) (p.sent (rx_free old)) (p.taken (tx_free old)) (p.sent (tx_active old)) (option_to_list got) none
           (held_by old _ (p.taken (rx_active old)) (p.sent (rx_free old)) (p.taken (tx_free old)) (p.sent (tx_active old)) refl refl refl refl refl h));
     }

@@ -13,5 +13,5 @@ returns-in-Some-clause-stepped g c = λ start.
       body = option_map (λ x. x.1) c.step-got.result.1;
       happened = c.step-got.ensures.did;
       kept = λ passed h. subst (λ d. DiskStandsFor start d (with_deed passed (deed_of c.step-got.result.0 c.step-got.result.1))) (sym c.accept.ensures.after)
-          (request_came start c.args.self.now c.step-got.new.self c.in-Some.entry passed _ _ c.step-got.ensures.queue w.0 w.1 (ap (λ d. length d.image) (sym c.accept.ensures.after) ∙ c.accept.ensures.size) (λ n. c.step-got.ensures.takes n ∙ ap (λ o. if_there (req c.args.self.now == n) (option_to_list o)) c.in-Some.is) c.step-got.ensures.puts h);
+          (request_came start c.args.self.now c.step-got.new.self c.in-Some.entry passed _ _ _ c.step-got.ensures.queue w.0 w.1 (ap (λ d. length d.image) (sym c.accept.ensures.after) ∙ c.accept.ensures.size) (λ n. c.step-got.ensures.takes n ∙ ap (λ o. if_there (req c.args.self.now == n) (option_to_list o)) c.in-Some.is) c.step-got.ensures.puts h);
     }

@@ -16,5 +16,5 @@ returns-in-Some-clause-stepped g c =
       body = option_map (λ x. x.1) c.step-got.result.1;
       happened = c.step-got.ensures.did;
       kept = λ passed h. subst (λ b. DeviceStandsFor (record c.args.self.now { free = c.step-got.new.self; load = Some b; next = c.args.self.now.next + 1 }) (with_deed passed (deed_of c.step-got.result.0 c.step-got.result.1))) (sym c.fill-filled.ensures)
-          (buffer_came c.args.self.now c.step-got.new.self (c.args.self.now.next + 1) c.get.result.now c.in-Some.entry passed _ _ c.step-got.ensures.queue w.0 c.get.ensures refl w.1 c.requires.inputs_apart (λ n. c.step-got.ensures.takes n ∙ ap (λ o. if_there (c.args.self.now.free.queue.0 == n) (option_to_list o)) c.in-Some.is) c.step-got.ensures.puts h);
+          (buffer_came c.args.self.now c.step-got.new.self (c.args.self.now.next + 1) c.get.result.now c.in-Some.entry passed _ _ _ c.step-got.ensures.queue w.0 c.get.ensures refl w.1 c.requires.inputs_apart (λ n. c.step-got.ensures.takes n ∙ ap (λ o. if_there (c.args.self.now.free.queue.0 == n) (option_to_list o)) c.in-Some.is) c.step-got.ensures.puts h);
     }

@@ -13,6 +13,8 @@ invariant-loop-entry l = record {
   free : l.queue-inside.free ≡ false;
   forward : l.ended.forward ≡ l.fn.ended.forward;
   backward : l.ended.backward ≡ l.fn.ended.backward;
+  ends : (l.ended.producer ≡ l.fn.ended.producer) × (l.ended.consumer ≡ l.fn.ended.consumer);
+  stored : l.queue-inside.stored ≡ false;
 }
 
 abbrev pub decreases-loop-entry : goal.decreases-loop-entry

@@ -44,7 +44,7 @@ invariant_of-self-in_err-event c =
       before = subst HoldsBefore (sym same) c.self.invariant.before;
       holds = rw (c.in_err-event.ensures.no_call, c.in_ok-reserve.ensures.items) (subst (λ xs. Holds (history_of c.self.inside.rows.items c.self.inside.past.value.items) c.self.inside.rows.items c.self.inside.world xs c.self.inside.journal.items) (sym set) c.self.invariant.holds);
       rows_hold = rw c.in_ok-reserve.ensures.items (subst (λ z. EachMoment (RowsStand z) c.self.inside.journal.items) (sym same) c.self.invariant.rows_hold);
-      brisk = rw c.in_ok-reserve.ensures.items (subst (λ z. Brisk (hostile_in z) no_drops c.self.inside.journal.items) (sym same) c.self.invariant.brisk);
+      brisk = rw c.in_ok-reserve.ensures.items (subst (λ z. Brisk (hostile_in z) z.rows no_drops c.self.inside.journal.items) (sym same) c.self.invariant.brisk);
       running = rw c.in_ok-reserve.ensures.items (c.self.invariant.running ∙ ap (λ z. runs z c.self.inside.journal.items) (sym same));
       room = rw length-set c.self.invariant.room;
     }
@@ -69,7 +69,7 @@ invariant_of-self-2 c =
       before = subst HoldsBefore (sym same) c.self.invariant.before;
       holds = rw (c.push_reserved.ensures.items, c.in_ok-reserve.ensures.items) s.holds;
       rows_hold = rw (c.push_reserved.ensures.items, c.in_ok-reserve.ensures.items) (subst (λ z. EachMoment (RowsStand z) (c.self.inside.journal.items ++ entry_of c.at-number.result c.in_ok-event.event ∷ [])) (sym same) s.rows_hold);
-      brisk = rw (c.push_reserved.ensures.items, c.in_ok-reserve.ensures.items) (subst (λ z. Brisk (hostile_in z) no_drops (c.self.inside.journal.items ++ entry_of c.at-number.result c.in_ok-event.event ∷ [])) (sym same) s.brisk);
+      brisk = rw (c.push_reserved.ensures.items, c.in_ok-reserve.ensures.items) (subst (λ z. Brisk (hostile_in z) z.rows no_drops (c.self.inside.journal.items ++ entry_of c.at-number.result c.in_ok-event.event ∷ [])) (sym same) s.brisk);
       running = rw (c.push_reserved.ensures.items, c.in_ok-reserve.ensures.items, c.note.ensures) (s.running ∙ ap (λ z. runs z (c.self.inside.journal.items ++ entry_of c.at-number.result c.in_ok-event.event ∷ [])) (sym same));
       room = rw c.note.ensures s.room_is;
     }
