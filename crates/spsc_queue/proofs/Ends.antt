@@ -60,7 +60,8 @@ module _ (kind : QueueKind) (n : ℕ) (ws : List ℕ) (hs : List (maybe.Option S
   abbrev pub last_place : (e : EndsHold kind n ws hs p c) → length p.entries % n ≡ (length c.entries + length e.lists.left) % n
   last_place e = ap (λ (z : ℕ). z % n) (counts e)
 
-  -- the seat has the slots m, and there is an act for the look that answers b where r stands in the word w, by which the producer may put k entries
+  -- the seat has the slots m, and there is an act for the look that answers b where r stands in the
+  -- word w, by which the producer may put k entries
   abbrev pub LooksRoom : Bool → (w r k : ℕ) → List (ℕ × Slot) → Type 0
   LooksRoom b w r k m = (a : Act Slot) × Valid hs m a × EndsHold kind n ws (homes_after hs m a) (after_look b w r (empty_if b) k p) c × (carried_after m a ≡ slots_held (empty_if b) (length p.entries % n))
 

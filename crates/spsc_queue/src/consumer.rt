@@ -78,8 +78,8 @@ impl Consumer {
     }
 
     /// Whether an entry stands in the queue at this step. A no makes a waiter that asked clear.
-    /// Where the tail that was read last tells of an entry, it isn't read again: a look at one's own
-    /// index is the step.
+    /// Where the tail that was read last tells of an entry, it isn't read again: a look at one's
+    /// own index is the step.
     pub fn see(&mut self, ring: &Ring) -> bool
         requires own { self.old.ring ≡ ring.now.id }
         requires condition { Condition (known_end self.old.knows) Op.See }
