@@ -1,17 +1,19 @@
 -- What the client stands for after each call.
-use Rattle.std.proofs.Common.{◌≡◌, ◌+◌, ◌==◌, ◌&&◌, is_some, is_none, not, true, ◌≤◌, ℕ, Bool, false, Option, Some, None, List, [], ◌∷◌, ◌++◌, length, refl, sym, ap, ◌∙◌, subst, add-zero, arith}
+use Rattle.std.proofs.Common.{◌≡◌, ◌+◌, ◌==◌, ◌&&◌, is_some, is_none, not, true, ◌≤◌, ℕ, Bool, false, Option, Some, None, List, [], ◌∷◌, ◌++◌, length, slice_get, refl, sym, ap, ◌∙◌, subst, add-zero, arith}
 use Rattle.std.specs.Option.{option_to_list}
 use Rattle.std.proofs.lemmas.List.{append-nil}
+use Rattle.cargo_core.specs.declared.item.Item.{Item}
 use Rattle.cargo_core.specs.declared.item.PoolId.{PoolId}
 use Rattle.cargo_core.specs.Bodies.{buffers_of, buffers_in}
 use Rattle.cargo_core.specs.Pages.{Paged}
 use Rattle.wire_core.specs.declared.names.Event.{Event}
-use Rattle.wire_core.specs.Deeds.{Cargo}
+use Rattle.wire_core.specs.Deeds.{Cargo, given, put_of}
 use Rattle.wire_core.specs.Lists.{Lists, Passed, with, if_there}
 use Rattle.wire_core.proofs.Places.{if_there_here}
 use Rattle.turn_kit.specs.Hands.{bodies_of, bodies_at}
 use Rattle.turn_kit.proofs.Holding.{at_one, buffers-append, cargo-append, cargo-cons}
 use Rattle.buffer_kit.specs.Pools.{page_bodies}
+use Rattle.buffer_kit.proofs.ManyClients.{nothing, none_if}
 use Rattle.client_programs.specs.declared.blk.BlkClient.{BlkClient}
 use Rattle.client_programs.specs.declared.blk.asking.Asking.{Asking}
 use Rattle.client_programs.specs.Blk.Kept.{Kept}
@@ -184,3 +186,31 @@ hand_put pool w c is =
 -- the same at the same queue, where nothing strayed
 pub same_queue : (i o o' : ℕ) (w : Asking) (stray : Option Cargo) (passed : Passed) → o' ≡ o → stray ≡ None → BlkStands i o w [] passed → BlkStands i o' w (option_to_list stray) passed
 same_queue i o o' w stray passed e none h = subst (λ n. BlkStands i n w (option_to_list stray) passed) (sym e) (subst (λ (s : Option Cargo). BlkStands i o w (option_to_list s) passed) (sym none) h)
+
+-- where nothing moved, all stays, whatever was called
+pub still : (i o i' o' : ℕ) (w : Asking) (stray : List Cargo) (passed : Passed) (took put : Lists) (calls : List Event) → i' ≡ i → o' ≡ o → ((n : ℕ) → took n ≡ []) → ((n : ℕ) → put n ≡ []) → BlkStands i o w stray passed → BlkStands i' o' w stray (record { taken = with passed.taken took; sent = with passed.sent put; calls = calls })
+still i o i' o' w stray passed took put calls same same' takes puts h =
+    let called : BlkStands i o w stray (record passed { calls = calls }) = record { start = h.start; is_start = h.is_start; came = h.came; taken = h.taken; stands = h.stands; few = h.few; no_request = h.no_request; balances = h.balances } in
+    let after : BlkStands i o w stray (record { taken = with passed.taken took; sent = with passed.sent put; calls = calls }) = subst (λ (p : Passed). BlkStands i o w stray p) (nothing passed took put calls takes puts) called in
+    subst (λ n. BlkStands n o' w stray (record { taken = with passed.taken took; sent = with passed.sent put; calls = calls })) (sym same)
+    (subst (λ n. BlkStands i n w stray (record { taken = with passed.taken took; sent = with passed.sent put; calls = calls })) (sym same') after)
+
+-- nothing is there of no entry
+pub none_at : (q n : ℕ) (o : Option Cargo) → o ≡ None → if_there (q == n) (option_to_list o) ≡ []
+none_at q n o none = ap (λ (p : Option Cargo). if_there (q == n) (option_to_list p)) none ∙ none_if (q == n)
+
+-- nothing goes where nothing is loaded
+given_none : (item : Option Item) → given item None ≡ None
+given_none None = refl
+given_none (Some x) = refl
+
+pub nothing_put : (e : Event) → put_of e None ≡ None
+nothing_put e = given_none e.item
+
+-- a load that is still there is the one that was, and nothing went
+pub not_gone : (was put now : Option Cargo) (b : Bool) → is_some now ≡ not b → b ≡ false → option_to_list was ≡ option_to_list put ++ option_to_list now → (put ≡ None) × (now ≡ was)
+not_gone (Some x) None (Some y) b some not_b parts = (refl, ap (λ (cs : List Cargo). slice_get cs 0) (sym parts))
+not_gone (Some x) (Some z) (Some y) b some not_b parts = cc
+not_gone None None (Some y) b some not_b parts = cc
+not_gone None (Some z) (Some y) b some not_b parts = cc
+not_gone was put None b some not_b parts = let no : false ≡ true = some ∙ ap not not_b in cc
