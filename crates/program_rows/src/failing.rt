@@ -1,19 +1,11 @@
-//! The program's call over an outside that fails once, at each place in turn. A line of standard
-//! input is the name of a table, behind `#`, or `CASE EVERY | WORDS`: what fails, and that each
-//! EVERYth place is tried, for these words, whose texts are the files beside it.
+//! The program's call over an outside that fails once, at each place in turn. A table is named by
+//! what fails:
 //!
 //! - `shelf`: a call of the shelf, which gives 16 bytes in a call
 //! - `sink`: a call of the sink, which takes 4 bytes in a call
 //! - `room`: the sink has room for so many bytes
 //! - `description`, `trace`: that text ends behind so many bytes; in pieces of 1 and of 4,096
-//!
-//! Standard output has how many cases there were, and of how many the answer and all bytes that
-//! were written were the right ones.
-#![tactic(auto)]
-
-mod row;
-
-use row::{ROOM, Row, ample};
+use crate::row::{ROOM, Row, ample};
 use sddf_top::MemSink;
 use std::alloc::Global;
 use std::io;
@@ -115,8 +107,10 @@ fn case(
     }
 }
 
-// Prints how the cases of a table went.
-fn print_cases<R: Files + Print + AllocGlobal>(
+/// Prints how many cases of a table there were, each `every`th place being one, and of how
+/// many the
+/// answer and all bytes that were written were the right ones.
+pub fn print_cases<R: Files + Print + AllocGlobal>(
     rt: &R,
     table: &str,
     every: usize,
@@ -134,24 +128,4 @@ fn print_cases<R: Files + Print + AllocGlobal>(
         right = right.saturating_add(u64::from(is_right));
     }
     println!(rt; "{table}: {right} of {cases} are right")
-}
-
-// Does what a line asks for.
-fn print_line<R: Files + Print + AllocGlobal>(rt: &R, line: &str) -> io::Result<()> {
-    match line.split_once(" | ") {
-        Some((head, row)) => match head.split_once(' ') {
-            Some((table, every)) => {
-                print_cases(rt, table, every.parse::<usize>().unwrap_or(1), row)
-            }
-            None => print_cases(rt, head, 1, row),
-        },
-        None => println!(rt; "{line}"),
-    }
-}
-
-fn main(rt: HostRuntime) -> io::Result<()> {
-    for line in rt.lines(rt.alloc()) {
-        print_line(&rt, line?.as_str())?;
-    }
-    Ok(())
 }

@@ -1,4 +1,5 @@
-//! A row: its words and texts, and what a call answers to it.
+//! A row over shelves and sinks in memory: its words and texts, and what a call answers to it.
+use crate::words::words_of;
 use cargo_core::Memory;
 use sddf_top::{MemShelf, MemSink, Played, begins_run, serve_alone};
 use std::alloc::Global;
@@ -35,12 +36,15 @@ fn text_at<R: Files + AllocGlobal>(rt: &R, words: &[String], place: usize) -> io
 impl Row {
     /// The row of these words, whose texts are files.
     pub fn new<R: Files + AllocGlobal>(rt: &R, line: &str) -> io::Result<Row> {
-        let mut words = Vec::new(rt.alloc());
-        for word in line.split_whitespace() {
-            words.push(String::from_str(rt.alloc(), word)?)?;
-        }
+        let words = words_of(rt.alloc(), line, None)?;
         let desc = text_at(rt, &words, 1)?;
         let trace = text_at(rt, &words, 2)?;
+        Ok(Row { words, desc, trace })
+    }
+
+    /// The row of these words, with its texts.
+    pub fn with_texts(alloc: Global, line: &str, desc: Vec<u8>, trace: Vec<u8>) -> io::Result<Row> {
+        let words = words_of(alloc, line, None)?;
         Ok(Row { words, desc, trace })
     }
 
