@@ -1,26 +1,22 @@
-//! Plays descriptions with a network. A row of the input is `FILE | TRACE | FIRST | COUNT`: a
-//! description, a trace for it, and the seeds, so many from the first on. For each seed one line is
-//! written: how the play ended, how many frames the wire got of those that the clients are to send,
-//! and how many each client recorded of those that are for it. Where the wire lacks a frame or has
-//! a client's frames out of order, or a record isn't what it must be, the line says so. A row with
-//! `| pools` behind it has also where the buffers of each pool are.
-#![tactic(auto)]
-
-ghost use Rattle.std.specs.Prelude.{◌≡◌, ◌<◌, ◌≤◌, IfOk, length};
+//! Plays of descriptions with a network: how each ended, how many frames the wire got of those that
+//! the clients are to send, and how many each client recorded of those that are for it. Where the
+//! wire lacks a frame or has a client's frames out of order, or a record isn't what it must be, the
+//! line of a play says so.
+ghost use Rattle.std.specs.Prelude.{◌≡◌, ◌<◌, length};
 ghost use Rattle.sdf_check.specs.Valid.{Valid};
-ghost use Rattle.sdf_model.specs.Counts.{text_most};
 ghost use Rattle.trace_text.specs.Traces.{IsReadFor};
 ghost use Rattle.region_layout.specs.Layouts.{layout_of};
 
+use crate::judging::judged;
 use cargo_core::{FrameLog, Memory};
 use expect_core::{Report, frames_for};
 use frame_core::read_mac;
 use net_expect::answers_for;
 use region_layout::{Layout, lay_out};
-use sdf_check::check;
-use sdf_model::{TEXT_MOST, read_description};
+use sdf_model::TEXT_MOST;
 use sdf_plan::{Net, Plan, SdfFault};
 use std::alloc::Global;
+use std::rt::Files;
 use std::{fs, io};
 use system_core::{Ending, System};
 use trace_text::{Trace, TraceFault, is_source, read_trace, runs};
@@ -35,16 +31,6 @@ struct Seeds {
 
 /// The most steps of a play.
 const STEPS: u64 = 268_435_456;
-
-// The plan that a text spells, where no rule is broken.
-fn judged(alloc: Global, text: &str) -> Result<Plan, SdfFault>
-    requires { length text.now ≤ text_most }
-    ensures { IfOk result Valid }
-{
-    let plan = read_description(alloc, text.as_bytes())?;
-    check(alloc, &plan)?;
-    Ok(plan)
-}
 
 // Whether two lists have the same frames.
 fn are_same(one: &FrameLog, other: &FrameLog) -> bool {
@@ -253,15 +239,16 @@ fn answer(alloc: Global, text: &str, trace: &str, seeds: Seeds) -> Result<String
     if text.len() > TEXT_MOST {
         return Ok(String::from_str(alloc, "too long\n")?);
     }
-    match judged(alloc, text) {
-        Ok(plan) => plays_of(alloc, &plan, trace, seeds),
+    match judged(alloc, text, None) {
+        Ok(Some(plan)) => plays_of(alloc, &plan, trace, seeds),
+        Ok(None) => Ok(String::from_str(alloc, "too many\n")?),
         Err(SdfFault::Refused(_)) => Ok(String::from_str(alloc, "refused\n")?),
         Err(SdfFault::Memory(memory)) => Err(memory),
     }
 }
 
-// The answer at a row.
-fn row(rt: &HostRuntime, row: &str) -> io::Result<()> {
+/// Prints the answer at a row `FILE | TRACE | FIRST | COUNT`, which may have `| pools` behind it.
+pub fn print_network<R: Files + Print + AllocGlobal>(rt: &R, row: &str) -> io::Result<()> {
     let Some((name, rest)) = row.split_once(" | ") else {
         return rt.println("no row");
     };
@@ -283,11 +270,4 @@ fn row(rt: &HostRuntime, row: &str) -> io::Result<()> {
         Ok(text) => rt.print(text.as_str()),
         Err(_) => rt.println("no memory"),
     }
-}
-
-fn main(rt: HostRuntime) -> io::Result<()> {
-    for line in rt.lines(rt.alloc()) {
-        row(&rt, line?.as_str())?;
-    }
-    Ok(())
 }
