@@ -14,7 +14,7 @@ use Rattle.pipe_driver.specs.Lengths.{two_pipes}
 use Rattle.spsc_queue.specs.Rule.{first_producer, first_consumer}
 use Rattle.spsc_queue.specs.Known.Ends.{EndIs, RingIs}
 use Rattle.spsc_queue.specs.declared.view.Half.{Half}
-use Rattle.actor_rows.specs.Seats.Starting.{StartsOn}
+use Rattle.base_rows.specs.Seats.Starting.{StartsOn}
 use Rattle.spsc_queue.specs.Steps.{known_end}
 use Rattle.seat_wires.specs.Places.{stands_at, end_known, seat_end}
 use Rattle.seat_wires.specs.Places.Are.{SeatsAre}

@@ -2,7 +2,6 @@
 //! stands in a module of its own, since no actor names a ring.
 
 mod driver;
-#[cfg(test)]
 mod tests;
 
 pub use driver::{drive, seated_driver};

@@ -5,7 +5,7 @@ ghost use Rattle.spsc_queue.specs.Rule.{first_producer, first_consumer};
 ghost use Rattle.seat_wires.specs.Places.{stands_at, seat_end};
 ghost use Rattle.pipe_driver.specs.Drivers.{FitsPipes};
 ghost use Rattle.pipe_driver.specs.Lengths.{two_pipes};
-ghost use Rattle.actor_rows.specs.Seats.Starting.{StartsOn};
+ghost use Rattle.base_rows.specs.Seats.Starting.{StartsOn};
 
 use seat_wires::Seats;
 use spsc_queue::{Consumer, Producer, Ring};

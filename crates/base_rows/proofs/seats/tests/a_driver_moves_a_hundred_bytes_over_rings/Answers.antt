@@ -1,6 +1,6 @@
 use Rattle.std.proofs.Common.{◌≡◌, ◌∙◌, refl}
-use Rattle.actor_rows.proofs.SeatsLemmas.Fitting.{starts_on}
-use Rattle.actor_rows.proofs.seats.tests.a_driver_moves_a_hundred_bytes_over_rings.Goals as goal
+use Rattle.base_rows.proofs.SeatsLemmas.Fitting.{starts_on}
+use Rattle.base_rows.proofs.seats.tests.a_driver_moves_a_hundred_bytes_over_rings.Goals as goal
 
 -- src/tests.rt:14:41
 pub seated_driver-requires-clause-device_rx : goal.seated_driver-requires-clause-device_rx
