@@ -93,15 +93,18 @@ fn a_sure_outside_has_no_faults<R: Print + AllocGlobal>(rt: &R) -> io::Result<()
     println!(rt; "status {}, {} bytes", status.code(), sink.bytes())
 }
 
+// Prints how many bytes the file of a name has, where it is read.
+fn print_read<R: Files + Print + AllocGlobal>(rt: &R, name: &str) -> io::Result<()> {
+    match read_text(rt.alloc(), &mut FileShelf::new(rt), name) {
+        Ok(text) => println!(rt; "{name}: {} bytes", text.as_slice().len()),
+        Err(_) => println!(rt; "{name}: not read"),
+    }
+}
+
 fn files_are_read_by_their_paths<R: Files + Print + AllocGlobal>(rt: &R) -> io::Result<()> {
     println!(rt; "# files are read by their paths")?;
-    for name in ["hello.trace", "no such file"] {
-        match read_text(rt.alloc(), &mut FileShelf::new(rt), name) {
-            Ok(text) => println!(rt; "{name}: {} bytes", text.as_slice().len())?,
-            Err(_) => println!(rt; "{name}: not read")?,
-        }
-    }
-    Ok(())
+    print_read(rt, "hello.trace")?;
+    print_read(rt, "no such file")
 }
 
 fn standard_output_takes_a_text<R: Print>(rt: &R) -> io::Result<()> {
