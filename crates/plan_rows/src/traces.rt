@@ -1,34 +1,13 @@
-//! Lays descriptions out and reads traces for them. A row of the input that names a file alone asks
-//! for the layout of the description there. A row `FILE | LINE | LINE` has the lines of a trace, of
-//! which the last doesn't end; `LINE x N` stands for N such lines. For each row the answer is
-//! written: the layout, the bad line, or what the trace gives and its budget.
-#![tactic(auto)]
-
-ghost use Rattle.std.specs.Prelude.{◌≤◌, IfOk, length};
+//! Reads traces for a description: writes what a trace gives and its budget, or its first bad line.
 ghost use Rattle.sdf_check.specs.Valid.{Valid};
-ghost use Rattle.sdf_model.specs.Counts.{text_most};
 ghost use Rattle.trace_text.specs.Traces.{IsReadFor};
 
 use cargo_core::{Ask, Bytes, FrameLog, Memory, Series};
 use expect_core::budget;
-use region_layout::lay_out;
-use report_text::{write_accepted, write_bad_trace, write_layout, write_refused, write_too_long};
-use sdf_check::check;
-use sdf_model::{TEXT_MOST, read_description};
-use sdf_plan::{Plan, SdfFault};
+use report_text::write_bad_trace;
+use sdf_plan::Plan;
 use std::alloc::Global;
-use std::{fs, io};
 use trace_text::{Trace, TraceFault, read_trace};
-
-// The plan that a text spells, where no rule is broken.
-fn judge(alloc: Global, text: &str) -> Result<Plan, SdfFault>
-    requires { length text.now ≤ text_most }
-    ensures { IfOk result Valid }
-{
-    let plan = read_description(alloc, text.as_bytes())?;
-    check(alloc, &plan)?;
-    Ok(plan)
-}
 
 // The lines that one line of a row stands for.
 fn add_lines(text: &mut String, line: &str) -> Result<(), Memory> {
@@ -133,8 +112,8 @@ fn describe(alloc: Global, plan: &Plan, trace: &Trace) -> Result<String, Memory>
     Ok(line)
 }
 
-// What is answered at the lines of a trace.
-fn read(alloc: Global, plan: &Plan, lines: &str) -> Result<String, Memory>
+/// What is answered at the lines of a trace.
+pub fn write_trace(alloc: Global, plan: &Plan, lines: &str) -> Result<String, Memory>
     requires { Valid plan.now }
 {
     let text = trace_of(alloc, lines)?;
@@ -143,50 +122,4 @@ fn read(alloc: Global, plan: &Plan, lines: &str) -> Result<String, Memory>
         Err(TraceFault::BadLine(line)) => write_bad_trace(alloc, line),
         Err(TraceFault::Memory(memory)) => Err(memory),
     }
-}
-
-// What is answered at a description alone: how much of each it has, and its layout.
-fn laid_out(alloc: Global, plan: &Plan) -> Result<String, Memory>
-    requires { Valid plan.now }
-{
-    let layout = lay_out(alloc, plan)?;
-    let mut text = write_accepted(alloc, plan)?;
-    let lines = write_layout(alloc, plan, &layout)?;
-    text.push_str(lines.as_str())?;
-    Ok(text)
-}
-
-// What is answered at a description, and at the lines of a trace for it where there are any.
-fn answer(alloc: Global, text: &str, lines: Option<&str>) -> Result<String, Memory> {
-    if text.len() > TEXT_MOST {
-        return write_too_long(alloc);
-    }
-    match judge(alloc, text) {
-        Ok(plan) => match lines {
-            None => laid_out(alloc, &plan),
-            Some(lines) => read(alloc, &plan, lines),
-        },
-        Err(SdfFault::Refused(refusal)) => write_refused(alloc, &refusal),
-        Err(SdfFault::Memory(memory)) => Err(memory),
-    }
-}
-
-// The answer at a row.
-fn row(rt: &HostRuntime, row: &str) -> io::Result<()> {
-    let (name, lines) = match row.split_once(" | ") {
-        Some((name, lines)) => (name, Some(lines)),
-        None => (row, None),
-    };
-    let text = fs::read_to_string(rt, name)?;
-    match answer(rt.alloc(), text.as_str(), lines) {
-        Ok(line) => rt.print(line.as_str()),
-        Err(_) => rt.println("no memory"),
-    }
-}
-
-fn main(rt: HostRuntime) -> io::Result<()> {
-    for line in rt.lines(rt.alloc()) {
-        row(&rt, line?.as_str())?;
-    }
-    Ok(())
 }
