@@ -29,7 +29,7 @@ fn read_with_names(alloc: Global, text: &str, names: Option<&str>) -> Result<Opt
     }
 }
 
-/// That plan, where no rule is broken.
+/// The plan of a row, where no rule is broken; None where its lists have too many elements.
 pub fn judged(alloc: Global, text: &str, names: Option<&str>) -> Result<Option<Plan>, SdfFault>
     requires { length text.now ≤ text_most }
     ensures { IfOk result (λ plan. IfSome plan Valid) }
