@@ -33,8 +33,10 @@ use Rattle.client_programs.specs.Blk.Clients.{FitsBlkClient, BlkClientEnd, req_q
 use Rattle.blk_virt.specs.declared.client.Client.{Client}
 use Rattle.blk_virt.specs.declared.virtualiser.BlkEnds.{BlkEnds}
 use Rattle.blk_virt.specs.declared.virtualiser.BlkVirt.{BlkVirt}
+use Rattle.client_programs.proofs.BlkLemmas.Standing.{balance_of as asker_balance}
 use Rattle.blk_virt.specs.Works.{work_cargo}
 use Rattle.blk_virt.specs.Virtualising.{FitsBlkVirt, new_client}
+use Rattle.blk_virt.proofs.Rows.{balance_of as server_balance}
 use Rattle.blk_law.specs.Sheets.Table.{blk_sheet}
 use Rattle.blk_law.specs.Sheets.Playing.{virt_part, blk_client_part}
 use Rattle.actor_set.specs.Actors.{IsWholeServer}
@@ -158,7 +160,7 @@ nothing_at pool (n ∷ ns) = nothing_at pool ns
 pub new_server_hand : (scene : Scene) (v : BlkVirt) → IsNewServer v → (pool : PoolId) → buffers_of pool (bodies_of (work_cargo v.work)) ≡ length ((blk_sheet scene (virt_part v)).hand pool.0)
 new_server_hand scene v new pool =
     let st = new.stands in
-    let all = st.balances pool in
+    let all = (server_balance v nothing_passed st).balances pool in
     let came = nothing_at pool (virt_came v.ends) in
     let went = nothing_at pool (virt_went v.ends) in
     let own : v.work.opening.own.pool ≡ st.start.pool = ap (λ n. n.pool) st.stands.is_start in
@@ -172,6 +174,6 @@ new_server_hand scene v new pool =
 pub new_asker_hand : (scene : Scene) (c : BlkClient) → IsNewAsker c → (pool : PoolId) → buffers_of pool (blk_client_hand c) ≡ length ((blk_sheet scene (blk_client_part c)).hand pool.0)
 new_asker_hand scene c new pool =
     let st = new.stands in
-    let all = st.balances pool in
+    let all = (asker_balance c nothing_passed st).balances pool in
     let own = pages_are c.asking.pool.0 0 c.asking.buffers 32768 c.asking.pool pool st.start refl st.is_start.many st.is_start.are_pool.same_pool in
     omega (arith, all, own)

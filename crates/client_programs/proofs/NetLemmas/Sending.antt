@@ -12,7 +12,7 @@ use Rattle.cargo_core.specs.declared.item.QueueKind.TheVariants as QueueOf
 use Rattle.cargo_core.specs.Items.{kind_of}
 use Rattle.buffer_kit.specs.Entries.{filled, all_filled, with_len}
 use Rattle.buffer_kit.specs.Pools.{given_entry}
-use Rattle.buffer_kit.specs.Stocks.{stock_list, IsStock, IsStart, SameStock}
+use Rattle.buffer_kit.specs.Stocks.{stock_list, IsStock, SameStock}
 use Rattle.buffer_kit.specs.declared.stock.Stock.{Stock}
 use Rattle.buffer_kit.proofs.Filling.{no_entries, filled_more, filled_still, filled_length}
 use Rattle.client_programs.specs.declared.net.program.NetProgram.{NetProgram}

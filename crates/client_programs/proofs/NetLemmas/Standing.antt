@@ -1,4 +1,4 @@
-use Rattle.std.proofs.Common.{◌≡◌, ◌+◌, ◌==◌, ◌≤◌, ◌&&◌, ◌++◌, ℕ, Bool, true, false, not, is_none, is_some, IsSome, Some, None, Option, List, [], ◌∷◌, length, map, refl, sym, ap, ap₂, ◌∙◌, subst, append_assoc, slice_get, arith}
+use Rattle.std.proofs.Common.{◌≡◌, ◌==◌, ◌&&◌, ◌++◌, ℕ, Bool, true, false, not, is_none, is_some, Some, None, Option, List, [], ◌∷◌, length, map, refl, sym, ap, ap₂, ◌∙◌, subst, append_assoc, slice_get, arith}
 use Rattle.std.specs.Option.{option_to_list}
 use Rattle.std.proofs.lemmas.Bool.{ne_eqb}
 use Rattle.std.proofs.lemmas.List.{append-nil, length-append, length-map, map-append}
@@ -22,7 +22,7 @@ use Rattle.client_programs.specs.declared.net.outbox.Outbox.{Outbox}
 use Rattle.client_programs.specs.Net.Programs.{frames_out, is_echo}
 use Rattle.client_programs.specs.Net.Sending.{OutboxStandsFor, SendsFrames, needs_buffer, is_through}
 use Rattle.client_programs.specs.Net.Clients.{ClientHolds, ClientStandsFor, ClientRow, client_frames, client_owes, needs_frame, is_answering, rx_active, rx_free, tx_active, tx_free}
-use Rattle.client_programs.proofs.NetLemmas.Sending.{stock_empty, outbox_row, through_put, frames_grow, frames_more, echo_long, outbox_put, outbox_back}
+use Rattle.client_programs.proofs.NetLemmas.Sending.{outbox_row, through_put, frames_grow, frames_more, echo_long, outbox_put, outbox_back}
 
 -- what it holds is what its row says
 pub row_of : (c : NetClient) (passed : Passed) → ClientStandsFor c passed → ClientRow c passed

@@ -22,7 +22,6 @@ use Rattle.buffer_kit.specs.Pools.{given_entry, page_bodies}
 use Rattle.buffer_kit.specs.Stocks.{stock_list, IsStock, IsStart, SameStock}
 use Rattle.client_programs.specs.declared.net.NetClient.{NetClient}
 use Rattle.client_programs.specs.declared.net.program.NetProgram.{NetProgram}
-use Rattle.client_programs.specs.declared.net.program.ClientProgram.{ClientProgram}
 use Rattle.client_programs.specs.Net.Programs.{frames_out, is_echo}
 use Rattle.client_programs.specs.Net.Sending.{FitsOutbox, SendsFrames, OutboxStandsFor}
 use Rattle.client_programs.specs.Net.Sending.{IsNewOutbox, outbox_hand, is_sending}

@@ -11,7 +11,7 @@ use Rattle.wire_core.specs.Deeds.{Cargo}
 use Rattle.turn_kit.specs.Hands.{bodies_of}
 use Rattle.buffer_kit.specs.Entries.{all_filled}
 use Rattle.buffer_kit.specs.Pools.{given_entry}
-use Rattle.buffer_kit.specs.Stocks.{stock_list, stock_hand, IsStock, IsStart, SameStock}
+use Rattle.buffer_kit.specs.Stocks.{stock_list, stock_hand, IsStock, IsStart}
 use Rattle.client_programs.specs.declared.net.outbox.Outbox.{Outbox}
 
 -- a buffer is filled with each of these frames in turn: what it filled so far are the first of

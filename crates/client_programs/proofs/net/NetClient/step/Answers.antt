@@ -1,4 +1,4 @@
-use Rattle.std.proofs.Common.{◌∙◌, sym, subst}
+use Rattle.std.proofs.Common.{sym, subst}
 use Rattle.client_programs.specs.Net.Clients.{ClientStandsFor}
 use Rattle.client_programs.proofs.NetLemmas.Standing.{reserved_holds}
 use Rattle.client_programs.proofs.net.NetClient.step.Goals as goal

@@ -1,4 +1,4 @@
-use Rattle.std.proofs.Common.{[], ◌∙◌, ◌≡◌, ◌++◌, not, sym, ap, refl}
+use Rattle.std.proofs.Common.{[], ◌∙◌, ◌++◌, not, sym, ap, refl}
 use Rattle.std.specs.Option.{option_map, option_to_list}
 use Rattle.wire_core.specs.Deeds.{put_of}
 use Rattle.client_programs.specs.Net.Clients.{rx_active, rx_free, tx_active, tx_free}

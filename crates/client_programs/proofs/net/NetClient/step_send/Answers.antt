@@ -1,4 +1,4 @@
-use Rattle.std.proofs.Common.{[], ◌∙◌, ◌≡◌, ℕ, List, refl, subst}
+use Rattle.std.proofs.Common.{[], ℕ, List, refl, subst}
 use Rattle.std.specs.Option.{option_map, option_to_list}
 use Rattle.wire_core.specs.Deeds.{Cargo, put_of}
 use Rattle.client_programs.specs.Net.Programs.{frames_out}

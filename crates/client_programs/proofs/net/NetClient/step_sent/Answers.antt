@@ -1,4 +1,4 @@
-use Rattle.std.proofs.Common.{[], ◌∙◌, ◌≡◌, sym, ap, refl}
+use Rattle.std.proofs.Common.{[], ◌∙◌, sym, ap, refl}
 use Rattle.std.specs.Option.{option_map, option_to_list}
 use Rattle.client_programs.specs.Net.Sending.{needs_buffer}
 use Rattle.client_programs.specs.Net.Clients.{rx_active, rx_free, tx_active, tx_free}

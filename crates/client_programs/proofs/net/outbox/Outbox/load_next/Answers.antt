@@ -1,4 +1,4 @@
-use Rattle.std.proofs.Common.{◌∙◌, ◌≡◌, ◌<◌, ◌∷◌, [], length, slice_index_or, sym, ap, subst}
+use Rattle.std.proofs.Common.{◌∙◌, ◌<◌, ◌∷◌, [], length, slice_index_or, sym, ap, subst}
 use Rattle.std.proofs.lemmas.Option.{slice_get-get_or}
 use Rattle.client_programs.specs.Net.Programs.{frames_out}
 use Rattle.client_programs.proofs.NetLemmas.Sending.{fits_filled, rest_less, outbox_filled, taken_list, still_same, not_some}
