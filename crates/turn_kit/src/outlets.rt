@@ -66,6 +66,7 @@ impl Outlets {
 
     /// Offers each end, the first of them at the place `base`; `loads` tells which are loaded, by
     /// their places among these ends.
+    #[inline(always)]
     pub fn offer<N: Needs>(&self, choice: Choice, base: usize, loads: &N) -> Choice
         requires { base + length (outlet_queues self.now) ≤ choice.count }
         ensures { result ≡ offered_from choice base (outlet_posts self.now)

@@ -42,6 +42,7 @@ impl Model for Choice {
     ghost invariant = { IsChoice };
 }
 
+#[inline(always)]
 fn lower(old: Option<Stand>, new: Stand) -> Option<Stand>
     ensures { result ≡ lower old new }
 {
@@ -53,6 +54,7 @@ fn lower(old: Option<Stand>, new: Stand) -> Option<Stand>
 
 impl Choice {
     /// Offers the end at a place; `settled` tells whether it is settled.
+    #[inline(always)]
     pub fn offer(mut self, place: usize, queue: QueueId, settled: bool) -> Choice
         requires { place < self.count }
         ensures { result ≡ choice_with self (record { queue = queue.0; place = place }) settled }
@@ -94,6 +96,7 @@ impl Turn {
     }
 
     /// The place of the end that is stepped now.
+    #[inline(always)]
     pub fn pass(&mut self, choice: Choice) -> usize
         requires { 0 < choice.count }
         ensures place { result ≡ chosen_place choice }
