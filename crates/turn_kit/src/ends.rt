@@ -86,6 +86,7 @@ impl Intake {
 
     /// Makes the next call of the table, where `need` says whether an entry is needed. An entry is
     /// answered exactly for a take, and a take comes only where one is needed.
+    #[inline(always)]
     pub fn step<W: Wires>(&mut self, wires: &mut W, need: bool) -> (Event, Option<(Item, Body)>)
         requires { Agrees (W.ends wires.old Consumer self.old.queue.0) self.old.state }
         ensures queue { self.new.queue ≡ self.old.queue }
@@ -185,6 +186,7 @@ impl Outlet {
     }
 
     /// Makes the next call of the table. The load goes exactly at a put.
+    #[inline(always)]
     pub fn step<W: Wires>(&mut self, wires: &mut W, load: &mut Option<(Item, Body)>) -> Event
         requires agrees { Agrees (W.ends wires.old Producer self.old.queue.0) self.old.state }
         requires kind { ForSome load.old (λ c. kind_of c.0

@@ -32,6 +32,7 @@ impl Intakes {
     }
 
     /// Makes the next call of the end at place `k`.
+    #[inline(always)]
     pub fn step<W: Wires>(
         &mut self,
         wires: &mut W,

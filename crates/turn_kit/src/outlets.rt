@@ -32,6 +32,7 @@ impl Outlets {
     }
 
     /// Makes the next call of the end at place `k`, which puts its load.
+    #[inline(always)]
     pub fn step<W: Wires>(
         &mut self,
         wires: &mut W,
