@@ -140,23 +140,24 @@ impl Actor {
         ensures no_call { OnErr result (wires.new ≡ wires.old) }
         ensures unchanged { OnErr result (self.new ≡ self.old) }
     {
-        match self {
-            Actor::UartDevice(device) => device.step(wires),
-            Actor::UartDriver(driver) => Ok(driver.step(wires)),
-            Actor::SerialVirtRx(virt) => Ok(virt.step(wires)),
-            Actor::SerialVirtTx(virt) => Ok(virt.step(wires)),
-            Actor::SerialClient(client) => client.step(wires),
-            Actor::EthDevice(device) => device.step(wires),
-            Actor::EthDriver(driver) => Ok(driver.step(wires)),
-            Actor::NetVirtRx(virt) => virt.step(wires),
-            Actor::NetCopier(copier) => Ok(copier.step(wires)),
-            Actor::NetClient(client) => client.step(wires),
-            Actor::NetVirtTx(virt) => Ok(virt.step(wires)),
-            Actor::DiskDevice(disk) => Ok(disk.device.step(wires)),
-            Actor::BlkDriver(driver) => Ok(driver.step(wires)),
-            Actor::BlkVirt(virt) => Ok(virt.step(wires)),
-            Actor::BlkClient(client) => client.step(wires),
-        }
+        let event = match self {
+            Actor::UartDevice(device) => return device.step(wires),
+            Actor::UartDriver(driver) => driver.step(wires),
+            Actor::SerialVirtRx(virt) => virt.step(wires),
+            Actor::SerialVirtTx(virt) => virt.step(wires),
+            Actor::SerialClient(client) => return client.step(wires),
+            Actor::EthDevice(device) => return device.step(wires),
+            Actor::EthDriver(driver) => driver.step(wires),
+            Actor::NetVirtRx(virt) => return virt.step(wires),
+            Actor::NetCopier(copier) => copier.step(wires),
+            Actor::NetClient(client) => return client.step(wires),
+            Actor::NetVirtTx(virt) => virt.step(wires),
+            Actor::DiskDevice(disk) => disk.device.step(wires),
+            Actor::BlkDriver(driver) => driver.step(wires),
+            Actor::BlkVirt(virt) => virt.step(wires),
+            Actor::BlkClient(client) => return client.step(wires),
+        };
+        Ok(event)
     }
 
     /// Discards the last look of each end, and nothing else.

@@ -111,11 +111,19 @@ impl Terminal {
               record { last = last_after (choice_of (terminal_round self.old)) };
         } }
     {
+        let hears = !self.input.settled(true);
+        let says = !self.output.settled(self.is_saying());
+        if hears && !(says && self.output.queue.0 < self.input.queue.0) {
+            return 0;
+        }
+        if says {
+            return 1;
+        }
         let choice = self
             .turn
             .begin(2)
-            .offer(0, self.input.queue, self.input.settled(true))
-            .offer(1, self.output.queue, self.output.settled(self.is_saying()));
+            .offer(0, self.input.queue, true)
+            .offer(1, self.output.queue, true);
         self.turn.pass(choice)
     }
 
@@ -177,11 +185,12 @@ impl Terminal {
         ensures unchanged { OnErr result (self.new ≡ self.old) }
     {
         self.recorded.reserve()?;
-        match self.choose() {
-            0 => Ok(self.step_input(wires)),
-            1 => Ok(self.step_output(wires)),
+        let event = match self.choose() {
+            0 => self.step_input(wires),
+            1 => self.step_output(wires),
             _ => unreachable!(),
-        }
+        };
+        Ok(event)
     }
 
     /// Discards the last look of each end, and nothing else.

@@ -74,10 +74,12 @@ pub struct Pipes<R> {
 impl PipeList for Pipe {
     ghost list = { λ p. p ∷ [] };
 
+    #[inline(always)]
     fn ends(&self) -> usize {
         2
     }
 
+    #[inline(always)]
     fn settled(&self) -> bool {
         self.input_settled() && self.output_settled()
     }
@@ -86,12 +88,14 @@ impl PipeList for Pipe {
         count_held(pool, &self.load)
     }
 
+    #[inline(always)]
     fn offer(&self, choice: Choice, base: usize) -> Choice {
         choice
             .offer(base, self.input.queue, self.input_settled())
             .offer(base + 1, self.output.queue, self.output_settled())
     }
 
+    #[inline(always)]
     fn step<W: Wires>(&mut self, wires: &mut W, place: usize) -> Event {
         if place == 0 {
             self.step_input(wires)
@@ -108,10 +112,12 @@ impl PipeList for Pipe {
 impl<R: PipeList> PipeList for Pipes<R> {
     ghost list = { λ ps. ps.first ∷ R.list ps.rest };
 
+    #[inline(always)]
     fn ends(&self) -> usize {
         2 + self.rest.ends()
     }
 
+    #[inline(always)]
     fn settled(&self) -> bool {
         self.first.input_settled() && self.first.output_settled() && self.rest.settled()
     }
@@ -120,6 +126,7 @@ impl<R: PipeList> PipeList for Pipes<R> {
         count_held(pool, &self.first.load) + self.rest.held(pool)
     }
 
+    #[inline(always)]
     fn offer(&self, choice: Choice, base: usize) -> Choice {
         let pipe = &self.first;
         let choice = choice
@@ -128,6 +135,7 @@ impl<R: PipeList> PipeList for Pipes<R> {
         self.rest.offer(choice, base + 2)
     }
 
+    #[inline(always)]
     fn step<W: Wires>(&mut self, wires: &mut W, place: usize) -> Event {
         if place == 0 {
             self.first.step_input(wires)

@@ -9,6 +9,8 @@ use Rattle.wire_core.specs.declared.names.Waiter.{Waiter}
 use Rattle.wire_core.specs.declared.names.Waiter.TheVariants as Wait
 use Rattle.wire_core.specs.declared.names.Ringer.{Ringer}
 use Rattle.wire_core.specs.declared.names.Ringer.TheVariants as Rung
+use Rattle.wire_core.specs.declared.names.Event.{Event}
+use Rattle.wire_core.specs.declared.names.QueueId.{QueueId}
 use Rattle.wire_core.specs.Ends.{is_clear}
 use Rattle.turn_kit.specs.declared.end_state.EndState.{EndState}
 use Rattle.turn_kit.specs.Table.{is_settled}
@@ -32,6 +34,10 @@ may_answer (Do.Waive s) a = not (is_told a)
 may_answer (Do.Settle s) a = not (is_told a)
 may_answer (Do.Ring s) a = not (is_told a)
 may_answer (Do.Store w v) a = not (is_told a)
+
+-- a call that moves no entry, with its answer
+abbrev pub bare_event : QueueId → Op → Answer → Event
+bare_event q op answer = record { queue = q; op = op; answer = answer; item = None }
 
 -- the calls until the ringer is free
 abbrev pub ring_left : Ringer → ℕ

@@ -27,6 +27,7 @@ pub trait Listed {
 
 /// Offers each end, the first of them at the place `base`; `needs` tells which are needed, or
 /// loaded, by their places among these ends.
+#[inline(always)]
 pub fn offer_each<E: Listed, N: Needs>(
     ends: &[E],
     mut choice: Choice,

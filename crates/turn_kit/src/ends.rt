@@ -9,7 +9,7 @@ ghost use Rattle.wire_core.specs.Deeds.{Deed, answer_of, cargo_of, deed_of, put_
 ghost use Rattle.wire_core.specs.Lists.{taken_by, put_by, if_there};
 ghost use Rattle.wire_core.specs.Ends.{Role, Consumer, Producer, Allows, Moves, role_of};
 ghost use Rattle.wire_core.specs.Marks.{is_mark};
-ghost use Rattle.turn_kit.specs.Calls.{may_answer};
+ghost use Rattle.turn_kit.specs.Calls.{bare_event, may_answer};
 ghost use Rattle.turn_kit.specs.Turns.{Posted};
 ghost use Rattle.turn_kit.specs.Posts.{intake_post, outlet_post};
 ghost use Rattle.turn_kit.specs.Table.{next_op, state_after, start_state, is_settled, Agrees};
@@ -20,24 +20,23 @@ use crate::each::Listed;
 use cargo_core::{Body, Item};
 use wire_core::{Answer, Event, Op, QueueId, Ringer, Side, Waiter, Wires};
 
+#[inline(always)]
 fn yes_or_no(yes: bool) -> Answer
     ensures { result ≡ answer_of yes }
 {
     if yes { Answer::Yes } else { Answer::No }
 }
 
-// A call that moves no entry.
-fn call<W: Wires>(wires: &mut W, queue: QueueId, op: Op) -> Event
+// Makes a call that moves no entry, and gives what it answered.
+#[inline(always)]
+fn call<W: Wires>(wires: &mut W, queue: QueueId, op: Op) -> Answer
     requires may { Allows (W.ends wires.old (role_of op) queue.0) op }
     requires plain { is_plain_call op ≡ true }
-    ensures queue { result.queue ≡ queue }
-    ensures op { result.op ≡ op }
-    ensures item { result.item ≡ None }
-    ensures answer { may_answer result.op result.answer ≡ true }
-    ensures did { W.did wires.old (deed_of result None) wires.new }
-    ensures moves { Moves (W.ends wires.old) result (W.ends wires.new) }
+    ensures answer { may_answer op result ≡ true }
+    ensures did { W.did wires.old (deed_of (bare_event queue op result) None) wires.new }
+    ensures moves { Moves (W.ends wires.old) (bare_event queue op result) (W.ends wires.new) }
 {
-    let answer = match op {
+    match op {
         Op::See => yes_or_no(wires.see(queue)),
         Op::Room => yes_or_no(wires.room(queue)),
         Op::Wake(side) => yes_or_no(wires.wake(queue, side)),
@@ -59,12 +58,6 @@ fn call<W: Wires>(wires: &mut W, queue: QueueId, op: Op) -> Event
             Answer::Done
         }
         Op::Take | Op::Put | Op::Store(_, _) => unreachable!(),
-    };
-    Event {
-        queue,
-        op,
-        answer,
-        item: None,
     }
 }
 
@@ -93,6 +86,7 @@ impl Intake {
 
     /// Makes the next call of the table, where `need` says whether an entry is needed. An entry is
     /// answered exactly for a take, and a take comes only where one is needed.
+    #[inline(always)]
     pub fn step<W: Wires>(&mut self, wires: &mut W, need: bool) -> (Event, Option<(Item, Body)>)
         requires { Agrees (W.ends wires.old Consumer self.old.queue.0) self.old.state }
         ensures queue { self.new.queue ≡ self.old.queue }
@@ -118,18 +112,24 @@ impl Intake {
     {
         let op = self.state.next(Side::Forward, need);
         if op == Op::Take {
-            let (item, body) = wires.take(self.queue);
+            let entry = wires.take(self.queue);
             self.state.note(op, Answer::Done);
             let event = Event {
                 queue: self.queue,
                 op,
                 answer: Answer::Done,
-                item: Some(item),
+                item: Some(entry.0),
             };
-            return (event, Some((item, body)));
+            return (event, Some(entry));
         }
-        let event = call(wires, self.queue, op);
-        self.state.note(op, event.answer);
+        let answer = call(wires, self.queue, op);
+        self.state.note(op, answer);
+        let event = Event {
+            queue: self.queue,
+            op,
+            answer,
+            item: None,
+        };
         (event, None)
     }
 
@@ -186,6 +186,7 @@ impl Outlet {
     }
 
     /// Makes the next call of the table. The load goes exactly at a put.
+    #[inline(always)]
     pub fn step<W: Wires>(&mut self, wires: &mut W, load: &mut Option<(Item, Body)>) -> Event
         requires agrees { Agrees (W.ends wires.old Producer self.old.queue.0) self.old.state }
         requires kind { ForSome load.old (λ c. kind_of c.0
@@ -223,9 +224,14 @@ impl Outlet {
                 };
             }
         }
-        let event = call(wires, self.queue, op);
-        self.state.note(op, event.answer);
-        event
+        let answer = call(wires, self.queue, op);
+        self.state.note(op, answer);
+        Event {
+            queue: self.queue,
+            op,
+            answer,
+            item: None,
+        }
     }
 
     /// Whether the ringer is free and, where an entry is loaded, the waiter is clear.

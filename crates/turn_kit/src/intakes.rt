@@ -32,6 +32,7 @@ impl Intakes {
     }
 
     /// Makes the next call of the end at place `k`.
+    #[inline(always)]
     pub fn step<W: Wires>(
         &mut self,
         wires: &mut W,
@@ -63,6 +64,7 @@ impl Intakes {
 
     /// Offers each end, the first of them at the place `base`; `needs` tells which are needed, by
     /// their places among these ends.
+    #[inline(always)]
     pub fn offer<N: Needs>(&self, choice: Choice, base: usize, needs: &N) -> Choice
         requires { base + length (intake_queues self.now) ≤ choice.count }
         ensures { result ≡ offered_from choice base (intake_posts self.now)

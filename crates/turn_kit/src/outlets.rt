@@ -32,6 +32,7 @@ impl Outlets {
     }
 
     /// Makes the next call of the end at place `k`, which puts its load.
+    #[inline(always)]
     pub fn step<W: Wires>(
         &mut self,
         wires: &mut W,
@@ -66,6 +67,7 @@ impl Outlets {
 
     /// Offers each end, the first of them at the place `base`; `loads` tells which are loaded, by
     /// their places among these ends.
+    #[inline(always)]
     pub fn offer<N: Needs>(&self, choice: Choice, base: usize, loads: &N) -> Choice
         requires { base + length (outlet_queues self.now) ≤ choice.count }
         ensures { result ≡ offered_from choice base (outlet_posts self.now)

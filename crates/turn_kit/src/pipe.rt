@@ -39,6 +39,7 @@ impl Pipe {
     }
 
     /// The next call of the input. What it takes is loaded.
+    #[inline(always)]
     pub fn step_input<W: Wires>(&mut self, wires: &mut W) -> Event
         requires { FitsPipe (W.ends wires.old) self.old }
         ensures input { self.new.input.queue ≡ self.old.input.queue }
@@ -69,6 +70,7 @@ impl Pipe {
     }
 
     /// The next call of the output, which puts the load.
+    #[inline(always)]
     pub fn step_output<W: Wires>(&mut self, wires: &mut W) -> Event
         requires { FitsPipe (W.ends wires.old) self.old }
         ensures input { self.new.input ≡ self.old.input }

@@ -1,6 +1,7 @@
 //! Which of an actor's ends is stepped.
 
-ghost use Rattle.std.specs.Prelude.{◌≡◌, ◌<◌};
+ghost use Rattle.std.specs.Prelude.{◌≡◌, ◌<◌, None};
+ghost use Rattle.turn_kit.specs.Lowests.{found};
 ghost use Rattle.turn_kit.specs.Turns.{choosing, lower, choice_with, chosen_place, last_after};
 
 use std::marker::Model;
@@ -21,14 +22,22 @@ pub struct Turn {
     pub last: u16,
 }
 
+/// The lowest end that was found of a sort: the number of its queue, 65,536 where none was found
+/// yet, and its place. Its fields fill it, so that it is moved as numbers.
+#[derive(Clone, Copy, Debug)]
+pub struct Lowest {
+    queue: u64,
+    place: usize,
+}
+
 /// What was found of the ends that were offered so far.
 #[derive(Debug, Drop)]
 pub struct Choice {
     count: usize,
-    last: u16,
-    unsettled: Option<Stand>,
-    after: Option<Stand>,
-    first: Option<Stand>,
+    last: u64,
+    unsettled: Lowest,
+    after: Lowest,
+    first: Lowest,
 }
 
 impl Model for Choice {
@@ -42,32 +51,62 @@ impl Model for Choice {
     ghost invariant = { IsChoice };
 }
 
-fn lower(old: Option<Stand>, new: Stand) -> Option<Stand>
-    ensures { result ≡ lower old new }
-{
-    match old {
-        Some(old) if old.queue <= new.queue => Some(old),
-        _ => Some(new),
+impl Lowest {
+    // None was found yet.
+    #[inline(always)]
+    fn none() -> Lowest
+        ensures { found result ≡ None }
+    {
+        Lowest {
+            queue: 65536,
+            place: 0,
+        }
+    }
+
+    // The end, if any was found.
+    #[inline(always)]
+    fn stand(&self) -> Option<Stand>
+        ensures { result ≡ found self.now }
+    {
+        if self.queue < 65536 {
+            Some(Stand {
+                queue: self.queue as u16,
+                place: self.place,
+            })
+        } else {
+            None
+        }
+    }
+
+    // The lower of the two, where the second is an end.
+    #[inline(always)]
+    fn lower(self, new: Lowest) -> Lowest
+        requires { new.queue < 65536 }
+        ensures { found result ≡ lower (found self)
+            (record { queue = new.queue; place = new.place }) }
+    {
+        if new.queue < self.queue { new } else { self }
     }
 }
 
 impl Choice {
     /// Offers the end at a place; `settled` tells whether it is settled.
+    #[inline(always)]
     pub fn offer(mut self, place: usize, queue: QueueId, settled: bool) -> Choice
         requires { place < self.count }
         ensures { result ≡ choice_with self (record { queue = queue.0; place = place }) settled }
     {
-        let end = Stand {
-            queue: queue.0,
+        let end = Lowest {
+            queue: u64::from(queue.0),
             place,
         };
         if !settled {
-            self.unsettled = lower(self.unsettled, end);
+            self.unsettled = self.unsettled.lower(end);
         }
         if self.last < end.queue {
-            self.after = lower(self.after, end);
+            self.after = self.after.lower(end);
         }
-        self.first = lower(self.first, end);
+        self.first = self.first.lower(end);
         self
     }
 }
@@ -86,25 +125,26 @@ impl Turn {
     {
         Choice {
             count,
-            last: self.last,
-            unsettled: None,
-            after: None,
-            first: None,
+            last: u64::from(self.last),
+            unsettled: Lowest::none(),
+            after: Lowest::none(),
+            first: Lowest::none(),
         }
     }
 
     /// The place of the end that is stepped now.
+    #[inline(always)]
     pub fn pass(&mut self, choice: Choice) -> usize
         requires { 0 < choice.count }
         ensures place { result ≡ chosen_place choice }
         ensures within { result < choice.count }
         ensures last { self.new.last ≡ last_after choice }
     {
-        self.last = choice.last;
-        if let Some(end) = choice.unsettled {
+        self.last = choice.last as u16;
+        if let Some(end) = choice.unsettled.stand() {
             return end.place;
         }
-        let Some(end) = choice.after.or(choice.first) else {
+        let Some(end) = choice.after.stand().or(choice.first.stand()) else {
             return 0;
         };
         self.last = end.queue;

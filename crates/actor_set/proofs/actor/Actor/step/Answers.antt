@@ -18,16 +18,16 @@ pub returns-in-UartDevice-clause-stepped : goal.returns-in-UartDevice-clause-ste
 returns-in-UartDevice-clause-stepped g c = ok_actor TerminalStandsFor _ _ _ _ _ _ _ c.step.result (λ passed h. subst (λ t. TerminalStandsFor t passed) (sym c.deref_mut.ensures.value) (subst (λ a. ActorStandsFor a passed) c.in-UartDevice.is h)) (λ passed h. h) c.step.ensures.stepped
 
 pub returns-in-UartDriver-clause-stepped : goal.returns-in-UartDriver-clause-stepped
-returns-in-UartDriver-clause-stepped g c = as_actor PipesStandFor _ _ _ _ _ _ _ _ (λ passed h. subst (λ d. PipesStandFor (two_pipes d.pipes) passed) (sym c.deref_mut-in-UartDriver.ensures.value) (subst (λ a. ActorStandsFor a passed) c.in-UartDriver.is h)) (λ passed h. h) c.step-in-UartDriver.ensures.stepped
+returns-in-UartDriver-clause-stepped g c = as_actor PipesStandFor _ _ _ _ _ _ _ _ (λ passed h. subst (λ d. PipesStandFor (two_pipes d.pipes) passed) (sym c.deref_mut-in-UartDriver.ensures.value) (subst (λ a. ActorStandsFor a passed) c.in-UartDriver.is h)) (λ passed h. h) c.step-event.ensures.stepped
 
 pub returns-in-SerialClient-clause-stepped : goal.returns-in-SerialClient-clause-stepped
 returns-in-SerialClient-clause-stepped g c = ok_actor TerminalStandsFor _ _ _ _ _ _ _ c.step-in-SerialClient.result (λ passed h. subst (λ t. TerminalStandsFor t passed) (sym c.deref_mut-in-SerialClient.ensures.value) (subst (λ a. ActorStandsFor a passed) c.in-SerialClient.is h)) (λ passed h. h) c.step-in-SerialClient.ensures.stepped
 
 pub returns-in-SerialVirtRx-clause-stepped : goal.returns-in-SerialVirtRx-clause-stepped
-returns-in-SerialVirtRx-clause-stepped g c = as_actor RxStandsFor _ _ _ _ _ _ _ _ (λ passed h. subst (λ a. ActorStandsFor a passed) c.in-SerialVirtRx.is h) (λ passed h. h) c.step-in-SerialVirtRx.ensures.stepped
+returns-in-SerialVirtRx-clause-stepped g c = as_actor RxStandsFor _ _ _ _ _ _ _ _ (λ passed h. subst (λ a. ActorStandsFor a passed) c.in-SerialVirtRx.is h) (λ passed h. h) c.step-event-in-SerialVirtRx.ensures.stepped
 
 pub returns-in-SerialVirtTx-clause-stepped : goal.returns-in-SerialVirtTx-clause-stepped
-returns-in-SerialVirtTx-clause-stepped g c = as_actor TxStandsFor _ _ _ _ _ _ _ _ (λ passed h. subst (λ a. ActorStandsFor a passed) c.in-SerialVirtTx.is h) (λ passed h. h) c.step-in-SerialVirtTx.ensures.stepped
+returns-in-SerialVirtTx-clause-stepped g c = as_actor TxStandsFor _ _ _ _ _ _ _ _ (λ passed h. subst (λ a. ActorStandsFor a passed) c.in-SerialVirtTx.is h) (λ passed h. h) c.step-event-in-SerialVirtTx.ensures.stepped
 
 pub returns-in-NetClient-clause-stepped : goal.returns-in-NetClient-clause-stepped
 returns-in-NetClient-clause-stepped g c = ok_actor ClientStandsFor _ _ _ _ _ _ _ c.step-in-NetClient.result (λ passed h. subst (λ a. ActorStandsFor a passed) c.in-NetClient.is h) (λ passed h. h) c.step-in-NetClient.ensures.stepped
@@ -48,22 +48,22 @@ pub returns-in-NetVirtRx-clause-stepped : goal.returns-in-NetVirtRx-clause-stepp
 returns-in-NetVirtRx-clause-stepped g c = ok_actor NetRxStandsFor _ _ _ _ _ _ _ c.step-in-NetVirtRx.result (λ passed h. subst (λ a. ActorStandsFor a passed) c.in-NetVirtRx.is h) (λ passed h. h) c.step-in-NetVirtRx.ensures.stepped
 
 pub returns-in-NetVirtTx-clause-stepped : goal.returns-in-NetVirtTx-clause-stepped
-returns-in-NetVirtTx-clause-stepped g c = as_actor NetTxStandsFor _ _ _ _ _ _ _ _ (λ passed h. subst (λ a. ActorStandsFor a passed) c.in-NetVirtTx.is h) (λ passed h. h) c.step-in-NetVirtTx.ensures.stepped
+returns-in-NetVirtTx-clause-stepped g c = as_actor NetTxStandsFor _ _ _ _ _ _ _ _ (λ passed h. subst (λ a. ActorStandsFor a passed) c.in-NetVirtTx.is h) (λ passed h. h) c.step-event-in-NetVirtTx.ensures.stepped
 
 pub returns-in-DiskDevice-clause-stepped : goal.returns-in-DiskDevice-clause-stepped
-returns-in-DiskDevice-clause-stepped g c = as_actor (DiskStandsFor c.in-DiskDevice.disk.start.value) _ _ _ _ _ _ _ _ (λ passed h. subst (λ a. ActorStandsFor a passed) c.in-DiskDevice.is h) (λ passed h. h) (c.step-in-DiskDevice.ensures.stepped c.in-DiskDevice.disk.start.value)
+returns-in-DiskDevice-clause-stepped g c = as_actor (DiskStandsFor c.in-DiskDevice.disk.start.value) _ _ _ _ _ _ _ _ (λ passed h. subst (λ a. ActorStandsFor a passed) c.in-DiskDevice.is h) (λ passed h. h) (c.step-event-in-DiskDevice.ensures.stepped c.in-DiskDevice.disk.start.value)
 
 pub returns-in-BlkDriver-clause-stepped : goal.returns-in-BlkDriver-clause-stepped
-returns-in-BlkDriver-clause-stepped g c = as_actor PipesStandFor _ _ _ _ _ _ _ _ (λ passed h. subst (λ d. PipesStandFor (two_pipes d.pipes) passed) (sym c.deref_mut-in-BlkDriver.ensures.value) (subst (λ a. ActorStandsFor a passed) c.in-BlkDriver.is h)) (λ passed h. h) c.step-in-BlkDriver.ensures.stepped
+returns-in-BlkDriver-clause-stepped g c = as_actor PipesStandFor _ _ _ _ _ _ _ _ (λ passed h. subst (λ d. PipesStandFor (two_pipes d.pipes) passed) (sym c.deref_mut-in-BlkDriver.ensures.value) (subst (λ a. ActorStandsFor a passed) c.in-BlkDriver.is h)) (λ passed h. h) c.step-event-in-BlkDriver.ensures.stepped
 
-pub step-requires-in-BlkVirt : goal.step-requires-in-BlkVirt
-step-requires-in-BlkVirt g c = let f = subst (FitsActor (g.W.Wires.ends c.args.wires.now)) c.in-BlkVirt.is c.requires in f.0
+pub step-event-requires-in-BlkVirt : goal.step-event-requires-in-BlkVirt
+step-event-requires-in-BlkVirt g c = let f = subst (FitsActor (g.W.Wires.ends c.args.wires.now)) c.in-BlkVirt.is c.requires in f.0
 
 pub returns-in-BlkVirt-clause-fits : goal.returns-in-BlkVirt-clause-fits
-returns-in-BlkVirt-clause-fits g c = let f = subst (FitsActor (g.W.Wires.ends c.args.wires.now)) c.in-BlkVirt.is c.requires in (c.step-in-BlkVirt.ensures.fits, few_still c.in-BlkVirt.virt c.step-in-BlkVirt.new.self c.step-in-BlkVirt.ensures.same f.1, first_still c.in-BlkVirt.virt c.step-in-BlkVirt.new.self c.step-in-BlkVirt.ensures.same f.2)
+returns-in-BlkVirt-clause-fits g c = let f = subst (FitsActor (g.W.Wires.ends c.args.wires.now)) c.in-BlkVirt.is c.requires in (c.step-event-in-BlkVirt.ensures.fits, few_still c.in-BlkVirt.virt c.step-event-in-BlkVirt.new.self c.step-event-in-BlkVirt.ensures.same f.1, first_still c.in-BlkVirt.virt c.step-event-in-BlkVirt.new.self c.step-event-in-BlkVirt.ensures.same f.2)
 
 pub returns-in-BlkVirt-clause-stepped : goal.returns-in-BlkVirt-clause-stepped
-returns-in-BlkVirt-clause-stepped g c = as_actor BlkVirtStandsFor _ _ _ _ _ _ _ _ (λ passed h. subst (λ a. ActorStandsFor a passed) c.in-BlkVirt.is h) (λ passed h. h) c.step-in-BlkVirt.ensures.stepped
+returns-in-BlkVirt-clause-stepped g c = as_actor BlkVirtStandsFor _ _ _ _ _ _ _ _ (λ passed h. subst (λ a. ActorStandsFor a passed) c.in-BlkVirt.is h) (λ passed h. h) c.step-event-in-BlkVirt.ensures.stepped
 
 pub returns-in-BlkClient-clause-stepped : goal.returns-in-BlkClient-clause-stepped
 returns-in-BlkClient-clause-stepped g c = ok_actor BlkClientStandsFor _ _ _ _ _ _ _ c.step-in-BlkClient.result (λ passed h. subst (λ a. ActorStandsFor a passed) c.in-BlkClient.is h) (λ passed h. h) c.step-in-BlkClient.ensures.stepped
