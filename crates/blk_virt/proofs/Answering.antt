@@ -4,20 +4,20 @@ use Rattle.std.proofs.Math.Seq.{map-set_same}
 use Rattle.std.proofs.lemmas.Bool.{cases_eq}
 use Rattle.std.proofs.lemmas.Option.{get_or_from_slice_get}
 use Rattle.std.proofs.lemmas.List.{append-nil, length-set}
-use Rattle.cargo_core.specs.declared.item.PoolId.{PoolId}
 use Rattle.cargo_core.specs.Ranges.{AreRanges}
 use Rattle.wire_core.specs.Bells.{bit}
 use Rattle.wire_core.specs.Deeds.{Cargo}
 use Rattle.wire_core.proofs.Places.{slice_get_written, slice_get_beside}
 use Rattle.turn_kit.proofs.Offers.{get_map}
 use Rattle.blk_mbr.specs.declared.part.Part.{Part}
-use Rattle.buffer_kit.proofs.ManyClients.{some_eq, cargo_set, now_or_was, now_there, there_more, other_more}
+use Rattle.buffer_kit.specs.Conserving.{Count, weighed}
+use Rattle.buffer_kit.proofs.ManyClients.{some_eq, weighed_set, now_or_was, now_there, there_more, other_more}
 use Rattle.blk_virt.specs.declared.client.Client.{Client}
 use Rattle.blk_virt.specs.declared.desk.Desk.{Desk}
 use Rattle.blk_virt.specs.declared.requests.Holder.{Holder}
 use Rattle.blk_virt.specs.Requests.{request_of, is_at, range_of}
 use Rattle.blk_virt.specs.Serving.{own_of, own_back}
-use Rattle.blk_virt.specs.Clients.{IsClient, ClientStands, carried, client_cargo, is_away}
+use Rattle.blk_virt.specs.Clients.{IsClient, ClientStands, client_cargo, is_away}
 use Rattle.blk_virt.specs.Desks.{IsDesk, DeskStands, OneMoved, LineMoves, IsRequestOf, AreOf, IsSomeones, holders, times, away_many, away_at, with_more, desk_cargo}
 use Rattle.blk_virt.proofs.Serving.{own_more, own_beside}
 use Rattle.blk_virt.proofs.Desking.{first_is}
@@ -135,12 +135,12 @@ module _ (w w' : Desk) (h : IsDesk w) (k : ℕ) (part : Option Part) (came sent 
       each_now j d (inl e) = subst IsClient e.1 m.moved.work
       each_now j d (inr e) = h.each j d e.1
 
-  pub moved_held : (pool : PoolId) → carried pool (desk_cargo w) + (carried pool came + carried pool back) ≡ carried pool (desk_cargo w') + (carried pool sent + carried pool gave)
-  moved_held pool =
-      let f = ap (λ cs. carried pool (flat_map client_cargo cs)) m.clients in
-      let g = cargo_set client_cargo pool w.clients.items k m.was m.now m.there in
-      let n = m.moved.held pool in
-      omega (arith, f, g, n)
+  pub moved_held : (f : Count) → weighed f (desk_cargo w) + (weighed f came + weighed f back) ≡ weighed f (desk_cargo w') + (weighed f sent + weighed f gave)
+  moved_held f =
+      let a = ap (λ cs. weighed f (flat_map client_cargo cs)) m.clients in
+      let b = weighed_set client_cargo f w.clients.items k m.was m.now m.there in
+      let n = m.moved.held f in
+      omega (arith, a, b, n)
 
   -- a client that moved was there, and the others are as they were
   client_apart : (j : ℕ) (d : Client) → (k ≡ j → ⊥) → slice_get w.clients.items j ≡ Some d → (x : Cargo) → is_at m.was.holder x ≡ true → is_at d.holder x ≡ false

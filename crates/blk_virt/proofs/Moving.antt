@@ -3,17 +3,17 @@ use Rattle.std.proofs.Common.{◌≡◌, ◌⊎◌, inl, inr, ◌+◌, ◌&&◌,
 use Rattle.std.specs.List.{filter}
 use Rattle.std.specs.Option.{option_to_list}
 use Rattle.std.proofs.lemmas.List.{append-nil, map-append}
-use Rattle.cargo_core.specs.declared.item.PoolId.{PoolId}
 use Rattle.cargo_core.specs.Items.{kind_of}
 use Rattle.wire_core.specs.Deeds.{Cargo}
-use Rattle.turn_kit.proofs.Holding.{cargo-append}
 use Rattle.blk_mbr.specs.declared.part.Part.{Part}
+use Rattle.buffer_kit.specs.Conserving.{Count, weighed}
+use Rattle.buffer_kit.proofs.Conserving.{weighed-append}
 use Rattle.buffer_kit.proofs.ManyClients.{some_eq}
 use Rattle.blk_virt.specs.declared.client.Client.{Client}
 use Rattle.blk_virt.specs.declared.client.Current.{Current}
 use Rattle.blk_virt.specs.Requests.{goes_on, for_disk, numbered, number_of, refusal, passed_on, page_named, brings, is_at}
 use Rattle.blk_virt.specs.Serving.{answers_to, AllBring, unnumbered}
-use Rattle.blk_virt.specs.Clients.{IsClient, ClientStands, Moved, IsPending, IsOfPage, WentOff, carried, client_cargo, counted}
+use Rattle.blk_virt.specs.Clients.{IsClient, ClientStands, Moved, IsPending, IsOfPage, WentOff, client_cargo, counted}
 use Rattle.blk_virt.proofs.Serving.{filter_yes, filter_no, refused_more, answered_more, bring_more, own_page, numbered_disk}
 use Rattle.blk_virt.proofs.Judging.{at_disk, bad_more}
 
@@ -42,8 +42,8 @@ same_page None x y e h = h
 same_page (Some c) x y e h = ap page_named (sym e) ∙ h
 
 -- what it has, part by part
-pub parts : (pool : PoolId) (leaving held : Option Cargo) → carried pool (option_to_list leaving ++ option_to_list held) ≡ carried pool (option_to_list leaving) + carried pool (option_to_list held)
-parts pool leaving held = cargo-append pool (option_to_list leaving) (option_to_list held)
+pub parts : (f : Count) (leaving held : Option Cargo) → weighed f (option_to_list leaving ++ option_to_list held) ≡ weighed f (option_to_list leaving) + weighed f (option_to_list held)
+parts f leaving held = weighed-append f (option_to_list leaving) (option_to_list held)
 
 module _ (c : Client) (work : IsClient c) (part : Option Part) where
   -- a request came
@@ -92,11 +92,11 @@ module _ (c : Client) (work : IsClient c) (part : Option Part) where
         bad_many = bad_more c.holder c.bad cs x h.bad_many;
       }
 
-    empty_hand : (pool : PoolId) → carried pool (client_cargo c) ≡ 0
-    empty_hand pool =
-        let all = parts pool c.leaving c.held in
-        let a = ap (λ (o : Option Cargo). carried pool (option_to_list o)) no_leaving in
-        let b = ap (λ (o : Option Cargo). carried pool (option_to_list o)) idle.1 in
+    empty_hand : (f : Count) → weighed f (client_cargo c) ≡ 0
+    empty_hand f =
+        let all = parts f c.leaving c.held in
+        let a = ap (λ (o : Option Cargo). weighed f (option_to_list o)) no_leaving in
+        let b = ap (λ (o : Option Cargo). weighed f (option_to_list o)) idle.1 in
         omega (arith, all, a, b)
 
     pub accepted : goes_on c.holder part x ≡ true → Moved part c (record c { current = Some (record { id = number_of x; page = page_named x.1 }); leaving = Some (for_disk c.holder part x); bad = counted c.holder c.bad x }) (x ∷ []) [] [] []
@@ -111,10 +111,10 @@ module _ (c : Client) (work : IsClient c) (part : Option Part) where
       };
       holder = refl;
       stands = λ cs ss bs gs h. rw (append-nil ss, append-nil bs, append-nil gs) (accept_stands cs ss bs gs h goes);
-      held = λ pool.
-          let none = empty_hand pool in
-          let now = parts pool (Some (for_disk c.holder part x)) c.held in
-          let b = ap (λ (o : Option Cargo). carried pool (option_to_list o)) idle.1 in
+      held = λ f.
+          let none = empty_hand f in
+          let now = parts f (Some (for_disk c.holder part x)) c.held in
+          let b = ap (λ (o : Option Cargo). weighed f (option_to_list o)) idle.1 in
           omega (arith, none, now, b);
     }
 
@@ -130,10 +130,10 @@ module _ (c : Client) (work : IsClient c) (part : Option Part) where
       };
       holder = refl;
       stands = λ cs ss bs gs h. rw (append-nil ss, append-nil bs, append-nil gs) (refuse_stands cs ss bs gs h stops);
-      held = λ pool.
-          let none = empty_hand pool in
-          let now = parts pool c.leaving (Some (refusal c.holder part x)) in
-          let a = ap (λ (o : Option Cargo). carried pool (option_to_list o)) no_leaving in
+      held = λ f.
+          let none = empty_hand f in
+          let now = parts f c.leaving (Some (refusal c.holder part x)) in
+          let a = ap (λ (o : Option Cargo). weighed f (option_to_list o)) no_leaving in
           omega (arith, none, now, a);
     }
 
@@ -172,10 +172,10 @@ module _ (c : Client) (work : IsClient c) (part : Option Part) where
       };
       holder = refl;
       stands = λ cs ss bs gs h. rw (append-nil cs, append-nil ss, append-nil gs) (back_stands cs ss bs gs h);
-      held = λ pool.
-          let was = parts pool c.leaving c.held in
-          let now = parts pool c.leaving (Some (passed_on id y)) in
-          let a = ap (λ (o : Option Cargo). carried pool (option_to_list o)) no_held in
+      held = λ f.
+          let was = parts f c.leaving c.held in
+          let now = parts f c.leaving (Some (passed_on id y)) in
+          let a = ap (λ (o : Option Cargo). weighed f (option_to_list o)) no_held in
           omega (arith, was, now, a);
     }
 
@@ -207,10 +207,10 @@ module _ (c : Client) (work : IsClient c) (part : Option Part) where
         as_many = h.as_many;
         bad_many = h.bad_many;
       });
-      held = λ pool.
-          let was = parts pool c.leaving c.held in
-          let now = parts pool None c.held in
-          let a = ap (λ (o : Option Cargo). carried pool (option_to_list o)) at in
+      held = λ f.
+          let was = parts f c.leaving c.held in
+          let now = parts f None c.held in
+          let a = ap (λ (o : Option Cargo). weighed f (option_to_list o)) at in
           omega (arith, was, now, a);
     }
 
@@ -237,10 +237,10 @@ module _ (c : Client) (work : IsClient c) (part : Option Part) where
         as_many = h.as_many;
         bad_many = h.bad_many;
       });
-      held = λ pool.
-          let was = parts pool c.leaving c.held in
-          let now = parts pool (Some (numbered n l)) c.held in
-          let a = ap (λ (o : Option Cargo). carried pool (option_to_list o)) at in
+      held = λ f.
+          let was = parts f c.leaving c.held in
+          let now = parts f (Some (numbered n l)) c.held in
+          let a = ap (λ (o : Option Cargo). weighed f (option_to_list o)) at in
           omega (arith, was, now, a);
     }
 
@@ -271,10 +271,10 @@ module _ (c : Client) (work : IsClient c) (part : Option Part) where
             as_many = ap length same ∙ h.as_many;
             bad_many = h.bad_many;
           });
-      held = λ pool.
-          let was = parts pool c.leaving c.held in
-          let now = parts pool c.leaving None in
-          let b = ap (λ (o : Option Cargo). carried pool (option_to_list o)) at in
+      held = λ f.
+          let was = parts f c.leaving c.held in
+          let now = parts f c.leaving None in
+          let b = ap (λ (o : Option Cargo). weighed f (option_to_list o)) at in
           omega (arith, was, now, b);
     }
 
@@ -284,7 +284,7 @@ module _ (c : Client) (work : IsClient c) (part : Option Part) where
     work = work;
     holder = refl;
     stands = λ cs ss bs gs h. rw (append-nil cs, append-nil ss, append-nil bs, append-nil gs) h;
-    held = λ pool. refl;
+    held = λ f. refl;
   }
 
 -- a request is under way where one leaves

@@ -1,13 +1,16 @@
--- Whatever the virtualiser stands for meets its row.
+-- Whatever the virtualiser stands for meets its row, and says what is in its hand.
 use Rattle.std.proofs.Common.{◌≡◌, ◌+◌, ◌≤◌, ℕ, Option, Some, None, List, [], ◌∷◌, ◌++◌, length, drop, is_some, true, append_assoc, refl, sym, ap, ◌∙◌, subst, length-append, arith}
 use Rattle.std.specs.List.{filter}
 use Rattle.std.specs.Option.{option_to_list}
 use Rattle.std.proofs.lemmas.List.{append-nil, map-append, length-map}
 use Rattle.std.proofs.lemmas.Option.{slice_get_within}
 use Rattle.cargo_core.specs.Lists.{IsPrefix}
+use Rattle.cargo_core.specs.declared.item.Body.TheVariants as Carried
 use Rattle.wire_core.specs.Deeds.{Cargo}
 use Rattle.wire_core.specs.Lists.{Passed}
-use Rattle.buffer_kit.specs.Virtualising.{from_queues, to_queues}
+use Rattle.turn_kit.specs.Hands.{bodies_of, bodies_at}
+use Rattle.buffer_kit.specs.Virtualising.{from_queues, to_queues, virt_came, virt_went}
+use Rattle.buffer_kit.proofs.Conserving.{conserves_balances}
 use Rattle.blk_mbr.specs.declared.part.Part.{Part}
 use Rattle.blk_mbr.specs.Partitions.{part_of}
 use Rattle.buffer_kit.proofs.ManyClients.{queue_is, all_option, few_option}
@@ -21,7 +24,8 @@ use Rattle.blk_virt.specs.Requests.{numbered, is_bad}
 use Rattle.blk_virt.specs.Serving.{IsServed, AllBring, answers_to, own_of, own_back, unnumbered}
 use Rattle.blk_virt.specs.Clients.{ClientStands, IsClient, IsPending, capped}
 use Rattle.blk_virt.specs.Openings.{IsOutOfTurn, OpeningStands, KnowsParts, first_read, sector_of}
-use Rattle.blk_virt.specs.Virtualising.{BlkVirtStandsFor, BlkVirtRow, queue_at}
+use Rattle.blk_virt.specs.Works.{work_cargo}
+use Rattle.blk_virt.specs.Virtualising.{BlkVirtStandsFor, BlkVirtRow, BlkVirtBalances, queue_at}
 use Rattle.blk_virt.proofs.Serving.{answers_front, bring_front}
 
 pending_long : (h : Holder) (part : Option Part) (current : Option Current) (held : Option Cargo) (pending : List Cargo) → IsPending h part current pending → ((c : Current) → current ≡ Some c → held ≡ None) → length pending + length (option_to_list held) ≤ 1
@@ -81,3 +85,10 @@ row_of v passed h =
       waits = λ none k c q at atq. ap passed.taken (sym (queue_is (from_queues v.ends) k q atq)) ∙ h.stands.quiet none k (let m = length-map v.work.desk.clients.items (λ (x : Client). x.holder) in let low = slice_get_within v.work.desk.clients.items k c at in omega (arith, m, low));
       counts = λ k c q at atq. (d.clients k c at).bad_many ∙ ap (λ n. capped (length (filter (is_bad c.holder) (passed.taken n)))) (queue_is (from_queues v.ends) k q atq);
     }
+
+pub balance_of : (v : BlkVirt) (passed : Passed) → BlkVirtStandsFor v passed → BlkVirtBalances v passed
+balance_of v passed h = record {
+  start = h.start;
+  own = h.stands.is_start;
+  balances = conserves_balances (Carried.Page h.start ∷ []) (bodies_at passed.taken (virt_came v.ends)) (bodies_at passed.sent (virt_went v.ends)) (bodies_of (work_cargo v.work)) [] h.conserves;
+}

@@ -8,13 +8,14 @@ use Rattle.wire_core.specs.declared.names.Event.{Event}
 use Rattle.wire_core.specs.Deeds.{Cargo, put_of}
 use Rattle.wire_core.proofs.Places.{slice_get_written}
 use Rattle.blk_mbr.specs.declared.part.Part.{Part}
+use Rattle.buffer_kit.specs.Conserving.{weighed}
 use Rattle.buffer_kit.proofs.ManyClients.{some_eq}
 use Rattle.blk_virt.specs.declared.client.Client.{Client}
 use Rattle.blk_virt.specs.declared.desk.Desk.{Desk}
 use Rattle.blk_virt.specs.declared.opening.Block.{Block}
 use Rattle.blk_virt.specs.declared.work.Work.{Work}
 use Rattle.blk_virt.specs.Requests.{number_of}
-use Rattle.blk_virt.specs.Clients.{carried, is_away, is_leaving, is_held}
+use Rattle.blk_virt.specs.Clients.{is_away, is_leaving, is_held}
 use Rattle.blk_virt.specs.Openings.{OpeningStands, first_read, block_of, is_open, is_reading}
 use Rattle.blk_virt.specs.Desks.{IsDesk, DeskStands, OneMoved, IsRequestOf, IsStill, SentAs, desk_cargo, with_more}
 use Rattle.blk_virt.specs.Works.{IsWork, WorkStands, WorkIsStill, Sent, Gave}
@@ -74,16 +75,16 @@ module _ (w : Work) (work : IsWork w) where
     pub first_sent : Sent w (record w { opening = record w.opening { first = None }; number = 1 }) (x ∷ [])
     first_sent = record {
       stands = first_stands;
-      held = λ pool.
-          let was = work_parts pool w.opening.first w.opening.block (desk_cargo w.desk) w.stray in
-          let now = work_parts pool None w.opening.block (desk_cargo w.desk) w.stray in
-          let f = ap (λ (o : Option Cargo). carried pool (option_to_list o)) is in
-          omega (arith, was, now, f);
+      held = λ f.
+          let was = work_parts f w.opening.first w.opening.block (desk_cargo w.desk) w.stray in
+          let now = work_parts f None w.opening.block (desk_cargo w.desk) w.stray in
+          let one = ap (λ (o : Option Cargo). weighed f (option_to_list o)) is in
+          omega (arith, was, now, one);
     }
 
   -- nothing went
   pub nothing_sent : Sent w w []
-  nothing_sent = record { stands = λ start back ss came gave h. rw (append-nil ss) h; held = λ pool. omega arith }
+  nothing_sent = record { stands = λ start back ss came gave h. rw (append-nil ss) h; held = λ f. omega arith }
 
   module _ (is_opened : is_open w.opening ≡ true) (d : Desk) (k : ℕ) (c : Client) (at : slice_get w.desk.clients.items k ≡ Some c) (leaves : is_leaving c ≡ true) where
     -- a client's request went
@@ -118,10 +119,10 @@ module _ (w : Work) (work : IsWork w) where
       pub goes_sent : Sent w (record w { desk = d; number = (w.number + 1) % 2 ^ 32 }) (x ∷ [])
       goes_sent = record {
         stands = goes_stands;
-        held = λ pool.
-            let was = work_parts pool w.opening.first w.opening.block (desk_cargo w.desk) w.stray in
-            let now = work_parts pool w.opening.first w.opening.block (desk_cargo d) w.stray in
-            let m = moved_held w.desk d work.desk k None [] (x ∷ []) [] [] (moves None) pool in
+        held = λ f.
+            let was = work_parts f w.opening.first w.opening.block (desk_cargo w.desk) w.stray in
+            let now = work_parts f w.opening.first w.opening.block (desk_cargo d) w.stray in
+            let m = moved_held w.desk d work.desk k None [] (x ∷ []) [] [] (moves None) f in
             omega (arith, was, now, m);
       }
 
@@ -143,10 +144,10 @@ module _ (w : Work) (work : IsWork w) where
           numbered = h.numbered;
           number = h.number;
         });
-        held = λ pool.
-            let was = work_parts pool w.opening.first w.opening.block (desk_cargo w.desk) w.stray in
-            let now = work_parts pool w.opening.first w.opening.block (desk_cargo d) w.stray in
-            let m = moved_held w.desk d work.desk k None [] [] [] [] (moves None) pool in
+        held = λ f.
+            let was = work_parts f w.opening.first w.opening.block (desk_cargo w.desk) w.stray in
+            let now = work_parts f w.opening.first w.opening.block (desk_cargo d) w.stray in
+            let m = moved_held w.desk d work.desk k None [] [] [] [] (moves None) f in
             omega (arith, was, now, m);
       }
 
@@ -167,10 +168,10 @@ module _ (w : Work) (work : IsWork w) where
         numbered = h.numbered;
         number = h.number;
       };
-      held = λ pool.
-          let was = work_parts pool w.opening.first w.opening.block (desk_cargo w.desk) w.stray in
-          let now = work_parts pool w.opening.first w.opening.block (desk_cargo d) w.stray in
-          let m = moved_held w.desk d work.desk k None [] [] [] given (moves None) pool in
+      held = λ f.
+          let was = work_parts f w.opening.first w.opening.block (desk_cargo w.desk) w.stray in
+          let now = work_parts f w.opening.first w.opening.block (desk_cargo d) w.stray in
+          let m = moved_held w.desk d work.desk k None [] [] [] given (moves None) f in
           omega (arith, was, now, m);
     }
 

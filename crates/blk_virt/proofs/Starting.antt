@@ -2,8 +2,6 @@
 use Rattle.std.proofs.Common.{◌≡◌, ◌+◌, ◌<◌, ◌≤◌, ℕ, zero, suc, Option, Some, None, List, [], ◌∷◌, length, map, flat_map, ◌*◌, ◌^◌, slice_get, refl, sym, ap, ◌∙◌, subst, arith}
 use Rattle.std.specs.Option.{option_to_list}
 use Rattle.std.proofs.lemmas.List.{length-map}
-use Rattle.cargo_core.specs.declared.item.PoolId.{PoolId}
-use Rattle.cargo_core.specs.Bodies.{buffers_of}
 use Rattle.cargo_core.specs.Pages.{Paged}
 use Rattle.cargo_core.specs.Ranges.{AreRanges}
 use Rattle.wire_core.specs.declared.names.QueueId.{QueueId}
@@ -15,10 +13,11 @@ use Rattle.blk_virt.specs.declared.client.Client.{Client}
 use Rattle.blk_virt.specs.declared.virtualiser.BlkEnds.{BlkEnds}
 use Rattle.blk_virt.specs.declared.work.Work.{Work}
 use Rattle.blk_virt.specs.Requests.{range_of}
-use Rattle.blk_virt.specs.Clients.{IsClient, ClientStands, carried, client_cargo}
+use Rattle.blk_virt.specs.Clients.{IsClient, ClientStands, client_cargo}
 use Rattle.blk_virt.specs.Openings.{OpeningStands, first_read, block_cargo}
 use Rattle.blk_virt.specs.declared.opening.Block.{Block}
 use Rattle.cargo_core.specs.Items.{kind_of}
+use Rattle.buffer_kit.specs.Conserving.{Count, counted, weighed}
 use Rattle.buffer_kit.proofs.ManyClients.{some_eq}
 use Rattle.blk_virt.specs.Desks.{IsDesk, DeskStands, AreOf, desk_cargo, away_at, away_many}
 use Rattle.blk_virt.specs.Works.{IsWork, WorkStands}
@@ -54,9 +53,9 @@ ranges_are : (es : List BlkEnds) → map range_of (map (λ (c : Client). c.holde
 ranges_are [] = refl
 ranges_are (e ∷ es) = ap (λ l. range_of (new_client e).holder ∷ l) (ranges_are es)
 
-no_cargo : (pool : PoolId) (es : List BlkEnds) → carried pool (flat_map client_cargo (map new_client es)) ≡ 0
-no_cargo pool [] = refl
-no_cargo pool (e ∷ es) = no_cargo pool es
+no_cargo : (c : Count) (es : List BlkEnds) → weighed c (flat_map client_cargo (map new_client es)) ≡ 0
+no_cargo c [] = refl
+no_cargo c (e ∷ es) = no_cargo c es
 
 module _ (es : List BlkEnds) (are : AreClients es) (w : Work) (page : Paged) (clients : w.desk.clients.items ≡ map new_client es) (line : w.desk.line.shown ≡ []) (room : length es ≤ w.desk.line.room)
     (own : w.opening.own ≡ record { pool = page.pool; no = page.no }) (first : w.opening.first ≡ Some (first_read w.opening.base page)) (block : w.opening.block ≡ None) (number : w.number ≡ 0) (stray : w.stray ≡ None) where
@@ -111,9 +110,9 @@ module _ (es : List BlkEnds) (are : AreClients es) (w : Work) (page : Paged) (cl
     number = number;
   }
 
-  nothing_at : (pool : PoolId) (ns : List ℕ) → buffers_of pool (bodies_at (λ n. []) ns) ≡ 0
-  nothing_at pool [] = refl
-  nothing_at pool (n ∷ ns) = nothing_at pool ns
+  nothing_at : (c : Count) (ns : List ℕ) → counted c (bodies_at (λ n. []) ns) ≡ 0
+  nothing_at c [] = refl
+  nothing_at c (n ∷ ns) = nothing_at c ns
 
   pub new_virt : 4096 ≤ length page.bytes → (i o : ℕ) (f t : List QueueId) → VirtStands i o f t w nothing_passed
   new_virt long i o f t = record {
@@ -124,13 +123,13 @@ module _ (es : List BlkEnds) (are : AreClients es) (w : Work) (page : Paged) (cl
     taken = ap option_to_list (sym stray);
     stands = new_stands;
     stray = λ y is. let no : None ≡ Some y = sym stray ∙ is in absurd cc;
-    balances = λ pool.
-        let came = nothing_at pool (i ∷ map (λ q. q.0) f) in
-        let went = nothing_at pool (o ∷ map (λ q. q.0) t) in
-        let hand = work_parts pool w.opening.first w.opening.block (desk_cargo w.desk) w.stray in
-        let a = ap (λ (x : Option Cargo). carried pool (option_to_list x)) first in
-        let b = ap (λ (x : Option Block). carried pool (block_cargo x)) block in
-        let d = ap (λ cs. carried pool (flat_map client_cargo cs)) clients ∙ no_cargo pool es in
-        let s = ap (λ (x : Option Cargo). carried pool (option_to_list x)) stray in
+    conserves = λ c.
+        let came = nothing_at c (i ∷ map (λ q. q.0) f) in
+        let went = nothing_at c (o ∷ map (λ q. q.0) t) in
+        let hand = work_parts c w.opening.first w.opening.block (desk_cargo w.desk) w.stray in
+        let a = ap (λ (x : Option Cargo). weighed c (option_to_list x)) first in
+        let b = ap (λ (x : Option Block). weighed c (block_cargo x)) block in
+        let d = ap (λ cs. weighed c (flat_map client_cargo cs)) clients ∙ no_cargo c es in
+        let s = ap (λ (x : Option Cargo). weighed c (option_to_list x)) stray in
         omega (arith, came, went, hand, a, b, d, s);
   }

@@ -4,9 +4,7 @@ use Rattle.std.specs.Option.{option_to_list}
 use Rattle.std.proofs.lemmas.Bool.{cases_eq}
 use Rattle.std.proofs.lemmas.Option.{slice_get_within}
 use Rattle.std.proofs.lemmas.List.{append-nil, length-map}
-use Rattle.cargo_core.specs.declared.item.PoolId.{PoolId}
 use Rattle.cargo_core.specs.declared.item.Body.TheVariants as Carried
-use Rattle.cargo_core.specs.Bodies.{buffers_of, buffers_in}
 use Rattle.cargo_core.specs.Pages.{Paged}
 use Rattle.wire_core.specs.declared.names.QueueId.{QueueId}
 use Rattle.wire_core.specs.declared.names.Event.{Event}
@@ -15,17 +13,16 @@ use Rattle.wire_core.specs.Lists.{Lists, Passed, with, if_there}
 use Rattle.wire_core.proofs.Places.{if_there_here}
 use Rattle.turn_kit.specs.Hands.{bodies_of, bodies_at}
 use Rattle.turn_kit.specs.ManyEnds.{AreApart}
-use Rattle.turn_kit.proofs.Holding.{cargo-cons}
 use Rattle.buffer_kit.specs.declared.virt_ends.VirtEnds.{VirtEnds}
+use Rattle.buffer_kit.specs.Conserving.{Count, weight, counted, weighed}
 use Rattle.buffer_kit.specs.Virtualising.{SameVirt, from_queues, to_queues}
-use Rattle.buffer_kit.proofs.Passing.{none_more, beside, count_more, first_more, later_more}
+use Rattle.buffer_kit.proofs.Passing.{none_more, beside, counted_more, counted_first, counted_later}
 use Rattle.blk_mbr.specs.declared.part.Part.{Part}
 use Rattle.buffer_kit.proofs.ManyClients.{some_eq, nothing, queue_there, at_client}
 use Rattle.blk_virt.specs.declared.client.Client.{Client}
 use Rattle.blk_virt.specs.declared.desk.Desk.{Desk}
 use Rattle.blk_virt.specs.declared.work.Work.{Work}
 use Rattle.blk_virt.specs.Serving.{own_of, own_back}
-use Rattle.blk_virt.specs.Clients.{carried}
 use Rattle.blk_virt.specs.Openings.{IsOutOfTurn}
 use Rattle.blk_virt.specs.Desks.{DeskStands, holders, with_more}
 use Rattle.blk_virt.specs.Works.{IsWork, SameWork, WorkStands, Received, work_cargo}
@@ -73,7 +70,7 @@ moved e e' same w passed h =
 
 -- whatever was called
 with_calls : (i o : ℕ) (f t : List QueueId) (w : Work) (passed : Passed) (calls : List Event) → VirtStands i o f t w passed → VirtStands i o f t w (record passed { calls = calls })
-with_calls i o f t w passed calls h = record { work = h.work; start = h.start; long = h.long; back = h.back; taken = h.taken; stands = h.stands; stray = h.stray; balances = h.balances }
+with_calls i o f t w passed calls h = record { work = h.work; start = h.start; long = h.long; back = h.back; taken = h.taken; stands = h.stands; stray = h.stray; conserves = h.conserves }
 
 -- where nothing moved, all stays
 pub still : (i o : ℕ) (f t : List QueueId) (w : Work) (passed : Passed) (took put : Lists) (calls : List Event) → ((n : ℕ) → took n ≡ []) → ((n : ℕ) → put n ≡ []) → VirtStands i o f t w passed → VirtStands i o f t w (record { taken = with passed.taken took; sent = with passed.sent put; calls = calls })
@@ -90,15 +87,14 @@ module _ (i o : ℕ) (f t : List QueueId) (w w' : Work) (same : SameWork w w') (
   as_many = ap length same.clients
 
   -- an entry came
-  module _ (x : Cargo) (free : w.stray ≡ None) (puts : (n : ℕ) → put n ≡ []) (held : (pool : PoolId) → carried pool (work_cargo w') ≡ carried pool (work_cargo w) + buffers_in pool x.1) where
-    balance_in : (pool : PoolId) → buffers_of pool (bodies_at took (i ∷ map (λ q. q.0) f)) ≡ buffers_of pool (bodies_of (x ∷ [])) → buffers_of pool (Carried.Page h.start ∷ []) + buffers_of pool (bodies_at (with passed.taken took) (i ∷ map (λ q. q.0) f)) ≡ buffers_of pool (bodies_at (with passed.sent put) (o ∷ map (λ q. q.0) t)) + (buffers_of pool (bodies_of (work_cargo w')) + buffers_of pool [])
-    balance_in pool one =
-        let more = count_more pool passed.taken took (i ∷ map (λ q. q.0) f) in
-        let none = ap (λ (l : Lists). buffers_of pool (bodies_at l (o ∷ map (λ q. q.0) t))) (none_more passed.sent put puts) in
-        let body = cargo-cons pool x [] in
-        let was = h.balances pool in
-        let hand = held pool in
-        omega (arith, more, none, one, body, was, hand)
+  module _ (x : Cargo) (free : w.stray ≡ None) (puts : (n : ℕ) → put n ≡ []) (held : (c : Count) → weighed c (work_cargo w') ≡ weighed c (work_cargo w) + weight c x.1) where
+    balance_in : (c : Count) → counted c (bodies_at took (i ∷ map (λ q. q.0) f)) ≡ weighed c (x ∷ []) → counted c (Carried.Page h.start ∷ []) + counted c (bodies_at (with passed.taken took) (i ∷ map (λ q. q.0) f)) ≡ counted c (bodies_at (with passed.sent put) (o ∷ map (λ q. q.0) t)) + (weighed c (work_cargo w') + counted c [])
+    balance_in c one =
+        let more = counted_more c passed.taken took (i ∷ map (λ q. q.0) f) in
+        let none = ap (λ (l : Lists). counted c (bodies_at l (o ∷ map (λ q. q.0) t))) (none_more passed.sent put puts) in
+        let was = h.conserves c in
+        let hand = held c in
+        omega (arith, more, none, one, was, hand)
 
     -- a response
     pub response_in : ((k : ℕ) (q : QueueId) → slice_get f k ≡ Some q → i ≡ q.0 → ⊥) → length f ≡ length (holders w.desk) → ((n : ℕ) → took n ≡ if_there (i == n) (x ∷ [])) → Received w w' x h.start h.back (λ k. passed.taken (queue_at f k)) (passed.sent o) (λ k. passed.sent (queue_at t k)) → VirtStands i o f t w' after
@@ -125,7 +121,7 @@ module _ (i o : ℕ) (f t : List QueueId) (w w' : Work) (same : SameWork w w') (
           taken = ap (λ (l : List Cargo). l ++ took i) all_back ∙ (ap (λ l. h.back ++ l) here ∙ (sym (append-nil (h.back ++ x ∷ [])) ∙ ap (λ (s : Option Cargo). (h.back ++ x ∷ []) ++ option_to_list s) (sym (r.0 ∙ free))));
           stands = as_work w' h.start (h.back ++ x ∷ []) (λ k. passed.taken (queue_at f k)) (λ k. passed.sent (queue_at t k)) (λ k. passed.taken (queue_at f k) ++ took (queue_at f k)) (λ k. passed.sent (queue_at t k) ++ put (queue_at t k)) (passed.sent o) (passed.sent o ++ put o) others (none_on passed.sent put o (puts o)) sents r.1;
           stray = λ y is. let e : None ≡ Some y = sym (r.0 ∙ free) ∙ is in absurd cc;
-          balances = λ pool. balance_in pool (first_more pool took (x ∷ []) i f apart takes);
+          conserves = λ c. balance_in c (counted_first c took (x ∷ []) i f apart takes);
         }
         by (inr r) = record {
           work = fits;
@@ -138,7 +134,7 @@ module _ (i o : ℕ) (f t : List QueueId) (w w' : Work) (same : SameWork w w') (
           stray = λ y is.
               let e : x ≡ y = some_eq (sym (ap (λ (v : Work). v.stray) r.1) ∙ is) in
               subst (λ l. IsOutOfTurn l h.back y) (sym (none_on passed.sent put o (puts o))) (subst (λ z. IsOutOfTurn (passed.sent o) h.back z) e r.0);
-          balances = λ pool. balance_in pool (first_more pool took (x ∷ []) i f apart takes);
+          conserves = λ c. balance_in c (counted_first c took (x ∷ []) i f apart takes);
         }
 
     -- a request of client k
@@ -154,17 +150,17 @@ module _ (i o : ℕ) (f t : List QueueId) (w w' : Work) (same : SameWork w w') (
           (λ j low. ap (λ c. passed.taken (queue_at f j) ++ c) (at_client f k q at apart took (x ∷ []) takes j (let m = as_many in omega (arith, m, from_each, low)) (cases_eq k j)))
           (none_on passed.sent put o (puts o)) (λ j low. none_on passed.sent put (queue_at t j) (puts (queue_at t j))) stands;
       stray = λ y is. let e : None ≡ Some y = sym (stray ∙ free) ∙ is in absurd cc;
-      balances = λ pool. balance_in pool (later_more pool took (x ∷ []) i f k q at apart ne takes);
+      conserves = λ c. balance_in c (counted_later c took (x ∷ []) i f k q at apart ne takes);
     }
 
   -- entries went
-  module _ (p : List Cargo) (takes : (n : ℕ) → took n ≡ []) (free : w.stray ≡ None) (stray : w'.stray ≡ w.stray) (held : (pool : PoolId) → carried pool (work_cargo w) ≡ carried pool p + carried pool (work_cargo w')) where
-    balance_out : (pool : PoolId) → buffers_of pool (bodies_at put (o ∷ map (λ q. q.0) t)) ≡ buffers_of pool (bodies_of p) → buffers_of pool (Carried.Page h.start ∷ []) + buffers_of pool (bodies_at (with passed.taken took) (i ∷ map (λ q. q.0) f)) ≡ buffers_of pool (bodies_at (with passed.sent put) (o ∷ map (λ q. q.0) t)) + (buffers_of pool (bodies_of (work_cargo w')) + buffers_of pool [])
-    balance_out pool one =
-        let more = count_more pool passed.sent put (o ∷ map (λ q. q.0) t) in
-        let none = ap (λ (l : Lists). buffers_of pool (bodies_at l (i ∷ map (λ q. q.0) f))) (none_more passed.taken took takes) in
-        let was = h.balances pool in
-        let hand = held pool in
+  module _ (p : List Cargo) (takes : (n : ℕ) → took n ≡ []) (free : w.stray ≡ None) (stray : w'.stray ≡ w.stray) (held : (c : Count) → weighed c (work_cargo w) ≡ weighed c p + weighed c (work_cargo w')) where
+    balance_out : (c : Count) → counted c (bodies_at put (o ∷ map (λ q. q.0) t)) ≡ weighed c p → counted c (Carried.Page h.start ∷ []) + counted c (bodies_at (with passed.taken took) (i ∷ map (λ q. q.0) f)) ≡ counted c (bodies_at (with passed.sent put) (o ∷ map (λ q. q.0) t)) + (weighed c (work_cargo w') + counted c [])
+    balance_out c one =
+        let more = counted_more c passed.sent put (o ∷ map (λ q. q.0) t) in
+        let none = ap (λ (l : Lists). counted c (bodies_at l (i ∷ map (λ q. q.0) f))) (none_more passed.taken took takes) in
+        let was = h.conserves c in
+        let hand = held c in
         omega (arith, more, none, one, was, hand)
 
     taken_still : passed.taken i ++ took i ≡ h.back ++ option_to_list w'.stray
@@ -186,7 +182,7 @@ module _ (i o : ℕ) (f t : List QueueId) (w w' : Work) (same : SameWork w w') (
           (λ j low. none_on passed.sent put (queue_at t j) (puts (queue_at t j) ∙ beside o (queue_at t j) p (apart j (slice_index_or t j (record { 0 = 0 })) (queue_there t j (let m = as_many in omega (arith, m, to_each, low))))))
           (stands h.start h.back (passed.sent o) (λ j. passed.taken (queue_at f j)) (λ j. passed.sent (queue_at t j)) h.stands);
       stray = none_strays;
-      balances = λ pool. balance_out pool (first_more pool put p o t apart puts);
+      conserves = λ c. balance_out c (counted_first c put p o t apart puts);
     }
 
     -- to client k
@@ -202,7 +198,7 @@ module _ (i o : ℕ) (f t : List QueueId) (w w' : Work) (same : SameWork w w') (
           (λ j low. ap (λ c. passed.sent (queue_at t j) ++ c) (at_client t k q at apart put p puts j (let m = as_many in omega (arith, m, to_each, low)) (cases_eq k j)))
           (stands h.start h.back (passed.sent o) (λ j. passed.taken (queue_at f j)) (λ j. passed.sent (queue_at t j)) h.stands);
       stray = none_strays;
-      balances = λ pool. balance_out pool (later_more pool put p o t k q at apart ne puts);
+      conserves = λ c. balance_out c (counted_later c put p o t k q at apart ne puts);
     }
 
 -- nothing strayed where something was needed

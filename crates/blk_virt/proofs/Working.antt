@@ -2,13 +2,13 @@
 use Rattle.std.proofs.Common.{◌≡◌, ◌+◌, ◌==◌, ◌&&◌, ℕ, Bool, true, false, is_some, is_none, Option, Some, None, List, [], ◌∷◌, ◌++◌, length, drop, slice_get, refl, sym, ap, ◌∙◌, subst, arith}
 use Rattle.std.specs.Option.{option_to_list}
 use Rattle.std.proofs.lemmas.List.{append-nil}
-use Rattle.cargo_core.specs.declared.item.PoolId.{PoolId}
 use Rattle.cargo_core.specs.Pages.{Paged}
 use Rattle.wire_core.specs.Deeds.{Cargo}
 use Rattle.wire_core.specs.Lists.{if_there}
-use Rattle.turn_kit.proofs.Holding.{cargo-append}
 use Rattle.blk_mbr.specs.declared.part.Part.{Part}
 use Rattle.blk_mbr.specs.Partitions.{part_of}
+use Rattle.buffer_kit.specs.Conserving.{Count, weighed}
+use Rattle.buffer_kit.proofs.Conserving.{weighed-append}
 use Rattle.buffer_kit.proofs.ManyClients.{some_eq}
 use Rattle.blk_virt.specs.declared.client.Client.{Client}
 use Rattle.blk_virt.specs.declared.client.Current.{Current}
@@ -17,7 +17,7 @@ use Rattle.blk_virt.specs.declared.opening.Block.{Block}
 use Rattle.blk_virt.specs.declared.requests.PageName.{PageName}
 use Rattle.blk_virt.specs.declared.work.Work.{Work}
 use Rattle.blk_virt.specs.Requests.{brings}
-use Rattle.blk_virt.specs.Clients.{carried, is_away, is_idle, brought}
+use Rattle.blk_virt.specs.Clients.{is_away, is_idle, brought}
 use Rattle.blk_virt.specs.Openings.{OpeningStands, KnowsParts, IsOutOfTurn, IsLate, first_read, has_sector, sector_of, block_of, block_cargo, is_first, is_open}
 use Rattle.blk_virt.specs.Desks.{DeskStands, OneMoved, AreOf, due_for, brought_in, is_due, with_more}
 use Rattle.blk_virt.specs.Works.{IsWork, WorkStands}
@@ -25,11 +25,11 @@ use Rattle.blk_virt.proofs.Desking.{first_is}
 use Rattle.blk_virt.proofs.Answering.{same_holders, stays, answers}
 
 -- the parts of the hand
-pub work_parts : (pool : PoolId) (first : Option Cargo) (block : Option Block) (desk : List Cargo) (stray : Option Cargo) → carried pool (option_to_list first ++ (block_cargo block ++ (desk ++ option_to_list stray))) ≡ carried pool (option_to_list first) + (carried pool (block_cargo block) + (carried pool desk + carried pool (option_to_list stray)))
-work_parts pool first block desk stray =
-    let a = cargo-append pool (option_to_list first) (block_cargo block ++ (desk ++ option_to_list stray)) in
-    let b = cargo-append pool (block_cargo block) (desk ++ option_to_list stray) in
-    let d = cargo-append pool desk (option_to_list stray) in
+pub work_parts : (f : Count) (first : Option Cargo) (block : Option Block) (desk : List Cargo) (stray : Option Cargo) → weighed f (option_to_list first ++ (block_cargo block ++ (desk ++ option_to_list stray))) ≡ weighed f (option_to_list first) + (weighed f (block_cargo block) + (weighed f desk + weighed f (option_to_list stray)))
+work_parts f first block desk stray =
+    let a = weighed-append f (option_to_list first) (block_cargo block ++ (desk ++ option_to_list stray)) in
+    let b = weighed-append f (block_cargo block) (desk ++ option_to_list stray) in
+    let d = weighed-append f desk (option_to_list stray) in
     omega (arith, a, b, d)
 
 pub none_lists : (lists : ℕ → List Cargo) (k : ℕ) → with_more lists k [] ≡ lists

@@ -6,11 +6,11 @@ use Rattle.std.specs.List.{filter}
 use Rattle.std.specs.Option.{option_map, option_to_list}
 use Rattle.cargo_core.specs.Blocks.{blk_buffer_bytes}
 use Rattle.cargo_core.specs.declared.item.Body.{Body}
-use Rattle.cargo_core.specs.declared.item.PoolId.{PoolId}
 use Rattle.cargo_core.specs.declared.item.QueueKind.TheVariants as Kind
 use Rattle.cargo_core.specs.Items.{kind_of}
 use Rattle.wire_core.specs.Deeds.{Cargo}
 use Rattle.blk_mbr.specs.declared.part.Part.{Part}
+use Rattle.buffer_kit.specs.Conserving.{Count, weighed}
 use Rattle.blk_virt.specs.declared.client.Client.{Client}
 use Rattle.blk_virt.specs.declared.client.Current.{Current}
 use Rattle.blk_virt.specs.declared.requests.Holder.{Holder}
@@ -105,9 +105,8 @@ pub record Moved (part : Option Part) (old new : Client) (came sent back gave : 
   pub holder : new.holder ≡ old.holder
   pub stands : (cs ss bs gs : List Cargo) → ClientStands old part cs ss bs gs
       → ClientStands new part (cs ++ came) (ss ++ sent) (bs ++ back) (gs ++ gave)
-  pub held : (pool : PoolId)
-      → carried pool (client_cargo old) + (carried pool came + carried pool back)
-      ≡ carried pool (client_cargo new) + (carried pool sent + carried pool gave)
+  pub held : (f : Count) → weighed f (client_cargo old) + (weighed f came + weighed f back)
+      ≡ weighed f (client_cargo new) + (weighed f sent + weighed f gave)
 
 -- a client at the start
 pub record IsFresh (c : Client) : Type 0 where

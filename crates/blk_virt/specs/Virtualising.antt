@@ -14,6 +14,7 @@ use Rattle.wire_core.specs.Lists.{Passed}
 use Rattle.wire_core.specs.Ends.{Role, End}
 use Rattle.turn_kit.specs.Turns.{Round}
 use Rattle.turn_kit.specs.Hands.{Balances, bodies_of, bodies_at}
+use Rattle.buffer_kit.specs.Conserving.{Conserves}
 use Rattle.buffer_kit.specs.Virtualising.{SameVirt, IsNewVirt, VirtForgot, VirtOwns, virt_round}
 use Rattle.buffer_kit.specs.Virtualising.{virt_came, virt_went, from_queues, to_queues}
 use Rattle.blk_mbr.specs.declared.part.Part.{Part}
@@ -40,7 +41,7 @@ pub record FitsBlkVirt (ends : Role → ℕ → End) (v : BlkVirt) : Type 0 wher
 
 -- what it took of responses is what came in turn and at most one, which came last and out of turn;
 -- it stands for what came in turn and what it put; its own buffer has room for a block; and what it
--- had at the start and what came is what went and what is in its hand
+-- had at the start and what came is, buffer by buffer, what went and what is in its hand
 pub record VirtStands (input output : ℕ) (from_clients to_clients : List QueueId) (w : Work)
     (passed : Passed) : Type 0 where
   pub work : IsWork w
@@ -51,7 +52,7 @@ pub record VirtStands (input output : ℕ) (from_clients to_clients : List Queue
   pub stands : WorkStands w start back (λ k. passed.taken (queue_at from_clients k))
       (passed.sent output) (λ k. passed.sent (queue_at to_clients k))
   pub stray : (y : Cargo) → w.stray ≡ Some y → IsOutOfTurn (passed.sent output) back y
-  pub balances : Balances (Carried.Page start ∷ [])
+  pub conserves : Conserves (Carried.Page start ∷ [])
       (bodies_at passed.taken (input ∷ map (λ q. q.0) from_clients))
       (bodies_at passed.sent (output ∷ map (λ q. q.0) to_clients)) (bodies_of (work_cargo w)) []
 

@@ -2,16 +2,15 @@
 use Rattle.std.specs.Prelude.{◌≡◌, ◌⊎◌, ◌+◌, ◌<◌, ◌^◌, ◌%◌, ◌&&◌, ◌||◌, ℕ, Bool, is_none, Option}
 use Rattle.std.specs.Prelude.{Some, List, [], ◌∷◌, ◌++◌, length, drop, slice_get}
 use Rattle.std.specs.Option.{option_to_list}
-use Rattle.cargo_core.specs.declared.item.PoolId.{PoolId}
 use Rattle.cargo_core.specs.declared.item.QueueKind.TheVariants as Kind
 use Rattle.cargo_core.specs.Items.{kind_of}
 use Rattle.cargo_core.specs.Pages.{Paged}
 use Rattle.wire_core.specs.Deeds.{Cargo}
 use Rattle.blk_mbr.specs.declared.part.Part.{Part}
+use Rattle.buffer_kit.specs.Conserving.{Count, weighed}
 use Rattle.blk_virt.specs.declared.opening.Block.{Block}
 use Rattle.blk_virt.specs.declared.work.Work.{Work}
 use Rattle.blk_virt.specs.Requests.{number_of}
-use Rattle.blk_virt.specs.Clients.{carried}
 use Rattle.blk_virt.specs.Openings.{OpeningStands, KnowsParts, IsOutOfTurn, block_cargo, block_of}
 use Rattle.blk_virt.specs.Openings.{is_open, is_reading}
 use Rattle.blk_virt.specs.Desks.{IsDesk, DeskStands, desk_cargo, holders, needs_at, loaded_at, owes}
@@ -81,13 +80,13 @@ pub record WorkIsStill (old new : Work) : Type 0 where
 pub record Sent (old new : Work) (sent : List Cargo) : Type 0 where
   pub stands : (start : Paged) (back ss : List Cargo) (came gave : ℕ → List Cargo)
       → WorkStands old start back came ss gave → WorkStands new start back came (ss ++ sent) gave
-  pub held : (pool : PoolId) → carried pool (work_cargo old)
-      ≡ carried pool sent + carried pool (work_cargo new)
+  pub held : (f : Count) → weighed f (work_cargo old)
+      ≡ weighed f sent + weighed f (work_cargo new)
 
 -- so much more went to the client at place k
 pub record Gave (old new : Work) (k : ℕ) (given : List Cargo) : Type 0 where
   pub stands : (start : Paged) (back ss : List Cargo) (came gave : ℕ → List Cargo)
       → WorkStands old start back came ss gave
       → WorkStands new start back came ss (with_more gave k given)
-  pub held : (pool : PoolId) → carried pool (work_cargo old)
-      ≡ carried pool given + carried pool (work_cargo new)
+  pub held : (f : Count) → weighed f (work_cargo old)
+      ≡ weighed f given + weighed f (work_cargo new)

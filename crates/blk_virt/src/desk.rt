@@ -3,13 +3,12 @@ ghost use Rattle.std.specs.Prelude.{◌≡◌, ◌+◌, ◌-◌, ◌*◌, ◌<�
 ghost use Rattle.std.specs.Prelude.{List, Option, Some, None, true, false, is_some, length};
 ghost use Rattle.std.specs.Prelude.{slice_get, IfOk};
 ghost use Rattle.std.specs.Option.{ForSome, MatchOption, option_map, option_to_list};
-ghost use Rattle.cargo_core.specs.declared.item.PoolId.{PoolId};
-ghost use Rattle.cargo_core.specs.Bodies.{buffers_in};
 ghost use Rattle.wire_core.specs.Deeds.{Cargo, deed_of, put_of};
 ghost use Rattle.wire_core.specs.Lists.{taken_by, put_by, if_there};
 ghost use Rattle.wire_core.specs.Ends.{role_of};
 ghost use Rattle.wire_core.specs.Marks.{is_mark};
 ghost use Rattle.turn_kit.specs.Turns.{PostedAt};
+ghost use Rattle.buffer_kit.specs.Conserving.{Count, weighed};
 ghost use Rattle.buffer_kit.specs.Virtualising.{VirtOwns, SameVirt, from_queues, to_queues};
 ghost use Rattle.buffer_kit.specs.Virtualising.{virt_posts};
 ghost use Rattle.blk_mbr.specs.declared.part.Part.{Part};
@@ -223,16 +222,16 @@ impl Desk {
 }
 
 /// Where a client is served further, what is kept of all goes on to fit together, each buffer that
-/// came went or is in hand, and all clients stand for so much more.
+/// came went or is in hand, with its number and its length, and all clients stand for so much more.
 pub fn serve_law()
     ensures kept { (old new : Desk) (k : ℕ) (part : Option Part)
         (came sent back gave : List Cargo) → IsDesk old
         → OneMoved old new k part came sent back gave → IsDesk new }
     ensures held { (old new : Desk) (k : ℕ) (part : Option Part)
         (came sent back gave : List Cargo) → IsDesk old
-        → OneMoved old new k part came sent back gave → (pool : PoolId)
-        → carried pool (desk_cargo old) + (carried pool came + carried pool back)
-        ≡ carried pool (desk_cargo new) + (carried pool sent + carried pool gave) }
+        → OneMoved old new k part came sent back gave → (f : Count)
+        → weighed f (desk_cargo old) + (weighed f came + weighed f back)
+        ≡ weighed f (desk_cargo new) + (weighed f sent + weighed f gave) }
     ensures stays { (old new : Desk) (k : ℕ) (part : Option Part) (came gave : List Cargo)
         → IsDesk old → (m : OneMoved old new k part came [] [] gave)
         → is_away m.was ≡ false → new.line.shown ≡ old.line.shown → (parts : ℕ → Option Part)

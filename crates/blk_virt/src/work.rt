@@ -2,14 +2,13 @@
 ghost use Rattle.std.specs.Prelude.{◌≡◌, ◌+◌, ◌-◌, ◌<◌, ◌^◌, ◌++◌, ◌∷◌, ◌==◌, ◌&&◌, [], ℕ, List};
 ghost use Rattle.std.specs.Prelude.{None, Some, true, false, is_some, length, slice_get};
 ghost use Rattle.std.specs.Option.{option_to_list};
-ghost use Rattle.cargo_core.specs.declared.item.PoolId.{PoolId};
-ghost use Rattle.cargo_core.specs.Bodies.{buffers_in};
 ghost use Rattle.cargo_core.specs.Pages.{Paged};
 ghost use Rattle.wire_core.specs.Deeds.{Cargo, deed_of, put_of};
 ghost use Rattle.wire_core.specs.Lists.{taken_by, put_by, if_there};
 ghost use Rattle.wire_core.specs.Ends.{role_of};
 ghost use Rattle.wire_core.specs.Marks.{is_mark};
 ghost use Rattle.turn_kit.specs.Turns.{PostedAt};
+ghost use Rattle.buffer_kit.specs.Conserving.{Count, weight, weighed};
 ghost use Rattle.buffer_kit.specs.Virtualising.{VirtOwns, SameVirt, from_queues, to_queues};
 ghost use Rattle.buffer_kit.specs.Virtualising.{virt_posts};
 ghost use Rattle.blk_virt.specs.Ends.{FitsEnds};
@@ -112,8 +111,8 @@ impl Work {
         ensures stands { (start : Paged) (back sent : List Cargo) (came gave : ℕ → List Cargo)
             → WorkStands self.old start back came sent gave
             → Received self.old self.new entry start back came sent gave }
-        ensures held { (pool : PoolId) → carried pool (work_cargo self.new)
-            ≡ carried pool (work_cargo self.old) + buffers_in pool entry.1 }
+        ensures held { (f : Count) → weighed f (work_cargo self.new)
+            ≡ weighed f (work_cargo self.old) + weight f entry.1 }
     {
         if self.opening.is_first(&entry) {
             self.opening.open(entry);
@@ -134,8 +133,8 @@ impl Work {
         ensures stands { (start : Paged) (back sent : List Cargo) (came gave : ℕ → List Cargo)
             → WorkStands self.old start back came sent gave
             → WorkStands self.new start back (with_more came place (entry ∷ [])) sent gave }
-        ensures held { (pool : PoolId) → carried pool (work_cargo self.new)
-            ≡ carried pool (work_cargo self.old) + buffers_in pool entry.1 }
+        ensures held { (f : Count) → weighed f (work_cargo self.new)
+            ≡ weighed f (work_cargo self.old) + weight f entry.1 }
     {
         let partition = self.desk.clients[place].holder.partition;
         let part = self.opening.part(partition);

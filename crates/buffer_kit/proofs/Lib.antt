@@ -2,6 +2,7 @@
 pub mod Addresses
 pub mod Filling
 pub mod Counts
+pub mod Conserving
 pub mod TwoLists
 pub mod VirtTurns
 pub mod VirtFits

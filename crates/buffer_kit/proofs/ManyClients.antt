@@ -13,8 +13,11 @@ use Rattle.wire_core.specs.Deeds.{Cargo}
 use Rattle.wire_core.specs.Lists.{Lists, Passed, with, if_there}
 use Rattle.wire_core.proofs.Places.{if_there_here, slice_get_written, slice_get_beside}
 use Rattle.turn_kit.specs.ManyEnds.{AreApart}
+use Rattle.turn_kit.specs.Hands.{bodies_of}
 use Rattle.turn_kit.proofs.Holding.{cargo-append}
 use Rattle.buffer_kit.specs.Clients.{carried, entry_in, is_so, queue_at, with_more}
+use Rattle.buffer_kit.specs.Conserving.{Count, weighed, of_pool}
+use Rattle.buffer_kit.proofs.Conserving.{weighed-append, pool_counted}
 use Rattle.buffer_kit.proofs.Passing.{none_more, beside}
 
 pub some_eq : {X : Type 0} {a b : X} → Some a ≡ Some b → a ≡ b
@@ -58,7 +61,21 @@ pub entry_there : {C : Type 0} (f : C → Option Cargo) (o : Option C) → is_so
 entry_there f None h = cc
 entry_there f (Some c) h = (c, refl, h)
 
--- what they have together
+-- what they have together, where one of them changed
+module _ {C : Type 0} (cargo : C → List Cargo) (f : Count) where
+  pub weighed_set : (cs : List C) (k : ℕ) (c d : C) → slice_get cs k ≡ Some c → weighed f (flat_map cargo (slice_set cs k d)) + weighed f (cargo c) ≡ weighed f (flat_map cargo cs) + weighed f (cargo d)
+  weighed_set [] k c d at = absurd cc
+  weighed_set (x ∷ cs) zero c d at =
+      let a = weighed-append f (cargo d) (flat_map cargo cs) in
+      let b = weighed-append f (cargo x) (flat_map cargo cs) in
+      let e = ap (λ (y : C). weighed f (cargo y)) (some_eq at) in
+      omega (arith, a, b, e)
+  weighed_set (x ∷ cs) (suc k) c d at =
+      let a = weighed-append f (cargo x) (flat_map cargo (slice_set cs k d)) in
+      let b = weighed-append f (cargo x) (flat_map cargo cs) in
+      let e = weighed_set cs k c d at in
+      omega (arith, a, b, e)
+
 module _ {C : Type 0} (cargo : C → List Cargo) (pool : PoolId) where
   -- a client more of those that were counted
   pub held_more : (cs : List C) (k : ℕ) (c : C) → slice_get cs k ≡ Some c → carried pool (flat_map cargo (take (suc k) cs)) ≡ carried pool (flat_map cargo (take k cs)) + carried pool (cargo c)
@@ -75,17 +92,9 @@ module _ {C : Type 0} (cargo : C → List Cargo) (pool : PoolId) where
 
   -- one of them changed
   pub cargo_set : (cs : List C) (k : ℕ) (c d : C) → slice_get cs k ≡ Some c → carried pool (flat_map cargo (slice_set cs k d)) + carried pool (cargo c) ≡ carried pool (flat_map cargo cs) + carried pool (cargo d)
-  cargo_set [] k c d at = absurd cc
-  cargo_set (x ∷ cs) zero c d at =
-      let a = cargo-append pool (cargo d) (flat_map cargo cs) in
-      let b = cargo-append pool (cargo x) (flat_map cargo cs) in
-      let e = ap (λ (y : C). carried pool (cargo y)) (some_eq at) in
-      omega (arith, a, b, e)
-  cargo_set (x ∷ cs) (suc k) c d at =
-      let a = cargo-append pool (cargo x) (flat_map cargo (slice_set cs k d)) in
-      let b = cargo-append pool (cargo x) (flat_map cargo cs) in
-      let e = cargo_set cs k c d at in
-      omega (arith, a, b, e)
+  cargo_set cs k c d at =
+      let all = weighed_set cargo (of_pool pool) cs k c d at in
+      omega (arith, all, pool_counted pool (bodies_of (flat_map cargo (slice_set cs k d))), pool_counted pool (bodies_of (cargo c)), pool_counted pool (bodies_of (flat_map cargo cs)), pool_counted pool (bodies_of (cargo d)))
 
 -- a client is the one that changed, or one that was there
 module _ {C : Type 0} (cs cs' : List C) (k : ℕ) (was now : C) (there : slice_get cs k ≡ Some was) (set : cs' ≡ slice_set cs k now) where

@@ -114,6 +114,7 @@ new_stands ss w h n i o f t long long' = record {
     within = All-nil (IsSomeones w.clients.items);
   };
   stray = λ c e. let no_such : None ≡ Some c = sym n.none_stray ∙ e in absurd cc;
+  alone = λ k d c e at here. let no_such : None ≡ Some c = sym n.none_stray ∙ e in absurd cc;
   balances = λ pool.
       let came = nothing_at pool (i ∷ map (λ q. q.0) f) in
       let went = nothing_at pool (o ∷ map (λ q. q.0) t) in

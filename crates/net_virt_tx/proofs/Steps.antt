@@ -3,6 +3,7 @@ use Rattle.std.proofs.Common.{◌/◌, ◌≡◌, ◌⊎◌, ◌+◌, ◌-◌, �
 use Rattle.std.specs.List.{filter}
 use Rattle.std.specs.Option.{option_to_list}
 use Rattle.std.proofs.lemmas.Bool.{and_from, and_parts, le-leb, lt-ltb, cases_eq, leb-true}
+use Rattle.std.proofs.lemmas.Option.{slice_get_within}
 use Rattle.std.proofs.lemmas.List.{append-nil, length-map, length-set}
 use Rattle.cargo_core.specs.declared.item.PoolId.{PoolId}
 use Rattle.cargo_core.specs.declared.item.Item.{Item}
@@ -48,7 +49,7 @@ moved e e' same w passed h =
 
 -- whatever was called
 with_calls : (i o : ℕ) (f t : List QueueId) (w : Traffic) (passed : Passed) (calls : List Event) → TxStands i o f t w passed → TxStands i o f t w (record passed { calls = calls })
-with_calls i o f t w passed calls h = record { work = h.work; from_each = h.from_each; to_each = h.to_each; turn = h.turn; place = h.place; taken = h.taken; stands = h.stands; stray = h.stray; balances = h.balances }
+with_calls i o f t w passed calls h = record { work = h.work; from_each = h.from_each; to_each = h.to_each; turn = h.turn; place = h.place; taken = h.taken; stands = h.stands; stray = h.stray; alone = h.alone; balances = h.balances }
 
 -- where nothing moved, all stays
 pub still : (e e' : VirtEnds) → SameVirt e e' → (w : Traffic) (passed : Passed) (took put : Lists) (calls : List Event) → ((n : ℕ) → took n ≡ []) → ((n : ℕ) → put n ≡ []) → TxStands e.input.queue.0 e.output.queue.0 (from_queues e) (to_queues e) w passed → TxStands e'.input.queue.0 e'.output.queue.0 (from_queues e') (to_queues e') w (record { taken = with passed.taken took; sent = with passed.sent put; calls = calls })
@@ -92,6 +93,7 @@ module _ (i o : ℕ) (f t : List QueueId) (w w' : Traffic) (k : ℕ) (came sent 
         (λ j there. ap (λ c. passed.sent (queue_at t j) ++ c) (backs j (let l = as_many in omega (arith, l, there))))
         (moved_stands w w' h.work k came sent returned back m (λ j. h.turn (queue_at f j)) (passed.sent o) (h.turn i) (λ j. passed.sent (queue_at t j)) h.stands);
     stray = no_such (IsOutOfTurn i o f t (senders w') (with h.turn took) (with passed.sent put) h.place);
+    alone = λ j c x e at here. no_such (λ y. is_idle c ≡ true) x e;
     balances = λ pool.
         let was = h.balances pool in
         let a = count_more pool passed.taken took (i ∷ map (λ q. q.0) f) in
@@ -170,8 +172,8 @@ module _ (i o : ℕ) (f t : List QueueId) (w : Traffic) (x : Cargo) (passed : Pa
   pub strays_work : IsTraffic ws
   strays_work = record { each = h.work.each; ranges_are = h.work.ranges_are; apart = h.work.apart; few = h.work.few }
 
-  pub strays : IsOutOfTurn i o f t (senders w) h.turn passed.sent place x → ((pool : PoolId) → buffers_of pool (bodies_at took (i ∷ map (λ q. q.0) f)) ≡ carried pool (x ∷ [])) → TxStands i o f t ws (record { taken = with passed.taken took; sent = with passed.sent put; calls = calls })
-  strays out one = subst (λ (s : Lists). TxStands i o f t ws (record { taken = with passed.taken took; sent = s; calls = calls })) (sym (none_more passed.sent put puts)) (record {
+  pub strays : IsOutOfTurn i o f t (senders w) h.turn passed.sent place x → ((k : ℕ) (c : Client) → slice_get w.clients.items k ≡ Some c → place ≡ queue_at f k → is_idle c ≡ true) → ((pool : PoolId) → buffers_of pool (bodies_at took (i ∷ map (λ q. q.0) f)) ≡ carried pool (x ∷ [])) → TxStands i o f t ws (record { taken = with passed.taken took; sent = with passed.sent put; calls = calls })
+  strays out idle one = subst (λ (s : Lists). TxStands i o f t ws (record { taken = with passed.taken took; sent = s; calls = calls })) (sym (none_more passed.sent put puts)) (record {
     work = strays_work;
     from_each = h.from_each;
     to_each = h.to_each;
@@ -180,6 +182,7 @@ module _ (i o : ℕ) (f t : List QueueId) (w : Traffic) (x : Cargo) (passed : Pa
     taken = λ n. ap (λ c. c ++ took n) (h.taken n ∙ (ap (λ c. h.turn n ++ c) (stray_none (h.place == n) w.stray none) ∙ append-nil (h.turn n))) ∙ ap (λ c. h.turn n ++ c) (takes n);
     stands = record { clients = h.stands.clients; within = h.stands.within };
     stray = λ c e. subst (λ (y : Cargo). IsOutOfTurn i o f t (senders w) h.turn passed.sent place y) (some_eq e) out;
+    alone = λ k c y e at here. idle k c at here;
     balances = λ pool.
         let was = h.balances pool in
         let a = count_more pool passed.taken took (i ∷ map (λ q. q.0) f) in
@@ -283,7 +286,7 @@ pub tx_back : (i o : ℕ) (f t : List QueueId) (w w' : Traffic) (x : Cargo) (pas
 tx_back i o f t w w' x passed took put calls from_each to_each none h (inl (k, m)) apart takes puts = buffer_in i o f t w w' k passed took put calls from_each to_each none h x m apart takes puts
 tx_back i o f t w w' x passed took put calls from_each to_each none h (inr (off, is)) apart takes puts =
     subst (λ (v : Traffic). TxStands i o f t v (record { taken = with passed.taken took; sent = with passed.sent put; calls = calls })) (sym is)
-    (strays i o f t w x passed took put calls i h none takes puts (inl (refl, back_stray w h.work (λ k. h.turn (queue_at f k)) (passed.sent o) (h.turn i) (λ k. passed.sent (queue_at t k)) h.stands x off)) (λ pool. first_more pool took (x ∷ []) i f apart takes))
+    (strays i o f t w x passed took put calls i h none takes puts (inl (refl, back_stray w h.work (λ k. h.turn (queue_at f k)) (passed.sent o) (h.turn i) (λ k. passed.sent (queue_at t k)) h.stands x off)) (λ k c there here. absurd (apart k (slice_index_or f k (record { 0 = 0 })) (queue_there f k (let l = slice_get_within w.clients.items k c there in omega (arith, l, from_each))) here)) (λ pool. first_more pool took (x ∷ []) i f apart takes))
 
 -- a descriptor came from a client, in turn or out of it
 pub tx_in : (i o : ℕ) (f t : List QueueId) (w w' : Traffic) (k : ℕ) (q : QueueId) (x : Cargo) (passed : Passed) (took put : Lists) (calls : List Event) → length f ≡ length w.clients.items → length t ≡ length w.clients.items → w.stray ≡ None → TxStands i o f t w passed → TookIn w w' k x → slice_get f k ≡ Some q → AreApart f → (i ≡ q.0 → ⊥)
@@ -294,6 +297,10 @@ tx_in i o f t w w' k q x passed took put calls from_each to_each none h (inr ((c
     subst (λ (v : Traffic). TxStands i o f t v (record { taken = with passed.taken took; sent = with passed.sent put; calls = calls })) (sym is)
     (strays i o f t w x passed took put calls q.0 h none takes puts
     (inr (k, c.sender, get_map (λ (y : Client). y.sender) w.clients.items k c there, place, λ b. descriptor_stray c (h.work.each k c there) (h.turn (queue_at f k)) (own_of c.sender (passed.sent o)) (own_of c.sender (h.turn i)) (passed.sent (queue_at t k)) (h.stands.clients k c there) x idle good mark (subst (λ n. IsDescriptorInTurn c.sender (h.turn n) (passed.sent (queue_at t k)) x) place b)))
+    (λ j d is_there here.
+        let l = slice_get_within w.clients.items j d is_there in
+        let same : k ≡ j = apart k j q (slice_index_or f j (record { 0 = 0 })) at (queue_there f j (omega (arith, l, from_each))) here in
+        subst (λ (y : Client). is_idle y ≡ true) (some_eq (sym there ∙ (ap (slice_get w.clients.items) same ∙ is_there))) idle)
     (λ pool. later_more pool took (x ∷ []) i f k q at apart ne takes))
 
 given_none : (item : Option Item) → given item None ≡ None

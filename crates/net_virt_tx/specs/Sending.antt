@@ -22,7 +22,7 @@ use Rattle.net_virt_tx.specs.declared.descriptors.Sender.{Sender}
 use Rattle.net_virt_tx.specs.declared.traffic.Traffic.{Traffic}
 use Rattle.net_virt_tx.specs.Descriptors.{to_device}
 use Rattle.net_virt_tx.specs.Serving.{IsServed, is_good_of, bad_ones}
-use Rattle.net_virt_tx.specs.Clients.{IsFresh, IsOf, at_address, capped, range_of}
+use Rattle.net_virt_tx.specs.Clients.{IsFresh, IsOf, at_address, capped, is_idle, range_of}
 use Rattle.net_virt_tx.specs.Traffics.{IsTraffic, TrafficStands, bad_count, is_free, loaded_at}
 use Rattle.net_virt_tx.specs.Traffics.{needs_at, owes, senders, traffic_hand}
 pub use Rattle.buffer_kit.specs.Clients.{queue_at}
@@ -55,8 +55,8 @@ IsOutOfTurn input output from_clients to_clients ss turn sent place c =
     × (IsDescriptorInTurn s (turn place) (sent (queue_at to_clients k)) c → ⊥))
 
 -- each client has a queue each way; what it took is what came in turn and at most one entry, which
--- came last; it stands for what came in turn and what it put; and what came is what went and what
--- is in its hand
+-- came last; it stands for what came in turn and what it put; of the client whose entry strayed,
+-- nothing else waits; and what came is what went and what is in its hand
 pub record TxStands (input output : ℕ) (from_clients to_clients : List QueueId) (w : Traffic)
     (passed : Passed) : Type 0 where
   pub work : IsTraffic w
@@ -69,6 +69,8 @@ pub record TxStands (input output : ℕ) (from_clients to_clients : List QueueId
       (turn input) (λ k. passed.sent (queue_at to_clients k))
   pub stray : (c : Cargo) → w.stray ≡ Some c → IsOutOfTurn input output from_clients to_clients
       (senders w) turn passed.sent place c
+  pub alone : (k : ℕ) (c : Client) (x : Cargo) → w.stray ≡ Some x
+      → slice_get w.clients.items k ≡ Some c → place ≡ queue_at from_clients k → is_idle c ≡ true
   pub balances : Balances [] (bodies_at passed.taken (input ∷ map (λ q. q.0) from_clients))
       (bodies_at passed.sent (output ∷ map (λ q. q.0) to_clients)) (traffic_hand w) []
 

@@ -3,7 +3,6 @@
 use Rattle.std.proofs.Common.{ap, ◌≡◌, ◌++◌, ◌<◌, ℕ, zero, suc, Some, List, length, drop, slice_get, refl, sym, ap, ◌∙◌, subst, arith, inl, inr}
 use Rattle.std.specs.Option.{option_to_list}
 use Rattle.std.proofs.lemmas.List.{length-map}
-use Rattle.cargo_core.specs.Bodies.{buffers_of}
 use Rattle.cargo_core.specs.Pages.{Paged}
 use Rattle.wire_core.specs.declared.names.QueueId.{QueueId}
 use Rattle.wire_core.specs.Deeds.{Cargo}
@@ -13,6 +12,7 @@ use Rattle.turn_kit.specs.Table.{Agrees}
 use Rattle.turn_kit.specs.declared.ends.Intake.{Intake}
 use Rattle.turn_kit.specs.declared.ends.Outlet.{Outlet}
 use Rattle.play_core.proofs.Lists.{map_get, map_from, some_is, there_is, there_below}
+use Rattle.buffer_kit.specs.Conserving.{counted}
 use Rattle.buffer_kit.specs.Virtualising.{VirtOwns, from_queues, to_queues, virt_came, virt_went}
 use Rattle.buffer_kit.specs.declared.virt_ends.VirtEnds.{VirtEnds}
 use Rattle.device_model.specs.declared.disk.DiskDevice.{DiskDevice}
@@ -122,7 +122,7 @@ module _ (passed passed' : Passed) where
         stands = rw o f.stands;
         few = f.few;
         no_request = rw o f.no_request;
-        balances = rw (i, o) f.balances;
+        conserves = rw (i, o) f.conserves;
       }
 
   module _ (v : BlkVirt) (from_each : length (from_queues v.ends) ≡ length (holders v.work.desk)) (to_each : length (to_queues v.ends) ≡ length (holders v.work.desk))
@@ -165,9 +165,9 @@ module _ (passed passed' : Passed) where
           stands = subst (λ l. WorkStands v.work f.start f.back (λ k. passed'.taken (queue_at from k)) l (λ k. passed'.sent (queue_at to k))) (sym out)
               (work_lists v.work f.start f.back (λ k. passed.taken (queue_at from k)) (passed.sent o) (λ k. passed.sent (queue_at to k)) (λ k. passed'.taken (queue_at from k)) (λ k. passed'.sent (queue_at to k)) (λ k lt. ins (queue_at from k) (from_owned k lt)) (λ k lt. outs (queue_at to k) (to_owned k lt)) f.stands);
           stray = λ y is. subst (λ l. IsOutOfTurn l f.back y) (sym out) (f.stray y is);
-          balances = λ pool.
-              let was = f.balances pool in
-              let came = ap (buffers_of pool) (bodies_same passed.taken passed'.taken (virt_came v.ends) (λ k n at. ins n (all_came k n at))) in
-              let went = ap (buffers_of pool) (bodies_same passed.sent passed'.sent (virt_went v.ends) (λ k n at. outs n (all_went k n at))) in
+          conserves = λ c.
+              let was = f.conserves c in
+              let came = ap (counted c) (bodies_same passed.taken passed'.taken (virt_came v.ends) (λ k n at. ins n (all_came k n at))) in
+              let went = ap (counted c) (bodies_same passed.sent passed'.sent (virt_went v.ends) (λ k n at. outs n (all_went k n at))) in
               omega (arith, was, came, went);
         }

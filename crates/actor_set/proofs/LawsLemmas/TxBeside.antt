@@ -107,6 +107,7 @@ module _ (passed passed' : Passed) (v : NetVirtTx) (from_each : length (from_que
       taken = taken;
       stands = stands_so;
       stray = stray_so;
+      alone = f.alone;
       balances = balances_so;
     }
 

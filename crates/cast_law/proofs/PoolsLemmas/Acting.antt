@@ -46,8 +46,8 @@ use Rattle.net_quiet.proofs.PoolsLemmas.Lending.{receiver_holds}
 use Rattle.net_quiet.proofs.TxOwners.Carrying.{sender_on}
 use Rattle.net_quiet.proofs.TxOwners.Holding.{sender_holds}
 use Rattle.device_model.proofs.DiskLemmas.Holding.{balance_of as disk_balance}
-use Rattle.blk_virt.proofs.Rows.{row_of as server_row}
-use Rattle.client_programs.proofs.BlkLemmas.Standing.{row_of as asker_row}
+use Rattle.blk_virt.proofs.Rows.{row_of as server_row, balance_of as virt_balance}
+use Rattle.client_programs.proofs.BlkLemmas.Standing.{row_of as asker_row, balance_of as asker_balance}
 use Rattle.blk_law.specs.Owners.Answering.{IsInOrder}
 use Rattle.blk_quiet.proofs.PoolsLemmas.Carrying.{disk_on, driver_on as blk_driver_on}
 use Rattle.blk_quiet.proofs.PoolsLemmas.Asking.{client_on as asker_on}
@@ -144,5 +144,5 @@ module _ (naming : Naming) (scene : Scene) (passed : Passed) (m : Moved) (items 
         sender_holds naming sizes x passed m names row.from_each row.to_each st.balances
     actor_holds (Kinds.DiskDevice x) names sized whole turn st takes = disk_holds naming sizes scene passed m x.start.value x.device names.0 (disk_balance x.start.value x.device passed st)
     actor_holds (Kinds.BlkDriver x) names sized whole turn st takes = blk_driver_holds naming sizes scene passed m x.driver.pipes.first x.driver.pipes.rest names.0 (pipes_balance (two_pipes x.driver.pipes) passed st)
-    actor_holds (Kinds.BlkVirt x) names sized whole turn st takes = virt_holds naming sizes scene passed m x names.0 whole.from_each whole.to_each (record { start = st.start; own = st.stands.is_start; balances = st.balances })
-    actor_holds (Kinds.BlkClient x) names sized whole turn st takes = asker_holds naming sizes scene passed m x names.0 (record { start = st.start; is_start = st.is_start; balances = st.balances })
+    actor_holds (Kinds.BlkVirt x) names sized whole turn st takes = virt_holds naming sizes scene passed m x names.0 whole.from_each whole.to_each (virt_balance x passed st)
+    actor_holds (Kinds.BlkClient x) names sized whole turn st takes = asker_holds naming sizes scene passed m x names.0 (asker_balance x passed st)

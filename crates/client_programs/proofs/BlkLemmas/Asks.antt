@@ -4,22 +4,19 @@ use Rattle.std.proofs.Common.{◌≡◌, ◌+◌, ◌<◌, ◌≤◌, nat_le, na
 use Rattle.std.specs.Option.{option_to_list}
 use Rattle.std.proofs.lemmas.List.{append-nil}
 use Rattle.cargo_core.specs.declared.item.Ask.{Ask}
-use Rattle.cargo_core.specs.declared.item.PoolId.{PoolId}
 use Rattle.cargo_core.specs.declared.item.Code.{Code}
 use Rattle.cargo_core.specs.declared.item.Code.TheVariants as Asked
 use Rattle.cargo_core.specs.declared.item.Body.TheVariants as Carried
 use Rattle.cargo_core.specs.declared.item.Reply.{Reply}
-use Rattle.cargo_core.specs.Bodies.{buffers_of, buffers_in}
 use Rattle.cargo_core.specs.Pages.{Paged}
 use Rattle.wire_core.specs.Deeds.{Cargo}
 use Rattle.turn_kit.specs.Hands.{bodies_of}
-use Rattle.turn_kit.proofs.Holding.{buffers-cons}
 use Rattle.buffer_kit.specs.Pools.{page_bodies}
 use Rattle.cargo_core.specs.declared.item.Body.{Body}
 use Rattle.std.proofs.lemmas.Option.{slice_get-get_or}
-use Rattle.std.proofs.lemmas.Bool.{ltb-true}
-use Rattle.turn_kit.proofs.Holding.{buffers-append}
-use Rattle.buffer_kit.proofs.Counts.{pages-append}
+use Rattle.std.proofs.lemmas.Bool.{leb-true, ltb-true}
+use Rattle.buffer_kit.specs.Conserving.{Count, weight, counted, weighed}
+use Rattle.buffer_kit.proofs.Conserving.{counted-append, counted-pages, front_long}
 use Rattle.client_programs.specs.declared.blk.asking.Asking.{Asking}
 use Rattle.client_programs.specs.Blk.Kept.{Kept}
 use Rattle.client_programs.specs.Blk.Asking.{AskingStands, made, left, and_one, asking_hand, needs_buffer, asked_from, asked_in, asked_bare, page_for, page_in, pages_in, replies_to, reply_to}
@@ -38,16 +35,16 @@ asked_none a asks id e = ap (λ b. if b then [] else (asked_bare a id ∷ asked_
 pub asked_end : (id : ℕ) (pages : List Paged) → asked_from id [] pages ≡ []
 asked_end id pages = refl
 
--- the buffer of a request is of the pool of which it was
-pub page_for_in : (pool : PoolId) (code : Code) (bytes : List ℕ) (p : Paged) → buffers_in pool (Carried.Page (page_for code bytes p)) ≡ buffers_in pool (Carried.Page p)
-page_for_in pool Asked.Read bytes p = refl
-page_for_in pool Asked.Flush bytes p = refl
-page_for_in pool Asked.Barrier bytes p = refl
-page_for_in pool Asked.Write bytes p = either (nat_le (length bytes) (length p.bytes))
+-- the buffer of a request is the one that it was, and as long
+pub page_for_same : (f : Count) (code : Code) (bytes : List ℕ) (p : Paged) → weight f (Carried.Page (page_for code bytes p)) ≡ weight f (Carried.Page p)
+page_for_same f Asked.Read bytes p = refl
+page_for_same f Asked.Flush bytes p = refl
+page_for_same f Asked.Barrier bytes p = refl
+page_for_same f Asked.Write bytes p = either (nat_le (length bytes) (length p.bytes)) refl
   where
-    either : (t : Bool) → buffers_in pool (Carried.Page (if t then (record { pool = p.pool; no = p.no; bytes = replaced p.bytes 0 bytes }) else p)) ≡ buffers_in pool (Carried.Page p)
-    either true = refl
-    either false = refl
+    either : (t : Bool) → nat_le (length bytes) (length p.bytes) ≡ t → weight f (Carried.Page (if t then (record { pool = p.pool; no = p.no; bytes = replaced p.bytes 0 bytes }) else p)) ≡ weight f (Carried.Page p)
+    either true fits = ap (f p.pool p.no) (front_long bytes p.bytes (leb-true (length bytes) (length p.bytes) fits))
+    either false no_room = refl
 
 -- a script from a place on
 drop_here : {X : Type 0} (xs : List X) (k : ℕ) (x : X) → slice_get xs k ≡ Some x → drop k xs ≡ x ∷ drop (suc k) xs
@@ -137,16 +134,16 @@ pub due_ask : (script : List Ask) (n : ℕ) → n < length script → (a : Ask) 
 due_ask script n there = let none : Ask = record { code = Asked.Read; block = 0; count = 0; fill = [] } in (slice_index_or script n none, slice_get-get_or script n none there)
 
 -- the buffer of a response is one more in hand
-pub page_count : (pool : PoolId) (b : Body) → buffers_of pool (page_bodies (page_in b)) ≡ buffers_in pool b
-page_count pool (Carried.Page p) = buffers-cons pool (Carried.Page p) [] ∙ add-zero (buffers_in pool (Carried.Page p))
-page_count pool (Carried.Lease l) = refl
-page_count pool Carried.Empty = refl
+pub page_count : (f : Count) (b : Body) → counted f (page_bodies (page_in b)) ≡ weight f b
+page_count f (Carried.Page p) = add-zero (weight f (Carried.Page p))
+page_count f (Carried.Lease l) = refl
+page_count f Carried.Empty = refl
 
-pub hand_count : (pool : PoolId) (w : Asking) → buffers_of pool (asking_hand w) ≡ buffers_of pool (bodies_of (option_to_list w.next)) + buffers_of pool (page_bodies w.kept.pages)
-hand_count pool w = buffers-append pool (bodies_of (option_to_list w.next)) (page_bodies w.kept.pages)
+pub hand_count : (f : Count) (w : Asking) → counted f (asking_hand w) ≡ weighed f (option_to_list w.next) + counted f (page_bodies w.kept.pages)
+hand_count f w = counted-append f (bodies_of (option_to_list w.next)) (page_bodies w.kept.pages)
 
-pub came_count : (pool : PoolId) (old new : List Paged) (b : Body) → new ≡ old ++ page_in b → buffers_of pool (page_bodies new) ≡ buffers_of pool (page_bodies old) + buffers_in pool b
-came_count pool old new b e = ap (λ (ps : List Paged). buffers_of pool (page_bodies ps)) e ∙ (pages-append pool old (page_in b) ∙ ap (λ n. buffers_of pool (page_bodies old) + n) (page_count pool b))
+pub came_count : (f : Count) (old new : List Paged) (b : Body) → new ≡ old ++ page_in b → counted f (page_bodies new) ≡ counted f (page_bodies old) + weight f b
+came_count f old new b e = ap (λ (ps : List Paged). counted f (page_bodies ps)) e ∙ (counted-pages f old (page_in b) ∙ ap (λ n. counted f (page_bodies old) + n) (page_count f b))
 
 -- what a look-up finds
 pub found_at : {X : Type 0} (xs ys : List X) (k : ℕ) (x : X) → xs ≡ ys → true ≡ nat_lt k (length xs) → x ≡ slice_index_or xs k x → slice_get ys k ≡ Some x

@@ -3,22 +3,21 @@ use Rattle.std.proofs.Common.{◌≡◌, ◌+◌, ◌==◌, ◌&&◌, is_some, i
 use Rattle.std.specs.Option.{option_to_list}
 use Rattle.std.proofs.lemmas.List.{append-nil}
 use Rattle.cargo_core.specs.declared.item.Item.{Item}
-use Rattle.cargo_core.specs.declared.item.PoolId.{PoolId}
-use Rattle.cargo_core.specs.Bodies.{buffers_of, buffers_in}
 use Rattle.cargo_core.specs.Pages.{Paged}
 use Rattle.wire_core.specs.declared.names.Event.{Event}
 use Rattle.wire_core.specs.Deeds.{Cargo, given, put_of}
 use Rattle.wire_core.specs.Lists.{Lists, Passed, with, if_there}
 use Rattle.wire_core.proofs.Places.{if_there_here}
 use Rattle.turn_kit.specs.Hands.{bodies_of, bodies_at}
-use Rattle.turn_kit.proofs.Holding.{at_one, buffers-append, cargo-append, cargo-cons}
+use Rattle.buffer_kit.specs.Conserving.{Count, weight, counted, weighed}
 use Rattle.buffer_kit.specs.Pools.{page_bodies}
+use Rattle.buffer_kit.proofs.Conserving.{counted-append, counted-at, weighed-append, conserves_balances}
 use Rattle.buffer_kit.proofs.ManyClients.{nothing, none_if}
 use Rattle.client_programs.specs.declared.blk.BlkClient.{BlkClient}
 use Rattle.client_programs.specs.declared.blk.asking.Asking.{Asking}
 use Rattle.client_programs.specs.Blk.Kept.{Kept}
 use Rattle.client_programs.specs.Blk.Asking.{IsAsking, IsHoard, AskingStands, SameAsking, asked_from, made, left, and_one, pages_in, asking_hand}
-use Rattle.client_programs.specs.Blk.Clients.{BlkStands, BlkClientStandsFor, BlkClientRow}
+use Rattle.client_programs.specs.Blk.Clients.{BlkStands, BlkClientStandsFor, BlkClientRow, BlkClientBalances, blk_client_hand, req_queue, resp_queue}
 use Rattle.client_programs.proofs.BlkLemmas.Asks.{replies_long, hand_count}
 
 -- the memory of the next reply doesn't matter
@@ -36,7 +35,7 @@ ready_stands i o w kept stray passed shown pages h = record {
   };
   few = h.few;
   no_request = h.no_request;
-  balances = λ pool. h.balances pool ∙ ap (λ (ps : List Paged). buffers_of pool (bodies_at passed.sent (o ∷ [])) + (buffers_of pool ((bodies_of (option_to_list w.next) ++ page_bodies ps) ++ bodies_of stray) + 0)) (sym pages);
+  conserves = λ f. h.conserves f ∙ ap (λ (ps : List Paged). counted f (bodies_at passed.sent (o ∷ [])) + (counted f ((bodies_of (option_to_list w.next) ++ page_bodies ps) ++ bodies_of stray) + 0)) (sym pages);
 }
 
 same_hoard : (w w' : Asking) → SameAsking w w' → (start : List Paged) → IsHoard w start → IsHoard w' start
@@ -47,34 +46,33 @@ module _ (i o : ℕ) (w w' : Asking) (same : SameAsking w w') (passed : Passed) 
   abbrev after : Passed
   after = record { taken = with passed.taken took; sent = with passed.sent put; calls = calls }
 
-  in_hand : (pool : PoolId) (x : Asking) (stray : List Cargo) → buffers_of pool (asking_hand x ++ bodies_of stray) ≡ buffers_of pool (asking_hand x) + buffers_of pool (bodies_of stray)
-  in_hand pool x stray = buffers-append pool (asking_hand x) (bodies_of stray)
+  in_hand : (f : Count) (x : Asking) (stray : List Cargo) → counted f (asking_hand x ++ bodies_of stray) ≡ counted f (asking_hand x) + weighed f stray
+  in_hand f x stray = counted-append f (asking_hand x) (bodies_of stray)
 
-  more_at : (pool : PoolId) (lists more : Lists) (n : ℕ) (cs : List Cargo) → more n ≡ cs → buffers_of pool (bodies_at (with lists more) (n ∷ [])) ≡ buffers_of pool (bodies_at lists (n ∷ [])) + buffers_of pool (bodies_of cs)
-  more_at pool lists more n cs e =
-      let now = at_one pool (with lists more) n in
-      let was = at_one pool lists n in
-      let parts = cargo-append pool (lists n) (more n) in
-      let these = ap (λ (xs : List Cargo). buffers_of pool (bodies_of xs)) e in
+  more_at : (f : Count) (lists more : Lists) (n : ℕ) (cs : List Cargo) → more n ≡ cs → counted f (bodies_at (with lists more) (n ∷ [])) ≡ counted f (bodies_at lists (n ∷ [])) + weighed f cs
+  more_at f lists more n cs e =
+      let now = counted-at f (with lists more) n [] in
+      let was = counted-at f lists n [] in
+      let parts = weighed-append f (lists n) (more n) in
+      let these = ap (weighed f) e in
       omega (arith, now, was, parts, these)
 
   module _ (entry : Cargo) (takes : (n : ℕ) → took n ≡ if_there (i == n) (entry ∷ [])) (puts : (n : ℕ) → put n ≡ []) where
     came_here : took i ≡ entry ∷ []
     came_here = takes i ∙ if_there_here i (entry ∷ [])
 
-    balance : (pool : PoolId) (x : Asking) (stray : List Cargo) → buffers_of pool (asking_hand x) + buffers_of pool (bodies_of stray) ≡ buffers_of pool (asking_hand w) + buffers_in pool entry.1
-        → buffers_of pool (page_bodies h.start) + buffers_of pool (bodies_at (with passed.taken took) (i ∷ [])) ≡ buffers_of pool (bodies_at (with passed.sent put) (o ∷ [])) + (buffers_of pool (asking_hand x ++ bodies_of stray) + buffers_of pool [])
-    balance pool x stray held =
-        let was = h.balances pool in
-        let none = in_hand pool w [] in
-        let now = in_hand pool x stray in
-        let came = more_at pool passed.taken took i (entry ∷ []) came_here in
-        let went = more_at pool passed.sent put o [] (puts o) in
-        let one = cargo-cons pool entry [] in
-        omega (arith, was, none, now, came, went, one, held)
+    balance : (f : Count) (x : Asking) (stray : List Cargo) → counted f (asking_hand x) + weighed f stray ≡ counted f (asking_hand w) + weight f entry.1
+        → counted f (page_bodies h.start) + counted f (bodies_at (with passed.taken took) (i ∷ [])) ≡ counted f (bodies_at (with passed.sent put) (o ∷ [])) + (counted f (asking_hand x ++ bodies_of stray) + counted f [])
+    balance f x stray held =
+        let was = h.conserves f in
+        let none = in_hand f w [] in
+        let now = in_hand f x stray in
+        let came = more_at f passed.taken took i (entry ∷ []) came_here in
+        let went = more_at f passed.sent put o [] (puts o) in
+        omega (arith, was, none, now, came, went, held)
 
     -- a response came in turn
-    pub in_turn : ((start : List Paged) (came sent : List Cargo) → AskingStands w start came sent → AskingStands w' start (came ++ entry ∷ []) sent) → ((pool : PoolId) → buffers_of pool (asking_hand w') ≡ buffers_of pool (asking_hand w) + buffers_in pool entry.1) → BlkStands i o w' [] after
+    pub in_turn : ((start : List Paged) (came sent : List Cargo) → AskingStands w start came sent → AskingStands w' start (came ++ entry ∷ []) sent) → ((f : Count) → counted f (asking_hand w') ≡ counted f (asking_hand w) + weight f entry.1) → BlkStands i o w' [] after
     in_turn stands held = record {
       start = h.start;
       is_start = same_hoard w w' same h.start h.is_start;
@@ -83,7 +81,7 @@ module _ (i o : ℕ) (w w' : Asking) (same : SameAsking w w') (passed : Passed) 
       stands = rw (puts o, append-nil (passed.sent o)) (stands h.start h.came (passed.sent o) h.stands);
       few = omega arith;
       no_request = λ ne. absurd (ne refl);
-      balances = λ pool. balance pool w' [] (add-zero (buffers_of pool (asking_hand w')) ∙ held pool);
+      conserves = λ f. balance f w' [] (add-zero (counted f (asking_hand w')) ∙ held f);
     }
 
     -- one came for no request
@@ -96,7 +94,7 @@ module _ (i o : ℕ) (w w' : Asking) (same : SameAsking w w') (passed : Passed) 
       stands = rw (puts o, append-nil (passed.sent o)) h.stands;
       few = omega arith;
       no_request = λ ne. rw (puts o, append-nil (passed.sent o)) late;
-      balances = λ pool. balance pool w (entry ∷ []) (let one = cargo-cons pool entry [] in omega (arith, one));
+      conserves = λ f. balance f w (entry ∷ []) (omega arith);
     }
       where
         sent_within : (o : Option Cargo) → and_one w.sent o ≤ length w.script.items → w.sent ≤ length w.script.items
@@ -112,7 +110,7 @@ module _ (i o : ℕ) (w w' : Asking) (same : SameAsking w w') (passed : Passed) 
 
   -- the next request was put
   module _ (c : Cargo) (takes : (n : ℕ) → took n ≡ []) (puts : (n : ℕ) → put n ≡ if_there (o == n) (c ∷ [])) where
-    pub request_put : ((start : List Paged) (came sent : List Cargo) → AskingStands w start came sent → AskingStands w' start came (sent ++ c ∷ [])) → ((pool : PoolId) → buffers_of pool (asking_hand w) ≡ buffers_of pool (asking_hand w') + buffers_in pool c.1) → BlkStands i o w' [] after
+    pub request_put : ((start : List Paged) (came sent : List Cargo) → AskingStands w start came sent → AskingStands w' start came (sent ++ c ∷ [])) → ((f : Count) → counted f (asking_hand w) ≡ counted f (asking_hand w') + weight f c.1) → BlkStands i o w' [] after
     request_put stands held =
         let went_here : put o ≡ c ∷ [] = puts o ∙ if_there_here o (c ∷ []) in
         record {
@@ -123,18 +121,17 @@ module _ (i o : ℕ) (w w' : Asking) (same : SameAsking w w') (passed : Passed) 
           stands = rw went_here (stands h.start h.came (passed.sent o) h.stands);
           few = omega arith;
           no_request = λ ne. absurd (ne refl);
-          balances = λ pool.
-              let was = h.balances pool in
-              let none = in_hand pool w [] in
-              let now = in_hand pool w' [] in
-              let came = more_at pool passed.taken took i [] (takes i) in
-              let went = more_at pool passed.sent put o (c ∷ []) went_here in
-              let one = cargo-cons pool c [] in
-              let hand = held pool in
-              omega (arith, was, none, now, came, went, one, hand);
+          conserves = λ f.
+              let was = h.conserves f in
+              let none = in_hand f w [] in
+              let now = in_hand f w' [] in
+              let came = more_at f passed.taken took i [] (takes i) in
+              let went = more_at f passed.sent put o (c ∷ []) went_here in
+              let hand = held f in
+              omega (arith, was, none, now, came, went, hand);
         }
 
-pub new_stands : (i o : ℕ) (w : Asking) (pages : List Paged) → IsHoard w pages → AskingStands w pages [] [] → ((pool : PoolId) → buffers_of pool (asking_hand w) ≡ buffers_of pool (page_bodies pages)) → BlkStands i o w [] (record { taken = λ n. []; sent = λ n. []; calls = [] })
+pub new_stands : (i o : ℕ) (w : Asking) (pages : List Paged) → IsHoard w pages → AskingStands w pages [] [] → ((f : Count) → counted f (asking_hand w) ≡ counted f (page_bodies pages)) → BlkStands i o w [] (record { taken = λ n. []; sent = λ n. []; calls = [] })
 new_stands i o w pages hoard stands held = record {
   start = pages;
   is_start = hoard;
@@ -143,7 +140,7 @@ new_stands i o w pages hoard stands held = record {
   stands = stands;
   few = omega arith;
   no_request = λ ne. absurd (ne refl);
-  balances = λ pool. let all = buffers-append pool (asking_hand w) [] in let same = held pool in omega (arith, all, same);
+  conserves = λ f. let all = counted-append f (asking_hand w) [] in let same = held f in omega (arith, all, same);
 }
 
 pub row_of : (c : BlkClient) (passed : Passed) → BlkClientStandsFor c passed → BlkClientRow c passed
@@ -158,6 +155,13 @@ row_of c passed h = record {
   asks = (option_to_list c.asking.next ++ asked_from (made c.asking) (left c.asking) (c.asking.kept.pages ++ []), h.stands.asks [] ∙ ap (λ ps. asked_from 0 c.asking.script.items (h.start ++ ps)) (append-nil (pages_in h.came)));
   replies = h.stands.replied;
   answered = h.stands.answered;
+}
+
+pub balance_of : (c : BlkClient) (passed : Passed) → BlkClientStandsFor c passed → BlkClientBalances c passed
+balance_of c passed h = record {
+  start = h.start;
+  is_start = h.is_start;
+  balances = conserves_balances (page_bodies h.start) (bodies_at passed.taken (resp_queue c ∷ [])) (bodies_at passed.sent (req_queue c ∷ [])) (blk_client_hand c) [] h.conserves;
 }
 
 -- where a request is to be put, it is there, and nothing strayed
@@ -175,13 +179,12 @@ none_left None b h t = refl
 none_left (Some c) b h t = let no : true ≡ false = h ∙ ap not t in cc
 
 -- without the request that went
-pub hand_put : (pool : PoolId) (w : Asking) (c : Cargo) → w.next ≡ Some c → buffers_of pool (asking_hand w) ≡ buffers_of pool (asking_hand (record w { next = None })) + buffers_in pool c.1
-hand_put pool w c is =
-    let was = hand_count pool w in
-    let now = hand_count pool (record w { next = None }) in
-    let one = ap (λ (o : Option Cargo). buffers_of pool (bodies_of (option_to_list o))) is in
-    let body = cargo-cons pool c [] in
-    omega (arith, was, now, one, body)
+pub hand_put : (f : Count) (w : Asking) (c : Cargo) → w.next ≡ Some c → counted f (asking_hand w) ≡ counted f (asking_hand (record w { next = None })) + weight f c.1
+hand_put f w c is =
+    let was = hand_count f w in
+    let now = hand_count f (record w { next = None }) in
+    let one = ap (λ (o : Option Cargo). weighed f (option_to_list o)) is in
+    omega (arith, was, now, one)
 
 -- the same at the same queue, where nothing strayed
 pub same_queue : (i o o' : ℕ) (w : Asking) (stray : Option Cargo) (passed : Passed) → o' ≡ o → stray ≡ None → BlkStands i o w [] passed → BlkStands i o' w (option_to_list stray) passed
@@ -190,7 +193,7 @@ same_queue i o o' w stray passed e none h = subst (λ n. BlkStands i n w (option
 -- where nothing moved, all stays, whatever was called
 pub still : (i o i' o' : ℕ) (w : Asking) (stray : List Cargo) (passed : Passed) (took put : Lists) (calls : List Event) → i' ≡ i → o' ≡ o → ((n : ℕ) → took n ≡ []) → ((n : ℕ) → put n ≡ []) → BlkStands i o w stray passed → BlkStands i' o' w stray (record { taken = with passed.taken took; sent = with passed.sent put; calls = calls })
 still i o i' o' w stray passed took put calls same same' takes puts h =
-    let called : BlkStands i o w stray (record passed { calls = calls }) = record { start = h.start; is_start = h.is_start; came = h.came; taken = h.taken; stands = h.stands; few = h.few; no_request = h.no_request; balances = h.balances } in
+    let called : BlkStands i o w stray (record passed { calls = calls }) = record { start = h.start; is_start = h.is_start; came = h.came; taken = h.taken; stands = h.stands; few = h.few; no_request = h.no_request; conserves = h.conserves } in
     let after : BlkStands i o w stray (record { taken = with passed.taken took; sent = with passed.sent put; calls = calls }) = subst (λ (p : Passed). BlkStands i o w stray p) (nothing passed took put calls takes puts) called in
     subst (λ n. BlkStands n o' w stray (record { taken = with passed.taken took; sent = with passed.sent put; calls = calls })) (sym same)
     (subst (λ n. BlkStands i n w stray (record { taken = with passed.taken took; sent = with passed.sent put; calls = calls })) (sym same') after)

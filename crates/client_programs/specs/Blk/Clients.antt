@@ -15,6 +15,7 @@ use Rattle.turn_kit.specs.Table.{Agrees, start_state}
 use Rattle.turn_kit.specs.Turns.{Round}
 use Rattle.turn_kit.specs.Posts.{intake_post, outlet_post}
 use Rattle.turn_kit.specs.Hands.{Balances, bodies_of, bodies_at}
+use Rattle.buffer_kit.specs.Conserving.{Conserves}
 use Rattle.buffer_kit.specs.Pools.{page_bodies}
 use Rattle.client_programs.specs.declared.blk.BlkClient.{BlkClient}
 use Rattle.client_programs.specs.declared.blk.asking.Asking.{Asking}
@@ -38,8 +39,8 @@ pub record FitsBlkClient (ends : Role → ℕ → End) (c : BlkClient) : Type 0 
   pub asking : IsAsking c.asking
 
 -- what it took is what came in turn and at most one response, which came last and for no request;
--- it asked and recorded by what came in turn; and what it had at the start and what came is what
--- went and what is in its hand
+-- it asked and recorded by what came in turn; and what it had at the start and what came is, buffer
+-- by buffer, what went and what is in its hand
 pub record BlkStands (responses requests : ℕ) (w : Asking) (stray : List Cargo)
     (passed : Passed) : Type 0 where
   pub start : List Paged
@@ -49,7 +50,7 @@ pub record BlkStands (responses requests : ℕ) (w : Asking) (stray : List Cargo
   pub stands : AskingStands w start came (passed.sent requests)
   pub few : length stray ≤ 1
   pub no_request : (stray ≡ [] → ⊥) → length (passed.sent requests) ≤ length came
-  pub balances : Balances (page_bodies start) (bodies_at passed.taken (responses ∷ []))
+  pub conserves : Conserves (page_bodies start) (bodies_at passed.taken (responses ∷ []))
       (bodies_at passed.sent (requests ∷ [])) (asking_hand w ++ bodies_of stray) []
 
 -- the same of the client's own queues

@@ -3,13 +3,13 @@ ghost use Rattle.std.specs.Prelude.{◌≡◌, ◌-◌, ◌+◌, ◌*◌, ◌<�
 ghost use Rattle.std.specs.Prelude.{None, Some, OnOk, OnErr, nat_lt, length, slice_get};
 ghost use Rattle.std.specs.Option.{ForSome, option_to_list};
 ghost use Rattle.cargo_core.specs.Blocks.{blk_buffer_bytes};
-ghost use Rattle.cargo_core.specs.Bodies.{buffers_of, buffers_in};
+ghost use Rattle.cargo_core.specs.Bodies.{buffers_of};
 ghost use Rattle.cargo_core.specs.declared.item.Ask.{Ask};
 ghost use Rattle.cargo_core.specs.declared.item.QueueKind.TheVariants as Kind;
 ghost use Rattle.cargo_core.specs.Items.{kind_of};
 ghost use Rattle.cargo_core.specs.Pages.{Paged};
 ghost use Rattle.wire_core.specs.Deeds.{Cargo};
-ghost use Rattle.turn_kit.specs.Hands.{bodies_of};
+ghost use Rattle.buffer_kit.specs.Conserving.{Count, weight, counted, weighed};
 ghost use Rattle.buffer_kit.specs.Pools.{ArePool, page_bodies};
 ghost use Rattle.client_programs.specs.Blk.Asking.{IsAsking, IsHoard, AskingStands};
 ghost use Rattle.client_programs.specs.Blk.Asking.{SameAsking, needs_buffer, request_for};
@@ -137,9 +137,8 @@ fn next_request(ask: &Ask, id: u32, kept: &mut Keeping) -> Option<(Item, Body)>
     ensures kind { ForSome result (λ c. kind_of c.0 ≡ Kind.Req) }
     ensures shown { kept.new.shown ≡ kept.old.shown }
     ensures fewer { length kept.new.pages ≤ length kept.old.pages }
-    ensures held { (pool : PoolId) → buffers_of pool (page_bodies kept.old.pages)
-        ≡ buffers_of pool (bodies_of (option_to_list result))
-        + buffers_of pool (page_bodies kept.new.pages) }
+    ensures held { (f : Count) → counted f (page_bodies kept.old.pages)
+        ≡ weighed f (option_to_list result) + counted f (page_bodies kept.new.pages) }
 {
     if !needs_buffer(ask.code) {
         return Some((request_for(ask, id, 0), Body::Empty));
@@ -160,8 +159,8 @@ impl Asking {
         ensures asking { IsAsking result }
         ensures hoard { IsHoard result pages.items }
         ensures stands { AskingStands result pages.items [] [] }
-        ensures held { (pool : PoolId) → buffers_of pool (asking_hand result)
-            ≡ buffers_of pool (page_bodies pages.items) }
+        ensures held { (f : Count) → counted f (asking_hand result)
+            ≡ counted f (page_bodies pages.items) }
     {
         let pool = pool_of(&pages);
         let buffers = pages.len() as u32;
@@ -213,8 +212,8 @@ impl Asking {
         ensures same { SameAsking self.old self.new }
         ensures stands { (start : List Paged) (came put : List Cargo)
             → AskingStands self.old start came put → AskingStands self.new start came put }
-        ensures held { (pool : PoolId) → buffers_of pool (asking_hand self.new)
-            ≡ buffers_of pool (asking_hand self.old) }
+        ensures held { (f : Count) → counted f (asking_hand self.new)
+            ≡ counted f (asking_hand self.old) }
     {
         if self.next.is_some() {
             return;
@@ -268,8 +267,8 @@ impl Asking {
         ensures stands { (start : List Paged) (came put : List Cargo)
             → AskingStands self.old start came put
             → AskingStands self.new start (came ++ entry ∷ []) put }
-        ensures held { (pool : PoolId) → buffers_of pool (asking_hand self.new)
-            ≡ buffers_of pool (asking_hand self.old) + buffers_in pool entry.1 }
+        ensures held { (f : Count) → counted f (asking_hand self.new)
+            ≡ counted f (asking_hand self.old) + weight f entry.1 }
     {
         let (item, body) = entry;
         let resp = response_of(item);
@@ -292,8 +291,8 @@ impl Asking {
         ensures stands { (start : List Paged) (came put : List Cargo) (c : Cargo)
             → AskingStands (record self.old { next = Some c }) start came put
             → AskingStands self.new start came (put ++ c ∷ []) }
-        ensures held { (pool : PoolId) → buffers_of pool (asking_hand self.new)
-            ≡ buffers_of pool (asking_hand self.old) }
+        ensures held { (f : Count) → counted f (asking_hand self.new)
+            ≡ counted f (asking_hand self.old) }
     {
         self.sent += 1;
         self.prepare();

@@ -1,7 +1,6 @@
 use Rattle.std.proofs.Common.{◌≡◌, ◌&&◌, [], ◌∷◌, slice_get, is_none, sym, ap, ◌∙◌, refl, arith}
 use Rattle.std.proofs.lemmas.Bool.{and_parts}
 use Rattle.std.proofs.lemmas.Option.{slice_get_read, slice_get_within}
-use Rattle.turn_kit.proofs.Holding.{cargo-cons}
 use Rattle.blk_mbr.specs.Partitions.{part_of}
 use Rattle.buffer_kit.proofs.ManyClients.{some_eq, so_there}
 use Rattle.blk_virt.specs.declared.client.Client.{Client}
@@ -39,9 +38,8 @@ returns-clause-stands c = λ start back sent came gave h.
     (λ y is. c.part-part.ensures.part y is ∙ ap (λ (v : Client). part_of (sector_of y.1) c.args.self.now.opening.disk_sectors v.holder.partition) (some_eq (sym read ∙ m.there)))
 
 pub returns-clause-held : goal.returns-clause-held
-returns-clause-held c = λ pool.
-    let was = work_parts pool c.args.self.now.opening.first c.args.self.now.opening.block (desk_cargo c.args.self.now.desk) c.args.self.now.stray in
-    let now = work_parts pool c.args.self.now.opening.first c.args.self.now.opening.block (desk_cargo c.receive.new.self) c.args.self.now.stray in
-    let m = moved_held c.args.self.now.desk c.receive.new.self c.requires.work.desk c.args.place c.part-part.result (c.args.entry ∷ []) [] [] [] c.receive.ensures.moved pool in
-    let one = cargo-cons pool c.args.entry [] in
-    omega (arith, was, now, m, one)
+returns-clause-held c = λ f.
+    let was = work_parts f c.args.self.now.opening.first c.args.self.now.opening.block (desk_cargo c.args.self.now.desk) c.args.self.now.stray in
+    let now = work_parts f c.args.self.now.opening.first c.args.self.now.opening.block (desk_cargo c.receive.new.self) c.args.self.now.stray in
+    let m = moved_held c.args.self.now.desk c.receive.new.self c.requires.work.desk c.args.place c.part-part.result (c.args.entry ∷ []) [] [] [] c.receive.ensures.moved f in
+    omega (arith, was, now, m)

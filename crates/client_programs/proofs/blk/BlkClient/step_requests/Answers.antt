@@ -1,6 +1,6 @@
 use Rattle.std.proofs.Common.{◌≡◌, ◌+◌, ◌==◌, ◌∷◌, [], List, Option, Some, None, refl, sym, ap, ◌∙◌, subst}
 use Rattle.std.specs.Option.{option_map, option_to_list}
-use Rattle.cargo_core.specs.Bodies.{buffers_of, buffers_in}
+use Rattle.buffer_kit.specs.Conserving.{counted, weight}
 use Rattle.wire_core.specs.Deeds.{Cargo, deed_of, put_of}
 use Rattle.wire_core.specs.Lists.{if_there, with_deed}
 use Rattle.client_programs.specs.declared.blk.asking.Asking.{Asking}
@@ -27,7 +27,7 @@ returns-then-is_none-clause-stepped g c =
           (request_put q (req_queue c.args.self.now) w c.go_on.new.self (record { script = c.go_on.ensures.same.script; same_pool = c.go_on.ensures.same.same_pool; buffers = c.go_on.ensures.same.buffers }) passed _ _ _ (subst (λ (s : Option Cargo). BlkStands q (req_queue c.args.self.now) w (option_to_list s) passed) there.1 h) x
           c.step-event.ensures.takes (λ n. c.step-event.ensures.puts n ∙ ap (λ (cs : List Cargo). if_there (req_queue c.args.self.now == n) cs) put)
           (λ start came sent s. c.go_on.ensures.stands start came sent x (subst (λ (v : Asking). AskingStands v start came sent) (sym back) s))
-          (λ pool. hand_put pool w x there.0.1 ∙ ap (λ n. n + buffers_in pool x.1) (ap (λ (o : Option Cargo). buffers_of pool (asking_hand (record w { next = o }))) (sym none) ∙ sym (c.go_on.ensures.held pool))));
+          (λ f. hand_put f w x there.0.1 ∙ ap (λ n. n + weight f x.1) (ap (λ (o : Option Cargo). counted f (asking_hand (record w { next = o }))) (sym none) ∙ sym (c.go_on.ensures.held f))));
     }
 
 pub returns-then-not-is_asking-clause-stepped : goal.returns-then-not-is_asking-clause-stepped

@@ -1,8 +1,8 @@
 use Rattle.cargo_core.specs.declared.item.Ask.{Ask}
 use Rattle.client_programs.specs.Blk.Asking.{replies_to}
 use Rattle.std.proofs.Common.{◌≡◌, ◌∷◌, [], List, sym, ap, ◌∙◌, refl, arith}
-use Rattle.cargo_core.specs.Bodies.{buffers_of}
 use Rattle.cargo_core.specs.Pages.{Paged}
+use Rattle.buffer_kit.specs.Conserving.{counted}
 use Rattle.buffer_kit.specs.Pools.{page_bodies}
 use Rattle.client_programs.proofs.blk.asking.Asking.new.Goals as goal
 
@@ -25,4 +25,4 @@ returns-clause-stands c = c.prepare.ensures.stands c.args.pages.items [] [] (rec
     none (x ∷ xs) = refl
 
 pub returns-clause-held : goal.returns-clause-held
-returns-clause-held c = λ pool. c.prepare.ensures.held pool ∙ ap (λ (ps : List Paged). buffers_of pool (page_bodies ps)) c.new.ensures.pages
+returns-clause-held c = λ f. c.prepare.ensures.held f ∙ ap (λ (ps : List Paged). counted f (page_bodies ps)) c.new.ensures.pages

@@ -27,9 +27,9 @@ returns-clause-stands c = λ start came put h.
     (stands_received c.args.self.now start came put c.keep.new.self c.args.entry due.0 due.1 (recorded c due.0 due.1) c.keep.ensures.pages c.requires.due (all_sent c) h)
 
 pub returns-clause-held : goal.returns-clause-held
-returns-clause-held c = λ pool.
-    let was = hand_count pool c.args.self.now in
-    let now = hand_count pool (record c.args.self.now { kept = c.keep.new.self }) in
-    let more = came_count pool c.args.self.now.kept.pages c.keep.new.self.pages c.args.entry.1 c.keep.ensures.pages in
-    let same = c.prepare.ensures.held pool in
+returns-clause-held c = λ f.
+    let was = hand_count f c.args.self.now in
+    let now = hand_count f (record c.args.self.now { kept = c.keep.new.self }) in
+    let more = came_count f c.args.self.now.kept.pages c.keep.new.self.pages c.args.entry.1 c.keep.ensures.pages in
+    let same = c.prepare.ensures.held f in
     omega (arith, was, now, more, same)
