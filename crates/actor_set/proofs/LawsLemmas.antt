@@ -19,3 +19,5 @@ pub mod BlkEnds
 pub mod BlkBeside
 pub mod BlkStarts
 pub mod Seating
+pub mod Told
+pub mod ToldRows

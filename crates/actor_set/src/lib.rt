@@ -6,6 +6,7 @@ mod actor;
 pub mod adopting;
 mod disk;
 pub mod laws;
+pub mod scenes;
 
 pub use actor::{Actor, hand_law, row_law};
 pub use disk::Disk;

@@ -6,6 +6,7 @@ pub mod Scripts
 pub mod Parts
 pub mod RecordsLemmas
 pub mod SheetsLemmas
+pub mod VirtScene
 pub mod HopsLemmas
 pub mod RestsLemmas
 pub mod OwnersLemmas

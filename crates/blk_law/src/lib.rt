@@ -17,6 +17,7 @@ pub mod owners;
 pub mod records;
 pub mod rests;
 pub mod sheets;
+pub mod virt_scene;
 
 /// A run of blocks that a disk has is a disk of its own to those whose requests alone touch it.
 pub fn own_disk_law()

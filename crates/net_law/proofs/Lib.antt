@@ -11,3 +11,4 @@ pub mod TxParts
 pub mod RestsLemmas
 pub mod TxRests
 pub mod HopsLemmas
+pub mod TxScene

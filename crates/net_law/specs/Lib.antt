@@ -1,6 +1,6 @@
 -- What the laws of the network class say: of what a client gets (Receiving) and sends (Sending), of
 -- the wire (Wire), of the owners of buffers (Owners, RxOwners), of the tables of its actors (Parts,
--- TxParts), and of how often entries are moved (Hops).
+-- TxParts; TxScene: where clients may be hostile), and of how often entries are moved (Hops).
 pub mod Receiving
 pub mod Sending
 pub mod Wire
@@ -8,4 +8,5 @@ pub mod Owners
 pub mod RxOwners
 pub mod Parts
 pub mod TxParts
+pub mod TxScene
 pub mod Hops

@@ -28,6 +28,7 @@ pub mod rests;
 pub mod rx_owners;
 pub mod tx_parts;
 pub mod tx_rests;
+pub mod tx_scene;
 pub mod wire;
 
 /// A client's record is a beginning of the device's frames that are for it.

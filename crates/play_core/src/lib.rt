@@ -20,6 +20,7 @@ ghost use Rattle.play_core.specs.Resting.{QueueRests, QueuePays, is_due};
 ghost use Rattle.play_core.specs.Totals.{total};
 ghost use Rattle.play_core.specs.Still.{IsQuiet, IsStill, Needs, Owes};
 
+pub mod growing;
 pub mod picks;
 pub mod rests;
 

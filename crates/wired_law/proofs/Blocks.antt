@@ -39,9 +39,9 @@ use Rattle.actor_set.specs.Actors.{FitsActor, ActorStandsFor, part_of}
 use Rattle.actor_set.specs.declared.disk.Disk.{Disk}
 use Rattle.actor_set.specs.declared.actor.Actor.{Actor}
 use Rattle.actor_set.specs.declared.actor.Actor.TheVariants as Kinds
-use Rattle.actor_set.specs.Laws.Kinds.{scene_of}
 use Rattle.actor_set.proofs.LawsLemmas.BlkRows.{disk_row_of}
-use Rattle.wired_law.specs.Wiring.{IsOfBlock, HasBlk, HasNoBlock, HasPart, ClientsAsk, AreAtWork}
+use Rattle.play_core.specs.Sheets.{Scene}
+use Rattle.wired_law.specs.Wiring.{IsOfBlock, HasBlkIn, HasNoBlock, HasPart, ClientsAsk, AreAtWork}
 use Rattle.wired_law.proofs.Acting.{disk_actor, blk_driver_actor, virt_actor, blk_client_actor}
 use Rattle.wired_law.proofs.Deeds.{puts_or_takes}
 
@@ -99,14 +99,14 @@ client_is place req resp asks pool (inr (inl e)) = absurd cc
 client_is place req resp asks pool (inr (inr (inl e))) = absurd cc
 client_is place req resp asks pool (inr (inr (inr k))) = k
 
-module _ (ends : Role → ℕ → End) (rows : List QueueRow) (actors : List Actor) (passed : Passed) (work : AreAtWork ends rows actors passed) where
+module _ (scene : Scene) (ends : Role → ℕ → End) (rows : List QueueRow) (actors : List Actor) (passed : Passed) (work : AreAtWork ends rows actors passed) where
   abbrev cast : List Part
   cast = map part_of actors
 
   actor_of : (p : Part) → HasPart cast p → (x : Actor) × (part_of x ≡ p) × FitsActor ends x × ActorStandsFor x passed
   actor_of p has = let x = map_from part_of actors has.0 p has.1 in (x.0, x.2, work.fits has.0 x.0 x.1, work.stands has.0 x.0 x.1)
 
-  module _ (place : BlkPlace) (has : HasBlk rows place cast) where
+  module _ (place : BlkPlace) (has : HasBlkIn scene rows place cast) where
     disk_there : (d : Disk) × (disk_part d.start.value d.device ≡ disk_at place) × DiskRow d.start.value d.device passed
     disk_there =
         let x = actor_of (BlockPart (disk_at place)) has.disk in
@@ -186,7 +186,7 @@ module _ (ends : Role → ℕ → End) (rows : List QueueRow) (actors : List Act
         let turn : (row : DiskRow d.start.value d.device passed) → row.stray ≡ [] = subst (λ s. (row : DiskRow s d.device passed) → row.stray ≡ []) (sym (start_is d part)) (disk_in_turn place passed class (all_ask ask)) in
         record { free = none_of d.device.stray (disk_none place passed class (all_ask ask) stands.requests (option_to_list d.device.stray) stands.taken (all_of (λ (x : Cargo). is_stray place.image x ≡ true) d.device.stray (λ x e. ap (λ s. is_stray s x) (sym (start_is d part)) ∙ stands.out_of_turn x e))); in_turn = turn }
 
-    pub virt_turns : ClientsAsk cast passed → (k : ℕ) (v : BlkVirt) → slice_get actors k ≡ Some (Kinds.BlkVirt v) → FitsActor ends (Kinds.BlkVirt v) → BlkVirtStandsFor v passed → VirtInTurn (scene_of cast).image v passed
+    pub virt_turns : ClientsAsk cast passed → (k : ℕ) (v : BlkVirt) → slice_get actors k ≡ Some (Kinds.BlkVirt v) → FitsActor ends (Kinds.BlkVirt v) → BlkVirtStandsFor v passed → VirtInTurn scene.image v passed
     unfolding cast_with
     virt_turns ask k v at fits stands =
         let part = virt_is place v (has.only k (virt_part v) (map_get part_of actors k (Kinds.BlkVirt v) at)) in
@@ -238,15 +238,15 @@ module _ (ends : Role → ℕ → End) (rows : List QueueRow) (actors : List Act
         client_puts place passed class_there k entry asks pool of c.0 c.1
 
   -- where there is none of the class, or the whole class
-  pub disk_by : HasNoBlock cast ⊎ ((place : BlkPlace) × HasBlk rows place cast) → ClientsAsk cast passed → (k : ℕ) (d : Disk) → slice_get actors k ≡ Some (Kinds.DiskDevice d) → DiskInTurn d.start.value d.device passed
+  pub disk_by : HasNoBlock cast ⊎ ((place : BlkPlace) × HasBlkIn scene rows place cast) → ClientsAsk cast passed → (k : ℕ) (d : Disk) → slice_get actors k ≡ Some (Kinds.DiskDevice d) → DiskInTurn d.start.value d.device passed
   disk_by (inl none) ask k d at = absurd (none k (disk_part d.start.value d.device) (map_get part_of actors k (Kinds.DiskDevice d) at))
   disk_by (inr p) ask k d at = disk_turns p.0 p.1 ask k d at (work.stands k (Kinds.DiskDevice d) at)
 
-  pub virt_by : HasNoBlock cast ⊎ ((place : BlkPlace) × HasBlk rows place cast) → ClientsAsk cast passed → (k : ℕ) (v : BlkVirt) → slice_get actors k ≡ Some (Kinds.BlkVirt v) → VirtInTurn (scene_of cast).image v passed
+  pub virt_by : HasNoBlock cast ⊎ ((place : BlkPlace) × HasBlkIn scene rows place cast) → ClientsAsk cast passed → (k : ℕ) (v : BlkVirt) → slice_get actors k ≡ Some (Kinds.BlkVirt v) → VirtInTurn scene.image v passed
   virt_by (inl none) ask k v at = absurd (none k (virt_part v) (map_get part_of actors k (Kinds.BlkVirt v) at))
   virt_by (inr p) ask k v at = virt_turns p.0 p.1 ask k v at (work.fits k (Kinds.BlkVirt v) at) (work.stands k (Kinds.BlkVirt v) at)
 
-  pub client_by : HasNoBlock cast ⊎ ((place : BlkPlace) × HasBlk rows place cast) → (k : ℕ) (c : BlkClient) → slice_get actors k ≡ Some (Kinds.BlkClient c) → ClientInTurn c passed
+  pub client_by : HasNoBlock cast ⊎ ((place : BlkPlace) × HasBlkIn scene rows place cast) → (k : ℕ) (c : BlkClient) → slice_get actors k ≡ Some (Kinds.BlkClient c) → ClientInTurn c passed
   client_by (inl none) k c at = absurd (none k (blk_client_part c) (map_get part_of actors k (Kinds.BlkClient c) at))
   client_by (inr p) k c at = client_turns p.0 p.1 k c at (work.stands k (Kinds.BlkClient c) at)
 
@@ -255,16 +255,16 @@ pub nothing_asked : (cast : List Part) → ClientsAsk cast nothing_passed
 nothing_asked cast k req resp asks pool at j c there = cc
 
 -- a client's requests after one more call: where it puts one, nothing came back to it in this call
-module _ (ends ends' : Role → ℕ → End) (rows : List QueueRow) (actors actors' : List Actor) (passed : Passed) (deed : Deed) (same : map part_of actors' ≡ map part_of actors) (work : AreAtWork ends rows actors passed) (ask : ClientsAsk (map part_of actors) passed) (later : AreAtWork ends' rows actors' (with_deed passed deed)) where
-  module _ (place : BlkPlace) (has : HasBlk rows place (map part_of actors)) where
+module _ (scene : Scene) (ends ends' : Role → ℕ → End) (rows : List QueueRow) (actors actors' : List Actor) (passed : Passed) (deed : Deed) (same : map part_of actors' ≡ map part_of actors) (work : AreAtWork ends rows actors passed) (ask : ClientsAsk (map part_of actors) passed) (later : AreAtWork ends' rows actors' (with_deed passed deed)) where
+  module _ (place : BlkPlace) (has : HasBlkIn scene rows place (map part_of actors)) where
     client_asks_on : (k entry : ℕ) (asks : List Ask) (pool : PoolAt) → IsBlkClientOf place k entry asks pool → AreRequests pool (passed.sent (place.first + 4 + 2 * k)) → AreRequests pool ((with_deed passed deed).sent (place.first + 4 + 2 * k))
     client_asks_on k entry asks pool of old = by (puts_or_takes passed deed)
       where
         by : ((n : ℕ) → (with_deed passed deed).sent n ≡ passed.sent n) ⊎ ((n : ℕ) → (with_deed passed deed).taken n ≡ passed.taken n) → AreRequests pool ((with_deed passed deed).sent (place.first + 4 + 2 * k))
         by (inl still) = subst (AreRequests pool) (sym (still (place.first + 4 + 2 * k))) old
         by (inr still) =
-            let back = back_asked ends rows actors passed work place has ask k entry asks pool of in
-            puts_asked ends' rows actors' (with_deed passed deed) later place (subst (HasBlk rows place) (sym same) has) k entry asks pool of
+            let back = back_asked scene ends rows actors passed work place has ask k entry asks pool of in
+            puts_asked scene ends' rows actors' (with_deed passed deed) later place (subst (HasBlkIn scene rows place) (sym same) has) k entry asks pool of
             (λ j y at. back j y (ap (λ l. slice_get l j) (sym (still (place.first + 5 + 2 * k))) ∙ at))
 
     pub class_asks_on : ClientsAsk (map part_of actors) (with_deed passed deed)
@@ -278,6 +278,6 @@ module _ (ends ends' : Role → ℕ → End) (rows : List QueueRow) (actors acto
         let new = own_requests is.3 ((with_deed passed deed).sent (place.first + 4 + 2 * is.0)) (client_asks_on is.0 is.1 is.2 is.3 is.4 old) in
         subst (λ n. AreRequests pool ((with_deed passed deed).sent n)) (sym queue) (subst (λ p. AreRequests p ((with_deed passed deed).sent (place.first + 4 + 2 * is.0))) (sym own) new)
 
-  pub asks_by : HasNoBlock (map part_of actors) ⊎ ((place : BlkPlace) × HasBlk rows place (map part_of actors)) → ClientsAsk (map part_of actors) (with_deed passed deed)
+  pub asks_by : HasNoBlock (map part_of actors) ⊎ ((place : BlkPlace) × HasBlkIn scene rows place (map part_of actors)) → ClientsAsk (map part_of actors) (with_deed passed deed)
   asks_by (inl none) = λ k req resp asks pool at. absurd (none k (ClientPart req resp asks pool) at)
   asks_by (inr p) = class_asks_on p.0 p.1

@@ -38,11 +38,12 @@ use Rattle.actor_set.specs.Parts.{Part, NetworkPart, SendingPart}
 use Rattle.actor_set.specs.Actors.{FitsActor, ActorStandsFor, part_of}
 use Rattle.actor_set.specs.declared.actor.Actor.{Actor}
 use Rattle.actor_set.specs.declared.actor.Actor.TheVariants as Kinds
-use Rattle.actor_set.specs.Laws.Kinds.{scene_of}
 use Rattle.actor_set.specs.Laws.Records.{frames_got}
 use Rattle.actor_set.specs.Laws.Turning.{InTurn, SendsInTurn}
 use Rattle.actor_set.proofs.LawsLemmas.NetRows.{device_row_of}
-use Rattle.wired_law.specs.Wiring.{IsOfNetwork, HasWhole, HasNoNetwork, HasBlk, HasNoBlock, HasPart, IsWired, NetClientsSend, ClientsAsk, ClientsSend, AreAtWork}
+use Rattle.play_core.specs.Sheets.{Scene}
+use Rattle.actor_set.specs.Laws.Kinds.{scene_of}
+use Rattle.wired_law.specs.Wiring.{IsOfNetwork, HasWholeIn, HasNoNetwork, HasBlkIn, HasNoBlock, HasPart, IsWired, IsWiredIn, NetClientsSendIn, ClientsAsk, ClientsSend, ClientsSendIn, AreAtWork}
 use Rattle.wired_law.proofs.Acting.{device_actor, driver_actor, receiver_actor, sender_actor, copier_actor, client_actor}
 use Rattle.wired_law.proofs.Deeds.{puts_or_takes}
 use Rattle.wired_law.proofs.Blocks.{disk_by, virt_by, client_by, nothing_asked, asks_by}
@@ -80,18 +81,18 @@ sender_is net frames v (inr (inr (inr (inl e)))) = cc
 sender_is net frames v (inr (inr (inr (inr (inl k))))) = let e = k.2 in absurd cc
 sender_is net frames v (inr (inr (inr (inr (inr k))))) = let e = k.5 in absurd cc
 
-module _ (ends : Role → ℕ → End) (rows : List QueueRow) (actors : List Actor) (passed : Passed) (work : AreAtWork ends rows actors passed) where
+module _ (scene : Scene) (ends : Role → ℕ → End) (rows : List QueueRow) (actors : List Actor) (passed : Passed) (work : AreAtWork ends rows actors passed) where
   abbrev cast : List Part
   cast = map part_of actors
 
   abbrev frames : List (List ℕ)
-  frames = (scene_of cast).frames
+  frames = scene.frames
 
   -- the actor of a part
   actor_of : (p : Part) → HasPart cast p → (x : Actor) × (part_of x ≡ p) × FitsActor ends x × ActorStandsFor x passed
   actor_of p has = let x = map_from part_of actors has.0 p has.1 in (x.0, x.2, work.fits has.0 x.0 x.1, work.stands has.0 x.0 x.1)
 
-  module _ (net : NetPlace) (whole : HasWhole rows net cast) where
+  module _ (net : NetPlace) (whole : HasWholeIn scene rows net cast) where
     receiver_at_work : (v : NetVirtRx) → receiver_part v ≡ receiver_at net.first net.pool net.macs → FitsActor ends (Kinds.NetVirtRx v) → ActorStandsFor (Kinds.NetVirtRx v) passed → IsReceiverAt net.first net.pool net.macs v passed
     receiver_at_work v part fits stands = record { part = part; to_each = fits.to_each; from_each = fits.from_each; row = receiver_row v passed stands }
 
@@ -218,7 +219,7 @@ module _ (ends : Role → ℕ → End) (rows : List QueueRow) (actors : List Act
           in_turn = λ row. none_out net frames passed all row send;
         }
 
-    whole_turns : AllSend net passed → HasNoBlock cast ⊎ ((place : BlkPlace) × HasBlk rows place cast) → ClientsAsk cast passed → (k : ℕ) (x : Actor) → slice_get actors k ≡ Some x → FitsActor ends x → ActorStandsFor x passed → InTurn (scene_of cast) x passed
+    whole_turns : AllSend net passed → HasNoBlock cast ⊎ ((place : BlkPlace) × HasBlkIn scene rows place cast) → ClientsAsk cast passed → (k : ℕ) (x : Actor) → slice_get actors k ≡ Some x → FitsActor ends x → ActorStandsFor x passed → InTurn scene x passed
     whole_turns sends block ask k (Kinds.UartDevice x) at fits stands = tt
     whole_turns sends block ask k (Kinds.UartDriver x) at fits stands = tt
     whole_turns sends block ask k (Kinds.SerialVirtRx x) at fits stands = tt
@@ -240,10 +241,10 @@ module _ (ends : Role → ℕ → End) (rows : List QueueRow) (actors : List Act
     whole_turns sends block ask k (Kinds.NetVirtTx v) at fits stands =
         let part = sender_is net frames v (whole.only_sender k (send_part v) (map_get part_of actors k (Kinds.NetVirtTx v) at)) in
         sender_turns sends v (record { part = part; row = sender_row v passed stands })
-    whole_turns sends block ask k (Kinds.DiskDevice x) at fits stands = disk_by ends rows actors passed work block ask k x at
+    whole_turns sends block ask k (Kinds.DiskDevice x) at fits stands = disk_by scene ends rows actors passed work block ask k x at
     whole_turns sends block ask k (Kinds.BlkDriver x) at fits stands = tt
-    whole_turns sends block ask k (Kinds.BlkVirt x) at fits stands = virt_by ends rows actors passed work block ask k x at
-    whole_turns sends block ask k (Kinds.BlkClient x) at fits stands = client_by ends rows actors passed work block k x at
+    whole_turns sends block ask k (Kinds.BlkVirt x) at fits stands = virt_by scene ends rows actors passed work block ask k x at
+    whole_turns sends block ask k (Kinds.BlkClient x) at fits stands = client_by scene ends rows actors passed work block k x at
 
     pub recorded_here : (k c : ℕ) (x : Actor) (program : Program) (mac : Mac) (pools : ClientPools) → slice_get actors k ≡ Some x → part_of x ≡ NetworkPart (client_at net.first c program mac pools) → 1 ≤ pools.rx.buffers → net.most ≤ pools.rx.size → slice_get net.macs c ≡ Some mac → IsPrefix (frames_got x) (frames_for mac frames)
     recorded_here k c x program mac pools at part some enough address =
@@ -277,7 +278,7 @@ module _ (ends : Role → ℕ → End) (rows : List QueueRow) (actors : List Act
     pub puts_here : (k : ℕ) (program : Program) (mac : Mac) (q : ClientPools) → IsClientOf net k program mac q → AreSends net.most q.tx (passed.taken (client_first net.first k + 5)) → AreSends net.most q.tx (passed.sent (client_first net.first k + 4))
     puts_here = client_puts net frames passed whole_there
 
-  none_turns : HasNoNetwork cast → HasNoBlock cast ⊎ ((place : BlkPlace) × HasBlk rows place cast) → ClientsAsk cast passed → (k : ℕ) (x : Actor) → slice_get actors k ≡ Some x → InTurn (scene_of cast) x passed
+  none_turns : HasNoNetwork cast → HasNoBlock cast ⊎ ((place : BlkPlace) × HasBlkIn scene rows place cast) → ClientsAsk cast passed → (k : ℕ) (x : Actor) → slice_get actors k ≡ Some x → InTurn scene x passed
   none_turns empty block ask k (Kinds.UartDevice x) at = tt
   none_turns empty block ask k (Kinds.UartDriver x) at = tt
   none_turns empty block ask k (Kinds.SerialVirtRx x) at = tt
@@ -289,48 +290,48 @@ module _ (ends : Role → ℕ → End) (rows : List QueueRow) (actors : List Act
   none_turns empty block ask k (Kinds.NetCopier c) at = absurd (empty.none k (copier_part c) (map_get part_of actors k (Kinds.NetCopier c) at))
   none_turns empty block ask k (Kinds.NetClient c) at = absurd (empty.none k (client_part c) (map_get part_of actors k (Kinds.NetClient c) at))
   none_turns empty block ask k (Kinds.NetVirtTx v) at = absurd (empty.no_sender k (send_part v) (map_get part_of actors k (Kinds.NetVirtTx v) at))
-  none_turns empty block ask k (Kinds.DiskDevice x) at = disk_by ends rows actors passed work block ask k x at
+  none_turns empty block ask k (Kinds.DiskDevice x) at = disk_by scene ends rows actors passed work block ask k x at
   none_turns empty block ask k (Kinds.BlkDriver x) at = tt
-  none_turns empty block ask k (Kinds.BlkVirt x) at = virt_by ends rows actors passed work block ask k x at
-  none_turns empty block ask k (Kinds.BlkClient x) at = client_by ends rows actors passed work block k x at
+  none_turns empty block ask k (Kinds.BlkVirt x) at = virt_by scene ends rows actors passed work block ask k x at
+  none_turns empty block ask k (Kinds.BlkClient x) at = client_by scene ends rows actors passed work block k x at
 
-  turns_by : HasNoNetwork cast ⊎ ((net : NetPlace) × HasWhole rows net cast) → HasNoBlock cast ⊎ ((place : BlkPlace) × HasBlk rows place cast) → ClientsSend rows cast passed → (k : ℕ) (x : Actor) → slice_get actors k ≡ Some x → InTurn (scene_of cast) x passed
+  turns_by : HasNoNetwork cast ⊎ ((net : NetPlace) × HasWholeIn scene rows net cast) → HasNoBlock cast ⊎ ((place : BlkPlace) × HasBlkIn scene rows place cast) → ClientsSendIn scene rows cast passed → (k : ℕ) (x : Actor) → slice_get actors k ≡ Some x → InTurn scene x passed
   turns_by (inl empty) block sends k x at = none_turns empty block sends.requests k x at
   turns_by (inr net) block sends k x at = whole_turns net.0 net.1 (sends.frames net.0 net.1) block sends.requests k x at (work.fits k x at) (work.stands k x at)
 
-pub in_turn : (ends : Role → ℕ → End) (rows : List QueueRow) (actors : List Actor) (passed : Passed) → IsWired rows (map part_of actors) → AreAtWork ends rows actors passed → ClientsSend rows (map part_of actors) passed → (k : ℕ) (x : Actor) → slice_get actors k ≡ Some x → InTurn (scene_of (map part_of actors)) x passed
-in_turn ends rows actors passed wired work = turns_by ends rows actors passed work wired.network wired.block
+pub in_turn : {scene : Scene} (ends : Role → ℕ → End) (rows : List QueueRow) (actors : List Actor) (passed : Passed) → IsWiredIn scene rows (map part_of actors) → AreAtWork ends rows actors passed → ClientsSendIn scene rows (map part_of actors) passed → (k : ℕ) (x : Actor) → slice_get actors k ≡ Some x → InTurn scene x passed
+in_turn {scene} ends rows actors passed wired work = turns_by scene ends rows actors passed work wired.network wired.block
 
-pub recorded : (ends : Role → ℕ → End) (rows : List QueueRow) (actors : List Actor) (passed : Passed) (net : NetPlace) → HasWhole rows net (map part_of actors) → AreAtWork ends rows actors passed → (k c : ℕ) (x : Actor) (program : Program) (mac : Mac) (pools : ClientPools) → slice_get actors k ≡ Some x → part_of x ≡ NetworkPart (client_at net.first c program mac pools) → 1 ≤ pools.rx.buffers → net.most ≤ pools.rx.size → slice_get net.macs c ≡ Some mac
-    → IsPrefix (frames_got x) (frames_for mac (scene_of (map part_of actors)).frames)
-recorded ends rows actors passed net whole work = recorded_here ends rows actors passed work net whole
+pub recorded : {scene : Scene} (ends : Role → ℕ → End) (rows : List QueueRow) (actors : List Actor) (passed : Passed) (net : NetPlace) → HasWholeIn scene rows net (map part_of actors) → AreAtWork ends rows actors passed → (k c : ℕ) (x : Actor) (program : Program) (mac : Mac) (pools : ClientPools) → slice_get actors k ≡ Some x → part_of x ≡ NetworkPart (client_at net.first c program mac pools) → 1 ≤ pools.rx.buffers → net.most ≤ pools.rx.size → slice_get net.macs c ≡ Some mac
+    → IsPrefix (frames_got x) (frames_for mac scene.frames)
+recorded {scene} ends rows actors passed net whole work = recorded_here scene ends rows actors passed work net whole
 
-pub sent_on : (ends : Role → ℕ → End) (rows : List QueueRow) (actors : List Actor) (passed : Passed) (net : NetPlace) → HasWhole rows net (map part_of actors) → AreAtWork ends rows actors passed → ClientsSend rows (map part_of actors) passed → (k : ℕ) (x : Actor) → slice_get actors k ≡ Some x → part_of x ≡ NetworkPart (device_at net.first (scene_of (map part_of actors)).frames)
-    → PrefixMerge (sends_at net.programs net.macs (scene_of (map part_of actors)).frames) (frames_got x)
-sent_on ends rows actors passed net whole work sends = sent_here ends rows actors passed work net whole (sends.frames net whole)
+pub sent_on : {scene : Scene} (ends : Role → ℕ → End) (rows : List QueueRow) (actors : List Actor) (passed : Passed) (net : NetPlace) → HasWholeIn scene rows net (map part_of actors) → AreAtWork ends rows actors passed → ClientsSendIn scene rows (map part_of actors) passed → (k : ℕ) (x : Actor) → slice_get actors k ≡ Some x → part_of x ≡ NetworkPart (device_at net.first scene.frames)
+    → PrefixMerge (sends_at net.programs net.macs scene.frames) (frames_got x)
+sent_on {scene} ends rows actors passed net whole work sends = sent_here scene ends rows actors passed work net whole (sends.frames net whole)
 
-pub sent_told : (ends : Role → ℕ → End) (rows : List QueueRow) (actors : List Actor) (passed : Passed) (net : NetPlace) → HasWhole rows net (map part_of actors) → AreAtWork ends rows actors passed → ClientsSend rows (map part_of actors) passed → (k : ℕ) (x : Actor) → slice_get actors k ≡ Some x → part_of x ≡ NetworkPart (device_at net.first (scene_of (map part_of actors)).frames)
-    → frames_got x ≡ wire_at net (scene_of (map part_of actors)).frames (items_of (passed.taken (net.first + 2)))
-sent_told ends rows actors passed net whole work sends = told_here ends rows actors passed work net whole (sends.frames net whole)
+pub sent_told : {scene : Scene} (ends : Role → ℕ → End) (rows : List QueueRow) (actors : List Actor) (passed : Passed) (net : NetPlace) → HasWholeIn scene rows net (map part_of actors) → AreAtWork ends rows actors passed → ClientsSendIn scene rows (map part_of actors) passed → (k : ℕ) (x : Actor) → slice_get actors k ≡ Some x → part_of x ≡ NetworkPart (device_at net.first scene.frames)
+    → frames_got x ≡ wire_at net scene.frames (items_of (passed.taken (net.first + 2)))
+sent_told {scene} ends rows actors passed net whole work sends = told_here scene ends rows actors passed work net whole (sends.frames net whole)
 
 -- nothing was put at the start
-pub nothing_sent : (rows : List QueueRow) (cast : List Part) → ClientsSend rows cast nothing_passed
+pub nothing_sent : {scene : Scene} (rows : List QueueRow) (cast : List Part) → ClientsSendIn scene rows cast nothing_passed
 nothing_sent rows cast = record {
   frames = λ net whole k q at j c there. cc;
   requests = nothing_asked cast;
 }
 
 -- a client's entries after one more call: where it puts one, nothing came back to it in this call
-module _ (ends ends' : Role → ℕ → End) (rows : List QueueRow) (actors actors' : List Actor) (passed : Passed) (deed : Deed) (same : map part_of actors' ≡ map part_of actors) (work : AreAtWork ends rows actors passed) (sends : NetClientsSend rows (map part_of actors) passed) (later : AreAtWork ends' rows actors' (with_deed passed deed)) where
-  module _ (net : NetPlace) (whole : HasWhole rows net (map part_of actors)) where
+module _ (scene : Scene) (ends ends' : Role → ℕ → End) (rows : List QueueRow) (actors actors' : List Actor) (passed : Passed) (deed : Deed) (same : map part_of actors' ≡ map part_of actors) (work : AreAtWork ends rows actors passed) (sends : NetClientsSendIn scene rows (map part_of actors) passed) (later : AreAtWork ends' rows actors' (with_deed passed deed)) where
+  module _ (net : NetPlace) (whole : HasWholeIn scene rows net (map part_of actors)) where
     client_sends_on : (k : ℕ) (program : Program) (mac : Mac) (q : ClientPools) → IsClientOf net k program mac q → AreSends net.most q.tx (passed.sent (client_first net.first k + 4)) → AreSends net.most q.tx ((with_deed passed deed).sent (client_first net.first k + 4))
     client_sends_on k program mac q of old = by (puts_or_takes passed deed)
       where
         by : ((n : ℕ) → (with_deed passed deed).sent n ≡ passed.sent n) ⊎ ((n : ℕ) → (with_deed passed deed).taken n ≡ passed.taken n) → AreSends net.most q.tx ((with_deed passed deed).sent (client_first net.first k + 4))
         by (inl still) = subst (AreSends net.most q.tx) (sym (still (client_first net.first k + 4))) old
         by (inr still) =
-            let back = back_here ends rows actors passed work net whole (sends net whole) k program mac q of in
-            puts_here ends' rows actors' (with_deed passed deed) later net (subst (HasWhole rows net) (sym same) whole) k program mac q of (subst (AreSends net.most q.tx) (sym (still (client_first net.first k + 5))) back)
+            let back = back_here scene ends rows actors passed work net whole (sends net whole) k program mac q of in
+            puts_here scene ends' rows actors' (with_deed passed deed) later net (subst (HasWholeIn scene rows net) (sym same) whole) k program mac q of (subst (AreSends net.most q.tx) (sym (still (client_first net.first k + 5))) back)
 
     whole_sends_on : AllSend net (with_deed passed deed)
     whole_sends_on k q at =
@@ -341,8 +342,12 @@ module _ (ends ends' : Role → ℕ → End) (rows : List QueueRow) (actors acto
         let program = there_is net.programs k (omega (arith, below, pools_many, programs_many)) in
         client_sends_on k program.0 mac.0 q (record { address = mac.1; pools = at; plays = program.1 }) (sends net whole k q at)
 
-pub sends_on : (ends ends' : Role → ℕ → End) (rows : List QueueRow) (actors actors' : List Actor) (passed : Passed) (deed : Deed) → IsWired rows (map part_of actors) → map part_of actors' ≡ map part_of actors → AreAtWork ends rows actors passed → ClientsSend rows (map part_of actors) passed → AreAtWork ends' rows actors' (with_deed passed deed) → ClientsSend rows (map part_of actors') (with_deed passed deed)
-sends_on ends ends' rows actors actors' passed deed wired same work sends later = subst (λ c. ClientsSend rows c (with_deed passed deed)) (sym same) (record {
-  frames = λ net whole. whole_sends_on ends ends' rows actors actors' passed deed same work sends.frames later net whole;
-  requests = asks_by ends ends' rows actors actors' passed deed same work sends.requests later wired.block;
+pub sends_in : {scene : Scene} (ends ends' : Role → ℕ → End) (rows : List QueueRow) (actors actors' : List Actor) (passed : Passed) (deed : Deed) → IsWiredIn scene rows (map part_of actors) → map part_of actors' ≡ map part_of actors → AreAtWork ends rows actors passed → ClientsSendIn scene rows (map part_of actors) passed → AreAtWork ends' rows actors' (with_deed passed deed) → ClientsSendIn scene rows (map part_of actors') (with_deed passed deed)
+sends_in {scene} ends ends' rows actors actors' passed deed wired same work sends later = subst (λ c. ClientsSendIn scene rows c (with_deed passed deed)) (sym same) (record {
+  frames = λ net whole. whole_sends_on scene ends ends' rows actors actors' passed deed same work sends.frames later net whole;
+  requests = asks_by scene ends ends' rows actors actors' passed deed same work sends.requests later wired.block;
 })
+
+-- and so it is in the casts' own scenes
+pub sends_on : (ends ends' : Role → ℕ → End) (rows : List QueueRow) (actors actors' : List Actor) (passed : Passed) (deed : Deed) → IsWired rows (map part_of actors) → map part_of actors' ≡ map part_of actors → AreAtWork ends rows actors passed → ClientsSend rows (map part_of actors) passed → AreAtWork ends' rows actors' (with_deed passed deed) → ClientsSend rows (map part_of actors') (with_deed passed deed)
+sends_on ends ends' rows actors actors' passed deed wired same work sends later = subst (λ c. ClientsSendIn (scene_of c) rows (map part_of actors') (with_deed passed deed)) (sym same) (sends_in ends ends' rows actors actors' passed deed wired same work sends later)

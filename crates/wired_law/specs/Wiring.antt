@@ -10,6 +10,7 @@ use Rattle.wire_core.specs.declared.names.QueueRow.{QueueRow}
 use Rattle.wire_core.specs.Deeds.{Cargo}
 use Rattle.wire_core.specs.Ends.{Role, End}
 use Rattle.wire_core.specs.Lists.{Passed}
+use Rattle.play_core.specs.Sheets.{Scene}
 use Rattle.net_law.specs.Receiving.{HandsOver}
 use Rattle.net_expect.specs.Expecting.{Program, Source}
 use Rattle.net_law.specs.Owners.Names.{ClientPools}
@@ -45,14 +46,15 @@ IsOfNetwork net frames p =
     × IsClientOf net k program mac q
     × (p ≡ NetworkPart (client_at net.first k program mac (own_pools q))))
 
--- a cast has the whole network and no other actor of it; each client has buffers to receive in, and
--- an address of six bytes; the class's queues carry entries of the network; each frame, received or
--- of a script, has 14 bytes to the most; and no frame is longer than a buffer of any pool, or than
--- an entry can say
-pub record HasWhole (rows : List QueueRow) (net : NetPlace) (cast : List Part) : Type 0 where
+-- a cast has the whole network, in a scene, and no other actor of it; each client has buffers to
+-- receive in, and an address of six bytes; the class's queues carry entries of the network; each
+-- frame, received or of a script, has 14 bytes to the most; and no frame is longer than a buffer of
+-- any pool, or than an entry can say
+pub record HasWholeIn (scene : Scene) (rows : List QueueRow) (net : NetPlace) (cast : List Part) :
+    Type 0 where
   pub pools_many : length net.pools ≡ length net.macs
   pub programs_many : length net.programs ≡ length net.macs
-  pub device : HasPart cast (NetworkPart (device_at net.first (scene_of cast).frames))
+  pub device : HasPart cast (NetworkPart (device_at net.first scene.frames))
   pub driver : HasPart cast (NetworkPart (driver_at net.first))
   pub receiver : HasPart cast (NetworkPart (receiver_at net.first net.pool net.macs))
   pub sender : HasPart cast (SendingPart (sender_at net.first net.most net.pools))
@@ -61,20 +63,24 @@ pub record HasWhole (rows : List QueueRow) (net : NetPlace) (cast : List Part) :
       → IsClientOf net k program mac q
       → HasPart cast (NetworkPart (client_at net.first k program mac (own_pools q)))
   pub only : (k : ℕ) (p : NetPart) → slice_get cast k ≡ Some (NetworkPart p)
-      → IsOfNetwork net (scene_of cast).frames (NetworkPart p)
+      → IsOfNetwork net scene.frames (NetworkPart p)
   pub only_sender : (k : ℕ) (p : SendPart) → slice_get cast k ≡ Some (SendingPart p)
-      → IsOfNetwork net (scene_of cast).frames (SendingPart p)
+      → IsOfNetwork net scene.frames (SendingPart p)
   pub kinds : (i : ℕ) → i < 8 + 6 * length net.macs → (row : QueueRow)
       × (slice_get rows (net.first + i) ≡ Some row) × (row.kind ≡ Kind.Net)
   pub some : (k : ℕ) (q : ClientPools) → slice_get net.pools k ≡ Some q → 1 ≤ q.rx.buffers
   pub addresses : (k : ℕ) (mac : Mac) → slice_get net.macs k ≡ Some mac → length mac.0 ≡ 6
-  pub frames : AreFrames net.most (scene_of cast).frames
+  pub frames : AreFrames net.most scene.frames
   pub scripts : (k : ℕ) (script : List (List ℕ)) → slice_get net.programs k ≡ Some (Source script)
       → AreFrames net.most script
   pub told : net.most < 65536
   pub fits : net.most ≤ net.pool.size
   pub fits_client : (k : ℕ) (q : ClientPools) → slice_get net.pools k ≡ Some q
       → (net.most ≤ q.rx.size) × (net.most ≤ q.tx.size)
+
+-- a cast has the whole network, in its own scene
+abbrev pub HasWhole : List QueueRow → NetPlace → List Part → Type 0
+HasWhole rows net cast = HasWholeIn (scene_of cast) rows net cast
 
 -- a cast has no actor of the network
 pub record HasNoNetwork (cast : List Part) : Type 0 where
@@ -89,9 +95,10 @@ IsOfBlock place p = (p ≡ disk_at place) ⊎ (p ≡ blk_driver_at place.first) 
     × (p ≡ blk_client_at place.first k asks pool))
 
 -- a cast has the whole block class and no other actor of it; each client has a buffer; requests go
--- to the driver; the disk has some blocks, which the cast's scene tells; what a client writes has
+-- to the driver; the disk has some blocks, which the scene tells; what a client writes has
 -- the size that it says; and no two clients have the same entry of the table of partitions
-pub record HasBlk (rows : List QueueRow) (place : BlkPlace) (cast : List Part) : Type 0 where
+pub record HasBlkIn (scene : Scene) (rows : List QueueRow) (place : BlkPlace) (cast : List Part) :
+    Type 0 where
   pub asks_many : length place.asks ≡ length place.entries
   pub pools_many : length place.pools ≡ length place.entries
   pub disk : HasPart cast (BlockPart (disk_at place))
@@ -107,10 +114,14 @@ pub record HasBlk (rows : List QueueRow) (place : BlkPlace) (cast : List Part) :
   pub blocks : ℕ
   pub some_blocks : 1 ≤ blocks
   pub image_long : length place.image ≡ blocks * block_bytes
-  pub image_is : (scene_of cast).image ≡ place.image
+  pub image_is : scene.image ≡ place.image
   pub sized : (k : ℕ) (asks : List Ask) → slice_get place.asks k ≡ Some asks → AreSized asks
   pub apart : (j k entry : ℕ) → slice_get place.entries j ≡ Some entry
       → slice_get place.entries k ≡ Some entry → j ≡ k
+
+-- a cast has the whole block class, in its own scene
+abbrev pub HasBlk : List QueueRow → BlkPlace → List Part → Type 0
+HasBlk rows place cast = HasBlkIn (scene_of cast) rows place cast
 
 -- a cast has no actor of the block class
 abbrev pub HasNoBlock : List Part → Type 0
@@ -118,9 +129,13 @@ HasNoBlock cast = (k : ℕ) (p : BlkPart) → slice_get cast k ≡ Some (BlockPa
 
 -- a cast has no actor of the network, or the whole network; and none of the block class, or the
 -- whole class
-pub record IsWired (rows : List QueueRow) (cast : List Part) : Type 0 where
-  pub network : HasNoNetwork cast ⊎ ((net : NetPlace) × HasWhole rows net cast)
-  pub block : HasNoBlock cast ⊎ ((place : BlkPlace) × HasBlk rows place cast)
+pub record IsWiredIn (scene : Scene) (rows : List QueueRow) (cast : List Part) : Type 0 where
+  pub network : HasNoNetwork cast ⊎ ((net : NetPlace) × HasWholeIn scene rows net cast)
+  pub block : HasNoBlock cast ⊎ ((place : BlkPlace) × HasBlkIn scene rows place cast)
+
+-- so it is in the cast's own scene
+abbrev pub IsWired : List QueueRow → List Part → Type 0
+IsWired rows cast = IsWiredIn (scene_of cast) rows cast
 
 -- each block client put requests in its own buffers alone
 abbrev pub ClientsAsk : List Part → Passed → Type 0
@@ -130,13 +145,19 @@ ClientsAsk cast passed = (k req resp : ℕ) (asks : List Ask) (pool : PoolAt)
 
 -- wherever the network stands in a cast, each of its clients put entries alone that send frames in
 -- buffers of its pool for sending
-abbrev pub NetClientsSend : List QueueRow → List Part → Passed → Type 0
-NetClientsSend rows cast passed = (net : NetPlace) → HasWhole rows net cast → AllSend net passed
+abbrev pub NetClientsSendIn : Scene → List QueueRow → List Part → Passed → Type 0
+NetClientsSendIn scene rows cast passed =
+    (net : NetPlace) → HasWholeIn scene rows net cast → AllSend net passed
 
 -- so they did, and each block client put requests in its own buffers alone
-pub record ClientsSend (rows : List QueueRow) (cast : List Part) (passed : Passed) : Type 0 where
-  pub frames : NetClientsSend rows cast passed
+pub record ClientsSendIn (scene : Scene) (rows : List QueueRow) (cast : List Part)
+    (passed : Passed) : Type 0 where
+  pub frames : NetClientsSendIn scene rows cast passed
   pub requests : ClientsAsk cast passed
+
+-- so they did, in the cast's own scene
+abbrev pub ClientsSend : List QueueRow → List Part → Passed → Type 0
+ClientsSend rows cast passed = ClientsSendIn (scene_of cast) rows cast passed
 
 -- what was put to each queue is of the queue's kind
 abbrev pub AreOfKind : List QueueRow → Passed → Type 0

@@ -13,6 +13,7 @@ ghost use Rattle.wire_core.specs.Ends.{Role, End};
 ghost use Rattle.wire_core.specs.Lists.{Passed, nothing_passed, with_deed};
 ghost use Rattle.wire_core.specs.Queues.{items_of};
 ghost use Rattle.net_expect.specs.Expecting.{Program, frames_for};
+ghost use Rattle.play_core.specs.Sheets.{Scene};
 ghost use Rattle.net_law.specs.Owners.Names.{ClientPools};
 ghost use Rattle.net_law.specs.Parts.Numbers.{device_at, client_at};
 ghost use Rattle.net_law.specs.TxParts.Numbers.{NetPlace};
@@ -20,54 +21,55 @@ ghost use Rattle.net_quiet.specs.TxCast.Casting.{sends_at, wire_at};
 ghost use Rattle.actor_set.specs.Parts.{Part, NetworkPart};
 ghost use Rattle.actor_set.specs.Actors.{part_of};
 ghost use Rattle.actor_set.specs.declared.actor.Actor.{Actor};
-ghost use Rattle.actor_set.specs.Laws.Kinds.{scene_of};
 ghost use Rattle.actor_set.specs.Laws.Records.{frames_got};
 ghost use Rattle.actor_set.specs.Laws.Turning.{InTurn};
-ghost use Rattle.wired_law.specs.Wiring.{HasWhole, IsWired, ClientsSend, AreAtWork};
+ghost use Rattle.wired_law.specs.Wiring.{HasWholeIn, IsWiredIn, ClientsSendIn, AreAtWork};
 
 pub mod blk_replies;
 pub mod quiet;
 
-/// Nothing comes out of turn at any actor of a cast that is wired, where its clients put good
-/// descriptors and requests alone; so they did when nothing had passed yet, and after one more call
-/// they still have. A network client with buffers of its own recorded a beginning of the frames
-/// that are for its address; and the device a merge of beginnings of what the clients send by their
-/// programs, which is what the items tell that it took.
+/// Nothing comes out of turn at any actor of a cast that is wired in a scene, where its clients put
+/// good descriptors and requests alone; so they did when nothing had passed yet, and after one more
+/// call they still have. A network client with buffers of its own recorded a beginning of the
+/// frames that are for its address; and the device a merge of beginnings of what the clients send
+/// by their programs, which is what the items tell that it took.
 pub fn wired_law()
-    ensures turns { (ends : Role → ℕ → End) (rows : List QueueRow) (actors : List Actor)
-        (passed : Passed) → IsWired rows (map part_of actors) → AreAtWork ends rows actors passed
-        → ClientsSend rows (map part_of actors) passed → (k : ℕ) (x : Actor)
-        → slice_get actors k ≡ Some x → InTurn (scene_of (map part_of actors)) x passed }
-    ensures starts { (rows : List QueueRow) (cast : List Part) → ClientsSend rows cast nothing_passed }
-    ensures goes_on { (ends later : Role → ℕ → End) (rows : List QueueRow)
+    ensures turns { (scene : Scene) (ends : Role → ℕ → End) (rows : List QueueRow)
+        (actors : List Actor) (passed : Passed) → IsWiredIn scene rows (map part_of actors)
+        → AreAtWork ends rows actors passed
+        → ClientsSendIn scene rows (map part_of actors) passed → (k : ℕ) (x : Actor)
+        → slice_get actors k ≡ Some x → InTurn scene x passed }
+    ensures starts { (scene : Scene) (rows : List QueueRow) (cast : List Part)
+        → ClientsSendIn scene rows cast nothing_passed }
+    ensures goes_on { (scene : Scene) (ends later : Role → ℕ → End) (rows : List QueueRow)
         (actors moved : List Actor) (passed : Passed) (deed : Deed)
-        → IsWired rows (map part_of actors) → map part_of moved ≡ map part_of actors
-        → AreAtWork ends rows actors passed → ClientsSend rows (map part_of actors) passed
+        → IsWiredIn scene rows (map part_of actors) → map part_of moved ≡ map part_of actors
+        → AreAtWork ends rows actors passed → ClientsSendIn scene rows (map part_of actors) passed
         → AreAtWork later rows moved (with_deed passed deed)
-        → ClientsSend rows (map part_of moved) (with_deed passed deed) }
-    ensures records { (ends : Role → ℕ → End) (rows : List QueueRow) (actors : List Actor)
-        (passed : Passed) (net : NetPlace) → HasWhole rows net (map part_of actors)
+        → ClientsSendIn scene rows (map part_of moved) (with_deed passed deed) }
+    ensures records { (scene : Scene) (ends : Role → ℕ → End) (rows : List QueueRow)
+        (actors : List Actor) (passed : Passed) (net : NetPlace)
+        → HasWholeIn scene rows net (map part_of actors)
         → AreAtWork ends rows actors passed
         → (k c : ℕ) (x : Actor) (program : Program) (mac : Mac) (pools : ClientPools)
         → slice_get actors k ≡ Some x
         → part_of x ≡ NetworkPart (client_at net.first c program mac pools)
         → 1 ≤ pools.rx.buffers → net.most ≤ pools.rx.size
         → slice_get net.macs c ≡ Some mac
-        → IsPrefix (frames_got x) (frames_for mac (scene_of (map part_of actors)).frames) }
-    ensures wire { (ends : Role → ℕ → End) (rows : List QueueRow) (actors : List Actor)
-        (passed : Passed) (net : NetPlace) → HasWhole rows net (map part_of actors)
-        → AreAtWork ends rows actors passed → ClientsSend rows (map part_of actors) passed
+        → IsPrefix (frames_got x) (frames_for mac scene.frames) }
+    ensures wire { (scene : Scene) (ends : Role → ℕ → End) (rows : List QueueRow)
+        (actors : List Actor) (passed : Passed) (net : NetPlace)
+        → HasWholeIn scene rows net (map part_of actors)
+        → AreAtWork ends rows actors passed → ClientsSendIn scene rows (map part_of actors) passed
         → (k : ℕ) (x : Actor) → slice_get actors k ≡ Some x
-        → part_of x
-        ≡ NetworkPart (device_at net.first (scene_of (map part_of actors)).frames)
-        → PrefixMerge (sends_at net.programs net.macs (scene_of (map part_of actors)).frames)
-        (frames_got x) }
-    ensures told { (ends : Role → ℕ → End) (rows : List QueueRow) (actors : List Actor)
-        (passed : Passed) (net : NetPlace) → HasWhole rows net (map part_of actors)
-        → AreAtWork ends rows actors passed → ClientsSend rows (map part_of actors) passed
+        → part_of x ≡ NetworkPart (device_at net.first scene.frames)
+        → PrefixMerge (sends_at net.programs net.macs scene.frames) (frames_got x) }
+    ensures told { (scene : Scene) (ends : Role → ℕ → End) (rows : List QueueRow)
+        (actors : List Actor) (passed : Passed) (net : NetPlace)
+        → HasWholeIn scene rows net (map part_of actors)
+        → AreAtWork ends rows actors passed → ClientsSendIn scene rows (map part_of actors) passed
         → (k : ℕ) (x : Actor) → slice_get actors k ≡ Some x
-        → part_of x
-        ≡ NetworkPart (device_at net.first (scene_of (map part_of actors)).frames)
-        → frames_got x ≡ wire_at net (scene_of (map part_of actors)).frames
+        → part_of x ≡ NetworkPart (device_at net.first scene.frames)
+        → frames_got x ≡ wire_at net scene.frames
         (items_of (passed.taken (net.first + 2))) }
 {}

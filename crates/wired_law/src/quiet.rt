@@ -11,7 +11,7 @@ ghost use Rattle.wire_core.specs.Ends.{Role, End};
 ghost use Rattle.wire_core.specs.Journal.{History};
 ghost use Rattle.wire_core.specs.Lists.{Passed};
 ghost use Rattle.play_core.specs.Moved.{Moved, moved};
-ghost use Rattle.play_core.specs.Sheets.{RowsHold, needful};
+ghost use Rattle.play_core.specs.Sheets.{RowsHold, Scene, needful};
 ghost use Rattle.play_core.specs.Still.{IsStill};
 ghost use Rattle.play_core.specs.Rests.Showing.{HaveItems};
 ghost use Rattle.net_expect.specs.Expecting.{Program, frames_for};
@@ -27,9 +27,9 @@ ghost use Rattle.blk_quiet.specs.Still.{HasClientPools, HasBlkRooms, IsBlock};
 ghost use Rattle.actor_set.specs.Parts.{Part, NetworkPart, BlockPart};
 ghost use Rattle.actor_set.specs.Actors.{part_of};
 ghost use Rattle.actor_set.specs.declared.actor.Actor.{Actor};
-ghost use Rattle.actor_set.specs.Laws.Kinds.{sheet, scene_of, hostiles};
+ghost use Rattle.actor_set.specs.Laws.Kinds.{sheet, hostiles};
 ghost use Rattle.actor_set.specs.Laws.Records.{frames_got, replies_got};
-ghost use Rattle.wired_law.specs.Wiring.{HasWhole, HasBlk, IsWired, ClientsSend, AreAtWork};
+ghost use Rattle.wired_law.specs.Wiring.{HasWholeIn, HasBlkIn, IsWiredIn, ClientsSendIn, AreAtWork};
 
 /// Where the rows of a cast hold that has the whole network, this network is among its actors.
 /// Where actors stand for what passed, and nobody is runnable, each network client recorded all
@@ -37,56 +37,53 @@ ghost use Rattle.wired_law.specs.Wiring.{HasWhole, HasBlk, IsWired, ClientsSend,
 /// programs. So it is of the whole block class: each client recorded all replies to what it asks,
 /// those of a disk that has the bytes of its partition alone.
 pub fn quiet_law()
-    ensures there { (rows : List QueueRow) (cast : List Part) (m : Moved) (net : NetPlace)
-        → HasWhole rows net cast → HasPools net → HasRooms (hostiles cast) rows net
-        → RowsHold (sheet (scene_of cast)) (hostiles cast) cast m
-        → IsNetwork (hostiles cast) (scene_of cast) rows (needful (sheet (scene_of cast)) cast m)
-        net m }
-    ensures records { (ends : Role → ℕ → End) (history : History) (rows : List QueueRow)
-        (actors : List Actor) (journal : List Entry) (passed : Passed) (net : NetPlace)
-        → HasWhole rows net (map part_of actors) → IsWired rows (map part_of actors)
+    ensures there { (scene : Scene) (rows : List QueueRow) (cast : List Part) (m : Moved)
+        (net : NetPlace) → HasWholeIn scene rows net cast → HasPools net
+        → HasRooms (hostiles cast) rows net
+        → RowsHold (sheet scene) (hostiles cast) cast m
+        → IsNetwork (hostiles cast) scene rows (needful (sheet scene) cast m) net m }
+    ensures records { (scene : Scene) (ends : Role → ℕ → End) (history : History)
+        (rows : List QueueRow) (actors : List Actor) (journal : List Entry)
+        (passed : Passed) (net : NetPlace)
+        → HasWholeIn scene rows net (map part_of actors) → IsWiredIn scene rows (map part_of actors)
         → HasPools net
         → HasRooms (hostiles (map part_of actors)) rows net
-        → AreAtWork ends rows actors passed → ClientsSend rows (map part_of actors) passed
+        → AreAtWork ends rows actors passed → ClientsSendIn scene rows (map part_of actors) passed
         → HaveItems passed (moved history journal)
         → IsStill (hostiles (map part_of actors)) history rows
-        (needful (sheet (scene_of (map part_of actors))) (map part_of actors)
-        (moved history journal)) journal
+        (needful (sheet scene) (map part_of actors) (moved history journal)) journal
         → (k c : ℕ) (x : Actor) (program : Program) (mac : Mac) (q : ClientPools)
         → slice_get actors k ≡ Some x → IsClientOf net c program mac q
         → part_of x ≡ NetworkPart (client_at net.first c program mac (own_pools q))
-        → frames_got x ≡ frames_for mac (scene_of (map part_of actors)).frames }
-    ensures wire { (ends : Role → ℕ → End) (history : History) (rows : List QueueRow)
-        (actors : List Actor) (journal : List Entry) (passed : Passed) (net : NetPlace)
-        → HasWhole rows net (map part_of actors) → IsWired rows (map part_of actors)
+        → frames_got x ≡ frames_for mac scene.frames }
+    ensures wire { (scene : Scene) (ends : Role → ℕ → End) (history : History)
+        (rows : List QueueRow) (actors : List Actor) (journal : List Entry)
+        (passed : Passed) (net : NetPlace)
+        → HasWholeIn scene rows net (map part_of actors) → IsWiredIn scene rows (map part_of actors)
         → HasPools net
         → HasRooms (hostiles (map part_of actors)) rows net
-        → AreAtWork ends rows actors passed → ClientsSend rows (map part_of actors) passed
+        → AreAtWork ends rows actors passed → ClientsSendIn scene rows (map part_of actors) passed
         → HaveItems passed (moved history journal)
         → IsStill (hostiles (map part_of actors)) history rows
-        (needful (sheet (scene_of (map part_of actors))) (map part_of actors)
-        (moved history journal)) journal
+        (needful (sheet scene) (map part_of actors) (moved history journal)) journal
         → (k : ℕ) (x : Actor) → slice_get actors k ≡ Some x
-        → part_of x
-        ≡ NetworkPart (device_at net.first (scene_of (map part_of actors)).frames)
-        → Merge (sends_at net.programs net.macs (scene_of (map part_of actors)).frames)
-        (frames_got x) }
-    ensures block { (rows : List QueueRow) (cast : List Part) (m : Moved) (place : BlkPlace)
-        → HasBlk rows place cast → HasClientPools place
+        → part_of x ≡ NetworkPart (device_at net.first scene.frames)
+        → Merge (sends_at net.programs net.macs scene.frames) (frames_got x) }
+    ensures block { (scene : Scene) (rows : List QueueRow) (cast : List Part) (m : Moved)
+        (place : BlkPlace) → HasBlkIn scene rows place cast → HasClientPools place
         → HasBlkRooms (hostiles cast) rows place
-        → RowsHold (sheet (scene_of cast)) (hostiles cast) cast m
-        → IsBlock (hostiles cast) (scene_of cast) rows (needful (sheet (scene_of cast)) cast m)
-        place m }
-    ensures replies { (ends : Role → ℕ → End) (history : History) (rows : List QueueRow)
-        (actors : List Actor) (journal : List Entry) (passed : Passed) (place : BlkPlace)
-        → HasBlk rows place (map part_of actors) → IsWired rows (map part_of actors)
+        → RowsHold (sheet scene) (hostiles cast) cast m
+        → IsBlock (hostiles cast) scene rows (needful (sheet scene) cast m) place m }
+    ensures replies { (scene : Scene) (ends : Role → ℕ → End) (history : History)
+        (rows : List QueueRow) (actors : List Actor) (journal : List Entry)
+        (passed : Passed) (place : BlkPlace)
+        → HasBlkIn scene rows place (map part_of actors) → IsWiredIn scene rows (map part_of actors)
         → HasClientPools place
         → HasBlkRooms (hostiles (map part_of actors)) rows place
-        → AreAtWork ends rows actors passed → ClientsSend rows (map part_of actors) passed
+        → AreAtWork ends rows actors passed → ClientsSendIn scene rows (map part_of actors) passed
         → HaveItems passed (moved history journal)
         → IsStill (hostiles (map part_of actors)) history rows
-        (needful (sheet (scene_of (map part_of actors))) (map part_of actors)
-        (moved history journal)) journal
+        (needful (sheet scene) (map part_of actors) (moved history journal)) journal
         → (k c : ℕ) (x : Actor) (entry : ℕ) (asks : List Ask) (pool : PoolAt)
         → slice_get actors k ≡ Some x → IsBlkClientOf place c entry asks pool
         → part_of x ≡ BlockPart (blk_client_at place.first c asks pool)

@@ -49,7 +49,7 @@ queue_is [] k q at = cc
 queue_is (r ∷ qs) zero q at = ap (λ (x : QueueId). x.0) (some_is at)
 queue_is (r ∷ qs) (suc k) q at = queue_is qs k q at
 
-items_drop : (xs : List Cargo) → items_of (drop 1 xs) ≡ drop 1 (items_of xs)
+pub items_drop : (xs : List Cargo) → items_of (drop 1 xs) ≡ drop 1 (items_of xs)
 items_drop [] = refl
 items_drop (x ∷ xs) = refl
 

@@ -30,55 +30,55 @@ use Rattle.blk_law.specs.Sheets.Rows.{all_requests, answer_items, answers_due, f
 use Rattle.blk_law.specs.Sheets.Table.{blk_sheet, sharer_wants}
 
 -- of as many responses as requests, one request more changes nothing
-back_same : (p : PoolAt) (sent back : List Item) (x : Item) → length back ≤ length sent → items_back p (sent ++ x ∷ []) back ≡ items_back p sent back
+pub back_same : (p : PoolAt) (sent back : List Item) (x : Item) → length back ≤ length sent → items_back p (sent ++ x ∷ []) back ≡ items_back p sent back
 back_same p [] [] x le = refl
 back_same p [] (y ∷ back) x le = absurd (omega (arith, le))
 back_same p (z ∷ sent) [] x le = refl
 back_same p (z ∷ sent) (y ∷ back) x le = ap (λ l. cond (is_item_at p z) (y ∷ l) l) (back_same p sent back x (omega (arith, le)))
 
 -- the first of two lists is dropped from their join
-drop_first : (xs : List Item) (x : Item) → 1 ≤ length xs → drop 1 (xs ++ x ∷ []) ≡ drop 1 xs ++ x ∷ []
+pub drop_first : (xs : List Item) (x : Item) → 1 ≤ length xs → drop 1 (xs ++ x ∷ []) ≡ drop 1 xs ++ x ∷ []
 drop_first [] x some = absurd (omega (arith, some))
 drop_first (y ∷ xs) x some = refl
 
-drop_long : (xs : List Item) (n : ℕ) → length (drop 1 xs) < n → length xs < 1 + n
+pub drop_long : (xs : List Item) (n : ℕ) → length (drop 1 xs) < n → length xs < 1 + n
 drop_long [] n lt = omega (arith, lt)
 drop_long (x ∷ xs) n lt = omega (arith, lt)
 
-drop_most : (xs : List Item) → length xs ≤ 1 + length (drop 1 xs)
+pub drop_most : (xs : List Item) → length xs ≤ 1 + length (drop 1 xs)
 drop_most [] = omega arith
 drop_most (x ∷ xs) = omega arith
 
-drop_many : (xs : List Item) → 1 ≤ length xs → length xs ≡ 1 + length (drop 1 xs)
+pub drop_many : (xs : List Item) → 1 ≤ length xs → length xs ≡ 1 + length (drop 1 xs)
 drop_many [] some = absurd (omega (arith, some))
 drop_many (x ∷ xs) some = omega arith
 
-drop_less : (xs ys : List Item) → length ys ≤ length xs → length (drop 1 ys) ≤ length (drop 1 xs)
+pub drop_less : (xs ys : List Item) → length ys ≤ length xs → length (drop 1 ys) ≤ length (drop 1 xs)
 drop_less [] [] le = omega arith
 drop_less [] (y ∷ ys) le = absurd (omega (arith, le))
 drop_less (x ∷ xs) [] le = omega arith
 drop_less (x ∷ xs) (y ∷ ys) le = omega (arith, le)
 
 -- what is said of the elements of a list and of one more
-last_at : {X : Type 0} (P : ℕ → X → Type 0) (xs : List X) (x : X) → ((j : ℕ) (y : X) → slice_get xs j ≡ Some y → P j y) → P (length xs) x → (j : ℕ) (y : X) → slice_get (xs ++ x ∷ []) j ≡ Some y → P j y
+pub last_at : {X : Type 0} (P : ℕ → X → Type 0) (xs : List X) (x : X) → ((j : ℕ) (y : X) → slice_get xs j ≡ Some y → P j y) → P (length xs) x → (j : ℕ) (y : X) → slice_get (xs ++ x ∷ []) j ≡ Some y → P j y
 last_at P [] x all last zero y at = subst (P 0) (some_is at) last
 last_at P [] x all last (suc j) y at = cc
 last_at P (z ∷ xs) x all last zero y at = all 0 y at
 last_at P (z ∷ xs) x all last (suc j) y at = last_at (λ i w. P (suc i) w) xs x (λ i w w_at. all (suc i) w w_at) last j y at
 
-get_last : (xs : List Item) (x : Item) → slice_get (xs ++ x ∷ []) (length xs) ≡ Some x
+pub get_last : (xs : List Item) (x : Item) → slice_get (xs ++ x ∷ []) (length xs) ≡ Some x
 get_last [] x = refl
 get_last (y ∷ xs) x = get_last xs x
 
 -- what goes to the disk has no number yet
-disk_bare : (code : Code) (base first : ℕ) (r : BlkReq) → numbered_item 0 (ItemOf.Req (asked_of_disk code base first r)) ≡ ItemOf.Req (asked_of_disk code base first r)
+pub disk_bare : (code : Code) (base first : ℕ) (r : BlkReq) → numbered_item 0 (ItemOf.Req (asked_of_disk code base first r)) ≡ ItemOf.Req (asked_of_disk code base first r)
 disk_bare Asked.Read base first r = refl
 disk_bare Asked.Write base first r = refl
 disk_bare Asked.Flush base first r = refl
 disk_bare Asked.Barrier base first r = refl
 
 -- one more put makes no list shorter
-longer : (m : Moved) (n : ℕ) (x : Item) (k : ℕ) → length (m.sent k) ≤ length ((with_put m n x).sent k)
+pub longer : (m : Moved) (n : ℕ) (x : Item) (k : ℕ) → length (m.sent k) ≤ length ((with_put m n x).sent k)
 longer m n x k = by (eqb_tells n k)
   where
     by : ((eqb n k ≡ true) × (n ≡ k)) ⊎ ((eqb n k ≡ false) × (n ≢ k)) → length (m.sent k) ≤ length ((with_put m n x).sent k)
@@ -90,7 +90,7 @@ longer m n x k = by (eqb_tells n k)
     by (inr e) = let same = ap length (put_beside m n x k e.1) in omega (arith, same)
 
 -- what begins with a request goes on so
-first_on : (pool : PoolAt) (l : List Item) (x : Item) → 1 ≤ length l → IsPrefix l (first_item pool ∷ drop 1 l) → IsPrefix (l ++ x ∷ []) (first_item pool ∷ drop 1 (l ++ x ∷ []))
+pub first_on : (pool : PoolAt) (l : List Item) (x : Item) → 1 ≤ length l → IsPrefix l (first_item pool ∷ drop 1 l) → IsPrefix (l ++ x ∷ []) (first_item pool ∷ drop 1 (l ++ x ∷ []))
 first_on pool [] x lt h = absurd (omega (arith, lt))
 first_on pool (y ∷ ys) x lt h =
     let e : y ∷ (ys ++ h.0) ≡ first_item pool ∷ ys = h.1 in

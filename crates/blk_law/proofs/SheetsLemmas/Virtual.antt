@@ -44,7 +44,7 @@ use Rattle.blk_law.specs.Sheets.Playing.{VirtInTurn, holder_pool, sharers, virt_
 use Rattle.blk_law.proofs.SheetsLemmas.Splitting.{HasOwner, owned, split}
 
 -- a request whose buffer is its client's own is judged by its item
-status_same : (own : Bool) (part : Option Part) (code : Code) (block count : ℕ) → (moves_blocks code && not own) ≡ false → status_of own part code block count ≡ status_of true part code block count
+pub status_same : (own : Bool) (part : Option Part) (code : Code) (block count : ℕ) → (moves_blocks code && not own) ≡ false → status_of own part code block count ≡ status_of true part code block count
 status_same true part code block count good = refl
 status_same false None code block count good = refl
 status_same false (Some part) Asked.Read block count good = absurd cc
@@ -52,7 +52,7 @@ status_same false (Some part) Asked.Write block count good = absurd cc
 status_same false (Some part) Asked.Flush block count good = refl
 status_same false (Some part) Asked.Barrier block count good = refl
 
-judged_same : (h : Holder) (part : Option Part) (x : Cargo) → is_bad h x ≡ false → judged h part x ≡ judged_item part x.0
+pub judged_same : (h : Holder) (part : Option Part) (x : Cargo) → is_bad h x ≡ false → judged h part x ≡ judged_item part x.0
 judged_same h part x good = status_same (is_own h x) part (request_of x.0).code (request_of x.0).block (request_of x.0).count good
 
 -- so is what goes on to the disk
@@ -80,7 +80,7 @@ some_items : (x y : Cargo) (part : Option Part) (t : Bool) (xs zs : List Cargo) 
 some_items x y part true xs zs ys ws one two = ap (λ l. passed_item (request_of x.0).id y.0 ∷ l) one
 some_items x y part false xs zs ys ws one two = ap (λ l. refusal_item part x.0 ∷ l) two
 
-abbrev AreGood : Holder → List Cargo → Type 0
+abbrev pub AreGood : Holder → List Cargo → Type 0
 AreGood h xs = (j : ℕ) (x : Cargo) → slice_get xs j ≡ Some x → is_bad h x ≡ false
 
 answers_items : (h : Holder) (part : Option Part) (xs back : List Cargo) → AreGood h xs → items_of (answers_to h part xs back) ≡ answer_items part (items_of xs) (items_of back)
@@ -94,7 +94,7 @@ answers_items h part (x ∷ xs) (y ∷ back) good =
     (answers_items h part xs back (λ j z at. good (suc j) z at)) (answers_items h part xs (y ∷ back) (λ j z at. good (suc j) z at))
 
 -- which responses answer a client's requests
-back_items : (h : Holder) (sent back : List Cargo) → items_of (own_back h sent back) ≡ items_back (holder_pool h) (items_of sent) (items_of back)
+pub back_items : (h : Holder) (sent back : List Cargo) → items_of (own_back h sent back) ≡ items_back (holder_pool h) (items_of sent) (items_of back)
 back_items h [] back = refl
 back_items h (x ∷ sent) [] = refl
 back_items h (x ∷ sent) (y ∷ back) = by (is_at h x) (back_items h sent back)
@@ -104,7 +104,7 @@ back_items h (x ∷ sent) (y ∷ back) = by (is_at h x) (back_items h sent back)
     by false rest = rest
 
 -- a request that is its client's own is at the offset of one of its buffers
-own_in : (h : Holder) (x : Cargo) → is_own h x ≡ true → (number : ℕ) × (number < h.buffers) × ((request_of x.0).addr ≡ number * blk_buffer_bytes)
+pub own_in : (h : Holder) (x : Cargo) → is_own h x ≡ true → (number : ℕ) × (number < h.buffers) × ((request_of x.0).addr ≡ number * blk_buffer_bytes)
 own_in h (item, Carried.Page page) own =
     let one = and_parts _ _ own in
     let two = and_parts _ _ one.1 in
@@ -112,33 +112,33 @@ own_in h (item, Carried.Page page) own =
 own_in h (item, Carried.Lease lease) own = absurd cc
 own_in h (item, Carried.Empty) own = absurd cc
 
-good_in : (h : Holder) (x : Cargo) → is_bad h x ≡ false → IsRequestIn (holder_pool h) x.0
+pub good_in : (h : Holder) (x : Cargo) → is_bad h x ≡ false → IsRequestIn (holder_pool h) x.0
 good_in h x good moves = by (is_own h x) refl
   where
     by : (t : Bool) → is_own h x ≡ t → (number : ℕ) × (number < h.buffers) × ((request_of x.0).addr ≡ number * blk_buffer_bytes)
     by true own = own_in h x own
     by false own = let bad : (moves_blocks (request_of x.0).code && not (is_own h x)) ≡ true = ap₂ (λ a b. a && not b) moves own in absurd cc
 
-drop_items : (xs : List Cargo) → items_of (drop 1 xs) ≡ drop 1 (items_of xs)
+pub drop_items : (xs : List Cargo) → items_of (drop 1 xs) ≡ drop 1 (items_of xs)
 drop_items [] = refl
 drop_items (x ∷ xs) = refl
 
-unnumbered_items : (xs : List Cargo) → items_of (unnumbered xs) ≡ map (numbered_item 0) (items_of xs)
+pub unnumbered_items : (xs : List Cargo) → items_of (unnumbered xs) ≡ map (numbered_item 0) (items_of xs)
 unnumbered_items [] = refl
 unnumbered_items (x ∷ xs) = ap (λ l. numbered_item 0 x.0 ∷ l) (unnumbered_items xs)
 
 -- which client stands at a place
-abbrev Sharing : List Holder → (from to : List QueueId) → ℕ → Sharer → Type 0
+abbrev pub Sharing : List Holder → (from to : List QueueId) → ℕ → Sharer → Type 0
 Sharing hs from to k c = (h : Holder) × (q : QueueId) × (r : QueueId) × (slice_get hs k ≡ Some h) × (slice_get from k ≡ Some q) × (slice_get to k ≡ Some r) × (c ≡ record { req = q.0; resp = r.0; entry = h.partition; pool = holder_pool h })
 
-sharer_at : (hs : List Holder) (from to : List QueueId) (k : ℕ) (c : Sharer) → slice_get (sharers hs from to) k ≡ Some c → Sharing hs from to k c
+pub sharer_at : (hs : List Holder) (from to : List QueueId) (k : ℕ) (c : Sharer) → slice_get (sharers hs from to) k ≡ Some c → Sharing hs from to k c
 sharer_at [] from to k c at = cc
 sharer_at (h ∷ hs) [] to k c at = cc
 sharer_at (h ∷ hs) (q ∷ from) [] k c at = cc
 sharer_at (h ∷ hs) (q ∷ from) (r ∷ to) zero c at = (h, q, r, refl, refl, refl, sym (some_is at))
 sharer_at (h ∷ hs) (q ∷ from) (r ∷ to) (suc k) c at = sharer_at hs from to k c at
 
-sharers_many : (hs : List Holder) (from to : List QueueId) → length from ≡ length hs → length to ≡ length hs → length (sharers hs from to) ≡ length hs
+pub sharers_many : (hs : List Holder) (from to : List QueueId) → length from ≡ length hs → length to ≡ length hs → length (sharers hs from to) ≡ length hs
 sharers_many [] from to lf lt = refl
 sharers_many (h ∷ hs) [] to lf lt = absurd (omega (arith, lf))
 sharers_many (h ∷ hs) (q ∷ from) [] lf lt = absurd (omega (arith, lt))

@@ -43,7 +43,7 @@ net_of (ItemOf.Req r) h = let l = leb-true 14 0 h in absurd (omega (arith, l))
 net_of (ItemOf.Resp r) h = let l = leb-true 14 0 h in absurd (omega (arith, l))
 
 -- a good descriptor is at a buffer of its client
-good_offset : (s : Sender) (c : Cargo) → is_good_of s c ≡ true → IsOffset (sender_pool s) c.0
+pub good_offset : (s : Sender) (c : Cargo) → is_good_of s c ≡ true → IsOffset (sender_pool s) c.0
 good_offset s (item, Carried.Page page) h =
     let one = and_parts _ _ h in
     let two = and_parts _ _ one.1 in
@@ -66,7 +66,7 @@ pub none_bad : (s : Sender) (xs : List Cargo) → All (λ (c : Cargo). is_good_o
 none_bad s [] h = refl
 none_bad s (x ∷ xs) h = ap (λ b. cond (not b) (x ∷ bad_ones s xs) (bad_ones s xs)) (h zero x (omega arith)) ∙ none_bad s xs (λ k d l. h (suc k) d (omega (arith, l)))
 
-device_items : (s : Sender) (xs : List Cargo) → items_of (map (to_device s.base) xs) ≡ at_device (sender_pool s) (items_of xs)
+pub device_items : (s : Sender) (xs : List Cargo) → items_of (map (to_device s.base) xs) ≡ at_device (sender_pool s) (items_of xs)
 device_items s [] = refl
 device_items s (x ∷ xs) = ap (λ l. with_addr (s.base + addr_of x.0) x.0 ∷ l) (device_items s xs)
 

@@ -24,7 +24,7 @@ use Rattle.net_virt_tx.specs.Sending.{FitsTx, TxStandsFor, TxRow, tx_round}
 use Rattle.net_law.specs.Parts.Table.{is_short}
 use Rattle.net_law.specs.TxParts.Parts.{SendPart, Shipper}
 use Rattle.net_law.specs.TxParts.Rows.{at_home, sends_due}
-use Rattle.net_law.specs.TxParts.Table.{send_sheet, shipper_wants}
+use Rattle.net_law.specs.TxParts.Table.{send_sheet}
 use Rattle.net_law.specs.TxParts.Playing.{TakesGood, send_part, sender_pool, shippers}
 use Rattle.play_core.specs.Rests.Showing.{HaveItems, HaveBells}
 use Rattle.play_core.proofs.RestsLemmas.Settling.{both, settled_here}
@@ -37,25 +37,25 @@ shuffle true false true y = refl
 shuffle true false false y = refl
 shuffle false x b y = refl
 
-plus : (j : ℕ) → j ≡ 0 + j
+pub plus : (j : ℕ) → j ≡ 0 + j
 plus j = omega arith
 
 module _ (history : History) (journal : List Entry) (world : List Queue) (bells : HaveBells world history journal) where
-  clients_settle : (p : SendPart) (m : Moved) (needs loads : ℕ → Bool) (c : ℕ) (ss : List Sender) (is : List Intake) (os : List Outlet) → length is ≡ length ss → length os ≡ length ss → ((k : ℕ) (i : Intake) → slice_get is k ≡ Some i → Agrees (end_at world Consumer i.queue.0) i.state) → ((k : ℕ) (x : Outlet) → slice_get os k ≡ Some x → Agrees (end_at world Producer x.queue.0) x.state) → ((k : ℕ) (x : Shipper) → slice_get (shippers ss (map (λ (i : Intake). i.queue) is) (map (λ (y : Outlet). y.queue) os)) k ≡ Some x → (needs (c + k) ≡ not (is_short (at_home x.pool (m.sent p.active)) (m.taken x.active))) × (loads (c + k) ≡ is_short (m.sent x.free) (at_home x.pool (m.taken p.free))))
-      → (settled_all (map intake_post is) (needs_from needs c (map (λ (i : Intake). i.queue) is)) && settled_all (map outlet_post os) (needs_from loads c (map (λ (y : Outlet). y.queue) os))) ≡ all_settled history journal (flat_map (shipper_wants p m) (shippers ss (map (λ (i : Intake). i.queue) is) (map (λ (y : Outlet). y.queue) os)))
-  clients_settle p m needs loads c [] [] [] a b ins outs each = refl
-  clients_settle p m needs loads c [] (i ∷ is) os a b ins outs each = absurd (omega (arith, a))
-  clients_settle p m needs loads c [] [] (x ∷ os) a b ins outs each = absurd (omega (arith, b))
-  clients_settle p m needs loads c (s ∷ ss) [] os a b ins outs each = absurd (omega (arith, a))
-  clients_settle p m needs loads c (s ∷ ss) (i ∷ is) [] a b ins outs each = absurd (omega (arith, b))
-  clients_settle p m needs loads c (s ∷ ss) (i ∷ is) (x ∷ os) a b ins outs each =
+  pub clients_settle : (comes goes : Shipper → Bool) (needs loads : ℕ → Bool) (c : ℕ) (ss : List Sender) (is : List Intake) (os : List Outlet) → length is ≡ length ss → length os ≡ length ss → ((k : ℕ) (i : Intake) → slice_get is k ≡ Some i → Agrees (end_at world Consumer i.queue.0) i.state) → ((k : ℕ) (x : Outlet) → slice_get os k ≡ Some x → Agrees (end_at world Producer x.queue.0) x.state) → ((k : ℕ) (x : Shipper) → slice_get (shippers ss (map (λ (i : Intake). i.queue) is) (map (λ (y : Outlet). y.queue) os)) k ≡ Some x → (needs (c + k) ≡ comes x) × (loads (c + k) ≡ goes x))
+      → (settled_all (map intake_post is) (needs_from needs c (map (λ (i : Intake). i.queue) is)) && settled_all (map outlet_post os) (needs_from loads c (map (λ (y : Outlet). y.queue) os))) ≡ all_settled history journal (flat_map (λ (x : Shipper). intake_want x.active (comes x) ∷ outlet_want x.free (goes x) ∷ []) (shippers ss (map (λ (i : Intake). i.queue) is) (map (λ (y : Outlet). y.queue) os)))
+  clients_settle comes goes needs loads c [] [] [] a b ins outs each = refl
+  clients_settle comes goes needs loads c [] (i ∷ is) os a b ins outs each = absurd (omega (arith, a))
+  clients_settle comes goes needs loads c [] [] (x ∷ os) a b ins outs each = absurd (omega (arith, b))
+  clients_settle comes goes needs loads c (s ∷ ss) [] os a b ins outs each = absurd (omega (arith, a))
+  clients_settle comes goes needs loads c (s ∷ ss) (i ∷ is) [] a b ins outs each = absurd (omega (arith, b))
+  clients_settle comes goes needs loads c (s ∷ ss) (i ∷ is) (x ∷ os) a b ins outs each =
       let ship : Shipper = record { active = i.queue.0; free = x.queue.0; pool = sender_pool s; most = s.most } in
       let z : c + 0 ≡ c = omega arith in
       let first = each 0 ship refl in
-      let comes = settled_here history journal world bells (intake_post i) (needs c) (intake_want i.queue.0 (not (is_short (at_home ship.pool (m.sent p.active)) (m.taken ship.active)))) (record { needs = ap needs (sym z) ∙ first.0; agrees = ins 0 i refl }) in
-      let goes = settled_here history journal world bells (outlet_post x) (loads c) (outlet_want x.queue.0 (is_short (m.sent ship.free) (at_home ship.pool (m.taken p.free)))) (record { needs = ap loads (sym z) ∙ first.1; agrees = outs 0 x refl }) in
-      let rest = clients_settle p m needs loads (c + 1) ss is os (omega (arith, a)) (omega (arith, b)) (λ k y at. ins (suc k) y at) (λ k y at. outs (suc k) y at) (λ k y at. let e = each (suc k) y at in (ap needs (sym (index_moves c k)) ∙ e.0, ap loads (sym (index_moves c k)) ∙ e.1)) in
-      shuffle (is_settled i.state (needs c)) (settled_all (map intake_post is) (needs_from needs (c + 1) (map (λ (j : Intake). j.queue) is))) (is_settled x.state (loads c)) (settled_all (map outlet_post os) (needs_from loads (c + 1) (map (λ (y : Outlet). y.queue) os))) ∙ both comes (both goes rest)
+      let one = settled_here history journal world bells (intake_post i) (needs c) (intake_want i.queue.0 (comes ship)) (record { needs = ap needs (sym z) ∙ first.0; agrees = ins 0 i refl }) in
+      let two = settled_here history journal world bells (outlet_post x) (loads c) (outlet_want x.queue.0 (goes ship)) (record { needs = ap loads (sym z) ∙ first.1; agrees = outs 0 x refl }) in
+      let rest = clients_settle comes goes needs loads (c + 1) ss is os (omega (arith, a)) (omega (arith, b)) (λ k y at. ins (suc k) y at) (λ k y at. outs (suc k) y at) (λ k y at. let e = each (suc k) y at in (ap needs (sym (index_moves c k)) ∙ e.0, ap loads (sym (index_moves c k)) ∙ e.1)) in
+      shuffle (is_settled i.state (needs c)) (settled_all (map intake_post is) (needs_from needs (c + 1) (map (λ (j : Intake). j.queue) is))) (is_settled x.state (loads c)) (settled_all (map outlet_post os) (needs_from loads (c + 1) (map (λ (y : Outlet). y.queue) os))) ∙ both one (both two rest)
 
 pub sender_rest : (history : History) (journal : List Entry) (world : List Queue) (passed : Passed) → HaveItems passed (moved history journal) → HaveBells world history journal → (v : NetVirtTx) → TakesGood v passed → ((row : TxRow v passed) → row.stray ≡ []) → FitsTx (end_at world) v → TxStandsFor v passed → is_at_rest (tx_round v) ≡ all_settled history journal ((send_sheet (send_part v)).wants (moved history journal))
 sender_rest history journal world passed h bells v good in_turn f st =
@@ -66,7 +66,7 @@ sender_rest history journal world passed h bells v good in_turn f st =
     let many = length-map v.work.clients.items (λ (c : Client). c.sender) in
     let froms : length is ≡ length (senders v.work) = sym (length-map is (λ (i : Intake). i.queue)) ∙ (f.from_each ∙ sym many) in
     let tos : length os ≡ length (senders v.work) = sym (length-map os (λ (x : Outlet). x.queue)) ∙ (f.to_each ∙ sym many) in
-    let clients = clients_settle history journal world bells p m (needs_at v.work) (loaded_at v.work) 0 (senders v.work) is os froms tos f.ends_fit.from_clients.agrees f.ends_fit.to_clients.agrees (λ k x at. (ap (needs_at v.work) (sym (plus k)) ∙ ship_needs passed m h v good in_turn f.from_each f.to_each st k x at, ap (loaded_at v.work) (sym (plus k)) ∙ ship_loads passed m h v good in_turn f.from_each f.to_each st k x at)) in
+    let clients = clients_settle history journal world bells (λ (x : Shipper). not (is_short (at_home x.pool (m.sent p.active)) (m.taken x.active))) (λ (x : Shipper). is_short (m.sent x.free) (at_home x.pool (m.taken p.free))) (needs_at v.work) (loaded_at v.work) 0 (senders v.work) is os froms tos f.ends_fit.from_clients.agrees f.ends_fit.to_clients.agrees (λ k x at. (ap (needs_at v.work) (sym (plus k)) ∙ ship_needs passed m h v good in_turn f.from_each f.to_each st k x at, ap (loaded_at v.work) (sym (plus k)) ∙ ship_loads passed m h v good in_turn f.from_each f.to_each st k x at)) in
     let long = needs_long (needs_at v.work) 0 (λ (i : Intake). i.queue) is ∙ sym (length-map is intake_post) in
     both (settled_here history journal world bells (intake_post v.ends.input) (is_free v.work) (intake_want p.free true) (record { needs = free_is passed m h v good in_turn f.from_each f.to_each st; agrees = f.ends_fit.input }))
     (both (settled_here history journal world bells (outlet_post v.ends.output) (owes v.work) (outlet_want p.active (nat_lt (length (m.sent p.active)) (sends_due p.clients m))) (record { needs = owes_is passed m h v good in_turn f.from_each f.to_each st; agrees = f.ends_fit.output }))

@@ -36,7 +36,7 @@ use Rattle.net_law.proofs.TxParts.Items.{all_same, none_bad, home_items, Shipped
 use Rattle.play_core.specs.Rests.Showing.{HaveItems}
 use Rattle.play_core.proofs.RestsLemmas.Settling.{took, put, none_is, held_is}
 
-none_of : (o : Option Cargo) → option_to_list o ≡ [] → o ≡ None
+pub none_of : (o : Option Cargo) → option_to_list o ≡ [] → o ≡ None
 none_of None e = refl
 none_of (Some x) e = cc
 
@@ -45,17 +45,17 @@ none_behind : (xs : List Cargo) (o : Option Cargo) → xs ++ option_to_list o �
 none_behind [] o e = (refl, none_of o e)
 none_behind (x ∷ xs) o e = absurd cc
 
-empty : (b : Bool) → if_there b [] ≡ []
+pub empty : (b : Bool) → if_there b [] ≡ []
 empty true = refl
 empty false = refl
 
-queue_is : (qs : List QueueId) (k : ℕ) (q : QueueId) → slice_get qs k ≡ Some q → queue_at qs k ≡ q.0
+pub queue_is : (qs : List QueueId) (k : ℕ) (q : QueueId) → slice_get qs k ≡ Some q → queue_at qs k ≡ q.0
 queue_is [] k q at = cc
 queue_is (r ∷ qs) zero q at = ap (λ (x : QueueId). x.0) (some_is at)
 queue_is (r ∷ qs) (suc k) q at = queue_is qs k q at
 
 -- an entry waits where the list of those that wait isn't empty
-ready_is : (r : Returns) → IsReady r → (n m : ℕ) → n + length (returns_list r) ≡ m → is_some r.next ≡ nat_lt n m
+pub ready_is : (r : Returns) → IsReady r → (n m : ℕ) → n + length (returns_list r) ≡ m → is_some r.next ≡ nat_lt n m
 ready_is r ready n m e = by r.next refl
   where
     by : (o : Option Cargo) → r.next ≡ o → is_some r.next ≡ nat_lt n m
@@ -69,10 +69,10 @@ ready_is r ready n m e = by r.next refl
         ap is_some is ∙ sym (lt-ltb n m (omega (arith, e, some, parts)))
 
 -- some client has an entry to the driver where they have any together
-abbrev leaving_sum : List Client → ℕ
+abbrev pub leaving_sum : List Client → ℕ
 leaving_sum cs = sum_by (λ (c : Client). length (option_to_list c.leaving)) cs
 
-any_is : (cs : List Client) → list_any is_leaving cs ≡ nat_lt 0 (leaving_sum cs)
+pub any_is : (cs : List Client) → list_any is_leaving cs ≡ nat_lt 0 (leaving_sum cs)
 any_is [] = refl
 any_is (c ∷ cs) = by (any_is cs) c.leaving refl
   where
@@ -88,7 +88,7 @@ any_is (c ∷ cs) = by (any_is cs) c.leaving refl
         let one = ap (λ y. length (option_to_list y)) is in
         ap (λ y. is_some y || list_any is_leaving cs) is ∙ sym (lt-ltb 0 (leaving_sum (c ∷ cs)) (omega (arith, more, one)))
 
-less_by : (a r b : ℕ) → b ≡ a + r → nat_lt 0 r ≡ nat_lt a b
+pub less_by : (a r b : ℕ) → b ≡ a + r → nat_lt 0 r ≡ nat_lt a b
 less_by a zero b e = sym (le-ltb a b (omega (arith, e)))
 less_by a (suc r) b e = lt-ltb 0 (suc r) (omega arith) ∙ sym (lt-ltb a b (omega (arith, e)))
 

@@ -31,7 +31,8 @@ use Rattle.actor_set.specs.declared.actor.Actor.{Actor}
 use Rattle.actor_set.specs.declared.actor.Actor.TheVariants as Kinds
 use Rattle.actor_set.specs.Laws.Records.{replies_got}
 use Rattle.actor_set.proofs.LawsLemmas.BlkRows.{disk_row_of}
-use Rattle.wired_law.specs.Wiring.{IsOfBlock, HasBlk, HasPart, ClientsAsk, ClientsSend, AreAtWork}
+use Rattle.play_core.specs.Sheets.{Scene}
+use Rattle.wired_law.specs.Wiring.{IsOfBlock, HasBlkIn, HasPart, ClientsAsk, ClientsSendIn, AreAtWork}
 use Rattle.wired_law.proofs.Acting.{disk_actor, blk_driver_actor, virt_actor, blk_client_actor}
 use Rattle.wired_law.proofs.Blocks.{requests_own}
 use Rattle.wired_law.proofs.BlkReplies.Clients.{client_recorded}
@@ -43,7 +44,7 @@ client_is place req resp asks pool (inr (inl e)) = absurd cc
 client_is place req resp asks pool (inr (inr (inl e))) = absurd cc
 client_is place req resp asks pool (inr (inr (inr k))) = k
 
-module _ (ends : Role → ℕ → End) (rows : List QueueRow) (actors : List Actor) (passed : Passed) (place : BlkPlace) (has : HasBlk rows place (map part_of actors)) (work : AreAtWork ends rows actors passed) where
+module _ (scene : Scene) (ends : Role → ℕ → End) (rows : List QueueRow) (actors : List Actor) (passed : Passed) (place : BlkPlace) (has : HasBlkIn scene rows place (map part_of actors)) (work : AreAtWork ends rows actors passed) where
   abbrev cast : List Part
   cast = map part_of actors
 
@@ -123,11 +124,11 @@ module _ (ends : Role → ℕ → End) (rows : List QueueRow) (actors : List Act
   client_of : (k : ℕ) (c : BlkClient) → slice_get actors k ≡ Some (Kinds.BlkClient c) → (j entry : ℕ) × (asks : List Ask) × (pool : PoolAt) × IsBlkClientOf place j entry asks pool × (blk_client_part c ≡ blk_client_at place.first j asks pool)
   client_of k c at = client_is place (req_queue c) (resp_queue c) c.asking.script.items _ (has.only k (blk_client_part c) (map_get part_of actors k (Kinds.BlkClient c) at))
 
-pub replied : (ends : Role → ℕ → End) (rows : List QueueRow) (actors : List Actor) (passed : Passed) (place : BlkPlace) → HasBlk rows place (map part_of actors) → AreAtWork ends rows actors passed → ClientsSend rows (map part_of actors) passed → (k c : ℕ) (x : Actor) (asks : List Ask) (pool : PoolAt) (entry : ℕ) → slice_get actors k ≡ Some x → part_of x ≡ BlockPart (blk_client_at place.first c asks pool) → slice_get place.entries c ≡ Some entry → slice_get place.asks c ≡ Some asks → IsPrefix (replies_got x) (replies_of place.image entry asks)
-replied ends rows actors passed place has work sends k c x asks pool entry at part entry_at asks_at =
+pub replied : {scene : Scene} (ends : Role → ℕ → End) (rows : List QueueRow) (actors : List Actor) (passed : Passed) (place : BlkPlace) → HasBlkIn scene rows place (map part_of actors) → AreAtWork ends rows actors passed → ClientsSendIn scene rows (map part_of actors) passed → (k c : ℕ) (x : Actor) (asks : List Ask) (pool : PoolAt) (entry : ℕ) → slice_get actors k ≡ Some x → part_of x ≡ BlockPart (blk_client_at place.first c asks pool) → slice_get place.entries c ≡ Some entry → slice_get place.asks c ≡ Some asks → IsPrefix (replies_got x) (replies_of place.image entry asks)
+replied {scene} ends rows actors passed place has work sends k c x asks pool entry at part entry_at asks_at =
     let d = blk_client_actor place.first c asks pool x part in
     let here : slice_get actors k ≡ Some (Kinds.BlkClient d.0) = at ∙ ap Some d.1 in
-    let is = client_of ends rows actors passed place has work k d.0 here in
+    let is = client_of scene ends rows actors passed place has work k d.0 here in
     let row = asker_row d.0 passed (subst (λ a. ActorStandsFor a passed) d.1 (work.stands k x at)) in
     let client : IsAskingClient place is.0 is.2 is.3 d.0 passed = record { part = is.5; row = row } in
     let one = client_queues place.first c asks pool d.0 d.2 in
@@ -138,8 +139,8 @@ replied ends rows actors passed place has work sends k c x asks pool entry at pa
     let entry_is : is.1 ≡ entry = some_is (sym is.4.has_entry ∙ (ap (slice_get place.entries) number ∙ entry_at)) in
     let asks_is : is.2 ≡ asks = sym two.2 ∙ one.2 in
     let shown = d.0.asking.kept.shown in
-    let ask = all_ask ends rows actors passed place has work sends.requests in
-    let recorded : IsPrefix shown (replies_of place.image is.1 is.2) = client_recorded place passed (class ends rows actors passed place has work) is.0 is.1 is.2 is.3 is.4 ask has.apart (has.sized is.0 is.2 is.4.has_asks) d.0 client in
+    let ask = all_ask scene ends rows actors passed place has work sends.requests in
+    let recorded : IsPrefix shown (replies_of place.image is.1 is.2) = client_recorded place passed (class scene ends rows actors passed place has work) is.0 is.1 is.2 is.3 is.4 ask has.apart (has.sized is.0 is.2 is.4.has_asks) d.0 client in
     let of_asks : IsPrefix shown (replies_of place.image is.1 asks) = subst (λ l. IsPrefix shown (replies_of place.image is.1 l)) asks_is recorded in
     let of_entry : IsPrefix shown (replies_of place.image entry asks) = subst (λ n. IsPrefix shown (replies_of place.image n asks)) entry_is of_asks in
     subst (λ l. IsPrefix l (replies_of place.image entry asks)) (sym (ap replies_got d.1)) of_entry

@@ -9,7 +9,7 @@ use Rattle.wire_core.specs.Ends.{Role, End}
 use Rattle.wire_core.specs.Journal.{History}
 use Rattle.wire_core.specs.Lists.{Passed}
 use Rattle.play_core.specs.Moved.{Moved, moved}
-use Rattle.play_core.specs.Sheets.{RowsHold, needful}
+use Rattle.play_core.specs.Sheets.{Scene, RowsHold, needful}
 use Rattle.play_core.specs.Still.{IsStill, Plays}
 use Rattle.play_core.specs.Wants.{Needful}
 use Rattle.play_core.proofs.Tables.{plays_there}
@@ -24,27 +24,27 @@ use Rattle.net_quiet.proofs.Wholes.{record_whole, wire_whole}
 use Rattle.actor_set.specs.Parts.{Part, NetworkPart, SendingPart}
 use Rattle.actor_set.specs.Actors.{part_of}
 use Rattle.actor_set.specs.declared.actor.Actor.{Actor}
-use Rattle.actor_set.specs.Laws.Kinds.{sheet, scene_of, hostiles}
+use Rattle.actor_set.specs.Laws.Kinds.{sheet, hostiles}
 use Rattle.actor_set.specs.Laws.Records.{frames_got, frames_by}
 use Rattle.actor_set.proofs.LawsLemmas.Calm.{calm_actor}
 use Rattle.actor_set.proofs.LawsLemmas.Rows.{frames_here}
-use Rattle.wired_law.specs.Wiring.{HasPart, HasWhole, IsWired, ClientsSend, AreAtWork}
+use Rattle.wired_law.specs.Wiring.{HasPart, HasWholeIn, IsWiredIn, ClientsSendIn, AreAtWork}
 use Rattle.wired_law.proofs.Wiring.{recorded, sent_on}
 use Rattle.wired_law.proofs.QuietLemmas.Rows.{rows_hold}
 
 -- the network among a cast's actors
-module _ (rows : List QueueRow) (cast : List Part) (m : Moved) (net : NetPlace) (whole : HasWhole rows net cast) (pools : HasPools net) (rooms : HasRooms (hostiles cast) rows net) (holds : RowsHold (sheet (scene_of cast)) (hostiles cast) cast m) where
+module _ (scene : Scene) (rows : List QueueRow) (cast : List Part) (m : Moved) (net : NetPlace) (whole : HasWholeIn scene rows net cast) (pools : HasPools net) (rooms : HasRooms (hostiles cast) rows net) (holds : RowsHold (sheet scene) (hostiles cast) cast m) where
   abbrev all : Needful
-  all = needful (sheet (scene_of cast)) cast m
+  all = needful (sheet scene) cast m
 
-  plays : (p : Part) → HasPart cast p → Plays (hostiles cast) all m (sheet (scene_of cast) p)
-  plays p has = plays_there (sheet (scene_of cast)) (hostiles cast) cast m holds has.0 p (calm_actor cast has.0) has.1
+  plays : (p : Part) → HasPart cast p → Plays (hostiles cast) all m (sheet scene p)
+  plays p has = plays_there (sheet scene) (hostiles cast) cast m holds has.0 p (calm_actor cast has.0) has.1
 
-  pub network_there : IsNetwork (hostiles cast) (scene_of cast) rows all net m
-  network_there = record {
+  network_in : IsNetwork (hostiles cast) scene rows all net m
+  network_in = record {
     pools = pools;
     rooms = rooms;
-    device = plays (NetworkPart (device_at net.first (scene_of cast).frames)) whole.device;
+    device = plays (NetworkPart (device_at net.first scene.frames)) whole.device;
     driver = plays (NetworkPart (driver_at net.first)) whole.driver;
     receiver = plays (NetworkPart (receiver_at net.first net.pool net.macs)) whole.receiver;
     sender = plays (SendingPart (sender_at net.first net.most net.pools)) whole.sender;
@@ -52,26 +52,29 @@ module _ (rows : List QueueRow) (cast : List Part) (m : Moved) (net : NetPlace) 
     client = λ k program mac q of. plays (NetworkPart (client_at net.first k program mac (own_pools q))) (whole.client k program mac q of);
   }
 
+pub network_there : {scene : Scene} (rows : List QueueRow) (cast : List Part) (m : Moved) (net : NetPlace) → HasWholeIn scene rows net cast → HasPools net → HasRooms (hostiles cast) rows net → RowsHold (sheet scene) (hostiles cast) cast m → IsNetwork (hostiles cast) scene rows (needful (sheet scene) cast m) net m
+network_there {scene} rows cast m net whole pools rooms holds = network_in scene rows cast m net whole pools rooms holds
+
 -- actors that stand for what passed
-module _ (ends : Role → ℕ → End) (history : History) (rows : List QueueRow) (actors : List Actor) (journal : List Entry) (passed : Passed) (net : NetPlace) (whole : HasWhole rows net (map part_of actors)) (wired : IsWired rows (map part_of actors)) (pools : HasPools net) (rooms : HasRooms (hostiles (map part_of actors)) rows net) (work : AreAtWork ends rows actors passed) (send : ClientsSend rows (map part_of actors) passed) (items : HaveItems passed (moved history journal)) where
+module _ (scene : Scene) (ends : Role → ℕ → End) (history : History) (rows : List QueueRow) (actors : List Actor) (journal : List Entry) (passed : Passed) (net : NetPlace) (whole : HasWholeIn scene rows net (map part_of actors)) (wired : IsWiredIn scene rows (map part_of actors)) (pools : HasPools net) (rooms : HasRooms (hostiles (map part_of actors)) rows net) (work : AreAtWork ends rows actors passed) (send : ClientsSendIn scene rows (map part_of actors) passed) (items : HaveItems passed (moved history journal)) where
   abbrev cast : List Part
   cast = map part_of actors
 
   abbrev frames : List (List ℕ)
-  frames = (scene_of cast).frames
+  frames = scene.frames
 
-  there : IsNetwork (hostiles cast) (scene_of cast) rows (needful (sheet (scene_of cast)) cast (moved history journal)) net (moved history journal)
-  there = network_there rows cast (moved history journal) net whole pools rooms (rows_hold ends history rows actors journal passed wired work send items)
+  there : IsNetwork (hostiles cast) scene rows (needful (sheet scene) cast (moved history journal)) net (moved history journal)
+  there = network_in scene rows cast (moved history journal) net whole pools rooms (rows_hold scene ends history rows actors journal passed wired work send items)
 
-  module _ (still : IsStill (hostiles cast) history rows (needful (sheet (scene_of cast)) cast (moved history journal)) journal) where
+  module _ (still : IsStill (hostiles cast) history rows (needful (sheet scene) cast (moved history journal)) journal) where
     pub recorded_whole : (k c : ℕ) (x : Actor) (program : Program) (mac : Mac) (q : ClientPools) → slice_get actors k ≡ Some x → IsClientOf net c program mac q → part_of x ≡ NetworkPart (client_at net.first c program mac (own_pools q)) → frames_got x ≡ frames_for mac frames
     recorded_whole k c x program mac q at of part =
         let begun = recorded ends rows actors passed net whole work k c x program mac (own_pools q) at part (whole.some c q of.pools) (whole.fits_client c q of.pools).0 of.address in
         let got = frames_here passed x (work.stands k x at) ∙ ap (frames_by passed) part in
-        record_whole (hostiles cast) history rows (needful (sheet (scene_of cast)) cast (moved history journal)) journal (scene_of cast) net still there passed items c mac of.address (frames_got x) (client_first net.first c + 2) refl got begun
+        record_whole (hostiles cast) history rows (needful (sheet scene) cast (moved history journal)) journal scene net still there passed items c mac of.address (frames_got x) (client_first net.first c + 2) refl got begun
 
     pub sent_whole : (k : ℕ) (x : Actor) → slice_get actors k ≡ Some x → part_of x ≡ NetworkPart (device_at net.first frames) → Merge (sends_at net.programs net.macs frames) (frames_got x)
     sent_whole k x at part =
         let begun = sent_on ends rows actors passed net whole work send k x at part in
         let got = frames_here passed x (work.stands k x at) ∙ ap (frames_by passed) part in
-        wire_whole (hostiles cast) history rows (needful (sheet (scene_of cast)) cast (moved history journal)) journal (scene_of cast) net still there passed items (frames_got x) (net.first + 2) refl got begun
+        wire_whole (hostiles cast) history rows (needful (sheet scene) cast (moved history journal)) journal scene net still there passed items (frames_got x) (net.first + 2) refl got begun

@@ -1,20 +1,20 @@
-use Rattle.wired_law.proofs.Wiring.{in_turn, recorded, sent_on, sent_told, nothing_sent, sends_on}
+use Rattle.wired_law.proofs.Wiring.{in_turn, recorded, sent_on, sent_told, nothing_sent, sends_in}
 use Rattle.wired_law.proofs.wired_law.Goals as goal
 
 pub returns-clause-turns : goal.returns-clause-turns
-returns-clause-turns c = in_turn
+returns-clause-turns c scene = in_turn
 
 pub returns-clause-starts : goal.returns-clause-starts
-returns-clause-starts c = nothing_sent
+returns-clause-starts c scene = nothing_sent
 
 pub returns-clause-goes_on : goal.returns-clause-goes_on
-returns-clause-goes_on c = sends_on
+returns-clause-goes_on c scene = sends_in
 
 pub returns-clause-records : goal.returns-clause-records
-returns-clause-records c = recorded
+returns-clause-records c scene = recorded
 
 pub returns-clause-wire : goal.returns-clause-wire
-returns-clause-wire c = sent_on
+returns-clause-wire c scene = sent_on
 
 pub returns-clause-told : goal.returns-clause-told
-returns-clause-told c = sent_told
+returns-clause-told c scene = sent_told

@@ -1,0 +1,9 @@
+pub mod Following
+pub mod Growing
+pub mod Calming
+pub mod Moments
+pub mod Telling
+pub mod Sorting
+pub mod Items
+pub mod Serving
+pub mod Resting

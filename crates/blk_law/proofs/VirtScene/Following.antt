@@ -1,0 +1,221 @@
+-- What is said of the virtualiser speaks of its own ends, and its needs follow, whatever names are
+-- told.
+use Rattle.std.proofs.Common.{◌≡◌, ◌≢◌, ◌+◌, ◌++◌, ◌<◌, ◌≤◌, ◌^◌, ◌%◌, ◌&&◌, ℕ, zero, suc, true, not, nat_lt, Some, List, [], ◌∷◌, length, map, drop, flat_map, slice_get, refl, sym, ap, ap₂, ◌∙◌, subst, arith, ltb-true}
+use Rattle.std.specs.List.{filter}
+use Rattle.std.proofs.lemmas.Bool.{lt-ltb}
+use Rattle.std.proofs.lemmas.List.{length-map, map-append}
+use Rattle.cargo_core.specs.Lists.{IsPrefix, PrefixMerge}
+use Rattle.cargo_core.specs.declared.item.Item.{Item}
+use Rattle.play_core.specs.Moved.{Moved, Seat, AreAlike, with_put}
+use Rattle.play_core.specs.Names.{Names, Wild}
+use Rattle.play_core.specs.Totals.{total}
+use Rattle.play_core.specs.Wants.{Want, intake, outlet, intake_want, outlet_want}
+use Rattle.play_core.specs.Sheets.{Sheet, Due, CouldPut, IsOwn, NeedsFollow, AreApart, due_want}
+use Rattle.play_core.proofs.Lists.{map_alike, map_from, some_is}
+use Rattle.play_core.proofs.Puts.{put_here, put_beside, copy_shorter}
+use Rattle.owner_law.specs.Pools.Places.{PoolAt}
+use Rattle.net_law.specs.Parts.Table.{is_short}
+use Rattle.net_law.proofs.PartsLemmas.Fits.{AllFit, intake_fits, outlet_fits, pairs_fit, sheet_follows}
+use Rattle.net_law.proofs.PartsLemmas.Pairs.{twice, twice_same, pair_first, pair_second, pair_seats, flat_alike, each_owed, put_length}
+use Rattle.owner_law.proofs.PoolsLemmas.Merging.{Each, each_begun}
+use Rattle.net_law.proofs.TxParts.Growing.{merge_few, merge_grows}
+use Rattle.blk_virt.specs.Requests.{request_of, first_block, is_ok}
+use Rattle.blk_expect.specs.Replies.{partition_in}
+use Rattle.blk_law.specs.Sheets.Parts.{Sharer}
+use Rattle.blk_law.specs.Sheets.Rows.{first_item, item_for_disk, items_back, numbered_item}
+use Rattle.blk_law.specs.VirtScene.Rows.{Judged, all_answers, all_told, answers_told, going_on, judge, owns, requests_told, told_due}
+use Rattle.blk_law.specs.VirtScene.Table.{told_wants, virt_sheet}
+use Rattle.blk_law.proofs.SheetsLemmas.Serving.{back_same, disk_bare, drop_first, drop_less, drop_many, drop_most, first_on, get_last, last_at, longer}
+
+module _ (image : List ℕ) (wild : Wild) (names : Names) (req resp : ℕ) (pool : PoolAt) (clients : List Sharer) where
+  abbrev S : Sheet
+  S = virt_sheet image wild names req resp pool clients
+
+  abbrev from : Sharer → Seat
+  from c = intake c.req
+
+  abbrev back : Sharer → Seat
+  back c = outlet c.resp
+
+  module _ (a b : Moved) (alike : AreAlike S.ends a b) where
+    came_back : a.taken resp ≡ b.taken resp
+    came_back = alike 0 (intake resp) refl
+
+    gave : a.sent req ≡ b.sent req
+    gave = alike 1 (outlet req) refl
+
+    came : (k : ℕ) (c : Sharer) → slice_get clients k ≡ Some c → a.taken c.req ≡ b.taken c.req
+    came k c at = alike (suc (suc (twice k))) (from c) (pair_first from back clients k c at)
+
+    went_back : (k : ℕ) (c : Sharer) → slice_get clients k ≡ Some c → a.sent c.resp ≡ b.sent c.resp
+    went_back k c at = alike (suc (suc (suc (twice k)))) (back c) (pair_second from back clients k c at)
+
+    on_same : (k : ℕ) (c : Sharer) → slice_get clients k ≡ Some c → requests_told image wild names a c ≡ requests_told image wild names b c
+    on_same k c at = ap (λ l. going_on c.pool.base (partition_in image c.entry) (judge image wild names c l)) (came k c at)
+
+    requests_same : all_told image wild names clients a ≡ all_told image wild names clients b
+    requests_same = map_alike (requests_told image wild names a) (requests_told image wild names b) clients on_same
+
+    due_same : told_due image wild names clients a ≡ told_due image wild names clients b
+    due_same = ap (λ l. 1 + total l) requests_same
+
+    answers_same : (k : ℕ) (c : Sharer) → slice_get clients k ≡ Some c → answers_told image wild names req resp a c ≡ answers_told image wild names req resp b c
+    answers_same k c at =
+        ap (λ l. all_answers (judge image wild names c l) (items_back c.pool (drop 1 (a.sent req)) (drop 1 (a.taken resp)))) (came k c at)
+        ∙ ap₂ (λ (xs ys : List Item). all_answers (judge image wild names c (b.taken c.req)) (items_back c.pool (drop 1 xs) (drop 1 ys))) gave came_back
+
+    sharer_same : (k : ℕ) (c : Sharer) → slice_get clients k ≡ Some c → told_wants image wild names req resp a c ≡ told_wants image wild names req resp b c
+    sharer_same k c at =
+        ap₂ (λ (xs ys : List Item). intake_want c.req (nat_lt 0 (length xs) && not (is_short (a.sent c.resp) ys)) ∷ outlet_want c.resp (is_short (a.sent c.resp) (answers_told image wild names req resp a c)) ∷ []) came_back (came k c at)
+        ∙ ap₂ (λ (xs ys : List Item). intake_want c.req (nat_lt 0 (length (b.taken resp)) && not (is_short xs (b.taken c.req))) ∷ outlet_want c.resp (is_short xs ys) ∷ []) (went_back k c at) (answers_same k c at)
+
+    wants_same : S.wants a ≡ S.wants b
+    wants_same =
+        ap₂ (λ (xs : List Item) (n : ℕ). intake_want resp true ∷ outlet_want req (nat_lt (length xs) n) ∷ flat_map (told_wants image wild names req resp a) clients) gave due_same
+        ∙ ap (λ ws. intake_want resp true ∷ outlet_want req (nat_lt (length (b.sent req)) (told_due image wild names clients b)) ∷ ws) (flat_alike (told_wants image wild names req resp a) (told_wants image wild names req resp b) clients sharer_same)
+
+    row_same : S.row a → S.row b
+    row_same h = record {
+      first = subst (λ xs. IsPrefix xs (first_item pool ∷ drop 1 xs)) gave h.first;
+      numbers = λ j i at. h.numbers j i (ap (λ xs. slice_get xs j) gave ∙ at);
+      merges = subst (λ xs. PrefixMerge (all_told image wild names clients b) (map (numbered_item 0) (drop 1 xs))) gave (subst (λ ls. PrefixMerge ls (map (numbered_item 0) (drop 1 (a.sent req)))) requests_same h.merges);
+      answered = subst (λ xs. length (b.taken resp) ≤ length xs) gave (subst (λ ys. length ys ≤ length (a.sent req)) came_back h.answered);
+      waits = λ none k c at. sym (came k c at) ∙ h.waits (came_back ∙ none) k c at;
+      gives = λ k c at. subst (λ xs. IsPrefix xs (answers_told image wild names req resp b c)) (went_back k c at) (subst (λ ys. IsPrefix (a.sent c.resp) ys) (answers_same k c at) (h.gives k c at));
+      one = λ k c at. subst (λ (xs : List Item). length (b.taken c.req) ≤ length xs + 1) (went_back k c at) (subst (λ (ys : List Item). length ys ≤ length (a.sent c.resp) + 1) (came k c at) (h.one k c at));
+      came = λ k c at j i i_at. h.came k c at j i (ap (λ xs. slice_get (owns wild names c xs) j) (came k c at) ∙ i_at);
+    }
+
+  abbrev want_in : Moved → Sharer → Want
+  want_in m c = intake_want c.req (nat_lt 0 (length (m.taken resp)) && not (is_short (m.sent c.resp) (m.taken c.req)))
+
+  abbrev want_back : Moved → Sharer → Want
+  want_back m c = outlet_want c.resp (is_short (m.sent c.resp) (answers_told image wild names req resp m c))
+
+  pub virt_own : IsOwn S
+  virt_own = record {
+    row = λ a b alike h. row_same a b alike h;
+    wants = λ a b alike. wants_same a b alike;
+    ends = λ m. ap (λ ss. intake resp ∷ outlet req ∷ ss) (pair_seats (want_in m) (want_back m) clients);
+  }
+
+  module _ (m : Moved) (apart : AreApart S.ends) (row : S.row m) where
+    resps_apart : (j k : ℕ) (x y : Sharer) → slice_get clients j ≡ Some x → slice_get clients k ≡ Some y → x.resp ≡ y.resp → j ≡ k
+    resps_apart j k x y at is same =
+        let one = pair_second from back clients j x at in
+        let two = pair_second from back clients k y is in
+        let e : suc (suc (suc (twice j))) ≡ suc (suc (suc (twice k))) = apart (suc (suc (suc (twice j)))) (suc (suc (suc (twice k)))) (back x) one (two ∙ ap (λ n. Some (outlet n)) (sym same)) in
+        twice_same j k (omega (arith, e))
+
+    beside : (k : ℕ) (c : Sharer) → slice_get clients k ≡ Some c → req ≢ c.resp
+    beside k c at same =
+        let one = pair_second from back clients k c at in
+        let e : 1 ≡ suc (suc (suc (twice k))) = apart 1 (suc (suc (suc (twice k)))) (outlet req) refl (one ∙ ap (λ n. Some (outlet n)) (sym same)) in
+        omega (arith, e)
+
+    -- where one request more goes to the driver, all else stays
+    put_on : (x : Item) → (list : List Item) → m.sent req ++ x ∷ [] ≡ list → IsPrefix list (first_item pool ∷ drop 1 list) → (request_of x).id ≡ length (m.sent req) % 2 ^ 32 → PrefixMerge (all_told image wild names clients m) (map (numbered_item 0) (drop 1 list)) → ((k : ℕ) (c : Sharer) → slice_get clients k ≡ Some c → items_back c.pool (drop 1 list) (drop 1 (m.taken resp)) ≡ items_back c.pool (drop 1 (m.sent req)) (drop 1 (m.taken resp))) → CouldPut S m req
+    put_on x list is first number merges same = (
+      x,
+      record {
+        first = subst (λ l. IsPrefix l (first_item pool ∷ drop 1 l)) (sym whole) first;
+        numbers = λ j i at. last_at (λ n (y : Item). (request_of y).id ≡ n % 2 ^ 32) (m.sent req) x row.numbers number j i (ap (λ l. slice_get l j) (sym (put_here m req x)) ∙ at);
+        merges = subst (λ l. PrefixMerge (all_told image wild names clients m) (map (numbered_item 0) (drop 1 l))) (sym whole) merges;
+        answered = (let long = put_length m req x in let few = row.answered in omega (arith, long, few));
+        waits = row.waits;
+        gives = λ k c at.
+            let due : answers_told image wild names req resp (with_put m req x) c ≡ answers_told image wild names req resp m c = ap (λ l. all_answers (judge image wild names c (m.taken c.req)) (items_back c.pool (drop 1 l) (drop 1 (m.taken resp)))) whole ∙ ap (all_answers (judge image wild names c (m.taken c.req))) (same k c at) in
+            subst (λ xs. IsPrefix xs (answers_told image wild names req resp (with_put m req x) c)) (sym (put_beside m req x c.resp (beside k c at))) (subst (IsPrefix (m.sent c.resp)) (sym due) (row.gives k c at));
+        one = λ k c at. subst (λ (xs : List Item). length (m.taken c.req) ≤ length xs + 1) (sym (put_beside m req x c.resp (beside k c at))) (row.one k c at);
+        came = row.came;
+      },
+    )
+      where
+        whole : (with_put m req x).sent req ≡ list
+        whole = put_here m req x ∙ is
+
+    -- none of those that go to the disk has a number yet
+    on_bare : Each (Each (λ (i : Item). numbered_item 0 i ≡ i)) (all_told image wild names clients m)
+    on_bare k l l_at j i i_at =
+        let f = map_from (requests_told image wild names m) clients k l l_at in
+        let part = partition_in image f.0.entry in
+        let g = map_from (λ (x : Judged). item_for_disk f.0.pool.base part x.0) (filter (λ (x : Judged). is_ok x.1) (judge image wild names f.0 (m.taken f.0.req))) j i (ap (λ xs. slice_get xs j) f.2 ∙ i_at) in
+        subst (λ (y : Item). numbered_item 0 y ≡ y) g.2 (disk_bare (request_of g.0.0).code f.0.pool.base (first_block part) (request_of g.0.0))
+
+    more_bare : (x : Item) (xs : List Item) → PrefixMerge (all_told image wild names clients m) (xs ++ x ∷ []) → numbered_item 0 x ≡ x
+    more_bare x xs h = each_begun (λ (i : Item). numbered_item 0 i ≡ i) (all_told image wild names clients m) (xs ++ x ∷ []) h on_bare (length xs) x (get_last xs x)
+
+    -- the virtualiser's own request comes first
+    begins : m.sent req ≡ [] → CouldPut S m req
+    begins none =
+        let x = first_item pool in
+        put_on x (x ∷ []) (ap (λ l. l ++ x ∷ []) none) ([], refl) (sym (ap (λ (l : List Item). length l % 2 ^ 32) none))
+        (subst (λ l. PrefixMerge (all_told image wild names clients m) (map (numbered_item 0) (drop 1 l))) none row.merges)
+        (λ k c at. ap (λ l. items_back c.pool (drop 1 l) (drop 1 (m.taken resp))) (sym none))
+
+    -- and then one more of those that go to the disk
+    goes_on : 1 ≤ length (m.sent req) → length (m.sent req) < told_due image wild names clients m → CouldPut S m req
+    goes_on some short =
+        let rest = drop 1 (m.sent req) in
+        let many = drop_many (m.sent req) some in
+        let bare_long = length-map rest (numbered_item 0) in
+        let more = merge_grows (all_told image wild names clients m) (map (numbered_item 0) rest) row.merges (omega (arith, many, bare_long, short)) in
+        let n = length (m.sent req) % 2 ^ 32 in
+        let x = numbered_item n more.0 in
+        let list = m.sent req ++ x ∷ [] in
+        let dropped : drop 1 list ≡ rest ++ x ∷ [] = drop_first (m.sent req) x some in
+        let bare : numbered_item 0 x ≡ more.0 = more_bare more.0 (map (numbered_item 0) rest) more.1 in
+        let all : map (numbered_item 0) (drop 1 list) ≡ map (numbered_item 0) rest ++ more.0 ∷ [] = ap (map (numbered_item 0)) dropped ∙ (map-append (numbered_item 0) rest (x ∷ []) ∙ ap (λ y. map (numbered_item 0) rest ++ y ∷ []) bare) in
+        put_on x list refl (first_on pool (m.sent req) x some row.first) refl (subst (PrefixMerge (all_told image wild names clients m)) (sym all) more.1)
+        (λ k c at. ap (λ l. items_back c.pool l (drop 1 (m.taken resp))) dropped ∙ back_same c.pool rest (drop 1 (m.taken resp)) x (drop_less (m.sent req) (m.taken resp) row.answered))
+
+    sends : nat_lt (length (m.sent req)) (told_due image wild names clients m) ≡ true → CouldPut S m req
+    sends lt = by (m.sent req) refl
+      where
+        by : (l : List Item) → m.sent req ≡ l → CouldPut S m req
+        by [] is = begins is
+        by (x ∷ xs) is = let long = ap length is in goes_on (omega (arith, long)) (ltb-true (length (m.sent req)) (told_due image wild names clients m) lt)
+
+    sends_only : CouldPut S m req → nat_lt (length (m.sent req)) (told_due image wild names clients m) ≡ true
+    sends_only put =
+        let list = (with_put m req put.0).sent req in
+        let few = merge_few (all_told image wild names clients m) (map (numbered_item 0) (drop 1 list)) put.1.merges in
+        let bare_long = length-map (drop 1 list) (numbered_item 0) in
+        let long = put_length m req put.0 in
+        let most = drop_most list in
+        lt-ltb (length (m.sent req)) (told_due image wild names clients m) (omega (arith, few, bare_long, long, most))
+
+    gives : (k : ℕ) (c : Sharer) → slice_get clients k ≡ Some c → is_short (m.sent c.resp) (answers_told image wild names req resp m c) ≡ true → CouldPut S m c.resp
+    gives k c at lt =
+        let more = each_owed clients (λ (d : Sharer). d.resp) (answers_told image wild names req resp m) m row.gives resps_apart k c at lt in
+        let same = put_beside m c.resp more.0 req (λ e. beside k c at (sym e)) in (
+          more.0,
+          record {
+            first = subst (λ l. IsPrefix l (first_item pool ∷ drop 1 l)) (sym same) row.first;
+            numbers = λ j i i_at. row.numbers j i (ap (λ l. slice_get l j) (sym same) ∙ i_at);
+            merges = subst (λ l. PrefixMerge (all_told image wild names clients m) (map (numbered_item 0) (drop 1 l))) (sym same) row.merges;
+            answered = subst (λ (l : List Item). length (m.taken resp) ≤ length l) (sym same) row.answered;
+            waits = row.waits;
+            gives = λ j d d_at. subst (λ l. IsPrefix ((with_put m c.resp more.0).sent d.resp) (all_answers (judge image wild names d (m.taken d.req)) (items_back d.pool (drop 1 l) (drop 1 (m.taken resp))))) (sym same) (more.1 j d d_at);
+            one = λ j d d_at. let few = row.one j d d_at in let long = longer m c.resp more.0 d.resp in omega (arith, few, long);
+            came = row.came;
+          },
+        )
+
+    gives_only : (k : ℕ) (c : Sharer) → slice_get clients k ≡ Some c → CouldPut S m c.resp → is_short (m.sent c.resp) (answers_told image wild names req resp m c) ≡ true
+    gives_only k c at put =
+        let same = put_beside m c.resp put.0 req (λ e. beside k c at (sym e)) in
+        copy_shorter m c.resp (answers_told image wild names req resp m c) put.0
+        (subst (λ l. IsPrefix ((with_put m c.resp put.0).sent c.resp) (all_answers (judge image wild names c (m.taken c.req)) (items_back c.pool (drop 1 l) (drop 1 (m.taken resp))))) same (put.1.gives k c at))
+
+    virt_fits : AllFit S m (S.wants m)
+    virt_fits = (intake_fits S m resp _, (outlet_fits S m req _ sends sends_only, pairs_fit S m (want_in m) (want_back m) clients (λ k c at. (intake_fits S m c.req _, outlet_fits S m c.resp _ (gives k c at) (gives_only k c at)))))
+
+  virt_due : (m : Moved) (i : ℕ) (d : Due) → slice_get (S.dues m) i ≡ Some d → (k : ℕ) × (slice_get (S.wants m) k ≡ Some (due_want m d))
+  virt_due m zero d at = (1, ap (λ (x : Due). Some (due_want m x)) (some_is at))
+  virt_due m (suc i) d at =
+      let f = map_from (λ (c : Sharer). let x : Due = record { queue = c.resp; number = length (answers_told image wild names req resp m c) } in x) clients i d at in
+      (suc (suc (suc (twice i))), pair_second (want_in m) (want_back m) clients i f.0 f.1 ∙ ap (λ (x : Due). Some (due_want m x)) f.2)
+
+  pub virt_follows : NeedsFollow S
+  virt_follows = sheet_follows S (λ m apart row. virt_fits m apart row) virt_due

@@ -1,0 +1,9 @@
+pub mod Following
+pub mod Calming
+pub mod Telling
+pub mod Sorting
+pub mod Items
+pub mod Moments
+pub mod Counting
+pub mod Serving
+pub mod Resting
