@@ -1,0 +1,6 @@
+pub mod Filling
+pub mod Plain
+pub mod Serving
+pub mod Sending
+pub mod Receiving
+pub mod Serial
