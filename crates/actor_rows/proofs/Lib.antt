@@ -4,7 +4,6 @@ pub mod Started
 pub mod Fitting
 pub mod Driving
 pub mod Merging
-pub mod SeatsLemmas
 pub mod NetTx
 pub mod Emptiness
 pub mod Sizing

@@ -1,8 +1,7 @@
 -- What the helpers of these tests say: of calls by hand (Hands), of actors at their queues
--- (Standings, NetTx, Seats, Sizes), and of the owner table of two journals (Owners).
+-- (Standings, NetTx, Sizes), and of the owner table of two journals (Owners).
 pub mod Hands
 pub mod Standings
-pub mod Seats
 pub mod NetTx
 pub mod Sizes
 pub mod Owners

@@ -1,6 +1,5 @@
-//! Worked rows of one actor at a time, at queues whose other ends are worked by hand: actors over
-//! lists, among them the network's sending virtualiser, and a driver over rings; and the owner table
-//! of two journals.
+//! Worked rows of one actor at a time, at queues in lists whose other ends are worked by hand, among
+//! them the network's sending virtualiser; and the owner table of two journals.
 #![tactic(auto)]
 
 #[cfg(test)]
@@ -8,10 +7,11 @@ mod alone;
 mod hand;
 #[cfg(test)]
 mod net_rx_tests;
-pub mod net_tx;
-pub mod owners;
+#[cfg(test)]
+mod net_tx;
+#[cfg(test)]
+mod owners;
 mod rows;
-pub mod seats;
 #[cfg(test)]
 mod serial_tests;
 #[cfg(test)]

@@ -1,5 +1,4 @@
 //! The network's sending virtualiser stands alone over queues that hold two entries each, whose
 //! other ends are worked by hand.
 
-#[cfg(test)]
 mod tests;

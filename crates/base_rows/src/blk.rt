@@ -2,11 +2,8 @@
 //! that were worked by hand: which partitions a sector gives, which requests go on to the disk, and
 //! what clients get for their requests.
 
-#[cfg(test)]
 mod partition_tests;
-#[cfg(test)]
 mod reply_tests;
-#[cfg(test)]
 mod request_tests;
 mod sectors;
 

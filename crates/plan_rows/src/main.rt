@@ -1,13 +1,19 @@
-//! Judges and lays out descriptions that are edited from others. A row of the input names a file
-//! with a description, or its layout as `layout of FILE`, or its plan as `plan of FILE`, and may
-//! replace fragments of it, each as ` | OLD => NEW`. For each row the program writes what an
-//! accepted description has, or its layout, or the parts of its plan, or the rule that a refused
-//! one breaks and the place.
+//! Judges and lays out descriptions that are edited from others, and reads traces for them. A row
+//! of the input names a file with a description, or its layout as `layout of FILE`, or its plan as
+//! `plan of FILE`, and may replace fragments of it, each as ` | OLD => NEW`. For each row the
+//! program writes what an accepted description has, or its layout, or the parts of its plan, or the
+//! rule that a refused one breaks and the place.
+//!
+//! A row `trace of FILE | LINE | LINE` has the lines of a trace, of which the last doesn't end;
+//! `LINE x N` stands for N such lines. What the trace gives is written with its budget, or its first
+//! bad line.
 #![tactic(auto)]
 
 ghost use Rattle.std.specs.Prelude.{◌≤◌, IfOk, length};
 ghost use Rattle.sdf_check.specs.Valid.{Valid};
 ghost use Rattle.sdf_model.specs.Counts.{text_most};
+
+mod traces;
 
 use cargo_core::Memory;
 use region_layout::lay_out;
@@ -17,6 +23,7 @@ use sdf_model::{TEXT_MOST, read_description};
 use sdf_plan::{Plan, SdfFault};
 use std::alloc::{AllocError, Global};
 use std::{fs, io};
+use traces::write_trace;
 
 // The plan that a text spells, where no rule is broken.
 fn judged(alloc: Global, text: &str) -> Result<Plan, SdfFault>
@@ -80,6 +87,18 @@ fn answer(alloc: Global, text: &str, told: Told) -> Result<String, Memory> {
     }
 }
 
+// What is written of a description and the lines of a trace for it.
+fn traced(alloc: Global, text: &str, lines: &str) -> Result<String, Memory> {
+    if text.len() > TEXT_MOST {
+        return write_too_long(alloc);
+    }
+    match judged(alloc, text) {
+        Ok(plan) => write_trace(alloc, &plan, lines),
+        Err(SdfFault::Refused(refusal)) => write_refused(alloc, &refusal),
+        Err(SdfFault::Memory(memory)) => Err(memory),
+    }
+}
+
 // A text with the fragment replaced that an edit names; `None` where it doesn't stand there exactly
 // once.
 fn edited(alloc: Global, text: &str, edit: &str) -> Result<Option<String>, AllocError> {
@@ -107,8 +126,28 @@ fn edited_by(alloc: Global, text: String, edits: &str) -> Result<Option<String>,
     Ok(Some(text))
 }
 
-// The answer at a row.
-fn row(rt: &HostRuntime, row: &str) -> io::Result<()> {
+// Prints an answer.
+fn print(rt: &HostRuntime, answer: Result<String, Memory>) -> io::Result<()> {
+    match answer {
+        Ok(lines) => rt.print(lines),
+        Err(_) => rt.println("no memory"),
+    }
+}
+
+// Prints what is answered at a row of a trace.
+fn print_traced(rt: &HostRuntime, row: &str) -> io::Result<()> {
+    let Some((name, lines)) = row.split_once(" | ") else {
+        return rt.println("no trace");
+    };
+    let text = fs::read_to_string(rt, name)?;
+    print(rt, traced(rt.alloc(), text.as_str(), lines))
+}
+
+// Prints the answer at a row.
+fn print_row(rt: &HostRuntime, row: &str) -> io::Result<()> {
+    if let Some(row) = row.strip_prefix("trace of ") {
+        return print_traced(rt, row);
+    }
     let (name, edits) = match row.split_once(" | ") {
         Some((name, edits)) => (name, Some(edits)),
         None => (row, None),
@@ -128,15 +167,12 @@ fn row(rt: &HostRuntime, row: &str) -> io::Result<()> {
     let Some(text) = changed else {
         return rt.println("a fragment doesn't stand there once");
     };
-    match answer(rt.alloc(), text.as_str(), told) {
-        Ok(lines) => rt.print(lines),
-        Err(_) => rt.println("no memory"),
-    }
+    print(rt, answer(rt.alloc(), text.as_str(), told))
 }
 
 fn main(rt: HostRuntime) -> io::Result<()> {
     for line in rt.lines(rt.alloc()) {
-        row(&rt, line?.as_str())?;
+        print_row(&rt, line?.as_str())?;
     }
     Ok(())
 }

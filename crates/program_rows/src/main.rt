@@ -1,20 +1,37 @@
-//! The worked rows of the program. Each line of standard input is the name of a row, behind `#`;
-//! the words of one, whose texts are the files beside it; `COUNT | WORDS`, a play for each seed
-//! below a count; or `COUNT at ACTORS | WORDS`, so many runs in threads behind a gate that holds
-//! each actor's first step until so many have arrived there. Standard output has each name, what
-//! `serve` writes to these words, and the status code; of many seeds or runs what the first one
-//! gives, and how many give the same; and of runs how many actors waited in vain.
+//! The worked rows of the program.
+//!
+//! First it is the program itself, as `sddf_cli` is: what no contract can say of files and standard
+//! output is shown by its words, whose description is longer than two pieces of reading and counts
+//! to its last byte, and whose answer is longer than a pipe holds.
+//!
+//! Each line of standard input is the name of a row, behind `#`; the words of one, whose texts are
+//! the files beside it; `COUNT | WORDS`, a play for each seed below a count; `COUNT at ACTORS |
+//! WORDS`, so many runs in threads behind a gate that holds each actor's first step until so many
+//! have arrived there; or `TABLE EVERY | WORDS`, a table of what fails, of which each EVERYth place
+//! is tried. Standard output has each name, what `serve` writes to these words, and the status
+//! code; of many seeds or runs what the first one gives, and how many give the same; of runs how
+//! many actors waited in vain; and of a table how many cases it has, and how many are right.
+//!
+//! Behind the rows come the examples, and calls with other outsides.
 #![tactic(auto)]
 
 mod arrivals;
+mod examples;
+mod failing;
+mod outside;
+mod row;
+mod words;
 
 use arrivals::Arrivals;
-use sddf_top::{FileShelf, MemSink, Played, serve};
-use std::alloc::Global;
+use examples::print_examples;
+use failing::print_cases;
+use outside::print_outsides;
+use sddf_top::{FileShelf, MemSink, Played, serve, serve_host};
 use std::io;
 use std::rt::Files;
 use std::sync::Wait;
 use std::thread::Threads;
+use words::words_of;
 
 /// How many bytes the answer to a row may have.
 const ROOM: usize = 8_388_608;
@@ -82,19 +99,6 @@ fn add_lines(to: &mut String, text: &str, is_run: bool) -> io::Result<()> {
         is_report = !is_quiet || !line.starts_with("bad ");
     }
     Ok(())
-}
-
-// The words of a row, with a seed.
-fn words_of(alloc: Global, row: &str, seed: Option<u64>) -> io::Result<Vec<String>> {
-    let mut words = Vec::new(alloc);
-    for word in row.split_whitespace() {
-        words.push(String::from_str(alloc, word)?)?;
-    }
-    if let Some(seed) = seed {
-        words.push(String::from_str(alloc, "--seed")?)?;
-        words.push(format!(in alloc; "{seed}")?)?;
-    }
-    Ok(words)
 }
 
 // What these words give, with a gate before each step in a thread.
@@ -173,6 +177,23 @@ fn print_runs<R: Threads + Wait + Sync + Files + Print + AllocGlobal>(
     println!(rt; "the same for {same} of {count} runs, in which {late} actors waited in vain")
 }
 
+// Does what a line asks for that has a head before its words; this gate holds nobody back.
+fn print_many<R: Threads + Wait + Sync + Files + Print + AllocGlobal>(
+    rt: &R,
+    head: &str,
+    row: &str,
+    gate: &Arrivals,
+) -> io::Result<()> {
+    if let Some((runs, actors)) = head.split_once(" at ") {
+        let runs = runs.parse::<u64>().unwrap_or(0);
+        return print_runs(rt, runs, actors.parse::<u64>().unwrap_or(0), row);
+    }
+    match head.split_once(' ') {
+        Some((table, every)) => print_cases(rt, table, every.parse::<usize>().unwrap_or(1), row),
+        None => print_plays(rt, head.parse::<u64>().unwrap_or(0), row, gate),
+    }
+}
+
 // Does what a line asks for; this gate holds nobody back.
 fn print_row<R: Threads + Wait + Sync + Files + Print + AllocGlobal>(
     rt: &R,
@@ -183,25 +204,20 @@ fn print_row<R: Threads + Wait + Sync + Files + Print + AllocGlobal>(
         return println!(rt; "{row}");
     }
     match row.split_once(" | ") {
-        Some((count, row)) => match count.split_once(" at ") {
-            Some((runs, actors)) => print_runs(
-                rt,
-                runs.parse::<u64>().unwrap_or(0),
-                actors.parse::<u64>().unwrap_or(0),
-                row,
-            ),
-            None => print_plays(rt, count.parse::<u64>().unwrap_or(0), row, gate),
-        },
+        Some((head, row)) => print_many(rt, head, row, gate),
         None => rt.print(told(rt, row, None, gate)?.as_str()),
     }
 }
 
 fn main(rt: HostRuntime) -> io::Result<()> {
+    let status = serve_host(&rt);
+    println!(rt; "status {status}")?;
     let Ok(gate) = Arrivals::new(rt.alloc(), 0) else {
         return println!(rt; "no memory");
     };
     for line in rt.lines(rt.alloc()) {
         print_row(&rt, line?.as_str(), &gate)?;
     }
-    Ok(())
+    print_examples(&rt)?;
+    print_outsides(&rt)
 }

@@ -28,17 +28,18 @@ fn arrived<R: Threads + Sync>(rt: &R, alloc: Global, order: Order) -> Result<u32
 {
     let (ring, mut producer, mut consumer) = byte_ring(alloc, order.power)?;
     let entries = order.entries;
+    let pauses = (1u32 << order.power).min(48);
     let (_sent, taken) = if order.bells {
         join_mut(
             rt,
-            &mut || send_by_bells(&mut producer, &ring, entries, 1 << 40),
-            &mut || take_by_bells(&mut consumer, &ring, entries, 1 << 40),
+            &mut || send_by_bells(&mut producer, &ring, entries, 1 << 40, pauses),
+            &mut || take_by_bells(&mut consumer, &ring, entries, 1 << 40, pauses),
         )
     } else {
         join_mut(
             rt,
-            &mut || send(&mut producer, &ring, entries, 1 << 40),
-            &mut || take(&mut consumer, &ring, entries, 1 << 40),
+            &mut || send(&mut producer, &ring, entries, 1 << 40, pauses),
+            &mut || take(&mut consumer, &ring, entries, 1 << 40, pauses),
         )
     };
     Ok(taken)

@@ -6,10 +6,10 @@ ghost use Rattle.cargo_core.specs.declared.item.QueueKind.TheVariants as Kind;
 ghost use Rattle.wire_core.specs.declared.names.Ringer.TheVariants as Rung;
 ghost use Rattle.wire_core.specs.Ends.{is_busy_or_off};
 
+use crate::pause::pause;
 use cargo_core::{Body, Item};
 use spsc_queue::{Consumer, Producer, Ring};
 use std::marker::Brand;
-use std::thread::yield_now;
 
 // Notifies the consumer where it wants that.
 fn notify_consumer(producer: &mut Producer, ring: &Ring)
@@ -28,7 +28,7 @@ fn notify_consumer(producer: &mut Producer, ring: &Ring)
 
 // Whether there is room, at a look or behind a notification; None where none came within so many
 // looks.
-fn await_room(producer: &mut Producer, ring: &Ring, looks: u64) -> Option<bool>
+fn await_room(producer: &mut Producer, ring: &Ring, looks: u64, pauses: u32) -> Option<bool>
     requires own { producer.old.ring ≡ ring.now.id }
     requires calm { is_busy_or_off producer.old.knows.waiter ≡ true }
     ensures own { producer.new.ring ≡ producer.old.ring }
@@ -49,7 +49,7 @@ fn await_room(producer: &mut Producer, ring: &Ring, looks: u64) -> Option<bool>
         if producer.wake(ring) {
             return Some(producer.room(ring));
         }
-        yield_now();
+        pause(pauses);
     }
     None
 }
@@ -76,7 +76,13 @@ pub fn give(producer: &mut Producer, ring: &Ring, byte: u8) -> bool
 
 /// Puts so many bytes, the number of each modulo 251, and gives up after so many looks in vain: how
 /// many were put.
-pub fn send_by_bells(producer: &mut Producer, ring: &Ring, count: u32, looks: u64) -> u32
+pub fn send_by_bells(
+    producer: &mut Producer,
+    ring: &Ring,
+    count: u32,
+    looks: u64,
+    pauses: u32,
+) -> u32
     requires own { producer.old.ring ≡ ring.now.id }
     requires calm { is_busy_or_off producer.old.knows.waiter ≡ true }
     requires free { producer.old.knows.ringer ≡ Rung.Free }
@@ -89,7 +95,7 @@ pub fn send_by_bells(producer: &mut Producer, ring: &Ring, count: u32, looks: u6
         if sent >= count {
             break;
         }
-        match await_room(producer, ring, looks) {
+        match await_room(producer, ring, looks, pauses) {
             Some(true) => {
                 producer.put::<Brand>(ring, Item::Byte((sent % 251) as u8), Body::Empty);
                 notify_consumer(producer, ring);
@@ -118,7 +124,7 @@ fn notify_producer(consumer: &mut Consumer, ring: &Ring)
 
 // Whether an entry stands there, at a look or behind a notification; None where none came within so
 // many looks.
-fn await_entry(consumer: &mut Consumer, ring: &Ring, looks: u64) -> Option<bool>
+fn await_entry(consumer: &mut Consumer, ring: &Ring, looks: u64, pauses: u32) -> Option<bool>
     requires own { consumer.old.ring ≡ ring.now.id }
     requires calm { is_busy_or_off consumer.old.knows.waiter ≡ true }
     ensures own { consumer.new.ring ≡ consumer.old.ring }
@@ -138,7 +144,7 @@ fn await_entry(consumer: &mut Consumer, ring: &Ring, looks: u64) -> Option<bool>
         if consumer.wake(ring) {
             return Some(consumer.see(ring));
         }
-        yield_now();
+        pause(pauses);
     }
     None
 }
@@ -162,7 +168,13 @@ pub fn get(consumer: &mut Consumer, ring: &Ring) -> Option<Item>
 }
 
 /// Takes so many of those bytes, and gives up after so many looks in vain: how many came in order.
-pub fn take_by_bells(consumer: &mut Consumer, ring: &Ring, count: u32, looks: u64) -> u32
+pub fn take_by_bells(
+    consumer: &mut Consumer,
+    ring: &Ring,
+    count: u32,
+    looks: u64,
+    pauses: u32,
+) -> u32
     requires own { consumer.old.ring ≡ ring.now.id }
     requires calm { is_busy_or_off consumer.old.knows.waiter ≡ true }
     requires free { consumer.old.knows.ringer ≡ Rung.Free }
@@ -174,7 +186,7 @@ pub fn take_by_bells(consumer: &mut Consumer, ring: &Ring, count: u32, looks: u6
         if taken >= count {
             break;
         }
-        match await_entry(consumer, ring, looks) {
+        match await_entry(consumer, ring, looks, pauses) {
             Some(true) => {
                 let (item, _body) = consumer.take(ring);
                 if item != Item::Byte((taken % 251) as u8) {

@@ -4,11 +4,11 @@ ghost use Rattle.cargo_core.specs.declared.item.QueueKind.TheVariants as Kind;
 ghost use Rattle.wire_core.specs.Ends.{is_busy_or_off, is_free_or_put};
 ghost use Rattle.spsc_queue.specs.Rule.{first_producer, first_consumer};
 
+use crate::pause::pause;
 use cargo_core::{Body, Item, Memory, QueueKind};
 use spsc_queue::{Consumer, Ended, Producer, Ring, finish, open};
 use std::alloc::Global;
 use std::marker::Brand;
-use std::thread::yield_now;
 
 /// A ring of bytes in its start state, whose capacity is 2 to a power.
 pub fn byte_ring(alloc: Global, power: u32) -> Result<(Ring, Producer, Consumer), Memory>
@@ -58,8 +58,8 @@ pub fn poll(consumer: &mut Consumer, ring: &Ring) -> Option<Item>
 }
 
 /// Puts so many bytes, the number of each modulo 251, and looks again after each no, up to so many
-/// looks in all: how many were put.
-pub fn send(producer: &mut Producer, ring: &Ring, count: u32, looks: u64) -> u32
+/// looks in all, with so many pauses of the processor behind a look in vain: how many were put.
+pub fn send(producer: &mut Producer, ring: &Ring, count: u32, looks: u64, pauses: u32) -> u32
     requires own { producer.old.ring ≡ ring.now.id }
     requires calm { is_busy_or_off producer.old.knows.waiter ≡ true }
     requires free { is_free_or_put producer.old.knows.ringer ≡ true }
@@ -78,7 +78,7 @@ pub fn send(producer: &mut Producer, ring: &Ring, count: u32, looks: u64) -> u32
         if offer(producer, ring, (sent % 251) as u8) {
             sent += 1;
         } else {
-            yield_now();
+            pause(pauses);
         }
     }
     sent
@@ -86,7 +86,7 @@ pub fn send(producer: &mut Producer, ring: &Ring, count: u32, looks: u64) -> u32
 
 /// Takes so many of those bytes, and looks again after each no, up to so many looks in all: how
 /// many came in order.
-pub fn take(consumer: &mut Consumer, ring: &Ring, count: u32, looks: u64) -> u32
+pub fn take(consumer: &mut Consumer, ring: &Ring, count: u32, looks: u64, pauses: u32) -> u32
     requires own { consumer.old.ring ≡ ring.now.id }
     requires calm { is_busy_or_off consumer.old.knows.waiter ≡ true }
     requires free { is_free_or_put consumer.old.knows.ringer ≡ true }
@@ -106,7 +106,7 @@ pub fn take(consumer: &mut Consumer, ring: &Ring, count: u32, looks: u64) -> u32
             }
             taken += 1;
         } else {
-            yield_now();
+            pause(pauses);
         }
     }
     taken

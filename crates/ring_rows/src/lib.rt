@@ -4,6 +4,7 @@
 
 mod bells;
 mod hand;
+mod pause;
 #[cfg(test)]
 mod tests;
 

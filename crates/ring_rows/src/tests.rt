@@ -98,9 +98,9 @@ fn fills_and_empties(ring: &Ring, producer: &mut Producer, consumer: &mut Consum
     ensures consumer_is_calm { is_busy_or_off consumer.new.knows.waiter ≡ true }
     ensures consumer_is_free { is_free_or_put consumer.new.knows.ringer ≡ true }
 {
-    let sent = send(producer, ring, 32_768, 32_768);
+    let sent = send(producer, ring, 32_768, 32_768, 4);
     let one_more = offer(producer, ring, 0);
-    let taken = take(consumer, ring, 32_768, 32_768);
+    let taken = take(consumer, ring, 32_768, 32_768, 4);
     let one_less = poll(consumer, ring);
     sent == 32_768 && !one_more && taken == 32_768 && one_less.is_none()
 }
@@ -123,8 +123,8 @@ fn cross(rt: &impl Threads, alloc: Global, power: u32, count: u32) -> Result<boo
     let (ring, mut producer, mut consumer) = byte_ring(alloc, power)?;
     let (sent, taken) = join_mut(
         rt,
-        &mut || send(&mut producer, &ring, count, 100_000_000),
-        &mut || take(&mut consumer, &ring, count, 100_000_000),
+        &mut || send(&mut producer, &ring, count, 100_000_000, 4),
+        &mut || take(&mut consumer, &ring, count, 100_000_000, 4),
     );
     let mut ended = give_up(ring, producer, consumer)?;
     Ok(sent == count && taken == count && left(&mut ended).is_none())
@@ -147,8 +147,8 @@ fn bytes_cross_by_notifications(rt: HostRuntime) -> Result<(), Fail> {
     let (ring, mut producer, mut consumer) = byte_ring(rt.alloc(), 1)?;
     let (sent, taken) = join_mut(
         &rt,
-        &mut || send_by_bells(&mut producer, &ring, 10_000, 100_000_000),
-        &mut || take_by_bells(&mut consumer, &ring, 10_000, 100_000_000),
+        &mut || send_by_bells(&mut producer, &ring, 10_000, 100_000_000, 4),
+        &mut || take_by_bells(&mut consumer, &ring, 10_000, 100_000_000, 4),
     );
     assert!(rt; sent == 10_000 && taken == 10_000);
     Ok(())

@@ -14,7 +14,7 @@ use Rattle.wire_core.specs.Ends.{Role, Consumer, Producer, End, Moves, role_of, 
 use Rattle.spsc_queue.specs.declared.view.Half.{Half}
 use Rattle.spsc_queue.specs.Known.Ends.{EndIs}
 use Rattle.spsc_queue.specs.Rule.{Slot}
-use Rattle.spsc_queue.specs.Steps.{known_end, EndDid, Granted, after_look, empty_if, tells_entry, tells_room, after_wanted, last_value}
+use Rattle.spsc_queue.specs.Steps.{known_end, EndDid, Granted, after_look, empty_if, see_answer, room_answer, after_wanted, last_value}
 use Rattle.seat_wires.specs.Places.Are.{SeatsAre}
 use Rattle.seat_wires.specs.Places.{end_or, ends_of, seat_end, with_ends, SeatDid}
 use Rattle.seat_wires.specs.Times.{IsTimely}
@@ -38,21 +38,21 @@ there_of [] q x e owned is same = cc
 there_of (a ∷ es) zero x e owned is same = ap (λ (z : Option EndIs). Some z) (sym is ∙ same)
 there_of (a ∷ es) (suc q) x e owned is same = there_of es q x e owned is same
 
-see_end : (b : Bool) (g : Option Slot) (h : Half) (r : ℕ) (kind : QueueKind) → Granted kind b g → known_end (after_look b 1 r g h) ≡ end_after (known_end h) Do.See (answer_of b)
-see_end true g h r kind gr = ap (λ (z : Option Slot). known_end (after_look true 1 r z h)) gr.1
-see_end false g h r kind gr = ap (λ (z : Option Slot). known_end (after_look false 1 r z h)) gr
+see_end : (b : Bool) (g : Option Slot) (h : Half) (w r k : ℕ) (kind : QueueKind) → Granted kind b g → known_end (after_look b w r g k h) ≡ end_after (known_end h) Do.See (answer_of b)
+see_end true g h w r k kind gr = ap (λ (z : Option Slot). known_end (after_look true w r z k h)) gr.1
+see_end false g h w r k kind gr = ap (λ (z : Option Slot). known_end (after_look false w r z k h)) gr
 
-room_end : (b : Bool) (h : Half) (r : ℕ) → known_end (after_look b 0 r (empty_if b) h) ≡ end_after (known_end h) Do.Room (answer_of b)
-room_end true h r = refl
-room_end false h r = refl
+room_end : (b : Bool) (h : Half) (w r k : ℕ) → known_end (after_look b w r (empty_if b) k h) ≡ end_after (known_end h) Do.Room (answer_of b)
+room_end true h w r k = refl
+room_end false h w r k = refl
 
 wanted_end : (w r : ℕ) (b : Bool) (h : Half) → nat_eq r 0 ≡ b → known_end (after_wanted w r h) ≡ end_after (known_end h) (Do.Wanted Forward) (answer_of (nat_eq r 0))
 wanted_end w r b h e = refl
 
 -- the end that made the call is changed by the table
 pub end_did : (n : ℕ) (h : Half) (o : Op) (a : Answer) (c : List Cargo) (h' : Half) → EndDid n h o a c h' → known_end h' ≡ end_after (known_end h) o a
-end_did n h Do.See a c h' d = ap known_end d.0 ∙ (see_end (tells_entry _ (last_value h')) h'.grant h (last_value h') h.kind d.3 ∙ ap (λ (z : Answer). end_after (known_end h) Do.See z) (sym d.1))
-end_did n h Do.Room a c h' d = ap known_end d.0 ∙ (room_end (tells_room n _ (last_value h')) h (last_value h') ∙ ap (λ (z : Answer). end_after (known_end h) Do.Room z) (sym d.1))
+end_did n h Do.See a c h' d = ap known_end d.0 ∙ (see_end (see_answer h (last_value h')) h'.grant h 0 (last_value h') 0 h.kind d.3 ∙ ap (λ (z : Answer). end_after (known_end h) Do.See z) (sym d.1))
+end_did n h Do.Room a c h' d = ap known_end d.0 ∙ (room_end (room_answer n h (last_value h')) h 0 (last_value h') 0 ∙ ap (λ (z : Answer). end_after (known_end h) Do.Room z) (sym d.1))
 end_did n h Do.Take a c h' d = ap known_end d.4
 end_did n h Do.Put a c h' d = ap known_end d.3
 end_did n h (Do.Ask s) a c h' d = ap known_end d.0

@@ -12,11 +12,12 @@ use Rattle.atomic_table.specs.Table.{State, Final, Seen}
 use Rattle.atomic_table.proofs.Lists.{drop_at}
 use Rattle.cargo_core.specs.declared.item.QueueKind.{QueueKind}
 use Rattle.cargo_core.specs.Items.{kind_of}
+use Rattle.wire_core.specs.declared.names.Side.TheVariants.{Forward, Backward}
 use Rattle.wire_core.specs.Bells.{BellHolds, bit}
 use Rattle.wire_core.specs.Deeds.{Cargo}
 use Rattle.spsc_queue.specs.declared.view.Half.{Half}
 use Rattle.spsc_queue.specs.declared.view.View.{View}
-use Rattle.spsc_queue.specs.Rule.{Slot, wrap, SlotsHold, EndsHold, RingHolds, flag_of, pending_of, forward_bell, backward_bell}
+use Rattle.spsc_queue.specs.Rule.{Slot, wrap, SlotsHold, flag_word, pending_word, EndsHold, RingHolds, flag_of, pending_of, forward_bell, backward_bell}
 use Rattle.spsc_queue.specs.Left.{listed, entries_from}
 use Rattle.spsc_queue.proofs.Emptying.{elem_or}
 use Rattle.spsc_queue.proofs.Told.{bit_is}
@@ -59,9 +60,9 @@ pub record Closing (kind : QueueKind) (n : ℕ) (p c : Half) (shared : List ℕ)
   pub kinds : All (λ x. kind_of x.0 ≡ kind) p.entries
   pub sent : p.entries ≡ c.entries ++ left
   pub times : (later : List ℕ) × (p.times ≡ c.times ++ later) × (length later ≡ length left)
-  pub bells : (flag pending flag_back pending_back : ℕ) → get_elem? shared 2 ≡ some flag → get_elem? shared 3 ≡ some pending → get_elem? shared 4 ≡ some flag_back → get_elem? shared 5 ≡ some pending_back
+  pub bells : (flag pending flag_back pending_back : ℕ) → get_elem? shared (flag_word Forward) ≡ some flag → get_elem? shared (pending_word Forward) ≡ some pending → get_elem? shared (flag_word Backward) ≡ some flag_back → get_elem? shared (pending_word Backward) ≡ some pending_back
       → BellHolds (forward_bell (nat_eq flag 1) (nat_eq pending 1) p c) (nat_lt 0 (length left)) (length p.entries) × BellHolds (backward_bell (nat_eq flag_back 1) (nat_eq pending_back 1) p c) (nat_lt (length left) n) (length c.entries)
-  pub words : (flag pending flag_back pending_back : ℕ) → get_elem? shared 2 ≡ some flag → get_elem? shared 3 ≡ some pending → get_elem? shared 4 ≡ some flag_back → get_elem? shared 5 ≡ some pending_back
+  pub words : (flag pending flag_back pending_back : ℕ) → get_elem? shared (flag_word Forward) ≡ some flag → get_elem? shared (pending_word Forward) ≡ some pending → get_elem? shared (flag_word Backward) ≡ some flag_back → get_elem? shared (pending_word Backward) ≡ some pending_back
       → (nat_eq flag 1 ≡ flag_of c p) × (nat_eq pending 1 ≡ pending_of c p) × (nat_eq flag_back 1 ≡ flag_of p c) × (nat_eq pending_back 1 ≡ pending_of p c)
 
 word_bit : (l : List ℕ) (i : ℕ) (b : Bool) (r : ℕ) (words : List ℕ) → words ≡ l → get_elem? l i ≡ some (bit b) → get_elem? words i ≡ some r → b ≡ nat_eq r 1
@@ -78,14 +79,14 @@ ends_close kind n words homes xs p c e pg cg lie = let is : e.lists.left ≡ ent
       sent = e.lists.sent;
       times = (e.lists.later, e.lists.times, e.lists.timed);
       bells = λ f q fb qb i2 i3 i4 i5. (
-        subst (λ (z : Bool × Bool). BellHolds (forward_bell z.0 z.1 p c) (nat_lt 0 (length e.lists.left)) (length p.entries)) (λ k. (word_bit _ 2 e.shared.flag f words e.shared.words_are refl i2 k, word_bit _ 3 e.shared.pending q words e.shared.words_are refl i3 k)) e.shared.forward,
-        subst (λ (z : Bool × Bool). BellHolds (backward_bell z.0 z.1 p c) (nat_lt (length e.lists.left) n) (length c.entries)) (λ k. (word_bit _ 4 e.shared.flag_back fb words e.shared.words_are refl i4 k, word_bit _ 5 e.shared.pending_back qb words e.shared.words_are refl i5 k)) e.shared.backward,
+        subst (λ (z : Bool × Bool). BellHolds (forward_bell z.0 z.1 p c) (nat_lt 0 (length e.lists.left)) (length p.entries)) (λ k. (word_bit _ (flag_word Forward) e.shared.flag f words e.shared.words_are refl i2 k, word_bit _ (pending_word Forward) e.shared.pending q words e.shared.words_are refl i3 k)) e.shared.forward,
+        subst (λ (z : Bool × Bool). BellHolds (backward_bell z.0 z.1 p c) (nat_lt (length e.lists.left) n) (length c.entries)) (λ k. (word_bit _ (flag_word Backward) e.shared.flag_back fb words e.shared.words_are refl i4 k, word_bit _ (pending_word Backward) e.shared.pending_back qb words e.shared.words_are refl i5 k)) e.shared.backward,
       );
       words = λ f q fb qb i2 i3 i4 i5. (
-        sym (word_bit _ 2 e.shared.flag f words e.shared.words_are refl i2) ∙ e.shared.forward_told.flag_is,
-        sym (word_bit _ 3 e.shared.pending q words e.shared.words_are refl i3) ∙ e.shared.forward_told.pending_is,
-        sym (word_bit _ 4 e.shared.flag_back fb words e.shared.words_are refl i4) ∙ e.shared.backward_told.flag_is,
-        sym (word_bit _ 5 e.shared.pending_back qb words e.shared.words_are refl i5) ∙ e.shared.backward_told.pending_is,
+        sym (word_bit _ (flag_word Forward) e.shared.flag f words e.shared.words_are refl i2) ∙ e.shared.forward_told.flag_is,
+        sym (word_bit _ (pending_word Forward) e.shared.pending q words e.shared.words_are refl i3) ∙ e.shared.forward_told.pending_is,
+        sym (word_bit _ (flag_word Backward) e.shared.flag_back fb words e.shared.words_are refl i4) ∙ e.shared.backward_told.flag_is,
+        sym (word_bit _ (pending_word Backward) e.shared.pending_back qb words e.shared.words_are refl i5) ∙ e.shared.backward_told.pending_is,
       );
     }
 

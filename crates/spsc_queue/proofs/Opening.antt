@@ -11,7 +11,7 @@ use Rattle.atomic_table.specs.Table.{opening}
 use Rattle.cargo_core.specs.declared.item.QueueKind.{QueueKind}
 use Rattle.spsc_queue.specs.declared.view.View.{View}
 use Rattle.cargo_core.specs.Capacities.{IsCapacity}
-use Rattle.spsc_queue.specs.Rule.{Slot, EndsHold, RingHolds, first_view, first_producer, first_consumer}
+use Rattle.spsc_queue.specs.Rule.{Slot, laid, EndsHold, RingHolds, first_view, first_producer, first_consumer}
 
 -- a capacity divides the numbers of an index
 pub capacity_fits : (n : ℕ) → IsCapacity n → (0 < n) × (n ≤ 32768) × (65536 % n ≡ 0)
@@ -29,7 +29,7 @@ sole : (v : View) (j : ℕ) (u : View) → get_elem? (v ∷ []) j ≡ some u →
 sole v zero u e = refl
 sole v (suc j) u e = absurd (some-ne-none u (sym e))
 
-pub starts : (kind : QueueKind) (n : ℕ) → 0 < n → n ≤ 32768 → 65536 % n ≡ 0 → RingHolds kind (opening (0 ∷ 0 ∷ 0 ∷ 0 ∷ 1 ∷ 0 ∷ []) (replicate n None) (first_view kind))
+pub starts : (kind : QueueKind) (n : ℕ) → 0 < n → n ≤ 32768 → 65536 % n ≡ 0 → RingHolds kind (opening (laid 0 0 0 0 1 0) (replicate n None) (first_view kind))
 starts kind n some_place few divides = let hs : List (maybe.Option Slot) = map some (replicate n None) in let size : length hs ≡ n = lists.length-map (replicate n None) (λ (x : Slot). some x) ∙ length-replicate n None in record {
   p = 0;
   c = 0;
@@ -41,7 +41,7 @@ starts kind n some_place few divides = let hs : List (maybe.Option Slot) = map s
   consumes = refl;
   one_producer = λ j v e is. sole (first_view kind) j v e;
   one_consumer = λ j v e is. sole (first_view kind) j v e;
-  ends = subst (λ (m : ℕ). EndsHold kind m (0 ∷ 0 ∷ 0 ∷ 0 ∷ 1 ∷ 0 ∷ []) hs (first_producer kind) (first_consumer kind)) (sym size) record {
+  ends = subst (λ (m : ℕ). EndsHold kind m (laid 0 0 0 0 1 0) hs (first_producer kind) (first_consumer kind)) (sym size) record {
     lists = record {
       left = [];
       some_place = some_place;
@@ -71,6 +71,8 @@ starts kind n some_place few divides = let hs : List (maybe.Option Slot) = map s
       words_are = refl;
       forward_told = record { flag_is = refl; settled_within = omega arith; pending_is = refl; woken_within = omega arith };
       backward_told = record { flag_is = refl; settled_within = omega arith; pending_is = refl; woken_within = omega arith };
+      room_ahead = omega arith;
+      entries_ahead = omega arith;
       forward = record { signalled = λ is. cc; asked = λ is. ⊎_elim (λ z. cc) (λ z. cc) is; counted = omega arith };
       backward = record { signalled = λ is. cc; asked = λ is. ⊎_elim (λ z. cc) (λ z. cc) is; counted = omega arith };
     };

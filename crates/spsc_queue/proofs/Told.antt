@@ -1,11 +1,11 @@
 -- What the calls of a bell make of what its two ends did.
-use Rattle.std.proofs.Common.{◌≡◌, ℕ, ◌+◌, Bool, true, false, not, ◌&&◌, nat_lt, nat_eq, List, [], ◌∷◌, length, refl, sym, ap, ◌∙◌, arith}
+use Rattle.std.proofs.Common.{◌≡◌, ℕ, ◌+◌, Bool, true, false, not, ◌&&◌, nat_lt, nat_eq, List, length, refl, sym, ap, ◌∙◌, arith}
 use Rattle.std.proofs.lemmas.Bool.{lt-ltb, le-ltb}
 use Rattle.wire_core.specs.Bells.{bit}
 use mathlib.Core.Option as maybe
 use Rattle.cargo_core.specs.declared.item.QueueKind.{QueueKind}
 use Rattle.spsc_queue.specs.declared.view.Half.{Half}
-use Rattle.spsc_queue.specs.Rule.{Slot, wrap, WordsTold, EndsHold, words_of}
+use Rattle.spsc_queue.specs.Rule.{Slot, wrap, laid, WordsTold, EndsHold, words_of}
 
 pub bit_is : (b : Bool) → nat_eq (bit b) 1 ≡ b
 bit_is true = refl
@@ -37,4 +37,4 @@ ring_told flag pending wishes asks settled rings woken h = let le = h.woken_with
 
 -- the words are what the two ends did
 pub words_are : (kind : QueueKind) (n : ℕ) (words : List ℕ) (homes : List (maybe.Option Slot)) (p c : Half) → EndsHold kind n words homes p c → words ≡ words_of p c
-words_are kind n words homes p c e = e.shared.words_are ∙ (λ i. wrap (length c.entries) ∷ wrap (length p.entries) ∷ bit (e.shared.forward_told.flag_is i) ∷ bit (e.shared.forward_told.pending_is i) ∷ bit (e.shared.backward_told.flag_is i) ∷ bit (e.shared.backward_told.pending_is i) ∷ [])
+words_are kind n words homes p c e = e.shared.words_are ∙ (λ i. laid (wrap (length c.entries)) (wrap (length p.entries)) (bit (e.shared.forward_told.flag_is i)) (bit (e.shared.forward_told.pending_is i)) (bit (e.shared.backward_told.flag_is i)) (bit (e.shared.backward_told.pending_is i)))

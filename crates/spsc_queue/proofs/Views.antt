@@ -12,10 +12,10 @@ use Rattle.wire_core.specs.Deeds.{Cargo}
 use Rattle.wire_core.specs.Ends.{is_clear, is_free_or_put}
 use Rattle.spsc_queue.specs.declared.view.Half.{Half}
 use Rattle.spsc_queue.specs.declared.view.View.{View}
-use Rattle.spsc_queue.specs.Rule.{Slot, wrap, EndsHold, RingHolds}
-use Rattle.spsc_queue.specs.Steps.{Seated, slots_held, room_done, put_done, tells_room, room_told, sent_one, with_producer, with_consumer, see_told, took_one, take_done, see_done, tells_entry, Granted, producing_part, consuming_part, whole, memory_of, spent, sent_home, producer_home, consumer_home}
+use Rattle.spsc_queue.specs.Rule.{Slot, wrap, head_word, tail_word, EndsHold, RingHolds}
+use Rattle.spsc_queue.specs.Steps.{Seated, slots_held, room_done, room_again, put_done, tells_room, room_ahead, room_read, room_kept, sent_one, with_producer, with_consumer, see_read, see_kept, took_one, take_done, see_done, see_again, tells_entry, entries_ahead, Granted, producing_part, consuming_part, whole, memory_of, spent, sent_home, producer_home, consumer_home}
 use Rattle.spsc_queue.proofs.Places.{below, one_more}
-use Rattle.spsc_queue.proofs.Ends.{LooksRoom, room_step, put_ends, LooksEntry, see_step, take_ends, first_time, home_ends, home_back_ends}
+use Rattle.spsc_queue.proofs.Ends.{LooksRoom, room_step, room_known, put_ends, LooksEntry, see_step, see_known, take_ends, first_time, home_ends, home_back_ends}
 
 module _ (kind : QueueKind) (s : State Slot View) (r : RingHolds kind s) (id : ℕ) (v : View) where
   -- the producing seat's view is the one that the rule speaks of
@@ -132,31 +132,44 @@ module _ (kind : QueueKind) (slots id : ℕ) (me : Seated) where
   producer_ends s r size at does = subst (λ (z : ℕ × View). EndsHold kind z.0 s.words s.homes z.1.producer r.consuming.consumer) (λ k. (size k, producer_is kind s r id me.0 at does k)) r.ends
 
   pub room_allowed : me.0.produces ≡ true → me.0.consumes ≡ false → is_clear me.0.producer.waiter ≡ false → me.1 ≡ slots_held me.0.producer.grant (length me.0.producer.entries % slots)
-      → Allows (RingHolds kind) slots id me 0 (λ n. n) (room_done (step slots 0 0 0 none) me)
+      → Allows (RingHolds kind) slots id me head_word (λ n. n) (room_done (step slots head_word 0 0 none) me)
   room_allowed does not calm holding s r size at bound =
-      let e = producer_ends s r size at does in let p : Half = me.0.producer in let c : Half = r.consuming.consumer in let t : ℕ = wrap (length c.entries) in let x : ℕ = slice_index s.words 0 in
-      let word : t ≡ x = ap (λ (z : List ℕ). slice_index z 0) (sym e.shared.words_are) in
-      let same : set s.words 0 x ≡ s.words = ap (λ (z : List ℕ). set z 0 (slice_index z 0)) e.shared.words_are ∙ sym e.shared.words_are in
-      let go : LooksRoom kind slots s.words s.homes p c (tells_room slots (length p.entries) x) x me.1 =
-      subst (λ (z : ℕ × List (ℕ × Slot)). LooksRoom kind slots s.words s.homes p c (tells_room slots (length p.entries) z.0) z.0 z.1) (λ k. (word k, sym holding k)) (room_step kind slots s.words s.homes p c e calm) in (
-        with_producer me.0 (room_told slots p 0 x),
+      let e = producer_ends s r size at does in let p : Half = me.0.producer in let c : Half = r.consuming.consumer in let t : ℕ = wrap (length c.entries) in let x : ℕ = slice_index s.words head_word in
+      let word : t ≡ x = ap (λ (z : List ℕ). slice_index z head_word) (sym e.shared.words_are) in
+      let same : set s.words head_word x ≡ s.words = ap (λ (z : List ℕ). set z head_word (slice_index z head_word)) e.shared.words_are ∙ sym e.shared.words_are in
+      let go : LooksRoom kind slots s.words s.homes p c (tells_room slots (length p.entries) x) head_word x (room_ahead slots (length p.entries) x) me.1 =
+      subst (λ (z : ℕ × List (ℕ × Slot)). LooksRoom kind slots s.words s.homes p c (tells_room slots (length p.entries) z.0) head_word z.0 (room_ahead slots (length p.entries) z.0) z.1) (λ k. (word k, sym holding k)) (room_step kind slots s.words s.homes p c e calm) in (
+        with_producer me.0 (room_read slots p head_word x),
         go.0,
         go.1,
-        producer_steps kind s r id me.0 (room_told slots p 0 x) (set s.words 0 x) (homes_after s.homes me.1 go.0) slots at does not (subst (λ (z : List ℕ). EndsHold kind slots z (homes_after s.homes me.1 go.0) (room_told slots p 0 x) c) (sym same) go.2),
+        producer_steps kind s r id me.0 (room_read slots p head_word x) (set s.words head_word x) (homes_after s.homes me.1 go.0) slots at does not (subst (λ (z : List ℕ). EndsHold kind slots z (homes_after s.homes me.1 go.0) (room_read slots p head_word x) c) (sym same) go.2),
         (subst (λ (z : ℕ). z < 65536) word (mod-lt (length c.entries) (lit< tt)), refl, go.3),
+      )
+
+  pub room_again_allowed : me.0.produces ≡ true → me.0.consumes ≡ false → is_clear me.0.producer.waiter ≡ false → 0 < me.0.producer.ahead → me.1 ≡ slots_held me.0.producer.grant (length me.0.producer.entries % slots)
+      → Allows (RingHolds kind) slots id me tail_word (λ n. n) (room_again (step slots tail_word 0 0 none) me)
+  room_again_allowed does not calm more holding s r size at bound =
+      let e = producer_ends s r size at does in let p : Half = me.0.producer in let c : Half = r.consuming.consumer in let x : ℕ = slice_index s.words tail_word in
+      let same : set s.words tail_word x ≡ s.words = ap (λ (z : List ℕ). set z tail_word (slice_index z tail_word)) e.shared.words_are ∙ sym e.shared.words_are in
+      let go : LooksRoom kind slots s.words s.homes p c true tail_word x p.ahead me.1 = subst (LooksRoom kind slots s.words s.homes p c true tail_word x p.ahead) (sym holding) (room_known kind slots s.words s.homes p c e tail_word x calm more) in (
+        with_producer me.0 (room_kept p tail_word x),
+        go.0,
+        go.1,
+        producer_steps kind s r id me.0 (room_kept p tail_word x) (set s.words tail_word x) (homes_after s.homes me.1 go.0) slots at does not (subst (λ (z : List ℕ). EndsHold kind slots z (homes_after s.homes me.1 go.0) (room_kept p tail_word x) c) (sym same) go.2),
+        (refl, go.3),
       )
 
   pub put_allowed : (x : Cargo) (time new : ℕ) → me.0.produces ≡ true → me.0.consumes ≡ false → kind_of x.0 ≡ me.0.producer.kind → is_clear me.0.producer.waiter ≡ false → is_free_or_put me.0.producer.ringer ≡ true → me.0.producer.grant ≡ Some None
       → new ≡ wrap (length me.0.producer.entries + 1) → me.1 ≡ (length me.0.producer.entries % slots, Some x) ∷ []
-      → Allows (RingHolds kind) slots id me 1 (λ _. new) (λ _ m. put_done time (step slots 1 new 0 none) me new m)
+      → Allows (RingHolds kind) slots id me tail_word (λ _. new) (λ _ m. put_done time (step slots tail_word new 0 none) me new m)
   put_allowed x time new does not fits calm may gr is holding s r size at bound =
       let e = producer_ends s r size at does in let p : Half = me.0.producer in let c : Half = r.consuming.consumer in let i : ℕ = length p.entries % slots in (
-        with_producer me.0 (sent_one x time 1 new p),
+        with_producer me.0 (sent_one x time tail_word new p),
         gives,
         tt,
-        producer_steps kind s r id me.0 (sent_one x time 1 new p) (set s.words 1 new) (homes_after s.homes me.1 gives) slots at does not
-            (subst (λ (z : List (ℕ × Slot)). EndsHold kind slots (set s.words 1 new) (homes_after s.homes z gives) (sent_one x time 1 new p) c) (sym holding) (put_ends kind slots s.words s.homes p c e x time new i (fits ∙ e.lists.producer_kind) calm may gr is refl)),
-        (λ y other. (ap (λ (z : List (ℕ × Slot)). with_producer me.0 (sent_one (first_of z x) time 1 new p)) (sym holding ∙ other), ap (carried_after_gives) holding)),
+        producer_steps kind s r id me.0 (sent_one x time tail_word new p) (set s.words tail_word new) (homes_after s.homes me.1 gives) slots at does not
+            (subst (λ (z : List (ℕ × Slot)). EndsHold kind slots (set s.words tail_word new) (homes_after s.homes z gives) (sent_one x time tail_word new p) c) (sym holding) (put_ends kind slots s.words s.homes p c e x time new i (fits ∙ e.lists.producer_kind) calm may gr is refl)),
+        (λ y other. (ap (λ (z : List (ℕ × Slot)). with_producer me.0 (sent_one (first_of z x) time tail_word new p)) (sym holding ∙ other), ap (carried_after_gives) holding)),
       )
 
   -- a producer's step that leaves the slots alone
@@ -211,52 +224,65 @@ module _ (kind : QueueKind) (slots id : ℕ) (me : Seated) where
   )
 
   pub see_allowed : me.0.consumes ≡ true → me.0.produces ≡ false → is_clear me.0.consumer.waiter ≡ false → me.1 ≡ slots_held me.0.consumer.grant (length me.0.consumer.entries % slots)
-      → Allows (RingHolds kind) slots id me 1 (λ n. n) (see_done (step slots 1 0 0 none) me)
-  see_allowed does not calm holding s r size at bound = let e = consumer_ends s r size at does in let c : Half = me.0.consumer in let p : Half = r.producing.producer in let t : ℕ = wrap (length p.entries) in let x : ℕ = slice_index s.words 1 in
-      let word : t ≡ x = ap (λ (z : List ℕ). slice_index z 1) (sym e.shared.words_are) in let same : set s.words 1 x ≡ s.words = ap (λ (z : List ℕ). set z 1 (slice_index z 1)) e.shared.words_are ∙ sym e.shared.words_are in
-      let go : LooksEntry kind slots s.words s.homes p c (tells_entry (length c.entries) x) x me.1 =
-      subst (λ (z : ℕ × List (ℕ × Slot)). LooksEntry kind slots s.words s.homes p c (tells_entry (length c.entries) z.0) z.0 z.1) (λ k. (word k, sym holding k)) (see_step kind slots s.words s.homes p c e calm) in (
-        with_consumer me.0 (see_told go.2.0 c 1 x),
+      → Allows (RingHolds kind) slots id me tail_word (λ n. n) (see_done (step slots tail_word 0 0 none) me)
+  see_allowed does not calm holding s r size at bound = let e = consumer_ends s r size at does in let c : Half = me.0.consumer in let p : Half = r.producing.producer in let t : ℕ = wrap (length p.entries) in let x : ℕ = slice_index s.words tail_word in
+      let word : t ≡ x = ap (λ (z : List ℕ). slice_index z tail_word) (sym e.shared.words_are) in let same : set s.words tail_word x ≡ s.words = ap (λ (z : List ℕ). set z tail_word (slice_index z tail_word)) e.shared.words_are ∙ sym e.shared.words_are in
+      let go : LooksEntry kind slots s.words s.homes p c (tells_entry (length c.entries) x) tail_word x (entries_ahead (length c.entries) x) me.1 =
+      subst (λ (z : ℕ × List (ℕ × Slot)). LooksEntry kind slots s.words s.homes p c (tells_entry (length c.entries) z.0) tail_word z.0 (entries_ahead (length c.entries) z.0) z.1) (λ k. (word k, sym holding k)) (see_step kind slots s.words s.homes p c e calm) in (
+        with_consumer me.0 (see_read go.2.0 c tail_word x),
         go.0,
         go.1,
-        consumer_steps kind s r id me.0 (see_told go.2.0 c 1 x) (set s.words 1 x) (homes_after s.homes me.1 go.0) slots at does not
-            (subst (λ (z : List ℕ). EndsHold kind slots z (homes_after s.homes me.1 go.0) p (see_told go.2.0 c 1 x)) (sym same) go.2.2),
+        consumer_steps kind s r id me.0 (see_read go.2.0 c tail_word x) (set s.words tail_word x) (homes_after s.homes me.1 go.0) slots at does not
+            (subst (λ (z : List ℕ). EndsHold kind slots z (homes_after s.homes me.1 go.0) p (see_read go.2.0 c tail_word x)) (sym same) go.2.2),
         (go.2.0, subst (λ (z : QueueKind). Granted z (tells_entry (length c.entries) x) go.2.0) (sym e.lists.consumer_kind) go.2.1, refl, go.2.3),
       )
 
+  pub see_again_allowed : me.0.consumes ≡ true → me.0.produces ≡ false → is_clear me.0.consumer.waiter ≡ false → 0 < me.0.consumer.ahead → me.1 ≡ slots_held me.0.consumer.grant (length me.0.consumer.entries % slots)
+      → Allows (RingHolds kind) slots id me head_word (λ n. n) (see_again (step slots head_word 0 0 none) me)
+  see_again_allowed does not calm more holding s r size at bound = let e = consumer_ends s r size at does in let c : Half = me.0.consumer in let p : Half = r.producing.producer in let x : ℕ = slice_index s.words head_word in
+      let same : set s.words head_word x ≡ s.words = ap (λ (z : List ℕ). set z head_word (slice_index z head_word)) e.shared.words_are ∙ sym e.shared.words_are in
+      let go : LooksEntry kind slots s.words s.homes p c true head_word x c.ahead me.1 = subst (LooksEntry kind slots s.words s.homes p c true head_word x c.ahead) (sym holding) (see_known kind slots s.words s.homes p c e head_word x calm more) in (
+        with_consumer me.0 (see_kept go.2.0 c head_word x),
+        go.0,
+        go.1,
+        consumer_steps kind s r id me.0 (see_kept go.2.0 c head_word x) (set s.words head_word x) (homes_after s.homes me.1 go.0) slots at does not
+            (subst (λ (z : List ℕ). EndsHold kind slots z (homes_after s.homes me.1 go.0) p (see_kept go.2.0 c head_word x)) (sym same) go.2.2),
+        (go.2.0, subst (λ (z : QueueKind). Granted z true go.2.0) (sym e.lists.consumer_kind) go.2.1, refl, go.2.3),
+      )
+
   pub take_allowed : (x : Cargo) (new : ℕ) → me.0.consumes ≡ true → me.0.produces ≡ false → is_clear me.0.consumer.waiter ≡ false → is_free_or_put me.0.consumer.ringer ≡ true → me.0.consumer.grant ≡ Some (Some x) → new ≡ wrap (length me.0.consumer.entries + 1)
-      → me.1 ≡ (length me.0.consumer.entries % slots, None) ∷ [] → Allows (RingHolds kind) slots id me 0 (λ _. new) (λ _ m. take_done (step slots 0 new 0 none) me new m)
+      → me.1 ≡ (length me.0.consumer.entries % slots, None) ∷ [] → Allows (RingHolds kind) slots id me head_word (λ _. new) (λ _ m. take_done (step slots head_word new 0 none) me new m)
   take_allowed x new does not calm may gr is holding s r size at bound = let e = consumer_ends s r size at does in let c : Half = me.0.consumer in let p : Half = r.producing.producer in let i : ℕ = length c.entries % slots in let first = first_time kind slots s.words s.homes p c e x gr in let time : ℕ = first.0 in (
-    with_consumer me.0 (took_one x time 0 new c),
+    with_consumer me.0 (took_one x time head_word new c),
     gives,
     tt,
-    consumer_steps kind s r id me.0 (took_one x time 0 new c) (set s.words 0 new) (homes_after s.homes me.1 gives) slots at does not
-        (subst (λ (z : List (ℕ × Slot)). EndsHold kind slots (set s.words 0 new) (homes_after s.homes z gives) p (took_one x time 0 new c)) (sym holding) (take_ends kind slots s.words s.homes p c e x time new i first.1 first.2 calm may gr is refl)),
-    (λ y other. (time, ap (λ (z : Cargo). with_consumer me.0 (took_one z time 0 new c)) (same_grant x y (sym gr ∙ other)), ap (λ (z : List (ℕ × Slot)). rest z) holding)),
+    consumer_steps kind s r id me.0 (took_one x time head_word new c) (set s.words head_word new) (homes_after s.homes me.1 gives) slots at does not
+        (subst (λ (z : List (ℕ × Slot)). EndsHold kind slots (set s.words head_word new) (homes_after s.homes z gives) p (took_one x time head_word new c)) (sym holding) (take_ends kind slots s.words s.homes p c e x time new i first.1 first.2 calm may gr is refl)),
+    (λ y other. (time, ap (λ (z : Cargo). with_consumer me.0 (took_one z time head_word new c)) (same_grant x y (sym gr ∙ other)), ap (λ (z : List (ℕ × Slot)). rest z) holding)),
   )
 
   rest_held : (g : Option Slot) (i : ℕ) → rest (slots_held g i) ≡ []
   rest_held None i = refl
   rest_held (Some y) i = refl
 
-  pub home_allowed : me.0.produces ≡ true → me.0.consumes ≡ false → me.1 ≡ slots_held me.0.producer.grant (length me.0.producer.entries % slots) → Allows (RingHolds kind) slots id me 1 (λ n. n) (producer_home (step slots 1 0 0 none) me)
-  home_allowed does not holding s r size at bound = let e = producer_ends s r size at does in let p : Half = me.0.producer in let c : Half = r.consuming.consumer in let x : ℕ = slice_index s.words 1 in
-      let same : set s.words 1 x ≡ s.words = ap (λ (z : List ℕ). set z 1 (slice_index z 1)) e.shared.words_are ∙ sym e.shared.words_are in (
+  pub home_allowed : me.0.produces ≡ true → me.0.consumes ≡ false → me.1 ≡ slots_held me.0.producer.grant (length me.0.producer.entries % slots) → Allows (RingHolds kind) slots id me tail_word (λ n. n) (producer_home (step slots tail_word 0 0 none) me)
+  home_allowed does not holding s r size at bound = let e = producer_ends s r size at does in let p : Half = me.0.producer in let c : Half = r.consuming.consumer in let x : ℕ = slice_index s.words tail_word in
+      let same : set s.words tail_word x ≡ s.words = ap (λ (z : List ℕ). set z tail_word (slice_index z tail_word)) e.shared.words_are ∙ sym e.shared.words_are in (
         with_producer me.0 (sent_home p),
         gives,
         tt,
-        producer_steps kind s r id me.0 (sent_home p) (set s.words 1 x) (homes_after s.homes me.1 gives) slots at does not
+        producer_steps kind s r id me.0 (sent_home p) (set s.words tail_word x) (homes_after s.homes me.1 gives) slots at does not
             (subst (λ (z : List ℕ × List (ℕ × Slot)). EndsHold kind slots z.0 (homes_after s.homes z.1 gives) (sent_home p) c) (λ k. (sym same k, sym holding k)) (home_ends kind slots s.words s.homes p c e)),
         (refl, ap (λ (z : List (ℕ × Slot)). rest z) holding ∙ rest_held p.grant (length p.entries % slots)),
       )
 
-  pub home_back_allowed : me.0.consumes ≡ true → me.0.produces ≡ false → me.1 ≡ slots_held me.0.consumer.grant (length me.0.consumer.entries % slots) → Allows (RingHolds kind) slots id me 0 (λ n. n) (consumer_home (step slots 0 0 0 none) me)
-  home_back_allowed does not holding s r size at bound = let e = consumer_ends s r size at does in let c : Half = me.0.consumer in let p : Half = r.producing.producer in let x : ℕ = slice_index s.words 0 in
-      let same : set s.words 0 x ≡ s.words = ap (λ (z : List ℕ). set z 0 (slice_index z 0)) e.shared.words_are ∙ sym e.shared.words_are in (
+  pub home_back_allowed : me.0.consumes ≡ true → me.0.produces ≡ false → me.1 ≡ slots_held me.0.consumer.grant (length me.0.consumer.entries % slots) → Allows (RingHolds kind) slots id me head_word (λ n. n) (consumer_home (step slots head_word 0 0 none) me)
+  home_back_allowed does not holding s r size at bound = let e = consumer_ends s r size at does in let c : Half = me.0.consumer in let p : Half = r.producing.producer in let x : ℕ = slice_index s.words head_word in
+      let same : set s.words head_word x ≡ s.words = ap (λ (z : List ℕ). set z head_word (slice_index z head_word)) e.shared.words_are ∙ sym e.shared.words_are in (
         with_consumer me.0 (sent_home c),
         gives,
         tt,
-        consumer_steps kind s r id me.0 (sent_home c) (set s.words 0 x) (homes_after s.homes me.1 gives) slots at does not
+        consumer_steps kind s r id me.0 (sent_home c) (set s.words head_word x) (homes_after s.homes me.1 gives) slots at does not
             (subst (λ (z : List ℕ × List (ℕ × Slot)). EndsHold kind slots z.0 (homes_after s.homes z.1 gives) p (sent_home c)) (λ k. (sym same k, sym holding k)) (home_back_ends kind slots s.words s.homes p c e)),
         (refl, ap (λ (z : List (ℕ × Slot)). rest z) holding ∙ rest_held c.grant (length c.entries % slots)),
       )

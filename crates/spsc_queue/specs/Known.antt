@@ -16,14 +16,15 @@ use Rattle.spsc_queue.specs.Known.Ends.{EndIs, RingIs, EndedIs}
 use Rattle.spsc_queue.specs.Rule.{wrap, first_view}
 use Rattle.spsc_queue.specs.Steps.{slots_held, GrantedKind}
 
--- a producing end keeps the wrapped number of what it sent, and holds the slot that was granted to
--- it
+-- a producing end keeps the wrapped number of what it sent and for how many entries it knows of
+-- room, and holds the slot that was granted to it
 pub record IsProducer (p : Make.Inside) : Type 0 where
   pub produces : p.seat.me.0.produces ≡ true
   pub consumes : p.seat.me.0.consumes ≡ false
   pub index : p.tail ≡ wrap (length p.seat.me.0.producer.entries)
   pub holding : p.seat.me.1 ≡ slots_held p.seat.me.0.producer.grant
       (length p.seat.me.0.producer.entries % p.seat.table_id.slots)
+  pub ahead : p.ahead ≡ p.seat.me.0.producer.ahead
   pub waiter : p.waiter ≡ p.seat.me.0.producer.waiter
   pub ringer : p.ringer ≡ p.seat.me.0.producer.ringer
   pub granted : (x : Cargo) → p.seat.me.0.producer.grant ≢ Some (Some x)
@@ -32,14 +33,15 @@ pub record IsProducer (p : Make.Inside) : Type 0 where
 abbrev pub producer_is : Make.Inside → EndIs
 producer_is p = record { ring = p.seat.table_id; knows = p.seat.me.0.producer }
 
--- a consuming end keeps the wrapped number of what it took, and holds the slot that was granted to
--- it
+-- a consuming end keeps the wrapped number of what it took and of how many entries it knows, and
+-- holds the slot that was granted to it
 pub record IsConsumer (p : Use.Inside) : Type 0 where
   pub consumes : p.seat.me.0.consumes ≡ true
   pub produces : p.seat.me.0.produces ≡ false
   pub index : p.head ≡ wrap (length p.seat.me.0.consumer.entries)
   pub holding : p.seat.me.1 ≡ slots_held p.seat.me.0.consumer.grant
       (length p.seat.me.0.consumer.entries % p.seat.table_id.slots)
+  pub ahead : p.ahead ≡ p.seat.me.0.consumer.ahead
   pub waiter : p.waiter ≡ p.seat.me.0.consumer.waiter
   pub ringer : p.ringer ≡ p.seat.me.0.consumer.ringer
   pub granted : GrantedKind p.seat.me.0.consumer.kind p.seat.me.0.consumer.grant
@@ -48,9 +50,10 @@ pub record IsConsumer (p : Use.Inside) : Type 0 where
 abbrev pub consumer_is : Use.Inside → EndIs
 consumer_is p = record { ring = p.seat.table_id; knows = p.seat.me.0.consumer }
 
--- a ring has six words, and its capacity divides the numbers of an index
+-- a ring has thirty-six words, of which six are used, and its capacity divides the numbers of an
+-- index
 pub record IsRing (r : Lie.Inside) : Type 0 where
-  pub words : r.table.shared.table_id.words ≡ 6
+  pub words : r.table.shared.table_id.words ≡ 36
   pub slots : r.table.shared.table_id.slots ≡ r.capacity
   pub some_place : 0 < r.capacity
   pub few : r.capacity ≤ 32768

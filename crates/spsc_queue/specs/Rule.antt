@@ -9,6 +9,8 @@ use Rattle.atomic_table.specs.Table.{State}
 use Rattle.cargo_core.specs.declared.item.QueueKind.{QueueKind}
 use Rattle.cargo_core.specs.Items.{kind_of}
 use Rattle.wire_core.specs.declared.names.BellState.{BellState}
+use Rattle.wire_core.specs.declared.names.Side.{Side}
+use Rattle.wire_core.specs.declared.names.Side.TheVariants.{Forward, Backward}
 use Rattle.wire_core.specs.declared.names.Waiter.TheVariants as Wait
 use Rattle.wire_core.specs.declared.names.Ringer.TheVariants as Rung
 use Rattle.wire_core.specs.Bells.{BellHolds, bit}
@@ -19,6 +21,30 @@ use Rattle.spsc_queue.specs.declared.view.View.{View}
 -- an empty place, or an entry
 abbrev pub Slot : Type 0
 Slot = Option Cargo
+
+-- the word of the head
+abbrev pub head_word : ℕ
+head_word = 0
+
+-- the word of the tail
+abbrev pub tail_word : ℕ
+tail_word = 18
+
+-- the flag word of a bell
+abbrev pub flag_word : Side → ℕ
+flag_word Forward = 19
+flag_word Backward = 2
+
+-- the pending word of a bell
+abbrev pub pending_word : Side → ℕ
+pending_word Forward = 1
+pending_word Backward = 20
+
+-- How the six words lie among others that no call touches: those that the consumer looks at most
+-- stand far from those of the producer.
+abbrev pub laid : (head tail flag pending flag_back pending_back : ℕ) → List ℕ
+laid h t f q fb qb = h ∷ q ∷ fb ∷ 0 ∷ 0 ∷ 0 ∷ 0 ∷ 0 ∷ 0 ∷ 0 ∷ 0 ∷ 0 ∷ 0 ∷ 0 ∷ 0 ∷ 0 ∷ 0 ∷ 0
+    ∷ t ∷ f ∷ qb ∷ 0 ∷ 0 ∷ 0 ∷ 0 ∷ 0 ∷ 0 ∷ 0 ∷ 0 ∷ 0 ∷ 0 ∷ 0 ∷ 0 ∷ 0 ∷ 0 ∷ 0 ∷ []
 
 -- an index as a word holds it: free running, by 16 bits
 abbrev pub wrap : ℕ → ℕ
@@ -83,8 +109,8 @@ flag_of waiter ringer = not (waiter.wishes && nat_lt ringer.settled waiter.asks)
 abbrev pub pending_of : Half → Half → Bool
 pending_of waiter ringer = nat_lt waiter.woken ringer.rings
 
--- the flag and pending word of a bell are what its two ends did, of which neither knows of more than
--- there was
+-- the flag and pending word of a bell are what its two ends did, of which neither knows of more
+-- than there was
 pub record WordsTold (flag pending wishes : Bool) (asks settled rings woken : ℕ) : Type 0 where
   pub flag_is : flag ≡ not (wishes && nat_lt settled asks)
   pub settled_within : settled ≤ asks
@@ -92,16 +118,19 @@ pub record WordsTold (flag pending wishes : Bool) (asks settled rings woken : �
   pub woken_within : woken ≤ rings
 
 -- the words: the two indices, and the flag and pending word of each bell, which are what the two
--- ends did and meet the bell law
+-- ends did and meet the bell law; and for what an end may still put or take there is room, or it is
+-- there
 pub record WordsHold (n : ℕ) (words : List ℕ) (left : List Cargo) (p c : Half) : Type 0 where
   pub flag : Bool
   pub pending : Bool
   pub flag_back : Bool
   pub pending_back : Bool
-  pub words_are : words ≡ wrap (length c.entries) ∷ wrap (length p.entries) ∷ bit flag
-      ∷ bit pending ∷ bit flag_back ∷ bit pending_back ∷ []
+  pub words_are : words ≡ laid (wrap (length c.entries)) (wrap (length p.entries)) (bit flag)
+      (bit pending) (bit flag_back) (bit pending_back)
   pub forward_told : WordsTold flag pending c.wishes c.asks p.settled p.rings c.woken
   pub backward_told : WordsTold flag_back pending_back p.wishes p.asks c.settled c.rings p.woken
+  pub room_ahead : p.ahead + length left ≤ n
+  pub entries_ahead : c.ahead ≤ length left
   pub forward : BellHolds (forward_bell flag pending p c) (nat_lt 0 (length left))
       (length p.entries)
   pub backward : BellHolds (backward_bell flag_back pending_back p c) (nat_lt (length left) n)
@@ -109,8 +138,8 @@ pub record WordsHold (n : ℕ) (words : List ℕ) (left : List Cargo) (p c : Hal
 
 -- what these words are is what the two ends know
 abbrev pub words_of : Half → Half → List ℕ
-words_of p c = wrap (length c.entries) ∷ wrap (length p.entries) ∷ bit (flag_of c p)
-    ∷ bit (pending_of c p) ∷ bit (flag_of p c) ∷ bit (pending_of p c) ∷ []
+words_of p c = laid (wrap (length c.entries)) (wrap (length p.entries)) (bit (flag_of c p))
+    (bit (pending_of c p)) (bit (flag_of p c)) (bit (pending_of p c))
 
 -- what the two ends know, with the slots and the words
 pub record EndsHold (kind : QueueKind) (n : ℕ) (words : List ℕ) (homes : List (maybe.Option Slot))
@@ -142,6 +171,7 @@ first_producer k = record {
   ringer = Rung.Free;
   grant = None;
   noes = 0;
+  ahead = 0;
   wishes = false;
   asks = 0;
   woken = 0;
@@ -160,6 +190,7 @@ first_consumer k = record {
   ringer = Rung.Free;
   grant = None;
   noes = 0;
+  ahead = 0;
   wishes = true;
   asks = 1;
   woken = 0;

@@ -1,18 +1,20 @@
 -- The queue that the words and the two ends show at a moment, and how a call goes on from there.
 use Rattle.std.specs.Prelude.{◌≡◌, ℕ, ◌+◌, ◌%◌, Bool, false, List, length, drop, nat_eq, is_some}
-use Rattle.std.specs.Prelude.{slice_index, slice_set}
+use Rattle.std.specs.Prelude.{slice_index, slice_set, if◌then◌else◌}
 use Rattle.cargo_core.specs.declared.item.QueueKind.{QueueKind}
 use Rattle.cargo_core.specs.declared.act.Word.{Word}
 use Rattle.cargo_core.specs.declared.act.Word.TheVariants as Words
 use Rattle.wire_core.specs.declared.names.Op.{Op}
 use Rattle.wire_core.specs.declared.names.Op.TheVariants as Do
+use Rattle.wire_core.specs.declared.names.Side.TheVariants.{Forward, Backward}
 use Rattle.wire_core.specs.declared.names.Answer.{Answer}
 use Rattle.wire_core.specs.Deeds.{Cargo}
 use Rattle.wire_core.specs.Ends.{Role, Consumer, Producer, role_of}
 use Rattle.wire_core.specs.Queues.{Queue, Tells, Carries, is_filled, has_room, queue_after}
 use Rattle.spsc_queue.specs.declared.view.Half.{Half}
-use Rattle.spsc_queue.specs.Rule.{wrap, forward_bell, backward_bell}
-use Rattle.spsc_queue.specs.Steps.{flag_word, pending_word}
+use Rattle.spsc_queue.specs.Rule.{wrap, head_word, tail_word, flag_word, pending_word}
+use Rattle.spsc_queue.specs.Rule.{forward_bell, backward_bell}
+use Rattle.spsc_queue.specs.Steps.{knows_one}
 
 -- whether a flag or pending word is 1
 abbrev pub is_set : List ℕ → ℕ → Bool
@@ -28,14 +30,16 @@ ring_queue kind n words p c = record {
   consumer = 0;
   entries = drop (length c.entries) p.entries;
   bells = record {
-    forward = forward_bell (is_set words 2) (is_set words 3) p c;
-    backward = backward_bell (is_set words 4) (is_set words 5) p c;
+    forward = forward_bell (is_set words (flag_word Forward))
+        (is_set words (pending_word Forward)) p c;
+    backward = backward_bell (is_set words (flag_word Backward))
+        (is_set words (pending_word Backward)) p c;
     seen = is_some c.grant;
     roomed = is_some p.grant;
   };
   indices = record {
-    head = slice_index words 0;
-    tail = slice_index words 1;
+    head = slice_index words head_word;
+    tail = slice_index words tail_word;
     taken = wrap (length c.entries);
     sent = wrap (length p.entries);
     stored = false;
@@ -44,12 +48,12 @@ ring_queue kind n words p c = record {
 
 -- the place of a word
 abbrev pub place_of_word : Word → ℕ
-place_of_word Words.Head = 0
-place_of_word Words.Tail = 1
-place_of_word Words.Flag = 2
-place_of_word Words.FlagBack = 4
-place_of_word Words.Pending = 3
-place_of_word Words.PendingBack = 5
+place_of_word Words.Head = head_word
+place_of_word Words.Tail = tail_word
+place_of_word Words.Flag = flag_word Forward
+place_of_word Words.FlagBack = flag_word Backward
+place_of_word Words.Pending = pending_word Forward
+place_of_word Words.PendingBack = pending_word Backward
 
 -- what a word holds after a store of a value: the index words hold 16 bits of it, the others one
 abbrev pub stored_value : Word → ℕ → ℕ
@@ -60,19 +64,19 @@ stored_value Words.FlagBack v = v % 2
 stored_value Words.Pending v = v % 2
 stored_value Words.PendingBack v = v % 2
 
--- the word that a call reads or writes
-abbrev pub word_of : Op → ℕ
-word_of Do.See = 1
-word_of Do.Room = 0
-word_of Do.Take = 0
-word_of Do.Put = 1
-word_of (Do.Ask s) = flag_word s
-word_of (Do.Waive s) = flag_word s
-word_of (Do.Wake s) = pending_word s
-word_of (Do.Wanted s) = flag_word s
-word_of (Do.Settle s) = flag_word s
-word_of (Do.Ring s) = pending_word s
-word_of (Do.Store w v) = place_of_word w
+-- the word that a call of this end reads or writes
+abbrev pub word_of : Half → Op → ℕ
+word_of h Do.See = if knows_one h then head_word else tail_word
+word_of h Do.Room = if knows_one h then tail_word else head_word
+word_of h Do.Take = head_word
+word_of h Do.Put = tail_word
+word_of h (Do.Ask s) = flag_word s
+word_of h (Do.Waive s) = flag_word s
+word_of h (Do.Wake s) = pending_word s
+word_of h (Do.Wanted s) = flag_word s
+word_of h (Do.Settle s) = flag_word s
+word_of h (Do.Ring s) = pending_word s
+word_of h (Do.Store w v) = place_of_word w
 
 -- what stands in that word after the call of this end, where r stood there
 abbrev pub word_after : Half → Op → ℕ → ℕ
@@ -89,12 +93,12 @@ word_after h (Do.Ring s) r = 1
 word_after h (Do.Store w v) r = stored_value w v
 
 -- what the call reads, and the words after it
-abbrev pub read_by : List ℕ → Op → ℕ
-read_by words o = slice_index words (word_of o)
+abbrev pub read_by : List ℕ → Half → Op → ℕ
+read_by words h o = slice_index words (word_of h o)
 
 -- the words after the call
 abbrev pub words_after : List ℕ → Half → Op → List ℕ
-words_after words h o = slice_set words (word_of o) (word_after h o (read_by words o))
+words_after words h o = slice_set words (word_of h o) (word_after h o (read_by words h o))
 
 -- of the two ends, the one that makes the calls of a role
 abbrev pub half_of : Role → Half → Half → Half

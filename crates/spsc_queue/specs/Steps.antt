@@ -1,13 +1,12 @@
 -- What each step on a ring tells.
-use Rattle.std.specs.Prelude.{◌≡◌, ◌≢◌, ℕ, ◌+◌, ◌%◌, ◌<◌, Bool, true, false, not, List, [], ◌∷◌}
-use Rattle.std.specs.Prelude.{◌++◌, length, Option, Some, None, nat_eq, nat_lt, is_some}
+use Rattle.std.specs.Prelude.{◌≡◌, ◌≢◌, ℕ, ◌+◌, ◌-◌, ◌%◌, ◌<◌, Bool, true, false, not, ◌||◌}
+use Rattle.std.specs.Prelude.{List, [], ◌∷◌, ◌++◌, length, Option, Some, None, nat_eq, nat_lt}
+use Rattle.std.specs.Prelude.{is_some, if◌then◌else◌}
 use Rattle.atomic_table.specs.Table.{Me, Step}
 use Rattle.cargo_core.specs.declared.item.QueueKind.{QueueKind}
 use Rattle.cargo_core.specs.Items.{kind_of}
 use Rattle.wire_core.specs.declared.names.Op.{Op}
 use Rattle.wire_core.specs.declared.names.Op.TheVariants as Do
-use Rattle.wire_core.specs.declared.names.Side.{Side}
-use Rattle.wire_core.specs.declared.names.Side.TheVariants.{Forward, Backward}
 use Rattle.wire_core.specs.declared.names.Answer.{Answer}
 use Rattle.wire_core.specs.declared.names.Answer.TheVariants.{Done}
 use Rattle.wire_core.specs.declared.names.Ringer.TheVariants as Rung
@@ -17,7 +16,8 @@ use Rattle.wire_core.specs.Deeds.{Cargo, answer_of}
 use Rattle.wire_core.specs.Ends.{End, looked_waiter, woken_waiter, wanted_ringer}
 use Rattle.spsc_queue.specs.declared.view.Half.{Half}
 use Rattle.spsc_queue.specs.declared.view.View.{View}
-use Rattle.spsc_queue.specs.Rule.{Slot, wrap, first_view}
+use Rattle.spsc_queue.specs.Rule.{Slot, wrap, head_word, tail_word, flag_word, pending_word}
+use Rattle.spsc_queue.specs.Rule.{first_view}
 
 -- what a seat knows, and the slots that it holds
 abbrev pub Seated : Type 0
@@ -28,28 +28,26 @@ abbrev pub slots_held : Option Slot → ℕ → List (ℕ × Slot)
 slots_held None k = []
 slots_held (Some y) k = (k, y) ∷ []
 
--- What `room` answers where it reads this head. The queue is full where the tail is n ahead of it.
+-- Whether there is room where the head is this. The queue is full where the tail is n ahead of it.
 abbrev pub tells_room : ℕ → ℕ → ℕ → Bool
 tells_room n sent head = not (nat_eq (wrap (head + n)) (wrap sent))
 
--- what `see` answers where it reads this tail
+-- for how many entries there is room then
+abbrev pub room_ahead : ℕ → ℕ → ℕ → ℕ
+room_ahead n sent head = (wrap head + n + (65536 - wrap sent)) % 65536
+
+-- whether an entry stands there where the tail is this
 abbrev pub tells_entry : ℕ → ℕ → Bool
 tells_entry taken tail = not (nat_eq tail (wrap taken))
-
--- the flag word of a bell
-abbrev pub flag_word : Side → ℕ
-flag_word Forward = 2
-flag_word Backward = 4
-
--- the pending word of a bell
-abbrev pub pending_word : Side → ℕ
-pending_word Forward = 3
-pending_word Backward = 5
 
 -- the value of the last of these steps
 abbrev pub last_of : List (ℕ × ℕ) → ℕ
 last_of [] = 0
 last_of (s ∷ ss) = s.1
+
+-- how many stand there then
+abbrev pub entries_ahead : ℕ → ℕ → ℕ
+entries_ahead taken tail = (wrap tail + (65536 - wrap taken)) % 65536
 
 -- what the last step on a word read or stored there
 abbrev pub last_value : Half → ℕ
@@ -64,12 +62,17 @@ abbrev pub noes_more : Bool → ℕ → ℕ
 noes_more true n = n
 noes_more false n = n + 1
 
--- the end after a look at the word w, which held r
-abbrev pub after_look : Bool → ℕ → ℕ → Option Slot → Half → Half
-after_look b w r g h = record h {
+-- whether the end may still move an entry by what it last read of the other end's index
+abbrev pub knows_one : Half → Bool
+knows_one h = nat_lt 0 h.ahead
+
+-- the end after a look at the word w, which held r, by which it may move k entries
+abbrev pub after_look : Bool → ℕ → ℕ → Option Slot → ℕ → Half → Half
+after_look b w r g k h = record h {
   waiter = looked_waiter h.waiter (answer_of b);
   grant = g;
   noes = noes_more b h.noes;
+  ahead = k;
   walked = (w, r) ∷ h.walked;
 }
 
@@ -86,16 +89,37 @@ with_producer v h = record v { producer = h }
 abbrev pub with_consumer : View → Half → View
 with_consumer v h = record v { consumer = h }
 
--- the producer after a look for room that read r at the word w
-abbrev pub room_told : ℕ → Half → ℕ → ℕ → Half
-room_told n h w r = after_look (tells_room n (length h.entries) r) w r
-    (empty_if (tells_room n (length h.entries) r)) h
+-- the producer after it read the head r at the word w
+abbrev pub room_read : ℕ → Half → ℕ → ℕ → Half
+room_read n h w r = after_look (tells_room n (length h.entries) r) w r
+    (empty_if (tells_room n (length h.entries) r)) (room_ahead n (length h.entries) r) h
 
--- the step of `room`: a load of the head, which grants the slot at the tail where it answers yes
+-- the producer after a look for which it needs no head
+abbrev pub room_kept : Half → ℕ → ℕ → Half
+room_kept h w r = after_look true w r (Some None) h.ahead h
+
+-- the step of `room` where it knows of no room: a load of the head, which grants the slot at the
+-- tail where it answers yes
 abbrev pub room_done : Step Slot → Seated → ℕ → Seated → Type 0
 room_done st m r m' = (r < 65536)
-    × (m'.0 ≡ with_producer m.0 (room_told st.slots m.0.producer st.word r))
+    × (m'.0 ≡ with_producer m.0 (room_read st.slots m.0.producer st.word r))
     × (m'.1 ≡ slots_held m'.0.producer.grant (length m.0.producer.entries % st.slots))
+
+-- where it knows of some: a load of its own index, which grants the slot too
+abbrev pub room_again : Step Slot → Seated → ℕ → Seated → Type 0
+room_again st m r m' = (m'.0 ≡ with_producer m.0 (room_kept m.0.producer st.word r))
+    × (m'.1 ≡ slots_held (Some None) (length m.0.producer.entries % st.slots))
+
+-- what `room` answers where its step read r
+abbrev pub room_answer : ℕ → Half → ℕ → Bool
+room_answer n h r = knows_one h || tells_room n (length h.entries) r
+
+-- the producer after a look for room whose step read r: at its own index where it knows of room,
+-- and else at the head
+abbrev pub room_told : ℕ → Half → ℕ → Half
+room_told n h r = after_look (room_answer n h r) (if knows_one h then tail_word else head_word) r
+    (empty_if (room_answer n h r))
+    (if knows_one h then h.ahead else room_ahead n (length h.entries) r) h
 
 -- the producer after a put at a time, where r was stored at the word w
 abbrev pub sent_one : Cargo → ℕ → ℕ → ℕ → Half → Half
@@ -104,6 +128,7 @@ sent_one x t w r h = record h {
   times = h.times ++ t ∷ [];
   ringer = Rung.Put;
   grant = None;
+  ahead = h.ahead - 1;
   walked = (w, r) ∷ h.walked;
 }
 
@@ -121,16 +146,38 @@ Granted kind false g = g ≡ None
 abbrev pub GrantedKind : QueueKind → Option Slot → Type 0
 GrantedKind kind g = (g ≢ Some None) × ((x : Cargo) → g ≡ Some (Some x) → kind_of x.0 ≡ kind)
 
--- the consumer after a look for an entry that read r at the word w
-abbrev pub see_told : Option Slot → Half → ℕ → ℕ → Half
-see_told g h w r = after_look (tells_entry (length h.entries) r) w r g h
+-- the consumer after it read the tail r at the word w
+abbrev pub see_read : Option Slot → Half → ℕ → ℕ → Half
+see_read g h w r = after_look (tells_entry (length h.entries) r) w r g
+    (entries_ahead (length h.entries) r) h
 
--- the step of `see`: a load of the tail, which grants the slot at the head where it answers yes
+-- the consumer after a look for which it needs no tail
+abbrev pub see_kept : Option Slot → Half → ℕ → ℕ → Half
+see_kept g h w r = after_look true w r g h.ahead h
+
+-- the step of `see` where it knows of no entry: a load of the tail, which grants the slot at the
+-- head where it answers yes
 abbrev pub see_done : Step Slot → Seated → ℕ → Seated → Type 0
 see_done st m r m' = (g : Option Slot)
     × Granted m.0.consumer.kind (tells_entry (length m.0.consumer.entries) r) g
-    × (m'.0 ≡ with_consumer m.0 (see_told g m.0.consumer st.word r))
+    × (m'.0 ≡ with_consumer m.0 (see_read g m.0.consumer st.word r))
     × (m'.1 ≡ slots_held g (length m.0.consumer.entries % st.slots))
+
+-- where it knows of one: a load of its own index, which grants the slot too
+abbrev pub see_again : Step Slot → Seated → ℕ → Seated → Type 0
+see_again st m r m' = (g : Option Slot) × Granted m.0.consumer.kind true g
+    × (m'.0 ≡ with_consumer m.0 (see_kept g m.0.consumer st.word r))
+    × (m'.1 ≡ slots_held g (length m.0.consumer.entries % st.slots))
+
+-- what `see` answers where its step read r
+abbrev pub see_answer : Half → ℕ → Bool
+see_answer h r = knows_one h || tells_entry (length h.entries) r
+
+-- the consumer after a look for an entry whose step read r: at its own index where it knows of one,
+-- and else at the tail
+abbrev pub see_told : Option Slot → Half → ℕ → Half
+see_told g h r = after_look (see_answer h r) (if knows_one h then head_word else tail_word) r g
+    (if knows_one h then h.ahead else entries_ahead (length h.entries) r) h
 
 -- the consumer after it took what was put at a time, where r was stored at the word w
 abbrev pub took_one : Cargo → ℕ → ℕ → ℕ → Half → Half
@@ -139,6 +186,7 @@ took_one x t w r h = record h {
   times = h.times ++ t ∷ [];
   ringer = Rung.Put;
   grant = None;
+  ahead = h.ahead - 1;
   walked = (w, r) ∷ h.walked;
 }
 
@@ -273,15 +321,15 @@ known_end h = record {
 -- answer, the entry that it moved, and what the end knows then. Each row counts one step, with the
 -- word and what was read or stored there, and a look that answers no counts one no.
 abbrev pub CallDid : ℕ → Half → Op → ℕ → Answer → List Cargo → Half → Type 0
-CallDid n h Do.See r a c h' = (h' ≡ see_told h'.grant h 1 r)
-    × (a ≡ answer_of (tells_entry (length h.entries) r)) × (c ≡ [])
-    × Granted h.kind (tells_entry (length h.entries) r) h'.grant
-CallDid n h Do.Room r a c h' = (h' ≡ room_told n h 0 r)
-    × (a ≡ answer_of (tells_room n (length h.entries) r)) × (c ≡ [])
+CallDid n h Do.See r a c h' = (h' ≡ see_told h'.grant h r)
+    × (a ≡ answer_of (see_answer h r)) × (c ≡ []) × Granted h.kind (see_answer h r) h'.grant
+CallDid n h Do.Room r a c h' = (h' ≡ room_told n h r)
+    × (a ≡ answer_of (room_answer n h r)) × (c ≡ [])
 CallDid n h Do.Take r a c h' = (x : Cargo) × (t : ℕ) × (c ≡ x ∷ []) × (h.grant ≡ Some (Some x))
-    × (h' ≡ took_one x t 0 (wrap (length h.entries + 1)) h) × (a ≡ Done)
+    × (h' ≡ took_one x t head_word (wrap (length h.entries + 1)) h) × (a ≡ Done)
 CallDid n h Do.Put r a c h' = (x : Cargo) × (t : ℕ) × (c ≡ x ∷ [])
-    × (h' ≡ sent_one x t 1 (wrap (length h.entries + 1)) h) × (a ≡ Done) × (kind_of x.0 ≡ h.kind)
+    × (h' ≡ sent_one x t tail_word (wrap (length h.entries + 1)) h) × (a ≡ Done)
+    × (kind_of x.0 ≡ h.kind)
 CallDid n h (Do.Ask s) r a c h' = (h' ≡ asked (flag_word s) 0 h) × (a ≡ Done) × (c ≡ [])
 CallDid n h (Do.Waive s) r a c h' = (h' ≡ waived (flag_word s) 1 h) × (a ≡ Done) × (c ≡ [])
 CallDid n h (Do.Wake s) r a c h' = (h' ≡ after_wake (pending_word s) r h'.woken h)

@@ -1,10 +1,12 @@
 //! The consuming end: each call is one step on one word of the ring, and the queue law's next event
 //! on its queue.
-ghost use Rattle.std.specs.Prelude.{◌≡◌, [], ◌∷◌};
+ghost use Rattle.std.specs.Prelude.{◌≡◌, ◌<◌, true, [], ◌∷◌, length};
 ghost use Rattle.cargo_core.specs.Items.{kind_of};
 ghost use Rattle.wire_core.specs.Deeds.{answer_of};
 ghost use Rattle.wire_core.specs.Ends.{Condition};
-ghost use Rattle.spsc_queue.specs.Steps.{EndDid, known_end};
+ghost use Rattle.spsc_queue.specs.Rule.{head_word, tail_word};
+ghost use Rattle.spsc_queue.specs.Steps.{EndDid, known_end, last_value, tells_entry, see_kept};
+ghost use Rattle.spsc_queue.specs.Steps.{see_read, Granted};
 
 use crate::plays;
 use crate::ring::Ring;
@@ -13,12 +15,14 @@ use cargo_core::{Body, Item};
 use std::marker::Model;
 use wire_core::{Answer, Op, Ringer, Side, Waiter};
 
-/// The end that takes entries. It keeps its own index and what it is about on the two bells; its
-/// calls take no memory and wait for nobody.
+/// The end that takes entries. It keeps its own index, how many entries stand there by the tail
+/// that it read last, and what it is about on the two bells; its calls take no memory and wait for
+/// nobody.
 #[derive(Drop)]
 pub struct Consumer {
     pub(crate) seat: Place,
     pub(crate) head: u16,
+    pub(crate) ahead: u64,
     pub(crate) waiter: Waiter,
     pub(crate) ringer: Ringer,
 }
@@ -36,7 +40,46 @@ impl Model for Consumer {
 }
 
 impl Consumer {
+    // A look at its own index, where it knows of an entry.
+    fn see_again(&mut self, ring: &Ring)
+        requires own { self.old.ring ≡ ring.now.id }
+        requires condition { Condition (known_end self.old.knows) Op.See }
+        requires known { 0 < self.old.knows.ahead }
+        ensures own { self.new.ring ≡ self.old.ring }
+        ensures did { self.new.knows ≡ see_kept self.new.knows.grant self.old.knows head_word
+            (last_value self.new.knows) }
+        ensures granted { Granted self.old.knows.kind true self.new.knows.grant }
+    {
+        ring.table
+            .shared
+            .load::<plays::SeeAgain>(&mut self.seat, HEAD);
+    }
+
+    // A look at the tail.
+    fn see_anew(&mut self, ring: &Ring) -> bool
+        requires own { self.old.ring ≡ ring.now.id }
+        requires condition { Condition (known_end self.old.knows) Op.See }
+        ensures own { self.new.ring ≡ self.old.ring }
+        ensures did { self.new.knows ≡ see_read self.new.knows.grant self.old.knows tail_word
+            (last_value self.new.knows) }
+        ensures answer { result ≡ tells_entry (length self.old.knows.entries)
+            (last_value self.new.knows) }
+        ensures granted { Granted self.old.knows.kind
+            (tells_entry (length self.old.knows.entries) (last_value self.new.knows))
+            self.new.knows.grant }
+    {
+        let tail = ring.table.shared.load::<plays::See>(&mut self.seat, TAIL);
+        let has_entry = tail != u64::from(self.head);
+        self.ahead = (tail % 65536 + (65536 - u64::from(self.head))) % 65536;
+        if !has_entry && self.waiter == Waiter::Asked {
+            self.waiter = Waiter::Clear;
+        }
+        has_entry
+    }
+
     /// Whether an entry stands in the queue at this step. A no makes a waiter that asked clear.
+    /// Where the tail that was read last tells of an entry, it isn't read again: a look at one's
+    /// own index is the step.
     pub fn see(&mut self, ring: &Ring) -> bool
         requires own { self.old.ring ≡ ring.now.id }
         requires condition { Condition (known_end self.old.knows) Op.See }
@@ -44,12 +87,11 @@ impl Consumer {
         ensures did { EndDid self.old.ring.slots self.old.knows Op.See
             (answer_of result) [] self.new.knows }
     {
-        let tail = ring.table.shared.load::<plays::See>(&mut self.seat, TAIL);
-        let has_entry = tail != u64::from(self.head);
-        if !has_entry && self.waiter == Waiter::Asked {
-            self.waiter = Waiter::Clear;
+        if self.ahead != 0 {
+            self.see_again(ring);
+            return true;
         }
-        has_entry
+        self.see_anew(ring)
     }
 
     /// Takes the first entry, the next one of what was sent; its item has the ring's kind. The last
@@ -70,6 +112,7 @@ impl Consumer {
             .shared
             .store::<plays::Take>(&mut self.seat, HEAD, u64::from(next));
         self.head = next;
+        self.ahead = self.ahead.saturating_sub(1);
         self.ringer = Ringer::Put;
         entry
     }

@@ -162,12 +162,14 @@ pub fn finish(ring: Ring, producer: Producer, consumer: Consumer) -> Result<Ende
     let Producer {
         mut seat,
         tail,
+        ahead: _,
         waiter: waiter_back,
         ringer,
     } = producer;
     let Consumer {
         seat: mut other,
         head,
+        ahead: _,
         waiter,
         ringer: ringer_back,
     } = consumer;

@@ -1,7 +1,8 @@
 //! What each kind of step on a ring tells the end that makes it, and how the first seat is split
 //! and the last is joined. Each step of a call tells the word that it was on and what was read or
 //! stored there, as the step has them, and nothing else may stand in what was walked.
-ghost use Rattle.spsc_queue.specs.Steps.{room_done, put_done, see_done, take_done, producer_turned};
+ghost use Rattle.spsc_queue.specs.Steps.{room_done, room_again, put_done, see_done, see_again};
+ghost use Rattle.spsc_queue.specs.Steps.{take_done, producer_turned};
 ghost use Rattle.spsc_queue.specs.Steps.{consumer_turned, producer_woken, consumer_woken};
 ghost use Rattle.spsc_queue.specs.Steps.{producer_settled, consumer_settled, asked, waived};
 ghost use Rattle.spsc_queue.specs.Steps.{after_wanted, after_ring, producer_home, consumer_home};
@@ -19,6 +20,12 @@ impl Play<Slot, View> for Room {
     ghost then = { room_done };
 }
 
+pub(crate) struct RoomAgain;
+
+impl Play<Slot, View> for RoomAgain {
+    ghost then = { room_again };
+}
+
 // At the time that its caller picks.
 pub(crate) struct Put<C> {
     clock: PhantomData<C>,
@@ -32,6 +39,12 @@ pub(crate) struct See;
 
 impl Play<Slot, View> for See {
     ghost then = { see_done };
+}
+
+pub(crate) struct SeeAgain;
+
+impl Play<Slot, View> for SeeAgain {
+    ghost then = { see_again };
 }
 
 pub(crate) struct Take;

@@ -1,25 +1,30 @@
 //! The producing end: each call is one step on one word of the ring, and the queue law's next event
 //! on its queue.
-ghost use Rattle.std.specs.Prelude.{◌≡◌, [], ◌∷◌, ◌++◌};
+ghost use Rattle.std.specs.Prelude.{◌≡◌, ◌<◌, [], ◌∷◌, ◌++◌, length, Some};
+ghost use Rattle.atomic_table.specs.Table.{rest};
 ghost use Rattle.cargo_core.specs.Items.{kind_of};
 ghost use Rattle.wire_core.specs.Deeds.{answer_of};
 ghost use Rattle.wire_core.specs.Ends.{Condition};
-ghost use Rattle.spsc_queue.specs.Steps.{EndDid, known_end};
+ghost use Rattle.spsc_queue.specs.Rule.{Slot, head_word, tail_word};
+ghost use Rattle.spsc_queue.specs.Steps.{EndDid, known_end, last_value, tells_room, room_kept};
+ghost use Rattle.spsc_queue.specs.Steps.{room_read};
 
 use crate::clock::Clock;
 use crate::plays;
 use crate::ring::Ring;
-use crate::rule::{FLAG, FLAG_BACK, HEAD, PENDING, PENDING_BACK, Place, TAIL};
+use crate::rule::{Board, FLAG, FLAG_BACK, HEAD, PENDING, PENDING_BACK, Place, TAIL};
 use cargo_core::{Body, Item};
 use std::marker::Model;
 use wire_core::{Answer, Op, Ringer, Side, Waiter};
 
-/// The end that puts entries. It keeps its own index and what it is about on the two bells; its
-/// calls take no memory and wait for nobody.
+/// The end that puts entries. It keeps its own index, for how many entries there is room by the
+/// head that it read last, and what it is about on the two bells; its calls take no memory and wait
+/// for nobody.
 #[derive(Drop)]
 pub struct Producer {
     pub(crate) seat: Place,
     pub(crate) tail: u16,
+    pub(crate) ahead: u64,
     pub(crate) waiter: Waiter,
     pub(crate) ringer: Ringer,
 }
@@ -36,8 +41,55 @@ impl Model for Producer {
     ghost invariant = { IsProducer };
 }
 
+// Writes an entry in the slot that the seat holds, where the slot lies.
+fn fill(seat: &mut Place, board: &Board, slot: usize, item: Item, body: Body)
+    requires { (seat.old.table_id ≡ board.now.shared.table_id)
+        × ((old : Slot) × (seat.old.me.1 ≡ (slot, old) ∷ rest seat.old.me.1)) }
+    ensures { (seat.new.table_id ≡ seat.old.table_id) × (seat.new.id ≡ seat.old.id)
+        × (seat.new.me ≡ (seat.old.me.0, (slot, Some (item, body)) ∷ rest seat.old.me.1)) }
+{
+    let place = seat.slot_mut(&board.shared, slot);
+    *place = Some((item, body));
+}
+
 impl Producer {
-    /// Whether the queue has room at this step. A no makes a waiter that asked clear.
+    // A look at its own index, where it knows of room.
+    fn room_again(&mut self, ring: &Ring)
+        requires own { self.old.ring ≡ ring.now.id }
+        requires condition { Condition (known_end self.old.knows) Op.Room }
+        requires known { 0 < self.old.knows.ahead }
+        ensures own { self.new.ring ≡ self.old.ring }
+        ensures did { self.new.knows ≡ room_kept self.old.knows tail_word
+            (last_value self.new.knows) }
+    {
+        ring.table
+            .shared
+            .load::<plays::RoomAgain>(&mut self.seat, TAIL);
+    }
+
+    // A look at the head.
+    fn room_anew(&mut self, ring: &Ring) -> bool
+        requires own { self.old.ring ≡ ring.now.id }
+        requires condition { Condition (known_end self.old.knows) Op.Room }
+        ensures own { self.new.ring ≡ self.old.ring }
+        ensures did { self.new.knows ≡ room_read self.old.ring.slots self.old.knows head_word
+            (last_value self.new.knows) }
+        ensures answer { result ≡ tells_room self.old.ring.slots (length self.old.knows.entries)
+            (last_value self.new.knows) }
+    {
+        let head = ring.table.shared.load::<plays::Room>(&mut self.seat, HEAD);
+        let has_room = (head as u16).wrapping_add(ring.capacity) != self.tail;
+        let end = head % 65536 + u64::from(ring.capacity);
+        self.ahead = (end + (65536 - u64::from(self.tail))) % 65536;
+        if !has_room && self.waiter == Waiter::Asked {
+            self.waiter = Waiter::Clear;
+        }
+        has_room
+    }
+
+    /// Whether the queue has room at this step. A no makes a waiter that asked clear. Where the
+    /// head that was read last tells of room, it isn't read again: a look at one's own index is the
+    /// step.
     pub fn room(&mut self, ring: &Ring) -> bool
         requires own { self.old.ring ≡ ring.now.id }
         requires condition { Condition (known_end self.old.knows) Op.Room }
@@ -45,12 +97,11 @@ impl Producer {
         ensures did { EndDid self.old.ring.slots self.old.knows Op.Room
             (answer_of result) [] self.new.knows }
     {
-        let head = ring.table.shared.load::<plays::Room>(&mut self.seat, HEAD);
-        let has_room = (head as u16).wrapping_add(ring.capacity) != self.tail;
-        if !has_room && self.waiter == Waiter::Asked {
-            self.waiter = Waiter::Clear;
+        if self.ahead != 0 {
+            self.room_again(ring);
+            return true;
         }
-        has_room
+        self.room_anew(ring)
     }
 
     /// Puts an entry of the ring's kind behind the others, at the time that the caller picks. The
@@ -66,16 +117,13 @@ impl Producer {
     {
         let slot = usize::from(self.tail % ring.capacity);
         let next = self.tail.wrapping_add(1);
-        let old = ring
-            .table
-            .shared
-            .exchange(&mut self.seat, slot, Some((item, body)));
+        fill(&mut self.seat, &ring.table, slot, item, body);
         ring.table
             .shared
             .store::<plays::Put<C>>(&mut self.seat, TAIL, u64::from(next));
         self.tail = next;
+        self.ahead = self.ahead.saturating_sub(1);
         self.ringer = Ringer::Put;
-        drop(old);
     }
 
     /// Whether the consumer wants a notification of entries, by the flag.

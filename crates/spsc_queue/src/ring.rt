@@ -6,7 +6,7 @@ ghost use Rattle.spsc_queue.specs.Rule.{first_producer, first_consumer};
 use crate::consumer::Consumer;
 use crate::plays::TwoEnds;
 use crate::producer::Producer;
-use crate::rule::Board;
+use crate::rule::{Board, START};
 use cargo_core::{Memory, QueueKind};
 use std::alloc::Global;
 use std::marker::Model;
@@ -48,7 +48,7 @@ pub fn open(
     ensures consumer { IfOk result (λ r. r.2
         ≡ record { ring = r.0.id; knows = first_consumer kind }) }
 {
-    let (table, mut seat) = Board::vacant(alloc, &[0, 0, 0, 0, 1, 0], capacity as usize, &kind)?;
+    let (table, mut seat) = Board::vacant(alloc, &START, capacity as usize, &kind)?;
     let other = table.shared.split_seat::<TwoEnds>(&mut seat);
     Ok((
         Ring {
@@ -59,12 +59,14 @@ pub fn open(
         Producer {
             seat,
             tail: 0,
+            ahead: 0,
             waiter: Waiter::Off,
             ringer: Ringer::Free,
         },
         Consumer {
             seat: other,
             head: 0,
+            ahead: 0,
             waiter: Waiter::Busy,
             ringer: Ringer::Free,
         },

@@ -4,22 +4,32 @@ use atomic_table::{Seat, Table, TableRule};
 use cargo_core::{Body, Item, QueueKind};
 use std::alloc::Global;
 
+// The words that the consumer looks at most stand together, and so do the producer's, with fifteen
+// between them and behind, so that no line of a cache of up to 128 bytes has words of both.
+
 // How many entries were taken, by 16 bits.
 pub(crate) const HEAD: usize = 0;
 
-// How many were sent, by 16 bits.
-pub(crate) const TAIL: usize = 1;
+// 1 where a notification for the consumer stands there untaken.
+pub(crate) const PENDING: usize = 1;
+
+// The bell of room, on which the producer waits: 0 where it wants a notification.
+pub(crate) const FLAG_BACK: usize = 2;
+
+// How many entries were sent, by 16 bits.
+pub(crate) const TAIL: usize = 18;
 
 // The bell of entries: 0 where the consumer wants a notification.
-pub(crate) const FLAG: usize = 2;
+pub(crate) const FLAG: usize = 19;
 
-// 1 where a notification for the consumer stands there untaken.
-pub(crate) const PENDING: usize = 3;
+// 1 where a notification for the producer stands there untaken.
+pub(crate) const PENDING_BACK: usize = 20;
 
-// The same two of the bell of room, on which the producer waits.
-pub(crate) const FLAG_BACK: usize = 4;
-
-pub(crate) const PENDING_BACK: usize = 5;
+// The words of a new ring: the consumer wants a notification, the producer none.
+pub(crate) const START: [u64; 36] = [
+    0, 0, 1, 0, 0, 0, 0, 0, 0, 0, 0, 0, 0, 0, 0, 0, 0, 0, 0, 0, 0, 0, 0, 0, 0, 0, 0, 0, 0, 0, 0, 0,
+    0, 0, 0, 0,
+];
 
 /// An empty place, or an entry.
 pub type Slot = Option<(Item, Body)>;

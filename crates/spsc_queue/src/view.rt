@@ -16,6 +16,8 @@ pub struct Half {
     /// The slot that is granted to it, with what it held.
     pub grant: Option<Option<(Item, Body)>>,
     pub noes: u64,
+    /// How many entries it may still put, or take, by what it last read of the other end's index.
+    pub ahead: u64,
     /// Whether what it stored last to the flag on which it waits was a wish for a notification.
     pub wishes: bool,
     /// How many wishes it stored there.

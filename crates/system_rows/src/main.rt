@@ -8,13 +8,15 @@
 //! the line is written as how often each byte stands in it, since their bytes come in any order.
 //! Where a quiet play left a record or replies that the trace doesn't give the client, the line
 //! says so.
+//!
+//! A row `network FILE | TRACE | FIRST | COUNT` stands for plays of a description with a network and
+//! a trace by so many seeds from the first on, a line for each; with `| pools` behind it the line
+//! has also where the buffers of each pool are.
 #![tactic(auto)]
 
-ghost use Rattle.std.specs.Prelude.{◌≡◌, ◌<◌, ◌≤◌, IfOk, IfSome, length, None, []};
+ghost use Rattle.std.specs.Prelude.{◌≡◌, ◌<◌, IfOk, length, []};
 ghost use Rattle.wire_core.specs.Journal.{LegalJournal};
 ghost use Rattle.sdf_check.specs.Valid.{Valid};
-ghost use Rattle.sdf_plan.specs.Elements.{IsNumbered};
-ghost use Rattle.sdf_model.specs.Counts.{text_most};
 ghost use Rattle.trace_text.specs.Events.{blk_clients};
 ghost use Rattle.trace_text.specs.Traces.{IsReadFor};
 ghost use Rattle.region_layout.specs.Layouts.{layout_of};
@@ -24,51 +26,23 @@ ghost use Rattle.system_core.specs.Shows.{Shown, hostile_in};
 ghost use Rattle.system_core.specs.Plays.{runnable_now};
 ghost use Rattle.system_core.specs.PlanPlays.{IsSystemOf, StaysOfItsPlan};
 
+mod judging;
 mod naming;
+mod network;
 mod numbering;
 
 use cargo_core::{Memory, Reply};
 use expect_core::{Report, input_of, replies_of};
-use naming::rename_domain;
-use numbering::is_numbered;
+use judging::judged;
+use network::print_network;
 use region_layout::{Layout, lay_out};
-use sdf_check::check;
-use sdf_model::{TEXT_MOST, read_description};
+use sdf_model::TEXT_MOST;
 use sdf_plan::{Plan, SdfFault};
 use std::alloc::Global;
+use std::rt::Files;
 use std::{fs, io};
 use system_core::{Ending, System};
 use trace_text::{Trace, TraceFault, read_trace};
-
-// The plan that a text spells, with another name of a domain where a row gives one as
-// `NAME as OTHER`; None where its lists have too many elements.
-fn read_with_names(alloc: Global, text: &str, names: Option<&str>) -> Result<Option<Plan>, SdfFault>
-    requires { length text.now ≤ text_most }
-    ensures { IfOk result (λ plan. IfSome plan IsNumbered) }
-{
-    let mut plan = read_description(alloc, text.as_bytes())?;
-    let Some((old, new)) = names.and_then(|names| names.split_once(" as ")) else {
-        return Ok(Some(plan));
-    };
-    rename_domain(alloc, &mut plan, old, new)?;
-    if is_numbered(&plan) {
-        Ok(Some(plan))
-    } else {
-        Ok(None)
-    }
-}
-
-// That plan, where no rule is broken.
-fn judged(alloc: Global, text: &str, names: Option<&str>) -> Result<Option<Plan>, SdfFault>
-    requires { length text.now ≤ text_most }
-    ensures { IfOk result (λ plan. IfSome plan Valid) }
-{
-    let Some(plan) = read_with_names(alloc, text, names)? else {
-        return Ok(None);
-    };
-    check(alloc, &plan)?;
-    Ok(Some(plan))
-}
 
 // Bytes as runs of one value.
 fn add_runs(to: &mut String, bytes: &[u8]) -> Result<(), Memory> {
@@ -348,7 +322,10 @@ fn trace_of(alloc: Global, lines: &str) -> Result<String, Memory> {
 }
 
 // The answer at a row.
-fn row(rt: &HostRuntime, row: &str) -> io::Result<()> {
+fn print_row<R: Files + Print + AllocGlobal>(rt: &R, row: &str) -> io::Result<()> {
+    if let Some(row) = row.strip_prefix("network ") {
+        return print_network(rt, row);
+    }
     let Some((name, rest)) = row.split_once(" | ") else {
         return rt.println("no row");
     };
@@ -370,7 +347,7 @@ fn row(rt: &HostRuntime, row: &str) -> io::Result<()> {
 
 fn main(rt: HostRuntime) -> io::Result<()> {
     for line in rt.lines(rt.alloc()) {
-        row(&rt, line?.as_str())?;
+        print_row(&rt, line?.as_str())?;
     }
     Ok(())
 }

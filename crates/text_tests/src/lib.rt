@@ -1,6 +1,6 @@
 //! Tests of the rooms that read and print texts: words, class tables, traces' frames and the
-//! switch, what clients must get, reports and journals. They stand apart from `plan_rows` and
-//! `trace_rows`, since a program with tests is proved twice.
+//! switch, what clients must get, reports and journals. They stand apart from `plan_rows`, since a
+//! program with tests is proved twice.
 #![tactic(auto)]
 
 #[cfg(test)]

@@ -159,21 +159,21 @@ nothing_at pool (n ∷ ns) = nothing_at pool ns
 
 pub new_server_hand : (scene : Scene) (v : BlkVirt) → IsNewServer v → (pool : PoolId) → buffers_of pool (bodies_of (work_cargo v.work)) ≡ length ((blk_sheet scene (virt_part v)).hand pool.0)
 new_server_hand scene v new pool =
-    let st = new.stands in
-    let all = (server_balance v nothing_passed st).balances pool in
+    let st = server_balance v nothing_passed new.stands in
+    let all = st.balances pool in
     let came = nothing_at pool (virt_came v.ends) in
     let went = nothing_at pool (virt_went v.ends) in
-    let own : v.work.opening.own.pool ≡ st.start.pool = ap (λ n. n.pool) st.stands.is_start in
+    let own : v.work.opening.own.pool ≡ st.start.pool = ap (λ n. n.pool) st.own in
     let one = pages_are v.work.opening.own.pool.0 v.work.opening.base 1 32768 st.start.pool pool (st.start ∷ []) (ap (λ (p : PoolId). p.0) own) refl (λ k p at. ap (λ (q : Paged). q.pool) (sym (only k p at))) in
     omega (arith, all, came, went, one)
   where
-    only : (k : ℕ) (p : Paged) → slice_get (new.stands.start ∷ []) k ≡ Some p → new.stands.start ≡ p
+    only : {q : Paged} (k : ℕ) (p : Paged) → slice_get (q ∷ []) k ≡ Some p → q ≡ p
     only zero p at = Rattle.play_core.proofs.Lists.some_is at
     only (suc k) p at = cc
 
 pub new_asker_hand : (scene : Scene) (c : BlkClient) → IsNewAsker c → (pool : PoolId) → buffers_of pool (blk_client_hand c) ≡ length ((blk_sheet scene (blk_client_part c)).hand pool.0)
 new_asker_hand scene c new pool =
-    let st = new.stands in
-    let all = (asker_balance c nothing_passed st).balances pool in
+    let st = asker_balance c nothing_passed new.stands in
+    let all = st.balances pool in
     let own = pages_are c.asking.pool.0 0 c.asking.buffers 32768 c.asking.pool pool st.start refl st.is_start.many st.is_start.are_pool.same_pool in
     omega (arith, all, own)

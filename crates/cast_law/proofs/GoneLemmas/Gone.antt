@@ -185,7 +185,7 @@ module _ (rows : List QueueRow) (rings : List RingIs) (olds news : List Apart) (
         let p = map_from (λ (q : Apart). q.actor) olds k x at in
         let stood = gone.stood.stand k p.0 p.1 in
         subst (λ (y : Actor). ActorStandsFor y nothing_passed) p.2 (stands_beside (apart_passed p.0 stood.stands.0) nothing_passed p.0.actor (fits_whole (apart_end p.0) p.0.actor stood.fits)
-            (λ n e. sym (gone.nothing k p.0 p.1 Consumer n).0) (λ n e. sym (gone.nothing k p.0 p.1 Producer n).0) stood.stands.1)
+        (λ n e. sym (gone.nothing k p.0 p.1 Consumer n).0) (λ n e. sym (gone.nothing k p.0 p.1 Producer n).0) stood.stands.1)
         );
   }
 
