@@ -1,4 +1,5 @@
 pub mod Filling
+pub mod Pages
 pub mod Plain
 pub mod Serving
 pub mod Sending

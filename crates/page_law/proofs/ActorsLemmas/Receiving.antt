@@ -26,24 +26,8 @@ use Rattle.net_virt_rx.specs.Receiving.{RxStands, IsOutOfTurn, queue_at}
 use Rattle.buffer_kit.specs.Conserving.{Count, weight, counted, Conserves, weighed}
 use Rattle.buffer_kit.proofs.Conserving.{weighed-append, counted-append, counted-at, conserved}
 use Rattle.page_law.proofs.ActorsLemmas.Filling.{stock_count}
+use Rattle.page_law.proofs.ActorsLemmas.Pages.{plus, same_sum, none_sum, first_sum, pages_weight}
 use Rattle.page_law.proofs.ActorsLemmas.Sending.{IsAmong, beside, none_strayed, strays, taken_parts}
-
--- sums over the first numbers
-plus : (f g : ℕ → ℕ) (k : ℕ) → sum_below (λ n. f n + g n) k ≡ sum_below f k + sum_below g k
-plus f g zero = refl
-plus f g (suc k) = omega (arith, plus f g k)
-
-same_sum : (f g : ℕ → ℕ) (k : ℕ) → ((n : ℕ) → n < k → f n ≡ g n) → sum_below f k ≡ sum_below g k
-same_sum f g zero same = refl
-same_sum f g (suc k) same = omega (arith, same_sum f g k (λ n lt. same n (omega (arith, lt))), same k (omega arith))
-
-none_sum : (k : ℕ) → sum_below (λ n. 0) k ≡ 0
-none_sum zero = refl
-none_sum (suc k) = omega (arith, none_sum k)
-
-first_sum : (f : ℕ → ℕ) (k : ℕ) → sum_below f (suc k) ≡ f 0 + sum_below (λ n. f (suc n)) k
-first_sum f zero = omega arith
-first_sum f (suc k) = omega (arith, first_sum f k)
 
 -- so often
 abbrev times : ℕ → ℕ → ℕ
@@ -113,17 +97,6 @@ module _ (f : Count) (s : Stock) (some : 0 < s.size) where
       this (item, Carried.Lease lease) is = elim is [ ]
       this (item, Carried.Empty) is = elim is [ ]
 
-  -- the pages that it had at the start, from a number on
-  start_weight : (pages : List Paged) (from : ℕ) → ((k : ℕ) (p : Paged) → slice_get pages k ≡ Some p → (p.pool ≡ s.pool) × (p.no ≡ from + k) × (length p.bytes ≡ s.size)) → counted f (page_bodies pages) ≡ sum_below (λ b. one (from + b)) (length pages)
-  start_weight [] from h = refl
-  start_weight (p ∷ pages) from h =
-      let here = h zero p refl in
-      let same : f p.pool p.no (length p.bytes) ≡ one (from + 0) = rw (here.0, here.1, here.2) refl in
-      let rest = start_weight pages (suc from) (λ k q at. let r = h (suc k) q at in (r.0, (let e = r.1 in omega (arith, e)), r.2)) in
-      let first = first_sum (λ b. one (from + b)) (length pages) in
-      let shift = same_sum (λ b. one (suc from + b)) (λ b. one (from + suc b)) (length pages) (λ b l. ap one (omega arith)) in
-      omega (arith, same, rest, first, shift)
-
   -- the pages that are lent, from a number on
   lent_weight : (lent : List (Option Loan)) (from : ℕ) → ((k : ℕ) (loan : Loan) → slice_get lent k ≡ Some (Some loan) → IsLoan s (from + k) loan) → counted f (lent_bodies lent) ≡ sum_below (λ b. once (nat_lt 0 (receivers_at lent b)) (one (from + b))) (length lent)
   lent_weight [] from h = refl
@@ -188,7 +161,7 @@ module _ (i o : ℕ) (fs ts : List QueueId) (w : Sharer) (passed : Passed) (h : 
     started : counted f (page_bodies h.start) ≡ sum_below each s.buffers
     started =
         let p = h.is_start.are_pool in
-        let sum = start_weight f s p.some h.start 0 (λ k q at. (p.same_pool k q at, (let e = p.numbered k q at in omega (arith, e)), p.sized k q at)) in
+        let sum = pages_weight f s.pool s.size h.start 0 (λ k q at. (p.same_pool k q at, (let e = p.numbered k q at in omega (arith, e)), p.sized k q at)) in
         let moved = same_sum (λ b. each (0 + b)) each (length h.start) (λ b l. ap each (omega arith)) in
         sum ∙ (moved ∙ ap (sum_below each) h.is_start.many)
 
