@@ -1,6 +1,8 @@
 -- Each actor conserves buffers one by one, over the ends that its sheet gives.
 use Rattle.std.proofs.Common.{◌≡◌, ◌+◌, ℕ, zero, suc, Some, List, [], ◌∷◌, ◌++◌, length, map, slice_get, refl, sym, ap, ◌∙◌, arith}
+use Rattle.std.specs.List.{sum_by}
 use Rattle.std.proofs.lemmas.List.{length-map}
+use Rattle.std.proofs.lemmas.List.Sums.{sum_by-cons}
 use Rattle.cargo_core.specs.Pages.{Paged}
 use Rattle.cargo_core.specs.declared.item.Body.TheVariants as Carried
 use Rattle.wire_core.specs.Lists.{Passed}
@@ -11,6 +13,7 @@ use Rattle.pipe_driver.specs.Lengths.{two_pipes}
 use Rattle.eth_driver.specs.Four.{four_pipes}
 use Rattle.play_core.specs.Sheets.{Scene}
 use Rattle.owner_law.specs.Pools.Lines.{came, went}
+use Rattle.owner_law.specs.Pools.Places.{PoolAt}
 use Rattle.buffer_kit.specs.Conserving.{Count, counted, Conserves}
 use Rattle.buffer_kit.specs.Pools.{page_bodies}
 use Rattle.buffer_kit.specs.Virtualising.{from_queues, to_queues}
@@ -24,6 +27,7 @@ use Rattle.page_law.proofs.ActorsLemmas.Receiving.{receiver_conserves}
 use Rattle.page_law.proofs.ActorsLemmas.Serial.{terminal_conserves, receiver_conserves as serial_receiver_conserves, sender_conserves as serial_sender_conserves}
 use Rattle.page_law.proofs.ActorsLemmas.Pages.{pool_weight}
 use Rattle.page_law.proofs.DiskLemmas.Answering.{disk_conserves}
+use Rattle.net_law.specs.Parts.Playing.{stock_pool}
 use Rattle.net_quiet.proofs.TxOwners.Holding.{shippers_came, shippers_went}
 use Rattle.net_quiet.proofs.PoolsLemmas.Lending.{lessees_came, lessees_went}
 use Rattle.blk_quiet.proofs.PoolsLemmas.Holding.{sharers_came, sharers_went}
@@ -70,7 +74,7 @@ module _ (scene : Scene) (passed : Passed) where
 
 -- what it had at the start is all of its pools
 module _ (passed : Passed) (f : Count) where
-  pub start_weighs : (x : Actor) → IsWhole x → (st : ActorStandsFor x passed) → counted f (actor_start x passed st) ≡ Rattle.std.specs.List.sum_by (pool_weighs f) (part_pools (part_of x))
+  pub start_weighs : (x : Actor) → IsWhole x → (st : ActorStandsFor x passed) → counted f (actor_start x passed st) ≡ sum_by (pool_weighs f) (part_pools (part_of x))
   start_weighs (Kinds.UartDevice x) whole st = refl
   start_weighs (Kinds.UartDriver x) whole st = refl
   start_weighs (Kinds.SerialVirtRx x) whole st = refl
@@ -82,7 +86,7 @@ module _ (passed : Passed) (f : Count) where
       let s = x.work.stock in
       let pages = pool_weight f s.base s.pool s.size st.start st.is_start.are_pool in
       let many = ap (sum_below (λ b. f s.pool b s.size)) st.is_start.many in
-      omega (arith, pages, many)
+      omega (arith, pages, many, sum_by-cons (pool_weighs f) (stock_pool s) [])
   start_weighs (Kinds.NetCopier x) whole st = refl
   start_weighs (Kinds.NetClient x) whole st =
       let s = x.stock in
@@ -92,17 +96,19 @@ module _ (passed : Passed) (f : Count) where
       let tx = pool_weight f t.base t.pool t.size st.sends.start st.sends.is_start.are_pool in
       let rx_many = ap (sum_below (λ b. f s.pool b s.size)) st.is_start.many in
       let tx_many = ap (sum_below (λ b. f t.pool b t.size)) st.sends.is_start.many in
-      omega (arith, both, rx, tx, rx_many, tx_many)
+      omega (arith, both, rx, tx, rx_many, tx_many, sum_by-cons (pool_weighs f) (stock_pool s) (stock_pool t ∷ []), sum_by-cons (pool_weighs f) (stock_pool t) [])
   start_weighs (Kinds.NetVirtTx x) whole st = refl
   start_weighs (Kinds.DiskDevice x) whole st = refl
   start_weighs (Kinds.BlkDriver x) whole st = refl
   start_weighs (Kinds.BlkVirt x) whole st =
       let own = st.stands.is_start in
+      let own_pool : PoolAt = record { number = x.work.opening.own.pool.0; base = x.work.opening.base; buffers = 1; size = 32768 } in
       let name = ap (λ n. f n.pool n.no (length st.start.bytes)) own in
       let first = ap (λ n. f x.work.opening.own.pool n (length st.start.bytes)) whole.first in
       let long = ap (f x.work.opening.own.pool 0) st.long in
-      omega (arith, name, first, long)
+      omega (arith, name, first, long, sum_by-cons (pool_weighs f) own_pool [])
   start_weighs (Kinds.BlkClient x) whole st =
       let pages = pool_weight f 0 x.asking.pool 32768 st.start st.is_start.are_pool in
       let many = ap (sum_below (λ b. f x.asking.pool b 32768)) st.is_start.many in
-      omega (arith, pages, many)
+      let pool : PoolAt = record { number = x.asking.pool.0; base = 0; buffers = x.asking.buffers; size = 32768 } in
+      omega (arith, pages, many, sum_by-cons (pool_weighs f) pool [])
