@@ -68,7 +68,7 @@ row_of v passed h =
     let d = h.stands.serves p.0 p.1 in
     record {
       start = h.start;
-      long = h.long;
+      long = let l = h.long in omega (arith, l);
       own = h.stands.is_start;
       back = h.back;
       stray = option_to_list v.work.stray;

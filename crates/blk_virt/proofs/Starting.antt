@@ -114,7 +114,7 @@ module _ (es : List BlkEnds) (are : AreClients es) (w : Work) (page : Paged) (cl
   nothing_at c [] = refl
   nothing_at c (n ∷ ns) = nothing_at c ns
 
-  pub new_virt : 4096 ≤ length page.bytes → (i o : ℕ) (f t : List QueueId) → VirtStands i o f t w nothing_passed
+  pub new_virt : length page.bytes ≡ 32768 → (i o : ℕ) (f t : List QueueId) → VirtStands i o f t w nothing_passed
   new_virt long i o f t = record {
     work = new_work;
     start = page;

@@ -40,13 +40,13 @@ pub record FitsBlkVirt (ends : Role → ℕ → End) (v : BlkVirt) : Type 0 wher
   pub to_each : length (to_queues v.ends) ≡ length (holders v.work.desk)
 
 -- what it took of responses is what came in turn and at most one, which came last and out of turn;
--- it stands for what came in turn and what it put; its own buffer has room for a block; and what it
--- had at the start and what came is, buffer by buffer, what went and what is in its hand
+-- it stands for what came in turn and what it put; its own buffer has the length of each client's;
+-- and what it had at the start and what came is, buffer by buffer, what went and what is in its hand
 pub record VirtStands (input output : ℕ) (from_clients to_clients : List QueueId) (w : Work)
     (passed : Passed) : Type 0 where
   pub work : IsWork w
   pub start : Paged
-  pub long : block_bytes ≤ length start.bytes
+  pub long : length start.bytes ≡ blk_buffer_bytes
   pub back : List Cargo
   pub taken : passed.taken input ≡ back ++ option_to_list w.stray
   pub stands : WorkStands w start back (λ k. passed.taken (queue_at from_clients k))

@@ -1,7 +1,7 @@
 //! The block virtualiser itself: the ends that it steps, and whose turn it is.
 ghost use Rattle.std.specs.Prelude.{◌≡◌, ◌+◌, ◌-◌, ◌<◌, ◌≤◌, ◌^◌, ℕ, IfOk, is_none, length, map};
 ghost use Rattle.std.specs.Prelude.{false};
-ghost use Rattle.cargo_core.specs.Blocks.{block_bytes};
+ghost use Rattle.cargo_core.specs.Blocks.{blk_buffer_bytes};
 ghost use Rattle.cargo_core.specs.Bodies.{buffers_of};
 ghost use Rattle.turn_kit.specs.Hands.{bodies_of};
 ghost use Rattle.wire_core.specs.Ends.{role_of, Role, End};
@@ -99,7 +99,7 @@ fn clients_of(alloc: Global, clients: &[BlkEnds]) -> Result<Vec<Client>, Memory>
 
 impl BlkVirt {
     /// A virtualiser in its start state. Requests go to `req`, and responses come at `resp`; the
-    /// page is its own buffer, which has room for a block and begins at the device address `base`.
+    /// page is its own buffer, of 32,768 bytes, which begins at the device address `base`.
     /// It takes the memory for one request of each client at the driver.
     pub fn new(
         alloc: Global,
@@ -111,7 +111,7 @@ impl BlkVirt {
         disk_sectors: u32,
     ) -> Result<BlkVirt, Memory>
         requires clients { AreClients clients.items }
-        requires own { block_bytes ≤ length page.bytes }
+        requires own { length page.bytes ≡ blk_buffer_bytes }
         ensures new { IfOk result (λ v. IsNewBlkVirt req resp clients.items page base
             disk_sectors v) }
         ensures work { IfOk result (λ v. IsWork v.work) }

@@ -11,5 +11,6 @@ pub mod QuietLemmas
 pub mod PoolsLemmas
 pub mod PastOwners
 pub mod PoolLines
+pub mod PagesLemmas
 pub mod RunsLemmas
 pub mod GoneLemmas

@@ -1,9 +1,10 @@
 -- Where the actors of a plan are seated (Seats), where its classes with pools stand (Places), their
--- pools (Pools) with the lines of a report (PoolLines), and what runs over rings begin with (Runs)
--- and leave (Gone).
+-- pools (Pools) with the lines of a report (PoolLines) and each of their buffers (Pages), and what
+-- runs over rings begin with (Runs) and leave (Gone).
 pub mod Seats
 pub mod Places
 pub mod Pools
 pub mod PoolLines
+pub mod Pages
 pub mod Runs
 pub mod Gone

@@ -39,14 +39,14 @@ use Rattle.blk_quiet.proofs.PoolsLemmas.Carrying.{driver_names}
 answers_stay : (naming : Naming) (n q : ℕ) (ws : List Window) → naming n ≡ Answers q ws → is_lending (naming n) ≡ false
 answers_stay naming n q ws is = ap is_lending is
 
-sharers_came : (passed : Passed) (hs : List Holder) (from to : List QueueId) → length from ≡ length hs → length to ≡ length hs → came passed (flat_map sharer_ends (sharers hs from to)) ≡ bodies_at passed.taken (map (λ (q : QueueId). q.0) from)
+pub sharers_came : (passed : Passed) (hs : List Holder) (from to : List QueueId) → length from ≡ length hs → length to ≡ length hs → came passed (flat_map sharer_ends (sharers hs from to)) ≡ bodies_at passed.taken (map (λ (q : QueueId). q.0) from)
 sharers_came passed [] [] to f t = refl
 sharers_came passed [] (q ∷ from) to f t = absurd (omega (arith, f))
 sharers_came passed (h ∷ hs) [] to f t = absurd (omega (arith, f))
 sharers_came passed (h ∷ hs) (q ∷ from) [] f t = absurd (omega (arith, t))
 sharers_came passed (h ∷ hs) (q ∷ from) (r ∷ to) f t = ap (λ xs. bodies_of (passed.taken q.0) ++ xs) (sharers_came passed hs from to (omega (arith, f)) (omega (arith, t)))
 
-sharers_went : (passed : Passed) (hs : List Holder) (from to : List QueueId) → length from ≡ length hs → length to ≡ length hs → went passed (flat_map sharer_ends (sharers hs from to)) ≡ bodies_at passed.sent (map (λ (q : QueueId). q.0) to)
+pub sharers_went : (passed : Passed) (hs : List Holder) (from to : List QueueId) → length from ≡ length hs → length to ≡ length hs → went passed (flat_map sharer_ends (sharers hs from to)) ≡ bodies_at passed.sent (map (λ (q : QueueId). q.0) to)
 sharers_went passed [] from [] f t = refl
 sharers_went passed [] from (r ∷ to) f t = absurd (omega (arith, t))
 sharers_went passed (h ∷ hs) [] to f t = absurd (omega (arith, f))

@@ -69,19 +69,19 @@ none_of (Some c) e = cc
 
 -- ends on one side
 module _ (passed : Passed) where
-  ins_came : (qs : List ℕ) → came passed (map intake qs) ≡ bodies_at passed.taken qs
+  pub ins_came : (qs : List ℕ) → came passed (map intake qs) ≡ bodies_at passed.taken qs
   ins_came [] = refl
   ins_came (q ∷ qs) = ap (λ xs. bodies_of (passed.taken q) ++ xs) (ins_came qs)
 
-  ins_went : (qs : List ℕ) → went passed (map intake qs) ≡ []
+  pub ins_went : (qs : List ℕ) → went passed (map intake qs) ≡ []
   ins_went [] = refl
   ins_went (q ∷ qs) = ins_went qs
 
-  outs_came : (qs : List ℕ) → came passed (map outlet qs) ≡ []
+  pub outs_came : (qs : List ℕ) → came passed (map outlet qs) ≡ []
   outs_came [] = refl
   outs_came (q ∷ qs) = outs_came qs
 
-  outs_went : (qs : List ℕ) → went passed (map outlet qs) ≡ bodies_at passed.sent qs
+  pub outs_went : (qs : List ℕ) → went passed (map outlet qs) ≡ bodies_at passed.sent qs
   outs_went [] = refl
   outs_went (q ∷ qs) = ap (λ xs. bodies_of (passed.sent q) ++ xs) (outs_went qs)
 

@@ -97,14 +97,14 @@ loans_many pool own (Some loan ∷ lent) each =
     by false parts head rest first one = omega (arith, parts, head, rest)
 
 -- what came from all clients, and went to them
-lessees_came : (passed : Passed) (macs : List Mac) (to from : List QueueId) → length to ≡ length macs → length from ≡ length macs → came passed (flat_map lessee_ends (lessees macs to from)) ≡ bodies_at passed.taken (map (λ (q : QueueId). q.0) from)
+pub lessees_came : (passed : Passed) (macs : List Mac) (to from : List QueueId) → length to ≡ length macs → length from ≡ length macs → came passed (flat_map lessee_ends (lessees macs to from)) ≡ bodies_at passed.taken (map (λ (q : QueueId). q.0) from)
 lessees_came passed [] to [] t f = refl
 lessees_came passed [] to (r ∷ from) t f = absurd (omega (arith, f))
 lessees_came passed (mac ∷ macs) [] from t f = absurd (omega (arith, t))
 lessees_came passed (mac ∷ macs) (q ∷ to) [] t f = absurd (omega (arith, f))
 lessees_came passed (mac ∷ macs) (q ∷ to) (r ∷ from) t f = ap (λ xs. bodies_of (passed.taken r.0) ++ xs) (lessees_came passed macs to from (omega (arith, t)) (omega (arith, f)))
 
-lessees_went : (passed : Passed) (macs : List Mac) (to from : List QueueId) → length to ≡ length macs → length from ≡ length macs → went passed (flat_map lessee_ends (lessees macs to from)) ≡ bodies_at passed.sent (map (λ (q : QueueId). q.0) to)
+pub lessees_went : (passed : Passed) (macs : List Mac) (to from : List QueueId) → length to ≡ length macs → length from ≡ length macs → went passed (flat_map lessee_ends (lessees macs to from)) ≡ bodies_at passed.sent (map (λ (q : QueueId). q.0) to)
 lessees_went passed [] [] from t f = refl
 lessees_went passed [] (q ∷ to) from t f = absurd (omega (arith, t))
 lessees_went passed (mac ∷ macs) [] from t f = absurd (omega (arith, t))

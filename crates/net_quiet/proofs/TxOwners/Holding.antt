@@ -21,14 +21,14 @@ use Rattle.net_quiet.specs.Pools.Holders.{holder_of, no_lent}
 use Rattle.net_quiet.proofs.PoolsLemmas.Holding.{lends_none, lends_in, lends_out, buffers_stay}
 use Rattle.net_quiet.specs.TxOwners.Shipping.{device_windows, NamesSend}
 
-shippers_came : (passed : Passed) (ss : List Sender) (from to : List QueueId) → length from ≡ length ss → length to ≡ length ss → came passed (flat_map shipper_ends (shippers ss from to)) ≡ bodies_at passed.taken (map (λ (q : QueueId). q.0) from)
+pub shippers_came : (passed : Passed) (ss : List Sender) (from to : List QueueId) → length from ≡ length ss → length to ≡ length ss → came passed (flat_map shipper_ends (shippers ss from to)) ≡ bodies_at passed.taken (map (λ (q : QueueId). q.0) from)
 shippers_came passed [] [] to f t = refl
 shippers_came passed [] (q ∷ from) to f t = absurd (omega (arith, f))
 shippers_came passed (s ∷ ss) [] to f t = absurd (omega (arith, f))
 shippers_came passed (s ∷ ss) (q ∷ from) [] f t = absurd (omega (arith, t))
 shippers_came passed (s ∷ ss) (q ∷ from) (r ∷ to) f t = ap (λ xs. bodies_of (passed.taken q.0) ++ xs) (shippers_came passed ss from to (omega (arith, f)) (omega (arith, t)))
 
-shippers_went : (passed : Passed) (ss : List Sender) (from to : List QueueId) → length from ≡ length ss → length to ≡ length ss → went passed (flat_map shipper_ends (shippers ss from to)) ≡ bodies_at passed.sent (map (λ (q : QueueId). q.0) to)
+pub shippers_went : (passed : Passed) (ss : List Sender) (from to : List QueueId) → length from ≡ length ss → length to ≡ length ss → went passed (flat_map shipper_ends (shippers ss from to)) ≡ bodies_at passed.sent (map (λ (q : QueueId). q.0) to)
 shippers_went passed [] from [] f t = refl
 shippers_went passed [] from (r ∷ to) f t = absurd (omega (arith, t))
 shippers_went passed (s ∷ ss) [] to f t = absurd (omega (arith, f))

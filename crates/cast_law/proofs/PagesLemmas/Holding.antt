@@ -1,0 +1,104 @@
+-- Where the buffers of a cast at play are: all that is counted of them is in queues and with actors.
+use Rattle.std.proofs.Common.{◌≡◌, ◌+◌, ◌<◌, ℕ, zero, suc, Some, List, [], ◌∷◌, ◌++◌, drop, length, map, slice_get, slice_index_or, refl, sym, ap, ◌∙◌, subst, arith}
+use Rattle.std.specs.List.{sum_by}
+use Rattle.std.proofs.lemmas.List.Sums.{sum_by-cons}
+use Rattle.cargo_core.specs.declared.item.PoolId.{PoolId}
+use Rattle.cargo_core.specs.Lists.{IsPrefix}
+use Rattle.wire_core.specs.declared.names.QueueRow.{QueueRow}
+use Rattle.wire_core.specs.declared.names.Entry.{Entry}
+use Rattle.wire_core.specs.Deeds.{Cargo}
+use Rattle.wire_core.specs.Journal.{History}
+use Rattle.wire_core.specs.Lists.{Passed}
+use Rattle.wire_core.specs.Marks.{sum_below}
+use Rattle.wire_core.specs.Queues.{Queue, queue_at, end_at}
+use Rattle.play_core.specs.Sheets.{Scene, Sheet, AreApart}
+use Rattle.play_core.proofs.Lists.{map_from, some_is}
+use Rattle.owner_law.specs.Keeping.{Keeper, AreKeepers, keeper_of}
+use Rattle.owner_law.specs.Pools.Lines.{came, went}
+use Rattle.owner_law.proofs.Casts.{cast_keepers}
+use Rattle.buffer_kit.specs.Conserving.{Count, counted, weighed, Conserves}
+use Rattle.page_law.specs.Holders.{PageHolder, AreHeld, keeper, has, queue_has, now_counted, start_counted}
+use Rattle.page_law.proofs.ActorsLemmas.Pages.{same_sum, first_sum}
+use Rattle.page_law.proofs.LawLemmas.Summing.{whole}
+use Rattle.actor_set.specs.Parts.{Part}
+use Rattle.actor_set.specs.Actors.{ActorStandsFor, IsWhole, part_of}
+use Rattle.actor_set.specs.declared.actor.Actor.{Actor}
+use Rattle.actor_set.specs.Laws.Kinds.{sheet, scene_of}
+use Rattle.actor_set.proofs.LawsLemmas.Starts.{fits_whole}
+use Rattle.cast_law.specs.Pools.Pooling.{AreAtPlay}
+use Rattle.cast_law.specs.Pages.Paging.{AllStand, page_holder, page_holders, actor_weighs, cast_weighs, part_pools, pool_weighs, pools_weigh}
+use Rattle.cast_law.proofs.PoolsLemmas.Apart.{ends_apart}
+use Rattle.cast_law.proofs.PagesLemmas.Acting.{actor_conserves, start_weighs}
+
+-- a part's sheet without what it has
+abbrev bare : Scene → Part → Sheet
+bare scene p = record (sheet scene p) { hand = λ pool. [] }
+
+holders_same : (scene : Scene) (actors : List Actor) (passed : Passed) (stand : AllStand actors passed) → map (λ p. keeper_of (bare scene p)) (map part_of actors) ≡ map keeper (page_holders scene actors passed stand)
+holders_same scene [] passed stand = refl
+holders_same scene (x ∷ actors) passed stand = ap (λ (ks : List Keeper). keeper_of (bare scene (part_of x)) ∷ ks) (holders_same scene actors passed (λ k y at. stand (suc k) y at))
+
+holders_conserve : (scene : Scene) (actors : List Actor) (passed : Passed) (stand : AllStand actors passed) → ((k : ℕ) (x : Actor) → slice_get actors k ≡ Some x → IsWhole x) → (k : ℕ) (h : PageHolder) → slice_get (page_holders scene actors passed stand) k ≡ Some h → Conserves h.start (came passed h.ends) (went passed h.ends) h.hand h.kept
+holders_conserve scene [] passed stand fit k h at = cc
+holders_conserve scene (x ∷ actors) passed stand fit zero h at = subst (λ (y : PageHolder). Conserves y.start (came passed y.ends) (went passed y.ends) y.hand y.kept) (some_is at) (actor_conserves scene passed x (fit 0 x refl) (stand 0 x refl))
+holders_conserve scene (x ∷ actors) passed stand fit (suc k) h at = holders_conserve scene actors passed (λ j y there. stand (suc j) y there) (λ j y there. fit (suc j) y there) k h at
+
+has_weighs : (f : Count) (scene : Scene) (actors : List Actor) (passed : Passed) (stand : AllStand actors passed) → sum_by (has f) (page_holders scene actors passed stand) ≡ sum_by (actor_weighs f passed) actors
+has_weighs f scene [] passed stand = refl
+has_weighs f scene (x ∷ actors) passed stand =
+    let rest = page_holders scene actors passed (λ k y at. stand (suc k) y at) in
+    omega (arith, sum_by-cons (has f) (page_holder scene x passed (stand 0 x refl)) rest, sum_by-cons (actor_weighs f passed) x actors, has_weighs f scene actors passed (λ k y at. stand (suc k) y at))
+
+starts_weigh : (f : Count) (scene : Scene) (actors : List Actor) (passed : Passed) (stand : AllStand actors passed) → ((k : ℕ) (x : Actor) → slice_get actors k ≡ Some x → IsWhole x) → start_counted f (page_holders scene actors passed stand) ≡ pools_weigh f (map part_of actors)
+starts_weigh f scene [] passed stand fit = refl
+starts_weigh f scene (x ∷ actors) passed stand fit =
+    let rest = page_holders scene actors passed (λ k y at. stand (suc k) y at) in
+    omega (
+      arith,
+      sum_by-cons (λ (h : PageHolder). counted f h.start) (page_holder scene x passed (stand 0 x refl)) rest,
+      sum_by-cons (λ (p : Part). sum_by (pool_weighs f) (part_pools p)) (part_of x) (map part_of actors),
+      start_weighs passed f x (fit 0 x refl) (stand 0 x refl),
+      starts_weigh f scene actors passed (λ k y at. stand (suc k) y at) (λ k y at. fit (suc k) y at),
+    )
+
+rest_is : (xs ys : List Cargo) → drop (length xs) (xs ++ ys) ≡ ys
+rest_is [] ys = refl
+rest_is (x ∷ xs) ys = rest_is xs ys
+
+queues_weigh : (f : Count) (world : List Queue) → sum_below (λ n. weighed f (queue_at world n).entries) (length world) ≡ sum_by (λ (q : Queue). weighed f q.entries) world
+queues_weigh f [] = refl
+queues_weigh f (q ∷ world) =
+    omega (arith, first_sum (λ n. weighed f (queue_at (q ∷ world) n).entries) (length world), queues_weigh f world, sum_by-cons (λ (r : Queue). weighed f r.entries) q world)
+
+module _ (history : History) (rows : List QueueRow) (actors : List Actor) (journal : List Entry) (passed : Passed) (world : List Queue) (play : AreAtPlay history rows actors journal passed world) where
+  abbrev cast : List Part
+  cast = map part_of actors
+
+  abbrev scene : Scene
+  scene = scene_of cast
+
+  abbrev held : List PageHolder
+  held = page_holders scene actors passed play.stands
+
+  all_whole : (k : ℕ) (x : Actor) → slice_get actors k ≡ Some x → IsWhole x
+  all_whole k x at = fits_whole (end_at world) x (play.fits k x at)
+
+  pub cast_held : AreHeld rows held passed
+  cast_held = record {
+    ends = subst (AreKeepers rows) (holders_same scene actors passed play.stands)
+        (cast_keepers (bare scene) cast
+        (λ k p at. let x = map_from part_of actors k p at in subst (λ q. AreApart (sheet scene q).ends) x.2 (ends_apart (end_at world) scene x.0 (play.fits k x.0 x.1)))
+        rows play.seated play.filled play.peopled);
+    flows = λ n lt. ((queue_at world n).entries, sym (play.stands_there n));
+    conserve = holders_conserve scene actors passed play.stands all_whole;
+  }
+
+  pub cast_whole : (f : Count) → cast_weighs f passed world actors ≡ pools_weigh f cast
+  cast_whole f =
+      let all = whole f passed rows held cast_held in
+      let start = starts_weigh f scene actors passed play.stands all_whole in
+      let hands = has_weighs f scene actors passed play.stands in
+      let each = same_sum (queue_has f passed) (λ n. weighed f (queue_at world n).entries) (length rows) (λ n lt. ap (weighed f) (ap (drop (length (passed.taken n))) (play.stands_there n) ∙ rest_is (passed.taken n) (queue_at world n).entries)) in
+      let many = ap (sum_below (λ n. weighed f (queue_at world n).entries)) (sym play.size) in
+      let queues = queues_weigh f world in
+      omega (arith, all, start, hands, each, many, queues)

@@ -1,0 +1,2 @@
+-- Where the buffers of a cast at play are, one by one (Paging).
+pub mod Paging
