@@ -1,4 +1,4 @@
-use Rattle.std.proofs.Common.{◌≡◌, ℕ, true, false, eqb, List, [], ◌∷◌, length, Some, None, codes, refl}
+use Rattle.std.proofs.Common.{◌≡◌, ℕ, true, false, eqb, List, [], ◌∷◌, length, Some, None, codes, refl, ◌∙◌}
 use Rattle.sdf_plan.specs.declared.plan.Plan.{Plan}
 use Rattle.trace_text.specs.Texts.{parts_of, words_of, lines_of}
 use Rattle.trace_text.specs.Events.{Event, same_text, words_say, meaning, is_skipped, rx_line, in_line, send_line, say_line, disk_line, bytes_line, blk_order_line, blk_read_line, blk_write_line, blk_line, rogue_line}
@@ -98,6 +98,10 @@ blk_not_read plan a b c d h = rw h refl
 
 pub blk_write : (plan : Plan) (a b c d e : List ℕ) → same_text b (codes "write") ≡ true → blk_line plan a b (c ∷ d ∷ e ∷ []) ≡ blk_write_line plan a c d e
 blk_write plan a b c d e h = rw h refl
+
+pub six_write : (plan : Plan) (name a b c d e : List ℕ) → same_text name (codes "blk") ≡ true → same_text b (codes "write") ≡ true
+    → words_say plan (name ∷ a ∷ b ∷ c ∷ d ∷ e ∷ []) ≡ blk_write_line plan a c d e
+six_write plan name a b c d e h i = blk_named plan name a b c (d ∷ e ∷ []) h ∙ blk_write plan a b c d e i
 
 -- the words of a `blk` line are too many
 pub blk_too_many : (plan : Plan) (a b c d e text : List ℕ) → blk_line plan a b (c ∷ d ∷ e ∷ words_of text) ≡ None
