@@ -30,13 +30,16 @@ pub fn is_program_of(role: Role, program: &str) -> bool
         Role::NetCopier => program == "net_copier",
         Role::NetClient => program == "net_sink"
             || program == "net_source"
-            || program == "net_echo",
+            || program == "net_echo"
+            || program == "net_rogue",
         Role::SerialDriver => program == "uart_driver",
         Role::SerialRxVirt => program == "serial_virt_rx",
         Role::SerialTxVirt => program == "serial_virt_tx",
-        Role::SerialClient => program == "serial_reader" || program == "serial_speaker",
+        Role::SerialClient => program == "serial_reader"
+            || program == "serial_speaker"
+            || program == "serial_rogue",
         Role::BlkDriver => program == "blk_driver",
         Role::BlkVirt => program == "blk_virt",
-        Role::BlkClient => program == "blk_script",
+        Role::BlkClient => program == "blk_script" || program == "blk_rogue",
     }
 }

@@ -1,7 +1,8 @@
-use Rattle.std.proofs.Common.{◌≡◌, inl, inr, ◌<◌, ◌≤◌, ◌+◌, ℕ, List, ◌++◌, ◌∷◌, length, take, drop, refl, sym, ap, ◌∙◌, subst, append_assoc, codes, decimal, arith, Option, Result, Ok, Err, IfOk}
+use Rattle.std.proofs.Common.{◌≡◌, inl, inr, ◌<◌, ◌≤◌, ◌+◌, ℕ, List, ◌++◌, ◌∷◌, length, take, drop, refl, sym, ap, ◌∙◌, subst, append_assoc, codes, decimal, arith, Option, Some, None, Result, Ok, Err, IfOk}
 use Rattle.std.proofs.lemmas.Bool.{cases_lt}
 use Rattle.std.proofs.lemmas.Fmt.{decimal_injective}
 use Rattle.std.proofs.lemmas.List.{take-append-drop, take-take}
+use Rattle.sdf_plan.specs.declared.place.Place.{Place}
 use Rattle.sdf_plan.specs.declared.place.Refusal.{Refusal}
 use Rattle.sdf_plan.specs.declared.plan.Plan.{Plan}
 use Rattle.trace_text.specs.declared.trace.Trace.{Trace}
@@ -16,7 +17,8 @@ use Rattle.decision_core.specs.declared.showing.Asked.TheVariants as Ask
 use Rattle.decision_core.specs.declared.showing.Showing.TheVariants as Show
 use Rattle.workload.specs.Generated.{generated_text}
 use Rattle.workload.specs.declared.description.TheConstants.{FULL_EXAMPLE}
-use Rattle.decision_core.specs.Decisions.{Decision, Say, Play, Run, asked_on, AsksFor, to_play, to_run, TraceDecides, PlanDecides, TextDecides, GeneratedDecides, Decides, NamesDescription, refuses, long_trace, bad_trace, good_trace, checked, laid_out, traced, long_description, refused, accepted, no_command, described, generated}
+use Rattle.decision_core.specs.Decisions.{Decision, Say, Play, Run, asked_on, AsksFor, to_play, to_run, TraceDecides, PlanDecides, TextDecides, GeneratedDecides, Decides, NamesDescription, refuses, refuses_rogue, long_trace, bad_trace, good_trace, checked, laid_out, hostile, traced, long_description, refused, accepted, no_command, described, generated}
+use Rattle.decision_core.specs.Rogues.{first_rogue}
 use Rattle.shelf_core.specs.Reading.{WasRead}
 use Rattle.command_words.specs.declared.command.Options.{Options}
 use Rattle.command_words.specs.Words.{IsPlay, IsRun}
@@ -126,6 +128,16 @@ agrees-asked words desc trace desc' trace' _ _ (to_run n p) (to_run n' q) plan t
 agrees-refused : (r r' : Refusal) → r ≡ r' → Agrees (refuses r) (refuses r')
 agrees-refused r r' e = let f = ap refuses e in (cc, cc)
 
+-- there is one first hostile client
+same-rogue : (plan : Plan) (p q : Place) → first_rogue plan ≡ Some p → first_rogue plan ≡ Some q → p ≡ q
+same-rogue plan p q h i = cc
+
+rogue-or-none : (plan : Plan) (p : Place) → first_rogue plan ≡ Some p → first_rogue plan ≡ None → ⊥
+rogue-or-none plan p h i = cc
+
+agrees-rogue : (p q : Place) → p ≡ q → Agrees (refuses_rogue p) (refuses_rogue q)
+agrees-rogue p q e = agrees-refused (record { rule = 0; place = p }) (record { rule = 0; place = q }) (ap (λ x. record { rule = 0; place = x }) e)
+
 long-or-short : (xs : List ℕ) → 16777216 < length xs → length xs ≤ 16777216 → ⊥
 long-or-short xs long short = omega arith
 
@@ -191,14 +203,21 @@ module _ (R S : List ℕ → List ℕ → Type 0) (same : (name a b : List ℕ) 
   -- what the words decide for a plan
   one-plan : (plan : Plan) (d d' : Decision) → PlanDecides R words plan d → PlanDecides S words plan d' → Agrees d d'
   one-plan plan _ _ (checked desc c) (checked desc' c') = (refl, refl)
+  one-plan plan _ _ (checked desc c) (hostile desc' trace' o' place' p' f') = absurd (check-or-traced words desc desc' trace' o' c p')
+  one-plan plan _ _ (laid_out desc l) (hostile desc' trace' o' place' p' f') = absurd (layout-or-traced words desc desc' trace' o' l p')
+  one-plan plan _ _ (hostile desc trace o place p f) (checked desc' c') = absurd (check-or-traced words desc' desc trace o c' p)
+  one-plan plan _ _ (hostile desc trace o place p f) (laid_out desc' l') = absurd (layout-or-traced words desc' desc trace o l' p)
+  one-plan plan _ _ (hostile desc trace o place p f) (hostile desc' trace' o' place' p' f') = agrees-rogue place place' (same-rogue plan place place' f f')
+  one-plan plan _ _ (hostile desc trace o place p f) (traced desc' trace' bytes' o' d' p' f' r' t') = absurd (rogue-or-none plan place f f')
+  one-plan plan _ _ (traced desc trace bytes o d p f r t) (hostile desc' trace' o' place' p' f') = absurd (rogue-or-none plan place' f' f)
   one-plan plan _ _ (checked desc c) (laid_out desc' l') = absurd (check-or-layout words desc desc' c l')
-  one-plan plan _ _ (checked desc c) (traced desc' trace' bytes' o' d' p' r' t') = absurd (check-or-traced words desc desc' trace' o' c p')
+  one-plan plan _ _ (checked desc c) (traced desc' trace' bytes' o' d' p' f' r' t') = absurd (check-or-traced words desc desc' trace' o' c p')
   one-plan plan _ _ (laid_out desc l) (checked desc' c') = absurd (check-or-layout words desc' desc c' l)
   one-plan plan _ _ (laid_out desc l) (laid_out desc' l') = (refl, refl)
-  one-plan plan _ _ (laid_out desc l) (traced desc' trace' bytes' o' d' p' r' t') = absurd (layout-or-traced words desc desc' trace' o' l p')
-  one-plan plan _ _ (traced desc trace bytes o d p r t) (checked desc' c') = absurd (check-or-traced words desc' desc trace o c' p)
-  one-plan plan _ _ (traced desc trace bytes o d p r t) (laid_out desc' l') = absurd (layout-or-traced words desc' desc trace o l' p)
-  one-plan plan _ _ (traced desc trace bytes o d p r t) (traced desc' trace' bytes' o' d' p' r' t') =
+  one-plan plan _ _ (laid_out desc l) (traced desc' trace' bytes' o' d' p' f' r' t') = absurd (layout-or-traced words desc desc' trace' o' l p')
+  one-plan plan _ _ (traced desc trace bytes o d p f r t) (checked desc' c') = absurd (check-or-traced words desc' desc trace o c' p)
+  one-plan plan _ _ (traced desc trace bytes o d p f r t) (laid_out desc' l') = absurd (layout-or-traced words desc' desc trace o l' p)
+  one-plan plan _ _ (traced desc trace bytes o d p f r t) (traced desc' trace' bytes' o' d' p' f' r' t') =
       let b : bytes ≡ bytes' = same trace' bytes bytes' (subst (λ n. R n bytes) (same-trace words desc trace desc' trace' o o' p p') r) r' in
       one-trace plan o o' (λ t. agrees-asked words desc trace desc' trace' o o' p p' plan t) bytes' d d' (subst (λ x. TraceDecides plan o x d) b t) t'
 
@@ -223,7 +242,8 @@ pub plan-read : (R S : List ℕ → List ℕ → Type 0) → ((name bytes : List
     → PlanDecides R words plan d → PlanDecides S words plan d
 plan-read R S m words plan _ (checked desc c) = checked desc c
 plan-read R S m words plan _ (laid_out desc l) = laid_out desc l
-plan-read R S m words plan _ (traced desc trace bytes o d p r t) = traced desc trace bytes o d p (m trace bytes r) t
+plan-read R S m words plan _ (hostile desc trace o place p f) = hostile desc trace o place p f
+plan-read R S m words plan _ (traced desc trace bytes o d p f r t) = traced desc trace bytes o d p f (m trace bytes r) t
 
 pub text-read : (P Q : Plan → Decision → Type 0) → ((plan : Plan) (d : Decision) → P plan d → Q plan d) → (bytes : List ℕ) (d : Decision)
     → TextDecides P bytes d → TextDecides Q bytes d

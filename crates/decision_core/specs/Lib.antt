@@ -5,3 +5,4 @@ pub mod Decisions
 pub mod Generating
 pub mod Judged
 pub mod Readings
+pub mod Rogues

@@ -1,7 +1,8 @@
 //! What the words and the texts under their names decide, one function for each stage: words,
 //! description, plan, trace.
-ghost use Rattle.std.specs.Prelude.{◌≡◌, Err, IfOk, ℕ, List};
+ghost use Rattle.std.specs.Prelude.{◌≡◌, Err, IfOk, ℕ, List, None};
 ghost use Rattle.sdf_plan.specs.declared.place.Refusal.{Refusal};
+ghost use Rattle.sdf_plan.specs.Elements.{IsNumbered};
 ghost use Rattle.region_layout.specs.Layouts.{layout_of};
 ghost use Rattle.report_text.specs.Answers.{usage_text, accepted_text, bad_trace_text};
 ghost use Rattle.report_text.specs.Layouts.{layout_text};
@@ -16,8 +17,10 @@ ghost use Rattle.decision_core.specs.Generating.{IsSummary};
 ghost use Rattle.shelf_core.specs.Reading.{WasRead};
 ghost use Rattle.decision_core.specs.Readings.{LeavesPlan, LeavesText, ReadLast};
 ghost use Rattle.decision_core.specs.Readings.{OpensTrace, OpensText, OpensInTurn};
+ghost use Rattle.decision_core.specs.Rogues.{first_rogue};
 
 use crate::judging::judge;
+use crate::rogues::first_rogue;
 use crate::{Asked, Showing, Status};
 use cargo_core::Memory;
 use command_words::{Command, read_words};
@@ -156,7 +159,9 @@ fn decide_named<F: Shelf>(
     plan: Plan,
     asked: Asked,
 ) -> Result<Decided, ReadStop>
-    requires { (desc : List ℕ) × (trace : List ℕ) × AsksFor (texts_of words.now) desc trace asked }
+    requires friendly { first_rogue plan ≡ None }
+    requires asks { (desc : List ℕ) × (trace : List ℕ)
+        × AsksFor (texts_of words.now) desc trace asked }
     ensures decides { IfOk result (λ d. PlanDecides (WasRead (F.text shelf.old))
         (texts_of words.now) plan (decision_of d)) }
     ensures reads { ReadsFrom F.text F.left F.opens F.faults F.failed
@@ -165,6 +170,31 @@ fn decide_named<F: Shelf>(
 {
     let bytes = read_text(alloc, shelf, words[2].as_str())?;
     Ok(decide_trace(alloc, plan, asked, bytes.as_slice())?)
+}
+
+/// What a play or a run decides for a plan: that it is refused where there is a hostile client, or
+/// what the trace that the words name decides.
+fn decide_asked<F: Shelf>(
+    alloc: Global,
+    shelf: &mut F,
+    words: &[String],
+    plan: Plan,
+    asked: Asked,
+) -> Result<Decided, ReadStop>
+    requires numbered { IsNumbered plan }
+    requires asks { (desc : List ℕ) × (trace : List ℕ)
+        × AsksFor (texts_of words.now) desc trace asked }
+    ensures decides { IfOk result (λ d. PlanDecides (WasRead (F.text shelf.old))
+        (texts_of words.now) plan (decision_of d)) }
+    ensures reads { ReadsFrom F.text F.left F.opens F.faults F.failed
+        (OpensTrace (texts_of words.now))
+        (OfEach (LeavesPlan (F.text shelf.old) (texts_of words.now))) shelf.old shelf.new result }
+{
+    let rogue = first_rogue(alloc, &plan)?;
+    match rogue {
+        Some(place) => Ok(say_refusal(alloc, Refusal { rule: 0, place })?),
+        None => decide_named(alloc, shelf, words, plan, asked),
+    }
 }
 
 /// What a command decides for the plan of a description that is accepted.
@@ -176,6 +206,7 @@ fn decide_plan<F: Shelf>(
     plan: Plan,
 ) -> Result<Decided, ReadStop>
     requires accepted { IsAcceptedPlan plan }
+    requires numbered { IsNumbered plan }
     requires spells { Spells (texts_of words.now) command }
     requires named { (n : ℕ) → command ≡ Command.Gen n → ⊥ }
     ensures decides { IfOk result (λ d. PlanDecides (WasRead (F.text shelf.old))
@@ -188,7 +219,7 @@ fn decide_plan<F: Shelf>(
         Command::Check => Ok(say_accepted(alloc, plan)?),
         Command::Layout => Ok(say_layout(alloc, plan)?),
         Command::Play(options) => {
-            decide_named(
+            decide_asked(
                 alloc,
                 shelf,
                 words,
@@ -196,7 +227,7 @@ fn decide_plan<F: Shelf>(
                 Asked::Play(Showing::Report(options)),
             )
         }
-        Command::Run(steps) => decide_named(alloc, shelf, words, plan, Asked::Run(steps)),
+        Command::Run(steps) => decide_asked(alloc, shelf, words, plan, Asked::Run(steps)),
         Command::Gen(_) => unreachable!(),
     }
 }

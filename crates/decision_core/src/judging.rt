@@ -1,6 +1,7 @@
 //! A description is judged by all rules.
 ghost use Rattle.std.specs.Prelude.{◌≡◌, ◌≤◌, Err, IfOk, length};
 ghost use Rattle.sdf_plan.specs.declared.place.Refusal.{Refusal};
+ghost use Rattle.sdf_plan.specs.Elements.{IsNumbered};
 ghost use Rattle.sdf_model.specs.Counts.{text_most};
 ghost use Rattle.decision_core.specs.Judged.{IsAccepted, IsRefusedText};
 
@@ -14,6 +15,7 @@ use std::alloc::Global;
 pub fn judge(alloc: Global, text: &[u8]) -> Result<Plan, SdfFault>
     requires { length text.now ≤ text_most }
     ensures accepted { IfOk result (IsAccepted text.now) }
+    ensures numbered { IfOk result IsNumbered }
     ensures refused { (refusal : Refusal) → result ≡ Err (SdfFault.Refused refusal)
         → IsRefusedText text.now refusal }
 {

@@ -3,6 +3,7 @@
 
 mod deciding;
 mod judging;
+mod rogues;
 mod showing;
 mod status;
 

@@ -88,7 +88,17 @@ counts_of plan trace = record {
 
 -- a trace that gives nothing
 abbrev pub no_trace : Trace
-no_trace = record { frames = []; input = []; sends = []; says = []; asks = []; image = [] }
+no_trace = record {
+  frames = [];
+  input = [];
+  sends = [];
+  says = [];
+  asks = [];
+  image = [];
+  net_acts = [];
+  serial_acts = [];
+  blk_acts = [];
+}
 
 -- how many steps are enough for a play of this plan and trace
 abbrev pub budget_of : Plan → Trace → ℕ

@@ -2,7 +2,7 @@
 ghost use Rattle.sdf_check.specs.Valid.{Valid};
 ghost use Rattle.trace_text.specs.Traces.{IsReadFor};
 
-use cargo_core::{Ask, Bytes, FrameLog, Memory, Series};
+use cargo_core::{Act, Ask, Bytes, FrameLog, Memory, Series};
 use expect_core::budget;
 use report_text::write_bad_trace;
 use sdf_plan::Plan;
@@ -94,6 +94,38 @@ fn add_requests(to: &mut String, asks: &Series<Series<Ask>>) -> Result<(), Memor
     Ok(())
 }
 
+// Acts: their number, and the first four of them.
+fn add_acts(to: &mut String, acts: &[Act]) -> Result<(), Memory> {
+    write!(to, " ( {}", acts.len())?;
+    for act in &acts[..acts.len().min(4)] {
+        write!(to, " {act:?}")?;
+    }
+    to.push_str(" )")?;
+    Ok(())
+}
+
+// The acts of each client of each class; nothing where there are none.
+fn add_rogues(to: &mut String, trace: &Trace) -> Result<(), Memory> {
+    to.push_str(" acts net")?;
+    for client in 0..trace.net_acts.len() {
+        add_acts(to, trace.acts(0, client as u32))?;
+    }
+    to.push_str(" serial")?;
+    for client in 0..trace.serial_acts.len() {
+        add_acts(to, trace.acts(1, client as u32))?;
+    }
+    to.push_str(" blk")?;
+    for client in 0..trace.blk_acts.len() {
+        add_acts(to, trace.acts(2, client as u32))?;
+    }
+    Ok(())
+}
+
+// Whether a client has acts.
+fn has_acts(lists: &Series<Series<Act>>) -> bool {
+    lists.as_slice().iter().any(|acts| !acts.is_empty())
+}
+
 // What a trace gives, and its budget.
 fn describe(alloc: Global, plan: &Plan, trace: &Trace) -> Result<String, Memory>
     requires valid { Valid plan.now }
@@ -108,6 +140,9 @@ fn describe(alloc: Global, plan: &Plan, trace: &Trace) -> Result<String, Memory>
     add_requests(&mut line, &trace.asks)?;
     line.push_str(" image")?;
     add_bytes(alloc, &mut line, trace.image())?;
+    if has_acts(&trace.net_acts) || has_acts(&trace.serial_acts) || has_acts(&trace.blk_acts) {
+        add_rogues(&mut line, trace)?;
+    }
     write!(line, " budget {}\n", budget(plan, trace))?;
     Ok(line)
 }

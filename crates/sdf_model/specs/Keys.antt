@@ -155,10 +155,11 @@ keys_at (At.BlkClient c) = blk_client_keys
 abbrev pub programs : List (List ℕ)
 programs =
     codes "eth_driver" ∷ codes "net_virt_rx" ∷ codes "net_virt_tx" ∷ codes "net_copier"
-    ∷ codes "net_sink" ∷ codes "net_source" ∷ codes "net_echo"
+    ∷ codes "net_sink" ∷ codes "net_source" ∷ codes "net_echo" ∷ codes "net_rogue"
     ∷ codes "uart_driver" ∷ codes "serial_virt_rx" ∷ codes "serial_virt_tx"
-    ∷ codes "serial_reader" ∷ codes "serial_speaker"
-    ∷ codes "blk_driver" ∷ codes "blk_virt" ∷ codes "blk_script" ∷ codes "idle" ∷ []
+    ∷ codes "serial_reader" ∷ codes "serial_speaker" ∷ codes "serial_rogue"
+    ∷ codes "blk_driver" ∷ codes "blk_virt" ∷ codes "blk_script" ∷ codes "blk_rogue"
+    ∷ codes "idle" ∷ []
 
 -- one of the texts
 abbrev pub is_among : List (List ℕ) → List ℕ → Bool

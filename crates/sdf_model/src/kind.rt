@@ -10,7 +10,7 @@ use crate::key::Kind;
 use toml::Value;
 
 /// The programs that a domain may run.
-const PROGRAMS: [&str; 16] = [
+const PROGRAMS: [&str; 19] = [
     "eth_driver",
     "net_virt_rx",
     "net_virt_tx",
@@ -18,14 +18,17 @@ const PROGRAMS: [&str; 16] = [
     "net_sink",
     "net_source",
     "net_echo",
+    "net_rogue",
     "uart_driver",
     "serial_virt_rx",
     "serial_virt_tx",
     "serial_reader",
     "serial_speaker",
+    "serial_rogue",
     "blk_driver",
     "blk_virt",
     "blk_script",
+    "blk_rogue",
     "idle",
 ];
 

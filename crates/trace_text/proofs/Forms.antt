@@ -9,7 +9,7 @@ use Rattle.frame_core.specs.Frames.{is_frame_of}
 use Rattle.trace_text.specs.Limits.{frame_most}
 use Rattle.trace_text.specs.declared.reader.Reader.{Reader}
 use Rattle.trace_text.specs.Texts.{number_of, data_of}
-use Rattle.trace_text.specs.Events.{Event, net_clients, serial_clients, blk_clients, is_source, is_speaker, is_blk_client, is_reach, bare_ask, order_code, rx_line, in_line, send_line, say_line, disk_line, bytes_line, blk_order_line, blk_read_line, blk_write_line}
+use Rattle.trace_text.specs.Events.{Event, net_clients, serial_clients, blk_clients, is_source, is_speaker, is_script, is_reach, bare_ask, order_code, rx_line, in_line, send_line, say_line, disk_line, bytes_line, blk_order_line, blk_read_line, blk_write_line}
 use Rattle.trace_text.specs.Reading.{after_line, is_refused, reader_with}
 use Rattle.trace_text.proofs.Judged.{Fails, judged_none, number_none, data_none, kept_none, kept_taken}
 
@@ -82,27 +82,27 @@ unfolding bytes_line
 bytes_taken r plan place word at bytes n e holds taken = rw (n, e) (kept_taken r _ (Event.Patch at bytes) holds taken)
 
 pub order_none : (r : Reader) (plan : Plan) (client order : List ℕ)
-    → ((c : ℕ) (code : Code) → number_of client ≡ Some c → order_code order ≡ Some code → Fails r (is_blk_client plan c) (Event.Request c (bare_ask code 0 0)))
+    → ((c : ℕ) (code : Code) → number_of client ≡ Some c → order_code order ≡ Some code → Fails r (is_script plan c) (Event.Request c (bare_ask code 0 0)))
     → after_line r (blk_order_line plan client order) ≡ None
 unfolding blk_order_line
 order_none r plan client order h =
     number_none r client _ (λ c n. judged_none r (order_code order) _ (λ code e. kept_none r _ (Event.Request c (bare_ask code 0 0)) (h c code n e)))
 
-pub order_taken : (r : Reader) (plan : Plan) (client order : List ℕ) (c : ℕ) (code : Code) → number_of client ≡ Some c → order_code order ≡ Some code → is_blk_client plan c ≡ true
+pub order_taken : (r : Reader) (plan : Plan) (client order : List ℕ) (c : ℕ) (code : Code) → number_of client ≡ Some c → order_code order ≡ Some code → is_script plan c ≡ true
     → is_refused r (Event.Request c (bare_ask code 0 0)) ≡ false → after_line r (blk_order_line plan client order) ≡ Some (reader_with r (Event.Request c (bare_ask code 0 0)))
 unfolding blk_order_line
 order_taken r plan client order c code n e holds taken = rw (n, e) (kept_taken r _ (Event.Request c (bare_ask code 0 0)) holds taken)
 
 pub read_none : (r : Reader) (plan : Plan) (client first many : List ℕ)
     → ((c block count : ℕ) → number_of client ≡ Some c → number_of first ≡ Some block → number_of many ≡ Some count
-    → Fails r (is_blk_client plan c && is_reach block count) (Event.Request c (bare_ask Asked.Read block count)))
+    → Fails r (is_script plan c && is_reach block count) (Event.Request c (bare_ask Asked.Read block count)))
     → after_line r (blk_read_line plan client first many) ≡ None
 unfolding blk_read_line
 read_none r plan client first many h =
     number_none r client _ (λ c n. number_none r first _ (λ block b. number_none r many _ (λ count m. kept_none r _ (Event.Request c (bare_ask Asked.Read block count)) (h c block count n b m))))
 
 pub read_taken : (r : Reader) (plan : Plan) (client first many : List ℕ) (c block count : ℕ) → number_of client ≡ Some c → number_of first ≡ Some block → number_of many ≡ Some count
-    → (is_blk_client plan c && is_reach block count) ≡ true → is_refused r (Event.Request c (bare_ask Asked.Read block count)) ≡ false
+    → (is_script plan c && is_reach block count) ≡ true → is_refused r (Event.Request c (bare_ask Asked.Read block count)) ≡ false
     → after_line r (blk_read_line plan client first many) ≡ Some (reader_with r (Event.Request c (bare_ask Asked.Read block count)))
 unfolding blk_read_line
 read_taken r plan client first many c block count n b m holds taken = rw (n, b, m) (kept_taken r _ (Event.Request c (bare_ask Asked.Read block count)) holds taken)
@@ -112,14 +112,14 @@ write_ask block count bytes = record { code = Asked.Write; block = block; count 
 
 pub write_none : (r : Reader) (plan : Plan) (client first many word : List ℕ)
     → ((c block count : ℕ) (bytes : List ℕ) → number_of client ≡ Some c → number_of first ≡ Some block → number_of many ≡ Some count → data_of word ≡ Some bytes
-    → Fails r (is_blk_client plan c && is_reach block count && eqb (length bytes) (count * 4096)) (Event.Request c (write_ask block count bytes)))
+    → Fails r (is_script plan c && is_reach block count && eqb (length bytes) (count * 4096)) (Event.Request c (write_ask block count bytes)))
     → after_line r (blk_write_line plan client first many word) ≡ None
 unfolding blk_write_line
 write_none r plan client first many word h =
     number_none r client _ (λ c n. number_none r first _ (λ block b. number_none r many _ (λ count m. data_none r word _ (λ bytes e. kept_none r _ (Event.Request c (write_ask block count bytes)) (h c block count bytes n b m e)))))
 
 pub write_taken : (r : Reader) (plan : Plan) (client first many word : List ℕ) (c block count : ℕ) (bytes : List ℕ) → number_of client ≡ Some c → number_of first ≡ Some block
-    → number_of many ≡ Some count → data_of word ≡ Some bytes → (is_blk_client plan c && is_reach block count && eqb (length bytes) (count * 4096)) ≡ true
+    → number_of many ≡ Some count → data_of word ≡ Some bytes → (is_script plan c && is_reach block count && eqb (length bytes) (count * 4096)) ≡ true
     → is_refused r (Event.Request c (write_ask block count bytes)) ≡ false → after_line r (blk_write_line plan client first many word) ≡ Some (reader_with r (Event.Request c (write_ask block count bytes)))
 unfolding blk_write_line
 write_taken r plan client first many word c block count bytes n b m e holds taken = rw (n, b, m, e) (kept_taken r _ (Event.Request c (write_ask block count bytes)) holds taken)
@@ -133,9 +133,9 @@ pub no_speaker : (plan : Plan) (c : ℕ) → length (serial_clients plan) ≤ c 
 unfolding is_speaker
 no_speaker plan c past = rw (slice_get_past (serial_clients plan) c past) refl
 
-pub no_blk_client : (plan : Plan) (c : ℕ) → length (blk_clients plan) ≤ c → is_blk_client plan c ≡ false
-unfolding is_blk_client
-no_blk_client plan c past = rw (slice_get_past (blk_clients plan) c past) refl
+pub no_script : (plan : Plan) (c : ℕ) → length (blk_clients plan) ≤ c → is_script plan c ≡ false
+unfolding is_script
+no_script plan c past = rw (slice_get_past (blk_clients plan) c past) refl
 
 -- what the tests of orders give
 pub is_above : (a b : ℕ) → a < b → ltb a b ≡ true

@@ -4,6 +4,7 @@ pub mod Pieces
 pub mod NewReader
 pub mod Judged
 pub mod Forms
+pub mod Acting
 pub mod Words
 pub mod Grown
 pub mod SoFar

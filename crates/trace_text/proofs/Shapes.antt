@@ -1,24 +1,26 @@
-use Rattle.std.proofs.Common.{◌≡◌, ℕ, zero, suc, ◌+◌, ◌-◌, ◌*◌, ◌/◌, ◌%◌, ◌<◌, ◌≤◌, Bool, true, false, cond, eqb, leb, ltb, ◌&&◌, ◌||◌, List, [], ◌∷◌, ◌++◌, length, replicate, count_by, Option, Some, None, is_some, get_or, take, drop, refl, ap, sym, ◌∙◌, arith, add-one, codes, MatchOption, IfSome, All, length-append, length-take-le, length-drop}
+use Rattle.std.proofs.Common.{◌≡◌, ℕ, inl, inr, zero, suc, ◌+◌, ◌-◌, ◌*◌, ◌/◌, ◌%◌, ◌<◌, ◌≤◌, Bool, true, false, cond, eqb, leb, ltb, ◌&&◌, ◌||◌, List, [], ◌∷◌, ◌++◌, length, count_by, Option, Some, None, is_some, get_or, take, drop, refl, ap, sym, ◌∙◌, arith, add-one, codes, MatchOption, IfSome, All, length-append, length-take-le, length-drop}
 use Rattle.std.specs.List.{flat_map, filter_map, cons_option}
-use Rattle.std.specs.Option.{option_to_list, option_and_then}
-use Rattle.std.proofs.lemmas.Bool.{leb-true, ltb-false, eqb-true, and_parts}
+use Rattle.std.specs.Option.{option_to_list, option_and_then, option_map}
+use Rattle.std.proofs.lemmas.Bool.{cases_Bool, leb-true, ltb-true, ltb-false, eqb-true, and_parts}
 use Rattle.std.proofs.lemmas.List.Elements.{All-nil, All-cons, All-head, All-tail, All-append}
 use Rattle.std.proofs.lemmas.List.{length-replicate}
 use Rattle.std.proofs.lemmas.Nat.{div-add-mod'}
 use Rattle.std.proofs.lemmas.Option.{slice_get-get_or}
 use Rattle.cargo_core.specs.Lists.{replaced}
-use Rattle.cargo_core.specs.declared.item.Ask.{Ask}
+use Rattle.cargo_core.specs.declared.act.Act.{Act}
 use Rattle.cargo_core.specs.declared.item.Code.{Code}
 use Rattle.cargo_core.specs.declared.item.Code.TheVariants as Asked
 use Rattle.frame_core.specs.Frames.{is_frame_of}
 use Rattle.trace_text.specs.Limits.{frame_most}
 use Rattle.sdf_plan.specs.declared.plan.Plan.{Plan}
 use Rattle.sdf_plan.specs.declared.plan.Blk.{Blk}
+use Rattle.trace_text.specs.declared.class.Class.{Class}
+use Rattle.trace_text.specs.declared.class.Class.TheVariants as Of
 use Rattle.trace_text.specs.declared.trace.Trace.{Trace}
 use Rattle.trace_text.specs.Texts.{lines_of, words_of, number_of, data_of}
-use Rattle.trace_text.specs.Events.{Event, same_text, kept_if, is_source, is_speaker, is_blk_client, is_reach, bare_ask, order_code, rx_line, in_line, send_line, say_line, disk_line, bytes_line, blk_order_line, blk_read_line, blk_write_line, words_say, is_skipped, meaning, net_clients, blk_clients}
-use Rattle.trace_text.specs.Traces.{per_client, frames_in, sends_in, asks_in, image_after, image_of, trace_from, trace_of, is_disk_line, is_out_of_place, is_bad_after, events_before, HasNoBadLine, IsReadFor}
-use Rattle.trace_text.specs.Shapes.{IsFrame, IsDisk, NamesBlocks, IsAsk, HasShapes}
+use Rattle.trace_text.specs.Events.{Event, same_text, kept_if, is_source, is_script, is_reach, bare_ask, rx_line, in_line, send_line, say_line, disk_line, bytes_line, blk_order_line, blk_read_line, blk_write_line, blk_line, class_of, number_where, inputs_of, is_input, is_output, is_queue, is_place, is_value, word_named, take_said, put_said, give_said, store_said, act_said, is_rogue, rogue_line, words_say, is_skipped, meaning, net_clients, serial_clients, blk_clients}
+use Rattle.trace_text.specs.Traces.{per_client, frames_in, sends_in, asks_in, acts_in, is_same_class, image_after, image_of, trace_from, trace_of, is_disk_line, is_out_of_place, is_bad_after, events_before, HasNoBadLine, IsReadFor}
+use Rattle.trace_text.specs.Shapes.{IsFrame, IsDisk, IsAsk, IsActOn, HasShapes}
 use Rattle.trace_text.proofs.Forms.{equal_length}
 use Rattle.trace_text.proofs.Grown.{sum_more, image_more}
 use Rattle.trace_text.proofs.SoFar.{events_more, bad_line, bad_end, no_events}
@@ -34,6 +36,7 @@ IsShaped plan (Event.Rx frame) = IsFrame frame
 IsShaped plan (Event.Send c frame) = IsFrame frame
 IsShaped plan (Event.Disk n) = IsSectors plan n
 IsShaped plan (Event.Request c ask) = IsAsk ask
+IsShaped plan (Event.Rogue class c act) = IsActOn class act
 IsShaped plan _ = Unit {0}
 
 if-says : (P : Event → Type 0) (b : Bool) (one other : Option Event) → IfSome one P → IfSome other P → IfSome (cond b one other) P
@@ -93,11 +96,11 @@ unfolding bytes_line
 bytes-shape plan place word =
     then-says (IsShaped plan) _ (number_of place) (λ at _. then-says (IsShaped plan) _ (data_of word) (λ bytes _. kept-says (IsShaped plan) _ (Event.Patch at bytes) (λ h. tt)))
 
-flush-shape : (plan : Plan) (c : ℕ) → IfSome (kept_if (is_blk_client plan c) (Some (Event.Request c (bare_ask Asked.Flush 0 0)))) (IsShaped plan)
-flush-shape plan c = kept-says (IsShaped plan) (is_blk_client plan c) _ (λ h. (refl, refl, refl))
+flush-shape : (plan : Plan) (c : ℕ) → IfSome (kept_if (is_script plan c) (Some (Event.Request c (bare_ask Asked.Flush 0 0)))) (IsShaped plan)
+flush-shape plan c = kept-says (IsShaped plan) (is_script plan c) _ (λ h. (refl, refl, refl))
 
-barrier-shape : (plan : Plan) (c : ℕ) → IfSome (kept_if (is_blk_client plan c) (Some (Event.Request c (bare_ask Asked.Barrier 0 0)))) (IsShaped plan)
-barrier-shape plan c = kept-says (IsShaped plan) (is_blk_client plan c) _ (λ h. (refl, refl, refl))
+barrier-shape : (plan : Plan) (c : ℕ) → IfSome (kept_if (is_script plan c) (Some (Event.Request c (bare_ask Asked.Barrier 0 0)))) (IsShaped plan)
+barrier-shape plan c = kept-says (IsShaped plan) (is_script plan c) _ (λ h. (refl, refl, refl))
 
 -- what follows from a code that is one of two, if one at all
 code-says : (P : Event → Type 0) (f : Code → Option Event) (flush barrier : Bool) → IfSome (f Asked.Flush) P → IfSome (f Asked.Barrier) P
@@ -110,7 +113,7 @@ order-shape : (plan : Plan) (client order : List ℕ) → IfSome (blk_order_line
 unfolding blk_order_line
 order-shape plan client order =
     then-says (IsShaped plan) _ (number_of client) (λ c _. code-says (IsShaped plan)
-    (λ code. kept_if (is_blk_client plan c) (Some (Event.Request c (bare_ask code 0 0)))) (same_text order (codes "flush")) (same_text order (codes "barrier"))
+    (λ code. kept_if (is_script plan c) (Some (Event.Request c (bare_ask code 0 0)))) (same_text order (codes "flush")) (same_text order (codes "barrier"))
     (flush-shape plan c) (barrier-shape plan c))
 
 reach-shape : (block count : ℕ) → is_reach block count ≡ true → (block ≤ 4294967295) × (1 ≤ count) × (count ≤ 8)
@@ -123,15 +126,113 @@ read-shape : (plan : Plan) (client first many : List ℕ) → IfSome (blk_read_l
 unfolding blk_read_line
 read-shape plan client first many =
     then-says (IsShaped plan) _ (number_of client) (λ c _. then-says (IsShaped plan) _ (number_of first) (λ block _. then-says (IsShaped plan) _ (number_of many) (λ count _.
-    kept-says (IsShaped plan) _ (Event.Request c (bare_ask Asked.Read block count)) (λ h. (reach-shape block count (and_parts (is_blk_client plan c) (is_reach block count) h).1, refl)))))
+    kept-says (IsShaped plan) _ (Event.Request c (bare_ask Asked.Read block count)) (λ h. (reach-shape block count (and_parts (is_script plan c) (is_reach block count) h).1, refl)))))
 
 write-shape : (plan : Plan) (client first many word : List ℕ) → IfSome (blk_write_line plan client first many word) (IsShaped plan)
 unfolding blk_write_line
 write-shape plan client first many word =
     then-says (IsShaped plan) _ (number_of client) (λ c _. then-says (IsShaped plan) _ (number_of first) (λ block _. then-says (IsShaped plan) _ (number_of many) (λ count _.
     then-says (IsShaped plan) _ (data_of word) (λ bytes _. kept-says (IsShaped plan) _ (Event.Request c (record { code = Asked.Write; block = block; count = count; fill = bytes })) (λ h.
-    let two = and_parts (is_blk_client plan c && is_reach block count) (eqb (length bytes) (count * 4096)) h in
-    (reach-shape block count (and_parts (is_blk_client plan c) (is_reach block count) two.0).1, eqb-true (length bytes) (count * 4096) two.1))))))
+    let two = and_parts (is_script plan c && is_reach block count) (eqb (length bytes) (count * 4096)) h in
+    (reach-shape block count (and_parts (is_script plan c) (is_reach block count) two.0).1, eqb-true (length bytes) (count * 4096) two.1))))))
+
+blk-shape : (plan : Plan) (client code : List ℕ) (words : List (List ℕ)) → IfSome (blk_line plan client code words) (IsShaped plan)
+blk-shape plan client code [] = tt
+blk-shape plan client code (first ∷ []) = tt
+blk-shape plan client code (first ∷ many ∷ []) = if-says (IsShaped plan) (same_text code (codes "read")) (blk_read_line plan client first many) None (read-shape plan client first many) tt
+blk-shape plan client code (first ∷ many ∷ word ∷ []) =
+    if-says (IsShaped plan) (same_text code (codes "write")) (blk_write_line plan client first many word) None (write-shape plan client first many word) tt
+blk-shape plan client code (first ∷ many ∷ word ∷ more ∷ rest) = tt
+
+-- what an act is, if one is said
+if-acts : (P : Act → Type 0) (b : Bool) (one other : Option Act) → IfSome one P → IfSome other P → IfSome (cond b one other) P
+if-acts P true one other h k = h
+if-acts P false one other h k = k
+
+then-acts : {T : Type 0} (P : Act → Type 0) (f : T → Option Act) (o : Option T) → ((x : T) → o ≡ Some x → IfSome (f x) P) → IfSome (option_and_then f o) P
+then-acts P f None h = tt
+then-acts P f (Some x) h = h x refl
+
+last-acts : {T : Type 0} (P : Act → Type 0) (f : T → Act) (o : Option T) → ((x : T) → o ≡ Some x → P (f x)) → IfSome (option_map f o) P
+last-acts P f None h = tt
+last-acts P f (Some x) h = h x refl
+
+tested : (test : ℕ → Bool) (m n : ℕ) → cond (test m) (Some m) None ≡ Some n → test n ≡ true
+tested test m n h = elim (cases_Bool (test m)) [
+  | inl is ↦ let some = rw is at h in let same : m ≡ n = cc in rw (← same) is
+  | inr isnt ↦ absurd (let none = rw isnt at h in cc)
+]
+
+passed : (test : ℕ → Bool) (number : Option ℕ) (n : ℕ) → option_and_then (λ m. cond (test m) (Some m) None) number ≡ Some n → test n ≡ true
+passed test None n h = cc
+passed test (Some m) n h = tested test m n h
+
+-- the number that a word spells passes the test
+where-passed : (test : ℕ → Bool) (word : List ℕ) (n : ℕ) → number_where test word ≡ Some n → test n ≡ true
+where-passed test word n h = passed test (number_of word) n h
+
+output-shape : (class : Class) (n : ℕ) → is_output class n ≡ true → (inputs_of class ≤ n) × (n < 2 * inputs_of class)
+output-shape class n h =
+    let both = and_parts (leb (inputs_of class) n) (ltb n (2 * inputs_of class)) h in
+    (leb-true (inputs_of class) n both.0, ltb-true n (2 * inputs_of class) both.1)
+
+take-shape : (class : Class) (words : List (List ℕ)) → IfSome (take_said class words) (IsActOn class)
+unfolding take_said
+take-shape class [] = tt
+take-shape class (k ∷ []) =
+    last-acts (IsActOn class) _ (number_where (is_input class) k) (λ q is. ltb-true q (inputs_of class) (where-passed (is_input class) k q is))
+take-shape class (k ∷ a ∷ more) = tt
+
+put-shape : (class : Class) (words : List (List ℕ)) → IfSome (put_said class words) (IsActOn class)
+unfolding put_said
+put-shape class [] = tt
+put-shape class (k ∷ []) = tt
+put-shape class (k ∷ a ∷ []) = tt
+put-shape class (k ∷ a ∷ l ∷ []) =
+    then-acts (IsActOn class) _ (number_where (is_output class) k) (λ q is. then-acts (IsActOn class) _ (number_where is_value a) (λ address _.
+    last-acts (IsActOn class) _ (number_where is_value l) (λ long _. output-shape class q (where-passed (is_output class) k q is))))
+put-shape class (k ∷ a ∷ l ∷ x ∷ more) = tt
+
+give-shape : (class : Class) (words : List (List ℕ)) → IfSome (give_said class words) (IsActOn class)
+unfolding give_said
+give-shape class [] = tt
+give-shape class (k ∷ []) = tt
+give-shape class (k ∷ p ∷ []) = tt
+give-shape class (k ∷ p ∷ a ∷ []) = tt
+give-shape class (k ∷ p ∷ a ∷ l ∷ []) =
+    then-acts (IsActOn class) _ (number_where (is_output class) k) (λ q is. then-acts (IsActOn class) _ (number_where is_place p) (λ place _.
+    then-acts (IsActOn class) _ (number_where is_value a) (λ address _.
+    last-acts (IsActOn class) _ (number_where is_value l) (λ long _. output-shape class q (where-passed (is_output class) k q is)))))
+give-shape class (k ∷ p ∷ a ∷ l ∷ x ∷ more) = tt
+
+store-shape : (class : Class) (words : List (List ℕ)) → IfSome (store_said class words) (IsActOn class)
+unfolding store_said
+store-shape class [] = tt
+store-shape class (k ∷ []) = tt
+store-shape class (k ∷ w ∷ []) = tt
+store-shape class (k ∷ w ∷ v ∷ []) =
+    then-acts (IsActOn class) _ (number_where (is_queue class) k) (λ q is. then-acts (IsActOn class) _ (word_named w) (λ word _.
+    last-acts (IsActOn class) _ (number_where is_value v) (λ value _. ltb-true q (2 * inputs_of class) (where-passed (is_queue class) k q is))))
+store-shape class (k ∷ w ∷ v ∷ x ∷ more) = tt
+
+act-shape : (class : Class) (words : List (List ℕ)) → IfSome (act_said class words) (IsActOn class)
+unfolding act_said
+act-shape class [] = tt
+act-shape class (name ∷ []) = tt
+act-shape class (name ∷ k ∷ more) =
+    if-acts (IsActOn class) (same_text name (codes "take")) (take_said class (k ∷ more)) _ (take-shape class (k ∷ more))
+    (if-acts (IsActOn class) (same_text name (codes "put")) (put_said class (k ∷ more)) _ (put-shape class (k ∷ more))
+    (if-acts (IsActOn class) (same_text name (codes "give")) (give_said class (k ∷ more)) _ (give-shape class (k ∷ more))
+    (if-acts (IsActOn class) (same_text name (codes "store")) (store_said class (k ∷ more)) None (store-shape class (k ∷ more)) tt)))
+
+some-act : (class : Class) (o : Option Act) (act : Act) → o ≡ Some act → IfSome o (IsActOn class) → IsActOn class act
+some-act class o act is h = rw is at h
+
+rogue-shape : (plan : Plan) (name client : List ℕ) (words : List (List ℕ)) → IfSome (rogue_line plan name client words) (IsShaped plan)
+unfolding rogue_line
+rogue-shape plan name client words =
+    then-says (IsShaped plan) _ (class_of name) (λ class _. then-says (IsShaped plan) _ (number_of client) (λ c _. then-says (IsShaped plan) _ (act_said class words) (λ act is.
+    kept-says (IsShaped plan) (is_rogue plan class c) (Event.Rogue class c act) (λ h. some-act class (act_said class words) act is (act-shape class words)))))
 
 -- a line of this name, or else what another name makes of it
 named-says : (P : Event → Type 0) (name word : List ℕ) (one other : Option Event) → IfSome one P → IfSome other P → IfSome (cond (same_text name word) one other) P
@@ -166,12 +267,9 @@ line-shape plan [] = no-line (IsShaped plan)
 line-shape plan (name ∷ []) = no-line (IsShaped plan)
 line-shape plan (name ∷ a ∷ []) = two-words plan name a
 line-shape plan (name ∷ a ∷ b ∷ []) = three-words plan name a b
-line-shape plan (name ∷ a ∷ b ∷ c ∷ []) = no-line (IsShaped plan)
-line-shape plan (name ∷ a ∷ b ∷ c ∷ d ∷ []) =
-    if-says (IsShaped plan) (same_text name (codes "blk") && same_text b (codes "read")) (blk_read_line plan a c d) None (read-shape plan a c d) (no-line (IsShaped plan))
-line-shape plan (name ∷ a ∷ b ∷ c ∷ d ∷ e ∷ []) =
-    if-says (IsShaped plan) (same_text name (codes "blk") && same_text b (codes "write")) (blk_write_line plan a c d e) None (write-shape plan a c d e) (no-line (IsShaped plan))
-line-shape plan (name ∷ a ∷ b ∷ c ∷ d ∷ e ∷ f ∷ rest) = no-line (IsShaped plan)
+line-shape plan (name ∷ a ∷ b ∷ c ∷ more) =
+    if-says (IsShaped plan) (same_text name (codes "blk")) (blk_line plan a b (c ∷ more)) (cond (same_text name (codes "rogue")) (rogue_line plan a b (c ∷ more)) None) (blk-shape plan a b (c ∷ more))
+    (if-says (IsShaped plan) (same_text name (codes "rogue")) (rogue_line plan a b (c ∷ more)) None (rogue-shape plan a b (c ∷ more)) (no-line (IsShaped plan)))
 
 meaning-shape : (plan : Plan) (line : List ℕ) → IfSome (meaning plan line) (IsShaped plan)
 unfolding meaning
@@ -217,6 +315,7 @@ frames-all plan (Event.Say c bytes) h = All-nil IsFrame
 frames-all plan (Event.Disk n) h = All-nil IsFrame
 frames-all plan (Event.Patch at bytes) h = All-nil IsFrame
 frames-all plan (Event.Request c ask) h = All-nil IsFrame
+frames-all plan (Event.Rogue class c act) h = All-nil IsFrame
 
 sends-all : (plan : Plan) (k : ℕ) (e : Event) → IsShaped plan e → All IsFrame (sends_in k e)
 sends-all plan k Event.Skipped h = All-nil IsFrame
@@ -227,6 +326,7 @@ sends-all plan k (Event.Say c bytes) h = All-nil IsFrame
 sends-all plan k (Event.Disk n) h = All-nil IsFrame
 sends-all plan k (Event.Patch at bytes) h = All-nil IsFrame
 sends-all plan k (Event.Request c ask) h = All-nil IsFrame
+sends-all plan k (Event.Rogue class c act) h = All-nil IsFrame
 
 asks-all : (plan : Plan) (k : ℕ) (e : Event) → IsShaped plan e → All IsAsk (asks_in k e)
 asks-all plan k Event.Skipped h = All-nil IsAsk
@@ -237,6 +337,29 @@ asks-all plan k (Event.Say c bytes) h = All-nil IsAsk
 asks-all plan k (Event.Disk n) h = All-nil IsAsk
 asks-all plan k (Event.Patch at bytes) h = All-nil IsAsk
 asks-all plan k (Event.Request c ask) h = if-all IsAsk (eqb c k) ask h
+asks-all plan k (Event.Rogue class c act) h = All-nil IsAsk
+
+same-class-all : (own class : Class) (b : Bool) (act : Act) → IsActOn own act → All (IsActOn class) (cond (is_same_class own class && b) (act ∷ []) [])
+same-class-all Of.Net Of.Net b act h = if-all (IsActOn Of.Net) b act h
+same-class-all Of.Net Of.Serial b act h = All-nil (IsActOn Of.Serial)
+same-class-all Of.Net Of.Blk b act h = All-nil (IsActOn Of.Blk)
+same-class-all Of.Serial Of.Net b act h = All-nil (IsActOn Of.Net)
+same-class-all Of.Serial Of.Serial b act h = if-all (IsActOn Of.Serial) b act h
+same-class-all Of.Serial Of.Blk b act h = All-nil (IsActOn Of.Blk)
+same-class-all Of.Blk Of.Net b act h = All-nil (IsActOn Of.Net)
+same-class-all Of.Blk Of.Serial b act h = All-nil (IsActOn Of.Serial)
+same-class-all Of.Blk Of.Blk b act h = if-all (IsActOn Of.Blk) b act h
+
+acts-all : (plan : Plan) (class : Class) (k : ℕ) (e : Event) → IsShaped plan e → All (IsActOn class) (acts_in class k e)
+acts-all plan class k Event.Skipped h = All-nil (IsActOn class)
+acts-all plan class k (Event.Rx frame) h = All-nil (IsActOn class)
+acts-all plan class k (Event.In bytes) h = All-nil (IsActOn class)
+acts-all plan class k (Event.Send c frame) h = All-nil (IsActOn class)
+acts-all plan class k (Event.Say c bytes) h = All-nil (IsActOn class)
+acts-all plan class k (Event.Disk n) h = All-nil (IsActOn class)
+acts-all plan class k (Event.Patch at bytes) h = All-nil (IsActOn class)
+acts-all plan class k (Event.Request c ask) h = All-nil (IsActOn class)
+acts-all plan class k (Event.Rogue own c act) h = same-class-all own class (eqb c k) act h
 
 -- ---- the disk
 
@@ -271,6 +394,7 @@ disk-more plan events (Event.In bytes) shape good h = record { none = λ is. h.n
 disk-more plan events (Event.Send c frame) shape good h = record { none = λ is. h.none (omega (arith, is)); some = λ is. h.some (omega (arith, is)) }
 disk-more plan events (Event.Say c bytes) shape good h = record { none = λ is. h.none (omega (arith, is)); some = λ is. h.some (omega (arith, is)) }
 disk-more plan events (Event.Request c ask) shape good h = record { none = λ is. h.none (omega (arith, is)); some = λ is. h.some (omega (arith, is)) }
+disk-more plan events (Event.Rogue class c act) shape good h = record { none = λ is. h.none (omega (arith, is)); some = λ is. h.some (omega (arith, is)) }
 disk-more plan events (Event.Disk n) shape good h =
     let blocks = shape.1.0 in
     record {
@@ -326,6 +450,9 @@ from-shapes plan events shaped disk = record {
   frames = flat-all (IsShaped plan) IsFrame frames_in (frames-all plan) events shaped;
   sends = client-all (All IsFrame) (length (net_clients plan)) _ (λ k. flat-all (IsShaped plan) IsFrame (sends_in k) (sends-all plan k) events shaped);
   asks = client-all (All IsAsk) (length (blk_clients plan)) _ (λ k. flat-all (IsShaped plan) IsAsk (asks_in k) (asks-all plan k) events shaped);
+  net_acts = client-all (All (IsActOn Of.Net)) (length (net_clients plan)) _ (λ k. flat-all (IsShaped plan) (IsActOn Of.Net) (acts_in Of.Net k) (acts-all plan Of.Net k) events shaped);
+  serial_acts = client-all (All (IsActOn Of.Serial)) (length (serial_clients plan)) _ (λ k. flat-all (IsShaped plan) (IsActOn Of.Serial) (acts_in Of.Serial k) (acts-all plan Of.Serial k) events shaped);
+  blk_acts = client-all (All (IsActOn Of.Blk)) (length (blk_clients plan)) _ (λ k. flat-all (IsShaped plan) (IsActOn Of.Blk) (acts_in Of.Blk k) (acts-all plan Of.Blk k) events shaped);
   image = disk;
 }
 

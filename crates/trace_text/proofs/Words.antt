@@ -1,7 +1,7 @@
-use Rattle.std.proofs.Common.{◌≡◌, ℕ, true, false, eqb, List, [], ◌∷◌, length, Some, None, codes, refl}
+use Rattle.std.proofs.Common.{◌≡◌, ℕ, true, false, eqb, List, [], ◌∷◌, length, Some, None, codes, refl, ◌∙◌}
 use Rattle.sdf_plan.specs.declared.plan.Plan.{Plan}
 use Rattle.trace_text.specs.Texts.{parts_of, words_of, lines_of}
-use Rattle.trace_text.specs.Events.{Event, same_text, words_say, meaning, is_skipped, rx_line, in_line, send_line, say_line, disk_line, bytes_line, blk_order_line, blk_read_line, blk_write_line}
+use Rattle.trace_text.specs.Events.{Event, same_text, words_say, meaning, is_skipped, rx_line, in_line, send_line, say_line, disk_line, bytes_line, blk_order_line, blk_read_line, blk_write_line, blk_line, rogue_line}
 use Rattle.trace_text.proofs.Pieces.{parts_cons}
 use Rattle.trace_text.proofs.Forms.{not_equal}
 
@@ -16,20 +16,6 @@ meaning_words plan line h = rw h refl
 pub one_word : (plan : Plan) (a : List ℕ) → words_say plan (a ∷ []) ≡ None
 unfolding words_say
 one_word plan a = refl
-
-pub four_words : (plan : Plan) (a b c d : List ℕ) → words_say plan (a ∷ b ∷ c ∷ d ∷ []) ≡ None
-unfolding words_say
-four_words plan a b c d = refl
-
-pub many_words : (plan : Plan) (a b c d e f g : List ℕ) (rest : List (List ℕ)) → words_say plan (a ∷ b ∷ c ∷ d ∷ e ∷ f ∷ g ∷ rest) ≡ None
-unfolding words_say
-many_words plan a b c d e f g rest = refl
-
--- a line of at least seven words
-pub too_many_words : (plan : Plan) (a b c d e f text : List ℕ) → words_say plan (a ∷ b ∷ c ∷ d ∷ e ∷ f ∷ words_of text) ≡ None
-too_many_words plan a b c d e f text =
-    let more = parts_cons (λ x. eqb x 32) text in
-    rw more.2 (many_words plan a b c d e f more.0 more.1)
 
 pub two_rx : (plan : Plan) (name a : List ℕ) → same_text name (codes "rx") ≡ true → words_say plan (name ∷ a ∷ []) ≡ rx_line plan a
 unfolding words_say
@@ -72,45 +58,66 @@ pub three_other : (plan : Plan) (name a b : List ℕ) → same_text name (codes 
 unfolding words_say
 three_other plan name a b h i j k = rw (h, i, j, k) refl
 
-pub five_read : (plan : Plan) (name a b c d : List ℕ) → same_text name (codes "blk") ≡ true → same_text b (codes "read") ≡ true
-    → words_say plan (name ∷ a ∷ b ∷ c ∷ d ∷ []) ≡ blk_read_line plan a c d
+-- a line of four words or more
+blk_named : (plan : Plan) (name a b c : List ℕ) (more : List (List ℕ)) → same_text name (codes "blk") ≡ true → words_say plan (name ∷ a ∷ b ∷ c ∷ more) ≡ blk_line plan a b (c ∷ more)
 unfolding words_say
-five_read plan name a b c d h i = rw (h, i) refl
+blk_named plan name a b c more h = rw h refl
 
-pub five_other : (plan : Plan) (name a b c d : List ℕ) → same_text name (codes "blk") ≡ true → same_text b (codes "read") ≡ false → words_say plan (name ∷ a ∷ b ∷ c ∷ d ∷ []) ≡ None
+rogue_named : (plan : Plan) (name a b c : List ℕ) (more : List (List ℕ)) → same_text name (codes "blk") ≡ false → same_text name (codes "rogue") ≡ true
+    → words_say plan (name ∷ a ∷ b ∷ c ∷ more) ≡ rogue_line plan a b (c ∷ more)
 unfolding words_say
-five_other plan name a b c d h i = rw (h, i) refl
+rogue_named plan name a b c more h i = rw (h, i) refl
+
+other_named : (plan : Plan) (name a b c : List ℕ) (more : List (List ℕ)) → same_text name (codes "blk") ≡ false → same_text name (codes "rogue") ≡ false
+    → words_say plan (name ∷ a ∷ b ∷ c ∷ more) ≡ None
+unfolding words_say
+other_named plan name a b c more h i = rw (h, i) refl
+
+pub long_blk : (plan : Plan) (name a b text : List ℕ) → same_text name (codes "blk") ≡ true → words_say plan (name ∷ a ∷ b ∷ words_of text) ≡ blk_line plan a b (words_of text)
+long_blk plan name a b text h =
+    let more = parts_cons (λ x. eqb x 32) text in
+    rw more.2 (blk_named plan name a b more.0 more.1 h)
+
+pub long_rogue : (plan : Plan) (name a b text : List ℕ) → same_text name (codes "blk") ≡ false → same_text name (codes "rogue") ≡ true
+    → words_say plan (name ∷ a ∷ b ∷ words_of text) ≡ rogue_line plan a b (words_of text)
+long_rogue plan name a b text h i =
+    let more = parts_cons (λ x. eqb x 32) text in
+    rw more.2 (rogue_named plan name a b more.0 more.1 h i)
+
+pub long_other : (plan : Plan) (name a b text : List ℕ) → same_text name (codes "blk") ≡ false → same_text name (codes "rogue") ≡ false
+    → words_say plan (name ∷ a ∷ b ∷ words_of text) ≡ None
+long_other plan name a b text h i =
+    let more = parts_cons (λ x. eqb x 32) text in
+    rw more.2 (other_named plan name a b more.0 more.1 h i)
+
+pub blk_read : (plan : Plan) (a b c d : List ℕ) → same_text b (codes "read") ≡ true → blk_line plan a b (c ∷ d ∷ []) ≡ blk_read_line plan a c d
+blk_read plan a b c d h = rw h refl
+
+pub blk_not_read : (plan : Plan) (a b c d : List ℕ) → same_text b (codes "read") ≡ false → blk_line plan a b (c ∷ d ∷ []) ≡ None
+blk_not_read plan a b c d h = rw h refl
+
+pub blk_write : (plan : Plan) (a b c d e : List ℕ) → same_text b (codes "write") ≡ true → blk_line plan a b (c ∷ d ∷ e ∷ []) ≡ blk_write_line plan a c d e
+blk_write plan a b c d e h = rw h refl
 
 pub six_write : (plan : Plan) (name a b c d e : List ℕ) → same_text name (codes "blk") ≡ true → same_text b (codes "write") ≡ true
     → words_say plan (name ∷ a ∷ b ∷ c ∷ d ∷ e ∷ []) ≡ blk_write_line plan a c d e
-unfolding words_say
-six_write plan name a b c d e h i = rw (h, i) refl
+six_write plan name a b c d e h i = blk_named plan name a b c (d ∷ e ∷ []) h ∙ blk_write plan a b c d e i
 
--- a line of six words or more that isn't a write
-pub six_other : (plan : Plan) (name a b c d : List ℕ) (rest : List (List ℕ)) → same_text name (codes "blk") ≡ true → same_text b (codes "write") ≡ false
-    → (first : List ℕ) (more : List (List ℕ)) → rest ≡ first ∷ more → words_say plan (name ∷ a ∷ b ∷ c ∷ d ∷ rest) ≡ None
-unfolding words_say
-six_other plan name a b c d rest h i first [] is = rw (is, h, i) refl
-six_other plan name a b c d rest h i first (second ∷ more) is = rw is (many_words plan name a b c d first second more)
-
-pub six_not_write : (plan : Plan) (name a b c d text : List ℕ) → same_text name (codes "blk") ≡ true → same_text b (codes "write") ≡ false
-    → words_say plan (name ∷ a ∷ b ∷ c ∷ d ∷ words_of text) ≡ None
-six_not_write plan name a b c d text h i =
+-- the words of a `blk` line are too many
+pub blk_too_many : (plan : Plan) (a b c d e text : List ℕ) → blk_line plan a b (c ∷ d ∷ e ∷ words_of text) ≡ None
+blk_too_many plan a b c d e text =
     let more = parts_cons (λ x. eqb x 32) text in
-    six_other plan name a b c d (words_of text) h i more.0 more.1 more.2
+    rw more.2 refl
 
--- a line of four words or more that isn't a `blk` line
-not_blk : (plan : Plan) (name a b c : List ℕ) (rest : List (List ℕ)) → same_text name (codes "blk") ≡ false → words_say plan (name ∷ a ∷ b ∷ c ∷ rest) ≡ None
-unfolding words_say
-not_blk plan name a b c [] h = refl
-not_blk plan name a b c (d ∷ []) h = rw h refl
-not_blk plan name a b c (d ∷ e ∷ []) h = rw h refl
-not_blk plan name a b c (d ∷ e ∷ f ∷ rest) h = refl
+-- a `blk` line of six words or more that isn't a write
+six_other : (plan : Plan) (a b c d e : List ℕ) (more : List (List ℕ)) → same_text b (codes "write") ≡ false → blk_line plan a b (c ∷ d ∷ e ∷ more) ≡ None
+six_other plan a b c d e [] h = rw h refl
+six_other plan a b c d e (f ∷ more) h = refl
 
-pub not_blk_line : (plan : Plan) (name a b text : List ℕ) → same_text name (codes "blk") ≡ false → words_say plan (name ∷ a ∷ b ∷ words_of text) ≡ None
-not_blk_line plan name a b text h =
+pub blk_not_write : (plan : Plan) (a b c d text : List ℕ) → same_text b (codes "write") ≡ false → blk_line plan a b (c ∷ d ∷ words_of text) ≡ None
+blk_not_write plan a b c d text h =
     let more = parts_cons (λ x. eqb x 32) text in
-    rw more.2 (not_blk plan name a b more.0 more.1 h)
+    rw more.2 (six_other plan a b c d more.0 more.1 h)
 
 -- the first line, and the lines after it
 pub lines_more : (text line rest : List ℕ) → parts_of 10 text ≡ line ∷ parts_of 10 rest → lines_of text ≡ line ∷ lines_of rest

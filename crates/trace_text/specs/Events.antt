@@ -1,11 +1,16 @@
 -- What each line of a trace says.
-use Rattle.std.specs.Prelude.{ℕ, ◌*◌, ◌%◌, ◌==◌, ◌&&◌, nat_eq, nat_le, Bool, true, false}
+use Rattle.std.specs.Prelude.{ℕ, ◌*◌, ◌%◌, ◌^◌, ◌==◌, ◌&&◌, nat_eq, nat_le, nat_lt, Bool, true}
+use Rattle.std.specs.Prelude.{false}
 use Rattle.std.specs.Prelude.{if◌then◌else◌, List, [], ◌∷◌, length, slice_index, slice_get, codes}
 use Rattle.std.specs.Prelude.{Option, Some, None, is_some}
-use Rattle.std.specs.Option.{option_and_then, option_map_or}
+use Rattle.std.specs.Option.{option_and_then, option_map, option_map_or}
 use Rattle.std.specs.List.{find}
 use Rattle.std.specs.Cmp.Lexicographic.{pointwise}
 use Rattle.cargo_core.specs.Blocks.{block_bytes}
+use Rattle.cargo_core.specs.declared.act.Act.{Act}
+use Rattle.cargo_core.specs.declared.act.Act.TheVariants as Does
+use Rattle.cargo_core.specs.declared.act.Word.{Word}
+use Rattle.cargo_core.specs.declared.act.Word.TheVariants as Named
 use Rattle.cargo_core.specs.declared.item.Ask.{Ask}
 use Rattle.cargo_core.specs.declared.item.Code.{Code}
 use Rattle.cargo_core.specs.declared.item.Code.TheVariants as Asked
@@ -15,6 +20,8 @@ use Rattle.sdf_plan.specs.declared.plan.NetClient.{NetClient}
 use Rattle.sdf_plan.specs.declared.plan.SerialClient.{SerialClient}
 use Rattle.sdf_plan.specs.declared.plan.BlkClient.{BlkClient}
 use Rattle.frame_core.specs.Frames.{is_frame_of}
+use Rattle.trace_text.specs.declared.class.Class.{Class}
+use Rattle.trace_text.specs.declared.class.Class.TheVariants as Of
 use Rattle.trace_text.specs.Limits.{frame_most}
 use Rattle.trace_text.specs.Texts.{words_of, number_of, data_of}
 
@@ -36,6 +43,8 @@ pub data Event : Type 0 where
   Patch : ℕ → List ℕ → Event
   -- the next request of a block client
   Request : ℕ → Ask → Event
+  -- the next act of a hostile client of a class
+  Rogue : Class → ℕ → Act → Event
 
 -- whether two texts are the same
 abbrev pub same_text : List ℕ → List ℕ → Bool
@@ -71,9 +80,35 @@ is_speaker plan c =
     option_map_or (λ client. runs plan.protection_domain client.pd (codes "serial_speaker"))
     (slice_get (serial_clients plan) c) false
 
--- whether there is a block client of a number
-unfoldable pub is_blk_client : Plan → ℕ → Bool
-is_blk_client plan c = is_some (slice_get (blk_clients plan) c)
+-- whether the block client of a number makes requests of its own
+unfoldable pub is_script : Plan → ℕ → Bool
+is_script plan c =
+    option_map_or (λ client. runs plan.protection_domain client.pd (codes "blk_script"))
+    (slice_get (blk_clients plan) c) false
+
+-- whether the network client of a number is a hostile one
+unfoldable pub is_net_rogue : Plan → ℕ → Bool
+is_net_rogue plan c =
+    option_map_or (λ client. runs plan.protection_domain client.pd (codes "net_rogue"))
+    (slice_get (net_clients plan) c) false
+
+-- whether the serial client of a number is a hostile one
+unfoldable pub is_serial_rogue : Plan → ℕ → Bool
+is_serial_rogue plan c =
+    option_map_or (λ client. runs plan.protection_domain client.pd (codes "serial_rogue"))
+    (slice_get (serial_clients plan) c) false
+
+-- whether the block client of a number is a hostile one
+unfoldable pub is_blk_rogue : Plan → ℕ → Bool
+is_blk_rogue plan c =
+    option_map_or (λ client. runs plan.protection_domain client.pd (codes "blk_rogue"))
+    (slice_get (blk_clients plan) c) false
+
+-- whether the client of a number is a hostile one of its class
+abbrev pub is_rogue : Plan → Class → ℕ → Bool
+is_rogue plan Of.Net c = is_net_rogue plan c
+is_rogue plan Of.Serial c = is_serial_rogue plan c
+is_rogue plan Of.Blk c = is_blk_rogue plan c
 
 -- an event that is there only where a condition holds
 abbrev pub kept_if : Bool → Option Event → Option Event
@@ -136,7 +171,7 @@ order_code order =
 unfoldable pub blk_order_line : Plan → List ℕ → List ℕ → Option Event
 blk_order_line plan client order =
     with_number client (λ c. option_and_then (λ code.
-    kept_if (is_blk_client plan c) (Some (Event.Request c (bare_ask code 0 0))))
+    kept_if (is_script plan c) (Some (Event.Request c (bare_ask code 0 0))))
     (order_code order))
 
 -- whether these blocks can be asked for
@@ -147,7 +182,7 @@ is_reach block count = nat_le block 4294967295 && nat_le 1 count && nat_le count
 unfoldable pub blk_read_line : Plan → List ℕ → List ℕ → List ℕ → Option Event
 blk_read_line plan client first many =
     with_number client (λ c. with_number first (λ block. with_number many (λ count.
-    kept_if (is_blk_client plan c && is_reach block count)
+    kept_if (is_script plan c && is_reach block count)
     (Some (Event.Request c (bare_ask Asked.Read block count))))))
 
 -- `blk C write B N DATA`
@@ -155,9 +190,112 @@ unfoldable pub blk_write_line : Plan → List ℕ → List ℕ → List ℕ → 
 blk_write_line plan client first many word =
     with_number client (λ c. with_number first (λ block. with_number many (λ count.
     with_data word (λ bytes.
-    kept_if (is_blk_client plan c && is_reach block count && length bytes == count * block_bytes)
+    kept_if (is_script plan c && is_reach block count && length bytes == count * block_bytes)
     (Some (Event.Request c
     (record { code = Asked.Write; block = block; count = count; fill = bytes })))))))
+
+-- a longer `blk` line of a client, by its words behind the request's code
+abbrev pub blk_line : Plan → List ℕ → List ℕ → List (List ℕ) → Option Event
+blk_line plan client code (first ∷ many ∷ []) =
+    if same_text code (codes "read") then blk_read_line plan client first many else None
+blk_line plan client code (first ∷ many ∷ word ∷ []) =
+    if same_text code (codes "write") then blk_write_line plan client first many word else None
+blk_line plan client code _ = None
+
+-- the class of a name
+abbrev pub class_of : List ℕ → Option Class
+class_of name =
+    if same_text name (codes "net") then Some Of.Net
+    else if same_text name (codes "serial") then Some Of.Serial
+    else if same_text name (codes "blk") then Some Of.Blk
+    else None
+
+-- the number that a word spells, where it passes a test
+abbrev pub number_where : (ℕ → Bool) → List ℕ → Option ℕ
+number_where test word =
+    option_and_then (λ n. if test n then Some n else None) (number_of word)
+
+-- how many inputs a hostile client has; its outputs are numbered behind them, and are as many
+abbrev pub inputs_of : Class → ℕ
+inputs_of Of.Net = 2
+inputs_of Of.Serial = 1
+inputs_of Of.Blk = 1
+
+-- whether a queue of a hostile client is one of its inputs
+abbrev pub is_input : Class → ℕ → Bool
+is_input class k = nat_lt k (inputs_of class)
+
+-- whether it is one of its outputs
+abbrev pub is_output : Class → ℕ → Bool
+is_output class k = nat_le (inputs_of class) k && nat_lt k (2 * inputs_of class)
+
+-- whether it is one of either sort
+abbrev pub is_queue : Class → ℕ → Bool
+is_queue class k = nat_lt k (2 * inputs_of class)
+
+-- whether a number can be an address, a length or a value: it has 64 bits
+abbrev pub is_value : ℕ → Bool
+is_value n = nat_lt n (2 ^ 64)
+
+-- whether a number can be a place among what a hostile client keeps: it has 32 bits
+abbrev pub is_place : ℕ → Bool
+is_place n = nat_lt n (2 ^ 32)
+
+-- the word of a queue that has a name
+abbrev pub word_named : List ℕ → Option Word
+word_named name =
+    if same_text name (codes "head") then Some Named.Head
+    else if same_text name (codes "tail") then Some Named.Tail
+    else if same_text name (codes "flag") then Some Named.Flag
+    else if same_text name (codes "flag_back") then Some Named.FlagBack
+    else if same_text name (codes "pending") then Some Named.Pending
+    else if same_text name (codes "pending_back") then Some Named.PendingBack
+    else None
+
+-- `take K`
+unfoldable pub take_said : Class → List (List ℕ) → Option Act
+take_said class (k ∷ []) = option_map (λ q. Does.Take q) (number_where (is_input class) k)
+take_said class _ = None
+
+-- `put K A L`
+unfoldable pub put_said : Class → List (List ℕ) → Option Act
+put_said class (k ∷ a ∷ l ∷ []) =
+    option_and_then (λ q. option_and_then (λ address. option_map (λ long. Does.Put q address long)
+    (number_where is_value l)) (number_where is_value a)) (number_where (is_output class) k)
+put_said class _ = None
+
+-- `give K P A L`
+unfoldable pub give_said : Class → List (List ℕ) → Option Act
+give_said class (k ∷ p ∷ a ∷ l ∷ []) =
+    option_and_then (λ q. option_and_then (λ place. option_and_then (λ address.
+    option_map (λ long. Does.Give q place address long)
+    (number_where is_value l)) (number_where is_value a)) (number_where is_place p))
+    (number_where (is_output class) k)
+give_said class _ = None
+
+-- `store K W V`
+unfoldable pub store_said : Class → List (List ℕ) → Option Act
+store_said class (k ∷ w ∷ v ∷ []) =
+    option_and_then (λ q. option_and_then (λ word. option_map (λ value. Does.Store q word value)
+    (number_where is_value v)) (word_named w)) (number_where (is_queue class) k)
+store_said class _ = None
+
+-- what the words of an act say
+unfoldable pub act_said : Class → List (List ℕ) → Option Act
+act_said class (name ∷ k ∷ more) =
+    if same_text name (codes "take") then take_said class (k ∷ more)
+    else if same_text name (codes "put") then put_said class (k ∷ more)
+    else if same_text name (codes "give") then give_said class (k ∷ more)
+    else if same_text name (codes "store") then store_said class (k ∷ more)
+    else None
+act_said class _ = None
+
+-- `rogue CLASS C ACT`
+unfoldable pub rogue_line : Plan → List ℕ → List ℕ → List (List ℕ) → Option Event
+rogue_line plan name client words =
+    option_and_then (λ class. with_number client (λ c. option_and_then (λ act.
+    kept_if (is_rogue plan class c) (Some (Event.Rogue class c act)))
+    (act_said class words))) (class_of name)
 
 -- what the words of a line say: none where the line is bad by itself
 unfoldable pub words_say : Plan → List (List ℕ) → Option Event
@@ -172,11 +310,9 @@ words_say plan (name ∷ a ∷ b ∷ []) =
     else if same_text name (codes "bytes") then bytes_line plan a b
     else if same_text name (codes "blk") then blk_order_line plan a b
     else None
-words_say plan (name ∷ a ∷ b ∷ c ∷ d ∷ []) =
-    if same_text name (codes "blk") && same_text b (codes "read") then blk_read_line plan a c d
-    else None
-words_say plan (name ∷ a ∷ b ∷ c ∷ d ∷ e ∷ []) =
-    if same_text name (codes "blk") && same_text b (codes "write") then blk_write_line plan a c d e
+words_say plan (name ∷ a ∷ b ∷ c ∷ more) =
+    if same_text name (codes "blk") then blk_line plan a b (c ∷ more)
+    else if same_text name (codes "rogue") then rogue_line plan a b (c ∷ more)
     else None
 words_say plan _ = None
 

@@ -4,12 +4,22 @@ use Rattle.std.specs.Prelude.{nat_lt, Bool, false, if◌then◌else◌, List, []
 use Rattle.std.specs.Prelude.{count_by, sum_by, replicate, Option, Some, None, MatchBool}
 use Rattle.cargo_core.specs.Blocks.{sector_bytes}
 use Rattle.cargo_core.specs.Lists.{replaced}
+use Rattle.cargo_core.specs.declared.act.Act.{Act}
 use Rattle.sdf_plan.specs.declared.plan.Plan.{Plan}
+use Rattle.trace_text.specs.declared.class.Class.{Class}
+use Rattle.trace_text.specs.declared.class.Class.TheVariants as Of
 use Rattle.trace_text.specs.declared.reader.Reader.{Reader}
+use Rattle.trace_text.specs.declared.trace.Trace.{Trace}
 use Rattle.trace_text.specs.Events.{Event, net_clients, serial_clients, blk_clients}
-use Rattle.trace_text.specs.Traces.{trace_from, is_frame_line, is_request_line, is_disk_line}
-use Rattle.trace_text.specs.Traces.{stream_bytes_in}
+use Rattle.trace_text.specs.Traces.{trace_from, is_frame_line, is_request_line, is_rogue_line}
+use Rattle.trace_text.specs.Traces.{is_disk_line, stream_bytes_in}
 use Rattle.trace_text.specs.Limits.{lines_most, stream_most}
+
+-- how many clients a class has
+abbrev pub clients_in : Plan → Class → ℕ
+clients_in plan Of.Net = length (net_clients plan)
+clients_in plan Of.Serial = length (serial_clients plan)
+clients_in plan Of.Blk = length (blk_clients plan)
 
 -- the lists, with more at the end of the one of a number
 abbrev pub grown_at : {T : Type 0} → List (List T) → ℕ → List T → List (List T)
@@ -24,6 +34,7 @@ reader_after plan events = record {
   frame_lines = count_by is_frame_line events;
   stream_bytes = sum_by stream_bytes_in events;
   request_lines = count_by is_request_line events;
+  rogue_lines = count_by is_rogue_line events;
   disk_lines = count_by is_disk_line events;
 }
 
@@ -38,6 +49,16 @@ is_refused r (Event.Disk sectors) = nat_lt 0 r.disk_lines
 is_refused r (Event.Patch at bytes) =
     r.disk_lines == 0 || nat_lt (length r.trace.image) (at + length bytes)
 is_refused r (Event.Request c ask) = nat_le lines_most r.request_lines
+is_refused r (Event.Rogue class c act) = nat_le lines_most r.rogue_lines
+
+-- the trace with one more act of a client
+abbrev pub with_act : Trace → Class → ℕ → Act → Trace
+with_act trace Of.Net c act =
+    record trace { net_acts = grown_at trace.net_acts c (act ∷ []) }
+with_act trace Of.Serial c act =
+    record trace { serial_acts = grown_at trace.serial_acts c (act ∷ []) }
+with_act trace Of.Blk c act =
+    record trace { blk_acts = grown_at trace.blk_acts c (act ∷ []) }
 
 -- what the reader keeps after an event that it takes
 abbrev pub reader_with : Reader → Event → Reader
@@ -67,6 +88,10 @@ reader_with r (Event.Patch at bytes) =
 reader_with r (Event.Request c ask) = record r {
   trace = record r.trace { asks = grown_at r.trace.asks c (ask ∷ []) };
   request_lines = r.request_lines + 1;
+}
+reader_with r (Event.Rogue class c act) = record r {
+  trace = with_act r.trace class c act;
+  rogue_lines = r.rogue_lines + 1;
 }
 
 -- what the reader keeps after a line of this meaning: none where the line is bad
@@ -104,3 +129,6 @@ pub record HasLists (plan : Plan) (r : Reader) : Type 0 where
   pub sends : length r.trace.sends ≡ length (net_clients plan)
   pub says : length r.trace.says ≡ length (serial_clients plan)
   pub asks : length r.trace.asks ≡ length (blk_clients plan)
+  pub net_acts : length r.trace.net_acts ≡ length (net_clients plan)
+  pub serial_acts : length r.trace.serial_acts ≡ length (serial_clients plan)
+  pub blk_acts : length r.trace.blk_acts ≡ length (blk_clients plan)

@@ -1,11 +1,16 @@
 -- What a trace that was read is made of, for those who play it and needn't know the lines.
-use Rattle.std.specs.Prelude.{◌≡◌, ℕ, ◌*◌, ◌≤◌, All, List, [], length, MatchOption}
+use Rattle.std.specs.Prelude.{◌≡◌, ℕ, ◌*◌, ◌≤◌, ◌<◌, All, List, [], length, MatchOption}
 use Rattle.cargo_core.specs.Blocks.{block_bytes}
+use Rattle.cargo_core.specs.declared.act.Act.{Act}
+use Rattle.cargo_core.specs.declared.act.Act.TheVariants as Does
 use Rattle.cargo_core.specs.declared.item.Ask.{Ask}
 use Rattle.cargo_core.specs.declared.item.Code.{Code}
 use Rattle.cargo_core.specs.declared.item.Code.TheVariants as Asked
 use Rattle.sdf_plan.specs.declared.plan.Plan.{Plan}
+use Rattle.trace_text.specs.declared.class.Class.{Class}
+use Rattle.trace_text.specs.declared.class.Class.TheVariants as Of
 use Rattle.trace_text.specs.declared.trace.Trace.{Trace}
+use Rattle.trace_text.specs.Events.{inputs_of}
 use Rattle.trace_text.specs.Limits.{frame_least, frame_most}
 
 -- the bytes of a frame: 14 to 1,514
@@ -36,10 +41,22 @@ HasForm Asked.Barrier ask = NamesNoBlock ask
 abbrev pub IsAsk : Ask → Type 0
 IsAsk ask = HasForm ask.code ask
 
--- the frames, requests and disk of a trace are such, with a disk exactly where the plan has a block
--- class
+-- an act of a hostile client of a class is on one of its queues: it takes from an input, puts into
+-- an output, and stores in the words of either
+abbrev pub IsActOn : Class → Act → Type 0
+IsActOn class (Does.Take k) = k < inputs_of class
+IsActOn class (Does.Put k address long) = (inputs_of class ≤ k) × (k < 2 * inputs_of class)
+IsActOn class (Does.Give k place address long) =
+    (inputs_of class ≤ k) × (k < 2 * inputs_of class)
+IsActOn class (Does.Store k word value) = k < 2 * inputs_of class
+
+-- the frames, requests, acts and disk of a trace are such, with a disk exactly where the plan has a
+-- block class
 pub record HasShapes (plan : Plan) (trace : Trace) : Type 0 where
   pub frames : All IsFrame trace.frames
   pub sends : All (All IsFrame) trace.sends
   pub asks : All (All IsAsk) trace.asks
+  pub net_acts : All (All (IsActOn Of.Net)) trace.net_acts
+  pub serial_acts : All (All (IsActOn Of.Serial)) trace.serial_acts
+  pub blk_acts : All (All (IsActOn Of.Blk)) trace.blk_acts
   pub image : MatchOption plan.blk (trace.image ≡ []) (λ _. IsDisk trace.image)

@@ -6,8 +6,11 @@ use Rattle.std.specs.Prelude.{is_some}
 use Rattle.std.specs.List.{flat_map, filter_map}
 use Rattle.cargo_core.specs.Blocks.{sector_bytes}
 use Rattle.cargo_core.specs.Lists.{replaced}
+use Rattle.cargo_core.specs.declared.act.Act.{Act}
 use Rattle.cargo_core.specs.declared.item.Ask.{Ask}
 use Rattle.sdf_plan.specs.declared.plan.Plan.{Plan}
+use Rattle.trace_text.specs.declared.class.Class.{Class}
+use Rattle.trace_text.specs.declared.class.Class.TheVariants as Of
 use Rattle.trace_text.specs.declared.trace.Trace.{Trace}
 use Rattle.trace_text.specs.Texts.{lines_of}
 use Rattle.trace_text.specs.Events.{Event, meaning, net_clients, serial_clients, blk_clients}
@@ -38,6 +41,19 @@ abbrev pub asks_in : ℕ → Event → List Ask
 asks_in client (Event.Request c ask) = if c == client then ask ∷ [] else []
 asks_in client _ = []
 
+-- whether two classes are the same
+abbrev pub is_same_class : Class → Class → Bool
+is_same_class Of.Net Of.Net = true
+is_same_class Of.Serial Of.Serial = true
+is_same_class Of.Blk Of.Blk = true
+is_same_class _ _ = false
+
+-- what an event gives to the acts of a hostile client of a class
+abbrev pub acts_in : Class → ℕ → Event → List Act
+acts_in class client (Event.Rogue k c act) =
+    if is_same_class k class && c == client then act ∷ [] else []
+acts_in class client _ = []
+
 -- the image after one more event
 abbrev pub image_after : List ℕ → Event → List ℕ
 image_after image (Event.Disk sectors) = replicate (sector_bytes * sectors) 0
@@ -62,6 +78,10 @@ trace_from plan events = record {
   says = per_client (length (serial_clients plan)) (λ c. flat_map (says_in c) events);
   asks = per_client (length (blk_clients plan)) (λ c. flat_map (asks_in c) events);
   image = image_of events;
+  net_acts = per_client (length (net_clients plan)) (λ c. flat_map (acts_in Of.Net c) events);
+  serial_acts =
+      per_client (length (serial_clients plan)) (λ c. flat_map (acts_in Of.Serial c) events);
+  blk_acts = per_client (length (blk_clients plan)) (λ c. flat_map (acts_in Of.Blk c) events);
 }
 
 -- the line counts towards the limit of frames: it gives one
@@ -80,6 +100,11 @@ stream_bytes_in _ = 0
 abbrev pub is_request_line : Event → Bool
 is_request_line (Event.Request c ask) = true
 is_request_line _ = false
+
+-- the line counts towards the limit of acts: it gives one
+abbrev pub is_rogue_line : Event → Bool
+is_rogue_line (Event.Rogue class c act) = true
+is_rogue_line _ = false
 
 -- the line is a `disk` line
 abbrev pub is_disk_line : Event → Bool
@@ -100,6 +125,8 @@ is_out_of_place before (Event.Disk sectors) = nat_lt 0 (count_by is_disk_line be
 is_out_of_place before (Event.Patch at bytes) =
     count_by is_disk_line before == 0 || nat_lt (length (image_of before)) (at + length bytes)
 is_out_of_place before (Event.Request c ask) = nat_le lines_most (count_by is_request_line before)
+is_out_of_place before (Event.Rogue class c act) =
+    nat_le lines_most (count_by is_rogue_line before)
 
 -- whether a line of this meaning is bad after these events
 abbrev pub is_bad_after : List Event → Option Event → Bool
@@ -143,7 +170,21 @@ pub record IsReadFor (plan : Plan) (trace : Trace) : Type 0 where
   pub good : HasNoBadLine plan text
   pub given : trace ≡ trace_of plan text
 
--- the trace has a list for each client, and keeps the limits on frames, bytes and requests
+-- the acts of the clients of a class
+abbrev pub acts_in_class : Trace → Class → List (List Act)
+acts_in_class trace Of.Net = trace.net_acts
+acts_in_class trace Of.Serial = trace.serial_acts
+acts_in_class trace Of.Blk = trace.blk_acts
+
+-- the same by the number of the class: 0 network, 1 serial, 2 block
+abbrev pub acts_of : Trace → ℕ → List (List Act)
+acts_of trace number =
+    if number == 0 then trace.net_acts
+    else if number == 1 then trace.serial_acts
+    else if number == 2 then trace.blk_acts
+    else []
+
+-- the trace has a list for each client, and keeps the limits on frames, bytes, requests and acts
 pub record KeepsLimits (plan : Plan) (trace : Trace) : Type 0 where
   pub sends : length trace.sends ≡ length (net_clients plan)
   pub says : length trace.says ≡ length (serial_clients plan)
@@ -151,3 +192,9 @@ pub record KeepsLimits (plan : Plan) (trace : Trace) : Type 0 where
   pub frames : length trace.frames + sum_by length trace.sends ≤ lines_most
   pub bytes : length trace.input + sum_by length trace.says ≤ stream_most
   pub requests : sum_by length trace.asks ≤ lines_most
+  pub net_acts : length trace.net_acts ≡ length (net_clients plan)
+  pub serial_acts : length trace.serial_acts ≡ length (serial_clients plan)
+  pub blk_acts : length trace.blk_acts ≡ length (blk_clients plan)
+  pub acts :
+      sum_by length trace.net_acts + sum_by length trace.serial_acts + sum_by length trace.blk_acts
+      ≤ lines_most

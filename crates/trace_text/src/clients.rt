@@ -1,8 +1,11 @@
 //! The clients of each class of a plan, as the lines of a trace name them.
 ghost use Rattle.std.specs.Prelude.{◌≡◌, length};
 ghost use Rattle.trace_text.specs.Events.{net_clients, serial_clients, blk_clients, runs};
-ghost use Rattle.trace_text.specs.Events.{is_source, is_speaker, is_blk_client};
+ghost use Rattle.trace_text.specs.Events.{is_source, is_speaker, is_script, is_net_rogue};
+ghost use Rattle.trace_text.specs.Events.{is_serial_rogue, is_blk_rogue, is_rogue};
+ghost use Rattle.trace_text.specs.Reading.{clients_in};
 
+use crate::class::Class;
 use crate::text::same_text;
 use cargo_core::Text;
 use sdf_plan::{Domain, Plan};
@@ -67,14 +70,85 @@ pub fn is_speaker(plan: &Plan, client: u64) -> bool
     }
 }
 
-// Whether there is a block client of a number.
-#[tactic(auto, unfolding(crate::specs::Events::is_blk_client))]
-pub fn is_blk_client(plan: &Plan, client: u64) -> bool
-    ensures { result ≡ is_blk_client plan.now client }
+// Whether the block client of a number makes requests of its own.
+#[tactic(auto, unfolding(crate::specs::Events::is_script))]
+pub fn is_script(plan: &Plan, client: u64) -> bool
+    ensures { result ≡ is_script plan.now client }
 {
     match &plan.blk {
-        Some(blk) => client < blk.client.len() as u64,
-        None => false,
+        Some(blk) if client < blk.client.len() as u64 => runs(
+            plan.protection_domain.as_slice(),
+            &blk.client.get(client as usize).pd,
+            "blk_script",
+        ),
+        _ => false,
+    }
+}
+
+/// Whether the network client of a number is a hostile one.
+#[tactic(auto, unfolding(crate::specs::Events::is_net_rogue))]
+pub fn is_net_rogue(plan: &Plan, client: u64) -> bool
+    ensures { result ≡ is_net_rogue plan.now client }
+{
+    match &plan.net {
+        Some(net) if client < net.client.len() as u64 => runs(
+            plan.protection_domain.as_slice(),
+            &net.client.get(client as usize).pd,
+            "net_rogue",
+        ),
+        _ => false,
+    }
+}
+
+/// Whether the serial client of a number is a hostile one.
+#[tactic(auto, unfolding(crate::specs::Events::is_serial_rogue))]
+pub fn is_serial_rogue(plan: &Plan, client: u64) -> bool
+    ensures { result ≡ is_serial_rogue plan.now client }
+{
+    match &plan.serial {
+        Some(serial) if client < serial.client.len() as u64 => runs(
+            plan.protection_domain.as_slice(),
+            &serial.client.get(client as usize).pd,
+            "serial_rogue",
+        ),
+        _ => false,
+    }
+}
+
+/// Whether the block client of a number is a hostile one.
+#[tactic(auto, unfolding(crate::specs::Events::is_blk_rogue))]
+pub fn is_blk_rogue(plan: &Plan, client: u64) -> bool
+    ensures { result ≡ is_blk_rogue plan.now client }
+{
+    match &plan.blk {
+        Some(blk) if client < blk.client.len() as u64 => runs(
+            plan.protection_domain.as_slice(),
+            &blk.client.get(client as usize).pd,
+            "blk_rogue",
+        ),
+        _ => false,
+    }
+}
+
+// Whether the client of a number is a hostile one of its class.
+pub fn is_rogue(plan: &Plan, class: Class, client: u64) -> bool
+    ensures { result ≡ is_rogue plan.now class client }
+{
+    match class {
+        Class::Net => is_net_rogue(plan, client),
+        Class::Serial => is_serial_rogue(plan, client),
+        Class::Blk => is_blk_rogue(plan, client),
+    }
+}
+
+// How many clients a class has.
+pub fn client_count(plan: &Plan, class: Class) -> usize
+    ensures { result ≡ clients_in plan.now class }
+{
+    match class {
+        Class::Net => net_client_count(plan),
+        Class::Serial => serial_client_count(plan),
+        Class::Blk => blk_client_count(plan),
     }
 }
 

@@ -4,6 +4,8 @@
 //! An example of its calls: `crates/library_examples/src/trace.rt`.
 #![tactic(auto)]
 
+mod acts;
+mod class;
 mod clients;
 mod data;
 mod disk_lines;
@@ -15,12 +17,13 @@ mod number;
 mod read;
 mod reader;
 mod request_lines;
+mod rogue_lines;
 mod stream_lines;
 mod text;
 mod trace;
 
-pub use cargo_core::Ask;
-pub use clients::{is_source, runs};
+pub use cargo_core::{Act, Ask, Word};
+pub use clients::{is_blk_rogue, is_net_rogue, is_serial_rogue, is_source, runs};
 pub use frame_lines::LONGEST_FRAME;
 pub use laws::{limits_law, shapes_law};
 pub use read::{TraceFault, read_trace};

@@ -1,6 +1,6 @@
 //! A line of a trace: its words, and which sort of line they make.
-ghost use Rattle.std.specs.Prelude.{◌≡◌, true, codes, [], ◌∷◌, IfOk};
-ghost use Rattle.trace_text.specs.Events.{same_text, words_say, meaning};
+ghost use Rattle.std.specs.Prelude.{[], ◌∷◌, IfOk};
+ghost use Rattle.trace_text.specs.Events.{blk_line, words_say, meaning};
 ghost use Rattle.trace_text.specs.Reading.{IsRead, HasLists};
 ghost use Rattle.trace_text.specs.Texts.{words_of};
 
@@ -82,7 +82,7 @@ impl Reader {
     {
         match split_once(rest, b' ') {
             None => self.read_three(alloc, plan, name, second, rest),
-            Some((third, rest)) => self.read_request(alloc, plan, name, second, third, rest),
+            Some((third, rest)) => self.read_long(alloc, plan, name, second, third, rest),
         }
     }
 
@@ -115,25 +115,44 @@ impl Reader {
     }
 
     // Reads a line of four words or more.
-    fn read_request(
+    fn read_long(
         &mut self,
         alloc: Global,
         plan: &Plan,
         name: &[u8],
+        second: &[u8],
+        third: &[u8],
+        rest: &[u8],
+    ) -> Result<bool, Memory>
+        requires { HasLists plan.now self.old }
+        ensures { IfOk result (λ good. IsRead self.old self.new good
+            (words_say plan.now (name.now ∷ second.now ∷ third.now ∷ words_of rest.now))) }
+    {
+        if same_text(name, "blk") {
+            return self.read_blk(alloc, plan, second, third, rest);
+        }
+        if same_text(name, "rogue") {
+            return self.read_rogue(alloc, plan, second, third, rest);
+        }
+        Ok(false)
+    }
+
+    // Reads a `blk` line of four words or more.
+    fn read_blk(
+        &mut self,
+        alloc: Global,
+        plan: &Plan,
         client: &[u8],
         code: &[u8],
         rest: &[u8],
     ) -> Result<bool, Memory>
         requires { HasLists plan.now self.old }
         ensures { IfOk result (λ good. IsRead self.old self.new good
-            (words_say plan.now (name.now ∷ client.now ∷ code.now ∷ words_of rest.now))) }
+            (blk_line plan.now client.now code.now (words_of rest.now))) }
     {
-        if !same_text(name, "blk") {
-            return Ok(false);
-        }
         match split_once(rest, b' ') {
             None => Ok(false),
-            Some((first, rest)) => self.read_blocks(alloc, plan, name, client, code, first, rest),
+            Some((first, rest)) => self.read_blocks(alloc, plan, client, code, first, rest),
         }
     }
 
@@ -142,17 +161,14 @@ impl Reader {
         &mut self,
         alloc: Global,
         plan: &Plan,
-        name: &[u8],
         client: &[u8],
         code: &[u8],
         first: &[u8],
         rest: &[u8],
     ) -> Result<bool, Memory>
-        requires lists { HasLists plan.now self.old }
-        requires blk { same_text name.now (codes "blk") ≡ true }
+        requires { HasLists plan.now self.old }
         ensures { IfOk result (λ good. IsRead self.old self.new good
-            (words_say plan.now (name.now ∷ client.now ∷ code.now ∷ first.now
-            ∷ words_of rest.now))) }
+            (blk_line plan.now client.now code.now (first.now ∷ words_of rest.now))) }
     {
         match split_once(rest, b' ') {
             None => {

@@ -3,7 +3,7 @@ ghost use Rattle.std.specs.Prelude.{◌≡◌, ◌<◌, [], ◌∷◌, length, O
 ghost use Rattle.trace_text.specs.Traces.{per_client};
 ghost use Rattle.trace_text.specs.Reading.{grown_at};
 
-use cargo_core::{Ask, Bytes, FrameLog, Memory, Series};
+use cargo_core::{Act, Ask, Bytes, FrameLog, Memory, Series};
 use std::alloc::Global;
 use std::mem;
 
@@ -34,6 +34,18 @@ pub fn no_bytes(alloc: Global, clients: usize) -> Result<Series<Bytes>, Memory>
 // An empty list of requests for each client.
 #[tactic(auto, using(crate::proofs::Rows::per_client_more))]
 pub fn no_asks(alloc: Global, clients: usize) -> Result<Series<Series<Ask>>, Memory>
+    ensures { IfOk result (λ lists. lists ≡ per_client clients (λ _. [])) }
+{
+    let mut lists = Series::new(alloc);
+    for _client in 0..clients {
+        lists.push(Series::new(alloc))?;
+    }
+    Ok(lists)
+}
+
+// An empty list of acts for each client.
+#[tactic(auto, using(crate::proofs::Rows::per_client_more))]
+pub fn no_acts(alloc: Global, clients: usize) -> Result<Series<Series<Act>>, Memory>
     ensures { IfOk result (λ lists. lists ≡ per_client clients (λ _. [])) }
 {
     let mut lists = Series::new(alloc);
@@ -93,6 +105,24 @@ pub fn add_ask(
     let mut all = mem::replace(lists, Series::new(alloc)).into_vec();
     let list = &mut all[client];
     list.push(ask)?;
+    *lists = Series::from_vec(all);
+    Ok(())
+}
+
+// Gives a client one more act. After want of memory the lists are gone.
+#[tactic(auto, using(crate::proofs::Rows::grown_at_set))]
+pub fn add_act(
+    alloc: Global,
+    lists: &mut Series<Series<Act>>,
+    client: usize,
+    act: Act,
+) -> Result<(), Memory>
+    requires { client < length lists.old }
+    ensures { OnOk result (lists.new ≡ grown_at lists.old client (act ∷ [])) }
+{
+    let mut all = mem::replace(lists, Series::new(alloc)).into_vec();
+    let list = &mut all[client];
+    list.push(act)?;
     *lists = Series::from_vec(all);
     Ok(())
 }

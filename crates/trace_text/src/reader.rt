@@ -4,13 +4,13 @@ ghost use Rattle.std.specs.Prelude.{◌≡◌, ◌==◌, ◌&&◌, [], is_some, 
 ghost use Rattle.trace_text.specs.Reading.{reader_after};
 
 use crate::clients::{blk_client_count, net_client_count, serial_client_count};
-use crate::lists::{no_asks, no_bytes, no_frames};
+use crate::lists::{no_acts, no_asks, no_bytes, no_frames};
 use crate::trace::Trace;
 use cargo_core::{Bytes, FrameLog, Memory};
 use sdf_plan::Plan;
 use std::alloc::Global;
 
-/// The most `rx` and `send` lines together, and the most `blk` lines.
+/// The most `rx` and `send` lines together, the most `blk` lines, and the most `rogue` lines.
 pub const LINES: u64 = 1024;
 
 // What the lines so far gave, and how much of each limit they used.
@@ -20,6 +20,7 @@ pub struct Reader {
     pub frame_lines: u64,
     pub stream_bytes: u64,
     pub request_lines: u64,
+    pub rogue_lines: u64,
     pub disk_lines: u64,
 }
 
@@ -37,10 +38,14 @@ impl Reader {
                 says: no_bytes(alloc, serial_client_count(plan))?,
                 asks: no_asks(alloc, blk_client_count(plan))?,
                 image: Bytes::new(alloc),
+                net_acts: no_acts(alloc, net_client_count(plan))?,
+                serial_acts: no_acts(alloc, serial_client_count(plan))?,
+                blk_acts: no_acts(alloc, blk_client_count(plan))?,
             },
             frame_lines: 0,
             stream_bytes: 0,
             request_lines: 0,
+            rogue_lines: 0,
             disk_lines: 0,
         })
     }

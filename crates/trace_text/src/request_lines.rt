@@ -4,7 +4,7 @@ ghost use Rattle.trace_text.specs.Events.{order_code, blk_order_line, blk_read_l
 ghost use Rattle.trace_text.specs.Events.{blk_write_line};
 ghost use Rattle.trace_text.specs.Reading.{IsRead, HasLists};
 
-use crate::clients::{blk_client_count, is_blk_client};
+use crate::clients::{blk_client_count, is_script};
 use crate::data::read_data;
 use crate::lists::add_ask;
 use crate::number::read_below;
@@ -41,7 +41,7 @@ impl Reader {
             Some(code) => code,
             None => return Ok(false),
         };
-        if !is_blk_client(plan, client) {
+        if !is_script(plan, client) {
             return Ok(false);
         }
         if self.request_lines >= LINES {
@@ -86,7 +86,7 @@ impl Reader {
         if count == 0 {
             return Ok(false);
         }
-        if !is_blk_client(plan, client) {
+        if !is_script(plan, client) {
             return Ok(false);
         }
         if self.request_lines >= LINES {
@@ -132,7 +132,7 @@ impl Reader {
         if count == 0 {
             return Ok(false);
         }
-        if !is_blk_client(plan, client) {
+        if !is_script(plan, client) {
             return Ok(false);
         }
         if self.request_lines >= LINES {

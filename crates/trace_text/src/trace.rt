@@ -1,7 +1,8 @@
 //! What a trace gives the devices and the clients.
 ghost use Rattle.std.specs.Prelude.{◌≡◌, ◌<◌, length, slice_get, Some};
+ghost use Rattle.trace_text.specs.Traces.{acts_of};
 
-use cargo_core::{Ask, Bytes, FrameLog, Series};
+use cargo_core::{Act, Ask, Bytes, FrameLog, Series};
 
 /// What a trace gives the devices and the clients, each list in the order of the lines.
 #[derive(Debug, Drop)]
@@ -18,6 +19,12 @@ pub struct Trace {
     pub asks: Series<Series<Ask>>,
     /// The bytes of the disk; none where there is no disk.
     pub image: Bytes,
+    /// The acts of each network client, of which a hostile one alone has any.
+    pub net_acts: Series<Series<Act>>,
+    /// The acts of each serial client.
+    pub serial_acts: Series<Series<Act>>,
+    /// The acts of each block client.
+    pub blk_acts: Series<Series<Act>>,
 }
 
 impl Trace {
@@ -57,6 +64,21 @@ impl Trace {
         ensures { slice_get self.now.asks client ≡ Some result.now }
     {
         self.asks.get(client as usize).as_slice()
+    }
+
+    /// The acts of a client of a class, 0 for network, 1 for serial and 2 for block clients; the
+    /// client must be one of its class. A hostile client alone has any.
+    pub fn acts(&self, class: u8, client: u32) -> &[Act]
+        requires { client < length (acts_of self.now class) }
+        ensures { slice_get (acts_of self.now class) client ≡ Some result.now }
+    {
+        let lists = match class {
+            0 => &self.net_acts,
+            1 => &self.serial_acts,
+            2 => &self.blk_acts,
+            _ => unreachable!(),
+        };
+        lists.get(client as usize).as_slice()
     }
 
     /// The bytes of the disk; none where there is no disk.

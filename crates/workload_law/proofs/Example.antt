@@ -10,7 +10,7 @@ use Rattle.toml.specs.Parse.{read_map, ends_line, val, items, expression, line, 
 use Rattle.toml.proofs.OnLiterals.{toml_on_literals}
 use Rattle.sdf_model.specs.Counts.{text_most}
 use Rattle.sdf_model.specs.Spelled.{plan_of}
-use Rattle.trace_text.specs.Events.{is_source, is_speaker, is_blk_client}
+use Rattle.trace_text.specs.Events.{is_source, is_speaker, is_script}
 use Rattle.workload.specs.declared.description.TheConstants.{FULL_EXAMPLE}
 use Rattle.workload_law.specs.Clients.{HasClients}
 
@@ -281,17 +281,25 @@ speaker_there : is_speaker (plan_of root) 0 ≡ true
 unfolding is_speaker root serial_table domains domain_0 domain_1 domain_2 domain_3 domain_4 domain_5 domain_6 domain_7 domain_8 domain_9 domain_10
 speaker_there = refl
 
+first_disk_there : is_script (plan_of root) 0 ≡ true
+unfolding is_script root blk_table domains domain_0 domain_1 domain_2 domain_3 domain_4 domain_5 domain_6 domain_7 domain_8 domain_9 domain_10 domain_11 domain_12 domain_13 domain_14
+first_disk_there = refl
+
+second_disk_there : is_script (plan_of root) 1 ≡ true
+unfolding is_script root blk_table domains domain_0 domain_1 domain_2 domain_3 domain_4 domain_5 domain_6 domain_7 domain_8 domain_9 domain_10 domain_11 domain_12 domain_13 domain_14 domain_15
+second_disk_there = refl
+
 -- the plan has the clients that the generated traces are for
 pub full_clients : HasClients (plan_of root)
-unfolding root blk_table is_blk_client
+unfolding root
 full_clients = record {
   net = refl;
   serial = refl;
   blk = refl;
   source = source_there;
   speaker = speaker_there;
-  first_disk = refl;
-  second_disk = refl;
+  first_disk = first_disk_there;
+  second_disk = second_disk_there;
 }
 
 -- what an answer unfolds to compute on the whole document

@@ -11,7 +11,7 @@ use Rattle.frame_core.specs.Frames.{is_frame_of, broadcast}
 use Rattle.sdf_plan.specs.declared.plan.Plan.{Plan}
 use Rattle.trace_text.specs.Limits.{frame_most}
 use Rattle.trace_text.specs.Texts.{words_of, number_of, piece_of, data_of}
-use Rattle.trace_text.specs.Events.{Event, meaning, is_source, is_speaker, is_blk_client, is_reach, bare_ask, words_say, is_skipped, rx_line as rx_meaning, in_line as in_meaning, send_line as send_meaning, say_line as say_meaning, disk_line, bytes_line, blk_read_line, blk_write_line}
+use Rattle.trace_text.specs.Events.{Event, meaning, is_source, is_speaker, is_script, is_reach, bare_ask, words_say, is_skipped, rx_line as rx_meaning, in_line as in_meaning, send_line as send_meaning, say_line as say_meaning, disk_line, bytes_line, blk_read_line, blk_write_line}
 use Rattle.trace_text.specs.Traces.{HasNoBadLine, trace_from}
 use Rattle.trace_text.specs.Reading.{reader_after}
 use Rattle.trace_text.proofs.Judged.{and_right}
@@ -109,13 +109,13 @@ disk_says plan blk = rw blk refl
 abbrev IsLow : ℕ → Type 0
 IsLow block = (block ≡ 0) ⊎ (block ≡ 1)
 
-read_low : (plan : Plan) (block : ℕ) → IsLow block → is_blk_client plan 0 ≡ true
+read_low : (plan : Plan) (block : ℕ) → IsLow block → is_script plan 0 ≡ true
     → meaning plan (codes "blk 0 read " ++ (decimal block ++ codes " 1")) ≡ Some (Event.Request 0 (bare_ask Asked.Read block 1))
 unfolding meaning words_say blk_read_line number_of digits
 read_low plan block (inl e) there = rw (e, there) refl
 read_low plan block (inr e) there = rw (e, there) refl
 
-read_other : (plan : Plan) → is_blk_client plan 1 ≡ true → meaning plan (codes "blk 1 read 0 1") ≡ Some (Event.Request 1 (bare_ask Asked.Read 0 1))
+read_other : (plan : Plan) → is_script plan 1 ≡ true → meaning plan (codes "blk 1 read 0 1") ≡ Some (Event.Request 1 (bare_ask Asked.Read 0 1))
 unfolding meaning words_say blk_read_line number_of
 read_other plan there = rw there refl
 
@@ -147,7 +147,7 @@ write_words block value low small =
     ∙ ap (λ rest. decimal block ∷ rest) (next_word (codes "1") fill (lacks 32 (codes "1") refl)
     ∙ ap (λ rest. codes "1" ∷ rest) (last_word fill (lacks_both 32 (codes "4096*") (encode_lower (value ∷ [])) (lacks 32 (codes "4096*") refl) (hex_lacks 32 refl (value ∷ []) (bytes_cons value [] small bytes_none))))))))
 
-write_says : (plan : Plan) (block value : ℕ) → IsLow block → value < 256 → is_blk_client plan 0 ≡ true
+write_says : (plan : Plan) (block value : ℕ) → IsLow block → value < 256 → is_script plan 0 ≡ true
     → meaning plan (codes "blk 0 write " ++ (decimal block ++ (codes " 1 4096*" ++ encode_lower (value ∷ [])))) ≡ Some (Event.Request 0 (write_ask block 1 (replicate 4096 value)))
 unfolding blk_write_line
 write_says plan block value low small there =
@@ -281,7 +281,7 @@ low_block draw = elim (cases_lt (draw % 2) 1) [
   | inr high ↦ inr (omega (arith, high))
 ]
 
-write_next : (plan : Plan) (text : List ℕ) → is_blk_client plan 0 ≡ true → (f b d l block value : ℕ) (rest : List ℕ) (a : ℕ) → IsLow block → value < 256 → a < 1024
+write_next : (plan : Plan) (text : List ℕ) → is_script plan 0 ≡ true → (f b d l block value : ℕ) (rest : List ℕ) (a : ℕ) → IsLow block → value < 256 → a < 1024
     → IsAt plan text (write_line block value ++ rest) f b a d l → IsAt plan text rest f b (a + 1) d l
 unfolding write_line
 write_next plan text there f b d l block value rest a low small room at =
@@ -298,7 +298,7 @@ write_next plan text there f b d l block value rest a low small room at =
     (lacks_both 10 word (codes " 1 4096*" ++ fill) (low_lacks 10 block refl refl low) (lacks_both 10 (codes " 1 4096*") fill (lacks 10 (codes " 1 4096*") refl) (hex_lacks 10 refl (value ∷ []) is))))
     (write_says plan block value low small there) room (subst (λ rest'. IsAt plan text rest' f b a d l) whole at)
 
-read_next : (plan : Plan) (text : List ℕ) → is_blk_client plan 0 ≡ true → (f b d l block : ℕ) (rest : List ℕ) (a : ℕ) → IsLow block → a < 1024
+read_next : (plan : Plan) (text : List ℕ) → is_script plan 0 ≡ true → (f b d l block : ℕ) (rest : List ℕ) (a : ℕ) → IsLow block → a < 1024
     → IsAt plan text (read_line block ++ rest) f b a d l → IsAt plan text rest f b (a + 1) d l
 unfolding read_line
 read_next plan text there f b d l block rest a low room at =

@@ -14,38 +14,38 @@ use Rattle.decision_core.proofs.deciding.decide_named.Goals as goal
 
 pub returns-clause-decides : goal.returns-clause-decides
 returns-clause-decides g c =
-    let asks : AsksFor (texts_of c.args.words.now) c.requires.0 c.as_str.result.now c.args.asked
-    = subst (λ x. AsksFor (texts_of c.args.words.now) c.requires.0 x c.args.asked) (sym c.as_str.ensures.value) (third-named c.args.words.now c.requires.0 c.requires.1 c.args.asked c.index-words-2.result c.requires.2 c.index-words-2.is) in
-    traced c.requires.0 c.as_str.result.now c.in_ok-bytes.bytes c.args.asked (decision_of c.in_ok-decide_trace.field-0) asks c.in_ok-bytes.ensures.bytes
+    let asks : AsksFor (texts_of c.args.words.now) c.requires.asks.0 c.as_str.result.now c.args.asked
+    = subst (λ x. AsksFor (texts_of c.args.words.now) c.requires.asks.0 x c.args.asked) (sym c.as_str.ensures.value) (third-named c.args.words.now c.requires.asks.0 c.requires.asks.1 c.args.asked c.index-words-2.result c.requires.asks.2 c.index-words-2.is) in
+    traced c.requires.asks.0 c.as_str.result.now c.in_ok-bytes.bytes c.args.asked (decision_of c.in_ok-decide_trace.field-0) asks c.requires.friendly c.in_ok-bytes.ensures.bytes
     (subst (λ x. TraceDecides c.args.plan c.args.asked x (decision_of c.in_ok-decide_trace.field-0)) c.as_slice.ensures c.in_ok-decide_trace.ensures)
 
 pub returns-in_err-bytes-clause-reads : goal.returns-in_err-bytes-clause-reads
 returns-in_err-bytes-clause-reads g c =
-    let asks : AsksFor (texts_of c.args.words.now) c.requires.0 c.as_str.result.now c.args.asked
-    = subst (λ x. AsksFor (texts_of c.args.words.now) c.requires.0 x c.args.asked) (sym c.as_str.ensures.value) (third-named c.args.words.now c.requires.0 c.requires.1 c.args.asked c.index-words-2.result c.requires.2 c.index-words-2.is) in
+    let asks : AsksFor (texts_of c.args.words.now) c.requires.asks.0 c.as_str.result.now c.args.asked
+    = subst (λ x. AsksFor (texts_of c.args.words.now) c.requires.asks.0 x c.args.asked) (sym c.as_str.ensures.value) (third-named c.args.words.now c.requires.asks.0 c.requires.asks.1 c.args.asked c.index-words-2.result c.requires.asks.2 c.index-words-2.is) in
     let p = err_from_is_err_and c.from_residual.result c.from_residual.ensures.1 in
     rw (p.1, p.2) (reads-stopped g.F.Shelf.text g.F.Shelf.left g.F.Shelf.opens g.F.Shelf.faults g.F.Shelf.failed (Opens c.as_str.result.now) (OpensTrace (texts_of c.args.words.now))
     (LeavesRest (g.F.Shelf.text c.args.shelf.now) c.as_str.result.now) (OfEach (LeavesPlan (g.F.Shelf.text c.args.shelf.now) (texts_of c.args.words.now))) _ _ _ c.in_err-bytes.ensures.reads
-    (λ o. inr (c.requires.0, c.as_str.result.now, c.args.asked, asks, o)))
+    (λ o. inr (c.requires.asks.0, c.as_str.result.now, c.args.asked, asks, o)))
 
 pub returns-in_err-decide_trace-clause-reads : goal.returns-in_err-decide_trace-clause-reads
 returns-in_err-decide_trace-clause-reads g c =
-    let asks : AsksFor (texts_of c.args.words.now) c.requires.0 c.as_str.result.now c.args.asked
-    = subst (λ x. AsksFor (texts_of c.args.words.now) c.requires.0 x c.args.asked) (sym c.as_str.ensures.value) (third-named c.args.words.now c.requires.0 c.requires.1 c.args.asked c.index-words-2.result c.requires.2 c.index-words-2.is) in
+    let asks : AsksFor (texts_of c.args.words.now) c.requires.asks.0 c.as_str.result.now c.args.asked
+    = subst (λ x. AsksFor (texts_of c.args.words.now) c.requires.asks.0 x c.args.asked) (sym c.as_str.ensures.value) (third-named c.args.words.now c.requires.asks.0 c.requires.asks.1 c.args.asked c.index-words-2.result c.requires.asks.2 c.index-words-2.is) in
     let p = err_from_is_err_and c.from_residual-in_err-decide_trace.result c.from_residual-in_err-decide_trace.ensures.1 in
     rw p.1 (reads-starved g.F.Shelf.text g.F.Shelf.left g.F.Shelf.opens g.F.Shelf.faults g.F.Shelf.failed (Opens c.as_str.result.now) (OpensTrace (texts_of c.args.words.now))
     (LeavesRest (g.F.Shelf.text c.args.shelf.now) c.as_str.result.now) (OfEach (LeavesPlan (g.F.Shelf.text c.args.shelf.now) (texts_of c.args.words.now))) _ _ c.in_ok-bytes.bytes _ _ c.in_ok-bytes.ensures.reads p.2
-    (λ o. inr (c.requires.0, c.as_str.result.now, c.args.asked, asks, o)))
+    (λ o. inr (c.requires.asks.0, c.as_str.result.now, c.args.asked, asks, o)))
 
 pub returns-clause-reads : goal.returns-clause-reads
 returns-clause-reads g c =
-    let asks : AsksFor (texts_of c.args.words.now) c.requires.0 c.as_str.result.now c.args.asked
-    = subst (λ x. AsksFor (texts_of c.args.words.now) c.requires.0 x c.args.asked) (sym c.as_str.ensures.value) (third-named c.args.words.now c.requires.0 c.requires.1 c.args.asked c.index-words-2.result c.requires.2 c.index-words-2.is) in
+    let asks : AsksFor (texts_of c.args.words.now) c.requires.asks.0 c.as_str.result.now c.args.asked
+    = subst (λ x. AsksFor (texts_of c.args.words.now) c.requires.asks.0 x c.args.asked) (sym c.as_str.ensures.value) (third-named c.args.words.now c.requires.asks.0 c.requires.asks.1 c.args.asked c.index-words-2.result c.requires.asks.2 c.index-words-2.is) in
     reads-for g.F.Shelf.text g.F.Shelf.left g.F.Shelf.opens g.F.Shelf.faults g.F.Shelf.failed (Opens c.as_str.result.now) (OpensTrace (texts_of c.args.words.now))
     (LeavesRest (g.F.Shelf.text c.args.shelf.now) c.as_str.result.now) (OfEach (LeavesPlan (g.F.Shelf.text c.args.shelf.now) (texts_of c.args.words.now))) _ _ c.in_ok-bytes.bytes c.in_ok-decide_trace.field-0 c.in_ok-bytes.ensures.reads
-    (λ o. inr (c.requires.0, c.as_str.result.now, c.args.asked, asks, o))
+    (λ o. inr (c.requires.asks.0, c.as_str.result.now, c.args.asked, asks, o))
     (λ rest status e. inr (
-      c.requires.0,
+      c.requires.asks.0,
       c.as_str.result.now,
       c.args.asked,
       asks,

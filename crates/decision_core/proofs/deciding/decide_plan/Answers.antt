@@ -39,13 +39,13 @@ returns-in_ok-say_layout-in-Layout-clause-reads g c =
       stopped = tt;
     }
 
-pub decide_named-requires : goal.decide_named-requires
-decide_named-requires g c =
+pub decide_asked-requires-clause-asks : goal.decide_asked-requires-clause-asks
+decide_asked-requires-clause-asks g c =
     let s : Spells (texts_of c.args.words.now) (Do.Play c.in-Play.options) = rw c.in-Play.is at c.requires.spells in
     (s.0, s.1, to_play c.in-Play.options s.2)
 
-pub decide_named-requires-in-Run : goal.decide_named-requires-in-Run
-decide_named-requires-in-Run g c =
+pub decide_asked-requires-in-Run-clause-asks : goal.decide_asked-requires-in-Run-clause-asks
+decide_asked-requires-in-Run-clause-asks g c =
     let s : Spells (texts_of c.args.words.now) (Do.Run c.in-Run.steps) = rw c.in-Run.is at c.requires.spells in
     (s.0, s.1, to_run c.in-Run.steps s.2)
 
@@ -72,13 +72,13 @@ returns-in_err-say_layout-in-Layout-clause-reads g c =
     })
 
 pub returns-in-Play-clause-decides : goal.returns-in-Play-clause-decides
-returns-in-Play-clause-decides g c = c.decide_named.ensures.decides
+returns-in-Play-clause-decides g c = c.decide_asked.ensures.decides
 
 pub returns-in-Play-clause-reads : goal.returns-in-Play-clause-reads
-returns-in-Play-clause-reads g c = c.decide_named.ensures.reads
+returns-in-Play-clause-reads g c = c.decide_asked.ensures.reads
 
 pub returns-in-Run-clause-decides : goal.returns-in-Run-clause-decides
-returns-in-Run-clause-decides g c = c.decide_named-in-Run.ensures.decides
+returns-in-Run-clause-decides g c = c.decide_asked-in-Run.ensures.decides
 
 pub returns-in-Run-clause-reads : goal.returns-in-Run-clause-reads
-returns-in-Run-clause-reads g c = c.decide_named-in-Run.ensures.reads
+returns-in-Run-clause-reads g c = c.decide_asked-in-Run.ensures.reads

@@ -1,0 +1,20 @@
+-- Which plans have a hostile client, and where the first stands.
+use Rattle.std.specs.Prelude.{Bool, false, Option}
+use Rattle.std.specs.List.{find}
+use Rattle.sdf_plan.specs.declared.place.Place.{Place}
+use Rattle.sdf_plan.specs.declared.place.Place.TheVariants as At
+use Rattle.sdf_plan.specs.declared.plan.Plan.{Plan}
+use Rattle.sdf_plan.specs.Places.{walk}
+use Rattle.sdf_plan.specs.Elements.{outline_of}
+use Rattle.trace_text.specs.Events.{is_net_rogue, is_serial_rogue, is_blk_rogue}
+
+-- whether a hostile client stands at a place
+abbrev pub is_rogue_at : Plan → Place → Bool
+is_rogue_at plan (At.NetClient c) = is_net_rogue plan c
+is_rogue_at plan (At.SerialClient c) = is_serial_rogue plan c
+is_rogue_at plan (At.BlkClient c) = is_blk_rogue plan c
+is_rogue_at plan _ = false
+
+-- where the first hostile client stands, in the order in which a rule is read
+unfoldable pub first_rogue : Plan → Option Place
+first_rogue plan = find (is_rogue_at plan) (walk (outline_of plan))
