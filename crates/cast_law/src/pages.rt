@@ -1,23 +1,28 @@
 //! The buffers of a cast at play, one by one, whatever classes it has.
 
-ghost use Rattle.std.specs.Prelude.{◌≡◌, ℕ, List, map};
+ghost use Rattle.std.specs.Prelude.{◌≡◌, ◌<◌, ◌≤◌, ℕ, Some, List, map, slice_get};
+ghost use Rattle.wire_core.specs.declared.names.PoolRow.{PoolRow};
 ghost use Rattle.wire_core.specs.declared.names.QueueRow.{QueueRow};
 ghost use Rattle.wire_core.specs.declared.names.Entry.{Entry};
 ghost use Rattle.wire_core.specs.Journal.{History};
 ghost use Rattle.wire_core.specs.Lists.{Passed};
 ghost use Rattle.wire_core.specs.Queues.{Queue};
-ghost use Rattle.buffer_kit.specs.Conserving.{Count};
+ghost use Rattle.buffer_kit.specs.Conserving.{Count, the_page, of_other_length};
+ghost use Rattle.owner_law.specs.Pools.Places.{PoolAt};
 ghost use Rattle.page_law.specs.Holders.{AreHeld};
+ghost use Rattle.actor_set.specs.Parts.{Part};
 ghost use Rattle.actor_set.specs.Actors.{part_of};
 ghost use Rattle.actor_set.specs.declared.actor.Actor.{Actor};
 ghost use Rattle.actor_set.specs.Laws.Kinds.{scene_of};
+ghost use Rattle.cast_law.specs.Pools.Places.{PoolPlace, IsPlaced, HasPools, place_sizes};
 ghost use Rattle.cast_law.specs.Pools.Pooling.{AreAtPlay};
-ghost use Rattle.cast_law.specs.Pages.Paging.{page_holders, pools_weigh, cast_weighs};
+ghost use Rattle.cast_law.specs.Pages.Paging.{page_holders, part_pools, pools_weigh};
+ghost use Rattle.cast_law.specs.Pages.Paging.{cast_weighs};
 
 /// At a moment of a cast at play each actor conserves buffers one by one. Whatever is counted of
 /// buffers by their pool, their number and their length, the queues and the actors have what all
 /// buffers of the cast's pools weigh, each with its pool's length. So each buffer of each pool is
-/// in one place, and has its pool's length there; and there are no others.
+/// in one place and there once, and no buffer of a pool has another length than the pool's.
 pub fn cast_page_law()
     ensures held { (history : History) (rows : List QueueRow) (actors : List Actor)
         (journal : List Entry) (passed : Passed) (world : List Queue)
@@ -28,4 +33,17 @@ pub fn cast_page_law()
         (journal : List Entry) (passed : Passed) (world : List Queue)
         → AreAtPlay history rows actors journal passed world → (f : Count)
         → cast_weighs f passed world actors ≡ pools_weigh f (map part_of actors) }
+    ensures once { (history : History) (rows : List QueueRow) (actors : List Actor)
+        (journal : List Entry) (passed : Passed) (world : List Queue)
+        → AreAtPlay history rows actors journal passed world
+        → (pools : List PoolRow) (place : PoolPlace) → IsPlaced rows place (map part_of actors)
+        → HasPools pools place → (pool number : ℕ) → number < place_sizes place pool
+        → cast_weighs (the_page (record { 0 = pool }) number) passed world actors ≡ 1 }
+    ensures lengths { (history : History) (rows : List QueueRow) (actors : List Actor)
+        (journal : List Entry) (passed : Passed) (world : List Queue)
+        → AreAtPlay history rows actors journal passed world
+        → (pools : List PoolRow) (place : PoolPlace) → IsPlaced rows place (map part_of actors)
+        → HasPools pools place → (i : ℕ) (p : Part) → slice_get (map part_of actors) i ≡ Some p
+        → (j : ℕ) (q : PoolAt) → slice_get (part_pools p) j ≡ Some q → 1 ≤ q.buffers
+        → cast_weighs (of_other_length (record { 0 = q.number }) q.size) passed world actors ≡ 0 }
 {}

@@ -1,8 +1,8 @@
 -- Each buffer of a cast's pools is there once, and none has another length than its pool's.
-use Rattle.std.proofs.Common.{◌≡◌, ◌≢◌, ◌⊎◌, ◌==◌, ◌&&◌, ◌+◌, ◌<◌, ◌≤◌, ℕ, zero, suc, Bool, true, false, not, cond, if◌then◌else◌, Some, List, [], ◌∷◌, ◌++◌, length, map, flat_map, slice_get, count_by, refl, sym, ap, ◌∙◌, subst, arith, eq-eqb, ne_eqb, inl, inr}
+use Rattle.std.proofs.Common.{◌≡◌, ◌≢◌, ◌⊎◌, ◌==◌, ◌&&◌, ◌+◌, ◌<◌, ◌≤◌, ℕ, zero, suc, Bool, true, false, not, cond, if◌then◌else◌, Some, List, [], ◌∷◌, length, map, flat_map, slice_get, count_by, refl, sym, ap, ◌∙◌, arith, eq-eqb, inl, inr}
 use Rattle.std.specs.List.{sum_by}
 use Rattle.std.proofs.Math.Dec.{eqb}
-use Rattle.std.proofs.lemmas.Bool.{cases_eq, cases_lt}
+use Rattle.std.proofs.lemmas.Bool.{cases_lt}
 use Rattle.std.proofs.lemmas.Bool.Decides.{eqb_tells}
 use Rattle.std.proofs.lemmas.List.{length-map}
 use Rattle.std.proofs.lemmas.List.Sums.{sum_by-cons, sum_by-append}
@@ -10,7 +10,7 @@ use Rattle.wire_core.specs.declared.names.PoolRow.{PoolRow}
 use Rattle.wire_core.specs.declared.names.QueueRow.{QueueRow}
 use Rattle.wire_core.specs.Marks.{sum_below}
 use Rattle.play_core.specs.Sheets.{Scene, AreSeated}
-use Rattle.play_core.proofs.Lists.{some_is, there_is, there_below}
+use Rattle.play_core.proofs.Lists.{some_is, there_is}
 use Rattle.owner_law.specs.Things.{Buffer}
 use Rattle.owner_law.specs.Keeping.{Keeper, keeper_of, at_start}
 use Rattle.owner_law.specs.Pools.Places.{PoolAt, numbers_from, pool_hand}
@@ -19,8 +19,8 @@ use Rattle.owner_law.proofs.PoolsLemmas.Sizing.{number_there, spread_dealt}
 use Rattle.buffer_kit.specs.Conserving.{Count, the_page, of_other_length}
 use Rattle.page_law.proofs.ActorsLemmas.Pages.{same_sum, none_sum, first_sum}
 use Rattle.page_law.proofs.LawLemmas.Placing.{below_at}
-use Rattle.net_law.specs.Parts.Parts.{NetPart, NetDevice, NetDriver, NetReceiver, NetCopier, NetClient}
-use Rattle.blk_law.specs.Sheets.Parts.{BlkPart, DiskDevice, BlkDriver, BlkVirt, BlkClient}
+use Rattle.net_law.specs.Parts.Parts.{NetDevice, NetDriver, NetReceiver, NetCopier, NetClient}
+use Rattle.blk_law.specs.Sheets.Parts.{DiskDevice, BlkDriver, BlkVirt, BlkClient}
 use Rattle.actor_set.specs.Parts.{Part, UartPart, DriverPart, RxPart, TxPart, ClientPart, NetworkPart, SendingPart, BlockPart}
 use Rattle.actor_set.specs.Laws.Kinds.{sheet, scene_of}
 use Rattle.cast_law.specs.Pools.Places.{PoolPlace, IsPlaced, HasPools, place_sizes}

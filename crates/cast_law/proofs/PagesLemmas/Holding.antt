@@ -1,9 +1,8 @@
 -- Where the buffers of a cast at play are: all that is counted of them is in queues and with actors.
-use Rattle.std.proofs.Common.{◌≡◌, ◌+◌, ◌<◌, ℕ, zero, suc, Some, List, [], ◌∷◌, ◌++◌, drop, length, map, slice_get, slice_index_or, refl, sym, ap, ◌∙◌, subst, arith}
+use Rattle.std.proofs.Common.{◌≡◌, ◌<◌, ◌≤◌, ℕ, zero, suc, Some, List, [], ◌∷◌, ◌++◌, drop, length, map, flat_map, slice_get, refl, sym, ap, ◌∙◌, subst, arith}
 use Rattle.std.specs.List.{sum_by}
 use Rattle.std.proofs.lemmas.List.Sums.{sum_by-cons}
-use Rattle.cargo_core.specs.declared.item.PoolId.{PoolId}
-use Rattle.cargo_core.specs.Lists.{IsPrefix}
+use Rattle.wire_core.specs.declared.names.PoolRow.{PoolRow}
 use Rattle.wire_core.specs.declared.names.QueueRow.{QueueRow}
 use Rattle.wire_core.specs.declared.names.Entry.{Entry}
 use Rattle.wire_core.specs.Deeds.{Cargo}
@@ -15,19 +14,22 @@ use Rattle.play_core.specs.Sheets.{Scene, Sheet, AreApart}
 use Rattle.play_core.proofs.Lists.{map_from, some_is}
 use Rattle.owner_law.specs.Keeping.{Keeper, AreKeepers, keeper_of}
 use Rattle.owner_law.specs.Pools.Lines.{came, went}
+use Rattle.owner_law.specs.Pools.Places.{PoolAt}
 use Rattle.owner_law.proofs.Casts.{cast_keepers}
-use Rattle.buffer_kit.specs.Conserving.{Count, counted, weighed, Conserves}
-use Rattle.page_law.specs.Holders.{PageHolder, AreHeld, keeper, has, queue_has, now_counted, start_counted}
+use Rattle.buffer_kit.specs.Conserving.{Count, counted, weighed, the_page, of_other_length, Conserves}
+use Rattle.page_law.specs.Holders.{PageHolder, AreHeld, keeper, has, queue_has, start_counted}
 use Rattle.page_law.proofs.ActorsLemmas.Pages.{same_sum, first_sum}
 use Rattle.page_law.proofs.LawLemmas.Summing.{whole}
 use Rattle.actor_set.specs.Parts.{Part}
-use Rattle.actor_set.specs.Actors.{ActorStandsFor, IsWhole, part_of}
+use Rattle.actor_set.specs.Actors.{IsWhole, part_of}
 use Rattle.actor_set.specs.declared.actor.Actor.{Actor}
 use Rattle.actor_set.specs.Laws.Kinds.{sheet, scene_of}
 use Rattle.actor_set.proofs.LawsLemmas.Starts.{fits_whole}
+use Rattle.cast_law.specs.Pools.Places.{PoolPlace, IsPlaced, HasPools, place_sizes}
 use Rattle.cast_law.specs.Pools.Pooling.{AreAtPlay}
 use Rattle.cast_law.specs.Pages.Paging.{AllStand, page_holder, page_holders, actor_weighs, cast_weighs, part_pools, pool_weighs, pools_weigh}
 use Rattle.cast_law.proofs.PoolsLemmas.Apart.{ends_apart}
+use Rattle.cast_law.proofs.PagesLemmas.Counting.{pages_once, lengths_one}
 use Rattle.cast_law.proofs.PagesLemmas.Acting.{actor_conserves, start_weighs}
 
 -- a part's sheet without what it has
@@ -70,6 +72,21 @@ queues_weigh f [] = refl
 queues_weigh f (q ∷ world) =
     omega (arith, first_sum (λ n. weighed f (queue_at (q ∷ world) n).entries) (length world), queues_weigh f world, sum_by-cons (λ (r : Queue). weighed f r.entries) q world)
 
+-- an element of one of the lists is one of all together
+get_left : {Y : Type 0} (xs ys : List Y) (j : ℕ) (y : Y) → slice_get xs j ≡ Some y → slice_get (xs ++ ys) j ≡ Some y
+get_left [] ys j y at = cc
+get_left (x ∷ xs) ys zero y at = at
+get_left (x ∷ xs) ys (suc j) y at = get_left xs ys j y at
+
+get_right : {Y : Type 0} (xs ys : List Y) (n : ℕ) (y : Y) → slice_get ys n ≡ Some y → (m : ℕ) × (slice_get (xs ++ ys) m ≡ Some y)
+get_right [] ys n y at = (n, at)
+get_right (x ∷ xs) ys n y at = let r = get_right xs ys n y at in (suc r.0, r.1)
+
+in_flat : {X Y : Type 0} (g : X → List Y) (xs : List X) (i : ℕ) (x : X) → slice_get xs i ≡ Some x → (j : ℕ) (y : Y) → slice_get (g x) j ≡ Some y → (n : ℕ) × (slice_get (flat_map g xs) n ≡ Some y)
+in_flat g [] i x at j y at' = cc
+in_flat g (z ∷ xs) zero x at j y at' = (j, get_left (g z) (flat_map g xs) j y (subst (λ w. slice_get (g w) j ≡ Some y) (sym (some_is at)) at'))
+in_flat g (z ∷ xs) (suc i) x at j y at' = let r = in_flat g xs i x at j y at' in get_right (g z) (flat_map g xs) r.0 y r.1
+
 module _ (history : History) (rows : List QueueRow) (actors : List Actor) (journal : List Entry) (passed : Passed) (world : List Queue) (play : AreAtPlay history rows actors journal passed world) where
   abbrev cast : List Part
   cast = map part_of actors
@@ -102,3 +119,13 @@ module _ (history : History) (rows : List QueueRow) (actors : List Actor) (journ
       let many = ap (sum_below (λ n. weighed f (queue_at world n).entries)) (sym play.size) in
       let queues = queues_weigh f world in
       omega (arith, all, start, hands, each, many, queues)
+
+  -- so each buffer is there once, and none of a pool has another length
+  module _ (pools : List PoolRow) (place : PoolPlace) (placed : IsPlaced rows place cast) (has : HasPools pools place) where
+    pub cast_once : (pool number : ℕ) → number < place_sizes place pool → cast_weighs (the_page (record { 0 = pool }) number) passed world actors ≡ 1
+    cast_once pool number lt = cast_whole (the_page (record { 0 = pool }) number) ∙ pages_once rows pools place cast play.seated placed has pool number lt
+
+    pub cast_lengths : (i : ℕ) (p : Part) → slice_get cast i ≡ Some p → (j : ℕ) (q : PoolAt) → slice_get (part_pools p) j ≡ Some q → 1 ≤ q.buffers → cast_weighs (of_other_length (record { 0 = q.number }) q.size) passed world actors ≡ 0
+    cast_lengths i p at j q at' some =
+        let n = in_flat part_pools cast i p at j q at' in
+        cast_whole (of_other_length (record { 0 = q.number }) q.size) ∙ lengths_one rows pools place cast play.seated placed has n.0 q n.1 some

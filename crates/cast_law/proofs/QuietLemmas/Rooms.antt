@@ -28,7 +28,7 @@ use Rattle.actor_set.proofs.LawsLemmas.Calm.{calm_row}
 use Rattle.wired_law.specs.Wiring.{HasWhole}
 use Rattle.cast_core.specs.Casts.{client_pools, net_place}
 use Rattle.cast_core.specs.Sources.{pool_at, client_mac, client_program}
-use Rattle.cast_core.specs.Making.{HasPool, HasPools as HasPoolRows, HasNetPool}
+use Rattle.cast_core.specs.Making.{HasPools as HasPoolRows, HasNetPool}
 use Rattle.cast_core.proofs.Listing.{value_count, value_is}
 use Rattle.cast_core.proofs.Rooms.{has_pools}
 

@@ -1,6 +1,6 @@
 -- Each actor of a cast with the buffers that it had at the start and those that it has, and what
 -- the buffers of pools weigh.
-use Rattle.std.specs.Prelude.{◌≡◌, ◌+◌, ℕ, suc, Some, List, [], ◌∷◌, ◌++◌, flat_map, slice_get, sum_by}
+use Rattle.std.specs.Prelude.{◌≡◌, ◌+◌, ℕ, suc, Some, List, [], ◌∷◌, ◌++◌, slice_get, sum_by}
 use Rattle.std.specs.Prelude.{refl}
 use Rattle.cargo_core.specs.declared.item.Body.{Body}
 use Rattle.cargo_core.specs.declared.item.Body.TheVariants as Carried

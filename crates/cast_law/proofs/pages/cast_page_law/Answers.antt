@@ -1,4 +1,4 @@
-use Rattle.cast_law.proofs.PagesLemmas.Holding.{cast_held, cast_whole}
+use Rattle.cast_law.proofs.PagesLemmas.Holding.{cast_held, cast_whole, cast_once, cast_lengths}
 use Rattle.cast_law.proofs.pages.cast_page_law.Goals as goal
 
 pub returns-clause-held : goal.returns-clause-held
@@ -6,3 +6,9 @@ returns-clause-held c = cast_held
 
 pub returns-clause-whole : goal.returns-clause-whole
 returns-clause-whole c = cast_whole
+
+pub returns-clause-once : goal.returns-clause-once
+returns-clause-once c = λ history rows actors journal passed world play pools place placed has pool number lt. cast_once history rows actors journal passed world play pools place placed has pool number lt
+
+pub returns-clause-lengths : goal.returns-clause-lengths
+returns-clause-lengths c = λ history rows actors journal passed world play pools place placed has i p at j q at' some. cast_lengths history rows actors journal passed world play pools place placed has i p at j q at' some
