@@ -12,7 +12,7 @@ ghost use Rattle.wire_core.specs.Queues.{Queue, end_at};
 ghost use Rattle.play_core.specs.Growing.{AllWithin, RowsStandIn, Stays, runs_in};
 ghost use Rattle.play_core.specs.Manners.{Manners};
 ghost use Rattle.play_core.specs.Moved.{Moved, moved};
-ghost use Rattle.play_core.specs.Names.{GrowsTo, Names, Wild, names_at};
+ghost use Rattle.play_core.specs.Names.{GrowsTo, Names, Wild, names_at, wild_in};
 ghost use Rattle.play_core.specs.Rests.Showing.{HaveBells, HaveItems};
 ghost use Rattle.play_core.specs.Runs.{runnable};
 ghost use Rattle.play_core.specs.Sheets.{IsOwn, Scene, needful};
@@ -21,7 +21,6 @@ ghost use Rattle.net_law.specs.Receiving.{HandsOver};
 ghost use Rattle.actor_set.specs.Actors.{ActorStandsFor, FitsActor, actor_rests, part_of};
 ghost use Rattle.actor_set.specs.Laws.Kinds.{hostiles, sheet};
 ghost use Rattle.actor_set.specs.Laws.Scenes.{LiesWithin, NoneWild, ToldInTurn, told_sheet};
-ghost use Rattle.actor_set.specs.Laws.Scenes.{wild_in};
 ghost use Rattle.actor_set.specs.Parts.{Part};
 ghost use Rattle.actor_set.specs.declared.actor.Actor.{Actor};
 

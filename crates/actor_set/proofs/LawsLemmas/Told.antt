@@ -1,14 +1,14 @@
 -- What is said of a part by the names that are told, kind by kind.
-use Rattle.std.proofs.Common.{◌≡◌, ℕ, false, not, Option, None, Some, List, [], slice_get, refl, ap}
+use Rattle.std.proofs.Common.{◌≡◌, ◌&&◌, ℕ, false, not, Option, None, Some, List, [], slice_get, refl, ap}
 use Rattle.std.specs.Option.{option_map_or}
 use Rattle.wire_core.specs.declared.names.Entry.{Entry}
 use Rattle.wire_core.specs.declared.names.QueueRow.{QueueRow}
-use Rattle.wire_core.specs.Journal.{History, is_calm}
+use Rattle.wire_core.specs.Journal.{History}
 use Rattle.wire_core.specs.Lists.{Passed}
 use Rattle.play_core.specs.Growing.{Stays, runs_in}
 use Rattle.play_core.specs.Manners.{Manners}
 use Rattle.play_core.specs.Moved.{Moved, moved}
-use Rattle.play_core.specs.Names.{GrowsTo, Names, Wild, names_at}
+use Rattle.play_core.specs.Names.{GrowsTo, Names, Wild, carries_pages, is_wild, names_at, wild_in}
 use Rattle.play_core.specs.Rests.Showing.{HaveItems}
 use Rattle.play_core.specs.Runs.{runnable}
 use Rattle.play_core.specs.Sheets.{IsOwn, Scene, needful}
@@ -25,7 +25,7 @@ use Rattle.blk_law.proofs.VirtScene.Calming as server_calm
 use Rattle.blk_law.proofs.VirtScene.Moments as server_moments
 use Rattle.actor_set.specs.Parts.{Part, UartPart, DriverPart, RxPart, TxPart, ClientPart, NetworkPart, SendingPart, BlockPart}
 use Rattle.actor_set.specs.Laws.Kinds.{hostiles, sheet}
-use Rattle.actor_set.specs.Laws.Scenes.{LiesWithin, NoneWild, told_sheet, wild_in}
+use Rattle.actor_set.specs.Laws.Scenes.{LiesWithin, NoneWild, told_sheet}
 use Rattle.actor_set.proofs.LawsLemmas.Calm.{calm_row as calm_here, sheet_own}
 use Rattle.actor_set.proofs.LawsLemmas.NetRows.{items_at}
 
@@ -138,9 +138,9 @@ pub lies_within : (wild : Wild) (p : Part) (passed : Passed) (m : Moved) → Han
 lies_within wild p passed m flows has = told_within (record { frames = []; image = [] }) wild p passed m flows has
 
 -- no queue has a hostile end
-none_here : (cast : List Part) (o : Option QueueRow) → option_map_or (λ (row : QueueRow). not (is_calm (hostiles cast) row)) o false ≡ false
+none_here : (cast : List Part) (o : Option QueueRow) → option_map_or (is_wild (hostiles cast)) o false ≡ false
 none_here cast None = refl
-none_here cast (Some row) = ap not (calm_here cast row)
+none_here cast (Some row) = ap (λ b. not b && carries_pages row.kind) (calm_here cast row)
 
 none_wild : (cast : List Part) (rows : List QueueRow) (n : ℕ) → wild_in (hostiles cast) rows n ≡ false
 none_wild cast rows n = none_here cast (slice_get rows n)

@@ -1,9 +1,6 @@
 -- The table of the kinds of actor by the names that are told of pages, where clients of the
 -- virtualisers may be hostile; and where nothing came out of turn at an actor.
-use Rattle.std.specs.Prelude.{◌≡◌, false, not, List, [], slice_get}
-use Rattle.std.specs.Option.{option_map_or}
-use Rattle.wire_core.specs.declared.names.QueueRow.{QueueRow}
-use Rattle.wire_core.specs.Journal.{Hostiles, is_calm}
+use Rattle.std.specs.Prelude.{◌≡◌, []}
 use Rattle.wire_core.specs.Lists.{Passed}
 use Rattle.play_core.specs.Moved.{Moved}
 use Rattle.play_core.specs.Names.{Names, Wild}
@@ -21,11 +18,6 @@ use Rattle.actor_set.specs.declared.actor.Actor.{Actor}
 use Rattle.actor_set.specs.declared.actor.Actor.TheVariants as Kinds
 use Rattle.actor_set.specs.Laws.Kinds.{sheet}
 use Rattle.actor_set.specs.Laws.Turning.{InTurn}
-
--- which queues have a hostile end, by who is hostile
-abbrev pub wild_in : Hostiles → List QueueRow → Wild
-wild_in hostile rows n =
-    option_map_or (λ (row : QueueRow). not (is_calm hostile row)) (slice_get rows n) false
 
 -- what is said of a part, in a scene and by the names that are told: only at the virtualisers that
 -- judge what clients put is a name asked
