@@ -12,13 +12,14 @@ ghost use Rattle.wire_core.specs.Queues.{Queue, end_at};
 ghost use Rattle.play_core.specs.Growing.{AllWithin, RowsStandIn, Stays, runs_in};
 ghost use Rattle.play_core.specs.Manners.{Manners};
 ghost use Rattle.play_core.specs.Moved.{Moved, moved};
-ghost use Rattle.play_core.specs.Names.{GrowsTo, Names, Wild, names_at};
+ghost use Rattle.play_core.specs.Names.{GrowsTo, Names, Wild, names_at, wild_in};
 ghost use Rattle.play_core.specs.Rests.Showing.{HaveBells, HaveItems};
-ghost use Rattle.play_core.specs.Sheets.{IsOwn, Scene};
+ghost use Rattle.play_core.specs.Runs.{runnable};
+ghost use Rattle.play_core.specs.Sheets.{IsOwn, Scene, needful};
 ghost use Rattle.play_core.specs.Wants.{all_settled};
 ghost use Rattle.net_law.specs.Receiving.{HandsOver};
 ghost use Rattle.actor_set.specs.Actors.{ActorStandsFor, FitsActor, actor_rests, part_of};
-ghost use Rattle.actor_set.specs.Laws.Kinds.{sheet};
+ghost use Rattle.actor_set.specs.Laws.Kinds.{hostiles, sheet};
 ghost use Rattle.actor_set.specs.Laws.Scenes.{LiesWithin, NoneWild, ToldInTurn, told_sheet};
 ghost use Rattle.actor_set.specs.Parts.{Part};
 ghost use Rattle.actor_set.specs.declared.actor.Actor.{Actor};
@@ -55,6 +56,18 @@ pub fn scene_law()
         → NoneWild wild p → (told_sheet scene wild names p).wants m ≡ (sheet scene p).wants m }
     ensures calm_dues { (scene : Scene) (wild : Wild) (names : Names) (p : Part) (m : Moved)
         → NoneWild wild p → (told_sheet scene wild names p).dues m ≡ (sheet scene p).dues m }
+{}
+
+/// Nobody is hostile yet: so no queue has a hostile end, and whichever names are told, who is
+/// runnable by them is who is runnable without names.
+pub fn calm_law()
+    ensures none { (cast : List Part) (rows : List QueueRow) (p : Part)
+        → NoneWild (wild_in (hostiles cast) rows) p }
+    ensures runs { (scene : Scene) (names : Names) (manner : Manners) (history : History)
+        (rows : List QueueRow) (cast : List Part) (journal : List Entry)
+        → runs_in (told_sheet scene (wild_in (hostiles cast) rows)) names manner history rows cast
+        journal ≡ runnable manner history rows
+        (needful (sheet scene) cast (moved history journal)) journal }
 {}
 
 /// An actor of any kind, of whose clients some may be hostile: where it stands for its lists and

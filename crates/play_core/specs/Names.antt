@@ -1,12 +1,18 @@
 -- What items don't show of the entries that were put: the names of the pages that they carry, told
 -- queue by queue in lists that grow at their ends.
-use Rattle.std.specs.Prelude.{ℕ, Bool, true, false, Option, Some, None, List, [], ◌∷◌, map}
+use Rattle.std.specs.Prelude.{◌≡◌, ◌==◌, ◌&&◌, ℕ, Bool, true, false, not, cond, Option, Some, None}
+use Rattle.std.specs.Prelude.{List, [], ◌∷◌, map, slice_get}
+use Rattle.std.specs.Option.{option_map_or}
 use Rattle.cargo_core.specs.declared.item.Item.{Item}
 use Rattle.cargo_core.specs.declared.item.Body.{Body}
 use Rattle.cargo_core.specs.declared.item.Body.TheVariants as Carried
+use Rattle.cargo_core.specs.declared.item.QueueKind.{QueueKind}
+use Rattle.cargo_core.specs.declared.item.QueueKind.TheVariants as Kind
 use Rattle.cargo_core.specs.Lists.{IsPrefix}
-use Rattle.wire_core.specs.Deeds.{Cargo}
-use Rattle.wire_core.specs.Lists.{Passed}
+use Rattle.wire_core.specs.declared.names.QueueRow.{QueueRow}
+use Rattle.wire_core.specs.Deeds.{Cargo, Deed, cargo_of}
+use Rattle.wire_core.specs.Journal.{Hostiles, is_calm}
+use Rattle.wire_core.specs.Lists.{Passed, if_put}
 
 -- a page by its pool and its number there
 pub record Tag : Type 0 where
@@ -32,9 +38,24 @@ Names = ℕ → List Name
 abbrev pub GrowsTo : Names → Names → Type 0
 GrowsTo old new = (n : ℕ) → IsPrefix (old n) (new n)
 
--- of each queue, whether a hostile actor has one of its ends
+-- of each queue, whether names of its entries are kept
 abbrev pub Wild : Type 0
 Wild = ℕ → Bool
+
+-- the entries of a queue of this kind may carry pages: a byte carries none
+abbrev pub carries_pages : QueueKind → Bool
+carries_pages Kind.Net = true
+carries_pages Kind.Byte = false
+carries_pages Kind.Req = true
+carries_pages Kind.Resp = true
+
+-- they are kept where a hostile actor has an end of the queue, and its entries may carry pages
+abbrev pub is_wild : Hostiles → QueueRow → Bool
+is_wild hostile row = not (is_calm hostile row) && carries_pages row.kind
+
+-- so it is of each queue, by these rows
+abbrev pub wild_in : Hostiles → List QueueRow → Wild
+wild_in hostile rows n = option_map_or (is_wild hostile) (slice_get rows n) false
 
 -- an item with the name of its page
 abbrev pub Named : Type 0
@@ -66,3 +87,24 @@ names_at passed n = names_of (passed.sent n)
 abbrev pub by_sort : {T : Type 0} → Bool → T → T → T
 by_sort true told all = told
 by_sort false told all = all
+
+-- a name that is kept: of an entry that was put to this queue
+pub record Noted : Type 0 where
+  pub queue : ℕ
+  pub name : Name
+
+-- the names of the queues by those that are kept, one after another in the order of the puts
+abbrev pub told_by : List Noted → Names
+told_by [] n = []
+told_by (x ∷ notes) n = cond (x.queue == n) (x.name ∷ told_by notes n) (told_by notes n)
+
+-- the names that a call adds to those that are kept: that of the entry that it put, if any
+abbrev pub notes_of : Wild → Deed → List Noted
+notes_of wild d = cond (wild d.event.queue.0) (map (λ (c : Cargo). record {
+  queue = d.event.queue.0;
+  name = name_of c.1;
+}) (if_put d.event.op (cargo_of d))) []
+
+-- the names that are kept are those of all that was put, of each queue of which they are kept
+abbrev pub AreNoted : Wild → List Noted → Passed → Type 0
+AreNoted wild notes passed = (n : ℕ) → wild n ≡ true → told_by notes n ≡ names_at passed n

@@ -1,11 +1,19 @@
 -- What is said of a part by the names that are told, kind by kind.
-use Rattle.std.proofs.Common.{◌≡◌, [], refl}
+use Rattle.std.proofs.Common.{◌≡◌, ◌&&◌, ℕ, false, not, Option, None, Some, List, [], slice_get, refl, ap}
+use Rattle.std.specs.Option.{option_map_or}
+use Rattle.wire_core.specs.declared.names.Entry.{Entry}
+use Rattle.wire_core.specs.declared.names.QueueRow.{QueueRow}
+use Rattle.wire_core.specs.Journal.{History}
 use Rattle.wire_core.specs.Lists.{Passed}
-use Rattle.play_core.specs.Growing.{Stays}
-use Rattle.play_core.specs.Moved.{Moved}
-use Rattle.play_core.specs.Names.{GrowsTo, Names, Wild, names_at}
+use Rattle.play_core.specs.Growing.{Stays, runs_in}
+use Rattle.play_core.specs.Manners.{Manners}
+use Rattle.play_core.specs.Moved.{Moved, moved}
+use Rattle.play_core.specs.Names.{GrowsTo, Names, Wild, carries_pages, is_wild, names_at, wild_in}
 use Rattle.play_core.specs.Rests.Showing.{HaveItems}
-use Rattle.play_core.specs.Sheets.{IsOwn, Scene}
+use Rattle.play_core.specs.Runs.{runnable}
+use Rattle.play_core.specs.Sheets.{IsOwn, Scene, needful}
+use Rattle.play_core.proofs.Lists.{map_alike}
+use Rattle.blk_law.specs.Sheets.Parts.{BlkPart, DiskDevice, BlkDriver, BlkVirt, BlkClient}
 use Rattle.net_law.specs.Receiving.{HandsOver}
 use Rattle.net_law.specs.TxScene.Table as sending
 use Rattle.net_law.proofs.TxScene.Following as sender_growth
@@ -16,9 +24,9 @@ use Rattle.blk_law.proofs.VirtScene.Growing as server_growth
 use Rattle.blk_law.proofs.VirtScene.Calming as server_calm
 use Rattle.blk_law.proofs.VirtScene.Moments as server_moments
 use Rattle.actor_set.specs.Parts.{Part, UartPart, DriverPart, RxPart, TxPart, ClientPart, NetworkPart, SendingPart, BlockPart}
-use Rattle.actor_set.specs.Laws.Kinds.{sheet}
+use Rattle.actor_set.specs.Laws.Kinds.{hostiles, sheet}
 use Rattle.actor_set.specs.Laws.Scenes.{LiesWithin, NoneWild, told_sheet}
-use Rattle.actor_set.proofs.LawsLemmas.Calm.{sheet_own}
+use Rattle.actor_set.proofs.LawsLemmas.Calm.{calm_row as calm_here, sheet_own}
 use Rattle.actor_set.proofs.LawsLemmas.NetRows.{items_at}
 
 module _ (scene : Scene) (wild : Wild) where
@@ -128,3 +136,30 @@ module _ (scene : Scene) (wild : Wild) where
 -- no frame and no image is asked
 pub lies_within : (wild : Wild) (p : Part) (passed : Passed) (m : Moved) → HandsOver passed → HaveItems passed m → LiesWithin wild (names_at passed) p m
 lies_within wild p passed m flows has = told_within (record { frames = []; image = [] }) wild p passed m flows has
+
+-- no queue has a hostile end
+none_here : (cast : List Part) (o : Option QueueRow) → option_map_or (is_wild (hostiles cast)) o false ≡ false
+none_here cast None = refl
+none_here cast (Some row) = ap (λ b. not b && carries_pages row.kind) (calm_here cast row)
+
+none_wild : (cast : List Part) (rows : List QueueRow) (n : ℕ) → wild_in (hostiles cast) rows n ≡ false
+none_wild cast rows n = none_here cast (slice_get rows n)
+
+none_block : (cast : List Part) (rows : List QueueRow) (p : BlkPart) → block.NoneWild (wild_in (hostiles cast) rows) p
+none_block cast rows (DiskDevice req resp image) = tt
+none_block cast rows (BlkDriver ways) = tt
+none_block cast rows (BlkVirt req resp sectors pool clients) = λ k c at. none_wild cast rows c.req
+none_block cast rows (BlkClient req resp asks pool) = tt
+
+pub none_hostile : (cast : List Part) (rows : List QueueRow) (p : Part) → NoneWild (wild_in (hostiles cast) rows) p
+none_hostile cast rows (UartPart rx tx input) = tt
+none_hostile cast rows (DriverPart device_rx device_tx rx tx) = tt
+none_hostile cast rows (RxPart rx clients) = tt
+none_hostile cast rows (TxPart tx clients) = tt
+none_hostile cast rows (ClientPart rx tx script) = tt
+none_hostile cast rows (NetworkPart p) = tt
+none_hostile cast rows (SendingPart p) = λ k c at. none_wild cast rows c.active
+none_hostile cast rows (BlockPart p) = none_block cast rows p
+
+pub runs_calm : (scene : Scene) (names : Names) (manner : Manners) (history : History) (rows : List QueueRow) (cast : List Part) (journal : List Entry) → runs_in (told_sheet scene (wild_in (hostiles cast) rows)) names manner history rows cast journal ≡ runnable manner history rows (needful (sheet scene) cast (moved history journal)) journal
+runs_calm scene names manner history rows cast journal = ap (λ ws. runnable manner history rows ws journal) (map_alike (λ p. (told_sheet scene (wild_in (hostiles cast) rows) names p).wants (moved history journal)) (λ p. (sheet scene p).wants (moved history journal)) cast (λ k p at. calm_wants scene (wild_in (hostiles cast) rows) names p (moved history journal) (none_hostile cast rows p)))
