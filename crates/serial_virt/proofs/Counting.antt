@@ -3,10 +3,14 @@ use Rattle.std.proofs.lemmas.List.{length-map}
 use Rattle.turn_kit.specs.Turns.{Post, Choosing, choice_with, offered_from, choosing, choice_of}
 use Rattle.turn_kit.specs.Table.{is_settled}
 use Rattle.turn_kit.specs.Posts.{intake_post}
-use Rattle.turn_kit.specs.ManyEnds.{intake_queues, intake_posts, needs_from}
+use Rattle.turn_kit.specs.Posts.{outlet_post}
+use Rattle.turn_kit.specs.ManyEnds.{intake_queues, intake_posts, outlet_queues, outlet_posts, needs_from, is_here}
 use Rattle.turn_kit.specs.declared.ends.Intake.{Intake}
+use Rattle.turn_kit.specs.declared.ends.Outlet.{Outlet}
 use Rattle.wire_core.specs.Deeds.{Cargo}
 use Rattle.serial_virt.specs.declared.tx.SerialVirtTx.{SerialVirtTx}
+use Rattle.serial_virt.specs.declared.rx.SerialVirtRx.{SerialVirtRx}
+use Rattle.serial_virt.specs.Receiving.{rx_round, place_loaded}
 use Rattle.serial_virt.specs.Sending.{tx_round}
 
 -- offering ends changes no count
@@ -33,3 +37,15 @@ tx_choice v b s n c0 c1 c2 free settled count h0 h1 h2 =
     ∙ ap (λ c. offered_from c 1 (intake_posts v.inputs) (needs_from (λ place. is_none v.load) 0 (intake_queues v.inputs)))
     (h1 ∙ (ap (λ x. choice_with c0 (record { queue = v.output.queue.0; place = 0 }) x) settled
     ∙ ap (λ c. choice_with c (record { queue = v.output.queue.0; place = 0 }) (is_settled v.output.state (is_some v.load))) (h0 ∙ ap (λ m. choosing m v.turn.last) all))))
+
+-- the input of the receiving virtualiser was offered, and then its outputs
+pub rx_choice : (v : SerialVirtRx) (s : Bool) (owed : Option ℕ) (n : ℕ) (c0 c1 c2 : Choosing) → s ≡ is_settled v.input.state (is_none v.load) → owed ≡ place_loaded v → n ≡ 1 + length (outlet_queues v.outputs) → c0 ≡ choosing n v.turn.last
+    → c1 ≡ choice_with c0 (record { queue = v.input.queue.0; place = 0 }) s → c2 ≡ offered_from c1 1 (outlet_posts v.outputs) (needs_from (is_here owed) 0 (outlet_queues v.outputs)) → c2 ≡ choice_of (rx_round v)
+rx_choice v s owed n c0 c1 c2 settled here count h0 h1 h2 =
+    let long = length-map v.outputs.ends.items (λ (o : Outlet). o.queue) in
+    let posts = length-map v.outputs.ends.items outlet_post in
+    let all : n ≡ length (rx_round v).posts = omega (arith, count, long, posts) in
+    h2 ∙ (ap (λ (x : Option ℕ). offered_from c1 1 (outlet_posts v.outputs) (needs_from (is_here x) 0 (outlet_queues v.outputs))) here
+    ∙ ap (λ c. offered_from c 1 (outlet_posts v.outputs) (needs_from (is_here (place_loaded v)) 0 (outlet_queues v.outputs)))
+    (h1 ∙ (ap (λ x. choice_with c0 (record { queue = v.input.queue.0; place = 0 }) x) settled
+    ∙ ap (λ c. choice_with c (record { queue = v.input.queue.0; place = 0 }) (is_settled v.input.state (is_none v.load))) (h0 ∙ ap (λ m. choosing m v.turn.last) all))))

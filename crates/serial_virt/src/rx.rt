@@ -196,6 +196,7 @@ impl SerialVirtRx {
     }
 
     /// Makes one call on one of its ends.
+    #[inline(never)]
     pub fn step<W: Wires>(&mut self, wires: &mut W) -> Event
         requires { FitsRx (W.ends wires.old) self.old }
         ensures fits { FitsRx (W.ends wires.new) self.new }
