@@ -40,15 +40,18 @@ idle_plays_nothing For.NetTxVirt h = cc
 idle_plays_nothing For.NetCopier h = cc
 idle_plays_nothing For.NetClient (inl h) = cc
 idle_plays_nothing For.NetClient (inr (inl h)) = cc
-idle_plays_nothing For.NetClient (inr (inr h)) = cc
+idle_plays_nothing For.NetClient (inr (inr (inl h))) = cc
+idle_plays_nothing For.NetClient (inr (inr (inr h))) = cc
 idle_plays_nothing For.SerialDriver h = cc
 idle_plays_nothing For.SerialRxVirt h = cc
 idle_plays_nothing For.SerialTxVirt h = cc
 idle_plays_nothing For.SerialClient (inl h) = cc
-idle_plays_nothing For.SerialClient (inr h) = cc
+idle_plays_nothing For.SerialClient (inr (inl h)) = cc
+idle_plays_nothing For.SerialClient (inr (inr h)) = cc
 idle_plays_nothing For.BlkDriver h = cc
 idle_plays_nothing For.BlkVirt h = cc
-idle_plays_nothing For.BlkClient h = cc
+idle_plays_nothing For.BlkClient (inl h) = cc
+idle_plays_nothing For.BlkClient (inr h) = cc
 
 here : (b : Bool) (x : Domain) (rest : List Domain) (domain : Domain) → b ≡ true → x ≡ domain → IsIn domain.name (map (λ (d : Domain). d.name) (cond b (x ∷ rest) rest))
 here true x rest domain acting same = (0, ap (λ (d : Domain). Some d.name) same)

@@ -41,6 +41,9 @@ fn input_is_switched_by_selections(rt: HostRuntime) -> Result<(), Fail> {
         says: Series::new(alloc),
         asks: Series::new(alloc),
         image: Bytes::new(alloc),
+        net_acts: Series::new(alloc),
+        serial_acts: Series::new(alloc),
+        blk_acts: Series::new(alloc),
     };
     assert_eq!(rt;
         input_of(alloc, &trace, 2, 1)?.as_slice(),
