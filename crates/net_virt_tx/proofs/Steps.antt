@@ -298,9 +298,9 @@ tx_in i o f t w w' k q x passed took put calls from_each to_each none h (inr ((c
     (strays i o f t w x passed took put calls q.0 h none takes puts
     (inr (k, c.sender, get_map (λ (y : Client). y.sender) w.clients.items k c there, place, λ b. descriptor_stray c (h.work.each k c there) (h.turn (queue_at f k)) (own_of c.sender (passed.sent o)) (own_of c.sender (h.turn i)) (passed.sent (queue_at t k)) (h.stands.clients k c there) x idle good mark (subst (λ n. IsDescriptorInTurn c.sender (h.turn n) (passed.sent (queue_at t k)) x) place b)))
     (λ j d is_there here.
-        let l = slice_get_within w.clients.items j d is_there in
-        let same : k ≡ j = apart k j q (slice_index_or f j (record { 0 = 0 })) at (queue_there f j (omega (arith, l, from_each))) here in
-        subst (λ (y : Client). is_idle y ≡ true) (some_eq (sym there ∙ (ap (slice_get w.clients.items) same ∙ is_there))) idle)
+    let l = slice_get_within w.clients.items j d is_there in
+    let same : k ≡ j = apart k j q (slice_index_or f j (record { 0 = 0 })) at (queue_there f j (omega (arith, l, from_each))) here in
+    subst (λ (y : Client). is_idle y ≡ true) (some_eq (sym there ∙ (ap (slice_get w.clients.items) same ∙ is_there))) idle)
     (λ pool. later_more pool took (x ∷ []) i f k q at apart ne takes))
 
 given_none : (item : Option Item) → given item None ≡ None

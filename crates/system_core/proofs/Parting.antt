@@ -1,10 +1,12 @@
--- A system before its first step may be taken apart: its queues are in their start state, where
--- nothing passed, and its actors are ready.
-use Rattle.std.proofs.Common.{◌≡◌, ◌++◌, ℕ, suc, Some, List, [], ◌∷◌, length, map, slice_get, refl, sym, ap, ◌∙◌, subst, arith}
+-- A system before its first step may be taken apart: its queues show their ends what they do in
+-- their start state, where nothing passed, and its actors are ready.
+use Rattle.std.proofs.Common.{◌≡◌, ℕ, zero, suc, nat_lt, Some, List, [], ◌∷◌, length, map, slice_get, refl, sym, ap, ◌∙◌, subst, arith}
+use Rattle.std.proofs.lemmas.List.{length-map}
 use Rattle.wire_core.specs.declared.names.QueueRow.{QueueRow}
 use Rattle.wire_core.specs.Deeds.{Cargo}
+use Rattle.wire_core.specs.Ends.{Role, End}
 use Rattle.wire_core.specs.Lists.{nothing_passed}
-use Rattle.wire_core.specs.Queues.{Queue, queue_at, end_at, items_of, start_queue, starts}
+use Rattle.wire_core.specs.Queues.{Queue, queue_at, end_at, end_of, items_of, start_queue, starts}
 use Rattle.wire_core.specs.Journal.{History, Track, IsShown, start_track, start_history}
 use Rattle.wire_core.specs.Sizes.{AreSized}
 use Rattle.wire_core.proofs.BellTheorem.{start_is}
@@ -26,25 +28,13 @@ no_entry : (xs : List Cargo) → items_of xs ≡ [] → xs ≡ []
 no_entry [] none = refl
 no_entry (x ∷ xs) none = cc
 
--- a queue that shows nothing and in which nothing stands is in its start state
-same_queue : (row : QueueRow) (q : Queue) → IsShown row q start_track → q.entries ≡ [] → q ≡ start_queue row
-same_queue row q is none =
-    ap (λ k. record { kind = k; capacity = q.capacity; producer = q.producer; consumer = q.consumer; entries = q.entries; bells = q.bells }) is.kind
-    ∙ (ap (λ c. record { kind = row.kind; capacity = c; producer = q.producer; consumer = q.consumer; entries = q.entries; bells = q.bells }) is.capacity
-    ∙ (ap (λ p. record { kind = row.kind; capacity = row.capacity; producer = p; consumer = q.consumer; entries = q.entries; bells = q.bells }) is.producer
-    ∙ (ap (λ c. record { kind = row.kind; capacity = row.capacity; producer = row.producer.0; consumer = c; entries = q.entries; bells = q.bells }) is.consumer
-    ∙ (ap (λ es. record { kind = row.kind; capacity = row.capacity; producer = row.producer.0; consumer = row.consumer.0; entries = es; bells = q.bells }) none
-    ∙ ap (λ b. record { kind = row.kind; capacity = row.capacity; producer = row.producer.0; consumer = row.consumer.0; entries = []; bells = b }) is.bells))))
-
--- where each queue is, all are
-same_world : (rows : List QueueRow) (world : List Queue) → length world ≡ length rows → ((n : ℕ) (row : QueueRow) → slice_get rows n ≡ Some row → queue_at world n ≡ start_queue row) → world ≡ starts rows
-same_world [] [] size each = refl
-same_world [] (q ∷ world) size each = absurd (omega (arith, size))
-same_world (row ∷ rows) [] size each = absurd (omega (arith, size))
-same_world (row ∷ rows) (q ∷ world) size each =
-    let first : q ≡ start_queue row = each 0 row refl in
-    let rest : world ≡ starts rows = same_world rows world (omega (arith, size)) (λ n r at. each (suc n) r at) in
-    ap (λ (x : Queue). x ∷ world) first ∙ ap (λ (l : List Queue). start_queue row ∷ l) rest
+-- where each queue shows that nothing happened, all show their ends what they do at the start
+same_kept : (rows : List QueueRow) (world : List Queue) → length world ≡ length rows → ((n : ℕ) (row : QueueRow) → slice_get rows n ≡ Some row → IsShown row (queue_at world n) start_track) → (n : ℕ) → ((queue_at world n).kind ≡ (queue_at (starts rows) n).kind) × ((queue_at world n).bells ≡ (queue_at (starts rows) n).bells)
+same_kept [] [] size each n = (refl, refl)
+same_kept [] (q ∷ world) size each n = absurd (omega (arith, size))
+same_kept (row ∷ rows) [] size each n = absurd (omega (arith, size))
+same_kept (row ∷ rows) (q ∷ world) size each zero = let is = each 0 row refl in (is.kind, is.bells)
+same_kept (row ∷ rows) (q ∷ world) size each (suc n) = same_kept rows world (omega (arith, size)) (λ m r at. each (suc m) r at) n
 
 -- nothing passed before the first step
 module _ (rows : List QueueRow) (world : List Queue) (actors : List Actor) (h : Holds (start_history rows) rows world actors []) where
@@ -54,13 +44,11 @@ module _ (rows : List QueueRow) (world : List Queue) (actors : List Actor) (h : 
   none_sent : (n : ℕ) → h.passed.sent n ≡ []
   none_sent n = no_entry (h.passed.sent n) (h.shows_sent n ∙ ap (λ (t : Track). t.sent) (start_is rows n))
 
-  none_there : (n : ℕ) → (queue_at world n).entries ≡ []
-  none_there n =
-      let es : List Cargo = (queue_at world n).entries in
-      sym (ap (λ (l : List Cargo). l ++ es) (none_taken n)) ∙ (sym (h.stands_there n) ∙ none_sent n)
-
-  start_world : world ≡ starts rows
-  start_world = same_world rows world h.size (λ n row at. same_queue row (queue_at world n) (subst (IsShown row (queue_at world n)) (start_is rows n) (h.queues n row at)) (none_there n))
+  start_ends : end_at world ≡ end_at (starts rows)
+  start_ends =
+      let long : length world ≡ length (starts rows) = h.size ∙ sym (length-map rows start_queue) in
+      let kept = same_kept rows world h.size (λ n row at. subst (IsShown row (queue_at world n)) (start_is rows n) (h.queues n row at)) in
+      λ i. λ r n. end_of (nat_lt n (long i)) ((kept n).0 i) ((kept n).1 i) r
 
 module _ (a : Inside) (i : IsSystem a) (anew : (setting_of a).history ≡ start_history a.rows.items) (none : a.journal.items ≡ []) where
   holds : Holds (start_history a.rows.items) a.rows.items a.world a.actors.items []
@@ -72,7 +60,7 @@ module _ (a : Inside) (i : IsSystem a) (anew : (setting_of a).history ≡ start_
   -- its actors fit the queues in their start state, and own the ends that they have there
   pub are_ready : AreReady a.rows.items a.actors.items
   are_ready = record {
-    fits = λ k x at. subst (λ (w : List Queue). FitsActor (end_at w) x) (start_world a.rows.items a.world a.actors.items holds) (holds.fits k x at);
+    fits = λ k x at. subst (λ (e : Role → ℕ → End). FitsActor e x) (start_ends a.rows.items a.world a.actors.items holds) (holds.fits k x at);
     stands = λ k x at. stands_beside holds.passed nothing_passed x (whole k x at) (λ n e. sym (none_taken a.rows.items a.world a.actors.items holds n)) (λ n e. sym (none_sent a.rows.items a.world a.actors.items holds n)) (holds.stands k x at);
     owners = λ k x at r n own.
         let e = end_seat (scene_of (map part_of a.actors.items)) (part_of x) r n (to_part x r n (whole k x at) own) in
