@@ -41,7 +41,8 @@ pub record FitsBlkVirt (ends : Role → ℕ → End) (v : BlkVirt) : Type 0 wher
 
 -- what it took of responses is what came in turn and at most one, which came last and out of turn;
 -- it stands for what came in turn and what it put; its own buffer has the length of each client's;
--- and what it had at the start and what came is, buffer by buffer, what went and what is in its hand
+-- and what it had at the start and what came is, buffer by buffer, what went and what is in its
+-- hand
 pub record VirtStands (input output : ℕ) (from_clients to_clients : List QueueId) (w : Work)
     (passed : Passed) : Type 0 where
   pub work : IsWork w

@@ -1,3 +1,4 @@
 pub mod Acting
 pub mod Counting
+pub mod Lending
 pub mod Holding

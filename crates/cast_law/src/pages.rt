@@ -7,22 +7,27 @@ ghost use Rattle.wire_core.specs.declared.names.Entry.{Entry};
 ghost use Rattle.wire_core.specs.Journal.{History};
 ghost use Rattle.wire_core.specs.Lists.{Passed};
 ghost use Rattle.wire_core.specs.Queues.{Queue};
-ghost use Rattle.buffer_kit.specs.Conserving.{Count, the_page, of_other_length};
+ghost use Rattle.buffer_kit.specs.Conserving.{Count, counted, the_page, of_other_length};
+ghost use Rattle.play_core.specs.Moved.{moved};
+ghost use Rattle.owner_law.specs.Pages.{CarryPages};
 ghost use Rattle.owner_law.specs.Pools.Places.{PoolAt};
 ghost use Rattle.page_law.specs.Holders.{AreHeld};
 ghost use Rattle.actor_set.specs.Parts.{Part};
 ghost use Rattle.actor_set.specs.Actors.{part_of};
 ghost use Rattle.actor_set.specs.declared.actor.Actor.{Actor};
 ghost use Rattle.actor_set.specs.Laws.Kinds.{scene_of};
-ghost use Rattle.cast_law.specs.Pools.Places.{PoolPlace, IsPlaced, HasPools, place_sizes};
+ghost use Rattle.cast_law.specs.Pools.Places.{PoolPlace, IsPlaced, HasPools};
+ghost use Rattle.cast_law.specs.Pools.Places.{cast_naming, place_sizes};
 ghost use Rattle.cast_law.specs.Pools.Pooling.{AreAtPlay};
 ghost use Rattle.cast_law.specs.Pages.Paging.{page_holders, part_pools, pools_weigh};
-ghost use Rattle.cast_law.specs.Pages.Paging.{cast_weighs};
+ghost use Rattle.cast_law.specs.Pages.Paging.{cast_weighs, shown_bodies};
 
 /// At a moment of a cast at play each actor conserves buffers one by one. Whatever is counted of
 /// buffers by their pool, their number and their length, the queues and the actors have what all
 /// buffers of the cast's pools weigh, each with its pool's length. So each buffer of each pool is
-/// in one place and there once, and no buffer of a pool has another length than the pool's.
+/// in one place and there once, and no buffer of a pool has another length than the pool's. Where
+/// entries carry what their items name, it is in what queues and actors show: in the queues, in
+/// hands, and lent.
 pub fn cast_page_law()
     ensures held { (history : History) (rows : List QueueRow) (actors : List Actor)
         (journal : List Entry) (passed : Passed) (world : List Queue)
@@ -33,6 +38,13 @@ pub fn cast_page_law()
         (journal : List Entry) (passed : Passed) (world : List Queue)
         → AreAtPlay history rows actors journal passed world → (f : Count)
         → cast_weighs f passed world actors ≡ pools_weigh f (map part_of actors) }
+    ensures shown { (history : History) (rows : List QueueRow) (actors : List Actor)
+        (journal : List Entry) (passed : Passed) (world : List Queue)
+        → AreAtPlay history rows actors journal passed world
+        → (pools : List PoolRow) (place : PoolPlace) → IsPlaced rows place (map part_of actors)
+        → HasPools pools place → CarryPages (cast_naming (scene_of (map part_of actors)) place)
+        (moved history journal) passed → (f : Count)
+        → counted f (shown_bodies world actors) ≡ pools_weigh f (map part_of actors) }
     ensures once { (history : History) (rows : List QueueRow) (actors : List Actor)
         (journal : List Entry) (passed : Passed) (world : List Queue)
         → AreAtPlay history rows actors journal passed world

@@ -2,6 +2,7 @@
 use Rattle.std.proofs.Common.{◌≡◌, ◌<◌, ◌≤◌, ℕ, zero, suc, Some, List, [], ◌∷◌, ◌++◌, drop, length, map, flat_map, slice_get, refl, sym, ap, ◌∙◌, subst, arith}
 use Rattle.std.specs.List.{sum_by}
 use Rattle.std.proofs.lemmas.List.Sums.{sum_by-cons}
+use Rattle.cargo_core.specs.declared.item.Body.{Body}
 use Rattle.wire_core.specs.declared.names.PoolRow.{PoolRow}
 use Rattle.wire_core.specs.declared.names.QueueRow.{QueueRow}
 use Rattle.wire_core.specs.declared.names.Entry.{Entry}
@@ -11,24 +12,31 @@ use Rattle.wire_core.specs.Lists.{Passed}
 use Rattle.wire_core.specs.Marks.{sum_below}
 use Rattle.wire_core.specs.Queues.{Queue, queue_at, end_at}
 use Rattle.play_core.specs.Sheets.{Scene, Sheet, AreApart}
-use Rattle.play_core.proofs.Lists.{map_from, some_is}
+use Rattle.play_core.specs.Moved.{moved}
+use Rattle.play_core.proofs.Lists.{map_from, map_get, some_is}
 use Rattle.owner_law.specs.Keeping.{Keeper, AreKeepers, keeper_of}
+use Rattle.owner_law.specs.Pages.{CarryPages}
 use Rattle.owner_law.specs.Pools.Lines.{came, went}
 use Rattle.owner_law.specs.Pools.Places.{PoolAt}
 use Rattle.owner_law.proofs.Casts.{cast_keepers}
+use Rattle.owner_law.proofs.PoolsLemmas.Handing.{carry_takes}
 use Rattle.buffer_kit.specs.Conserving.{Count, counted, weighed, the_page, of_other_length, Conserves}
+use Rattle.turn_kit.specs.Hands.{bodies_of}
+use Rattle.buffer_kit.proofs.Conserving.{counted-append}
 use Rattle.page_law.specs.Holders.{PageHolder, AreHeld, keeper, has, queue_has, start_counted}
 use Rattle.page_law.proofs.ActorsLemmas.Pages.{same_sum, first_sum}
 use Rattle.page_law.proofs.LawLemmas.Summing.{whole}
 use Rattle.actor_set.specs.Parts.{Part}
-use Rattle.actor_set.specs.Actors.{IsWhole, part_of}
+use Rattle.actor_set.specs.Actors.{IsWhole, actor_hand, part_of}
 use Rattle.actor_set.specs.declared.actor.Actor.{Actor}
 use Rattle.actor_set.specs.Laws.Kinds.{sheet, scene_of}
 use Rattle.actor_set.proofs.LawsLemmas.Starts.{fits_whole}
-use Rattle.cast_law.specs.Pools.Places.{PoolPlace, IsPlaced, HasPools, place_sizes}
+use Rattle.cast_law.specs.Pools.Places.{PoolPlace, IsPlaced, HasPools, cast_naming, place_sizes}
 use Rattle.cast_law.specs.Pools.Pooling.{AreAtPlay}
-use Rattle.cast_law.specs.Pages.Paging.{AllStand, page_holder, page_holders, actor_weighs, cast_weighs, part_pools, pool_weighs, pools_weigh}
+use Rattle.cast_law.specs.Pages.Paging.{AllStand, actor_lends, shown_bodies, page_holder, page_holders, actor_weighs, cast_weighs, part_pools, pool_weighs, pools_weigh}
 use Rattle.cast_law.proofs.PoolsLemmas.Apart.{ends_apart}
+use Rattle.cast_law.proofs.PoolsLemmas.Naming.{names_at}
+use Rattle.cast_law.proofs.PagesLemmas.Lending.{kept_lends}
 use Rattle.cast_law.proofs.PagesLemmas.Counting.{pages_once, lengths_one}
 use Rattle.cast_law.proofs.PagesLemmas.Acting.{actor_conserves, start_weighs}
 
@@ -71,6 +79,14 @@ queues_weigh : (f : Count) (world : List Queue) → sum_below (λ n. weighed f (
 queues_weigh f [] = refl
 queues_weigh f (q ∷ world) =
     omega (arith, first_sum (λ n. weighed f (queue_at (q ∷ world) n).entries) (length world), queues_weigh f world, sum_by-cons (λ (r : Queue). weighed f r.entries) q world)
+
+counted-flat : {X : Type 0} (f : Count) (g : X → List Body) (xs : List X) → counted f (flat_map g xs) ≡ sum_by (λ x. counted f (g x)) xs
+counted-flat f g [] = refl
+counted-flat f g (x ∷ xs) = omega (arith, counted-append f (g x) (flat_map g xs), sum_by-cons (λ y. counted f (g y)) x xs, counted-flat f g xs)
+
+sums_alike : (xs : List Actor) (g h : Actor → ℕ) → ((k : ℕ) (x : Actor) → slice_get xs k ≡ Some x → g x ≡ h x) → sum_by g xs ≡ sum_by h xs
+sums_alike [] g h same = refl
+sums_alike (x ∷ xs) g h same = omega (arith, sum_by-cons g x xs, sum_by-cons h x xs, same 0 x refl, sums_alike xs g h (λ k y at. same (suc k) y at))
 
 -- an element of one of the lists is one of all together
 get_left : {Y : Type 0} (xs ys : List Y) (j : ℕ) (y : Y) → slice_get xs j ≡ Some y → slice_get (xs ++ ys) j ≡ Some y
@@ -129,3 +145,16 @@ module _ (history : History) (rows : List QueueRow) (actors : List Actor) (journ
     cast_lengths i p at j q at' some =
         let n = in_flat part_pools cast i p at j q at' in
         cast_whole (of_other_length (record { 0 = q.number }) q.size) ∙ lengths_one rows pools place cast play.seated placed has n.0 q n.1 some
+
+    -- where entries carry what their items name, actors keep what they have lent alone
+    pub cast_shown : CarryPages (cast_naming scene place) (moved history journal) passed → (f : Count) → counted f (shown_bodies world actors) ≡ pools_weigh f cast
+    cast_shown carry f =
+        let same = sums_alike actors (actor_weighs f passed) (λ x. counted f (actor_hand x ++ actor_lends x)) (λ k x at.
+        let names = names_at rows cast play.seated place.net place.blk placed.net placed.blk k (part_of x) (map_get part_of actors k x at) in
+        let takes = carry_takes (cast_naming scene place) (moved history journal) passed (sheet scene (part_of x)).ends carry (λ n. ((queue_at world n).entries, sym (play.stands_there n))) in
+        let lent = kept_lends (cast_naming scene place) scene (moved history journal) passed f x names takes in
+        omega (arith, lent, counted-append f (actor_hand x) (actor_lends x))) in
+        let parts = counted-append f (flat_map (λ (q : Queue). bodies_of q.entries) world) (flat_map (λ x. actor_hand x ++ actor_lends x) actors) in
+        let queues = counted-flat f (λ (q : Queue). bodies_of q.entries) world in
+        let hands = counted-flat f (λ x. actor_hand x ++ actor_lends x) actors in
+        omega (arith, cast_whole f, same, parts, queues, hands)

@@ -1,13 +1,13 @@
 -- Each actor of a cast with the buffers that it had at the start and those that it has, and what
 -- the buffers of pools weigh.
-use Rattle.std.specs.Prelude.{◌≡◌, ◌+◌, ℕ, suc, Some, List, [], ◌∷◌, ◌++◌, slice_get, sum_by}
-use Rattle.std.specs.Prelude.{refl}
+use Rattle.std.specs.Prelude.{◌≡◌, ◌+◌, ℕ, suc, Some, List, [], ◌∷◌, ◌++◌, flat_map, slice_get}
+use Rattle.std.specs.Prelude.{refl, sum_by}
 use Rattle.cargo_core.specs.declared.item.Body.{Body}
 use Rattle.cargo_core.specs.declared.item.Body.TheVariants as Carried
 use Rattle.wire_core.specs.Lists.{Passed}
 use Rattle.wire_core.specs.Marks.{sum_below}
 use Rattle.wire_core.specs.Queues.{Queue}
-use Rattle.turn_kit.specs.Hands.{bodies_at}
+use Rattle.turn_kit.specs.Hands.{bodies_at, bodies_of}
 use Rattle.play_core.specs.Sheets.{Scene}
 use Rattle.owner_law.specs.Pools.Places.{PoolAt}
 use Rattle.buffer_kit.specs.Conserving.{Count, counted, weighed}
@@ -42,6 +42,24 @@ actor_kept (Kinds.DiskDevice x) passed = []
 actor_kept (Kinds.BlkDriver x) passed = []
 actor_kept (Kinds.BlkVirt x) passed = []
 actor_kept (Kinds.BlkClient x) passed = []
+
+-- what an actor has lent: the network's receiving virtualiser alone lends
+abbrev pub actor_lends : Actor → List Body
+actor_lends (Kinds.UartDevice x) = []
+actor_lends (Kinds.UartDriver x) = []
+actor_lends (Kinds.SerialVirtRx x) = []
+actor_lends (Kinds.SerialVirtTx x) = []
+actor_lends (Kinds.SerialClient x) = []
+actor_lends (Kinds.EthDevice x) = []
+actor_lends (Kinds.EthDriver x) = []
+actor_lends (Kinds.NetVirtRx x) = lent_bodies x.work.lent
+actor_lends (Kinds.NetCopier x) = []
+actor_lends (Kinds.NetClient x) = []
+actor_lends (Kinds.NetVirtTx x) = []
+actor_lends (Kinds.DiskDevice x) = []
+actor_lends (Kinds.BlkDriver x) = []
+actor_lends (Kinds.BlkVirt x) = []
+actor_lends (Kinds.BlkClient x) = []
 
 -- the bodies that it had at the start, by what it stands for
 abbrev pub actor_start : (x : Actor) (passed : Passed) → ActorStandsFor x passed → List Body
@@ -127,3 +145,9 @@ actor_weighs f passed x = counted f (actor_hand x) + counted f (actor_kept x pas
 abbrev pub cast_weighs : Count → Passed → List Queue → List Actor → ℕ
 cast_weighs f passed world actors = sum_by (λ (q : Queue). weighed f q.entries) world
     + sum_by (actor_weighs f passed) actors
+
+-- the bodies that queues and actors show: those that stand in the queues, and those that actors
+-- have in their hands and have lent
+abbrev pub shown_bodies : List Queue → List Actor → List Body
+shown_bodies world actors = flat_map (λ (q : Queue). bodies_of q.entries) world
+    ++ flat_map (λ x. actor_hand x ++ actor_lends x) actors

@@ -1,4 +1,4 @@
-use Rattle.cast_law.proofs.PagesLemmas.Holding.{cast_held, cast_whole, cast_once, cast_lengths}
+use Rattle.cast_law.proofs.PagesLemmas.Holding.{cast_held, cast_whole, cast_shown, cast_once, cast_lengths}
 use Rattle.cast_law.proofs.pages.cast_page_law.Goals as goal
 
 pub returns-clause-held : goal.returns-clause-held
@@ -12,3 +12,6 @@ returns-clause-once c = λ history rows actors journal passed world play pools p
 
 pub returns-clause-lengths : goal.returns-clause-lengths
 returns-clause-lengths c = λ history rows actors journal passed world play pools place placed has i p at j q at' some. cast_lengths history rows actors journal passed world play pools place placed has i p at j q at' some
+
+pub returns-clause-shown : goal.returns-clause-shown
+returns-clause-shown c = λ history rows actors journal passed world play pools place placed has carry f. cast_shown history rows actors journal passed world play pools place placed has carry f
