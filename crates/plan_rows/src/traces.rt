@@ -104,21 +104,22 @@ fn add_acts(to: &mut String, acts: &[Act]) -> Result<(), Memory> {
     Ok(())
 }
 
-// The acts of each client of each class; nothing where there are none.
-fn add_rogues(to: &mut String, trace: &Trace) -> Result<(), Memory> {
-    to.push_str(" acts net")?;
-    for client in 0..trace.net_acts.len() {
-        add_acts(to, trace.acts(0, client as u32))?;
-    }
-    to.push_str(" serial")?;
-    for client in 0..trace.serial_acts.len() {
-        add_acts(to, trace.acts(1, client as u32))?;
-    }
-    to.push_str(" blk")?;
-    for client in 0..trace.blk_acts.len() {
-        add_acts(to, trace.acts(2, client as u32))?;
+// The acts of each client of a class.
+fn add_clients(to: &mut String, clients: &Series<Series<Act>>) -> Result<(), Memory> {
+    for acts in clients.as_slice() {
+        add_acts(to, acts.as_slice())?;
     }
     Ok(())
+}
+
+// The acts of each client of each class.
+fn add_rogues(to: &mut String, trace: &Trace) -> Result<(), Memory> {
+    to.push_str(" acts net")?;
+    add_clients(to, &trace.net_acts)?;
+    to.push_str(" serial")?;
+    add_clients(to, &trace.serial_acts)?;
+    to.push_str(" blk")?;
+    add_clients(to, &trace.blk_acts)
 }
 
 // Whether a client has acts.
