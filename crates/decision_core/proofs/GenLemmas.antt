@@ -1,12 +1,9 @@
-use Rattle.std.proofs.Common.{◌≡◌, refl, ap, sym, ◌∙◌, ℕ, List, length, ◌<◌, ◌≤◌, inl, inr, true, false, Some, subst, arith}
+use Rattle.std.proofs.Common.{◌≡◌, refl, ap, sym, ◌∙◌, ℕ, inl, inr, subst, arith}
 use Rattle.std.proofs.lemmas.Option.{same_Some}
-use Rattle.toml.specs.Data.{Members}
-use Rattle.toml.specs.Parse.{parse_document}
 use Rattle.sdf_plan.specs.declared.place.Refusal.{Refusal}
 use Rattle.sdf_plan.specs.declared.plan.Plan.{Plan}
 use Rattle.sdf_plan.specs.Elements.{outline_of}
 use Rattle.sdf_plan.specs.Places.{walk, IsRefusal}
-use Rattle.sdf_model.specs.Counts.{text_most}
 use Rattle.sdf_model.specs.Spelled.{plan_of}
 use Rattle.sdf_check.specs.Valid.{IsRefused, broken}
 use Rattle.trace_text.specs.Traces.{trace_of}
@@ -19,7 +16,7 @@ use Rattle.workload_law.proofs.Accepted.{full_valid}
 use Rattle.workload_law.proofs.Generated.{generated_good, generated_short}
 use Rattle.decision_core.specs.declared.showing.Showing.TheVariants as Show
 use Rattle.decision_core.specs.declared.showing.Asked.TheVariants as Ask
-use Rattle.decision_core.specs.Judged.{SpellsPlan, IsAccepted, IsRefusedText}
+use Rattle.decision_core.specs.Judged.{SpellsPlan, IsRefusedText}
 use Rattle.decision_core.specs.Decisions.{Decision, TextDecides, TraceDecides, GeneratedDecides, long_description, refused, accepted, long_trace, bad_trace, good_trace}
 use Rattle.decision_core.specs.Generating.{IsSummary}
 

@@ -1,4 +1,4 @@
-use Rattle.std.proofs.Common.{◌≡◌, ◌≤◌, ◌<◌, ◌⊎◌, inl, inr, ℕ, List, length, drop, Option, Some, None, sym, ◌∙◌, ap, subst, arith}
+use Rattle.std.proofs.Common.{◌≡◌, ◌≤◌, ◌<◌, ◌⊎◌, inl, inr, ℕ, List, length, drop, Option, Some, None, ◌∙◌, ap, subst, arith}
 use Rattle.std.proofs.lemmas.List.{length-take}
 use Rattle.std.specs.Option.{option_map}
 use Rattle.sdf_plan.specs.declared.plan.Plan.{Plan}
@@ -11,8 +11,7 @@ use Rattle.sdf_model.specs.Counts.{text_most}
 use Rattle.shelf_core.specs.Outside.{IsRead, read_most, also_opened}
 use Rattle.decision_core.specs.Decisions.{Decision, asked_on, AsksFor, TextDecides, TraceDecides, GeneratedDecides, long_description, refused, accepted, long_trace, bad_trace, good_trace, NamesDescription, IsStatusOf}
 use Rattle.shelf_core.specs.Reading.{Behind, WasRead}
-use Rattle.decision_core.specs.Readings.{IsLong, IsWithinLimit, IsOfText, IsOfPlay, IsUnread, LeavesPlan, LeavesText, ReadLast, read_description, read_trace, OpensTrace, OpensText, OpensInTurn, opens_description, opens_trace}
-use Rattle.decision_core.specs.Judged.{IsAccepted}
+use Rattle.decision_core.specs.Readings.{IsLong, IsWithinLimit, IsOfText, IsOfPlay, IsUnread, LeavesPlan, LeavesText, ReadLast, read_description, read_trace, OpensText, OpensInTurn, opens_description, opens_trace}
 use Rattle.decision_core.proofs.DecisionLemmas.{same-desc}
 
 -- a text is too long, or within the limit, as the bytes are that were read of it

@@ -2,14 +2,13 @@ use Rattle.std.proofs.Common.{sym, subst, inr}
 use Rattle.std.proofs.lemmas.Result.{err_from_is_err_and}
 use Rattle.command_words.specs.Words.{texts_of}
 use Rattle.shelf_core.specs.Outside.{IsRead}
-use Rattle.shelf_core.specs.Reading.{WasRead}
 use Rattle.shelf_core.specs.Shelves.{Opens, LeavesRest}
 use Rattle.shelf_core.proofs.ShelfLemmas.{reads-stopped, reads-for, reads-starved}
 use Rattle.decision_core.specs.Decided.{decision_of, OfEach}
 use Rattle.decision_core.specs.Decisions.{AsksFor, TraceDecides, traced}
 use Rattle.decision_core.specs.Readings.{OpensTrace, LeavesPlan}
 use Rattle.decision_core.proofs.LastLemmas.{trace-status}
-use Rattle.decision_core.proofs.WordLemmas.{third-named, asks-three}
+use Rattle.decision_core.proofs.WordLemmas.{third-named}
 use Rattle.decision_core.proofs.deciding.decide_named.Goals as goal
 
 pub returns-clause-decides : goal.returns-clause-decides

@@ -3,7 +3,6 @@ use Rattle.std.proofs.lemmas.Result.{err_from_is_err_and}
 use Rattle.command_words.specs.Words.{texts_of}
 use Rattle.shelf_core.specs.Reading.{WasRead}
 use Rattle.shelf_core.proofs.ShelfLemmas.{reads-as}
-use Rattle.decision_core.specs.declared.status.Status.{Status}
 use Rattle.decision_core.specs.declared.status.Status.TheVariants as Ended
 use Rattle.decision_core.specs.Decided.{decision_of, OfEach}
 use Rattle.decision_core.specs.Decisions.{IsStatusOf, PlanDecides, TextDecides, long_description, refused, accepted}
