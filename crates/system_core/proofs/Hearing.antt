@@ -22,7 +22,7 @@ use Rattle.system_core.proofs.Stepping.{runs_below}
 use Rattle.actor_set.proofs.LawsLemmas.Rows.{heard_here}
 use Rattle.system_core.proofs.RunsNow.{items_here}
 use Rattle.system_core.proofs.Recording.{records_at, wire_here, replies_at}
-use Rattle.system_core.proofs.Lining.{kinds_hold, pool_lines, pool_lines_anew, without_pools, nothing_bad}
+use Rattle.system_core.proofs.Lining.{kinds_hold, pool_lines, pool_lines_anew, without_pools, buffers_told, nothing_bad}
 
 module _ (history : History) (rows : List QueueRow) (w : List Queue) (actors : List Actor) (journal : List Entry) (h : Holds history rows w actors journal) where
   pub same_heard : (k : ℕ) → record_from actors k ≡ option_map_or (record_by (moved history journal)) (slice_get (map part_of actors) k) []
@@ -51,6 +51,7 @@ module _ (a : Inside) (i : IsSystem a) where
     pools = pool_lines a i;
     pools_anew = pool_lines_anew a i;
     no_pools = without_pools a i;
+    buffers = buffers_told a i;
     bad = nothing_bad a i;
   }
     where

@@ -1,8 +1,9 @@
 -- The lines of pools that a system reports are those of the table of owners, and nothing is bad.
-use Rattle.std.proofs.Common.{◌≡◌, ◌-◌, ◌^◌, ◌≤◌, ℕ, suc, min, Some, List, [], ◌∷◌, length, map, slice_get, sum_by, refl, sym, ap, subst, arith}
+use Rattle.std.proofs.Common.{◌≡◌, ◌-◌, ◌^◌, ◌≤◌, ℕ, suc, min, Some, List, [], ◌∷◌, length, map, slice_get, sum_by, refl, sym, ap, ◌∙◌, subst, arith}
 use Rattle.std.proofs.lemmas.List.Sums.{sum_by-cons}
 use Rattle.wire_core.specs.Journal.{EachMoment, start_history}
 use Rattle.wire_core.proofs.BellTheorem.{queues_flow}
+use Rattle.buffer_kit.specs.Conserving.{Count, counted, the_page, of_other_length}
 use Rattle.owner_law.specs.Owners.{Table, replay}
 use Rattle.owner_law.specs.Keeping.{start_table}
 use Rattle.cast_law.specs.PoolLines.PoolLines.{table_lines, counted_lines}
@@ -11,14 +12,17 @@ use Rattle.actor_set.specs.Actors.{part_of, bad_of}
 use Rattle.actor_set.specs.declared.actor.Actor.{Actor}
 use Rattle.actor_set.specs.Laws.Kinds.{scene_of}
 use Rattle.wired_law.specs.Wiring.{HasNoNetwork, HasNoBlock}
+use Rattle.cast_law.specs.Pages.Paging.{pools_weigh, shown_bodies}
 use Rattle.cast_law.specs.Pools.Holders.{holders_of}
 use Rattle.cast_law.specs.Pools.Places.{PoolPlace, IsPlaced, HasPools, ArePooled, cast_naming}
 use Rattle.cast_law.specs.Pools.Pooling.{keepers_at, AddUp, AreAtPlay, BeginsWith, AreKindly}
+use Rattle.cast_law.proofs.PagesLemmas.Holding.{cast_whole, cast_shown, cast_once, cast_lengths}
 use Rattle.cast_law.proofs.PoolsLemmas.Goodness.{none_bad}
 use Rattle.cast_law.proofs.PoolsLemmas.Playing.{bare, begins_anew, play_kinds, play_lines, play_whole, pools_few}
 use Rattle.system_core.specs.Shows.{hostile_in}
 use Rattle.system_core.specs.States.{bad_in}
-use Rattle.system_core.specs.Inside.{setting_of, IsSystem}
+use Rattle.system_core.specs.Inside.{setting_of, shown_of, IsSystem}
+use Rattle.system_core.specs.Lawful.{TellsBuffers}
 use Rattle.system_core.specs.declared.system.System.TheInside.{Inside}
 use Rattle.system_core.proofs.RunsNow.{items_here}
 
@@ -60,6 +64,23 @@ module _ (a : Inside) (i : IsSystem a) where
 
   pub without_pools : HasNoNetwork cast → HasNoBlock cast → counted_lines a.world (holders_of a.actors.items) 0 a.pools.items ≡ []
   without_pools no_net no_blk = rw (bare a.rows.items a.pools.items cast i.fitted.pooled no_net no_blk) refl
+
+  -- the buffers are those of the cast's pools, one by one
+  buffers_weigh : (place : PoolPlace) → IsPlaced a.rows.items place cast → HasPools a.pools.items place → (f : Count) → counted f (shown_bodies a.world a.actors.items) ≡ pools_weigh f cast
+  buffers_weigh place placed has = cast_shown (setting_of a).history a.rows.items a.actors.items a.journal.items i.holds.passed a.world at_play a.pools.items place placed has (i.holds.carry place placed)
+
+  pub buffers_told : (place : PoolPlace) → IsPlaced a.rows.items place cast → HasPools a.pools.items place → TellsBuffers place (shown_of a)
+  buffers_told place placed has =
+      let history = (setting_of a).history in
+      let weigh = buffers_weigh place placed has in
+      let whole = cast_whole history a.rows.items a.actors.items a.journal.items i.holds.passed a.world at_play in
+      record {
+        all = weigh;
+        once = λ pool number lt. let f : Count = the_page (record { 0 = pool }) number in
+            weigh f ∙ sym (whole f) ∙ cast_once history a.rows.items a.actors.items a.journal.items i.holds.passed a.world at_play a.pools.items place placed has pool number lt;
+        lengths = λ k p at j q at' some. let f : Count = of_other_length (record { 0 = q.number }) q.size in
+            weigh f ∙ sym (whole f) ∙ cast_lengths history a.rows.items a.actors.items a.journal.items i.holds.passed a.world at_play a.pools.items place placed has k p at j q at' some;
+      }
 
   -- the numbers of each line are all buffers of its pool
   pub add_up : AddUp a.world (holders_of a.actors.items) a.pools.items

@@ -1,6 +1,6 @@
 -- What holds of every system, however it was built and played: its seats, its journal at each
 -- moment, and what is seen of it.
-use Rattle.std.specs.Prelude.{◌≡◌, ◌+◌, ◌*◌, ◌≤◌, ℕ, Some, is_some, List, [], length, map}
+use Rattle.std.specs.Prelude.{◌≡◌, ◌+◌, ◌*◌, ◌<◌, ◌≤◌, ℕ, Some, is_some, List, [], length, map}
 use Rattle.std.specs.Prelude.{slice_get}
 use Rattle.std.specs.Option.{option_map, option_map_or}
 use Rattle.wire_core.specs.declared.names.QueueRow.{QueueRow}
@@ -15,6 +15,7 @@ use Rattle.blk_expect.specs.Replies.{replies_of}
 use Rattle.blk_law.specs.Sheets.Numbers.{BlkPlace, blk_client_at}
 use Rattle.frame_core.specs.declared.mac.Mac.{Mac}
 use Rattle.net_expect.specs.Expecting.{Program, frames_for}
+use Rattle.buffer_kit.specs.Conserving.{Count, counted, the_page, of_other_length}
 use Rattle.net_law.specs.Owners.Names.{ClientPools}
 use Rattle.owner_law.specs.Pools.Places.{PoolAt}
 use Rattle.net_law.specs.Parts.Numbers.{client_first, device_at, client_at}
@@ -30,7 +31,9 @@ use Rattle.actor_set.specs.Parts.{Part, NetworkPart, BlockPart}
 use Rattle.actor_set.specs.Laws.Kinds.{scene_of}
 use Rattle.actor_set.specs.Laws.Records.{record_by}
 use Rattle.wired_law.specs.Wiring.{HasWhole, HasNoNetwork, HasBlk, HasNoBlock, IsWired}
+use Rattle.cast_law.specs.Pages.Paging.{part_pools, pools_weigh}
 use Rattle.cast_law.specs.Pools.Places.{PoolPlace, IsPlaced, HasPools, ArePooled, cast_naming}
+use Rattle.cast_law.specs.Pools.Places.{place_sizes}
 use Rattle.cast_law.specs.Pools.Pooling.{keepers_at, BeginsWith, HasOwners, AreKindly}
 use Rattle.system_core.specs.Shows.{Setting, Shown, hostile_in, sheet_in, moved_in, RowsStand}
 
@@ -111,6 +114,19 @@ TellsReplies s blk = (c k j : ℕ) (asks : List Ask) (pool : PoolAt) (entry : �
     × (length ((moved_in s.setting s.journal).taken (blk.first + 5 + 2 * j)) ≤ length asks
     → length got ≡ length ((moved_in s.setting s.journal).taken (blk.first + 5 + 2 * j)))
 
+-- what stands in queues, in hands and is lent are the buffers of the cast's pools, one by one:
+-- whatever is counted of them by pool, number and length, it is what all buffers of the pools weigh,
+-- each with its pool's length
+pub record TellsBuffers (place : PoolPlace) (s : Shown) : Type 0 where
+  pub all : (f : Count) → counted f s.state.bodies ≡ pools_weigh f s.setting.cast
+  -- so each buffer of each pool is there once
+  pub once : (pool number : ℕ) → number < place_sizes place pool
+      → counted (the_page (record { 0 = pool }) number) s.state.bodies ≡ 1
+  -- and none of a pool that has buffers has another length than the pool's
+  pub lengths : (i : ℕ) (p : Part) → slice_get s.setting.cast i ≡ Some p → (j : ℕ) (q : PoolAt)
+      → slice_get (part_pools p) j ≡ Some q → 1 ≤ q.buffers
+      → counted (of_other_length (record { 0 = q.number }) q.size) s.state.bodies ≡ 0
+
 -- line and records are what the journal says that device and clients took; those of the network and
 -- of the block class, whose frames and blocks no journal has, are what their places say of them
 pub record IsTold (s : Shown) : Type 0 where
@@ -137,6 +153,9 @@ pub record IsTold (s : Shown) : Type 0 where
       s.setting.pools
   -- without a network and a block class there are none
   pub no_pools : HasNoNetwork s.setting.cast → HasNoBlock s.setting.cast → s.state.pools ≡ []
+  -- the buffers are those of these pools, one by one
+  pub buffers : (place : PoolPlace) → IsPlaced s.setting.rows place s.setting.cast
+      → HasPools s.setting.pools place → TellsBuffers place s
   -- nothing was counted as bad
   pub bad : s.state.bad ≡ 0
 

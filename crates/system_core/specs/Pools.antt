@@ -15,6 +15,7 @@ use Rattle.cast_law.specs.Pools.Places.{PoolPlace, cast_naming, place_sizes}
 use Rattle.cast_law.specs.Pools.Pooling.{keepers_at, BeginsWith}
 use Rattle.system_core.specs.Shows.{Shown}
 use Rattle.system_core.specs.Builds.{BeginsAnew}
+use Rattle.system_core.specs.Lawful.{TellsBuffers}
 
 -- a table of owners with which a system begins whose classes with pools stand at this place: what
 -- was put and taken before its journal begins shows it, and each buffer of a pool has its place
@@ -59,3 +60,5 @@ pub record TellsOwners (plan : Plan) (place : PoolPlace) (s : Shown) : Type 0 wh
   pub lines : (start : Table) → IsFirstTable place s start
       → s.state.pools ≡ table_lines (table_after place start s s.journal) 0 (pools_of plan)
   pub adds : AllAdd s.state.pools
+  -- and the buffers themselves are those of the pools, one by one
+  pub buffers : TellsBuffers place s

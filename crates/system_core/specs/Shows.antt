@@ -1,6 +1,7 @@
 -- What a system shows: what stays the same while it is played, its one journal, and what can be
 -- seen of it as it is.
 use Rattle.std.specs.Prelude.{◌≡◌, ℕ, Option, List, [], ◌∷◌, ◌++◌}
+use Rattle.cargo_core.specs.declared.item.Body.{Body}
 use Rattle.cargo_core.specs.declared.item.Reply.{Reply}
 use Rattle.wire_core.specs.declared.names.PoolRow.{PoolRow}
 use Rattle.wire_core.specs.declared.names.QueueRow.{QueueRow}
@@ -32,7 +33,8 @@ pub record Setting : Type 0 where
   pub blk : Crew
 
 -- what can be seen of a system: the wire, the line, what each client of each class recorded, where
--- the pages are, and what the virtualisers counted as bad; of a class that isn't there, nothing
+-- the pages are, what stands in queues, in hands and is lent, and what the virtualisers counted as
+-- bad; of a class that isn't there, nothing
 pub record State : Type 0 where
   pub wire : Option (List (List ℕ))
   pub net : List (List (List ℕ))
@@ -40,6 +42,7 @@ pub record State : Type 0 where
   pub serial : List (List ℕ)
   pub blk : List (List Reply)
   pub pools : List Census
+  pub bodies : List Body
   pub bad : ℕ
 
 -- what a system shows: what stays the same, the one journal, and what can be seen of it

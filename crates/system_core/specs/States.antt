@@ -15,6 +15,7 @@ use Rattle.actor_set.specs.declared.actor.Actor.{Actor}
 use Rattle.order_law.specs.Ended.Tracks.{track_of}
 use Rattle.actor_set.specs.Laws.Records.{record_of, frames_got, replies_got}
 use Rattle.cast_law.specs.Pools.Holders.{holders_of}
+use Rattle.cast_law.specs.Pages.Paging.{shown_bodies}
 use Rattle.system_core.specs.Shows.{Crew, Setting, State, Shown}
 
 -- what the actor at a place recorded
@@ -50,6 +51,7 @@ state_of world pools actors net serial blk = record {
   serial = map (record_from actors) serial.clients;
   blk = map (replies_from actors) blk.clients;
   pools = counted_lines world (holders_of actors) 0 pools;
+  bodies = shown_bodies world actors;
   bad = bad_in actors;
 }
 

@@ -81,4 +81,5 @@ module _ (plan : Plan) (trace : Trace) (s : Shown) (valid : Valid plan) (cast_is
     owners = one_owner plan trace s valid cast_is stands;
     lines = shows_lines;
     adds = lines_add;
+    buffers = stands.told.buffers place here numbered;
   }
