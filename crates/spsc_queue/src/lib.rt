@@ -22,5 +22,5 @@ pub use consumer::Consumer;
 pub use ended::{Ended, finish};
 pub use laws::ring_law;
 pub use producer::Producer;
-pub use ring::{Ring, open};
+pub use ring::{Ring, open, open_wild};
 pub use view::{Half, View};
