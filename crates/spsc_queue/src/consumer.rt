@@ -50,6 +50,7 @@ impl Consumer {
         requires own { self.old.ring ≡ ring.now.id }
         requires condition { Condition (known_end self.old.knows) Op.See }
         requires known { 0 < self.old.knows.ahead }
+        requires sort { self.old.knows.wild ≡ false }
         ensures own { self.new.ring ≡ self.old.ring }
         ensures did { self.new.knows ≡ see_kept self.new.knows.grant self.old.knows head_word
             (last_value self.new.knows) }
@@ -64,6 +65,7 @@ impl Consumer {
     fn see_anew(&mut self, ring: &Ring) -> bool
         requires own { self.old.ring ≡ ring.now.id }
         requires condition { Condition (known_end self.old.knows) Op.See }
+        requires sort { self.old.knows.wild ≡ false }
         ensures own { self.new.ring ≡ self.old.ring }
         ensures did { self.new.knows ≡ see_read self.new.knows.grant self.old.knows tail_word
             (last_value self.new.knows) }
@@ -163,6 +165,7 @@ impl Consumer {
     /// entry, the guard at the end's own place answers: only where one stands there, whatever the
     /// tail is. So a look there may answer no while the slot of a former yes is granted, and the
     /// slot then goes home.
+    #[tactic(auto, using(crate::proofs::Rows::end_did))]
     pub fn see(&mut self, ring: &Ring) -> bool
         requires own { self.old.ring ≡ ring.now.id }
         requires condition { Condition (known_end self.old.knows) Op.See }
@@ -256,6 +259,7 @@ impl Consumer {
     /// Takes the first entry, the next one of what was sent; its item has the ring's kind. The last
     /// look must have answered yes, and is then used. On a wild ring the guard is stored first, and
     /// then the head.
+    #[tactic(auto, using(crate::proofs::Rows::end_did))]
     pub fn take(&mut self, ring: &Ring) -> (Item, Body)
         requires own { self.old.ring ≡ ring.now.id }
         requires condition { Condition (known_end self.old.knows) Op.Take }

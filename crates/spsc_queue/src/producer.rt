@@ -63,6 +63,7 @@ impl Producer {
         requires own { self.old.ring ≡ ring.now.id }
         requires condition { Condition (known_end self.old.knows) Op.Room }
         requires known { 0 < self.old.knows.ahead }
+        requires sort { self.old.knows.wild ≡ false }
         ensures own { self.new.ring ≡ self.old.ring }
         ensures did { self.new.knows ≡ room_kept self.old.knows tail_word
             (last_value self.new.knows) }
@@ -76,6 +77,7 @@ impl Producer {
     fn room_anew(&mut self, ring: &Ring) -> bool
         requires own { self.old.ring ≡ ring.now.id }
         requires condition { Condition (known_end self.old.knows) Op.Room }
+        requires sort { self.old.knows.wild ≡ false }
         ensures own { self.new.ring ≡ self.old.ring }
         ensures did { self.new.knows ≡ room_read self.old.ring.slots self.old.knows head_word
             (last_value self.new.knows) }
@@ -172,6 +174,7 @@ impl Producer {
     /// the end's own place answers: only where fewer entries than the capacity stand, whatever the
     /// head is. So a look there may answer no while the slot of a former yes is granted, and the
     /// slot then goes home.
+    #[tactic(auto, using(crate::proofs::Rows::end_did))]
     pub fn room(&mut self, ring: &Ring) -> bool
         requires own { self.old.ring ≡ ring.now.id }
         requires condition { Condition (known_end self.old.knows) Op.Room }
@@ -261,6 +264,7 @@ impl Producer {
     /// Puts an entry of the ring's kind behind the others, at the time that the caller picks. The
     /// last look must have answered yes, and is then used. On a wild ring the guard is stored first,
     /// and then the tail.
+    #[tactic(auto, using(crate::proofs::Rows::end_did))]
     pub fn put<C: Clock>(&mut self, ring: &Ring, item: Item, body: Body)
         requires own { self.old.ring ≡ ring.now.id }
         requires condition { Condition (known_end self.old.knows) Op.Put }

@@ -42,6 +42,7 @@ pub(crate) const START: [u64; 36] = [
 pub type Slot = Option<(Item, Body)>;
 
 /// What a ring is made for: what it carries, and whether it is wild.
+#[derive(Drop)]
 pub struct Terms {
     pub kind: QueueKind,
     pub wild: bool,
