@@ -64,10 +64,10 @@ module _ (kind : QueueKind) (n : ℕ) (ws : List ℕ) (hs : List (maybe.Option S
   pub one_taken : (x : Cargo) → suc (length c.entries) ≡ length (c.entries ++ x ∷ [])
   one_taken x = let more = length-append c.entries (x ∷ []) in omega (arith, more)
 
-  no_more : (t : ℕ) → t ≡ t + 0
+  pub no_more : (t : ℕ) → t ≡ t + 0
   no_more t = omega arith
 
-  times_left : (l : ListsHold kind n hs p c) (x : Cargo) (time : ℕ) (times : List ℕ) → l.later ≡ time ∷ times → l.left ≡ x ∷ drop 1 l.left → length times ≡ length (drop 1 l.left)
+  pub times_left : (l : ListsHold kind n hs p c) (x : Cargo) (time : ℕ) (times : List ℕ) → l.later ≡ time ∷ times → l.left ≡ x ∷ drop 1 l.left → length times ≡ length (drop 1 l.left)
   times_left l x time times later first = omega (arith, ap length first, ap length later, l.timed)
 
   -- new grants and slots, with the same entries and kinds

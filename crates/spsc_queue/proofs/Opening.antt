@@ -90,12 +90,12 @@ starts kind n some_place few divides = begins false kind n (laid 0 0 0 0 1 0) so
   backward = record { signalled = λ is. cc; asked = λ is. ⊎_elim (λ z. cc) (λ z. cc) is; counted = omega arith };
 }
 
-all_zero : (n i : ℕ) → i < n → get_elem? (replicate n 0) i ≡ some 0
-all_zero zero i h = absurd (omega arith)
-all_zero (suc n) zero h = refl
-all_zero (suc n) (suc i) h = all_zero n i (omega arith)
+all_alike : {A : Type 0} (n i : ℕ) (a : A) → i < n → get_elem? (replicate n a) i ≡ some a
+all_alike zero i a h = absurd (omega arith)
+all_alike (suc n) zero a h = refl
+all_alike (suc n) (suc i) a h = all_alike n i a (omega arith)
 
 -- each guard of a new ring is 0
 pub starts_wild : (kind : QueueKind) (n z : ℕ) → 0 < n → n ≤ 32768 → 65536 % n ≡ 0 → RingHolds true kind (opening (set (replicate (36 + n) 0) 2 z) (replicate n None) (first_view (record { kind = kind; wild = true })))
 starts_wild kind n z some_place few divides = begins true kind n (set (replicate (36 + n) 0) 2 z) some_place few divides
-    (λ k lt. let r : ℕ = (0 + k) % n in let small : r < n = mod-lt (0 + k) some_place in set_else (replicate (36 + n) 0) 2 (36 + r) z (λ e. omega (arith, e)) ∙ (all_zero (36 + n) (36 + r) (omega (arith, small)) ∙ ap (λ (b : Bool). some (bit b)) (sym (le-ltb k 0 (omega arith)))))
+    (λ k lt. let r : ℕ = (0 + k) % n in let small : r < n = mod-lt (0 + k) some_place in set_else (replicate (36 + n) 0) 2 (36 + r) z (λ e. omega (arith, e)) ∙ (all_alike (36 + n) (36 + r) 0 (omega (arith, small)) ∙ ap (λ (b : Bool). some (bit b)) (sym (le-ltb k 0 (omega arith)))))

@@ -27,7 +27,7 @@ module _ (n : ℕ) (h : Half) (r : ℕ) (a : Answer) (c : List Cargo) (h' : Half
   entry_end true x d = ap known_end d.0 ∙ (seen_end (passed tail_word x h) (nat_eq r 1) (guard_word n (length h.entries)) r h.ahead h'.grant d.2 ∙ ap (end_after (known_end h) Do.See) (sym d.1))
 
   see_end : (wild : Bool) → SeeDid wild n h r a c h' → known_end h' ≡ end_after (known_end h) Do.See a
-  see_end false d = ap known_end d.0 ∙ (seen_end h (see_answer h r) _ r _ h'.grant d.3 ∙ ap (end_after (known_end h) Do.See) (sym d.1))
+  see_end false d = ap known_end d.0 ∙ (seen_end h (see_answer h r) 0 r 0 h'.grant d.3 ∙ ap (end_after (known_end h) Do.See) (sym d.1))
   see_end true d = entry_end (fits_entry n (length h.entries) d.0) d.0 d.2
 
   room_told_end : (fits : Bool) (x : ℕ) → RoomTold fits n h x r a h' → known_end h' ≡ end_after (known_end h) Do.Room a
@@ -35,7 +35,7 @@ module _ (n : ℕ) (h : Half) (r : ℕ) (a : Answer) (c : List Cargo) (h' : Half
   room_told_end true x d = ap known_end d.0 ∙ (roomed_end (passed head_word x h) (nat_eq r 0) (guard_word n (length h.entries)) r h.ahead ∙ ap (end_after (known_end h) Do.Room) (sym d.1))
 
   room_end : (wild : Bool) → RoomDid wild n h r a c h' → known_end h' ≡ end_after (known_end h) Do.Room a
-  room_end false d = ap known_end d.0 ∙ (roomed_end h (room_answer n h r) _ r _ ∙ ap (end_after (known_end h) Do.Room) (sym d.1))
+  room_end false d = ap known_end d.0 ∙ (roomed_end h (room_answer n h r) 0 r 0 ∙ ap (end_after (known_end h) Do.Room) (sym d.1))
   room_end true d = room_told_end (fits_room n (length h.entries) d.0) d.0 d.2
 
   -- what a look leaves as it was

@@ -45,15 +45,15 @@ module _ (kind : QueueKind) (n : ℕ) (ws : List ℕ) (hs : List (maybe.Option S
 
   -- where a look answers yes, an entry stands
   entry_finds : (fits : Bool) (x : ℕ) (a : Answer) (h : Half) → EntryTold fits n c x (last_value h) a h → slice_index ws (last_word h) ≡ last_value h → a ≡ Yes → nat_lt 0 (length shown) ≡ true
-  entry_finds false x a h d read yes = let z : No ≡ Yes = sym d.1 ∙ yes in cc
-  entry_finds true x a h d read yes = let at : slice_index ws (guard_word n (length c.entries)) ≡ last_value h = ap (slice_index ws) (sym (ap last_word d.0)) ∙ read in
-      ap (λ (z : List Cargo). nat_lt 0 (length z)) shown_is ∙ (sym (entry_guard_is kind n ws hs p c e) ∙ (ap (λ (z : ℕ). nat_eq z 1) at ∙ answer_yes (nat_eq (last_value h) 1) (sym d.1 ∙ yes)))
+  entry_finds false x a h d read said = let z : No ≡ Yes = sym d.1 ∙ said in cc
+  entry_finds true x a h d read said = let at : slice_index ws (guard_word n (length c.entries)) ≡ last_value h = ap (slice_index ws) (sym (ap last_word d.0)) ∙ read in
+      ap (λ (z : List Cargo). nat_lt 0 (length z)) shown_is ∙ (sym (entry_guard_is kind n ws hs p c e) ∙ (ap (λ (z : ℕ). nat_eq z 1) at ∙ answer_yes (nat_eq (last_value h) 1) (sym d.1 ∙ said)))
 
   -- and room
   room_finds : (fits : Bool) (x : ℕ) (a : Answer) (h : Half) → RoomTold fits n p x (last_value h) a h → slice_index ws (last_word h) ≡ last_value h → a ≡ Yes → nat_lt (length shown) n ≡ true
-  room_finds false x a h d read yes = let z : No ≡ Yes = sym d.1 ∙ yes in cc
-  room_finds true x a h d read yes = let at : slice_index ws (guard_word n (length p.entries)) ≡ last_value h = ap (slice_index ws) (sym (ap last_word d.0)) ∙ read in
-      ap (λ (z : List Cargo). nat_lt (length z) n) shown_is ∙ (sym (room_guard_is kind n ws hs p c e) ∙ (ap (λ (z : ℕ). nat_eq z 0) at ∙ answer_yes (nat_eq (last_value h) 0) (sym d.1 ∙ yes)))
+  room_finds false x a h d read said = let z : No ≡ Yes = sym d.1 ∙ said in cc
+  room_finds true x a h d read said = let at : slice_index ws (guard_word n (length p.entries)) ≡ last_value h = ap (slice_index ws) (sym (ap last_word d.0)) ∙ read in
+      ap (λ (z : List Cargo). nat_lt (length z) n) shown_is ∙ (sym (room_guard_is kind n ws hs p c e) ∙ (ap (λ (z : ℕ). nat_eq z 0) at ∙ answer_yes (nat_eq (last_value h) 0) (sym d.1 ∙ said)))
 
   -- a call that moves nothing leaves the entries
   stay : (r : Role) (h : Half) → h.entries ≡ (half_of r p c).entries → entries_with r p c h ≡ shown
@@ -98,10 +98,10 @@ module _ (kind : QueueKind) (n : ℕ) (ws : List ℕ) (hs : List (maybe.Option S
     after = put_shown x h (ap (λ (z : Half). z.entries) d.3 ∙ sent_entries n p x d.1 p.wild) ∙ ap (λ (z : List Cargo). shown ++ z) (sym d.2);
     end = end_did n p Do.Put a cargo h d;
   }
-  is_wild_event (Do.Ask s) a cargo h may d read = record { finds = tt; carries = d.2; after = stay (role_of (Do.Ask s)) h (ap (λ (z : Half). z.entries) d.0); end = end_did n _ (Do.Ask s) a cargo h d }
-  is_wild_event (Do.Waive s) a cargo h may d read = record { finds = tt; carries = d.2; after = stay (role_of (Do.Waive s)) h (ap (λ (z : Half). z.entries) d.0); end = end_did n _ (Do.Waive s) a cargo h d }
-  is_wild_event (Do.Wake s) a cargo h may d read = record { finds = tt; carries = d.2; after = stay (role_of (Do.Wake s)) h (ap (λ (z : Half). z.entries) d.0); end = end_did n _ (Do.Wake s) a cargo h d }
-  is_wild_event (Do.Wanted s) a cargo h may d read = record { finds = tt; carries = d.2; after = stay (role_of (Do.Wanted s)) h (ap (λ (z : Half). z.entries) d.0); end = end_did n _ (Do.Wanted s) a cargo h d }
-  is_wild_event (Do.Settle s) a cargo h may d read = record { finds = tt; carries = d.2; after = stay (role_of (Do.Settle s)) h (ap (λ (z : Half). z.entries) d.0); end = end_did n _ (Do.Settle s) a cargo h d }
-  is_wild_event (Do.Ring s) a cargo h may d read = record { finds = tt; carries = d.2; after = stay (role_of (Do.Ring s)) h (ap (λ (z : Half). z.entries) d.0); end = end_did n _ (Do.Ring s) a cargo h d }
-  is_wild_event (Do.Store w v) a cargo h may d read = record { finds = tt; carries = d.2; after = stay (role_of (Do.Store w v)) h (ap (λ (z : Half). z.entries) d.0); end = end_did n _ (Do.Store w v) a cargo h d }
+  is_wild_event (Do.Ask s) a cargo h may d read = record { finds = tt; carries = d.2; after = stay (role_of (Do.Ask s)) h (ap (λ (z : Half). z.entries) d.0); end = end_did n (half_of (role_of (Do.Ask s)) p c) (Do.Ask s) a cargo h d }
+  is_wild_event (Do.Waive s) a cargo h may d read = record { finds = tt; carries = d.2; after = stay (role_of (Do.Waive s)) h (ap (λ (z : Half). z.entries) d.0); end = end_did n (half_of (role_of (Do.Waive s)) p c) (Do.Waive s) a cargo h d }
+  is_wild_event (Do.Wake s) a cargo h may d read = record { finds = tt; carries = d.2; after = stay (role_of (Do.Wake s)) h (ap (λ (z : Half). z.entries) d.0); end = end_did n (half_of (role_of (Do.Wake s)) p c) (Do.Wake s) a cargo h d }
+  is_wild_event (Do.Wanted s) a cargo h may d read = record { finds = tt; carries = d.2; after = stay (role_of (Do.Wanted s)) h (ap (λ (z : Half). z.entries) d.0); end = end_did n (half_of (role_of (Do.Wanted s)) p c) (Do.Wanted s) a cargo h d }
+  is_wild_event (Do.Settle s) a cargo h may d read = record { finds = tt; carries = d.2; after = stay (role_of (Do.Settle s)) h (ap (λ (z : Half). z.entries) d.0); end = end_did n (half_of (role_of (Do.Settle s)) p c) (Do.Settle s) a cargo h d }
+  is_wild_event (Do.Ring s) a cargo h may d read = record { finds = tt; carries = d.2; after = stay (role_of (Do.Ring s)) h (ap (λ (z : Half). z.entries) d.0); end = end_did n (half_of (role_of (Do.Ring s)) p c) (Do.Ring s) a cargo h d }
+  is_wild_event (Do.Store w v) a cargo h may d read = record { finds = tt; carries = d.2; after = stay (role_of (Do.Store w v)) h (ap (λ (z : Half). z.entries) d.0); end = end_did n (half_of (role_of (Do.Store w v)) p c) (Do.Store w v) a cargo h d }

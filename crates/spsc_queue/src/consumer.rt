@@ -10,6 +10,7 @@ ghost use Rattle.spsc_queue.specs.Steps.{EndDid, SeeDid, known_end, last_value, 
 ghost use Rattle.spsc_queue.specs.Steps.{see_kept, see_read, Granted, fits_entry, index_read};
 ghost use Rattle.spsc_queue.specs.Steps.{after_look, took_one, passed};
 
+use crate::looks::looked;
 use crate::plays;
 use crate::ring::Ring;
 use crate::rule::{FLAG, FLAG_BACK, GUARDS, HEAD, PENDING, PENDING_BACK, Place, TAIL};
@@ -114,9 +115,7 @@ impl Consumer {
         let tail = ring.table.shared.load::<plays::TailRead>(&mut self.seat, TAIL);
         let stand = (tail % 65536 + (65536 - u64::from(self.head))) % 65536;
         let fits = 0 < stand && stand <= u64::from(ring.capacity);
-        if !fits && self.waiter == Waiter::Asked {
-            self.waiter = Waiter::Clear;
-        }
+        self.waiter = looked(self.waiter, fits);
         fits
     }
 
@@ -138,9 +137,7 @@ impl Consumer {
             .shared
             .load::<plays::EntryGuard>(&mut self.seat, GUARDS + slot);
         let has_entry = guard == 1;
-        if !has_entry && self.waiter == Waiter::Asked {
-            self.waiter = Waiter::Clear;
-        }
+        self.waiter = looked(self.waiter, has_entry);
         has_entry
     }
 

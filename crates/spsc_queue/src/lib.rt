@@ -10,6 +10,7 @@ mod clock;
 mod consumer;
 mod ended;
 mod laws;
+mod looks;
 mod plays;
 mod producer;
 mod ring;

@@ -12,6 +12,7 @@ ghost use Rattle.spsc_queue.specs.Steps.{room_kept, room_read, fits_room, index_
 ghost use Rattle.spsc_queue.specs.Steps.{empty_if, sent_one, passed};
 
 use crate::clock::Clock;
+use crate::looks::looked;
 use crate::plays;
 use crate::ring::Ring;
 use crate::rule::{Board, FLAG, FLAG_BACK, GUARDS, HEAD, PENDING, PENDING_BACK, Place, TAIL};
@@ -124,9 +125,7 @@ impl Producer {
         let head = ring.table.shared.load::<plays::HeadRead>(&mut self.seat, HEAD);
         let stand = (u64::from(self.tail) + (65536 - head % 65536)) % 65536;
         let fits = stand < u64::from(ring.capacity);
-        if !fits && self.waiter == Waiter::Asked {
-            self.waiter = Waiter::Clear;
-        }
+        self.waiter = looked(self.waiter, fits);
         fits
     }
 
@@ -147,9 +146,7 @@ impl Producer {
             .shared
             .load::<plays::RoomGuard>(&mut self.seat, GUARDS + slot);
         let has_room = guard == 0;
-        if !has_room && self.waiter == Waiter::Asked {
-            self.waiter = Waiter::Clear;
-        }
+        self.waiter = looked(self.waiter, has_room);
         has_room
     }
 
