@@ -10,12 +10,12 @@ mod clock;
 mod consumer;
 mod ended;
 mod laws;
-mod looks;
 mod plays;
 mod producer;
 mod ring;
 mod rule;
 mod view;
+mod waiting;
 
 pub use both::both_look;
 pub use clock::Clock;

@@ -12,11 +12,11 @@ ghost use Rattle.spsc_queue.specs.Steps.{room_kept, room_read, fits_room, index_
 ghost use Rattle.spsc_queue.specs.Steps.{empty_if, sent_one, passed};
 
 use crate::clock::Clock;
-use crate::looks::looked;
 use crate::plays;
 use crate::ring::Ring;
 use crate::rule::{Board, FLAG, FLAG_BACK, GUARDS, HEAD, PENDING, PENDING_BACK, Place, TAIL};
 use crate::rule::{kept_of, place_of};
+use crate::waiting::looked;
 use cargo_core::{Body, Item, Word};
 use std::marker::Model;
 use wire_core::{Answer, Op, Ringer, Side, Waiter};
