@@ -84,10 +84,14 @@ slot_below index capacity slot is some_place = subst (λ (z : ℕ). z < capacity
 pub guard_below : (words capacity slot : ℕ) → words ≡ 36 + capacity → slot < capacity → 36 + slot < words
 guard_below words capacity slot are lt = omega (arith, are, lt)
 
--- what an end knows after it read the guard at its own place
+-- the guard at an end's own place
+pub guard_here : (n n0 slot : ℕ) (h h0 : Half) → h ≡ h0 → slot ≡ length h.entries % n → n ≡ n0 → 36 + slot ≡ guard_word n0 (length h0.entries)
+guard_here n n0 slot h h0 same at size = ap (λ (z : ℕ). 36 + z) (at ∙ (λ i. length (same i).entries % size i))
+
+-- what an end knows after it read the guard there
 module _ (n n0 slot : ℕ) (h h0 h' : Half) (r : ℕ) (same : h ≡ h0) (at : slot ≡ length h.entries % n) (size : n ≡ n0) where
   place_here : 36 + slot ≡ guard_word n0 (length h0.entries)
-  place_here = ap (λ (z : ℕ). 36 + z) (at ∙ (λ i. length (same i).entries % size i))
+  place_here = guard_here n n0 slot h h0 same at size
 
   pub seen_guard : (g : Option Slot) → h' ≡ after_look (nat_eq r 1) (36 + slot) r g h.ahead h → h' ≡ after_look (nat_eq (last_value h') 1) (guard_word n0 (length h0.entries)) (last_value h') h'.grant h0.ahead h0
   seen_guard g is = is ∙ (λ i. after_look (nat_eq (sym (ap last_value is) i) 1) (place_here i) (sym (ap last_value is) i) (sym (ap (λ (z : Half). z.grant) is) i) (same i).ahead (same i))

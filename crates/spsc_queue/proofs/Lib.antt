@@ -12,3 +12,4 @@ pub mod Closing
 pub mod Events
 pub mod Rows
 pub mod WildEvents
+pub mod TwoSteps

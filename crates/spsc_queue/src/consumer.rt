@@ -10,7 +10,6 @@ ghost use Rattle.spsc_queue.specs.Steps.{EndDid, SeeDid, known_end, last_value, 
 ghost use Rattle.spsc_queue.specs.Steps.{see_kept, see_read, Granted, fits_entry, index_read};
 ghost use Rattle.spsc_queue.specs.Steps.{after_look, took_one, passed};
 
-
 use crate::plays;
 use crate::ring::Ring;
 use crate::rule::{FLAG, FLAG_BACK, GUARDS, HEAD, PENDING, PENDING_BACK, Place, TAIL};
