@@ -131,11 +131,11 @@ impl Consumer {
         ensures granted { Granted self.old.knows.kind (nat_eq (last_value self.new.knows) 1)
             self.new.knows.grant }
     {
-        let slot = usize::from(self.head % ring.capacity);
+        let place = usize::from(self.head % ring.capacity);
         let guard = ring
             .table
             .shared
-            .load::<plays::EntryGuard>(&mut self.seat, GUARDS + slot);
+            .load::<plays::EntryGuard>(&mut self.seat, GUARDS + place);
         let has_entry = guard == 1;
         self.waiter = looked(self.waiter, has_entry);
         has_entry
@@ -212,15 +212,16 @@ impl Consumer {
             (guard_word self.old.ring.slots (length self.old.knows.entries)) 0 self.old.knows) }
         ensures kind { kind_of result.0 ≡ self.old.knows.kind }
     {
-        let slot = usize::from(self.head % ring.capacity);
+        let place = usize::from(self.head % ring.capacity);
         let next = self.head.wrapping_add(1);
-        let old = ring.table.shared.exchange(&mut self.seat, slot, None);
+        let ahead = self.ahead.saturating_sub(1);
+        let old = ring.table.shared.exchange(&mut self.seat, place, None);
         let Some(entry) = old else { unreachable!() };
         ring.table
             .shared
-            .store::<plays::Take>(&mut self.seat, GUARDS + slot, 0);
+            .store::<plays::Take>(&mut self.seat, GUARDS + place, 0);
         self.head = next;
-        self.ahead = self.ahead.saturating_sub(1);
+        self.ahead = ahead;
         self.ringer = Ringer::Put;
         entry
     }

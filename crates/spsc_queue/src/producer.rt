@@ -140,11 +140,11 @@ impl Producer {
             self.old.knows.ahead self.old.knows }
         ensures answer { result ≡ nat_eq (last_value self.new.knows) 0 }
     {
-        let slot = usize::from(self.tail % ring.capacity);
+        let place = usize::from(self.tail % ring.capacity);
         let guard = ring
             .table
             .shared
-            .load::<plays::RoomGuard>(&mut self.seat, GUARDS + slot);
+            .load::<plays::RoomGuard>(&mut self.seat, GUARDS + place);
         let has_room = guard == 0;
         self.waiter = looked(self.waiter, has_room);
         has_room
@@ -219,14 +219,15 @@ impl Producer {
         ensures did { self.new.knows ≡ sent_one (item, body) C.time
             (guard_word self.old.ring.slots (length self.old.knows.entries)) 1 self.old.knows }
     {
-        let slot = usize::from(self.tail % ring.capacity);
+        let place = usize::from(self.tail % ring.capacity);
         let next = self.tail.wrapping_add(1);
-        fill(&mut self.seat, &ring.table, slot, item, body);
+        let ahead = self.ahead.saturating_sub(1);
+        fill(&mut self.seat, &ring.table, place, item, body);
         ring.table
             .shared
-            .store::<plays::Put<C>>(&mut self.seat, GUARDS + slot, 1);
+            .store::<plays::Put<C>>(&mut self.seat, GUARDS + place, 1);
         self.tail = next;
-        self.ahead = self.ahead.saturating_sub(1);
+        self.ahead = ahead;
         self.ringer = Ringer::Put;
     }
 
