@@ -1,5 +1,5 @@
 -- How far the ends of one actor went, between two moments.
-use Rattle.std.specs.Prelude.{◌≡◌, ℕ, ◌+◌, Bool, false, List, [], ◌∷◌, ◌++◌, slice_get, Option}
+use Rattle.std.specs.Prelude.{◌≡◌, ◌≤◌, ℕ, ◌+◌, Bool, false, List, [], ◌∷◌, ◌++◌, slice_get, Option}
 use Rattle.std.specs.Prelude.{Some, None}
 use Rattle.atomic_table.specs.Seated.{TableId}
 use Rattle.wire_core.specs.Deeds.{Cargo}
@@ -49,7 +49,8 @@ sort_at x = sort_known (joined_get x)
 abbrev pub NoneWild : SeatsAre → Type 0
 NoneWild s = (r : Role) (k : ℕ) → sort_at (slice_get (ends_of s r) k) ≡ false
 
--- its ends stayed, their lists grew, and where no ring is wild they made n word steps
+-- its ends stayed, and their lists grew by n calls, each of one word step or two: of one where no
+-- ring is wild
 pub record Went (s : SeatsAre) (n : ℕ) (t : SeatsAre) : Type 0 where
   pub rings : t.rings ≡ s.rings
   pub ends : (r : Role) (k : ℕ) → ring_at (slice_get (ends_of t r) k)
@@ -58,4 +59,6 @@ pub record Went (s : SeatsAre) (n : ℕ) (t : SeatsAre) : Type 0 where
       ≡ sort_at (slice_get (ends_of s r) k)
   pub taken : (k : ℕ) → Begins (seats_taken s k) (seats_taken t k)
   pub sent : (k : ℕ) → Begins (seats_sent s k) (seats_sent t k)
+  pub least : seats_steps s + n ≤ seats_steps t
+  pub most : seats_steps t ≤ seats_steps s + (n + n)
   pub steps : NoneWild s → seats_steps t ≡ seats_steps s + n

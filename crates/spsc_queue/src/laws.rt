@@ -16,11 +16,11 @@ use crate::view::Half;
 use cargo_core::QueueKind;
 use wire_core::{Answer, Op};
 
-/// A new ring shows the queue law's start state. On a ring that isn't wild, at any moment at which the ring rule holds, a call
-/// that meets its condition and does what its contract says, where it read the word that it looks
-/// at, is the queue law's next event on the queue that the ring shows: its answer and its entry are
-/// the law's, and the queue that is shown after it is too. What the words are is told by what the
-/// two ends know, so no other words fit a new ring.
+/// A new ring shows the queue law's start state. On a ring that isn't wild, at any moment at which
+/// the ring rule holds, a call that meets its condition and does what its contract says, where it
+/// read the word that it looks at, is the queue law's next event on the queue that the ring shows:
+/// its answer and its entry are the law's, and the queue that is shown after it is too. What the
+/// words are is told by what the two ends know, so no other words fit a new ring.
 pub fn ring_law()
     ensures start { (kind : QueueKind) (n : ℕ)
         → ring_queue kind n (laid 0 0 0 0 1 0) (first_producer kind)
