@@ -1,5 +1,6 @@
 -- Which queues of one's own are wild stays so: no call makes or ends a ring, or gives an end away.
-use Rattle.std.proofs.Common.{◌≡◌, ℕ, zero, suc, true, List, [], ◌∷◌, Option, Some, slice_get, slice_set, inl, inr, ⊎_elim, refl, sym, subst}
+use Rattle.std.proofs.Common.{◌≡◌, ℕ, zero, suc, true, List, [], ◌∷◌, Option, Some, slice_get}
+use Rattle.std.proofs.Common.{slice_set, inl, inr, ⊎_elim, refl, sym, subst}
 use Rattle.wire_core.specs.Deeds.{Deed}
 use Rattle.wire_core.specs.Ends.{Role, Consumer, Producer}
 use Rattle.spsc_queue.specs.Known.Ends.{EndIs}

@@ -1,7 +1,7 @@
 //! The ends of one actor over shared rings, as the calls of `Wires`: a step that is generic over
 //! `Wires` runs over a ring as it does over the world of lists.
-ghost use Rattle.std.specs.Prelude.{◌≡◌, ◌<◌, ◌≤◌, ℕ, [], length, slice_get, Some, None, OnOk, true};
-ghost use Rattle.std.specs.Prelude.{IfErr, IfSome, IfNone};
+ghost use Rattle.std.specs.Prelude.{◌≡◌, ◌<◌, ◌≤◌, ℕ, [], length, slice_get, Some, None, OnOk};
+ghost use Rattle.std.specs.Prelude.{IfErr, IfSome, IfNone, true};
 ghost use Rattle.spsc_queue.specs.Known.Ends.{RingIs};
 ghost use Rattle.wire_core.specs.Deeds.{plain_deed};
 ghost use Rattle.wire_core.specs.Ends.{Consumer, Producer};

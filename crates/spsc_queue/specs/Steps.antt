@@ -318,8 +318,8 @@ after_ring w r h = record h {
   walked = (w, r) ∷ h.walked;
 }
 
--- something was pending just where notifications were made since the last time; on a wild ring it is
--- as it was stored
+-- something was pending just where notifications were made since the last time; on a wild ring it
+-- is as it was stored
 abbrev pub IsWoken : ℕ → Half → Half → Type 0
 IsWoken r h h' = h.wild ≡ false → nat_eq r 1 ≡ nat_lt h.woken h'.woken
 

@@ -158,10 +158,10 @@ impl Consumer {
 
     /// Whether an entry stands in the queue at this step. A no makes a waiter that asked clear.
     /// Where the tail that was read last tells of an entry, it isn't read again: a look at one's
-    /// own index is the step. On a wild ring the tail is read at each look, and where it tells of an
-    /// entry, the guard at the end's own place answers: only where one stands there, whatever the
-    /// tail is. So a look there may answer no while the slot of a former yes is granted, and the
-    /// slot then goes home.
+    /// own index is the step. On a wild ring the tail is read at each look, and where it tells of
+    /// an entry, the guard at the end's own place answers: only where one stands there, whatever
+    /// the tail is. So a look there may answer no while the slot of a former yes is granted, and
+    /// the slot then goes home.
     #[tactic(auto, using(crate::proofs::Rows::end_did))]
     pub fn see(&mut self, ring: &Ring) -> bool
         requires own { self.old.ring ≡ ring.now.id }

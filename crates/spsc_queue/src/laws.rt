@@ -1,6 +1,6 @@
 //! What a step on a ring means for the queue that the ring shows.
-ghost use Rattle.std.specs.Prelude.{◌≡◌, ◌≤◌, ◌+◌, ℕ, [], ◌++◌, Bool, true, false, not, List, length};
-ghost use Rattle.std.specs.Prelude.{slice_index};
+ghost use Rattle.std.specs.Prelude.{◌≡◌, ◌≤◌, ◌+◌, ℕ, [], ◌++◌, Bool, true, false, not, List};
+ghost use Rattle.std.specs.Prelude.{length, slice_index};
 ghost use mathlib.Core.Option as maybe;
 ghost use Rattle.wire_core.specs.Bells.{bit};
 ghost use Rattle.wire_core.specs.Deeds.{Cargo};
@@ -46,13 +46,13 @@ pub fn ring_law()
         ≡ laid 0 0 0 0 1 0 }
 {}
 
-/// On a ring of either sort sent is taken with a list behind it, at most as long as the capacity. On
-/// a wild ring, whatever stands in its six words, at any moment at which the ring rule holds: the
-/// guard at the consumer's place tells whether an entry stands, the one at the producer's whether
-/// there is no room. A call that meets its condition and does what its contract says, where the last
-/// step of a look read what stands there, moves what the queue law moves, and looks, takes and puts
-/// find there what the law asks: an entry where `see` answers yes or `take` comes, and room where
-/// `room` answers yes or `put` comes.
+/// On a ring of either sort sent is taken with a list behind it, at most as long as the capacity.
+/// On a wild ring, whatever stands in its six words, at any moment at which the ring rule holds:
+/// the guard at the consumer's place tells whether an entry stands, the one at the producer's
+/// whether there is no room. A call that meets its condition and does what its contract says, where
+/// the last step of a look read what stands there, moves what the queue law moves, and looks, takes
+/// and puts find there what the law asks: an entry where `see` answers yes or `take` comes, and
+/// room where `room` answers yes or `put` comes.
 pub fn wild_law()
     ensures beginning { (wild : Bool) (kind : QueueKind) (n : ℕ) (words : List ℕ)
         (homes : List (maybe.Option Slot)) (p c : Half) → EndsHold wild kind n words homes p c

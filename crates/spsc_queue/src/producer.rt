@@ -260,8 +260,8 @@ impl Producer {
     }
 
     /// Puts an entry of the ring's kind behind the others, at the time that the caller picks. The
-    /// last look must have answered yes, and is then used. On a wild ring the guard is stored first,
-    /// and then the tail.
+    /// last look must have answered yes, and is then used. On a wild ring the guard is stored
+    /// first, and then the tail.
     #[tactic(auto, using(crate::proofs::Rows::end_did))]
     pub fn put<C: Clock>(&mut self, ring: &Ring, item: Item, body: Body)
         requires own { self.old.ring ≡ ring.now.id }

@@ -107,10 +107,10 @@ pub fn open(
     Ok(two_ends(alloc, table, seat, capacity, false))
 }
 
-/// A wild ring in its start state, in whose six words either end may store what it likes: it has one
-/// guard more for each place, 1 where an entry stands there, and no `store` names a guard. Each end
-/// goes by the guards, so a neighbour that keeps no rule may withhold entries and room, and never
-/// make an end take what was not sent or put where an entry stands.
+/// A wild ring in its start state, in whose six words either end may store what it likes: it has
+/// one guard more for each place, 1 where an entry stands there, and no `store` names a guard. Each
+/// end goes by the guards, so a neighbour that keeps no rule may withhold entries and room, and
+/// never make an end take what was not sent or put where an entry stands.
 pub fn open_wild(
     alloc: Global,
     kind: QueueKind,

@@ -45,8 +45,8 @@ apart_passed p calls = record {
 }
 
 -- no two of an actor's ends on one side are of one queue, and each is of the ring at its queue's
--- place and knows that no neighbour stores what it likes there; the actor fits them and stands for what passed there by some calls, and no step of it
--- wanted memory
+-- place and knows that the ring isn't wild; the actor fits them and stands for what passed there by
+-- some calls, and no step of it wanted memory
 pub record StandsApart (rings : List RingIs) (p : Apart) : Type 0 where
   pub once : (r : Role) (i j : ℕ) (x y : QueueId × EndIs) → slice_get (ends_at p r) i ≡ Some x
       → slice_get (ends_at p r) j ≡ Some y → x.0.0 ≡ y.0.0 → i ≡ j

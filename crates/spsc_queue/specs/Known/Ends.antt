@@ -11,8 +11,8 @@ pub record EndIs : Type 0 where
   pub ring : TableId
   pub knows : Half
 
--- which ring, with its capacity as the number of its slots, what it is for, and whether it is one in
--- whose words either end may store what it likes
+-- which ring, with its capacity as the number of its slots, what it is for, and whether it is wild,
+-- so that either end may store what it likes in its words
 pub record RingIs : Type 0 where
   pub id : TableId
   pub kind : QueueKind
