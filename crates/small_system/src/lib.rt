@@ -1,0 +1,8 @@
+//! One player for actors of any kind: queues between actors that stand behind one trait, a play by
+//! a seed, the one journal, and the tale of turns from which a class's own claims follow.
+#![tactic(auto)]
+
+mod actor;
+mod running;
+
+pub use actor::SmallActor;
