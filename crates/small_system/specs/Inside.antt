@@ -8,5 +8,5 @@ use Rattle.small_system.specs.Runnings.{Ascending}
 -- a tale tells it, the runnable actors are kept, and there is room for them
 pub record IsSmall {A : Type 0} (m : Means A) (s : Shown A) (running : Ascending) : Type 0 where
   pub told : IsTold m s
-  pub runs : running.list ≡ running_in m s.now
-  pub room : length s.now.actors ≤ running.room
+  pub runs : running.list ≡ running_in m s.moment
+  pub room : length s.moment.actors ≤ running.room

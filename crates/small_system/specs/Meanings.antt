@@ -1,6 +1,6 @@
 -- What an actor means to who plays it: its ends, what it stands for and how its ends stand, and
 -- what one step of it does.
-use Rattle.std.specs.Prelude.{◌≡◌, ℕ, false, Option, Some, slice_get}
+use Rattle.std.specs.Prelude.{◌≡◌, ℕ, false, Option, Some, List, slice_get}
 use Rattle.cargo_core.specs.declared.item.Body.{Body}
 use Rattle.wire_core.specs.declared.names.Event.{Event}
 use Rattle.wire_core.specs.Ends.{Role, End, role_of, waiting_role}

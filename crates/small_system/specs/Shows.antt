@@ -1,12 +1,13 @@
 -- What a player shows, and what a play does to it.
-use Rattle.std.specs.Prelude.{◌≡◌, ◌≤◌, ◌+◌, ◌++◌, ℕ, List, [], length}
+use Rattle.std.specs.Prelude.{◌≡◌, ◌≤◌, ◌+◌, ◌++◌, ◌∷◌, ℕ, Bool, Option, Some, List, [], length}
+use Rattle.std.specs.Prelude.{slice_get}
 use Rattle.wire_core.specs.declared.names.QueueRow.{QueueRow}
 use Rattle.wire_core.specs.declared.names.Entry.{Entry}
 use Rattle.wire_core.specs.Lists.{Passed}
 use Rattle.wire_core.specs.Queues.{Queue}
 use Rattle.small_system.specs.Meanings.{Means}
-use Rattle.small_system.specs.Tales.{Moment, Turn, start_of, running_in, IsTale, after_tale}
-use Rattle.small_system.specs.Tales.{journal_of, passed_by, PickedBy}
+use Rattle.small_system.specs.Tales.{Moment, Turn, start_of, is_runnable, running_in, IsTurn}
+use Rattle.small_system.specs.Tales.{moment_after, entry_of, IsTale, after_tale, journal_of, PickedBy}
 use Rattle.small_system.specs.Standing.{Begins, Holds}
 
 -- what a player shows: its rows, its actors as they were at the start, queues and actors as they
@@ -14,7 +15,7 @@ use Rattle.small_system.specs.Standing.{Begins, Holds}
 pub record Shown (A : Type 0) : Type 0 where
   pub rows : List QueueRow
   pub start : List A
-  pub now : Moment A
+  pub moment : Moment A
   pub journal : List Entry
 
 -- what is shown of these
@@ -23,14 +24,14 @@ abbrev pub shown : {A : Type 0} → List QueueRow → (start : List A) → List 
 shown {A} rows start world actors journal = record {
   rows = rows;
   start = start;
-  now = record { world = world; actors = actors };
+  moment = record { world = world; actors = actors };
   journal = journal;
 }
 
 -- the tale of these turns is how it came to be as it is, and the journal has one entry for each
 pub record IsToldBy {A : Type 0} (m : Means A) (s : Shown A) (turns : List (Turn A)) : Type 0 where
   pub tale : IsTale m (start_of s.rows s.start) turns
-  pub now : s.now ≡ after_tale (start_of s.rows s.start) turns
+  pub moment : s.moment ≡ after_tale (start_of s.rows s.start) turns
   pub journal : s.journal ≡ journal_of turns
 
 -- a tale of turns from the start state on tells all of it
@@ -42,20 +43,20 @@ pub record IsTold {A : Type 0} (m : Means A) (s : Shown A) : Type 0 where
 -- all holds as it is, and each actor stands for what passed
 pub record Stands {A : Type 0} (m : Means A) (s : Shown A) : Type 0 where
   pub passed : Passed
-  pub holds : Holds m s.rows s.now passed s.journal
+  pub holds : Holds m s.rows s.moment passed s.journal
 
 -- nobody is runnable
 abbrev pub IsQuiet : {A : Type 0} → Means A → Shown A → Type 0
-IsQuiet {A} m s = running_in m s.now ≡ []
+IsQuiet {A} m s = running_in m s.moment ≡ []
 
 -- it was played on by turns that the seed picks, at most so many
 pub record Played {A : Type 0} (m : Means A) (old new : Shown A) (seed limit : ℕ) : Type 0 where
   pub rows : new.rows ≡ old.rows
   pub start : new.start ≡ old.start
   pub turns : List (Turn A)
-  pub tale : IsTale m old.now turns
-  pub picked : PickedBy m old.now seed turns
-  pub now : new.now ≡ after_tale old.now turns
+  pub tale : IsTale m old.moment turns
+  pub picked : PickedBy m old.moment seed turns
+  pub moment : new.moment ≡ after_tale old.moment turns
   pub journal : new.journal ≡ old.journal ++ journal_of turns
   pub within : length turns ≤ limit
 
@@ -63,3 +64,18 @@ pub record Played {A : Type 0} (m : Means A) (old new : Shown A) (seed limit : �
 pub record IsSpent {A : Type 0} (m : Means A) (old new : Shown A) (limit : ℕ) : Type 0 where
   pub count : length new.journal ≡ length old.journal + limit
   pub goes_on : IsQuiet m new → ⊥
+
+-- the actor at a place among the runnable ones made one turn more
+pub record StepsAt {A : Type 0} (m : Means A) (place : ℕ) (old new : Shown A) : Type 0 where
+  pub turn : Turn A
+  pub there : slice_get (running_in m old.moment) place ≡ Some turn.number
+  pub happens : IsTurn m old.moment turn
+  pub rows : new.rows ≡ old.rows
+  pub start : new.start ≡ old.start
+  pub moment : new.moment ≡ moment_after old.moment turn
+  pub journal : new.journal ≡ old.journal ++ entry_of turn ∷ []
+
+-- whether the actor that is rung, if one is, is runnable now is asked of that actor
+abbrev pub IsAsked : {A : Type 0} → Means A → List A → List Queue → Option ℕ → Bool → Type 0
+IsAsked {A} m actors world rung runs = (k : ℕ) → rung ≡ Some k
+    → (x : A) × (slice_get actors k ≡ Some x) × (runs ≡ is_runnable m world k x)

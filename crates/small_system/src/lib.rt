@@ -3,6 +3,8 @@
 #![tactic(auto)]
 
 mod actor;
+mod laws;
 mod running;
 
 pub use actor::SmallActor;
+pub use laws::tale_law;
