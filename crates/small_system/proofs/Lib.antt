@@ -5,3 +5,8 @@ pub mod Taking
 pub mod Posts
 pub mod Step
 pub mod Telling
+pub mod Keeping
+pub mod Playing
+pub mod Listing
+pub mod Wanting
+pub mod Paced

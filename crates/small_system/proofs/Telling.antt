@@ -1,5 +1,11 @@
-use Rattle.std.proofs.Common.{◌≡◌, ◌+◌, ◌++◌, ℕ, false, List, [], ◌∷◌, Some, length, length-set, map, slice_get, slice_set, append_assoc, refl, sym, ap, ◌∙◌, subst, zero, suc, arith}
+use Rattle.std.proofs.Common.{◌≡◌, ◌+◌, ◌++◌, ◌<◌, ◌⊎◌, ◌≢◌, ℕ, true, false, get_or, inl, inr, List, [], ◌∷◌, Some, length, length-set, map, slice_get, slice_set, append_assoc, refl, sym, ap, ◌∙◌, subst, zero, suc, arith}
+use Rattle.std.proofs.Math.Dec.{eqb}
+use Rattle.std.proofs.lemmas.Bool.Decides.{eqb_tells}
 use Rattle.std.proofs.lemmas.List.{append-nil, map-append, length-map}
+use Rattle.std.proofs.lemmas.Option.{slice_get-get_or}
+use Rattle.play_core.specs.Moved.{moved}
+use Rattle.play_core.specs.Rests.Showing.{HaveItems, HaveBells}
+use Rattle.wire_core.proofs.Places.{slice_get_written, slice_get_beside}
 use Rattle.wire_core.specs.declared.names.QueueRow.{QueueRow}
 use Rattle.wire_core.specs.declared.names.Entry.{Entry}
 use Rattle.wire_core.specs.Lists.{Passed, with_deed, nothing_passed}
@@ -15,7 +21,7 @@ use Rattle.small_system.specs.Meanings.{Means, Lawful}
 use Rattle.small_system.specs.Tales.{Moment, Turn, start_of, IsTurn, moment_after, IsTale, after_tale, entry_of, journal_of, passed_from, passed_by, PickedBy, Along, running_in}
 use Rattle.small_system.specs.Standing.{Begins, Holds}
 use Rattle.small_system.specs.Shows.{Shown, IsTold, Stands}
-use Rattle.small_system.proofs.Step.{step_holds}
+use Rattle.small_system.proofs.Step.{step_holds, no_row}
 
 -- Tales go on, and at each moment of one all holds.
 
@@ -106,3 +112,27 @@ stands_now m law s told =
       holds = subst (λ mo. Holds m s.rows mo (passed_by told.turns) s.journal) (sym told.told.moment)
           (subst (Holds m s.rows (after_tale (start_of s.rows s.start) told.turns) (passed_by told.turns)) (sym told.told.journal) (told_holds m law s.rows s.start told.turns told.begins told.told.tale));
     }
+
+-- no actor comes or goes
+pub tale_count : {A : Type 0} (m : Means A) (mo : Moment A) (ts : List (Turn A)) → IsTale m mo ts → length (after_tale mo ts).actors ≡ length mo.actors
+tale_count m mo [] tale = refl
+tale_count m mo (t ∷ ts) tale = tale_count m (moment_after mo t) ts tale.1 ∙ length-set mo.actors t.number t.actor
+
+-- who is there after a turn is made of what it was made of
+turn_part : {A : Type 0} (m : Means A) (mo : Moment A) (t : Turn A) → IsTurn m mo t → (k : ℕ) (x : A) → slice_get mo.actors k ≡ Some x → ((eqb k t.number ≡ true) × (k ≡ t.number)) ⊎ ((eqb k t.number ≡ false) × (k ≢ t.number)) → (y : A) × (slice_get (slice_set mo.actors t.number t.actor) k ≡ Some y) × (m.part y ≡ m.part x)
+turn_part m mo t is k x at (inl same) =
+    let was : is.old ≡ x = some_is (sym is.there ∙ (ap (slice_get mo.actors) (sym same.1) ∙ at)) in
+    (t.actor, ap (slice_get (slice_set mo.actors t.number t.actor)) same.1 ∙ slice_get_written mo.actors t.number is.old t.actor is.there, is.steps.part ∙ ap m.part was)
+turn_part m mo t is k x at (inr away) = (x, slice_get_beside mo.actors t.number k t.actor away.1 ∙ at, refl)
+
+pub tale_parts : {A : Type 0} (m : Means A) (mo : Moment A) (ts : List (Turn A)) → IsTale m mo ts → (k : ℕ) (x y : A) → slice_get mo.actors k ≡ Some x → slice_get (after_tale mo ts).actors k ≡ Some y → m.part y ≡ m.part x
+tale_parts m mo [] tale k x y at at' = ap m.part (some_is (sym at' ∙ at))
+tale_parts m mo (t ∷ ts) tale k x y at at' =
+    let z = turn_part m mo t tale.0 k x at (eqb_tells k t.number) in
+    tale_parts m (moment_after mo t) ts tale.1 k z.0 y z.1 at' ∙ z.2
+
+pub items_shown : {A : Type 0} (m : Means A) (rows : List QueueRow) (mo : Moment A) (passed : Passed) (journal : List Entry) → Holds m rows mo passed journal → HaveItems passed (moved (start_history rows) journal)
+items_shown m rows mo passed journal h = record { taken = h.shows_taken; sent = h.shows_sent }
+
+pub bells_shown : {A : Type 0} (m : Means A) (rows : List QueueRow) (mo : Moment A) (passed : Passed) (journal : List Entry) → Holds m rows mo passed journal → HaveBells mo.world (start_history rows) journal
+bells_shown m rows mo passed journal h = λ n lt. (h.queues n (get_or rows n no_row) (slice_get-get_or rows n no_row (subst (λ i. n < i) h.size lt))).bells

@@ -5,6 +5,8 @@
 mod actor;
 mod laws;
 mod running;
+mod small;
 
 pub use actor::SmallActor;
 pub use laws::tale_law;
+pub use small::Small;
