@@ -1,22 +1,26 @@
-use Rattle.std.proofs.Common.{◌≡◌, ◌+◌, ◌++◌, ◌||◌, ℕ, Bool, true, false, not, List, [], ◌∷◌, Some, length, length-set, slice_get, refl, sym, ap, ◌∙◌, subst, zero, suc, arith, add-zero}
+use Rattle.std.proofs.Common.{◌≡◌, ◌+◌, ◌++◌, ◌||◌, ◌<◌, ℕ, Bool, true, false, not, List, [], ◌∷◌, Some, length, length-set, slice_get, refl, sym, ap, ◌∙◌, subst, zero, suc, arith, add-zero}
 use Rattle.wire_core.specs.declared.names.QueueRow.{QueueRow}
 use Rattle.wire_core.specs.declared.names.Event.{Event}
 use Rattle.wire_core.specs.declared.names.Entry.{Entry}
 use Rattle.wire_core.specs.Lists.{Passed}
 use Rattle.wire_core.specs.Queues.{Queue, is_pending}
-use Rattle.wire_core.specs.Journal.{start_history}
+use Rattle.wire_core.specs.Ends.{Role}
+use Rattle.wire_core.specs.Journal.{start_history, nobody, BellsHold, QueuesFlow, owner_of}
 use Rattle.wire_core.specs.Picks.{PickedFrom, next_seed, place_of}
 use Rattle.turn_kit.specs.Turns.{is_at_rest}
 use Rattle.play_core.specs.Manners.{Calm}
+use Rattle.play_core.specs.Still.{IsQuiet}
+use Rattle.play_core.proofs.Moments.{last_moment}
 use Rattle.play_core.specs.Moved.{Moved, moved}
 use Rattle.play_core.specs.Wants.{all_settled}
 use Rattle.play_core.specs.Runs.{places_from, flags_from, called_from}
 use Rattle.small_system.specs.Meanings.{Means, Lawful}
-use Rattle.small_system.specs.Tales.{Moment, Turn, is_runnable, flags_in, running_in, IsTale, moment_after, journal_of, entry_of, passed_by, PickedBy, Along}
-use Rattle.small_system.specs.Standing.{Holds}
-use Rattle.small_system.specs.Wants.{Wanting, calls_in, wanted_from, calm, runs_by, RestsBy}
+use Rattle.small_system.specs.Tales.{start_of, after_tale, Moment, Turn, is_runnable, flags_in, running_in, IsTale, moment_after, journal_of, entry_of, passed_by, PickedBy, Along}
+use Rattle.small_system.specs.Standing.{Begins, Holds}
+use Rattle.small_system.specs.Wants.{Wanting, calls_in, wanted_from, wanted_by, calm, runs_by, RestsBy}
 use Rattle.small_system.proofs.Step.{called_here}
-use Rattle.small_system.proofs.Telling.{holds_more, journal_join}
+use Rattle.small_system.proofs.Telling.{holds_more, journal_join, told_holds, tale_count}
+use Rattle.small_system.proofs.Paced.{tale_lawful}
 
 -- Where each actor rests by its wants, who is runnable by its own state is so by wants.
 
@@ -44,3 +48,19 @@ picks_wanted m law wants rows count mo before (t ∷ ts) seed holds many tale re
     (subst (λ rs. slice_get rs (place_of (next_seed seed) (length rs)) ≡ Some t.number) runs picked.0,
     subst (λ j. PickedFrom (runs_by wants rows count) (next_seed seed) j (journal_of ts)) (journal_join before (t ∷ []))
     (picks_wanted m law wants rows count (moment_after mo t) (before ++ t ∷ []) ts (next_seed seed) (holds_more m law rows mo before t holds tale.0) (length-set mo.actors t.number t.actor ∙ many) tale.1 rests.1 picked.1))
+
+wanted_count : (wants : Wanting) (k count : ℕ) (moves : Moved) (calls : List Event) → length (wanted_from wants k count moves calls) ≡ count
+wanted_count wants k zero moves calls = refl
+wanted_count wants k (suc count) moves calls = ap suc (wanted_count wants (k + 1) count moves calls)
+
+-- where nobody is runnable, nobody is so by wants
+pub quiet_wanted : {A : Type 0} (m : Means A) (law : Lawful m) (wants : Wanting) (rows : List QueueRow) (start : List A) (turns : List (Turn A)) → Begins m rows start → IsTale m (start_of rows start) turns → RestsBy m wants rows (after_tale (start_of rows start) turns) (journal_of turns) → running_in m (after_tale (start_of rows start) turns) ≡ [] → IsQuiet calm (start_history rows) rows (wanted_by wants rows (length start) (journal_of turns)) (journal_of turns)
+quiet_wanted m law wants rows start turns begins tale rests none =
+    let holds = told_holds m law rows start turns begins tale in
+    let lawful = tale_lawful m law rows start turns begins tale in
+    record {
+      bells_hold = last_moment (BellsHold nobody (start_history rows) rows) (journal_of turns) lawful.bells_hold;
+      flows = last_moment (QueuesFlow (start_history rows) rows) (journal_of turns) lawful.flows;
+      peopled = λ n row at r. subst (λ i. owner_of row r < i) (sym (wanted_count wants 0 (length start) (moved (start_history rows) (journal_of turns)) (calls_in (journal_of turns)))) (begins.peopled n row at r);
+      quiet = sym (runs_wanted m wants rows (after_tale (start_of rows start) turns) (passed_by turns) (journal_of turns) holds rests ∙ ap (λ n. runs_by wants rows n (journal_of turns)) (tale_count m (start_of rows start) turns tale)) ∙ none;
+    }

@@ -6,19 +6,20 @@ ghost use Rattle.wire_core.specs.Journal.{start_history};
 ghost use Rattle.wire_core.specs.Lists.{Passed};
 ghost use Rattle.wire_core.specs.Picks.{PickedFrom};
 ghost use Rattle.play_core.specs.Moved.{moved};
+ghost use Rattle.play_core.specs.Still.{IsQuiet};
 ghost use Rattle.play_core.specs.Rests.Showing.{HaveItems, HaveBells};
 ghost use Rattle.small_system.specs.Tales.{Moment, Turn, start_of, IsTale, after_tale, journal_of};
 ghost use Rattle.small_system.specs.Tales.{passed_by, running_in, PickedBy, Along};
 ghost use Rattle.small_system.specs.Standing.{Begins, Holds, IsLawful};
-ghost use Rattle.small_system.specs.Wants.{Wanting, RestsBy, runs_by};
+ghost use Rattle.small_system.specs.Wants.{Wanting, RestsBy, runs_by, wanted_by, calm};
 
 use crate::SmallActor;
 
 /// What a class's own theorem begins with. At each moment of a tale all actors fit and stand for
 /// what passed, and queues, journal and what passed belong together; each actor is made of what it
 /// was made of at the start; the journal is lawful. Where each actor rests exactly where all that
-/// it wants is settled, those that are runnable by their own states are runnable by their wants,
-/// and a seed picks among them.
+/// it wants is settled, those that are runnable by their own states are runnable by their wants, a
+/// seed picks among them, and where nobody is runnable nobody is so by wants.
 pub fn tale_law<A: SmallActor>()
     ensures joins { (moment : Moment A) (before more : List (Turn A))
         → IsTale A.means moment before → IsTale A.means (after_tale moment before) more
@@ -51,6 +52,13 @@ pub fn tale_law<A: SmallActor>()
         (journal : List Entry) → Holds A.means rows moment passed journal
         → RestsBy A.means wants rows moment journal
         → running_in A.means moment ≡ runs_by wants rows (length moment.actors) journal }
+    ensures quiet { (wants : Wanting) (rows : List QueueRow) (start : List A)
+        (turns : List (Turn A)) → Begins A.means rows start
+        → IsTale A.means (start_of rows start) turns
+        → RestsBy A.means wants rows (after_tale (start_of rows start) turns) (journal_of turns)
+        → running_in A.means (after_tale (start_of rows start) turns) ≡ []
+        → IsQuiet calm (start_history rows) rows
+        (wanted_by wants rows (length start) (journal_of turns)) (journal_of turns) }
     ensures picks { (wants : Wanting) (rows : List QueueRow) (moment : Moment A)
         (before more : List (Turn A)) (seed : ℕ)
         → Holds A.means rows moment (passed_by before) (journal_of before)

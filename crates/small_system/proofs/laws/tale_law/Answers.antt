@@ -2,7 +2,7 @@ use Rattle.std.proofs.Common.{refl, []}
 use Rattle.small_system.specs.Tales.{start_of}
 use Rattle.small_system.proofs.Telling.{tale_join, holds_along, told_holds, start_small, tale_count, tale_parts, items_shown, bells_shown}
 use Rattle.small_system.proofs.Paced.{tale_lawful}
-use Rattle.small_system.proofs.Wanting.{runs_wanted, picks_wanted}
+use Rattle.small_system.proofs.Wanting.{runs_wanted, picks_wanted, quiet_wanted}
 use Rattle.small_system.proofs.laws.tale_law.Goals as goal
 
 pub returns-clause-joins : goal.returns-clause-joins
@@ -34,3 +34,6 @@ returns-clause-runs g c = λ wants rows moment passed journal holds rests. runs_
 
 pub returns-clause-picks : goal.returns-clause-picks
 returns-clause-picks g c = λ wants rows moment before more seed holds tale rests picked. picks_wanted g.A.SmallActor.means g.met.A.SmallActor.lawful wants rows _ moment before more seed holds refl tale rests picked
+
+pub returns-clause-quiet : goal.returns-clause-quiet
+returns-clause-quiet g c = λ wants rows start turns begins tale rests none. quiet_wanted g.A.SmallActor.means g.met.A.SmallActor.lawful wants rows start turns begins tale rests none

@@ -1,0 +1,96 @@
+-- The laws of these meanings: each actor looks at its own ends alone.
+use Rattle.std.proofs.Common.{◌≡◌, ◌==◌, ◌++◌, ℕ, true, false, Some, List, [], ◌∷◌, slice_get, refl, sym, ap, ◌∙◌, subst, zero, suc}
+use Rattle.std.proofs.lemmas.List.{append-nil}
+use Rattle.wire_core.specs.declared.names.Event.{Event}
+use Rattle.wire_core.specs.declared.names.Op.{Op}
+use Rattle.wire_core.specs.declared.names.Op.TheVariants as Do
+use Rattle.wire_core.specs.Ends.{Role, Consumer, Producer, End, role_of}
+use Rattle.wire_core.specs.Deeds.{Deed, Cargo}
+use Rattle.wire_core.specs.Lists.{Passed, with_deed}
+use Rattle.wire_core.proofs.Beside.{take_beside, put_beside}
+use Rattle.wire_core.proofs.Sinces.{eqb_apart}
+use Rattle.turn_kit.specs.Table.{Agrees}
+use Rattle.turn_kit.specs.Turns.{Post}
+use Rattle.turn_kit.specs.Posts.{intake_post, outlet_post}
+use Rattle.play_core.proofs.Lists.{some_is}
+use Rattle.serial_switch.specs.Carried.{bytes_carried}
+use Rattle.small_system.specs.Meanings.{Own, Lawful}
+use Rattle.class_example.specs.declared.source.Source.{Source}
+use Rattle.class_example.specs.declared.joiner.Joiner.{Joiner}
+use Rattle.class_example.specs.declared.joiner.Claim.{Claim}
+use Rattle.class_example.specs.declared.joiner.Claim.TheVariants.{Open, First, Second}
+use Rattle.class_example.specs.declared.member.Member.{Member}
+use Rattle.class_example.specs.declared.member.Member.TheVariants as Members
+use Rattle.class_example.specs.Sources.{FitsSource, SourceStandsFor}
+use Rattle.class_example.specs.Joiners.{input_at, claim_of, claim_with, claim_from, claim_by, FitsJoiner, JoinerStandsFor}
+use Rattle.class_example.specs.Members.{FitsMember, MemberStandsFor, member_round, member_means}
+
+-- one call more
+pub claim_more : (f s : ℕ) (c : Claim) (es : List Event) (e : Event) → claim_from f s c (es ++ e ∷ []) ≡ claim_with (claim_from f s c es) (claim_of f s e.op e.queue.0)
+claim_more f s c [] e = refl
+claim_more f s c (x ∷ es) e = claim_more f s (claim_with c (claim_of f s x.op x.queue.0)) es e
+
+pub claim_open : (c : Claim) → claim_with c Open ≡ c
+claim_open Open = refl
+claim_open First = refl
+claim_open Second = refl
+
+-- a call at none of these inputs takes from none
+claim_off : (f s : ℕ) (o : Op) (q : ℕ) → (role_of o ≡ Consumer → q ≡ f → ⊥) → (role_of o ≡ Consumer → q ≡ s → ⊥) → claim_of f s o q ≡ Open
+claim_off f s Do.Take q a b = rw (eqb_apart q f (a refl), eqb_apart q s (b refl)) refl
+claim_off f s Do.Put q a b = refl
+claim_off f s Do.See q a b = refl
+claim_off f s Do.Room q a b = refl
+claim_off f s (Do.Ask x) q a b = refl
+claim_off f s (Do.Waive x) q a b = refl
+claim_off f s (Do.Wake x) q a b = refl
+claim_off f s (Do.Wanted x) q a b = refl
+claim_off f s (Do.Settle x) q a b = refl
+claim_off f s (Do.Ring x) q a b = refl
+claim_off f s (Do.Store w v) q a b = refl
+
+-- the end of a source, and the two of a joiner
+own_output : (s : Source) (r : Role) (n : ℕ) → r ≡ Producer → n ≡ s.output.queue.0 → Own member_means (Members.Source s) r n
+own_output s r n e q = record { place = 0; post = outlet_post s.output; there = refl; queue = sym q; role = sym e }
+
+own_first : (j : Joiner) (r : Role) (n : ℕ) → r ≡ Consumer → n ≡ j.first.queue.0 → Own member_means (Members.Joiner j) r n
+own_first j r n e q = record { place = 0; post = intake_post j.first; there = refl; queue = sym q; role = sym e }
+
+own_second : (j : Joiner) (r : Role) (n : ℕ) → r ≡ Consumer → n ≡ j.second.queue.0 → Own member_means (Members.Joiner j) r n
+own_second j r n e q = record { place = 1; post = intake_post j.second; there = refl; queue = sym q; role = sym e }
+
+fits_beside : (a b : Role → ℕ → End) (x : Member) → ((r : Role) (n : ℕ) → Own member_means x r n → b r n ≡ a r n) → FitsMember a x → FitsMember b x
+fits_beside a b (Members.Source s) same f =
+    let o = same Producer s.output.queue.0 (own_output s Producer s.output.queue.0 refl refl) in
+    record { output = subst (λ e. Agrees e s.output.state) (sym o) f.output; says = ap (λ (e : End). e.kind) o ∙ f.says; next = f.next }
+fits_beside a b (Members.Joiner j) same f =
+    let one = same Consumer j.first.queue.0 (own_first j Consumer j.first.queue.0 refl refl) in
+    let other = same Consumer j.second.queue.0 (own_second j Consumer j.second.queue.0 refl refl) in
+    record { first = subst (λ e. Agrees e j.first.state) (sym one) f.first; second = subst (λ e. Agrees e j.second.state) (sym other) f.second; apart = f.apart }
+
+still : (xs more : List Cargo) → more ≡ [] → xs ++ more ≡ xs
+still xs more none = ap (λ c. xs ++ c) none ∙ append-nil xs
+
+stands_beside : (ends : Role → ℕ → End) (p : Passed) (d : Deed) (x : Member) → FitsMember ends x → (Own member_means x (role_of d.event.op) d.event.queue.0 → ⊥) → MemberStandsFor x p → MemberStandsFor x (with_deed p d)
+stands_beside ends p d (Members.Source s) f off st = record { sent_is = still (p.sent s.output.queue.0) _ (put_beside d s.output.queue.0 (λ r n. off (own_output s (role_of d.event.op) d.event.queue.0 r n))) ∙ st.sent_is }
+stands_beside ends p d (Members.Joiner j) f off st =
+    let one = still (p.taken j.first.queue.0) _ (take_beside d j.first.queue.0 (λ r n. off (own_first j (role_of d.event.op) d.event.queue.0 r n))) in
+    let other = still (p.taken j.second.queue.0) _ (take_beside d j.second.queue.0 (λ r n. off (own_second j (role_of d.event.op) d.event.queue.0 r n))) in
+    let none = claim_off j.first.queue.0 j.second.queue.0 d.event.op d.event.queue.0 (λ r n. off (own_first j (role_of d.event.op) d.event.queue.0 r n)) (λ r n. off (own_second j (role_of d.event.op) d.event.queue.0 r n)) in
+    record {
+      claim_is = st.claim_is ∙ sym (claim_more j.first.queue.0 j.second.queue.0 Open p.calls d.event ∙ (ap (claim_with (claim_by j.first.queue.0 j.second.queue.0 p.calls)) none ∙ claim_open (claim_by j.first.queue.0 j.second.queue.0 p.calls)));
+      record_is = rw (one, other) st.record_is;
+      first_alone = λ h. other ∙ st.first_alone h;
+      second_alone = λ h. one ∙ st.second_alone h;
+    }
+
+waits : (x : Member) (k : ℕ) (p : Post) → slice_get (member_round x).posts k ≡ Some p → p.drops ≡ false
+waits (Members.Source s) zero p at = ap (λ (o : Post). o.drops) (sym (some_is at))
+waits (Members.Source s) (suc k) p at = cc
+waits (Members.Joiner j) zero p at = ap (λ (o : Post). o.drops) (sym (some_is at))
+waits (Members.Joiner j) (suc zero) p at = ap (λ (o : Post). o.drops) (sym (some_is at))
+waits (Members.Joiner j) (suc (suc k)) p at = cc
+
+-- the laws of the meanings of both kinds
+pub member_lawful : Lawful member_means
+member_lawful = record { fits_beside = fits_beside; stands_beside = stands_beside; waits = waits }
