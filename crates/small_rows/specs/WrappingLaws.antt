@@ -1,0 +1,38 @@
+-- The laws of these meanings.
+use Rattle.std.proofs.Common.{◌≡◌, ◌++◌, ℕ, false, Some, List, [], slice_get, subst, sym, ap, ◌∙◌}
+use Rattle.std.proofs.lemmas.List.{append-nil}
+use Rattle.wire_core.specs.declared.names.Side.TheVariants.{Forward, Backward}
+use Rattle.wire_core.specs.Ends.{Role, Consumer, Producer, End, role_of, waiting_role}
+use Rattle.wire_core.specs.Deeds.{Deed, Cargo}
+use Rattle.wire_core.specs.Lists.{Passed, with_deed}
+use Rattle.wire_core.proofs.Beside.{take_beside, put_beside}
+use Rattle.turn_kit.specs.Turns.{Post}
+use Rattle.actor_set.specs.Actors.{FitsActor, ActorStandsFor, ActorEnd, actor_round}
+use Rattle.actor_set.proofs.LawsLemmas.Beside.{fits_beside, stands_beside}
+use Rattle.actor_set.proofs.LawsLemmas.Paces.{post_stands, end_post}
+use Rattle.actor_set.proofs.LawsLemmas.Starts.{fits_whole}
+use Rattle.small_system.specs.Meanings.{Own, Lawful}
+use Rattle.small_rows.specs.declared.wrapping.Wrapped.{Wrapped}
+use Rattle.small_rows.specs.Wrappings.{wrapped_means}
+
+-- an end of an actor is one of its posts
+pub own_end : (x : Wrapped) (r : Role) (n : ℕ) → ActorEnd x.actor r n → Own wrapped_means x r n
+own_end x Consumer n h = let p = end_post x.actor Forward n h in record { place = p.0; post = p.1; there = p.2; queue = p.3; role = ap waiting_role p.4 }
+own_end x Producer n h = let p = end_post x.actor Backward n h in record { place = p.0; post = p.1; there = p.2; queue = p.3; role = ap waiting_role p.4 }
+
+still : (xs more : List Cargo) → more ≡ [] → xs ++ more ≡ xs
+still xs more none = ap (λ c. xs ++ c) none ∙ append-nil xs
+
+-- the laws of the meanings of actors in their wrappings
+pub wrapped_lawful : Lawful wrapped_means
+wrapped_lawful = record {
+  fits_beside = λ a b x same f. fits_beside a b x.actor (λ r n own. same r n (own_end x r n own)) f;
+  stands_beside = λ ends p d x f off st. stands_beside p (with_deed p d) x.actor (fits_whole ends x.actor f)
+      (λ n own. still (p.taken n) _ (take_beside d n (λ a b. off (own_end x (role_of d.event.op) d.event.queue.0 (at_end x Consumer n (role_of d.event.op) d.event.queue.0 a b own)))))
+      (λ n own. still (p.sent n) _ (put_beside d n (λ a b. off (own_end x (role_of d.event.op) d.event.queue.0 (at_end x Producer n (role_of d.event.op) d.event.queue.0 a b own)))))
+      st;
+  waits = λ x k p at. (post_stands x.actor k p at).1;
+}
+  where
+    at_end : (x : Wrapped) (r : Role) (n : ℕ) (r' : Role) (n' : ℕ) → r' ≡ r → n' ≡ n → ActorEnd x.actor r n → ActorEnd x.actor r' n'
+    at_end x r n r' n' a b own = subst (λ q. ActorEnd x.actor q n') (sym a) (subst (ActorEnd x.actor r) (sym b) own)
