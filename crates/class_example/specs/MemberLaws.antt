@@ -1,5 +1,6 @@
 -- The laws of these meanings: each actor looks at its own ends alone.
-use Rattle.std.proofs.Common.{◌≡◌, ◌==◌, ◌++◌, ℕ, true, false, Some, List, [], ◌∷◌, slice_get, refl, sym, ap, ◌∙◌, subst, zero, suc}
+use Rattle.std.proofs.Common.{◌≡◌, ◌==◌, if◌then◌else◌, ◌++◌, ℕ, false, List, [], ◌∷◌, refl, sym, ap, ◌∙◌, subst}
+use Rattle.std.specs.List.{All}
 use Rattle.std.proofs.lemmas.List.{append-nil}
 use Rattle.wire_core.specs.declared.names.Event.{Event}
 use Rattle.wire_core.specs.declared.names.Op.{Op}
@@ -12,7 +13,6 @@ use Rattle.wire_core.proofs.Sinces.{eqb_apart}
 use Rattle.turn_kit.specs.Table.{Agrees}
 use Rattle.turn_kit.specs.Turns.{Post}
 use Rattle.turn_kit.specs.Posts.{intake_post, outlet_post}
-use Rattle.play_core.proofs.Lists.{some_is}
 use Rattle.serial_switch.specs.Carried.{bytes_carried}
 use Rattle.small_system.specs.Meanings.{Own, Lawful}
 use Rattle.class_example.specs.declared.source.Source.{Source}
@@ -37,7 +37,9 @@ claim_open Second = refl
 
 -- a call at none of these inputs takes from none
 claim_off : (f s : ℕ) (o : Op) (q : ℕ) → (role_of o ≡ Consumer → q ≡ f → ⊥) → (role_of o ≡ Consumer → q ≡ s → ⊥) → claim_of f s o q ≡ Open
-claim_off f s Do.Take q a b = rw (eqb_apart q f (a refl), eqb_apart q s (b refl)) refl
+claim_off f s Do.Take q a b =
+    ap (λ h. if h then First else (if q == s then Second else Open)) (eqb_apart q f (a refl))
+    ∙ ap (λ h. if h then Second else Open) (eqb_apart q s (b refl))
 claim_off f s Do.Put q a b = refl
 claim_off f s Do.See q a b = refl
 claim_off f s Do.Room q a b = refl
@@ -79,17 +81,14 @@ stands_beside ends p d (Members.Joiner j) f off st =
     let none = claim_off j.first.queue.0 j.second.queue.0 d.event.op d.event.queue.0 (λ r n. off (own_first j (role_of d.event.op) d.event.queue.0 r n)) (λ r n. off (own_second j (role_of d.event.op) d.event.queue.0 r n)) in
     record {
       claim_is = st.claim_is ∙ sym (claim_more j.first.queue.0 j.second.queue.0 Open p.calls d.event ∙ (ap (claim_with (claim_by j.first.queue.0 j.second.queue.0 p.calls)) none ∙ claim_open (claim_by j.first.queue.0 j.second.queue.0 p.calls)));
-      record_is = rw (one, other) st.record_is;
+      record_is = st.record_is ∙ (ap (λ r. bytes_carried r ++ bytes_carried (p.taken j.second.queue.0)) (sym one) ∙ ap (λ r. bytes_carried ((with_deed p d).taken j.first.queue.0) ++ bytes_carried r) (sym other));
       first_alone = λ h. other ∙ st.first_alone h;
       second_alone = λ h. one ∙ st.second_alone h;
     }
 
-waits : (x : Member) (k : ℕ) (p : Post) → slice_get (member_round x).posts k ≡ Some p → p.drops ≡ false
-waits (Members.Source s) zero p at = ap (λ (o : Post). o.drops) (sym (some_is at))
-waits (Members.Source s) (suc k) p at = cc
-waits (Members.Joiner j) zero p at = ap (λ (o : Post). o.drops) (sym (some_is at))
-waits (Members.Joiner j) (suc zero) p at = ap (λ (o : Post). o.drops) (sym (some_is at))
-waits (Members.Joiner j) (suc (suc k)) p at = cc
+waits : (x : Member) → All (λ (p : Post). p.drops ≡ false) (member_round x).posts
+waits (Members.Source s) = (refl, tt)
+waits (Members.Joiner j) = (refl, refl, tt)
 
 -- the laws of the meanings of both kinds
 pub member_lawful : Lawful member_means

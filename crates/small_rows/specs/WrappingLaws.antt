@@ -1,5 +1,6 @@
 -- The laws of these meanings.
-use Rattle.std.proofs.Common.{◌≡◌, ◌++◌, ℕ, false, Some, List, [], slice_get, subst, sym, ap, ◌∙◌}
+use Rattle.std.proofs.Common.{◌≡◌, ◌++◌, ℕ, zero, suc, false, Some, List, [], ◌∷◌, slice_get, refl, subst, sym, ap, ◌∙◌}
+use Rattle.std.specs.List.{All}
 use Rattle.std.proofs.lemmas.List.{append-nil}
 use Rattle.wire_core.specs.declared.names.Side.TheVariants.{Forward, Backward}
 use Rattle.wire_core.specs.Ends.{Role, Consumer, Producer, End, role_of, waiting_role}
@@ -23,6 +24,11 @@ own_end x Producer n h = let p = end_post x.actor Backward n h in record { place
 still : (xs more : List Cargo) → more ≡ [] → xs ++ more ≡ xs
 still xs more none = ap (λ c. xs ++ c) none ∙ append-nil xs
 
+-- what holds of each holds of all
+all_from : (ps : List Post) → ((k : ℕ) (p : Post) → slice_get ps k ≡ Some p → p.drops ≡ false) → All (λ (p : Post). p.drops ≡ false) ps
+all_from [] h = tt
+all_from (p ∷ ps) h = (h zero p refl, all_from ps (λ k q. h (suc k) q))
+
 -- the laws of the meanings of actors in their wrappings
 pub wrapped_lawful : Lawful wrapped_means
 wrapped_lawful = record {
@@ -31,7 +37,7 @@ wrapped_lawful = record {
       (λ n own. still (p.taken n) _ (take_beside d n (λ a b. off (own_end x (role_of d.event.op) d.event.queue.0 (at_end x Consumer n (role_of d.event.op) d.event.queue.0 a b own)))))
       (λ n own. still (p.sent n) _ (put_beside d n (λ a b. off (own_end x (role_of d.event.op) d.event.queue.0 (at_end x Producer n (role_of d.event.op) d.event.queue.0 a b own)))))
       st;
-  waits = λ x k p at. (post_stands x.actor k p at).1;
+  waits = λ x. all_from (actor_round x.actor).posts (λ k p at. (post_stands x.actor k p at).1);
 }
   where
     at_end : (x : Wrapped) (r : Role) (n : ℕ) (r' : Role) (n' : ℕ) → r' ≡ r → n' ≡ n → ActorEnd x.actor r n → ActorEnd x.actor r' n'

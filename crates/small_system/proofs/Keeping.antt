@@ -78,16 +78,16 @@ reach_rung (Do.Ring Backward) row k i own away h = by (reach_owns (Do.Ring Backw
     by : (r : Role) × (owner_of row r ≡ i) → rung_at (Do.Ring Backward) row ≡ Some i
     by (Producer, is) = ap Some is
     by (Consumer, is) = absurd (away (sym is ∙ own))
-reach_rung Do.See row k i own away h = let no = sym (reach_none row Do.See k _ own) ∙ h in cc
-reach_rung Do.Room row k i own away h = let no = sym (reach_none row Do.Room k _ own) ∙ h in cc
-reach_rung Do.Take row k i own away h = let no = sym (reach_none row Do.Take k _ own) ∙ h in cc
-reach_rung Do.Put row k i own away h = let no = sym (reach_none row Do.Put k _ own) ∙ h in cc
-reach_rung (Do.Ask s) row k i own away h = let no = sym (reach_none row (Do.Ask s) k _ own) ∙ h in cc
-reach_rung (Do.Waive s) row k i own away h = let no = sym (reach_none row (Do.Waive s) k _ own) ∙ h in cc
-reach_rung (Do.Wake s) row k i own away h = let no = sym (reach_none row (Do.Wake s) k _ own) ∙ h in cc
-reach_rung (Do.Wanted s) row k i own away h = let no = sym (reach_none row (Do.Wanted s) k _ own) ∙ h in cc
-reach_rung (Do.Settle s) row k i own away h = let no = sym (reach_none row (Do.Settle s) k _ own) ∙ h in cc
-reach_rung (Do.Store w v) row k i own away h = let no = sym (reach_none row (Do.Store w v) k _ own) ∙ h in cc
+reach_rung Do.See row k i own away h = let no : None ≡ Some i = sym (reach_none row Do.See k _ own) ∙ h in cc
+reach_rung Do.Room row k i own away h = let no : None ≡ Some i = sym (reach_none row Do.Room k _ own) ∙ h in cc
+reach_rung Do.Take row k i own away h = let no : None ≡ Some i = sym (reach_none row Do.Take k _ own) ∙ h in cc
+reach_rung Do.Put row k i own away h = let no : None ≡ Some i = sym (reach_none row Do.Put k _ own) ∙ h in cc
+reach_rung (Do.Ask s) row k i own away h = let no : None ≡ Some i = sym (reach_none row (Do.Ask s) k _ own) ∙ h in cc
+reach_rung (Do.Waive s) row k i own away h = let no : None ≡ Some i = sym (reach_none row (Do.Waive s) k _ own) ∙ h in cc
+reach_rung (Do.Wake s) row k i own away h = let no : None ≡ Some i = sym (reach_none row (Do.Wake s) k _ own) ∙ h in cc
+reach_rung (Do.Wanted s) row k i own away h = let no : None ≡ Some i = sym (reach_none row (Do.Wanted s) k _ own) ∙ h in cc
+reach_rung (Do.Settle s) row k i own away h = let no : None ≡ Some i = sym (reach_none row (Do.Settle s) k _ own) ∙ h in cc
+reach_rung (Do.Store w v) row k i own away h = let no : None ≡ Some i = sym (reach_none row (Do.Store w v) k _ own) ∙ h in cc
 
 pub rung_owns : (o : Op) (row : QueueRow) (i : ℕ) → rung_at o row ≡ Some i → (r : Role) × (owner_of row r ≡ i)
 rung_owns Do.See row i rung = cc
@@ -265,6 +265,9 @@ module _ {A : Type 0} (m : Means A) (law : Lawful m) (rows : List QueueRow) (sta
   abbrev the_turn : Turn A
   the_turn = record { number = k; deed = the_deed; actor = x' }
 
+  abbrev moment_with : List Queue → Moment A
+  moment_with u = record { world = u; actors = slice_set actors k x' }
+
   pub steps_at : StepsAt m place old_shown new_shown
   steps_at = record {
     turn = the_turn;
@@ -272,7 +275,7 @@ module _ {A : Type 0} (m : Means A) (law : Lawful m) (rows : List QueueRow) (sta
     happens = record { old = x; there = here_is; runs = runs_now; happened = subst (Happens w the_deed) acts.happened.after_is acts.happened; steps = acts.steps; fits = subst (λ u. m.Fits (end_at u) x') acts.happened.after_is fits };
     rows = refl;
     start = refl;
-    moment = ap (λ u. record { world = u; actors = slice_set actors k x' }) acts.happened.after_is;
+    moment = ap moment_with acts.happened.after_is;
     journal = refl;
   }
 

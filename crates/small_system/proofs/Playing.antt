@@ -57,6 +57,6 @@ played m old new seed x n limit p le = record { rows = p.rows; start = p.start; 
 
 pub spent : {A : Type 0} (m : Means A) (old new : Shown A) (seed x limit : ℕ) → Playing m old new seed x limit → (IsQuiet m new → ⊥) → IsSpent m old new limit
 spent m old new seed x limit p goes = record {
-  count = ap length p.journal ∙ (length-append old.journal (journal_of p.turns) ∙ ap (λ k. length old.journal + k) (simp length-map ∙ p.count));
+  count = ap length p.journal ∙ (length-append old.journal (journal_of p.turns) ∙ ap (λ k. length old.journal + k) (length-map p.turns entry_of ∙ p.count));
   goes_on = goes;
 }

@@ -1,4 +1,5 @@
-use Rattle.std.proofs.Common.{◌≡◌, ◌≢◌, ◌⊎◌, ℕ, Bool, true, false, Option, Some, None, slice_get, slice_set, refl, sym, ap, ◌∙◌, subst, inl, inr}
+use Rattle.std.proofs.Common.{◌≡◌, ◌≢◌, ◌⊎◌, ℕ, zero, suc, Bool, true, false, Option, Some, None, List, [], ◌∷◌, slice_get, slice_set, refl, sym, ap, ◌∙◌, subst, inl, inr}
+use Rattle.std.specs.List.{All}
 use Rattle.std.proofs.Math.Dec.{eqb}
 use Rattle.std.proofs.lemmas.Bool.Decides.{eqb_tells}
 use Rattle.wire_core.specs.declared.names.Event.{Event}
@@ -54,6 +55,12 @@ waiting_of Forward Forward h = refl
 waiting_of Forward Backward h = cc
 waiting_of Backward Forward h = cc
 waiting_of Backward Backward h = refl
+
+-- what holds of all holds of each
+pub all_at : {T : Type 0} (P : T → Type 0) (xs : List T) → All P xs → (k : ℕ) (x : T) → slice_get xs k ≡ Some x → P x
+all_at P [] h k x at = cc
+all_at P (y ∷ xs) h zero x at = subst P (some_is at) h.0
+all_at P (y ∷ xs) h (suc k) x at = all_at P xs h.1 k x at
 
 -- an actor that was x is x' after a turn
 module _ {A : Type 0} (m : Means A) (x x' : A) (e : Event) (t : Turned (m.round x) e (m.round x')) where

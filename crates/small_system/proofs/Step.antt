@@ -37,7 +37,7 @@ use Rattle.play_core.proofs.Lists.{some_is}
 use Rattle.small_system.specs.Meanings.{Means, Own, Steps, Lawful}
 use Rattle.small_system.specs.Tales.{Moment, is_runnable}
 use Rattle.small_system.specs.Standing.{AreSeated, Holds}
-use Rattle.small_system.proofs.Posts.{own_call, own_back, own_on, waiting_of}
+use Rattle.small_system.proofs.Posts.{own_call, own_back, own_on, waiting_of, all_at}
 
 pub no_row : QueueRow
 no_row = record { name = []; kind = Kind.Byte; capacity = 0; producer = record { 0 = 0 }; consumer = record { 0 = 0 }; region = None; offset = 0 }
@@ -327,7 +327,7 @@ module _ {A : Type 0} (m : Means A) (law : Lawful m) (rows : List QueueRow) (mo 
   pressed rest = called_end m rows actors old.seated journal k x here (sym (called_here m rows mo passed journal old k) ∙ called_so (is_at_rest (m.round x)) (is_pending k w) rest runs)
 
   no_drop : false ≡ is_drop steps.turned.posted.post e
-  no_drop = sym (ap (λ d. d && is_vain_look e.op e.answer) (law.waits x steps.turned.place steps.turned.posted.post steps.turned.posted.there))
+  no_drop = sym (ap (λ d. d && is_vain_look e.op e.answer) (all_at (λ (p : Post). p.drops ≡ false) (m.round x).posts (law.waits x) steps.turned.place steps.turned.posted.post steps.turned.posted.there))
 
   post_owner : (j : ℕ) (y : A) → slice_get actors j ≡ Some y → (i : ℕ) (p : Post) → slice_get (m.round y).posts i ≡ Some p → (row : QueueRow) → slice_get rows p.queue ≡ Some row → owner_of row (waiting_role p.side) ≡ j
   post_owner j y at i p pat row rat =
