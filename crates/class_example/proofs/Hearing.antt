@@ -1,4 +1,4 @@
-use Rattle.std.proofs.Common.{◌≡◌, ◌==◌, ◌++◌, ℕ, Bool, true, false, Option, Some, None, IsSome, List, [], ◌∷◌, refl, sym, ap, ◌∙◌, subst}
+use Rattle.std.proofs.Common.{◌≡◌, ◌↔◌, ◌==◌, ◌++◌, ℕ, Bool, true, false, Option, Some, None, IsSome, List, [], ◌∷◌, refl, sym, ap, ◌∙◌, subst}
 use Rattle.std.specs.Option.{option_to_list}
 use Rattle.std.proofs.lemmas.List.{append-nil}
 use Rattle.std.proofs.lemmas.Bool.{eq-eqb}
@@ -123,18 +123,18 @@ module _ (old new : Joiner) (e : Event) (taken : Option Cargo) (p : Passed) (st 
     }
 
 -- whichever came, from the first input or from the second
-pub heard_first : (old new : Joiner) (e : Event) (taken : Option Cargo) → (old.first.queue.0 ≡ old.second.queue.0 → ⊥) → ((e.op ≡ Do.Take → IsSome taken) × (IsSome taken → e.op ≡ Do.Take)) → e.queue.0 ≡ old.first.queue.0 → ((n : ℕ) → taken_by (deed_of e taken) n ≡ if_there (old.first.queue.0 == n) (option_to_list taken)) → (IsSome taken → wants_first old.claim ≡ true) → new.claim ≡ claim_after taken First old.claim → new.recorded.shown ≡ old.recorded.shown ++ bytes_carried (option_to_list taken) → new.first.queue ≡ old.first.queue → new.second.queue ≡ old.second.queue → (p : Passed) → JoinerStandsFor old p → JoinerStandsFor new (with_deed p (deed_of e taken))
-heard_first old new e None apart iff on takes need claim recorded first second p st = idle_kept old new e None p st apart refl (λ t. iff.0 t) (λ n. takes n ∙ if_none (old.first.queue.0 == n)) claim (recorded ∙ append-nil old.recorded.shown) first second
+pub heard_first : (old new : Joiner) (e : Event) (taken : Option Cargo) → (old.first.queue.0 ≡ old.second.queue.0 → ⊥) → (IsSome taken ↔ (e.op ≡ Do.Take)) → e.queue.0 ≡ old.first.queue.0 → ((n : ℕ) → taken_by (deed_of e taken) n ≡ if_there (old.first.queue.0 == n) (option_to_list taken)) → (IsSome taken → wants_first old.claim ≡ true) → new.claim ≡ claim_after taken First old.claim → new.recorded.shown ≡ old.recorded.shown ++ bytes_carried (option_to_list taken) → new.first.queue ≡ old.first.queue → new.second.queue ≡ old.second.queue → (p : Passed) → JoinerStandsFor old p → JoinerStandsFor new (with_deed p (deed_of e taken))
+heard_first old new e None apart iff on takes need claim recorded first second p st = idle_kept old new e None p st apart refl (λ t. let some = iff.1 t in absurd cc) (λ n. takes n ∙ if_none (old.first.queue.0 == n)) claim (recorded ∙ append-nil old.recorded.shown) first second
   where
     if_none : (b : Bool) → if_there b [] ≡ []
     if_none true = refl
     if_none false = refl
-heard_first old new e (Some c) apart iff on takes need claim recorded first second p st = first_kept old new e (Some c) p st apart c (iff.1 tt) on takes (need tt) claim recorded first second
+heard_first old new e (Some c) apart iff on takes need claim recorded first second p st = first_kept old new e (Some c) p st apart c (iff.0 refl) on takes (need refl) claim recorded first second
 
-pub heard_second : (old new : Joiner) (e : Event) (taken : Option Cargo) → (old.first.queue.0 ≡ old.second.queue.0 → ⊥) → ((e.op ≡ Do.Take → IsSome taken) × (IsSome taken → e.op ≡ Do.Take)) → e.queue.0 ≡ old.second.queue.0 → ((n : ℕ) → taken_by (deed_of e taken) n ≡ if_there (old.second.queue.0 == n) (option_to_list taken)) → (IsSome taken → wants_second old.claim ≡ true) → new.claim ≡ claim_after taken Second old.claim → new.recorded.shown ≡ old.recorded.shown ++ bytes_carried (option_to_list taken) → new.first.queue ≡ old.first.queue → new.second.queue ≡ old.second.queue → (p : Passed) → JoinerStandsFor old p → JoinerStandsFor new (with_deed p (deed_of e taken))
-heard_second old new e None apart iff on takes need claim recorded first second p st = idle_kept old new e None p st apart refl (λ t. iff.0 t) (λ n. takes n ∙ if_none (old.second.queue.0 == n)) claim (recorded ∙ append-nil old.recorded.shown) first second
+pub heard_second : (old new : Joiner) (e : Event) (taken : Option Cargo) → (old.first.queue.0 ≡ old.second.queue.0 → ⊥) → (IsSome taken ↔ (e.op ≡ Do.Take)) → e.queue.0 ≡ old.second.queue.0 → ((n : ℕ) → taken_by (deed_of e taken) n ≡ if_there (old.second.queue.0 == n) (option_to_list taken)) → (IsSome taken → wants_second old.claim ≡ true) → new.claim ≡ claim_after taken Second old.claim → new.recorded.shown ≡ old.recorded.shown ++ bytes_carried (option_to_list taken) → new.first.queue ≡ old.first.queue → new.second.queue ≡ old.second.queue → (p : Passed) → JoinerStandsFor old p → JoinerStandsFor new (with_deed p (deed_of e taken))
+heard_second old new e None apart iff on takes need claim recorded first second p st = idle_kept old new e None p st apart refl (λ t. let some = iff.1 t in absurd cc) (λ n. takes n ∙ if_none (old.second.queue.0 == n)) claim (recorded ∙ append-nil old.recorded.shown) first second
   where
     if_none : (b : Bool) → if_there b [] ≡ []
     if_none true = refl
     if_none false = refl
-heard_second old new e (Some c) apart iff on takes need claim recorded first second p st = second_kept old new e (Some c) p st apart c (iff.1 tt) on takes (need tt) claim recorded first second
+heard_second old new e (Some c) apart iff on takes need claim recorded first second p st = second_kept old new e (Some c) p st apart c (iff.0 refl) on takes (need refl) claim recorded first second

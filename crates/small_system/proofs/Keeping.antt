@@ -10,7 +10,7 @@ use Rattle.wire_core.specs.declared.names.Op.TheVariants as Do
 use Rattle.wire_core.specs.Deeds.{Deed}
 use Rattle.wire_core.specs.Ends.{Role, Consumer, Producer, role_of}
 use Rattle.wire_core.specs.Lists.{Passed, with_deed}
-use Rattle.wire_core.specs.Queues.{Queue, Happens, end_at, is_pending}
+use Rattle.wire_core.specs.Queues.{Queue, Happens, end_at, starts, is_pending}
 use Rattle.wire_core.specs.Journal.{History, MayCall, start_history, nobody, owner_of}
 use Rattle.wire_core.proofs.Places.{slice_get_written, slice_get_beside}
 use Rattle.turn_kit.specs.Turns.{is_at_rest}
@@ -206,6 +206,14 @@ running_few m mo = let f : length (places_from 0 (flags_in m mo.world 0 mo.actor
 -- the actor at a place among the kept ones is there
 pub runner_there : {A : Type 0} (m : Means A) (s : Shown A) (running : Ascending) → IsSmall m s running → (place k : ℕ) → slice_get running.list place ≡ Some k → k < length s.moment.actors
 runner_there m s running small place k at = runs_below m s.moment place k (subst (λ l. slice_get l place ≡ Some k) small.runs at)
+
+-- a player is one in its start state
+pub small_start : {A : Type 0} (m : Means A) (rows : List QueueRow) (actors : List A) (running : Ascending) → Begins m rows actors → running.list ≡ running_in m (start_of rows actors) → length actors ≤ running.room → IsSmall m (shown rows actors (starts rows) actors []) running
+small_start m rows actors running begins list room = record {
+  told = record { begins = begins; turns = []; told = record { tale = tt; moment = refl; journal = refl } };
+  runs = list;
+  room = room;
+}
 
 -- each actor fits some ends
 pub all_fit : {A : Type 0} (m : Means A) (law : Lawful m) (s : Shown A) → IsTold m s → (k : ℕ) (x : A) → slice_get s.moment.actors k ≡ Some x → IsFit m x
