@@ -1,6 +1,8 @@
 -- Two sources and a joiner: what each of them wants, and what their play comes to.
 use Rattle.std.specs.Prelude.{◌≡◌, ℕ, zero, suc, nat_lt, Some, List, [], ◌∷◌, length, map, slice_get}
 use Rattle.cargo_core.specs.Lists.{IsPrefix}
+use Rattle.cargo_core.specs.declared.item.QueueKind.TheVariants as Kind
+use Rattle.wire_core.specs.declared.names.QueueRow.{QueueRow}
 use Rattle.wire_core.specs.declared.names.Event.{Event}
 use Rattle.play_core.specs.Moved.{Moved}
 use Rattle.play_core.specs.Wants.{Want, intake_want, outlet_want}
@@ -13,6 +15,13 @@ use Rattle.class_example.specs.declared.member.Member.{Member}
 use Rattle.class_example.specs.declared.member.Member.TheVariants as Members
 use Rattle.class_example.specs.Joiners.{wants_first, wants_second, claim_by}
 use Rattle.class_example.specs.Members.{Made, Says, Joins, made_of, member_means}
+
+-- a queue of bytes from a source to the joiner
+pub record IsRow (source : ℕ) (row : QueueRow) : Type 0 where
+  pub kind : row.kind ≡ Kind.Byte
+  pub capacity : row.capacity ≡ 2
+  pub producer : row.producer.0 ≡ source
+  pub consumer : row.consumer.0 ≡ 2
 
 -- the actors: the sources of these two scripts, at the queues 0 and 1, and the joiner at both
 abbrev pub pair_of : (one other : List ℕ) → List Made

@@ -2,7 +2,7 @@
 ghost use Rattle.std.specs.Prelude.{◌≡◌, ℕ, List, map, IfOk};
 ghost use Rattle.small_system.specs.Shows.{Shown, IsTold};
 ghost use Rattle.class_example.specs.Members.{made_of, member_means};
-ghost use Rattle.class_example.specs.Pairs.{pair_of, Keeps};
+ghost use Rattle.class_example.specs.Pairs.{IsRow, pair_of, Keeps};
 
 use crate::joiner::Joiner;
 use crate::member::Member;
@@ -28,7 +28,9 @@ pub fn pair_law()
 }
 
 // A queue of bytes from a source to the joiner, which is actor 2.
-fn row(alloc: Global, name: &str, source: u16) -> Result<QueueRow, Memory> {
+fn row(alloc: Global, name: &str, source: u16) -> Result<QueueRow, Memory>
+    ensures { IfOk result (IsRow source) }
+{
     Ok(QueueRow {
         name: Text::new(alloc, name)?,
         kind: QueueKind::Byte,
