@@ -11,6 +11,8 @@
 #![tactic(auto)]
 
 mod class;
+#[cfg(test)]
+mod class_tests;
 mod joiner;
 mod member;
 mod source;
