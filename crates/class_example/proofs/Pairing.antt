@@ -1,7 +1,7 @@
 use Rattle.std.proofs.Common.{◌≡◌, ◌⊎◌, ◌<◌, ◌≤◌, ◌+◌, ◌^◌, ◌++◌, append_assoc, ℕ, Bool, true, false, not, nat_lt, Some, None, List, [], ◌∷◌, length, length-append, length-take, map, take, drop, slice_get, refl, sym, ap, ◌∙◌, subst, arith, zero, suc, min, inl, inr}
 use Rattle.std.proofs.lemmas.List.{append-nil, length-map, take_all, take-append-drop}
-use Rattle.std.proofs.lemmas.Bool.{lt-ltb, le-ltb}
-use Rattle.std.proofs.lemmas.Option.{slice_get_past}
+use Rattle.std.proofs.lemmas.Bool.{lt-ltb}
+use Rattle.std.proofs.lemmas.Nat.{pow_pos}
 use Rattle.std.specs.List.{All}
 use Rattle.cargo_core.specs.Capacities.{IsCapacity}
 use Rattle.cargo_core.specs.Lists.{IsPrefix}
@@ -25,7 +25,7 @@ use Rattle.play_core.specs.Resting.{QueueRests}
 use Rattle.play_core.specs.Still as Stillness
 use Rattle.play_core.proofs.Lists.{some_is, map_from, there_is, there_below}
 use Rattle.serial_switch.specs.Carried.{byte_cargo, bytes_carried}
-use Rattle.small_system.specs.Meanings.{Own}
+
 use Rattle.small_system.specs.Tales.{Moment, Turn, start_of, IsTale, after_tale, journal_of, passed_by, running_in}
 use Rattle.small_system.specs.Standing.{Begins, Holds}
 use Rattle.small_system.specs.Shows.{Shown, IsTold, IsQuiet}
@@ -64,11 +64,7 @@ joiner_of (Members.Source q) n m h = cc
 joiner_of (Members.Joiner j) n m h = (j, refl, cc, cc)
 
 two_power : (n : ℕ) → IsCapacity n → 0 < n
-two_power n c = subst (λ i. 0 < i) (sym c.2) (positive c.0)
-  where
-    positive : (k : ℕ) → 0 < 2 ^ k
-    positive zero = omega arith
-    positive (suc k) = let h = positive k in omega arith
+two_power n c = subst (λ i. 0 < i) (sym c.2) (pow_pos c.0)
 
 all_at : {T : Type 0} (P : T → Type 0) (xs : List T) → All P xs → (k : ℕ) (x : T) → slice_get xs k ≡ Some x → P x
 all_at P [] h k x at = cc
@@ -94,6 +90,28 @@ all_said n m h = by (cases n m)
     by : (n < m) ⊎ (m ≤ n) → m ≤ n
     by (inl l) = let no : true ≡ false = sym (lt-ltb n m l) ∙ h in absurd cc
     by (inr l) = l
+
+-- the source at a place, which is its queue
+record SourceAt (mo : Moment Member) (passed : Passed) (k : ℕ) (script : List ℕ) : Type 0 where
+  pub source : Source
+  pub there : slice_get mo.actors k ≡ Some (Members.Source source)
+  pub queue : source.output.queue.0 ≡ k
+  pub script_is : source.script ≡ script
+  pub fits : FitsSource (end_at mo.world) source
+  pub sent : passed.sent k ≡ map byte_cargo (take source.next script)
+  pub next : source.next ≤ length script
+
+-- the joiner
+record JoinerAt (mo : Moment Member) (passed : Passed) (journal : List Entry) : Type 0 where
+  pub joiner : Joiner
+  pub there : slice_get mo.actors 2 ≡ Some (Members.Joiner joiner)
+  pub first : joiner.first.queue.0 ≡ 0
+  pub second : joiner.second.queue.0 ≡ 1
+  pub fits : FitsJoiner (end_at mo.world) joiner
+  pub claim : joiner.claim ≡ claim_by 0 1 (calls_in journal)
+  pub heard : joiner.recorded.shown ≡ bytes_carried (passed.taken 0) ++ bytes_carried (passed.taken 1)
+  pub first_alone : wants_first joiner.claim ≡ true → passed.taken 1 ≡ []
+  pub second_alone : wants_second joiner.claim ≡ true → passed.taken 0 ≡ []
 
 module _ (laws : Laws) (s : Shown Member) (one other : List ℕ) (told : IsTold member_means s) (pair : map made_of s.start ≡ pair_of one other) where
   abbrev turns : List (Turn Member)
@@ -131,17 +149,7 @@ module _ (laws : Laws) (s : Shown Member) (one other : List ℕ) (told : IsTold 
       let y = there_is mo.actors k (omega (arith, lt, n)) in
       (y.0, y.1, laws.parts start turns told.told.tale k x.0 y.0 x.1 y.1 ∙ x.2)
 
-  -- the source at a place, which is its queue
-  record SourceAt (k : ℕ) (script : List ℕ) : Type 0 where
-    pub source : Source
-    pub there : slice_get mo.actors k ≡ Some (Members.Source source)
-    pub queue : source.output.queue.0 ≡ k
-    pub script_is : source.script ≡ script
-    pub fits : FitsSource (end_at mo.world) source
-    pub sent : passed.sent k ≡ map byte_cargo (take source.next script)
-    pub next : source.next ≤ length script
-
-  source_at : (k : ℕ) (script : List ℕ) → slice_get (pair_of one other) k ≡ Some (Says k script) → SourceAt k script
+  source_at : (k : ℕ) (script : List ℕ) → slice_get (pair_of one other) k ≡ Some (Says k script) → SourceAt mo passed k script
   source_at k script at =
       let y = now_at k (Says k script) at in
       let q = source_of y.0 k script y.2 in
@@ -158,24 +166,13 @@ module _ (laws : Laws) (s : Shown Member) (one other : List ℕ) (told : IsTold 
         next = subst (λ (xs : List ℕ). q.0.next ≤ length xs) q.3 fits.next;
       }
 
-  first_source : SourceAt 0 one
+  first_source : SourceAt mo passed 0 one
   first_source = source_at 0 one refl
 
-  second_source : SourceAt 1 other
+  second_source : SourceAt mo passed 1 other
   second_source = source_at 1 other refl
 
-  record JoinerAt : Type 0 where
-    pub joiner : Joiner
-    pub there : slice_get mo.actors 2 ≡ Some (Members.Joiner joiner)
-    pub first : joiner.first.queue.0 ≡ 0
-    pub second : joiner.second.queue.0 ≡ 1
-    pub fits : FitsJoiner (end_at mo.world) joiner
-    pub claim : joiner.claim ≡ claim_by 0 1 (calls_in journal)
-    pub heard : joiner.recorded.shown ≡ bytes_carried (passed.taken 0) ++ bytes_carried (passed.taken 1)
-    pub first_alone : wants_first joiner.claim ≡ true → passed.taken 1 ≡ []
-    pub second_alone : wants_second joiner.claim ≡ true → passed.taken 0 ≡ []
-
-  joiner_at : JoinerAt
+  joiner_at : JoinerAt mo passed journal
   joiner_at =
       let y = now_at 2 (Joins 0 1) refl in
       let j = joiner_of y.0 0 1 y.2 in
@@ -200,7 +197,7 @@ module _ (laws : Laws) (s : Shown Member) (one other : List ℕ) (told : IsTold 
   from_second h = joiner_at.heard ∙ ap (λ r. bytes_carried r ++ bytes_carried (passed.taken 1)) (joiner_at.second_alone h)
 
   -- what was taken is a beginning of what the source says
-  comes_in_order : (k : ℕ) (script : List ℕ) → (q : SourceAt k script) → IsPrefix (bytes_carried (passed.taken k)) script
+  comes_in_order : (k : ℕ) (script : List ℕ) → (q : SourceAt mo passed k script) → IsPrefix (bytes_carried (passed.taken k)) script
   comes_in_order k script q =
       let es = (queue_at mo.world k).entries in
       (bytes_carried es ++ drop q.source.next script,
@@ -218,22 +215,22 @@ module _ (laws : Laws) (s : Shown Member) (one other : List ℕ) (told : IsTold 
   abbrev moves : Moved
   moves = moved history journal
 
-  put_count : (k : ℕ) (script : List ℕ) (q : SourceAt k script) → length (moves.sent k) ≡ q.source.next
+  put_count : (k : ℕ) (script : List ℕ) (q : SourceAt mo passed k script) → length (moves.sent k) ≡ q.source.next
   put_count k script q = ap (λ l. length l) (sym (holds.shows_sent k)) ∙ (length-map (passed.sent k) (λ (c : Cargo). c.0) ∙ (ap length q.sent ∙ (length-map (take q.source.next script) byte_cargo ∙ (length-take q.source.next script ∙ least q.source.next (length script) q.next))))
 
   -- each rests where what it wants is settled
-  source_rests : (k : ℕ) (script : List ℕ) (q : SourceAt k script) → is_at_rest (member_round (Members.Source q.source)) ≡ all_settled history journal (outlet_want k (nat_lt (length (moves.sent k)) (length script)) ∷ [])
+  source_rests : (k : ℕ) (script : List ℕ) (q : SourceAt mo passed k script) → is_at_rest (member_round (Members.Source q.source)) ≡ all_settled history journal (outlet_want k (nat_lt (length (moves.sent k)) (length script)) ∷ [])
   source_rests k script q =
       laws.rest history journal mo.world (outlet_post q.source.output ∷ []) (nat_lt q.source.next (length q.source.script) ∷ []) (outlet_want k (nat_lt (length (moves.sent k)) (length script)) ∷ []) (laws.bells s.rows mo passed journal holds)
       (record { needs = ap (λ (xs : List ℕ). nat_lt q.source.next (length xs)) q.script_is ∙ ap (λ n. nat_lt n (length script)) (sym (put_count k script q)); agrees = subst (λ n. Agrees (end_at mo.world Producer n) q.source.output.state) q.queue q.fits.output }, tt)
 
   joiner_rests : is_at_rest (member_round (Members.Joiner joiner_at.joiner)) ≡ all_settled history journal (intake_want 0 (wants_first (claim_by 0 1 (calls_in journal))) ∷ intake_want 1 (wants_second (claim_by 0 1 (calls_in journal))) ∷ [])
   joiner_rests =
-      laws.rest history journal mo.world (intake_post joiner_at.joiner.first ∷ intake_post joiner_at.joiner.second ∷ []) (wants_first joiner_at.joiner.claim ∷ wants_second joiner_at.joiner.claim ∷ []) _ (laws.bells s.rows mo passed journal holds)
+      laws.rest history journal mo.world (intake_post joiner_at.joiner.first ∷ intake_post joiner_at.joiner.second ∷ []) (wants_first joiner_at.joiner.claim ∷ wants_second joiner_at.joiner.claim ∷ []) (intake_want 0 (wants_first (claim_by 0 1 (calls_in journal))) ∷ intake_want 1 (wants_second (claim_by 0 1 (calls_in journal))) ∷ []) (laws.bells s.rows mo passed journal holds)
       (record { needs = ap wants_first joiner_at.claim; agrees = subst (λ n. Agrees (end_at mo.world Consumer n) joiner_at.joiner.first.state) joiner_at.first joiner_at.fits.first },
       record { needs = ap wants_second joiner_at.claim; agrees = subst (λ n. Agrees (end_at mo.world Consumer n) joiner_at.joiner.second.state) joiner_at.second joiner_at.fits.second }, tt)
 
-  each_rests : RestsBy member_means (pair_wants one other) s.rows mo journal
+  each_rests : (k : ℕ) (x : Member) → slice_get mo.actors k ≡ Some x → is_at_rest (member_round x) ≡ all_settled history journal (pair_wants one other k moves (calls_in journal))
   each_rests zero x at = subst (λ y. is_at_rest (member_round y) ≡ all_settled history journal (pair_wants one other zero moves (calls_in journal))) (some_is (sym first_source.there ∙ at)) (source_rests 0 one first_source)
   each_rests (suc zero) x at = subst (λ y. is_at_rest (member_round y) ≡ all_settled history journal (pair_wants one other (suc zero) moves (calls_in journal))) (some_is (sym second_source.there ∙ at)) (source_rests 1 other second_source)
   each_rests (suc (suc zero)) x at = subst (λ y. is_at_rest (member_round y) ≡ all_settled history journal (pair_wants one other (suc (suc zero)) moves (calls_in journal))) (some_is (sym joiner_at.there ∙ at)) joiner_rests
@@ -247,10 +244,10 @@ module _ (laws : Laws) (s : Shown Member) (one other : List ℕ) (told : IsTold 
     is_still : Stillness.IsStill (hostile_by calm) history s.rows wanted journal
     is_still = subst (λ n. Stillness.IsStill (hostile_by calm) history s.rows (wanted_by (pair_wants one other) s.rows n journal) journal) size (laws.still calm history s.rows (wanted_by (pair_wants one other) s.rows (length s.start) journal) journal (laws.quiet (pair_wants one other) s.rows s.start turns told.begins told.told.tale each_rests none))
 
-    seat_row : (k : ℕ) (script : List ℕ) (q : SourceAt k script) → (row : QueueRow) × (slice_get s.rows k ≡ Some row) × (owner_of row Producer ≡ k)
+    seat_row : (k : ℕ) (script : List ℕ) (q : SourceAt mo passed k script) → (row : QueueRow) × (slice_get s.rows k ≡ Some row) × (owner_of row Producer ≡ k)
     seat_row k script q = holds.seated.given k (Members.Source q.source) q.there Producer k (record { place = 0; post = outlet_post q.source.output; there = refl; queue = q.queue; role = refl })
 
-    queue_rests : (k : ℕ) (script : List ℕ) (q : SourceAt k script) (needed : Bool) → Stillness.Needs (hostile_by calm) wanted k needed → Stillness.Owes (hostile_by calm) wanted k (nat_lt (length (moves.sent k)) (length script)) → needed ≡ true → bytes_carried (passed.taken k) ≡ script
+    queue_rests : (k : ℕ) (script : List ℕ) (q : SourceAt mo passed k script) (needed : Bool) → Stillness.Needs (hostile_by calm) wanted k needed → Stillness.Owes (hostile_by calm) wanted k (nat_lt (length (moves.sent k)) (length script)) → needed ≡ true → bytes_carried (passed.taken k) ≡ script
     queue_rests k script q needed needs owes is =
         let row = seat_row k script q in
         let r = laws.rests (hostile_by calm) history s.rows wanted journal is_still k row.0 needed (nat_lt (length (moves.sent k)) (length script)) row.1 refl needs owes in
@@ -266,10 +263,10 @@ module _ (laws : Laws) (s : Shown Member) (one other : List ℕ) (told : IsTold 
         ap bytes_carried (sym all ∙ q.sent) ∙ (bytes_said (take q.source.next script) ∙ take_all script q.source.next (omega (arith, done, n)))
 
     first_rests : wants_first joiner_at.joiner.claim ≡ true → bytes_carried (passed.taken 0) ≡ one
-    first_rests h = queue_rests 0 one first_source (wants_first (claim_by 0 1 (calls_in journal))) (record { ends = _; acts = record { actor = 2; calm = refl; there = refl }; place = 0; is = refl }) (record { ends = _; acts = record { actor = 0; calm = refl; there = refl }; place = 0; is = refl }) (ap wants_first (sym joiner_at.claim) ∙ h)
+    first_rests h = queue_rests 0 one first_source (wants_first (claim_by 0 1 (calls_in journal))) (record { ends = pair_wants one other 2 moves (calls_in journal); acts = record { actor = 2; calm = refl; there = refl }; place = 0; is = refl }) (record { ends = pair_wants one other 0 moves (calls_in journal); acts = record { actor = 0; calm = refl; there = refl }; place = 0; is = refl }) (ap wants_first (sym joiner_at.claim) ∙ h)
 
     second_rests : wants_second joiner_at.joiner.claim ≡ true → bytes_carried (passed.taken 1) ≡ other
-    second_rests h = queue_rests 1 other second_source (wants_second (claim_by 0 1 (calls_in journal))) (record { ends = _; acts = record { actor = 2; calm = refl; there = refl }; place = 1; is = refl }) (record { ends = _; acts = record { actor = 1; calm = refl; there = refl }; place = 0; is = refl }) (ap wants_second (sym joiner_at.claim) ∙ h)
+    second_rests h = queue_rests 1 other second_source (wants_second (claim_by 0 1 (calls_in journal))) (record { ends = pair_wants one other 2 moves (calls_in journal); acts = record { actor = 2; calm = refl; there = refl }; place = 1; is = refl }) (record { ends = pair_wants one other 1 moves (calls_in journal); acts = record { actor = 1; calm = refl; there = refl }; place = 0; is = refl }) (ap wants_second (sym joiner_at.claim) ∙ h)
 
     whole_by : (c : Claim) → joiner_at.joiner.claim ≡ c → joiner_at.joiner.recorded.shown ≡ said_by one other c
     whole_by Open e = from_first (ap wants_first e) ∙ ap bytes_carried (joiner_at.second_alone (ap wants_second e))
