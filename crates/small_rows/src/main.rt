@@ -56,7 +56,8 @@ fn compared(
     let layout = lay_out(alloc, plan)?;
     let mut system = System::build(alloc, plan, &layout, trace)?;
     system.play(seed, LIMIT)?;
-    let actors = wrap(alloc, cast(alloc, plan, &layout, trace)?)?;
+    let cast = cast(alloc, plan, &layout, trace)?;
+    let actors = wrap(alloc, cast)?;
     let mut small = Small::new(alloc, layout.queues(), actors)?;
     small.play(seed, LIMIT)?;
     Ok((
