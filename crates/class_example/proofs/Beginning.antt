@@ -25,8 +25,8 @@ use Rattle.class_example.specs.declared.member.Member.{Member}
 use Rattle.class_example.specs.declared.member.Member.TheVariants as Members
 use Rattle.class_example.specs.Sources.{FitsSource, SourceStandsFor, IsNewSource, source_round}
 use Rattle.class_example.specs.Joiners.{FitsJoiner, JoinerStandsFor, IsNewJoiner, joiner_round, wants_first, wants_second, claim_by}
-use Rattle.class_example.specs.Members.{member_round, MemberStandsFor, FitsMember, member_means}
-use Rattle.class_example.specs.Pairs.{IsRow}
+use Rattle.class_example.specs.Members.{made_of, member_round, MemberStandsFor, FitsMember, member_means}
+use Rattle.class_example.specs.Pairs.{IsRow, pair_of}
 
 -- Two sources and a joiner in their start state may begin.
 
@@ -201,3 +201,7 @@ module _ (a b : QueueRow) (s t : Source) (j : Joiner) (one other : List ℕ) (ra
     rounds = rounds;
     stands = stands;
   }
+
+  -- what they are made of
+  pub pair_made : map made_of actors ≡ pair_of one other
+  pair_made = rw (at_zero, ns.script, at_one, nt.script, first_at, second_at) refl

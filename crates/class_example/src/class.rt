@@ -53,11 +53,16 @@ pub fn play_pair(
 ) -> Result<(Small<Member>, bool), Memory>
     ensures { IfOk result (λ r. Keeps r.0 one other) }
 {
-    let rows = vec![in alloc; row(alloc, "one", 0)?, row(alloc, "other", 1)?]?;
+    let from_first = row(alloc, "one", 0)?;
+    let from_second = row(alloc, "other", 1)?;
+    let rows = vec![in alloc; from_first, from_second]?;
+    let first = Source::new(QueueId(0), one);
+    let second = Source::new(QueueId(1), other);
+    let joiner = Joiner::new(alloc, QueueId(0), QueueId(1));
     let actors = vec![in alloc;
-        Member::Source(Source::new(QueueId(0), one)),
-        Member::Source(Source::new(QueueId(1), other)),
-        Member::Joiner(Joiner::new(alloc, QueueId(0), QueueId(1)))
+        Member::Source(first),
+        Member::Source(second),
+        Member::Joiner(joiner)
     ]?;
     let mut small = Small::new(alloc, &rows, actors)?;
     let quiet = small.play(seed, limit)?;
