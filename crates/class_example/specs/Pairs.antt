@@ -1,5 +1,5 @@
 -- Two sources and a joiner: what each of them wants, and what their play comes to.
-use Rattle.std.specs.Prelude.{◌≡◌, ℕ, zero, suc, nat_lt, Some, List, [], ◌∷◌, length, map, slice_get}
+use Rattle.std.specs.Prelude.{◌≡◌, ℕ, zero, suc, nat_lt, Some, List, [], ◌∷◌, length, slice_get}
 use Rattle.cargo_core.specs.Lists.{IsPrefix}
 use Rattle.cargo_core.specs.declared.item.QueueKind.TheVariants as Kind
 use Rattle.wire_core.specs.declared.names.QueueRow.{QueueRow}
@@ -14,7 +14,7 @@ use Rattle.class_example.specs.declared.joiner.Joiner.{Joiner}
 use Rattle.class_example.specs.declared.member.Member.{Member}
 use Rattle.class_example.specs.declared.member.Member.TheVariants as Members
 use Rattle.class_example.specs.Joiners.{wants_first, wants_second, claim_by}
-use Rattle.class_example.specs.Members.{Made, Says, Joins, made_of, member_means}
+use Rattle.class_example.specs.Members.{Made, Says, Joins, member_means}
 
 -- a queue of bytes from a source to the joiner
 pub record IsRow (source : ℕ) (row : QueueRow) : Type 0 where
@@ -30,7 +30,8 @@ pair_of one other = Says 0 one ∷ Says 1 other ∷ Joins 0 1 ∷ []
 -- what each of them wants, by what went through the queues and by the order of the calls
 abbrev pub pair_wants : (one other : List ℕ) → Wanting
 pair_wants one other zero m calls = outlet_want 0 (nat_lt (length (m.sent 0)) (length one)) ∷ []
-pair_wants one other (suc zero) m calls = outlet_want 1 (nat_lt (length (m.sent 1)) (length other)) ∷ []
+pair_wants one other (suc zero) m calls =
+    outlet_want 1 (nat_lt (length (m.sent 1)) (length other)) ∷ []
 pair_wants one other (suc (suc zero)) m calls =
     intake_want 0 (wants_first (claim_by 0 1 calls))
     ∷ intake_want 1 (wants_second (claim_by 0 1 calls)) ∷ []

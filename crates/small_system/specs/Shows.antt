@@ -7,7 +7,8 @@ use Rattle.wire_core.specs.Lists.{Passed}
 use Rattle.wire_core.specs.Queues.{Queue}
 use Rattle.small_system.specs.Meanings.{Means}
 use Rattle.small_system.specs.Tales.{Moment, Turn, start_of, is_runnable, running_in, IsTurn}
-use Rattle.small_system.specs.Tales.{moment_after, entry_of, IsTale, after_tale, journal_of, PickedBy}
+use Rattle.small_system.specs.Tales.{moment_after, entry_of, IsTale, after_tale, journal_of}
+use Rattle.small_system.specs.Tales.{PickedBy}
 use Rattle.small_system.specs.Standing.{Begins, Holds}
 
 -- what a player shows: its rows, its actors as they were at the start, queues and actors as they
