@@ -9,13 +9,13 @@ ghost use Rattle.wire_core.specs.Queues.{end_at};
 ghost use Rattle.cargo_core.specs.Capacities.{IsCapacity};
 
 use actor_rows::{queues, row};
-use cargo_core::{Body, Item, Memory, QueueKind};
+use cargo_core::{Body, Item, Memory, QueueKind, Word};
 use plain_wires::World;
 use ring_rows::{get, give};
 use spsc_queue::{Ended, finish, open};
 use std::alloc::Global;
 use std::test::Fail;
-use wire_core::{ActorId, QueueId, Ringer, Side, Waiter, Wires};
+use wire_core::{ActorId, QueueId, Ringer, Side, Waiter, WildWires, Wires};
 
 const Q: QueueId = QueueId(0);
 
@@ -127,6 +127,15 @@ fn wake(world: &mut World, side: Side) -> bool
     world.wake(Q, side)
 }
 
+// Stores a value in a word of the queue, as a hostile end may.
+fn store(world: &mut World, word: Word, value: u64)
+    requires { 0 < length world.old }
+    ensures len { length world.new ≡ length world.old }
+    ensures kind { (end_at world.new Producer 0).kind ≡ (end_at world.old Producer 0).kind }
+{
+    world.store(Q, word, value);
+}
+
 /// A call, or a question about the queue that changes nothing.
 #[derive(Clone, Copy)]
 enum Call {
@@ -137,6 +146,7 @@ enum Call {
     Signal(Side),
     Ask(Side),
     Wake(Side),
+    Store(Word, u64),
     IsPending(u16),
     Len,
 }
@@ -181,6 +191,10 @@ fn make(world: &mut World, call: Call) -> Told
             None => Told::NotAllowed,
         },
         Call::Wake(side) => yes_or_no(Some(wake(world, side))),
+        Call::Store(word, value) => {
+            store(world, word, value);
+            Told::Done
+        }
         Call::IsPending(actor) => yes_or_no(Some(world.is_pending(ActorId(actor)))),
         Call::Len => Told::Count(world.len(Q)),
     }
@@ -301,6 +315,36 @@ fn ended_rings_go_on_as_queues(rt: HostRuntime) -> Result<(), Fail> {
     assert!(rt; take_at(&mut world, QueueId(0)).is_none());
     assert!(rt; take_at(&mut world, QueueId(1)) == Some(Item::Byte(22)));
     assert!(rt; world.len(QueueId(1)) == 0);
+    Ok(())
+}
+
+#[test]
+fn a_stored_index_makes_a_look_say_no_and_never_yes_alone(rt: HostRuntime) -> Result<(), Fail> {
+    let mut world = one_queue(rt.alloc(), 1)?;
+    let wrong = first_wrong(
+        &mut world,
+        &[
+            (Call::Store(Word::Tail, 1), Told::Done),
+            (Call::See, Told::No),
+            (Call::Put(97), Told::Yes),
+            (Call::See, Told::Yes),
+            (Call::Store(Word::Tail, 65536), Told::Done),
+            (Call::See, Told::No),
+            (Call::Store(Word::Tail, 3), Told::Done),
+            (Call::See, Told::No),
+            (Call::Store(Word::Tail, 1), Told::Done),
+            (Call::Take, Told::Entry(Item::Byte(97))),
+            (Call::Store(Word::Head, 0), Told::Done),
+            (Call::Room, Told::Yes),
+            (Call::Store(Word::Head, 65535), Told::Done),
+            (Call::Room, Told::No),
+            (Call::Store(Word::Pending, 3), Told::Done),
+            (Call::IsPending(1), Told::Yes),
+            (Call::Store(Word::Pending, 2), Told::Done),
+            (Call::IsPending(1), Told::No),
+        ],
+    );
+    assert!(rt; wrong.is_none());
     Ok(())
 }
 
