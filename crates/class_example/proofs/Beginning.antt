@@ -116,20 +116,20 @@ module _ (a b : QueueRow) (s t : Source) (j : Joiner) (one other : List ℕ) (ra
   rounds (suc (suc (suc k))) x at = cc
 
   -- the seats of the rows
-  seat_first : IsSeat rows 0 (record { queue = 0; role = Producer })
-  seat_first = (a, refl, ra.producer)
-
-  seat_second : IsSeat rows 1 (record { queue = 1; role = Producer })
-  seat_second = (b, refl, rb.producer)
-
-  seat_hears : IsSeat rows 2 (record { queue = 0; role = Consumer })
-  seat_hears = (a, refl, ra.consumer)
-
-  seat_hears_other : IsSeat rows 2 (record { queue = 1; role = Consumer })
-  seat_hears_other = (b, refl, rb.consumer)
-
   abbrev SeatAt : ℕ → Role → ℕ → Type 0
   SeatAt k r n = IsSeat rows k (record { queue = n; role = r })
+
+  seat_first : SeatAt 0 Producer 0
+  seat_first = (a, refl, ra.producer)
+
+  seat_second : SeatAt 1 Producer 1
+  seat_second = (b, refl, rb.producer)
+
+  seat_hears : SeatAt 2 Consumer 0
+  seat_hears = (a, refl, ra.consumer)
+
+  seat_hears_other : SeatAt 2 Consumer 1
+  seat_hears_other = (b, refl, rb.consumer)
 
   -- an end at this post is this one
   seat_of_post : (k : ℕ) (o p : Post) (q : ℕ) (w : Role) → SeatAt k w q → o.queue ≡ q → waiting_role o.side ≡ w → o ≡ p → (r : Role) (n : ℕ) → p.queue ≡ n → waiting_role p.side ≡ r → SeatAt k r n

@@ -25,7 +25,6 @@ use Rattle.play_core.specs.Resting.{QueueRests}
 use Rattle.play_core.specs.Still as Stillness
 use Rattle.play_core.proofs.Lists.{some_is, map_from, there_is, there_below}
 use Rattle.serial_switch.specs.Carried.{byte_cargo, bytes_carried}
-
 use Rattle.small_system.specs.Tales.{Moment, Turn, start_of, IsTale, after_tale, journal_of, passed_by, running_in}
 use Rattle.small_system.specs.Standing.{Begins, Holds}
 use Rattle.small_system.specs.Shows.{Shown, IsTold, IsQuiet}
@@ -199,11 +198,12 @@ module _ (laws : Laws) (s : Shown Member) (one other : List ℕ) (told : IsTold 
   -- what was taken is a beginning of what the source says
   comes_in_order : (k : ℕ) (script : List ℕ) → (q : SourceAt mo passed k script) → IsPrefix (bytes_carried (passed.taken k)) script
   comes_in_order k script q =
-      let es = (queue_at mo.world k).entries in
-      (bytes_carried es ++ drop q.source.next script,
-      sym (append_assoc (bytes_carried (passed.taken k)) (bytes_carried es) (drop q.source.next script))
-      ∙ (ap (λ xs. xs ++ drop q.source.next script) (sym (bytes_join (passed.taken k) es) ∙ (ap bytes_carried (sym (holds.stands_there k) ∙ q.sent) ∙ bytes_said (take q.source.next script)))
-      ∙ take-append-drop q.source.next script))
+      let es = (queue_at mo.world k).entries in (
+        bytes_carried es ++ drop q.source.next script,
+        sym (append_assoc (bytes_carried (passed.taken k)) (bytes_carried es) (drop q.source.next script))
+            ∙ (ap (λ xs. xs ++ drop q.source.next script) (sym (bytes_join (passed.taken k) es) ∙ (ap bytes_carried (sym (holds.stands_there k) ∙ q.sent) ∙ bytes_said (take q.source.next script)))
+            ∙ take-append-drop q.source.next script),
+      )
 
   begins_by : (c : Claim) → joiner_at.joiner.claim ≡ c → IsPrefix joiner_at.joiner.recorded.shown (said_by one other c)
   begins_by Open e =
@@ -226,9 +226,11 @@ module _ (laws : Laws) (s : Shown Member) (one other : List ℕ) (told : IsTold 
 
   joiner_rests : is_at_rest (member_round (Members.Joiner joiner_at.joiner)) ≡ all_settled history journal (intake_want 0 (wants_first (claim_by 0 1 (calls_in journal))) ∷ intake_want 1 (wants_second (claim_by 0 1 (calls_in journal))) ∷ [])
   joiner_rests =
-      laws.rest history journal mo.world (intake_post joiner_at.joiner.first ∷ intake_post joiner_at.joiner.second ∷ []) (wants_first joiner_at.joiner.claim ∷ wants_second joiner_at.joiner.claim ∷ []) (intake_want 0 (wants_first (claim_by 0 1 (calls_in journal))) ∷ intake_want 1 (wants_second (claim_by 0 1 (calls_in journal))) ∷ []) (laws.bells s.rows mo passed journal holds)
-      (record { needs = ap wants_first joiner_at.claim; agrees = subst (λ n. Agrees (end_at mo.world Consumer n) joiner_at.joiner.first.state) joiner_at.first joiner_at.fits.first },
-      record { needs = ap wants_second joiner_at.claim; agrees = subst (λ n. Agrees (end_at mo.world Consumer n) joiner_at.joiner.second.state) joiner_at.second joiner_at.fits.second }, tt)
+      laws.rest history journal mo.world (intake_post joiner_at.joiner.first ∷ intake_post joiner_at.joiner.second ∷ []) (wants_first joiner_at.joiner.claim ∷ wants_second joiner_at.joiner.claim ∷ []) (intake_want 0 (wants_first (claim_by 0 1 (calls_in journal))) ∷ intake_want 1 (wants_second (claim_by 0 1 (calls_in journal))) ∷ []) (laws.bells s.rows mo passed journal holds) (
+        record { needs = ap wants_first joiner_at.claim; agrees = subst (λ n. Agrees (end_at mo.world Consumer n) joiner_at.joiner.first.state) joiner_at.first joiner_at.fits.first },
+        record { needs = ap wants_second joiner_at.claim; agrees = subst (λ n. Agrees (end_at mo.world Consumer n) joiner_at.joiner.second.state) joiner_at.second joiner_at.fits.second },
+        tt,
+      )
 
   each_rests : (k : ℕ) (x : Member) → slice_get mo.actors k ≡ Some x → is_at_rest (member_round x) ≡ all_settled history journal (pair_wants one other k moves (calls_in journal))
   each_rests zero x at = subst (λ y. is_at_rest (member_round y) ≡ all_settled history journal (pair_wants one other zero moves (calls_in journal))) (some_is (sym first_source.there ∙ at)) (source_rests 0 one first_source)
@@ -239,7 +241,7 @@ module _ (laws : Laws) (s : Shown Member) (one other : List ℕ) (told : IsTold 
   -- where nobody is runnable
   module _ (none : running_in member_means mo ≡ []) where
     abbrev wanted : Needful
-    wanted = wanted_by (pair_wants one other) s.rows 3 journal
+    wanted = wanted_by (pair_wants one other) s.rows (length (pair_of one other)) journal
 
     is_still : Stillness.IsStill (hostile_by calm) history s.rows wanted journal
     is_still = subst (λ n. Stillness.IsStill (hostile_by calm) history s.rows (wanted_by (pair_wants one other) s.rows n journal) journal) size (laws.still calm history s.rows (wanted_by (pair_wants one other) s.rows (length s.start) journal) journal (laws.quiet (pair_wants one other) s.rows s.start turns told.begins told.told.tale each_rests none))
@@ -274,9 +276,10 @@ module _ (laws : Laws) (s : Shown Member) (one other : List ℕ) (told : IsTold 
     whole_by Second e = from_second (ap wants_second e) ∙ second_rests (ap wants_second e)
 
     silent_by : joiner_at.joiner.claim ≡ Open → (one ≡ []) × (other ≡ [])
-    silent_by e =
-        (sym (first_rests (ap wants_first e)) ∙ ap bytes_carried (joiner_at.second_alone (ap wants_second e)),
-        sym (second_rests (ap wants_second e)) ∙ ap bytes_carried (joiner_at.first_alone (ap wants_first e)))
+    silent_by e = (
+      sym (first_rests (ap wants_first e)) ∙ ap bytes_carried (joiner_at.second_alone (ap wants_second e)),
+      sym (second_rests (ap wants_second e)) ∙ ap bytes_carried (joiner_at.first_alone (ap wants_first e)),
+    )
 
   pub pair_keeps : Keeps s one other
   pair_keeps = record {

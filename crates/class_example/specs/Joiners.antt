@@ -18,12 +18,13 @@ use Rattle.class_example.specs.declared.joiner.Claim.{Claim}
 use Rattle.class_example.specs.declared.joiner.Claim.TheVariants.{Open, First, Second}
 use Rattle.class_example.specs.declared.joiner.Joiner.{Joiner}
 
--- whether it takes from its first input, and from its second one
+-- whether it takes from its first input
 abbrev pub wants_first : Claim → Bool
 wants_first Open = true
 wants_first First = true
 wants_first Second = false
 
+-- whether it takes from its second one
 abbrev pub wants_second : Claim → Bool
 wants_second Open = true
 wants_second First = false

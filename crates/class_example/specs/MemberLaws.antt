@@ -102,7 +102,7 @@ fits_beside a b (Members.Source s) same f =
 fits_beside a b (Members.Joiner j) same f =
     let one = same Consumer j.first.queue.0 (own_first j Consumer j.first.queue.0 refl refl) in
     let other =
-        same Consumer j.second.queue.0 (own_second j Consumer j.second.queue.0 refl refl) in
+    same Consumer j.second.queue.0 (own_second j Consumer j.second.queue.0 refl refl) in
     record {
       first = subst (λ e. Agrees e j.first.state) (sym one) f.first;
       second = subst (λ e. Agrees e j.second.state) (sym other) f.second;
@@ -129,9 +129,9 @@ joiner_beside j p d off st =
     let f = j.first.queue.0 in
     let s = j.second.queue.0 in
     let off_first : role_of d.event.op ≡ Consumer → d.event.queue.0 ≡ f → ⊥ =
-        λ r n. off (own_first j (role_of d.event.op) d.event.queue.0 r n) in
+    λ r n. off (own_first j (role_of d.event.op) d.event.queue.0 r n) in
     let off_second : role_of d.event.op ≡ Consumer → d.event.queue.0 ≡ s → ⊥ =
-        λ r n. off (own_second j (role_of d.event.op) d.event.queue.0 r n) in
+    λ r n. off (own_second j (role_of d.event.op) d.event.queue.0 r n) in
     let one = still (p.taken f) _ (take_beside d f off_first) in
     let other = still (p.taken s) _ (take_beside d s off_second) in
     let none = claim_off f s d.event.op d.event.queue.0 off_first off_second in

@@ -62,7 +62,7 @@ pub fn play_pair(
     let actors = vec![in alloc;
         Member::Source(first),
         Member::Source(second),
-        Member::Joiner(joiner)
+        Member::Joiner(joiner),
     ]?;
     let mut small = Small::new(alloc, &rows, actors)?;
     let quiet = small.play(seed, limit)?;

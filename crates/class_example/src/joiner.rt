@@ -97,11 +97,7 @@ impl Joiner {
         let choice = self
             .turn
             .begin(2)
-            .offer(
-                0,
-                self.first.queue,
-                self.first.settled(self.wants_first()),
-            )
+            .offer(0, self.first.queue, self.first.settled(self.wants_first()))
             .offer(
                 1,
                 self.second.queue,

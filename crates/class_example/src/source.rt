@@ -73,10 +73,11 @@ impl Source {
               record { last = last_after (choice_of (source_round self.old)) };
         } }
     {
-        let choice =
-            self.turn
-                .begin(1)
-                .offer(0, self.output.queue, self.output.settled(self.is_saying()));
+        let choice = self.turn.begin(1).offer(
+            0,
+            self.output.queue,
+            self.output.settled(self.is_saying()),
+        );
         self.turn.pass(choice)
     }
 

@@ -44,12 +44,7 @@ fn is_same(one: &[Entry], other: &[Entry]) -> bool {
 }
 
 // Plays a plan by a seed in both ways: how many steps were made, and whether the journals are one.
-fn compared(
-    alloc: Global,
-    plan: &Plan,
-    trace: &Trace,
-    seed: u64,
-) -> Result<(usize, bool), Memory>
+fn compared(alloc: Global, plan: &Plan, trace: &Trace, seed: u64) -> Result<(usize, bool), Memory>
     requires valid { Valid plan.now }
     requires read { IsReadFor plan.now trace.now }
 {

@@ -63,7 +63,6 @@ list_room bs k list room b at is le =
 pub list_whole : (bs : List Bool) (k : ℕ) (list : List ℕ) → length bs ≤ k → list ≡ places_from 0 (take k bs) → list ≡ places_from 0 bs
 list_whole bs k list le is = is ∙ ap (places_from 0) (take_all k bs le)
 
-
 -- whether an actor is runnable then
 pub flag_start : {A : Type 0} (m : Means A) (w : List Queue) (actors : List A) (k : ℕ) (x : A) (idle : Bool) → k < length actors → x ≡ slice_index_or actors k x → idle ≡ not (is_runnable m w k x) → slice_get (flags_in m w 0 actors) k ≡ Some (not idle)
 flag_start m w actors k x idle lt at is =

@@ -44,10 +44,11 @@ runs_wanted m wants rows mo passed journal holds rests = ap (places_from 0) (fla
 pub picks_wanted : {A : Type 0} (m : Means A) (law : Lawful m) (wants : Wanting) (rows : List QueueRow) (count : ℕ) (mo : Moment A) (before more : List (Turn A)) (seed : ℕ) → Holds m rows mo (passed_by before) (journal_of before) → length mo.actors ≡ count → IsTale m mo more → Along (λ mo b. RestsBy m wants rows mo (journal_of b)) mo before more → PickedBy m mo seed more → PickedFrom (runs_by wants rows count) seed (journal_of before) (journal_of more)
 picks_wanted m law wants rows count mo before [] seed holds many tale rests picked = tt
 picks_wanted m law wants rows count mo before (t ∷ ts) seed holds many tale rests picked =
-    let runs : running_in m mo ≡ runs_by wants rows count (journal_of before) = runs_wanted m wants rows mo (passed_by before) (journal_of before) holds rests.0 ∙ ap (λ n. runs_by wants rows n (journal_of before)) many in
-    (subst (λ rs. slice_get rs (place_of (next_seed seed) (length rs)) ≡ Some t.number) runs picked.0,
-    subst (λ j. PickedFrom (runs_by wants rows count) (next_seed seed) j (journal_of ts)) (journal_join before (t ∷ []))
-    (picks_wanted m law wants rows count (moment_after mo t) (before ++ t ∷ []) ts (next_seed seed) (holds_more m law rows mo before t holds tale.0) (length-set mo.actors t.number t.actor ∙ many) tale.1 rests.1 picked.1))
+    let runs : running_in m mo ≡ runs_by wants rows count (journal_of before) = runs_wanted m wants rows mo (passed_by before) (journal_of before) holds rests.0 ∙ ap (λ n. runs_by wants rows n (journal_of before)) many in (
+      subst (λ rs. slice_get rs (place_of (next_seed seed) (length rs)) ≡ Some t.number) runs picked.0,
+      subst (λ j. PickedFrom (runs_by wants rows count) (next_seed seed) j (journal_of ts)) (journal_join before (t ∷ []))
+          (picks_wanted m law wants rows count (moment_after mo t) (before ++ t ∷ []) ts (next_seed seed) (holds_more m law rows mo before t holds tale.0) (length-set mo.actors t.number t.actor ∙ many) tale.1 rests.1 picked.1),
+    )
 
 wanted_count : (wants : Wanting) (k count : ℕ) (moves : Moved) (calls : List Event) → length (wanted_from wants k count moves calls) ≡ count
 wanted_count wants k zero moves calls = refl

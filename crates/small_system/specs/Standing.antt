@@ -21,23 +21,23 @@ use Rattle.small_system.specs.Tales.{Moment}
 -- each of these actors has just the ends that the rows give its place
 pub record AreSeated {A : Type 0} (m : Means A) (rows : List QueueRow) (actors : List A) : Type 0
   where
-  pub given : (k : ℕ) (x : A) → slice_get actors k ≡ Some x → (r : Role) (n : ℕ) → Own m x r n
-      → IsSeat rows k (record { queue = n; role = r })
-  pub all : (k : ℕ) (x : A) → slice_get actors k ≡ Some x → (r : Role) (n : ℕ)
-      → IsSeat rows k (record { queue = n; role = r }) → Own m x r n
+    pub given : (k : ℕ) (x : A) → slice_get actors k ≡ Some x → (r : Role) (n : ℕ) → Own m x r n
+        → IsSeat rows k (record { queue = n; role = r })
+    pub all : (k : ℕ) (x : A) → slice_get actors k ≡ Some x → (r : Role) (n : ℕ)
+        → IsSeat rows k (record { queue = n; role = r }) → Own m x r n
 
 -- rows and actors with which a play may begin: queues can be made of the rows, their owners are
 -- among the actors, each actor has just the ends that the rows give its place, in their start
 -- state, which are a round, and it stands for empty lists
 pub record Begins {A : Type 0} (m : Means A) (rows : List QueueRow) (actors : List A) : Type 0
   where
-  pub sized : AreSized rows
-  pub peopled : IsPeopled rows (length actors)
-  pub few : length actors ≤ 65536
-  pub seated : AreSeated m rows actors
-  pub fits : (k : ℕ) (x : A) → slice_get actors k ≡ Some x → m.Fits (end_at (starts rows)) x
-  pub rounds : (k : ℕ) (x : A) → slice_get actors k ≡ Some x → IsRound (m.round x)
-  pub stands : (k : ℕ) (x : A) → slice_get actors k ≡ Some x → m.StandsFor x nothing_passed
+    pub sized : AreSized rows
+    pub peopled : IsPeopled rows (length actors)
+    pub few : length actors ≤ 65536
+    pub seated : AreSeated m rows actors
+    pub fits : (k : ℕ) (x : A) → slice_get actors k ≡ Some x → m.Fits (end_at (starts rows)) x
+    pub rounds : (k : ℕ) (x : A) → slice_get actors k ≡ Some x → IsRound (m.round x)
+    pub stands : (k : ℕ) (x : A) → slice_get actors k ≡ Some x → m.StandsFor x nothing_passed
 
 -- queues, actors, what passed and the journal belong together
 pub record Holds {A : Type 0} (m : Means A) (rows : List QueueRow) (mo : Moment A)
