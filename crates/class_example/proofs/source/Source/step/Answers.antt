@@ -2,8 +2,8 @@ use Rattle.std.proofs.Common.{sym, subst}
 use Rattle.class_example.specs.Sources.{SourceStandsFor}
 use Rattle.class_example.proofs.source.Source.step.Goals as goal
 
-pub returns-in-0-clause-stepped : goal.returns-in-0-clause-stepped
-returns-in-0-clause-stepped g c =
+pub returns-clause-stepped : goal.returns-clause-stepped
+returns-clause-stepped g c =
     let s = c.step_output.ensures.stepped in
     record {
       body = s.body;
