@@ -20,17 +20,17 @@ use Rattle.class_example.proofs.Speech.{bytes_join}
 
 -- a call that isn't a take is from no input
 claim_none : (f s : ℕ) (o : Op) (q : ℕ) → (o ≡ Do.Take → ⊥) → claim_of f s o q ≡ Open
-claim_none f s Do.Take q no = absurd (no refl)
-claim_none f s Do.Put q no = refl
-claim_none f s Do.See q no = refl
-claim_none f s Do.Room q no = refl
-claim_none f s (Do.Ask x) q no = refl
-claim_none f s (Do.Waive x) q no = refl
-claim_none f s (Do.Wake x) q no = refl
-claim_none f s (Do.Wanted x) q no = refl
-claim_none f s (Do.Settle x) q no = refl
-claim_none f s (Do.Ring x) q no = refl
-claim_none f s (Do.Store w v) q no = refl
+claim_none f s Do.Take q off = absurd (off refl)
+claim_none f s Do.Put q off = refl
+claim_none f s Do.See q off = refl
+claim_none f s Do.Room q off = refl
+claim_none f s (Do.Ask x) q off = refl
+claim_none f s (Do.Waive x) q off = refl
+claim_none f s (Do.Wake x) q off = refl
+claim_none f s (Do.Wanted x) q off = refl
+claim_none f s (Do.Settle x) q off = refl
+claim_none f s (Do.Ring x) q off = refl
+claim_none f s (Do.Store w v) q off = refl
 
 claim_first : (f s : ℕ) (o : Op) (q : ℕ) → o ≡ Do.Take → q ≡ f → claim_of f s o q ≡ First
 claim_first f s o q take is = rw (take, eq-eqb q f is) refl
@@ -69,7 +69,7 @@ module _ (old new : Joiner) (e : Event) (taken : Option Cargo) (p : Passed) (st 
     pub idle_kept : JoinerStandsFor new more
     idle_kept = record {
       claim_is = rw (first, second) (claim ∙ sym (claim_then ∙ (ap (claim_with old.claim) (claim_none f s e.op e.queue.0 no_take) ∙ claim_open old.claim)));
-      record_is = rw (first, second) (recorded ∙ (st.record_is ∙ sym (rw (nothing_more (p.taken f) _ (takes f), nothing_more (p.taken s) _ (takes s)) refl)));
+      record_is = rw (first, second) (recorded ∙ (st.record_is ∙ (ap (λ r. bytes_carried r ++ bytes_carried (p.taken s)) (sym (nothing_more (p.taken f) _ (takes f))) ∙ ap (λ r. bytes_carried (more.taken f) ++ bytes_carried r) (sym (nothing_more (p.taken s) _ (takes s))))));
       first_alone = λ h. rw second (nothing_more (p.taken s) _ (takes s) ∙ st.first_alone (ap wants_first (sym claim) ∙ h));
       second_alone = λ h. rw first (nothing_more (p.taken f) _ (takes f) ∙ st.second_alone (ap wants_second (sym claim) ∙ h));
     }
@@ -122,19 +122,15 @@ module _ (old new : Joiner) (e : Event) (taken : Option Cargo) (p : Passed) (st 
       second_alone = λ h. rw first second_off;
     }
 
+if_none : (b : Bool) → if_there b [] ≡ []
+if_none true = refl
+if_none false = refl
+
 -- whichever came, from the first input or from the second
 pub heard_first : (old new : Joiner) (e : Event) (taken : Option Cargo) → (old.first.queue.0 ≡ old.second.queue.0 → ⊥) → (IsSome taken ↔ (e.op ≡ Do.Take)) → e.queue.0 ≡ old.first.queue.0 → ((n : ℕ) → taken_by (deed_of e taken) n ≡ if_there (old.first.queue.0 == n) (option_to_list taken)) → (IsSome taken → wants_first old.claim ≡ true) → new.claim ≡ claim_after taken First old.claim → new.recorded.shown ≡ old.recorded.shown ++ bytes_carried (option_to_list taken) → new.first.queue ≡ old.first.queue → new.second.queue ≡ old.second.queue → (p : Passed) → JoinerStandsFor old p → JoinerStandsFor new (with_deed p (deed_of e taken))
-heard_first old new e None apart iff on takes need claim recorded first second p st = idle_kept old new e None p st apart refl (λ t. let some = iff.1 t in absurd cc) (λ n. takes n ∙ if_none (old.first.queue.0 == n)) claim (recorded ∙ append-nil old.recorded.shown) first second
-  where
-    if_none : (b : Bool) → if_there b [] ≡ []
-    if_none true = refl
-    if_none false = refl
+heard_first old new e None apart iff on takes need claim recorded first second p st = idle_kept old new e None p st apart refl (λ t. let some : false ≡ true = iff.1 t in absurd cc) (λ n. takes n ∙ if_none (old.first.queue.0 == n)) claim (recorded ∙ append-nil old.recorded.shown) first second
 heard_first old new e (Some c) apart iff on takes need claim recorded first second p st = first_kept old new e (Some c) p st apart c (iff.0 refl) on takes (need refl) claim recorded first second
 
 pub heard_second : (old new : Joiner) (e : Event) (taken : Option Cargo) → (old.first.queue.0 ≡ old.second.queue.0 → ⊥) → (IsSome taken ↔ (e.op ≡ Do.Take)) → e.queue.0 ≡ old.second.queue.0 → ((n : ℕ) → taken_by (deed_of e taken) n ≡ if_there (old.second.queue.0 == n) (option_to_list taken)) → (IsSome taken → wants_second old.claim ≡ true) → new.claim ≡ claim_after taken Second old.claim → new.recorded.shown ≡ old.recorded.shown ++ bytes_carried (option_to_list taken) → new.first.queue ≡ old.first.queue → new.second.queue ≡ old.second.queue → (p : Passed) → JoinerStandsFor old p → JoinerStandsFor new (with_deed p (deed_of e taken))
-heard_second old new e None apart iff on takes need claim recorded first second p st = idle_kept old new e None p st apart refl (λ t. let some = iff.1 t in absurd cc) (λ n. takes n ∙ if_none (old.second.queue.0 == n)) claim (recorded ∙ append-nil old.recorded.shown) first second
-  where
-    if_none : (b : Bool) → if_there b [] ≡ []
-    if_none true = refl
-    if_none false = refl
+heard_second old new e None apart iff on takes need claim recorded first second p st = idle_kept old new e None p st apart refl (λ t. let some : false ≡ true = iff.1 t in absurd cc) (λ n. takes n ∙ if_none (old.second.queue.0 == n)) claim (recorded ∙ append-nil old.recorded.shown) first second
 heard_second old new e (Some c) apart iff on takes need claim recorded first second p st = second_kept old new e (Some c) p st apart c (iff.0 refl) on takes (need refl) claim recorded first second

@@ -5,6 +5,7 @@ use Rattle.std.proofs.lemmas.Nat.{pow_pos}
 use Rattle.std.specs.List.{All}
 use Rattle.cargo_core.specs.Capacities.{IsCapacity}
 use Rattle.cargo_core.specs.Lists.{IsPrefix}
+use Rattle.cargo_core.specs.declared.item.Item.{Item}
 use Rattle.wire_core.specs.declared.names.QueueRow.{QueueRow}
 use Rattle.wire_core.specs.declared.names.Entry.{Entry}
 use Rattle.wire_core.specs.declared.names.Event.{Event}
@@ -71,7 +72,7 @@ all_at P (y ∷ xs) h zero x at = subst P (some_is at) (h 0 y (omega arith))
 all_at P (y ∷ xs) h (suc k) x at = all_at P xs (λ i d lt. h (suc i) d (omega (arith, lt))) k x at
 
 least : (m n : ℕ) → m ≤ n → min m n ≡ m
-least m n le = omega le
+least m n le = omega (arith, le)
 
 no_more : (xs : List Cargo) → length xs ≡ 0 → xs ≡ []
 no_more [] h = refl
@@ -216,7 +217,7 @@ module _ (laws : Laws) (s : Shown Member) (one other : List ℕ) (told : IsTold 
   moves = moved history journal
 
   put_count : (k : ℕ) (script : List ℕ) (q : SourceAt mo passed k script) → length (moves.sent k) ≡ q.source.next
-  put_count k script q = ap (λ l. length l) (sym (holds.shows_sent k)) ∙ (length-map (passed.sent k) (λ (c : Cargo). c.0) ∙ (ap length q.sent ∙ (length-map (take q.source.next script) byte_cargo ∙ (length-take q.source.next script ∙ least q.source.next (length script) q.next))))
+  put_count k script q = ap (λ (l : List Item). length l) (sym (holds.shows_sent k)) ∙ (length-map (passed.sent k) (λ (c : Cargo). c.0) ∙ (ap length q.sent ∙ (length-map (take q.source.next script) byte_cargo ∙ (length-take q.source.next script ∙ least q.source.next (length script) q.next))))
 
   -- each rests where what it wants is settled
   source_rests : (k : ℕ) (script : List ℕ) (q : SourceAt mo passed k script) → is_at_rest (member_round (Members.Source q.source)) ≡ all_settled history journal (outlet_want k (nat_lt (length (moves.sent k)) (length script)) ∷ [])
@@ -228,8 +229,7 @@ module _ (laws : Laws) (s : Shown Member) (one other : List ℕ) (told : IsTold 
   joiner_rests =
       laws.rest history journal mo.world (intake_post joiner_at.joiner.first ∷ intake_post joiner_at.joiner.second ∷ []) (wants_first joiner_at.joiner.claim ∷ wants_second joiner_at.joiner.claim ∷ []) (intake_want 0 (wants_first (claim_by 0 1 (calls_in journal))) ∷ intake_want 1 (wants_second (claim_by 0 1 (calls_in journal))) ∷ []) (laws.bells s.rows mo passed journal holds) (
         record { needs = ap wants_first joiner_at.claim; agrees = subst (λ n. Agrees (end_at mo.world Consumer n) joiner_at.joiner.first.state) joiner_at.first joiner_at.fits.first },
-        record { needs = ap wants_second joiner_at.claim; agrees = subst (λ n. Agrees (end_at mo.world Consumer n) joiner_at.joiner.second.state) joiner_at.second joiner_at.fits.second },
-        tt,
+        (record { needs = ap wants_second joiner_at.claim; agrees = subst (λ n. Agrees (end_at mo.world Consumer n) joiner_at.joiner.second.state) joiner_at.second joiner_at.fits.second }, tt),
       )
 
   each_rests : (k : ℕ) (x : Member) → slice_get mo.actors k ≡ Some x → is_at_rest (member_round x) ≡ all_settled history journal (pair_wants one other k moves (calls_in journal))
@@ -255,14 +255,14 @@ module _ (laws : Laws) (s : Shown Member) (one other : List ℕ) (told : IsTold 
         let r = laws.rests (hostile_by calm) history s.rows wanted journal is_still k row.0 needed (nat_lt (length (moves.sent k)) (length script)) row.1 refl needs owes in
         let room : 0 < row.0.capacity = two_power row.0.capacity (all_at (λ (x : QueueRow). IsCapacity x.capacity) s.rows told.begins.sized.capacities k row.0 row.1) in
         let drained : items_of (passed.sent k) ≡ items_of (passed.taken k) = holds.shows_sent k ∙ (r.drained is ∙ sym (holds.shows_taken k)) in
-        let many : length (passed.sent k) ≡ length (passed.taken k) = sym (length-map (passed.sent k) (λ (c : Cargo). c.0)) ∙ (ap (λ l. length l) drained ∙ length-map (passed.taken k) (λ (c : Cargo). c.0)) in
+        let many : length (passed.sent k) ≡ length (passed.taken k) = sym (length-map (passed.sent k) (λ (c : Cargo). c.0)) ∙ (ap (λ (l : List Item). length l) drained ∙ length-map (passed.taken k) (λ (c : Cargo). c.0)) in
         let es = (queue_at mo.world k).entries in
         let parts : length (passed.sent k) ≡ length (passed.taken k) + length es = ap length (holds.stands_there k) ∙ length-append (passed.taken k) es in
         let empty : es ≡ [] = no_more es (omega (arith, many, parts)) in
         let all : passed.sent k ≡ passed.taken k = holds.stands_there k ∙ (ap (λ xs. passed.taken k ++ xs) empty ∙ append-nil (passed.taken k)) in
         let done : length script ≤ length (moves.sent k) = all_said (length (moves.sent k)) (length script) (r.handed room is) in
         let n : length (moves.sent k) ≡ q.source.next = put_count k script q in
-        ap bytes_carried (sym all ∙ q.sent) ∙ (bytes_said (take q.source.next script) ∙ take_all script q.source.next (omega (arith, done, n)))
+        ap bytes_carried (sym all ∙ q.sent) ∙ (bytes_said (take q.source.next script) ∙ take_all q.source.next script (omega (arith, done, n)))
 
     first_rests : wants_first joiner_at.joiner.claim ≡ true → bytes_carried (passed.taken 0) ≡ one
     first_rests h = queue_rests 0 one first_source (wants_first (claim_by 0 1 (calls_in journal))) (record { ends = pair_wants one other 2 moves (calls_in journal); acts = record { actor = 2; calm = refl; there = refl }; place = 0; is = refl }) (record { ends = pair_wants one other 0 moves (calls_in journal); acts = record { actor = 0; calm = refl; there = refl }; place = 0; is = refl }) (ap wants_first (sym joiner_at.claim) ∙ h)

@@ -1,6 +1,6 @@
 //! The class: two sources and a joiner at play.
-ghost use Rattle.std.specs.Prelude.{◌≡◌, ℕ, List, map, IfOk};
-ghost use Rattle.small_system.specs.Shows.{Shown, IsTold};
+ghost use Rattle.std.specs.Prelude.{◌≡◌, ℕ, true, false, List, map, IfOk};
+ghost use Rattle.small_system.specs.Shows.{Shown, IsTold, IsQuiet};
 ghost use Rattle.class_example.specs.Members.{made_of, member_means};
 ghost use Rattle.class_example.specs.Pairs.{IsRow, pair_of, Keeps};
 
@@ -51,7 +51,9 @@ pub fn play_pair(
     seed: u64,
     limit: u64,
 ) -> Result<(Small<Member>, bool), Memory>
-    ensures { IfOk result (λ r. Keeps r.0 one other) }
+    ensures keeps { IfOk result (λ r. Keeps r.0 one other) }
+    ensures quiet { IfOk result (λ r. r.1 ≡ true → IsQuiet member_means r.0) }
+    ensures goes_on { IfOk result (λ r. r.1 ≡ false → IsQuiet member_means r.0 → ⊥) }
 {
     let from_first = row(alloc, "one", 0)?;
     let from_second = row(alloc, "other", 1)?;
