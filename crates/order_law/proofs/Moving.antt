@@ -2,6 +2,7 @@
 use Rattle.std.proofs.Common.{◌≡◌, ◌≢◌, ◌⊎◌, inl, inr, ⊎_elim, ◌∙◌, ℕ, ◌+◌, ◌<◌, ◌≤◌, Bool, true, false, List, [], ◌∷◌, ◌++◌, length, length-append, refl, sym, ap, subst, arith, append-nil, Option, Some, None, eqb, eq-eqb, ne_eqb}
 use mathlib.Core.Logic.{dite}
 use native.Mathlib.Decide.{ℕ_discrete}
+use Rattle.cargo_core.specs.declared.act.Word.{Word}
 use Rattle.wire_core.specs.declared.names.Op.{Op}
 use Rattle.wire_core.specs.declared.names.Op.TheVariants as Do
 use Rattle.wire_core.specs.declared.names.Side.TheVariants.{Forward, Backward}
@@ -80,6 +81,11 @@ moved_else d r n away = moved_is d r n ∙ ⊎_elim
 moved_here : (d : Deed) (r : Role) → moved_by d r d.event.queue.0 ≡ moved r d.event.op (cargo_of d)
 moved_here d r = moved_is d r d.event.queue.0 ∙ ap (λ (b : Bool). if_there b (moved r d.event.op (cargo_of d))) (eq-eqb d.event.queue.0 d.event.queue.0 refl)
 
+-- a store moves nothing
+moved_none : (r : Role) (w : Word) (v : ℕ) (c : List Cargo) → moved r (Do.Store w v) c ≡ []
+moved_none Consumer w v c = refl
+moved_none Producer w v c = refl
+
 -- a call adds to the list of its end as many entries as times
 one_each : (n : ℕ) (h : Half) (o : Op) (a : Answer) (c : List Cargo) (h' : Half) (s t : SeatsAre) (q : ℕ) → EndDid n h o a c h' → AddsTime o s q t
     → length (times_at t (role_of o) q) ≡ length (times_at s (role_of o) q) + length (moved (role_of o) o c)
@@ -99,7 +105,7 @@ one_each n h (Do.Settle Forward) a c h' s t q d adds = omega (arith, ap length a
 one_each n h (Do.Settle Backward) a c h' s t q d adds = omega (arith, ap length adds)
 one_each n h (Do.Ring Forward) a c h' s t q d adds = omega (arith, ap length adds)
 one_each n h (Do.Ring Backward) a c h' s t q d adds = omega (arith, ap length adds)
-one_each n h (Do.Store w v) a c h' s t q d adds = absurd d
+one_each n h (Do.Store w v) a c h' s t q d adds = omega (arith, ap length adds, ap length (moved_none (role_of (Do.Store w v)) w v c))
 
 one_entry : (n : ℕ) (h : Half) (o : Op) (a : Answer) (c : List Cargo) (h' : Half) → EndDid n h o a c h' → length (moved (role_of o) o c) ≤ 1
 one_entry n h Do.See a c h' d = omega arith
@@ -118,7 +124,7 @@ one_entry n h (Do.Settle Forward) a c h' d = omega arith
 one_entry n h (Do.Settle Backward) a c h' d = omega arith
 one_entry n h (Do.Ring Forward) a c h' d = omega arith
 one_entry n h (Do.Ring Backward) a c h' d = omega arith
-one_entry n h (Do.Store w v) a c h' d = absurd d
+one_entry n h (Do.Store w v) a c h' d = omega (arith, ap length (moved_none (role_of (Do.Store w v)) w v c))
 
 -- what is added stands behind what was there
 here_begins : (o : Op) (s t : SeatsAre) (q : ℕ) → AddsTime o s q t → (more : List ℕ) × (times_at t (role_of o) q ≡ times_at s (role_of o) q ++ more)

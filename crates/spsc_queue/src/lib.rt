@@ -15,6 +15,7 @@ mod producer;
 mod ring;
 mod rule;
 mod view;
+mod waiting;
 
 pub use both::both_look;
 pub use clock::Clock;
@@ -22,5 +23,5 @@ pub use consumer::Consumer;
 pub use ended::{Ended, finish};
 pub use laws::ring_law;
 pub use producer::Producer;
-pub use ring::{Ring, open};
+pub use ring::{Ring, open, open_wild};
 pub use view::{Half, View};
