@@ -4,7 +4,7 @@ ghost use Rattle.std.specs.Prelude.{◌≡◌, ◌<◌, ◌≤◌, ℕ, [], leng
 ghost use Rattle.std.specs.Prelude.{IfErr, IfSome, IfNone, true};
 ghost use Rattle.spsc_queue.specs.Known.Ends.{RingIs};
 ghost use Rattle.wire_core.specs.Deeds.{plain_deed};
-ghost use Rattle.wire_core.specs.Ends.{Consumer, Producer};
+ghost use Rattle.wire_core.specs.Ends as roles;
 ghost use Rattle.seat_wires.specs.Places.{seat_end, SeatDid, stands_at, EndsOn, SameEnds, SetsEnd};
 ghost use Rattle.seat_wires.specs.Places.{IsWildRing, IsWildSeat};
 ghost use Rattle.seat_wires.specs.Wildness.{stays};
@@ -164,7 +164,7 @@ impl<'a> Seats<'a> {
 
     // Whether the consuming end of a queue is its own.
     fn consumes(&self, q: QueueId) -> bool
-        ensures { result ≡ (seat_end self.now Consumer q.0).owned }
+        ensures { result ≡ (seat_end self.now roles.Consumer q.0).owned }
     {
         let place = q.0 as usize;
         place < self.consumers.len() && self.consumers[place].is_some()
@@ -172,7 +172,7 @@ impl<'a> Seats<'a> {
 
     // Stores a value in a word by the consuming end.
     fn store_by_consumer(&mut self, q: QueueId, word: Word, value: u64)
-        requires owned { (seat_end self.old Consumer q.0).owned ≡ true }
+        requires owned { (seat_end self.old roles.Consumer q.0).owned ≡ true }
         requires wild { IsWildRing self.old.rings q.0 }
         ensures { SeatDid self.old (plain_deed q (Op.Store word value)) self.new }
     {
@@ -186,7 +186,7 @@ impl<'a> Seats<'a> {
 
     // Stores a value in a word by the producing end.
     fn store_by_producer(&mut self, q: QueueId, word: Word, value: u64)
-        requires owned { (seat_end self.old Producer q.0).owned ≡ true }
+        requires owned { (seat_end self.old roles.Producer q.0).owned ≡ true }
         requires wild { IsWildRing self.old.rings q.0 }
         ensures { SeatDid self.old (plain_deed q (Op.Store word value)) self.new }
     {
