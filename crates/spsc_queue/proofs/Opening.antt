@@ -37,43 +37,43 @@ begins : (wild : Bool) (kind : QueueKind) (n : ℕ) (ws : List ℕ) → 0 < n �
     → RingHolds wild kind (opening ws (replicate n None) (first_view (record { kind = kind; wild = wild })))
 begins wild kind n ws some_place few divides shared = let hs : List (maybe.Option Slot) = map some (replicate n None) in let size : length hs ≡ n = lists.length-map (replicate n None) (λ (x : Slot). some x) ∙ length-replicate n None in
     let first : View = first_view (record { kind = kind; wild = wild }) in record {
-  p = 0;
-  c = 0;
-  producing = first;
-  consuming = first;
-  at_p = refl;
-  at_c = refl;
-  produces = refl;
-  consumes = refl;
-  one_producer = λ j v e is. sole first j v e;
-  one_consumer = λ j v e is. sole first j v e;
-  ends = subst (λ (m : ℕ). EndsHold wild kind m ws hs (record (first_producer kind) { wild = wild }) (record (first_consumer kind) { wild = wild })) (sym size) record {
-    lists = record {
-      left = [];
-      some_place = some_place;
-      few = few;
-      divides = divides;
-      sent = refl;
-      later = [];
-      times = refl;
-      timed = refl;
-      kinds = λ k d lt. absurd (omega arith);
-      producer_kind = refl;
-      consumer_kind = refl;
-      slots = record {
-        size = size;
-        within = omega arith;
-        filled = λ k x e free. absurd (some-ne-none x (sym e));
-        empty = λ k le lt free. all_vacant n ((0 + k) % n) None (mod-lt (0 + k) some_place);
-        to_producer = λ y e. cc;
-        to_consumer = λ y e. cc;
+      p = 0;
+      c = 0;
+      producing = first;
+      consuming = first;
+      at_p = refl;
+      at_c = refl;
+      produces = refl;
+      consumes = refl;
+      one_producer = λ j v e is. sole first j v e;
+      one_consumer = λ j v e is. sole first j v e;
+      ends = subst (λ (m : ℕ). EndsHold wild kind m ws hs (record (first_producer kind) { wild = wild }) (record (first_consumer kind) { wild = wild })) (sym size) record {
+        lists = record {
+          left = [];
+          some_place = some_place;
+          few = few;
+          divides = divides;
+          sent = refl;
+          later = [];
+          times = refl;
+          timed = refl;
+          kinds = λ k d lt. absurd (omega arith);
+          producer_kind = refl;
+          consumer_kind = refl;
+          slots = record {
+            size = size;
+            within = omega arith;
+            filled = λ k x e free. absurd (some-ne-none x (sym e));
+            empty = λ k le lt free. all_vacant n ((0 + k) % n) None (mod-lt (0 + k) some_place);
+            to_producer = λ y e. cc;
+            to_consumer = λ y e. cc;
+          };
+        };
+        producer_sort = refl;
+        consumer_sort = refl;
+        shared = shared;
       };
-    };
-    producer_sort = refl;
-    consumer_sort = refl;
-    shared = shared;
-  };
-}
+    }
 
 pub starts : (kind : QueueKind) (n : ℕ) → 0 < n → n ≤ 32768 → 65536 % n ≡ 0 → RingHolds false kind (opening (laid 0 0 0 0 1 0) (replicate n None) (first_view (record { kind = kind; wild = false })))
 starts kind n some_place few divides = begins false kind n (laid 0 0 0 0 1 0) some_place few divides record {

@@ -1,15 +1,14 @@
 -- What each call that does what its contract says makes of its end, on either sort of ring.
-use Rattle.std.proofs.Common.{◌≡◌, ℕ, suc, ◌+◌, ◌≤◌, Bool, true, false, ◌&&◌, ◌||◌, nat_eq, List, [], ◌∷◌, ◌++◌, length, refl, sym, ap, ◌∙◌, subst, arith, Option, Some, None}
+use Rattle.std.proofs.Common.{◌≡◌, ℕ, suc, ◌+◌, ◌≤◌, Bool, true, false, ◌&&◌, nat_eq, List, [], ◌∷◌, ◌++◌, length, refl, sym, ap, ◌∙◌, arith, Option, None}
 use Rattle.std.specs.Prelude.{if◌then◌else◌}
 use Rattle.wire_core.specs.declared.names.Op.{Op}
 use Rattle.wire_core.specs.declared.names.Op.TheVariants as Do
 use Rattle.wire_core.specs.declared.names.Answer.{Answer}
-use Rattle.wire_core.specs.declared.names.Answer.TheVariants.{Done, Yes, No}
 use Rattle.wire_core.specs.Deeds.{Cargo, answer_of}
-use Rattle.wire_core.specs.Ends.{End, end_after}
+use Rattle.wire_core.specs.Ends.{end_after}
 use Rattle.spsc_queue.specs.declared.view.Half.{Half}
 use Rattle.spsc_queue.specs.Rule.{Slot, tail_word, head_word, guard_word}
-use Rattle.spsc_queue.specs.Steps.{after_look, empty_if, noes_more, Granted, passed, index_read, fits_entry, fits_room, see_answer, room_answer, EntryTold, RoomTold, SeeDid, RoomDid, took, sent, EndDid, known_end, last_value, steps_made}
+use Rattle.spsc_queue.specs.Steps.{after_look, empty_if, noes_more, Granted, passed, fits_entry, fits_room, see_answer, room_answer, EntryTold, RoomTold, SeeDid, RoomDid, took, sent, EndDid, known_end, last_value, steps_made}
 use Rattle.spsc_queue.specs.Shown.{is_no, more_noes, fewest_steps, most_steps}
 
 -- the end after a look

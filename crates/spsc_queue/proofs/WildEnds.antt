@@ -1,5 +1,5 @@
 -- What a step of one end does to a wild ring, and what the calls of the bells do to either sort.
-use Rattle.std.proofs.Common.{◌≡◌, ℕ, suc, ◌+◌, ◌%◌, ◌<◌, ◌≤◌, Bool, true, false, nat_lt, nat_eq, List, [], ◌∷◌, length, drop, set, refl, sym, ap, ◌∙◌, subst, arith, Option, Some, None}
+use Rattle.std.proofs.Common.{◌≡◌, ℕ, ◌%◌, ◌<◌, ◌≤◌, Bool, true, false, nat_lt, nat_eq, List, [], ◌∷◌, length, drop, set, refl, sym, ap, ◌∙◌, subst, arith, Option, Some, None}
 use Rattle.std.specs.Prelude.{slice_index}
 use mathlib.Core.Option.{some}
 use mathlib.Core.Option as maybe
@@ -11,7 +11,7 @@ use Rattle.wire_core.specs.declared.names.Ringer.TheVariants as Rung
 use Rattle.wire_core.specs.Deeds.{Cargo}
 use Rattle.spsc_queue.specs.declared.view.Half.{Half}
 use Rattle.spsc_queue.specs.Rule.{Slot, flag_word, pending_word, guard_word, SlotsHold, GuardsHold, EndsHold}
-use Rattle.spsc_queue.specs.Steps.{slots_held, slots_kept, after_look, index_read, passed, sent_one, took_one, asked, waived, after_wake, after_wanted, after_settle, after_ring, IsWoken}
+use Rattle.spsc_queue.specs.Steps.{slots_held, slots_kept, after_look, index_read, passed, sent_one, took_one, asked, waived, after_wake, after_wanted, after_settle, after_ring}
 use Rattle.spsc_queue.proofs.Ends.{counts, relist, room_home, entry_home, LooksRoom, room_goes, LooksEntry, see_goes, put_lists, take_lists, first_is, one_taken, ask_ends, waive_ends, wake_ends, wake_tells, wanted_ends, settle_ends, ring_ends, ask_back_ends, waive_back_ends, wake_back_ends, wake_back_tells, wanted_back_ends, settle_back_ends, ring_back_ends}
 use Rattle.spsc_queue.proofs.Guards.{low_passes, first_guard, last_guard, fills_guard, empties_guard, one_is, none_is}
 

@@ -1,5 +1,5 @@
 -- Each call on a wild ring moves what the queue law moves, whatever stands in its six words.
-use Rattle.std.proofs.Common.{◌≡◌, ℕ, suc, ◌+◌, ◌≤◌, Bool, true, false, not, nat_lt, nat_eq, List, [], ◌∷◌, ◌++◌, length, drop, length-append, refl, sym, ap, ◌∙◌, subst, arith, Option, Some, is_some}
+use Rattle.std.proofs.Common.{◌≡◌, ℕ, suc, ◌+◌, ◌≤◌, Bool, true, false, not, nat_lt, nat_eq, List, [], ◌∷◌, ◌++◌, length, drop, length-append, refl, sym, ap, ◌∙◌, subst, arith, Some}
 use Rattle.std.specs.Prelude.{slice_index}
 use Rattle.std.proofs.lemmas.Bool.{lt-ltb}
 use mathlib.Core.Option as maybe
@@ -7,14 +7,14 @@ use Rattle.cargo_core.specs.declared.item.QueueKind.{QueueKind}
 use Rattle.wire_core.specs.declared.names.Op.{Op}
 use Rattle.wire_core.specs.declared.names.Op.TheVariants as Do
 use Rattle.wire_core.specs.declared.names.Answer.{Answer}
-use Rattle.wire_core.specs.declared.names.Answer.TheVariants.{Done, Yes, No}
+use Rattle.wire_core.specs.declared.names.Answer.TheVariants.{Yes, No}
 use Rattle.wire_core.specs.Bells.{bit}
 use Rattle.wire_core.specs.Deeds.{Cargo, answer_of}
 use Rattle.wire_core.specs.Ends.{Role, Consumer, Producer, Condition, role_of}
 use Rattle.wire_core.specs.Queues.{is_filled, has_room}
 use Rattle.spsc_queue.specs.declared.view.Half.{Half}
 use Rattle.spsc_queue.specs.Rule.{Slot, guard_word, EndsHold}
-use Rattle.spsc_queue.specs.Steps.{after_look, EntryTold, RoomTold, SeeDid, RoomDid, fits_entry, fits_room, took, sent, EndDid, known_end, last_word, last_value}
+use Rattle.spsc_queue.specs.Steps.{EntryTold, RoomTold, SeeDid, RoomDid, fits_entry, fits_room, EndDid, known_end, last_word, last_value}
 use Rattle.spsc_queue.specs.Shown.{ring_queue, half_of, entries_with, WasRead, IsWildEvent}
 use Rattle.spsc_queue.proofs.Calls.{granted_some}
 use Rattle.spsc_queue.proofs.Ends.{counts, some_is}

@@ -1,5 +1,5 @@
 -- The queue that the words and the two ends show at a moment, and how a call goes on from there.
-use Rattle.std.specs.Prelude.{◌≡◌, ℕ, ◌+◌, ◌%◌, Bool, true, false, ◌&&◌, ◌||◌, List, length, drop}
+use Rattle.std.specs.Prelude.{◌≡◌, ℕ, ◌+◌, Bool, true, false, ◌&&◌, ◌||◌, List, length, drop}
 use Rattle.std.specs.Prelude.{nat_eq, is_some, slice_index, slice_set, if◌then◌else◌}
 use Rattle.cargo_core.specs.declared.item.QueueKind.{QueueKind}
 use Rattle.wire_core.specs.declared.names.Op.{Op}

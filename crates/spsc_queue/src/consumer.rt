@@ -12,8 +12,9 @@ ghost use Rattle.spsc_queue.specs.Steps.{after_look, took_one, passed};
 
 use crate::plays;
 use crate::ring::Ring;
-use crate::rule::{FLAG, FLAG_BACK, GUARDS, HEAD, PENDING, PENDING_BACK, Place, TAIL};
-use crate::rule::{kept_of, place_of};
+use crate::rule::{
+    FLAG, FLAG_BACK, GUARDS, HEAD, PENDING, PENDING_BACK, Place, TAIL, kept_of, place_of,
+};
 use crate::waiting::looked;
 use cargo_core::{Body, Item, Word};
 use std::marker::Model;
@@ -112,7 +113,10 @@ impl Consumer {
         ensures answer { result ≡ fits_entry self.old.ring.slots (length self.old.knows.entries)
             (last_value self.new.knows) }
     {
-        let tail = ring.table.shared.load::<plays::TailRead>(&mut self.seat, TAIL);
+        let tail = ring
+            .table
+            .shared
+            .load::<plays::TailRead>(&mut self.seat, TAIL);
         let stand = (tail % 65536 + (65536 - u64::from(self.head))) % 65536;
         let fits = 0 < stand && stand <= u64::from(ring.capacity);
         self.waiter = looked(self.waiter, fits);
@@ -285,11 +289,9 @@ impl Consumer {
             Answer.Done [] self.new.knows }
         ensures end { known_end self.new.knows ≡ known_end self.old.knows }
     {
-        ring.table.shared.store::<plays::ConsumerPassed>(
-            &mut self.seat,
-            place_of(word),
-            kept_of(word, value),
-        );
+        ring.table
+            .shared
+            .store::<plays::ConsumerPassed>(&mut self.seat, place_of(word), kept_of(word, value));
     }
 
     /// Asks for a notification of entries: the flag is 0.

@@ -14,8 +14,9 @@ ghost use Rattle.spsc_queue.specs.Steps.{empty_if, sent_one, passed};
 use crate::clock::Clock;
 use crate::plays;
 use crate::ring::Ring;
-use crate::rule::{Board, FLAG, FLAG_BACK, GUARDS, HEAD, PENDING, PENDING_BACK, Place, TAIL};
-use crate::rule::{kept_of, place_of};
+use crate::rule::{
+    Board, FLAG, FLAG_BACK, GUARDS, HEAD, PENDING, PENDING_BACK, Place, TAIL, kept_of, place_of,
+};
 use crate::waiting::looked;
 use cargo_core::{Body, Item, Word};
 use std::marker::Model;
@@ -122,7 +123,10 @@ impl Producer {
         ensures answer { result ≡ fits_room self.old.ring.slots (length self.old.knows.entries)
             (last_value self.new.knows) }
     {
-        let head = ring.table.shared.load::<plays::HeadRead>(&mut self.seat, HEAD);
+        let head = ring
+            .table
+            .shared
+            .load::<plays::HeadRead>(&mut self.seat, HEAD);
         let stand = (u64::from(self.tail) + (65536 - head % 65536)) % 65536;
         let fits = stand < u64::from(ring.capacity);
         self.waiter = looked(self.waiter, fits);
@@ -292,11 +296,9 @@ impl Producer {
             Answer.Done [] self.new.knows }
         ensures end { known_end self.new.knows ≡ known_end self.old.knows }
     {
-        ring.table.shared.store::<plays::ProducerPassed>(
-            &mut self.seat,
-            place_of(word),
-            kept_of(word, value),
-        );
+        ring.table
+            .shared
+            .store::<plays::ProducerPassed>(&mut self.seat, place_of(word), kept_of(word, value));
     }
 
     /// Whether the consumer wants a notification of entries, by the flag.

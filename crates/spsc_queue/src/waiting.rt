@@ -10,13 +10,7 @@ pub(crate) fn looked(waiter: Waiter, answer: bool) -> Waiter
     ensures { result ≡ looked_waiter waiter (answer_of answer) }
 {
     match waiter {
-        Waiter::Asked => {
-            if answer {
-                Waiter::Asked
-            } else {
-                Waiter::Clear
-            }
-        }
+        Waiter::Asked => { if answer { Waiter::Asked } else { Waiter::Clear } }
         Waiter::Busy => Waiter::Busy,
         Waiter::Clear => Waiter::Clear,
         Waiter::Off => Waiter::Off,

@@ -1,7 +1,6 @@
-use Rattle.std.proofs.Common.{rules, true, ℕ, ◌≡◌, ◌+◌, ◌%◌, ◌∙◌, length, ap, sym}
+use Rattle.std.proofs.Common.{true, ℕ, ◌≡◌, ◌+◌, ◌%◌, ◌∙◌, length, ap, sym}
 use mathlib.Core.Option.{none}
 use Rattle.atomic_table.specs.Table.{step}
-use Rattle.spsc_queue.specs.Rule.{guard_word}
 use Rattle.spsc_queue.specs.Steps.{slots_held, entry_guard_read}
 use Rattle.spsc_queue.proofs.Calls.{slot_is, slot_below, guard_below, seen_guard}
 use Rattle.spsc_queue.proofs.Views.{as_consumer, entry_guard_allowed}

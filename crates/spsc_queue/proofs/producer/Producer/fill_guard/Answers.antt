@@ -1,11 +1,9 @@
-use Rattle.std.proofs.Common.{is_some, rules, true, ℕ, ◌%◌, ◌+◌, ◌-◌, ◌≡◌, ◌∙◌, ◌∷◌, [], List, length, ap, sym, subst, refl, Some, None}
+use Rattle.std.proofs.Common.{is_some, rules, true, ℕ, ◌%◌, ◌+◌, ◌-◌, ◌≡◌, ◌∙◌, ◌∷◌, [], List, length, ap, sym, subst, Some, None}
 use mathlib.Core.Option.{none}
 use Rattle.atomic_table.specs.Table.{rest, Allows, step}
 use Rattle.wire_core.specs.Deeds.{Cargo}
-use Rattle.spsc_queue.specs.declared.view.Half.{Half}
 use Rattle.spsc_queue.specs.declared.view.View.{View}
-use Rattle.spsc_queue.specs.Rule.{guard_word, Slot, RingHolds}
-use Rattle.wire_core.specs.Ends.{is_clear, is_free_or_put}
+use Rattle.spsc_queue.specs.Rule.{Slot, RingHolds}
 use Rattle.spsc_queue.specs.Steps.{Seated, put_done, sent_one}
 use Rattle.spsc_queue.proofs.Calls.{slot_is, slot_below, guard_below, guard_here}
 use Rattle.spsc_queue.proofs.Views.{as_producer, fill_allowed}

@@ -1,9 +1,8 @@
-use Rattle.std.proofs.Common.{rules, true, ℕ, ◌≡◌, ◌+◌, ◌%◌, ◌∙◌, length, ap, sym}
+use Rattle.std.proofs.Common.{rules, true, ◌≡◌, ◌%◌, ◌∙◌, length, ap, sym}
 use mathlib.Core.Option.{none}
 use Rattle.atomic_table.specs.Table.{step}
 use Rattle.spsc_queue.specs.Rule.{head_word}
 use Rattle.spsc_queue.specs.Steps.{slots_held, head_read}
-use Rattle.spsc_queue.proofs.Calls.{slot_is, slot_below, guard_below}
 use Rattle.spsc_queue.proofs.Views.{as_producer, head_allowed}
 use Rattle.spsc_queue.proofs.producer.Producer.room_head.Goals as goal
 

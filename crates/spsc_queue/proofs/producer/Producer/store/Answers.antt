@@ -1,4 +1,4 @@
-use Rattle.std.proofs.Common.{rules, Bool, true, ℕ, ◌≡◌, ◌<◌, ◌≤◌, ◌∙◌, refl, ap, sym, subst, arith}
+use Rattle.std.proofs.Common.{rules, Bool, ◌∙◌, refl, ap, sym, subst, arith}
 use mathlib.Core.Option.{none}
 use Rattle.atomic_table.specs.Table.{Allows, step}
 use Rattle.spsc_queue.specs.declared.view.View.{View}

@@ -1,4 +1,4 @@
-use Rattle.std.proofs.Common.{rules, true, ℕ, ◌≡◌, ◌<◌, ◌∙◌, length, ap, sym, arith}
+use Rattle.std.proofs.Common.{rules, true, ℕ, ◌∙◌, length, ap, arith}
 use mathlib.Core.Option.{none}
 use Rattle.atomic_table.specs.Table.{step}
 use Rattle.spsc_queue.specs.declared.view.View.{View}
