@@ -2,8 +2,7 @@
 //! out of turn at any of them, where clients put requests in their own buffers alone. That they do
 //! is told by what was put before: a client does as long as its own buffers alone came back to it.
 
-ghost use Rattle.std.specs.Prelude.{◌≡◌, ◌+◌, ◌*◌, ◌≤◌, ℕ, Some, List, [], All, length, take};
-ghost use Rattle.std.specs.Prelude.{slice_get};
+ghost use Rattle.std.specs.Prelude.{◌≡◌, ◌+◌, ◌*◌, ◌≤◌, ℕ, Some, List, [], length, take, slice_get};
 ghost use Rattle.cargo_core.specs.Blocks.{sector_bytes};
 ghost use Rattle.cargo_core.specs.declared.item.Ask.{Ask};
 ghost use Rattle.wire_core.specs.Deeds.{Cargo};
@@ -11,20 +10,17 @@ ghost use Rattle.wire_core.specs.Lists.{Passed};
 ghost use Rattle.device_model.specs.Disk.Disks.{DiskRow};
 ghost use Rattle.client_programs.specs.Blk.Clients.{BlkClientRow};
 ghost use Rattle.client_programs.specs.declared.blk.BlkClient.{BlkClient};
-ghost use Rattle.blk_virt.specs.Desks.{holders};
 ghost use Rattle.blk_virt.specs.Openings.{sector_of};
 ghost use Rattle.blk_virt.specs.Requests.{page_named};
 ghost use Rattle.blk_virt.specs.Virtualising.{BlkVirtRow};
-ghost use Rattle.blk_virt.specs.declared.requests.Holder.{Holder};
 ghost use Rattle.owner_law.specs.Pools.Places.{PoolAt};
 ghost use Rattle.blk_law.specs.Sheets.Numbers.{BlkPlace, IsBlkClientOf};
 ghost use Rattle.blk_quiet.specs.Cast.Casting.{IsBlkCast, IsAskingClient, AllAsk, AreRequests};
-ghost use Rattle.blk_quiet.specs.Cast.Casting.{IsLongFor, IsOfPool, IsWhole};
+ghost use Rattle.blk_quiet.specs.Cast.Casting.{IsOfPool, IsWhole};
 
 /// The virtualiser takes nothing out of turn, whatever the clients put, and no more responses than
 /// it put requests, of which the first brings the disk's first sector. Where each client put
-/// requests in its own buffers alone, the disk takes nothing out of turn; nor does it, whatever they
-/// put, where a page of what came last takes eight blocks if it is of a client's pool.
+/// requests in its own buffers alone, the disk takes nothing out of turn.
 pub fn turn_law()
     ensures virtualiser { (place : BlkPlace) (passed : Passed) → (h : IsBlkCast place passed)
         → (row : BlkVirtRow h.virt passed) → row.stray ≡ [] }
@@ -36,10 +32,6 @@ pub fn turn_law()
         → sector_of y.1 ≡ take sector_bytes place.image }
     ensures disk { (place : BlkPlace) (passed : Passed) → (h : IsBlkCast place passed)
         → AllAsk place passed → (row : DiskRow place.image h.disk passed) → row.stray ≡ [] }
-    ensures long { (place : BlkPlace) (passed : Passed) → (h : IsBlkCast place passed)
-        → (row : DiskRow place.image h.disk passed)
-        → ((k : ℕ) (g : Holder) → slice_get (holders h.virt.work.desk) k ≡ Some g
-        → All (λ (x : Cargo). IsLongFor g x.1) row.stray) → row.stray ≡ [] }
 {}
 
 /// A client takes nothing out of turn, whatever the clients put, and each response brings the

@@ -1,6 +1,6 @@
 -- A cast that has the whole block class at the layout's queues: nothing comes out of turn at its
 -- actors, and what its clients put.
-use Rattle.std.proofs.Common.{◌≡◌, ◌⊎◌, ◌+◌, ◌++◌, ◌*◌, ◌/◌, ◌<◌, ℕ, zero, suc, true, false, refl, Option, Some, None, List, [], ◌∷◌, All, append-nil, length, map, take, slice_get, inl, inr, sym, ap, ◌∙◌, subst, arith}
+use Rattle.std.proofs.Common.{◌≡◌, ◌⊎◌, ◌+◌, ◌*◌, ◌/◌, ◌<◌, ℕ, zero, suc, true, false, refl, Option, Some, None, List, [], ◌∷◌, All, length, map, take, slice_get, inl, inr, sym, ap, ◌∙◌, subst, arith}
 use Rattle.std.specs.Option.{option_to_list}
 use Rattle.cargo_core.specs.declared.item.Ask.{Ask}
 use Rattle.cargo_core.specs.declared.item.Body.{Body}
@@ -15,27 +15,24 @@ use Rattle.pipe_driver.specs.Drivers.{PipesRow}
 use Rattle.pipe_driver.specs.Lengths.{two_pipes}
 use Rattle.owner_law.specs.Pools.Places.{PoolAt, own_pool}
 use Rattle.device_model.specs.declared.disk.DiskDevice.{DiskDevice}
-use Rattle.device_model.specs.Disk.Disks.{DiskRow, DiskStandsFor, req}
-use Rattle.device_model.specs.Disk.Serving.{AreInTurn, is_stray}
+use Rattle.device_model.specs.Disk.Disks.{DiskRow, DiskStandsFor}
+use Rattle.device_model.specs.Disk.Serving.{is_stray}
 use Rattle.client_programs.specs.Blk.Clients.{BlkClientRow, BlkClientStandsFor, req_queue, resp_queue}
 use Rattle.client_programs.specs.declared.blk.BlkClient.{BlkClient}
 use Rattle.client_programs.proofs.BlkLemmas.Standing.{row_of as asker_row}
 use Rattle.blk_driver.specs.declared.BlkDriver.{BlkDriver}
-use Rattle.blk_virt.specs.Desks.{holders}
 use Rattle.blk_virt.specs.Openings.{IsOutOfTurn}
 use Rattle.blk_virt.specs.Requests.{is_bad}
 use Rattle.blk_virt.specs.Virtualising.{BlkVirtRow, BlkVirtStandsFor, FitsBlkVirt}
-use Rattle.blk_virt.specs.declared.requests.Holder.{Holder}
 use Rattle.blk_virt.specs.declared.virtualiser.BlkVirt.{BlkVirt}
 use Rattle.blk_virt.proofs.Rows.{row_of as server_row}
-use Rattle.net_law.proofs.PartsLemmas.Items.{all_at}
 use Rattle.blk_law.specs.Sheets.Parts.{BlkClient as ClientPart}
 use Rattle.blk_law.specs.Sheets.Numbers.{BlkPlace, IsBlkClientOf, disk_at, blk_driver_at, virt_at, blk_client_at}
 use Rattle.blk_law.specs.Sheets.Playing.{disk_part, blk_driver_part, virt_part, blk_client_part, DiskInTurn, VirtInTurn, ClientInTurn}
-use Rattle.blk_quiet.specs.Cast.Casting.{holder_of, IsLongFor, IsOfPool, IsWhole, IsRequest, AreRequests, IsAskingClient, IsBlkCast, AllAsk}
+use Rattle.blk_quiet.specs.Cast.Casting.{holder_of, IsOfPool, IsWhole, IsRequest, AreRequests, IsAskingClient, IsBlkCast, AllAsk}
 use Rattle.blk_quiet.proofs.CastLemmas.Judging.{bad_same}
 use Rattle.blk_quiet.proofs.CastLemmas.Numbers.{virt_queues, client_queues, client_pool}
-use Rattle.blk_quiet.proofs.CastLemmas.Turning.{responses_few, sector_is, virt_none, virt_in_turn, get_next, good_is, disk_none, disk_in_turn, long_none}
+use Rattle.blk_quiet.proofs.CastLemmas.Turning.{responses_few, sector_is, virt_none, virt_in_turn, good_is, disk_none, disk_in_turn}
 use Rattle.blk_quiet.proofs.CastLemmas.Clients.{client_like, client_none, client_in_turn, back_own, client_puts}
 use Rattle.actor_set.specs.Parts.{Part, BlockPart}
 use Rattle.actor_set.specs.Actors.{FitsActor, ActorStandsFor, part_of}
@@ -82,15 +79,6 @@ all_from : (P : Cargo → Type 0) (xs : List Cargo) → ((k : ℕ) (x : Cargo) �
 all_from P (x ∷ xs) has zero d lt = has 0 x refl
 all_from P (x ∷ xs) has (suc k) d lt = all_from P xs (λ j y at. has (suc j) y at) k d (omega (arith, lt))
 all_from P [] has k d lt = absurd (omega (arith, lt))
-
--- where all are in turn none of them isn't
-all_in_turn : (image : List ℕ) (all requests stray : List Cargo) → all ≡ requests ++ stray → AreInTurn image all → All (λ (x : Cargo). is_stray image x ≡ true) stray → stray ≡ []
-all_in_turn image all requests [] whole good out = refl
-all_in_turn image all requests (x ∷ xs) whole good out =
-    let at : slice_get all (length requests) ≡ Some x = ap (λ l. slice_get l (length requests)) whole ∙ get_next requests x xs in
-    let yes : is_stray image x ≡ false = all_at (λ (y : Cargo). is_stray image y ≡ false) all good (length requests) x at in
-    let no : is_stray image x ≡ true = all_at (λ (y : Cargo). is_stray image y ≡ true) (x ∷ xs) out 0 x refl in
-    absurd cc
 
 -- what a part is where it is one of the block class's
 pub disk_is : (place : BlkPlace) (start : List ℕ) (d : DiskDevice) → IsOfBlock place (disk_part start d) → disk_part start d ≡ disk_at place
@@ -144,7 +132,7 @@ module _ (scene : Scene) (ends : Role → ℕ → End) (rows : List QueueRow) (a
         let c = blk_client_actor place.first k asks pool x.0 x.1 in
         (c.0, record { part = c.2; row = asker_row c.0 passed (subst (λ a. ActorStandsFor a passed) c.1 x.3) })
 
-    start_is : (d : Disk) → disk_part d.start.value d.device ≡ disk_at place → d.start.value ≡ place.image
+    pub start_is : (d : Disk) → disk_part d.start.value d.device ≡ disk_at place → d.start.value ≡ place.image
     start_is d part = cc
 
     -- the class with this disk and this virtualiser
@@ -166,13 +154,14 @@ module _ (scene : Scene) (ends : Role → ℕ → End) (rows : List QueueRow) (a
       from_each = fits.from_each;
       to_each = fits.to_each;
       apart = fits.work.desk.apart;
+      clients = client_there;
       blocks = has.blocks;
       some_blocks = has.some_blocks;
       image_long = has.image_long;
       some = has.some;
     }
 
-    class_there : IsBlkCast place passed
+    pub class_there : IsBlkCast place passed
     class_there = let d = disk_there in let v = virt_there in cast_with d.0 d.1 d.2 v.0 v.1 v.2 v.3
 
     -- what the clients put, by their numbers
@@ -196,17 +185,6 @@ module _ (scene : Scene) (ends : Role → ℕ → End) (rows : List QueueRow) (a
         let class = cast_with d part row v.0 v.1 v.2 v.3 in
         let turn : (row : DiskRow d.start.value d.device passed) → row.stray ≡ [] = subst (λ s. (row : DiskRow s d.device passed) → row.stray ≡ []) (sym (start_is d part)) (disk_in_turn place passed class (all_ask ask)) in
         record { free = none_of d.device.stray (disk_none place passed class (all_ask ask) stands.requests (option_to_list d.device.stray) stands.taken (all_of (λ (x : Cargo). is_stray place.image x ≡ true) d.device.stray (λ x e. ap (λ s. is_stray s x) (sym (start_is d part)) ∙ stands.out_of_turn x e))); in_turn = turn }
-
-    -- nor is anything out of turn there, whatever the clients put, where pages of theirs that it has in
-    -- hand take eight blocks
-    pub disk_turns_long : (k : ℕ) (d : Disk) → slice_get actors k ≡ Some (Kinds.DiskDevice d) → DiskStandsFor d.start.value d.device passed → (v : BlkVirt) → virt_part v ≡ virt_at place → FitsBlkVirt ends v → BlkVirtRow v passed → ((j : ℕ) (g : Holder) → slice_get (holders v.work.desk) j ≡ Some g → All (λ (x : Cargo). IsLongFor g x.1) (option_to_list d.device.stray)) → DiskInTurn d.start.value d.device passed
-    unfolding cast_with
-    disk_turns_long k d at stands v v_part fits v_row long =
-        let part = disk_is place d.start.value d.device (has.only k (disk_part d.start.value d.device) (map_get part_of actors k (Kinds.DiskDevice d) at)) in
-        let class = cast_with d part (disk_row_of d.start.value d.device passed stands) v v_part fits v_row in
-        let none : option_to_list d.device.stray ≡ [] = long_none place passed class stands.requests (option_to_list d.device.stray) stands.taken (all_of (λ (x : Cargo). is_stray place.image x ≡ true) d.device.stray (λ x e. ap (λ s. is_stray s x) (sym (start_is d part)) ∙ stands.out_of_turn x e)) long in
-        let all : stands.requests ≡ passed.taken (req d.device) = sym (stands.taken ∙ (ap (λ l. stands.requests ++ l) none ∙ append-nil stands.requests)) in
-        record { free = none_of d.device.stray none; in_turn = λ row. all_in_turn d.start.value stands.requests row.requests row.stray (all ∙ row.taken) stands.in_turn row.out_of_turn }
 
     pub virt_turns : ClientsAsk cast passed → (k : ℕ) (v : BlkVirt) → slice_get actors k ≡ Some (Kinds.BlkVirt v) → FitsActor ends (Kinds.BlkVirt v) → BlkVirtStandsFor v passed → VirtInTurn scene.image v passed
     unfolding cast_with

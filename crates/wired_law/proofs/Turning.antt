@@ -1,6 +1,6 @@
 -- What comes in turn in a cast whatever its clients put, where each buffer is there once and has its
 -- pool's length.
-use Rattle.std.proofs.Common.{◌≡◌, ◌+◌, ◌++◌, ◌<◌, ◌≤◌, ℕ, true, Option, Some, None, List, [], ◌∷◌, All, length, map, slice_get, sym, ap, ◌∙◌, subst, arith}
+use Rattle.std.proofs.Common.{◌≡◌, ◌+◌, ◌++◌, ◌<◌, ◌≤◌, ℕ, true, false, Option, Some, None, List, [], ◌∷◌, All, append-nil, length, map, slice_get, refl, sym, ap, ◌∙◌, subst, arith}
 use Rattle.std.specs.Option.{option_to_list}
 use Rattle.std.proofs.lemmas.List.Elements.{All-cons, All-nil}
 use Rattle.cargo_core.specs.Blocks.{blk_buffer_bytes}
@@ -22,7 +22,8 @@ use Rattle.eth_driver.specs.Four.{four_pipes}
 use Rattle.eth_driver.specs.declared.EthDriver.{EthDriver}
 use Rattle.device_model.specs.Ethernet.Devices.{DeviceStandsFor, device_hand}
 use Rattle.device_model.specs.declared.ethernet.EthDevice.{EthDevice}
-use Rattle.device_model.specs.Disk.Disks.{disk_hand}
+use Rattle.device_model.specs.Disk.Disks.{DiskRow, DiskStandsFor, disk_hand, req}
+use Rattle.device_model.specs.Disk.Serving.{AreInTurn, is_stray}
 use Rattle.buffer_kit.specs.Conserving.{Count, counted, of_other_length, the_page, weighed}
 use Rattle.buffer_kit.specs.Virtualising.{from_queues}
 use Rattle.buffer_kit.proofs.Conserving.{counted-append, weighed-append}
@@ -37,6 +38,7 @@ use Rattle.net_virt_tx.specs.Traffics.{senders, traffic_hand}
 use Rattle.net_virt_tx.specs.declared.NetVirtTx.{NetVirtTx}
 use Rattle.net_virt_tx.specs.declared.client.Client.{Client}
 use Rattle.net_virt_tx.specs.declared.descriptors.Sender.{Sender}
+use Rattle.net_law.proofs.PartsLemmas.Items.{all_at}
 use Rattle.net_law.specs.Parts.Numbers.{device_at, driver_at}
 use Rattle.net_law.specs.Parts.Playing.{device_part, driver_part}
 use Rattle.net_law.specs.TxParts.Numbers.{NetPlace, sender_at}
@@ -44,26 +46,40 @@ use Rattle.net_law.specs.TxParts.Playing.{send_part}
 use Rattle.net_law.specs.TxScene.Playing.{ReturnsGood}
 use Rattle.net_quiet.proofs.TxCast.Numbers.{device_sends, driver_sends, sender_queues}
 use Rattle.blk_virt.specs.Desks.{holders}
+use Rattle.blk_virt.specs.Virtualising.{BlkVirtRow, FitsBlkVirt}
 use Rattle.blk_virt.specs.declared.requests.Holder.{Holder}
 use Rattle.blk_virt.specs.declared.virtualiser.BlkVirt.{BlkVirt}
 use Rattle.blk_virt.proofs.Rows.{row_of as server_row}
-use Rattle.blk_law.specs.Sheets.Numbers.{BlkPlace, virt_at}
-use Rattle.blk_law.specs.Sheets.Playing.{DiskInTurn, virt_part}
-use Rattle.blk_quiet.specs.Cast.Casting.{IsLongFor}
+use Rattle.blk_law.specs.Sheets.Numbers.{BlkPlace, disk_at, virt_at}
+use Rattle.blk_law.specs.Sheets.Playing.{DiskInTurn, disk_part, virt_part}
+use Rattle.blk_quiet.specs.Cast.Casting.{IsBlkCast}
+use Rattle.blk_quiet.specs.Cast.Lengths.{IsLongFor}
+use Rattle.blk_quiet.proofs.CastLemmas.Lengths.{long_none}
+use Rattle.blk_quiet.proofs.CastLemmas.Turning.{get_next}
 use Rattle.actor_set.specs.Parts.{Part, NetworkPart, BlockPart}
 use Rattle.actor_set.specs.Actors.{FitsActor, ActorStandsFor, actor_hand, part_of}
 use Rattle.actor_set.specs.declared.actor.Actor.{Actor}
 use Rattle.actor_set.specs.declared.actor.Actor.TheVariants as Kinds
 use Rattle.actor_set.specs.declared.disk.Disk.{Disk}
+use Rattle.actor_set.proofs.LawsLemmas.BlkRows.{disk_row_of}
 use Rattle.wired_law.specs.Buffers.{HasEachOnce}
 use Rattle.wired_law.specs.Wiring.{HasWholeIn, HasBlkIn, AreAtWork}
 use Rattle.wired_law.proofs.Acting.{device_actor, driver_actor, virt_actor}
-use Rattle.wired_law.proofs.Blocks.{disk_turns_long}
+use Rattle.wired_law.proofs.Blocks.{class_there, disk_is, start_is}
 use Rattle.wired_law.proofs.Wiring.{sender_is}
 
 all_good : (s : Sender) (xs : List Cargo) → AreGood s xs → All (λ (c : Cargo). is_good_of s c ≡ true) xs
 all_good s [] h = All-nil (λ (c : Cargo). is_good_of s c ≡ true)
 all_good s (x ∷ xs) h = All-cons (λ (c : Cargo). is_good_of s c ≡ true) x xs h.0 (all_good s xs h.1)
+
+-- where all are in turn none of them isn't
+all_in_turn : (image : List ℕ) (all requests stray : List Cargo) → all ≡ requests ++ stray → AreInTurn image all → All (λ (x : Cargo). is_stray image x ≡ true) stray → stray ≡ []
+all_in_turn image all requests [] whole good out = refl
+all_in_turn image all requests (x ∷ xs) whole good out =
+    let at : slice_get all (length requests) ≡ Some x = ap (λ l. slice_get l (length requests)) whole ∙ get_next requests x xs in
+    let yes : is_stray image x ≡ false = all_at (λ (y : Cargo). is_stray image y ≡ false) all good (length requests) x at in
+    let no : is_stray image x ≡ true = all_at (λ (y : Cargo). is_stray image y ≡ true) (x ∷ xs) out 0 x refl in
+    absurd cc
 
 -- a driver's hand is what its four pipes have
 hand_of_four : (f : Count) (p : Pipes (Pipes (Pipes Pipe))) → weighed f (option_to_list p.rest.rest.first.load) + weighed f (option_to_list p.rest.rest.rest.load) ≤ counted f (pipes_hand (four_pipes p))
@@ -206,6 +222,39 @@ module _ (scene : Scene) (ends : Role → ℕ → End) (rows : List QueueRow) (a
         let good = way_back net whole k p.0 d.0 v p.1 d.1 at p.2 d.2 p.3 d.3 c.0 n c.1 in
         all_good s (own_of s (passed.taken v.ends.input.queue.0)) (subst (λ (x : Sender). AreGood x (own_of x (passed.taken v.ends.input.queue.0))) c.2 good)
 
+  -- the class with this disk and this virtualiser
+  module _ (place : BlkPlace) (has : HasBlkIn scene rows place cast) (d : Disk) (part : disk_part d.start.value d.device ≡ disk_at place) (stands : DiskStandsFor d.start.value d.device passed) (v : BlkVirt) (v_part : virt_part v ≡ virt_at place) (fits : FitsBlkVirt ends v) (row : BlkVirtRow v passed) where
+    same : d.start.value ≡ place.image
+    same = start_is scene ends rows actors passed work place has d part
+
+    abbrev class : IsBlkCast place passed
+    class = record (class_there scene ends rows actors passed work place has) {
+      disk = d.device;
+      disk_is = subst (λ s. disk_part s d.device ≡ disk_at place) same part;
+      disk_row = subst (λ s. DiskRow s d.device passed) same (disk_row_of d.start.value d.device passed stands);
+      virt = v;
+      virt_is = v_part;
+      virt_row = row;
+      from_each = fits.from_each;
+      to_each = fits.to_each;
+      apart = fits.work.desk.apart;
+    }
+
+    long_turns : ((j : ℕ) (g : Holder) → slice_get (holders v.work.desk) j ≡ Some g → All (λ (x : Cargo). IsLongFor g x.1) (option_to_list d.device.stray)) → DiskInTurn d.start.value d.device passed
+    long_turns long =
+        let strays : All (λ (x : Cargo). is_stray place.image x ≡ true) (option_to_list d.device.stray) = strays_of d.device.stray (λ x e. ap (λ s. is_stray s x) (sym same) ∙ stands.out_of_turn x e) in
+        let none : option_to_list d.device.stray ≡ [] = long_none place passed class stands.requests (option_to_list d.device.stray) stands.taken strays long in
+        let all : stands.requests ≡ passed.taken (req d.device) = sym (stands.taken ∙ (ap (λ l. stands.requests ++ l) none ∙ append-nil stands.requests)) in
+        record { free = none_of d.device.stray none; in_turn = λ r. all_in_turn d.start.value stands.requests r.requests r.stray (all ∙ r.taken) stands.in_turn r.out_of_turn }
+      where
+        strays_of : (o : Option Cargo) → ((x : Cargo) → o ≡ Some x → is_stray place.image x ≡ true) → All (λ (x : Cargo). is_stray place.image x ≡ true) (option_to_list o)
+        strays_of None some = All-nil (λ (x : Cargo). is_stray place.image x ≡ true)
+        strays_of (Some x) some = All-cons (λ (y : Cargo). is_stray place.image y ≡ true) x [] (some x refl) (All-nil (λ (y : Cargo). is_stray place.image y ≡ true))
+
+        none_of : (o : Option Cargo) → option_to_list o ≡ [] → o ≡ None
+        none_of None e = refl
+        none_of (Some x) e = absurd cc
+
   pub disk_in : (place : BlkPlace) → HasBlkIn scene rows place cast → HasEachOnce rows actors passed → (k : ℕ) (d : Disk) → slice_get actors k ≡ Some (Kinds.DiskDevice d) → DiskInTurn d.start.value d.device passed
   disk_in place has each k d at =
       let x = map_from part_of actors has.virt.0 (BlockPart (virt_at place)) has.virt.1 in
@@ -213,7 +262,7 @@ module _ (scene : Scene) (ends : Role → ℕ → End) (rows : List QueueRow) (a
       let here : slice_get actors has.virt.0 ≡ Some (Kinds.BlkVirt v.0) = x.1 ∙ ap (λ a. Some a) v.1 in
       let fits : FitsActor ends (Kinds.BlkVirt v.0) = work.fits has.virt.0 (Kinds.BlkVirt v.0) here in
       let row = server_row v.0 passed (work.stands has.virt.0 (Kinds.BlkVirt v.0) here) in
-      disk_turns_long scene ends rows actors passed work place has k d at (work.stands k (Kinds.DiskDevice d) at) v.0 v.2 fits.0 row (long v.0 here)
+      long_turns place has d (disk_is place d.start.value d.device (has.only k (disk_part d.start.value d.device) (map_get part_of actors k (Kinds.DiskDevice d) at))) (work.stands k (Kinds.DiskDevice d) at) v.0 v.2 fits.0 row (long v.0 here)
     where
       long : (v : BlkVirt) → slice_get actors has.virt.0 ≡ Some (Kinds.BlkVirt v) → (j : ℕ) (g : Holder) → slice_get (holders v.work.desk) j ≡ Some g → All (λ (x : Cargo). IsLongFor g x.1) (option_to_list d.device.stray)
       long v here j g g_at =

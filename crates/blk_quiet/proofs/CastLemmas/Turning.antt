@@ -27,10 +27,10 @@ use Rattle.blk_virt.specs.declared.requests.Holder.{Holder}
 use Rattle.blk_virt.specs.declared.virtualiser.BlkVirt.{BlkVirt}
 use Rattle.blk_law.specs.Sheets.Numbers.{BlkPlace, sharers_from}
 use Rattle.blk_law.specs.Sheets.Playing.{sharers}
-use Rattle.blk_quiet.specs.Cast.Casting.{AllAsk, IsBlkCast, IsLongFor, IsWhole, holder_of}
+use Rattle.blk_quiet.specs.Cast.Casting.{AllAsk, IsBlkCast, IsWhole, holder_of}
 use Rattle.blk_quiet.proofs.CastLemmas.Numbers.{Shares, disk_queues, driver_queues, virt_queues, sharers_are}
 use Rattle.blk_quiet.proofs.CastLemmas.Answers.{answers_at, answer_named, brings_named, sector_read, has_read}
-use Rattle.blk_quiet.proofs.CastLemmas.Judging.{goes_fits, stray_same, bad_same, whole_long}
+use Rattle.blk_quiet.proofs.CastLemmas.Judging.{goes_fits, stray_same, bad_same}
 
 answers_long : (image : List ℕ) (xs : List Cargo) → length (answers_to image xs) ≡ length xs
 answers_long image [] = refl
@@ -90,11 +90,11 @@ module _ (place : BlkPlace) (passed : Passed) (h : IsBlkCast place passed) where
   driven : (h.driver.first.input.queue.0 ≡ place.first + 2) × (h.driver.first.output.queue.0 ≡ place.first) × (h.driver.rest.input.queue.0 ≡ place.first + 1) × (h.driver.rest.output.queue.0 ≡ place.first + 3)
   driven = driver_queues place.first h.driver h.driver_is
 
-  virtualised : (o ≡ place.first + 2) × (i ≡ place.first + 3) × (v.work.opening.disk_sectors ≡ length place.image / 512) × (sharers hs (from_queues v.ends) (to_queues v.ends) ≡ sharers_from place.first 0 place.entries place.pools)
+  pub virtualised : (o ≡ place.first + 2) × (i ≡ place.first + 3) × (v.work.opening.disk_sectors ≡ length place.image / 512) × (sharers hs (from_queues v.ends) (to_queues v.ends) ≡ sharers_from place.first 0 place.entries place.pools)
   virtualised = virt_queues place v h.virt_is
 
   -- the requests that come to the disk are those that the virtualiser put
-  asked : IsPrefix (passed.taken (disk.req h.disk)) S
+  pub asked : IsPrefix (passed.taken (disk.req h.disk)) S
   asked =
       let a = passed.taken (disk.req h.disk) in
       let b = passed.sent h.driver.first.output.queue.0 in
@@ -137,11 +137,11 @@ module _ (place : BlkPlace) (passed : Passed) (h : IsBlkCast place passed) where
       let c = begins_few R S done_sent in
       omega (arith, a, b, c)
 
-  block_there : 4096 ≤ length image
+  pub block_there : 4096 ≤ length image
   block_there = let long = h.image_long in let some = h.some_blocks in omega (arith, long, some)
 
   -- the first request is the virtualiser's own
-  first_is : (row : BlkVirtRow v passed) (x : Cargo) → slice_get S 0 ≡ Some x → x ≡ first_read v.work.opening.base row.start
+  pub first_is : (row : BlkVirtRow v passed) (x : Cargo) → slice_get S 0 ≡ Some x → x ≡ first_read v.work.opening.base row.start
   first_is row x at = sym (some_is (prefix_get S (first_read v.work.opening.base row.start ∷ drop 1 S) row.reads 0 x at))
 
   first_answer : (row : BlkVirtRow v passed) (y : Cargo) → slice_get T 0 ≡ Some y → y ≡ answer_to image (first_read v.work.opening.base row.start)
@@ -192,72 +192,6 @@ module _ (place : BlkPlace) (passed : Passed) (h : IsBlkCast place passed) where
       let c = map_from (λ (x : Client). x.holder) v.work.desk.clients.items k g at in
       subst (λ (x : Holder). IsServed x (parts x.partition) (passed.taken q.0) (drop 1 S) (drop 1 h.virt_row.back) (passed.sent r.0)) c.2 (h.virt_row.serves k c.0 q r parts c.1 fat tat known)
 
-  -- a request to the disk behind the first is one of a client's that goes on
-  record IsGoing (x : Cargo) : Type 0 where
-    k : ℕ
-    holder : Holder
-    from : QueueId
-    to : QueueId
-    holds : slice_get hs k ≡ Some holder
-    comes : slice_get (from_queues v.ends) k ≡ Some from
-    goes : slice_get (to_queues v.ends) k ≡ Some to
-    place : ℕ
-    request : Cargo
-    taken : slice_get (passed.taken from.0) place ≡ Some request
-    on : goes_on holder (parts holder.partition) request ≡ true
-    is : for_disk holder (parts holder.partition) request ≡ numbered 0 x
-
-  going : (n : ℕ) (x : Cargo) → slice_get (drop 1 S) n ≡ Some x → IsGoing x
-  going n x later =
-      let w = h.virt_row.within n x later in
-      let k = w.0 in
-      let g = w.1 in
-      let below = there_below hs k g w.2 in
-      let from_each = h.from_each in
-      let to_each = h.to_each in
-      let q = there_is (from_queues v.ends) k (omega (arith, below, from_each)) in
-      let r = there_is (to_queues v.ends) k (omega (arith, below, to_each)) in
-      let serves = served k g q.0 r.0 w.2 q.1 r.1 in
-      let own = kept_at (is_at g) (drop 1 S) n x later w.3 in
-      let bare : slice_get (unnumbered (own_of g (drop 1 S))) own.0 ≡ Some (numbered 0 x) = map_get (numbered 0) (own_of g (drop 1 S)) own.0 x own.1 in
-      let sent = prefix_get (unnumbered (own_of g (drop 1 S))) (map (for_disk g (parts g.partition)) (filter (goes_on g (parts g.partition)) (passed.taken q.0.0))) serves.sends own.0 (numbered 0 x) bare in
-      let f = map_from (for_disk g (parts g.partition)) (filter (goes_on g (parts g.partition)) (passed.taken q.0.0)) own.0 (numbered 0 x) sent in
-      let kept = kept_is (goes_on g (parts g.partition)) (passed.taken q.0.0) own.0 f.0 f.1 in
-      record { k = k; holder = g; from = q.0; to = r.0; holds = w.2; comes = q.1; goes = r.1; place = kept.1.0; request = f.0; taken = kept.1.1; on = kept.0; is = f.2 }
-
-  -- it is in turn at the disk where a page of its client takes eight blocks
-  going_fits : (n : ℕ) (x : Cargo) → slice_get S (suc n) ≡ Some x → (r : IsGoing x) → IsLongFor r.holder r.request.1 → is_stray image x ≡ false
-  going_fits n x at r long =
-      let kind = h.requests (suc n) x (ap (λ m. slice_get (passed.sent m) (suc n)) (sym virtualised.0) ∙ at) in
-      sym (stray_same image 0 x kind) ∙ (ap (is_stray image) (sym r.is) ∙ goes_fits image r.holder r.holder.partition r.request r.on long)
-
-  -- the virtualiser's own is
-  first_fits : (x : Cargo) → slice_get S 0 ≡ Some x → is_stray image x ≡ false
-  first_fits x at = ap (is_stray image) (first_is h.virt_row x at) ∙ ap not (le-leb ((0 + 1) * 4096) (length image) (let some = block_there in omega (arith, some)))
-
-  -- so is each other whose page takes eight blocks where it is a client's
-  long_fits : (j : ℕ) (x : Cargo) → slice_get S j ≡ Some x → ((k : ℕ) (g : Holder) → slice_get hs k ≡ Some g → IsLongFor g x.1) → is_stray image x ≡ false
-  long_fits zero x at long = first_fits x at
-  long_fits (suc n) x at long =
-      let r = going n x (drop_get S n ∙ at) in
-      let same : r.request.1 ≡ x.1 = ap (λ (c : Cargo). c.1) r.is in
-      going_fits n x at r (subst (IsLongFor r.holder) (sym same) (long r.k r.holder r.holds))
-
-  -- where what came last would be in turn, nothing strayed
-  none_strays : (requests stray : List Cargo) → passed.taken (disk.req h.disk) ≡ requests ++ stray → All (λ (x : Cargo). is_stray image x ≡ true) stray → ((x : Cargo) → slice_get S (length requests) ≡ Some x → slice_get stray 0 ≡ Some x → is_stray image x ≡ false) → stray ≡ []
-  none_strays requests [] whole out fits = refl
-  none_strays requests (x ∷ xs) whole out fits =
-      let at : slice_get (passed.taken (disk.req h.disk)) (length requests) ≡ Some x = ap (λ l. slice_get l (length requests)) whole ∙ get_next requests x xs in
-      let good = fits x (prefix_get (passed.taken (disk.req h.disk)) S asked (length requests) x at) refl in
-      let bad : is_stray image x ≡ true = all_at (λ (y : Cargo). is_stray image y ≡ true) (x ∷ xs) out 0 x refl in
-      absurd cc
-
-  pub long_none : (requests stray : List Cargo) → passed.taken (disk.req h.disk) ≡ requests ++ stray → All (λ (x : Cargo). is_stray image x ≡ true) stray → ((k : ℕ) (g : Holder) → slice_get hs k ≡ Some g → All (λ (x : Cargo). IsLongFor g x.1) stray) → stray ≡ []
-  long_none requests stray whole out long = none_strays requests stray whole out (λ x at last. long_fits (length requests) x at (λ k g there. all_at (λ (y : Cargo). IsLongFor g y.1) stray (long k g there) 0 x last))
-
-  pub long_in_turn : (row : disk.DiskRow image h.disk passed) → ((k : ℕ) (g : Holder) → slice_get hs k ≡ Some g → All (λ (x : Cargo). IsLongFor g x.1) row.stray) → row.stray ≡ []
-  long_in_turn row = long_none row.requests row.stray row.taken row.out_of_turn
-
   module _ (ask : AllAsk place passed) where
     -- what the virtualiser took from a client are requests in its own buffers
     taken_is : (k : ℕ) (g : Holder) (q r : QueueId) → slice_get hs k ≡ Some g → slice_get (from_queues v.ends) k ≡ Some q → slice_get (to_queues v.ends) k ≡ Some r → (j : ℕ) (z : Cargo) → slice_get (passed.taken q.0) j ≡ Some z → (is_bad g z ≡ false) × IsWhole z.1
@@ -276,13 +210,35 @@ module _ (place : BlkPlace) (passed : Passed) (h : IsBlkCast place passed) where
 
     -- each request to the disk is in turn there
     request_good : (j : ℕ) (x : Cargo) → slice_get S j ≡ Some x → is_stray image x ≡ false
-    request_good zero x at = first_fits x at
+    request_good zero x at =
+        ap (is_stray image) (first_is h.virt_row x at) ∙ ap not (le-leb ((0 + 1) * 4096) (length image) (let some = block_there in omega (arith, some)))
     request_good (suc n) x at =
-        let r = going n x (drop_get S n ∙ at) in
-        going_fits n x at r (whole_long r.holder r.request.1 (taken_is r.k r.holder r.from r.to r.holds r.comes r.goes r.place r.request r.taken).1)
+        let later : slice_get (drop 1 S) n ≡ Some x = drop_get S n ∙ at in
+        let w = h.virt_row.within n x later in
+        let k = w.0 in
+        let g = w.1 in
+        let below = there_below hs k g w.2 in
+        let from_each = h.from_each in
+        let to_each = h.to_each in
+        let q = there_is (from_queues v.ends) k (omega (arith, below, from_each)) in
+        let r = there_is (to_queues v.ends) k (omega (arith, below, to_each)) in
+        let serves = served k g q.0 r.0 w.2 q.1 r.1 in
+        let own = kept_at (is_at g) (drop 1 S) n x later w.3 in
+        let bare : slice_get (unnumbered (own_of g (drop 1 S))) own.0 ≡ Some (numbered 0 x) = map_get (numbered 0) (own_of g (drop 1 S)) own.0 x own.1 in
+        let goes = prefix_get (unnumbered (own_of g (drop 1 S))) (map (for_disk g (parts g.partition)) (filter (goes_on g (parts g.partition)) (passed.taken q.0.0))) serves.sends own.0 (numbered 0 x) bare in
+        let f = map_from (for_disk g (parts g.partition)) (filter (goes_on g (parts g.partition)) (passed.taken q.0.0)) own.0 (numbered 0 x) goes in
+        let kept = kept_is (goes_on g (parts g.partition)) (passed.taken q.0.0) own.0 f.0 f.1 in
+        let whole = (taken_is k g q.0 r.0 w.2 q.1 r.1 kept.1.0 f.0 kept.1.1).1 in
+        let kind = h.requests (suc n) x (ap (λ m. slice_get (passed.sent m) (suc n)) (sym virtualised.0) ∙ at) in
+        sym (stray_same image 0 x kind) ∙ (ap (is_stray image) (sym f.2) ∙ goes_fits image g g.partition f.0 kept.0 whole)
 
     pub disk_none : (requests stray : List Cargo) → passed.taken (disk.req h.disk) ≡ requests ++ stray → All (λ (x : Cargo). is_stray image x ≡ true) stray → stray ≡ []
-    disk_none requests stray whole out = none_strays requests stray whole out (λ x at last. request_good (length requests) x at)
+    disk_none requests [] whole out = refl
+    disk_none requests (x ∷ xs) whole out =
+        let at : slice_get (passed.taken (disk.req h.disk)) (length requests) ≡ Some x = ap (λ l. slice_get l (length requests)) whole ∙ get_next requests x xs in
+        let good = request_good (length requests) x (prefix_get (passed.taken (disk.req h.disk)) S asked (length requests) x at) in
+        let bad : is_stray image x ≡ true = all_at (λ (y : Cargo). is_stray image y ≡ true) (x ∷ xs) out 0 x refl in
+        absurd cc
 
     pub disk_in_turn : (row : disk.DiskRow image h.disk passed) → row.stray ≡ []
     disk_in_turn row = disk_none row.requests row.stray row.taken row.out_of_turn

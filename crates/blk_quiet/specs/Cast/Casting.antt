@@ -26,7 +26,7 @@ use Rattle.blk_virt.specs.Requests.{is_bad, range_of}
 use Rattle.blk_virt.specs.Virtualising.{BlkVirtRow}
 use Rattle.blk_virt.specs.declared.requests.Holder.{Holder}
 use Rattle.blk_virt.specs.declared.virtualiser.BlkVirt.{BlkVirt}
-use Rattle.blk_law.specs.Sheets.Numbers.{BlkPlace, disk_at, blk_driver_at, virt_at}
+use Rattle.blk_law.specs.Sheets.Numbers.{BlkPlace, IsBlkClientOf, disk_at, blk_driver_at, virt_at}
 use Rattle.blk_law.specs.Sheets.Numbers.{blk_client_at}
 use Rattle.blk_law.specs.Sheets.Playing.{disk_part, blk_driver_part, virt_part, blk_client_part}
 
@@ -44,12 +44,6 @@ abbrev pub IsWhole : Body → Type 0
 IsWhole (Carried.Page page) = 8 * block_bytes ≤ length page.bytes
 IsWhole (Carried.Lease lease) = Unit {0}
 IsWhole Carried.Empty = Unit {0}
-
--- a page of a client's pool takes eight blocks
-abbrev pub IsLongFor : Holder → Body → Type 0
-IsLongFor h (Carried.Page page) = page.pool.0 ≡ h.pool.0 → 8 * block_bytes ≤ length page.bytes
-IsLongFor h (Carried.Lease lease) = Unit {0}
-IsLongFor h Carried.Empty = Unit {0}
 
 -- a page is one of a pool's buffers
 abbrev pub IsOfPool : PoolAt → Body → Type 0
@@ -73,9 +67,9 @@ pub record IsAskingClient (place : BlkPlace) (k : ℕ) (asks : List Ask) (pool :
   pub part : blk_client_part c ≡ blk_client_at place.first k asks pool
   pub row : BlkClientRow c passed
 
--- a disk, its driver and the virtualiser stand at their queues; queues hand over what was put, which
--- at the driver are requests; the disk has some blocks; and no two clients' ranges meet. Of the
--- clients nothing is asked
+-- a disk, its driver, the virtualiser and the clients stand at their queues; queues hand over what
+-- was put, which at the driver are requests; the disk has some blocks; and no two clients' ranges
+-- meet
 pub record IsBlkCast (place : BlkPlace) (passed : Passed) : Type 0 where
   pub asks_many : length place.asks ≡ length place.entries
   pub pools_many : length place.pools ≡ length place.entries
@@ -94,6 +88,9 @@ pub record IsBlkCast (place : BlkPlace) (passed : Passed) : Type 0 where
   pub from_each : length (from_queues virt.ends) ≡ length (holders virt.work.desk)
   pub to_each : length (to_queues virt.ends) ≡ length (holders virt.work.desk)
   pub apart : AreRanges (map range_of (holders virt.work.desk))
+  pub clients : (k entry : ℕ) (asks : List Ask) (pool : PoolAt)
+      → IsBlkClientOf place k entry asks pool
+      → (c : BlkClient) × IsAskingClient place k asks pool c passed
   pub blocks : ℕ
   pub some_blocks : 1 ≤ blocks
   pub image_long : length place.image ≡ blocks * block_bytes

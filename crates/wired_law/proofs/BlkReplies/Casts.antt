@@ -70,6 +70,12 @@ module _ (scene : Scene) (ends : Role → ℕ → End) (rows : List QueueRow) (a
       let fits : FitsActor ends (Kinds.BlkVirt v.0) = subst (FitsActor ends) v.1 x.2 in
       (v.0, v.2, fits.0, server_row v.0 passed (subst (λ a. ActorStandsFor a passed) v.1 x.3))
 
+  client_there : (k entry : ℕ) (asks : List Ask) (pool : PoolAt) → IsBlkClientOf place k entry asks pool → (c : BlkClient) × IsAskingClient place k asks pool c passed
+  client_there k entry asks pool of =
+      let x = actor_of (BlockPart (blk_client_at place.first k asks pool)) (has.client k entry asks pool of) in
+      let c = blk_client_actor place.first k asks pool x.0 x.1 in
+      (c.0, record { part = c.2; row = asker_row c.0 passed (subst (λ a. ActorStandsFor a passed) c.1 x.3) })
+
   start_is : (d : Disk) → disk_part d.start.value d.device ≡ disk_at place → d.start.value ≡ place.image
   start_is d part = cc
 
@@ -91,6 +97,7 @@ module _ (scene : Scene) (ends : Role → ℕ → End) (rows : List QueueRow) (a
     from_each = fits.from_each;
     to_each = fits.to_each;
     apart = fits.work.desk.apart;
+    clients = client_there;
     blocks = has.blocks;
     some_blocks = has.some_blocks;
     image_long = has.image_long;

@@ -1,4 +1,4 @@
-use Rattle.blk_quiet.proofs.CastLemmas.Turning.{virt_in_turn, responses_few, sector_is, disk_in_turn, long_in_turn}
+use Rattle.blk_quiet.proofs.CastLemmas.Turning.{virt_in_turn, responses_few, sector_is, disk_in_turn}
 use Rattle.blk_quiet.proofs.cast.turn_law.Goals as goal
 
 pub returns-clause-virtualiser : goal.returns-clause-virtualiser
@@ -12,6 +12,3 @@ returns-clause-sector c = sector_is
 
 pub returns-clause-disk : goal.returns-clause-disk
 returns-clause-disk c = disk_in_turn
-
-pub returns-clause-long : goal.returns-clause-long
-returns-clause-long c = long_in_turn
