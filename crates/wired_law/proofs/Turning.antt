@@ -27,7 +27,7 @@ use Rattle.device_model.specs.Disk.Serving.{AreInTurn, is_stray}
 use Rattle.buffer_kit.specs.Conserving.{Count, counted, of_other_length, the_page, weighed}
 use Rattle.buffer_kit.specs.Virtualising.{from_queues}
 use Rattle.buffer_kit.proofs.Conserving.{counted-append, weighed-append}
-use Rattle.page_law.specs.Holders.{HaveLength, queue_has, standing}
+use Rattle.page_law.specs.Holders.{HasLength, HaveLength, queue_has, standing}
 use Rattle.page_law.specs.Paths.{AreGood, AreOnce, IsWay, on_way}
 use Rattle.page_law.proofs.LawLemmas.Lengths.{have_length}
 use Rattle.page_law.proofs.LawLemmas.Parts.{four_below, one_of, three_of}
@@ -98,8 +98,8 @@ long_for : (g : Holder) (xs : List Cargo) → HaveLength g.pool blk_buffer_bytes
 long_for g [] h = All-nil (λ (x : Cargo). IsLongFor g x.1)
 long_for g (x ∷ xs) h = All-cons (λ (y : Cargo). IsLongFor g y.1) x xs (by x h.0) (long_for g xs h.1)
   where
-    by : (y : Cargo) → HaveLength g.pool blk_buffer_bytes (y.1 ∷ []) → IsLongFor g y.1
-    by (item, Carried.Page page) own = λ same. let long = own.0 same in omega (arith, long)
+    by : (y : Cargo) → HasLength g.pool blk_buffer_bytes y.1 → IsLongFor g y.1
+    by (item, Carried.Page page) own = λ same. let long = own same in omega (arith, long)
     by (item, Carried.Lease lease) own = tt
     by (item, Carried.Empty) own = tt
 
