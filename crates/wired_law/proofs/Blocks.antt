@@ -81,13 +81,13 @@ all_from P (x ∷ xs) has (suc k) d lt = all_from P xs (λ j y at. has (suc j) y
 all_from P [] has k d lt = absurd (omega (arith, lt))
 
 -- what a part is where it is one of the block class's
-disk_is : (place : BlkPlace) (start : List ℕ) (d : DiskDevice) → IsOfBlock place (disk_part start d) → disk_part start d ≡ disk_at place
+pub disk_is : (place : BlkPlace) (start : List ℕ) (d : DiskDevice) → IsOfBlock place (disk_part start d) → disk_part start d ≡ disk_at place
 disk_is place start d (inl e) = e
 disk_is place start d (inr (inl e)) = absurd cc
 disk_is place start d (inr (inr (inl e))) = absurd cc
 disk_is place start d (inr (inr (inr k))) = let e = k.5 in absurd cc
 
-virt_is : (place : BlkPlace) (v : BlkVirt) → IsOfBlock place (virt_part v) → virt_part v ≡ virt_at place
+pub virt_is : (place : BlkPlace) (v : BlkVirt) → IsOfBlock place (virt_part v) → virt_part v ≡ virt_at place
 virt_is place v (inl e) = absurd cc
 virt_is place v (inr (inl e)) = absurd cc
 virt_is place v (inr (inr (inl e))) = e
@@ -132,7 +132,7 @@ module _ (scene : Scene) (ends : Role → ℕ → End) (rows : List QueueRow) (a
         let c = blk_client_actor place.first k asks pool x.0 x.1 in
         (c.0, record { part = c.2; row = asker_row c.0 passed (subst (λ a. ActorStandsFor a passed) c.1 x.3) })
 
-    start_is : (d : Disk) → disk_part d.start.value d.device ≡ disk_at place → d.start.value ≡ place.image
+    pub start_is : (d : Disk) → disk_part d.start.value d.device ≡ disk_at place → d.start.value ≡ place.image
     start_is d part = cc
 
     -- the class with this disk and this virtualiser
@@ -161,7 +161,7 @@ module _ (scene : Scene) (ends : Role → ℕ → End) (rows : List QueueRow) (a
       some = has.some;
     }
 
-    class_there : IsBlkCast place passed
+    pub class_there : IsBlkCast place passed
     class_there = let d = disk_there in let v = virt_there in cast_with d.0 d.1 d.2 v.0 v.1 v.2 v.3
 
     -- what the clients put, by their numbers

@@ -73,7 +73,7 @@ copier_is net frames c (inr (inr (inr (inl e)))) = absurd cc
 copier_is net frames c (inr (inr (inr (inr (inl k))))) = let e = k.2 in (k.0, k.1, cc)
 copier_is net frames c (inr (inr (inr (inr (inr k))))) = let e = k.5 in absurd cc
 
-sender_is : (net : NetPlace) (frames : List (List ℕ)) (v : NetVirtTx) → IsOfNetwork net frames (SendingPart (send_part v)) → send_part v ≡ sender_at net.first net.most net.pools
+pub sender_is : (net : NetPlace) (frames : List (List ℕ)) (v : NetVirtTx) → IsOfNetwork net frames (SendingPart (send_part v)) → send_part v ≡ sender_at net.first net.most net.pools
 sender_is net frames v (inl e) = absurd cc
 sender_is net frames v (inr (inl e)) = absurd cc
 sender_is net frames v (inr (inr (inl e))) = absurd cc

@@ -27,6 +27,7 @@ ghost use Rattle.wired_law.specs.Wiring.{HasWholeIn, IsWiredIn, ClientsSendIn, A
 
 pub mod blk_replies;
 pub mod quiet;
+pub mod turning;
 
 /// Nothing comes out of turn at any actor of a cast that is wired in a scene, where its clients put
 /// good descriptors and requests alone; so they did when nothing had passed yet, and after one more

@@ -31,7 +31,7 @@ part_fits image entry part e =
     let on_disk = is.on_disk in
     omega (arith, begins, whole, on_disk)
 
-abbrev Fits : List ℕ → Option Part → Type 0
+abbrev pub Fits : List ℕ → Option Part → Type 0
 Fits image part = (p : Part) → part ≡ Some p → (p.first_block + p.blocks) * 4096 ≤ length image
 
 ok_if : (b : Bool) → is_ok (if b then Answered.Ok else Answered.Invalid) ≡ true → b ≡ true
@@ -39,7 +39,7 @@ ok_if true e = refl
 ok_if false e = absurd cc
 
 -- a request that goes on is in turn at the disk, where its page is whole
-asked_fits : (image : List ℕ) (c : Code) (own : Bool) (part : Option Part) (r : BlkReq) (base : ℕ) (body : Body) → is_ok (status_of own part c r.block r.count) ≡ true → Fits image part → (own ≡ true → r.count ≤ 8 → has_room r.count body ≡ true) → is_stray image (ItemOf.Req (asked_of_disk c base (first_block part) r), body) ≡ false
+pub asked_fits : (image : List ℕ) (c : Code) (own : Bool) (part : Option Part) (r : BlkReq) (base : ℕ) (body : Body) → is_ok (status_of own part c r.block r.count) ≡ true → Fits image part → (own ≡ true → r.count ≤ 8 → has_room r.count body ≡ true) → is_stray image (ItemOf.Req (asked_of_disk c base (first_block part) r), body) ≡ false
 asked_fits image c own None r base body ok fits room = absurd cc
 asked_fits image Asked.Read own (Some p) r base body ok fits room =
     let move = ok_if (can_move own p.blocks r.block r.count) ok in

@@ -36,7 +36,7 @@ answers_long : (image : List ℕ) (xs : List Cargo) → length (answers_to image
 answers_long image [] = refl
 answers_long image (x ∷ xs) = ap suc (answers_long (done image x) xs)
 
-get_next : (xs : List Cargo) (x : Cargo) (ys : List Cargo) → slice_get (xs ++ x ∷ ys) (length xs) ≡ Some x
+pub get_next : (xs : List Cargo) (x : Cargo) (ys : List Cargo) → slice_get (xs ++ x ∷ ys) (length xs) ≡ Some x
 get_next [] x ys = refl
 get_next (z ∷ xs) x ys = get_next xs x ys
 
@@ -90,11 +90,11 @@ module _ (place : BlkPlace) (passed : Passed) (h : IsBlkCast place passed) where
   driven : (h.driver.first.input.queue.0 ≡ place.first + 2) × (h.driver.first.output.queue.0 ≡ place.first) × (h.driver.rest.input.queue.0 ≡ place.first + 1) × (h.driver.rest.output.queue.0 ≡ place.first + 3)
   driven = driver_queues place.first h.driver h.driver_is
 
-  virtualised : (o ≡ place.first + 2) × (i ≡ place.first + 3) × (v.work.opening.disk_sectors ≡ length place.image / 512) × (sharers hs (from_queues v.ends) (to_queues v.ends) ≡ sharers_from place.first 0 place.entries place.pools)
+  pub virtualised : (o ≡ place.first + 2) × (i ≡ place.first + 3) × (v.work.opening.disk_sectors ≡ length place.image / 512) × (sharers hs (from_queues v.ends) (to_queues v.ends) ≡ sharers_from place.first 0 place.entries place.pools)
   virtualised = virt_queues place v h.virt_is
 
   -- the requests that come to the disk are those that the virtualiser put
-  asked : IsPrefix (passed.taken (disk.req h.disk)) S
+  pub asked : IsPrefix (passed.taken (disk.req h.disk)) S
   asked =
       let a = passed.taken (disk.req h.disk) in
       let b = passed.sent h.driver.first.output.queue.0 in
@@ -137,11 +137,11 @@ module _ (place : BlkPlace) (passed : Passed) (h : IsBlkCast place passed) where
       let c = begins_few R S done_sent in
       omega (arith, a, b, c)
 
-  block_there : 4096 ≤ length image
+  pub block_there : 4096 ≤ length image
   block_there = let long = h.image_long in let some = h.some_blocks in omega (arith, long, some)
 
   -- the first request is the virtualiser's own
-  first_is : (row : BlkVirtRow v passed) (x : Cargo) → slice_get S 0 ≡ Some x → x ≡ first_read v.work.opening.base row.start
+  pub first_is : (row : BlkVirtRow v passed) (x : Cargo) → slice_get S 0 ≡ Some x → x ≡ first_read v.work.opening.base row.start
   first_is row x at = sym (some_is (prefix_get S (first_read v.work.opening.base row.start ∷ drop 1 S) row.reads 0 x at))
 
   first_answer : (row : BlkVirtRow v passed) (y : Cargo) → slice_get T 0 ≡ Some y → y ≡ answer_to image (first_read v.work.opening.base row.start)
