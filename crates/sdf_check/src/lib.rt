@@ -6,6 +6,7 @@
 mod class;
 mod class_ids;
 mod counts;
+mod frames;
 mod judge;
 mod judging;
 mod keys;
