@@ -1,7 +1,7 @@
 //! Traces: what the devices receive and the clients ask for, one line each, and how a text of such
 //! lines is read.
 //!
-//! An example of its calls: `crates/library_examples/src/trace.rt`.
+//! An example of its calls: `crates/plan_rows/src/examples/trace.rt`.
 #![tactic(auto)]
 
 mod acts;
