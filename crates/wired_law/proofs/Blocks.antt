@@ -41,6 +41,8 @@ use Rattle.actor_set.specs.declared.actor.Actor.{Actor}
 use Rattle.actor_set.specs.declared.actor.Actor.TheVariants as Kinds
 use Rattle.actor_set.proofs.LawsLemmas.BlkRows.{disk_row_of}
 use Rattle.play_core.specs.Sheets.{Scene}
+use Rattle.actor_set.proofs.LawsLemmas.Calm.{calm_actor}
+use Rattle.actor_set.proofs.LawsLemmas.Told.{none_wild}
 use Rattle.wired_law.specs.Wiring.{IsOfBlock, HasBlkIn, HasNoBlock, HasPart, ClientsAsk, AreAtWork}
 use Rattle.wired_law.proofs.Acting.{disk_actor, blk_driver_actor, virt_actor, blk_client_actor}
 use Rattle.wired_law.proofs.Deeds.{puts_or_takes}
@@ -128,7 +130,7 @@ module _ (scene : Scene) (ends : Role → ℕ → End) (rows : List QueueRow) (a
 
     client_there : (k entry : ℕ) (asks : List Ask) (pool : PoolAt) → IsBlkClientOf place k entry asks pool → (c : BlkClient) × IsAskingClient place k asks pool c passed
     client_there k entry asks pool of =
-        let x = actor_of (BlockPart (blk_client_at place.first k asks pool)) (has.client k entry asks pool of) in
+        let x = actor_of (BlockPart (blk_client_at place.first k asks pool)) (has.client k entry asks pool of (none_wild cast rows (place.first + 4 + 2 * k))) in
         let c = blk_client_actor place.first k asks pool x.0 x.1 in
         (c.0, record { part = c.2; row = asker_row c.0 passed (subst (λ a. ActorStandsFor a passed) c.1 x.3) })
 
@@ -173,8 +175,8 @@ module _ (scene : Scene) (ends : Role → ℕ → End) (rows : List QueueRow) (a
         let entry = there_is place.entries k (omega (arith, below, pools_many)) in
         let asks = there_is place.asks k (omega (arith, below, pools_many, asks_many)) in
         let of : IsBlkClientOf place k entry.0 asks.0 pool = record { has_entry = entry.1; has_asks = asks.1; has_pool = at } in
-        let there = has.client k entry.0 asks.0 pool of in
-        requests_own pool (passed.sent (place.first + 4 + 2 * k)) (ask there.0 (place.first + 4 + 2 * k) (place.first + 5 + 2 * k) asks.0 (own_pool pool) there.1)
+        let there = has.client k entry.0 asks.0 pool of (none_wild cast rows (place.first + 4 + 2 * k)) in
+        requests_own pool (passed.sent (place.first + 4 + 2 * k)) (ask there.0 (place.first + 4 + 2 * k) (place.first + 5 + 2 * k) asks.0 (own_pool pool) (calm_actor cast there.0) there.1)
 
     pub disk_turns : ClientsAsk cast passed → (k : ℕ) (d : Disk) → slice_get actors k ≡ Some (Kinds.DiskDevice d) → DiskStandsFor d.start.value d.device passed → DiskInTurn d.start.value d.device passed
     unfolding cast_with
@@ -252,7 +254,7 @@ module _ (scene : Scene) (ends : Role → ℕ → End) (rows : List QueueRow) (a
 
 -- nothing was put at the start
 pub nothing_asked : (cast : List Part) → ClientsAsk cast nothing_passed
-nothing_asked cast k req resp asks pool at j c there = cc
+nothing_asked cast k req resp asks pool calm at j c there = cc
 
 -- a client's requests after one more call: where it puts one, nothing came back to it in this call
 module _ (scene : Scene) (ends ends' : Role → ℕ → End) (rows : List QueueRow) (actors actors' : List Actor) (passed : Passed) (deed : Deed) (same : map part_of actors' ≡ map part_of actors) (work : AreAtWork ends rows actors passed) (ask : ClientsAsk (map part_of actors) passed) (later : AreAtWork ends' rows actors' (with_deed passed deed)) where
@@ -268,16 +270,16 @@ module _ (scene : Scene) (ends ends' : Role → ℕ → End) (rows : List QueueR
             (λ j y at. back j y (ap (λ l. slice_get l j) (sym (still (place.first + 5 + 2 * k))) ∙ at))
 
     pub class_asks_on : ClientsAsk (map part_of actors) (with_deed passed deed)
-    class_asks_on k req resp asks pool at =
+    class_asks_on k req resp asks pool calm at =
         let is = client_is place req resp asks pool (has.only k (ClientPart req resp asks pool) at) in
         let e = is.5 in
         let queue : req ≡ place.first + 4 + 2 * is.0 = cc in
         let own : pool ≡ own_pool is.3 = cc in
-        let now = ask k req resp asks pool at in
+        let now = ask k req resp asks pool calm at in
         let old = requests_own is.3 (passed.sent (place.first + 4 + 2 * is.0)) (subst (λ p. AreRequests p (passed.sent (place.first + 4 + 2 * is.0))) own (subst (λ n. AreRequests pool (passed.sent n)) queue now)) in
         let new = own_requests is.3 ((with_deed passed deed).sent (place.first + 4 + 2 * is.0)) (client_asks_on is.0 is.1 is.2 is.3 is.4 old) in
         subst (λ n. AreRequests pool ((with_deed passed deed).sent n)) (sym queue) (subst (λ p. AreRequests p ((with_deed passed deed).sent (place.first + 4 + 2 * is.0))) (sym own) new)
 
   pub asks_by : HasNoBlock (map part_of actors) ⊎ ((place : BlkPlace) × HasBlkIn scene rows place (map part_of actors)) → ClientsAsk (map part_of actors) (with_deed passed deed)
-  asks_by (inl none) = λ k req resp asks pool at. absurd (none k (ClientPart req resp asks pool) at)
+  asks_by (inl none) = λ k req resp asks pool calm at. absurd (none k (ClientPart req resp asks pool) at)
   asks_by (inr p) = class_asks_on p.0 p.1

@@ -41,9 +41,11 @@ use Rattle.actor_set.specs.declared.actor.Actor.TheVariants as Kinds
 use Rattle.actor_set.specs.Laws.Records.{frames_got}
 use Rattle.actor_set.specs.Laws.Turning.{InTurn, SendsInTurn}
 use Rattle.actor_set.proofs.LawsLemmas.NetRows.{device_row_of}
+use Rattle.play_core.specs.Names.{wild_in}
 use Rattle.play_core.specs.Sheets.{Scene}
-use Rattle.actor_set.specs.Laws.Kinds.{scene_of}
-use Rattle.wired_law.specs.Wiring.{IsOfNetwork, HasWholeIn, HasNoNetwork, HasBlkIn, HasNoBlock, HasPart, IsWired, IsWiredIn, NetClientsSendIn, ClientsAsk, ClientsSend, ClientsSendIn, AreAtWork}
+use Rattle.actor_set.specs.Laws.Kinds.{hostiles, scene_of}
+use Rattle.actor_set.proofs.LawsLemmas.Told.{none_wild}
+use Rattle.wired_law.specs.Wiring.{IsOfNetwork, HasWholeIn, HasNoNetwork, HasBlkIn, HasNoBlock, HasPart, IsWired, IsWiredIn, NetClientsSendIn, CalmSend, ClientsAsk, ClientsSend, ClientsSendIn, AreAtWork}
 use Rattle.wired_law.proofs.Acting.{device_actor, driver_actor, receiver_actor, sender_actor, copier_actor, client_actor}
 use Rattle.wired_law.proofs.Deeds.{puts_or_takes}
 use Rattle.wired_law.proofs.Blocks.{disk_by, virt_by, client_by, nothing_asked, asks_by}
@@ -80,6 +82,10 @@ sender_is net frames v (inr (inr (inl e))) = absurd cc
 sender_is net frames v (inr (inr (inr (inl e)))) = cc
 sender_is net frames v (inr (inr (inr (inr (inl k))))) = let e = k.2 in absurd cc
 sender_is net frames v (inr (inr (inr (inr (inr k))))) = let e = k.5 in absurd cc
+
+-- nobody is hostile: so all of the network's clients did
+all_send : (cast : List Part) (rows : List QueueRow) (net : NetPlace) (passed : Passed) → CalmSend (wild_in (hostiles cast) rows) net passed → AllSend net passed
+all_send cast rows net passed h k q at = h k q at (none_wild cast rows (client_first net.first k + 4))
 
 module _ (scene : Scene) (ends : Role → ℕ → End) (rows : List QueueRow) (actors : List Actor) (passed : Passed) (work : AreAtWork ends rows actors passed) where
   abbrev cast : List Part
@@ -156,7 +162,7 @@ module _ (scene : Scene) (ends : Role → ℕ → End) (rows : List QueueRow) (a
 
     client_there : (k : ℕ) (program : Program) (mac : Mac) (q : ClientPools) → IsClientOf net k program mac q → (c : NetClient) × IsSendingClient net k program mac q c passed
     client_there k program mac q of =
-        let x = actor_of (NetworkPart (client_at net.first k program mac (own_pools q))) (whole.client k program mac q of) in
+        let x = actor_of (NetworkPart (client_at net.first k program mac (own_pools q))) (whole.client k program mac q of (none_wild cast rows (client_first net.first k + 4))) in
         let c = client_actor net.first k program mac (own_pools q) x.0 x.1 in
         (c.0, client_at_work k program mac q c.0 c.2 (whole.some k q of.pools) (subst (FitsActor ends) c.1 x.2) (subst (λ a. ActorStandsFor a passed) c.1 x.3))
 
@@ -297,7 +303,7 @@ module _ (scene : Scene) (ends : Role → ℕ → End) (rows : List QueueRow) (a
 
   turns_by : HasNoNetwork cast ⊎ ((net : NetPlace) × HasWholeIn scene rows net cast) → HasNoBlock cast ⊎ ((place : BlkPlace) × HasBlkIn scene rows place cast) → ClientsSendIn scene rows cast passed → (k : ℕ) (x : Actor) → slice_get actors k ≡ Some x → InTurn scene x passed
   turns_by (inl empty) block sends k x at = none_turns empty block sends.requests k x at
-  turns_by (inr net) block sends k x at = whole_turns net.0 net.1 (sends.frames net.0 net.1) block sends.requests k x at (work.fits k x at) (work.stands k x at)
+  turns_by (inr net) block sends k x at = whole_turns net.0 net.1 (all_send cast rows net.0 passed (sends.frames net.0 net.1)) block sends.requests k x at (work.fits k x at) (work.stands k x at)
 
 pub in_turn : {scene : Scene} (ends : Role → ℕ → End) (rows : List QueueRow) (actors : List Actor) (passed : Passed) → IsWiredIn scene rows (map part_of actors) → AreAtWork ends rows actors passed → ClientsSendIn scene rows (map part_of actors) passed → (k : ℕ) (x : Actor) → slice_get actors k ≡ Some x → InTurn scene x passed
 in_turn {scene} ends rows actors passed wired work = turns_by scene ends rows actors passed work wired.network wired.block
@@ -308,16 +314,16 @@ recorded {scene} ends rows actors passed net whole work = recorded_here scene en
 
 pub sent_on : {scene : Scene} (ends : Role → ℕ → End) (rows : List QueueRow) (actors : List Actor) (passed : Passed) (net : NetPlace) → HasWholeIn scene rows net (map part_of actors) → AreAtWork ends rows actors passed → ClientsSendIn scene rows (map part_of actors) passed → (k : ℕ) (x : Actor) → slice_get actors k ≡ Some x → part_of x ≡ NetworkPart (device_at net.first scene.frames)
     → PrefixMerge (sends_at net.programs net.macs scene.frames) (frames_got x)
-sent_on {scene} ends rows actors passed net whole work sends = sent_here scene ends rows actors passed work net whole (sends.frames net whole)
+sent_on {scene} ends rows actors passed net whole work sends = sent_here scene ends rows actors passed work net whole (all_send (map part_of actors) rows net passed (sends.frames net whole))
 
 pub sent_told : {scene : Scene} (ends : Role → ℕ → End) (rows : List QueueRow) (actors : List Actor) (passed : Passed) (net : NetPlace) → HasWholeIn scene rows net (map part_of actors) → AreAtWork ends rows actors passed → ClientsSendIn scene rows (map part_of actors) passed → (k : ℕ) (x : Actor) → slice_get actors k ≡ Some x → part_of x ≡ NetworkPart (device_at net.first scene.frames)
     → frames_got x ≡ wire_at net scene.frames (items_of (passed.taken (net.first + 2)))
-sent_told {scene} ends rows actors passed net whole work sends = told_here scene ends rows actors passed work net whole (sends.frames net whole)
+sent_told {scene} ends rows actors passed net whole work sends = told_here scene ends rows actors passed work net whole (all_send (map part_of actors) rows net passed (sends.frames net whole))
 
 -- nothing was put at the start
 pub nothing_sent : {scene : Scene} (rows : List QueueRow) (cast : List Part) → ClientsSendIn scene rows cast nothing_passed
 nothing_sent rows cast = record {
-  frames = λ net whole k q at j c there. cc;
+  frames = λ net whole k q at calm j c there. cc;
   requests = nothing_asked cast;
 }
 
@@ -330,7 +336,7 @@ module _ (scene : Scene) (ends ends' : Role → ℕ → End) (rows : List QueueR
         by : ((n : ℕ) → (with_deed passed deed).sent n ≡ passed.sent n) ⊎ ((n : ℕ) → (with_deed passed deed).taken n ≡ passed.taken n) → AreSends net.most q.tx ((with_deed passed deed).sent (client_first net.first k + 4))
         by (inl still) = subst (AreSends net.most q.tx) (sym (still (client_first net.first k + 4))) old
         by (inr still) =
-            let back = back_here scene ends rows actors passed work net whole (sends net whole) k program mac q of in
+            let back = back_here scene ends rows actors passed work net whole (all_send (map part_of actors) rows net passed (sends net whole)) k program mac q of in
             puts_here scene ends' rows actors' (with_deed passed deed) later net (subst (HasWholeIn scene rows net) (sym same) whole) k program mac q of (subst (AreSends net.most q.tx) (sym (still (client_first net.first k + 5))) back)
 
     whole_sends_on : AllSend net (with_deed passed deed)
@@ -340,11 +346,11 @@ module _ (scene : Scene) (ends ends' : Role → ℕ → End) (rows : List QueueR
         let programs_many = whole.programs_many in
         let mac = there_is net.macs k (omega (arith, below, pools_many)) in
         let program = there_is net.programs k (omega (arith, below, pools_many, programs_many)) in
-        client_sends_on k program.0 mac.0 q (record { address = mac.1; pools = at; plays = program.1 }) (sends net whole k q at)
+        client_sends_on k program.0 mac.0 q (record { address = mac.1; pools = at; plays = program.1 }) (all_send (map part_of actors) rows net passed (sends net whole) k q at)
 
 pub sends_in : {scene : Scene} (ends ends' : Role → ℕ → End) (rows : List QueueRow) (actors actors' : List Actor) (passed : Passed) (deed : Deed) → IsWiredIn scene rows (map part_of actors) → map part_of actors' ≡ map part_of actors → AreAtWork ends rows actors passed → ClientsSendIn scene rows (map part_of actors) passed → AreAtWork ends' rows actors' (with_deed passed deed) → ClientsSendIn scene rows (map part_of actors') (with_deed passed deed)
 sends_in {scene} ends ends' rows actors actors' passed deed wired same work sends later = subst (λ c. ClientsSendIn scene rows c (with_deed passed deed)) (sym same) (record {
-  frames = λ net whole. whole_sends_on scene ends ends' rows actors actors' passed deed same work sends.frames later net whole;
+  frames = λ net whole k q at calm. whole_sends_on scene ends ends' rows actors actors' passed deed same work sends.frames later net whole k q at;
   requests = asks_by scene ends ends' rows actors actors' passed deed same work sends.requests later wired.block;
 })
 

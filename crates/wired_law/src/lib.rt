@@ -28,11 +28,12 @@ ghost use Rattle.wired_law.specs.Wiring.{HasWholeIn, IsWiredIn, ClientsSendIn, A
 pub mod blk_replies;
 pub mod quiet;
 
-/// Nothing comes out of turn at any actor of a cast that is wired in a scene, where its clients put
-/// good descriptors and requests alone; so they did when nothing had passed yet, and after one more
-/// call they still have. A network client with buffers of its own recorded a beginning of the
-/// frames that are for its address; and the device a merge of beginnings of what the clients send
-/// by their programs, which is what the items tell that it took.
+/// Nothing comes out of turn at any actor of a cast that is wired in a scene, where those of its
+/// clients that aren't hostile put good descriptors and requests alone (nobody is hostile yet); so
+/// they did when nothing had passed yet, and after one more call they still have. A network client
+/// with buffers of its own recorded a beginning of the frames that are for its address; and the
+/// device a merge of beginnings of what the clients send by their programs, which is what the items
+/// tell that it took.
 pub fn wired_law()
     ensures turns { (scene : Scene) (ends : Role → ℕ → End) (rows : List QueueRow)
         (actors : List Actor) (passed : Passed) → IsWiredIn scene rows (map part_of actors)

@@ -32,6 +32,8 @@ use Rattle.actor_set.specs.declared.actor.Actor.TheVariants as Kinds
 use Rattle.actor_set.specs.Laws.Records.{replies_got}
 use Rattle.actor_set.proofs.LawsLemmas.BlkRows.{disk_row_of}
 use Rattle.play_core.specs.Sheets.{Scene}
+use Rattle.actor_set.proofs.LawsLemmas.Calm.{calm_actor}
+use Rattle.actor_set.proofs.LawsLemmas.Told.{none_wild}
 use Rattle.wired_law.specs.Wiring.{IsOfBlock, HasBlkIn, HasPart, ClientsAsk, ClientsSendIn, AreAtWork}
 use Rattle.wired_law.proofs.Acting.{disk_actor, blk_driver_actor, virt_actor, blk_client_actor}
 use Rattle.wired_law.proofs.Blocks.{requests_own}
@@ -72,7 +74,7 @@ module _ (scene : Scene) (ends : Role → ℕ → End) (rows : List QueueRow) (a
 
   client_there : (k entry : ℕ) (asks : List Ask) (pool : PoolAt) → IsBlkClientOf place k entry asks pool → (c : BlkClient) × IsAskingClient place k asks pool c passed
   client_there k entry asks pool of =
-      let x = actor_of (BlockPart (blk_client_at place.first k asks pool)) (has.client k entry asks pool of) in
+      let x = actor_of (BlockPart (blk_client_at place.first k asks pool)) (has.client k entry asks pool of (none_wild cast rows (place.first + 4 + 2 * k))) in
       let c = blk_client_actor place.first k asks pool x.0 x.1 in
       (c.0, record { part = c.2; row = asker_row c.0 passed (subst (λ a. ActorStandsFor a passed) c.1 x.3) })
 
@@ -117,8 +119,8 @@ module _ (scene : Scene) (ends : Role → ℕ → End) (rows : List QueueRow) (a
       let entry = there_is place.entries k (omega (arith, below, pools_many)) in
       let asks = there_is place.asks k (omega (arith, below, pools_many, asks_many)) in
       let of : IsBlkClientOf place k entry.0 asks.0 pool = record { has_entry = entry.1; has_asks = asks.1; has_pool = at } in
-      let there = has.client k entry.0 asks.0 pool of in
-      requests_own pool (passed.sent (place.first + 4 + 2 * k)) (ask there.0 (place.first + 4 + 2 * k) (place.first + 5 + 2 * k) asks.0 (own_pool pool) there.1)
+      let there = has.client k entry.0 asks.0 pool of (none_wild cast rows (place.first + 4 + 2 * k)) in
+      requests_own pool (passed.sent (place.first + 4 + 2 * k)) (ask there.0 (place.first + 4 + 2 * k) (place.first + 5 + 2 * k) asks.0 (own_pool pool) (calm_actor cast there.0) there.1)
 
   -- a client's number and what it is told
   client_of : (k : ℕ) (c : BlkClient) → slice_get actors k ≡ Some (Kinds.BlkClient c) → (j entry : ℕ) × (asks : List Ask) × (pool : PoolAt) × IsBlkClientOf place j entry asks pool × (blk_client_part c ≡ blk_client_at place.first j asks pool)
