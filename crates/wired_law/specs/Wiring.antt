@@ -1,6 +1,6 @@
 -- The actors of the network and of the block class in a cast: of either there are none, or they are
 -- the whole class at the layout's queues.
-use Rattle.std.specs.Prelude.{◌≡◌, ◌⊎◌, ◌+◌, ◌*◌, ◌<◌, ◌≤◌, ℕ, false, Some, List, length}
+use Rattle.std.specs.Prelude.{◌≡◌, ◌⊎◌, ◌+◌, ◌*◌, ◌<◌, ◌≤◌, ℕ, false, Some, List, [], length}
 use Rattle.std.specs.Prelude.{slice_get}
 use Rattle.cargo_core.specs.Blocks.{block_bytes}
 use Rattle.cargo_core.specs.Items.{kind_of}
@@ -21,16 +21,22 @@ use Rattle.net_law.specs.Parts.Parts.{NetPart, NetClient}
 use Rattle.net_law.specs.Parts.Numbers.{client_first, device_at, driver_at, receiver_at}
 use Rattle.net_law.specs.Parts.Numbers.{copier_at, client_at}
 use Rattle.net_law.specs.TxParts.Parts.{SendPart}
+use Rattle.net_law.specs.TxScene.Playing.{ReturnsGood}
+use Rattle.net_virt_tx.specs.Sending.{TxRow}
+use Rattle.net_virt_tx.specs.declared.NetVirtTx.{NetVirtTx}
 use Rattle.net_law.specs.TxParts.Numbers.{NetPlace, own_pools, sender_at}
-use Rattle.net_quiet.specs.TxCast.Casting.{AreFrames, AreSends, IsClientOf}
+use Rattle.net_quiet.specs.TxCast.Casting.{AreFrames, CalmSend, IsClientOf}
 use Rattle.blk_law.specs.Sheets.Parts.{BlkPart, BlkClient}
 use Rattle.blk_law.specs.Sheets.Numbers.{BlkPlace, IsBlkClientOf, disk_at, blk_driver_at, virt_at}
 use Rattle.blk_law.specs.Sheets.Numbers.{blk_client_at}
 use Rattle.blk_quiet.specs.Cast.Casting.{AreRequests}
 use Rattle.blk_law.specs.Replying.{AreSized}
+use Rattle.blk_law.specs.Sheets.Playing.{DiskInTurn}
 use Rattle.actor_set.specs.Parts.{Part, NetworkPart, SendingPart, BlockPart}
 use Rattle.actor_set.specs.Actors.{FitsActor, ActorStandsFor}
 use Rattle.actor_set.specs.declared.actor.Actor.{Actor}
+use Rattle.actor_set.specs.declared.actor.Actor.TheVariants as Kinds
+use Rattle.actor_set.specs.declared.disk.Disk.{Disk}
 use Rattle.actor_set.specs.Laws.Kinds.{hostiles, scene_of}
 
 -- some actor of a cast plays this part
@@ -149,14 +155,8 @@ ClientsAsk cast passed = (k req resp : ℕ) (asks : List Ask) (pool : PoolAt)
     → hostiles cast k ≡ false → slice_get cast k ≡ Some (BlockPart (BlkClient req resp asks pool))
     → AreRequests pool (passed.sent req)
 
--- each client of the network put entries alone that send frames in buffers of its pool for sending,
--- where no hostile actor has an end of the queue
-abbrev pub CalmSend : Wild → NetPlace → Passed → Type 0
-CalmSend wild net passed = (k : ℕ) (q : ClientPools) → slice_get net.pools k ≡ Some q
-    → wild (client_first net.first k + 4) ≡ false
-    → AreSends net.most q.tx (passed.sent (client_first net.first k + 4))
-
--- wherever the network stands in a cast, so its clients did
+-- wherever the network stands in a cast, each of its clients put entries alone that send frames in
+-- buffers of its pool for sending, where no hostile actor has an end of the queue
 abbrev pub NetClientsSendIn : Scene → List QueueRow → List Part → Passed → Type 0
 NetClientsSendIn scene rows cast passed =
     (net : NetPlace) → HasWholeIn scene rows net cast
@@ -185,3 +185,13 @@ pub record AreAtWork (ends : Role → ℕ → End) (rows : List QueueRow) (actor
   pub stands : (k : ℕ) (x : Actor) → slice_get actors k ≡ Some x → ActorStandsFor x passed
   pub hands_over : HandsOver passed
   pub kinds : AreOfKind rows passed
+
+-- nothing comes out of turn, whatever hostile clients put, where what they put may do so: at the
+-- network's sending virtualiser, to which good descriptors alone come back, and at the disk
+pub record AreInTurn (wild : Wild) (actors : List Actor) (passed : Passed) : Type 0 where
+  pub sends : (k : ℕ) (v : NetVirtTx) → slice_get actors k ≡ Some (Kinds.NetVirtTx v)
+      → (row : TxRow v passed) → row.stray ≡ []
+  pub returns : (k : ℕ) (v : NetVirtTx) → slice_get actors k ≡ Some (Kinds.NetVirtTx v)
+      → ReturnsGood wild v passed
+  pub disk : (k : ℕ) (d : Disk) → slice_get actors k ≡ Some (Kinds.DiskDevice d)
+      → DiskInTurn d.start.value d.device passed
