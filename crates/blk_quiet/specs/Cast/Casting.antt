@@ -94,7 +94,8 @@ pub record IsBlkCast (place : BlkPlace) (passed : Passed) : Type 0 where
   pub image_long : length place.image ≡ blocks * block_bytes
   pub some : (k : ℕ) (pool : PoolAt) → slice_get place.pools k ≡ Some pool → 1 ≤ pool.buffers
 
--- each client put requests in its own buffers alone, where no hostile actor has an end of its queue
+-- each client put requests in its own buffers alone, where no hostile actor has an end of its
+-- queue
 abbrev pub CalmAsk : Wild → BlkPlace → Passed → Type 0
 CalmAsk wild place passed = (k : ℕ) (pool : PoolAt) → slice_get place.pools k ≡ Some pool
     → wild (place.first + 4 + 2 * k) ≡ false

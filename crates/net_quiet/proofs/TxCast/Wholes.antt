@@ -281,7 +281,7 @@ module _ (net : NetPlace) (frames : List (List ℕ)) (passed : Passed) (h : IsWh
       half_with = half_by wild from_hand
 
       pub none_out : StraysWild wild v row.place row.stray
-      unfolding half_with, half_by
+      unfolding half_with half_by
       none_out = none_stray wild h.half.device h.half.driver v passed half_with
 
       pub good_taken : CalmGood wild v passed
