@@ -23,6 +23,8 @@ use Rattle.net_law.specs.TxParts.Rows.{in_range}
 use Rattle.actor_set.specs.Parts.{Part}
 use Rattle.actor_set.specs.Laws.Kinds.{sheet, scene_of, hostiles}
 use Rattle.actor_set.proofs.LawsLemmas.Calm.{calm_actor, calm_row}
+use Rattle.actor_set.proofs.LawsLemmas.Told.{none_wild}
+use Rattle.net_law.specs.Parts.Numbers.{client_first}
 use Rattle.wired_law.specs.Wiring.{HasPart, HasWhole}
 use Rattle.cast_core.specs.Sources.{pool_at, first_blk_pool}
 use Rattle.cast_core.specs.Casts.{client_pools, net_place, scene_for}
@@ -110,7 +112,7 @@ module _ (plan : Plan) (trace : Trace) (cast : List Part) (history : History) (j
     receiver = row_of _ w.receiver;
     sender = row_of _ w.sender;
     copier = λ k below. row_of _ (w.copier k below);
-    client = λ k program mac q runs address pooled. row_of _ (w.client k program mac q (record { address = address; pools = pooled; plays = runs }));
+    client = λ k program mac q runs address pooled. row_of _ (w.client k program mac q (record { address = address; pools = pooled; plays = runs }) (none_wild cast (queues_of plan) (client_first place.first k + 4)));
     holds = λ i below. let r = w.kinds i below in record { row = r.0; there = r.1; calm = calm_row cast r.0; enough = omega arith };
     apart = λ j k p q first second off.
         let a = value_is (length (net_clients plan)) (client_pools plan) j p first in

@@ -314,7 +314,7 @@ module _ (plan : Plan) (trace : Trace) (actors : List Actor) (valid : Valid plan
       copier = λ k lt.
           let c = there_is net.client k (let a = macs_many in omega (arith, lt, a)) in
           ((actor_named plan c.0.copier).0, part_at (NetCopier k) (actor_named plan c.0.copier).0 (named.copier k c.0 c.1));
-      client = λ k program mac q of.
+      client = λ k program mac q of calm.
           let a = value_is count (client_program plan trace) k program of.plays in
           let b = value_is count (client_mac plan) k mac of.address in
           let d = value_is count (client_pools plan) k q of.pools in
