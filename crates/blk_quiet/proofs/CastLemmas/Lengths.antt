@@ -1,5 +1,5 @@
 -- The disk takes nothing out of turn, whatever the clients put, where their pages take eight blocks.
-use Rattle.std.proofs.Common.{◌≡◌, ◌+◌, ◌*◌, ◌++◌, ◌≤◌, ℕ, zero, suc, true, false, not, Option, List, [], ◌∷◌, All, length, map, drop, slice_get, refl, sym, ap, ◌∙◌, subst, arith, le-leb}
+use Rattle.std.proofs.Common.{◌≡◌, ◌+◌, ◌*◌, ◌++◌, ◌≤◌, ℕ, zero, suc, true, false, not, Option, Some, List, [], ◌∷◌, All, length, map, drop, slice_get, refl, sym, ap, ◌∙◌, subst, arith, le-leb}
 use Rattle.std.specs.List.{filter}
 use Rattle.std.proofs.lemmas.Bool.{and_parts, eqb-true}
 use Rattle.cargo_core.specs.declared.item.Body.TheVariants as Carried
