@@ -5,8 +5,6 @@ use Rattle.std.specs.Option.{option_to_list}
 use Rattle.std.proofs.lemmas.List.Elements.{All-cons, All-nil}
 use Rattle.cargo_core.specs.Blocks.{blk_buffer_bytes}
 use Rattle.cargo_core.specs.declared.item.Body.TheVariants as Carried
-use Rattle.cargo_core.specs.declared.item.PoolId.{PoolId}
-use Rattle.wire_core.specs.declared.names.QueueId.{QueueId}
 use Rattle.wire_core.specs.declared.names.QueueRow.{QueueRow}
 use Rattle.wire_core.specs.Deeds.{Cargo}
 use Rattle.wire_core.specs.Ends.{Role, End}
@@ -20,12 +18,11 @@ use Rattle.pipe_driver.specs.Drivers.{PipesStandFor, pipes_hand}
 use Rattle.pipe_driver.specs.declared.pipes.Pipes.{Pipes}
 use Rattle.eth_driver.specs.Four.{four_pipes}
 use Rattle.eth_driver.specs.declared.EthDriver.{EthDriver}
-use Rattle.device_model.specs.Ethernet.Devices.{DeviceStandsFor, device_hand}
+use Rattle.device_model.specs.Ethernet.Devices.{DeviceStandsFor}
 use Rattle.device_model.specs.declared.ethernet.EthDevice.{EthDevice}
-use Rattle.device_model.specs.Disk.Disks.{DiskRow, DiskStandsFor, disk_hand, req}
+use Rattle.device_model.specs.Disk.Disks.{DiskRow, DiskStandsFor, req}
 use Rattle.device_model.specs.Disk.Serving.{AreInTurn, is_stray}
 use Rattle.buffer_kit.specs.Conserving.{Count, counted, of_other_length, the_page, weighed}
-use Rattle.buffer_kit.specs.Virtualising.{from_queues}
 use Rattle.buffer_kit.proofs.Conserving.{counted-append, weighed-append}
 use Rattle.page_law.specs.Holders.{HasLength, HaveLength, queue_has, standing}
 use Rattle.page_law.specs.Paths.{AreGood, AreOnce, IsWay, on_way}
@@ -34,7 +31,6 @@ use Rattle.page_law.proofs.LawLemmas.Parts.{four_below, one_of, three_of}
 use Rattle.page_law.proofs.TurnsLemmas.Turning.{back_good, in_turn}
 use Rattle.net_virt_tx.specs.Sending.{FitsTx, TxRow, TxStandsFor}
 use Rattle.net_virt_tx.specs.Serving.{is_good_of, own_of}
-use Rattle.net_virt_tx.specs.Traffics.{senders, traffic_hand}
 use Rattle.net_virt_tx.specs.declared.NetVirtTx.{NetVirtTx}
 use Rattle.net_virt_tx.specs.declared.client.Client.{Client}
 use Rattle.net_virt_tx.specs.declared.descriptors.Sender.{Sender}
@@ -57,7 +53,7 @@ use Rattle.blk_quiet.specs.Cast.Lengths.{IsLongFor}
 use Rattle.blk_quiet.proofs.CastLemmas.Lengths.{long_none}
 use Rattle.blk_quiet.proofs.CastLemmas.Turning.{get_next}
 use Rattle.actor_set.specs.Parts.{Part, NetworkPart, BlockPart}
-use Rattle.actor_set.specs.Actors.{FitsActor, ActorStandsFor, actor_hand, part_of}
+use Rattle.actor_set.specs.Actors.{FitsActor, actor_hand, part_of}
 use Rattle.actor_set.specs.declared.actor.Actor.{Actor}
 use Rattle.actor_set.specs.declared.actor.Actor.TheVariants as Kinds
 use Rattle.actor_set.specs.declared.disk.Disk.{Disk}
