@@ -1,12 +1,10 @@
 -- What comes in turn in a cast whatever its clients put, where each buffer is there once and has its
 -- pool's length.
-use Rattle.std.proofs.Common.{◌≡◌, ◌+◌, ◌++◌, ◌<◌, ◌≤◌, ℕ, true, false, Option, Some, None, List, [], ◌∷◌, All, append-nil, length, map, slice_get, refl, sym, ap, ◌∙◌, subst, arith}
+use Rattle.std.proofs.Common.{◌≡◌, ◌⊎◌, ◌+◌, ◌++◌, ◌<◌, ◌≤◌, ℕ, true, false, Option, Some, None, List, [], ◌∷◌, All, append-nil, length, map, slice_get, inl, inr, refl, sym, ap, ◌∙◌, subst, arith}
 use Rattle.std.specs.Option.{option_to_list}
 use Rattle.std.proofs.lemmas.List.Elements.{All-cons, All-nil}
 use Rattle.cargo_core.specs.Blocks.{blk_buffer_bytes}
 use Rattle.cargo_core.specs.declared.item.Body.TheVariants as Carried
-use Rattle.cargo_core.specs.declared.item.PoolId.{PoolId}
-use Rattle.wire_core.specs.declared.names.QueueId.{QueueId}
 use Rattle.wire_core.specs.declared.names.QueueRow.{QueueRow}
 use Rattle.wire_core.specs.Deeds.{Cargo}
 use Rattle.wire_core.specs.Ends.{Role, End}
@@ -20,12 +18,11 @@ use Rattle.pipe_driver.specs.Drivers.{PipesStandFor, pipes_hand}
 use Rattle.pipe_driver.specs.declared.pipes.Pipes.{Pipes}
 use Rattle.eth_driver.specs.Four.{four_pipes}
 use Rattle.eth_driver.specs.declared.EthDriver.{EthDriver}
-use Rattle.device_model.specs.Ethernet.Devices.{DeviceStandsFor, device_hand}
+use Rattle.device_model.specs.Ethernet.Devices.{DeviceStandsFor}
 use Rattle.device_model.specs.declared.ethernet.EthDevice.{EthDevice}
-use Rattle.device_model.specs.Disk.Disks.{DiskRow, DiskStandsFor, disk_hand, req}
+use Rattle.device_model.specs.Disk.Disks.{DiskRow, DiskStandsFor, req}
 use Rattle.device_model.specs.Disk.Serving.{AreInTurn, is_stray}
 use Rattle.buffer_kit.specs.Conserving.{Count, counted, of_other_length, the_page, weighed}
-use Rattle.buffer_kit.specs.Virtualising.{from_queues}
 use Rattle.buffer_kit.proofs.Conserving.{counted-append, weighed-append}
 use Rattle.page_law.specs.Holders.{HasLength, HaveLength, queue_has, standing}
 use Rattle.page_law.specs.Paths.{AreGood, AreOnce, IsWay, on_way}
@@ -34,7 +31,6 @@ use Rattle.page_law.proofs.LawLemmas.Parts.{four_below, one_of, three_of}
 use Rattle.page_law.proofs.TurnsLemmas.Turning.{back_good, in_turn}
 use Rattle.net_virt_tx.specs.Sending.{FitsTx, TxRow, TxStandsFor}
 use Rattle.net_virt_tx.specs.Serving.{is_good_of, own_of}
-use Rattle.net_virt_tx.specs.Traffics.{senders, traffic_hand}
 use Rattle.net_virt_tx.specs.declared.NetVirtTx.{NetVirtTx}
 use Rattle.net_virt_tx.specs.declared.client.Client.{Client}
 use Rattle.net_virt_tx.specs.declared.descriptors.Sender.{Sender}
@@ -57,13 +53,13 @@ use Rattle.blk_quiet.specs.Cast.Lengths.{IsLongFor}
 use Rattle.blk_quiet.proofs.CastLemmas.Lengths.{long_none}
 use Rattle.blk_quiet.proofs.CastLemmas.Turning.{get_next}
 use Rattle.actor_set.specs.Parts.{Part, NetworkPart, BlockPart}
-use Rattle.actor_set.specs.Actors.{FitsActor, ActorStandsFor, actor_hand, part_of}
+use Rattle.actor_set.specs.Actors.{FitsActor, actor_hand, part_of}
 use Rattle.actor_set.specs.declared.actor.Actor.{Actor}
 use Rattle.actor_set.specs.declared.actor.Actor.TheVariants as Kinds
 use Rattle.actor_set.specs.declared.disk.Disk.{Disk}
 use Rattle.actor_set.proofs.LawsLemmas.BlkRows.{disk_row_of}
 use Rattle.wired_law.specs.Buffers.{HasEachOnce}
-use Rattle.wired_law.specs.Wiring.{HasWholeIn, HasBlkIn, AreAtWork}
+use Rattle.wired_law.specs.Wiring.{HasWholeIn, HasNoNetwork, HasBlkIn, HasNoBlock, IsWiredIn, AreAtWork, AreInTurn}
 use Rattle.wired_law.proofs.Acting.{device_actor, driver_actor, virt_actor}
 use Rattle.wired_law.proofs.Blocks.{class_there, disk_is, start_is}
 use Rattle.wired_law.proofs.Wiring.{sender_is}
@@ -270,3 +266,23 @@ module _ (scene : Scene) (ends : Role → ℕ → End) (rows : List QueueRow) (a
           let hand = one_of (λ (x : Actor). counted f (actor_hand x)) actors k (Kinds.DiskDevice d) at in
           let parts = weighed-append f (option_to_list d.device.load) (option_to_list d.device.stray) in
           long_for g (option_to_list d.device.stray) (have_length g.pool blk_buffer_bytes (bodies_of (option_to_list d.device.stray)) (omega (arith, hand, parts, each.long has.virt.0 v here j g g_at)))
+
+  -- so nothing is out of turn in a wired cast
+  pub beside : IsWiredIn scene rows cast → HasEachOnce rows actors passed → (wild : Wild) → AreInTurn wild actors passed
+  beside wired each wild = record {
+    sends = λ k v at. sends wired.network k v at;
+    returns = λ k v at. returns wired.network k v at;
+    disk = λ k d at. disk wired.block k d at;
+  }
+    where
+      sends : HasNoNetwork cast ⊎ ((net : NetPlace) × HasWholeIn scene rows net cast) → (k : ℕ) (v : NetVirtTx) → slice_get actors k ≡ Some (Kinds.NetVirtTx v) → (row : TxRow v passed) → row.stray ≡ []
+      sends (inl none) k v at = absurd (none.no_sender k (send_part v) (map_get part_of actors k (Kinds.NetVirtTx v) at))
+      sends (inr net) k v at = (sender_free net.0 net.1 k v at each).1
+
+      returns : HasNoNetwork cast ⊎ ((net : NetPlace) × HasWholeIn scene rows net cast) → (k : ℕ) (v : NetVirtTx) → slice_get actors k ≡ Some (Kinds.NetVirtTx v) → ReturnsGood wild v passed
+      returns (inl none) k v at = absurd (none.no_sender k (send_part v) (map_get part_of actors k (Kinds.NetVirtTx v) at))
+      returns (inr net) k v at = sender_returns net.0 net.1 k v at wild
+
+      disk : HasNoBlock cast ⊎ ((place : BlkPlace) × HasBlkIn scene rows place cast) → (k : ℕ) (d : Disk) → slice_get actors k ≡ Some (Kinds.DiskDevice d) → DiskInTurn d.start.value d.device passed
+      disk (inl none) k d at = absurd (none k (disk_part d.start.value d.device) (map_get part_of actors k (Kinds.DiskDevice d) at))
+      disk (inr place) k d at = disk_in place.0 place.1 each k d at

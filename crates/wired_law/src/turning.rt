@@ -19,9 +19,10 @@ ghost use Rattle.actor_set.specs.declared.actor.Actor.{Actor};
 ghost use Rattle.actor_set.specs.declared.actor.Actor.TheVariants as Kinds;
 ghost use Rattle.actor_set.specs.declared.disk.Disk.{Disk};
 ghost use Rattle.wired_law.specs.Buffers.{HasEachOnce};
-ghost use Rattle.wired_law.specs.Wiring.{HasWholeIn, HasBlkIn, AreAtWork};
+ghost use Rattle.wired_law.specs.Wiring.{HasWholeIn, HasBlkIn, IsWiredIn, AreAtWork, AreInTurn};
 
-/// Nothing is asked of what the clients put, by whom they are played or what they do.
+/// Nothing is asked of what the clients put, by whom they are played or what they do. So in a wired
+/// cast nothing is out of turn, whichever clients may be hostile.
 pub fn turning_law()
     ensures sends { (scene : Scene) (ends : Role → ℕ → End) (rows : List QueueRow)
         (actors : List Actor) (passed : Passed) (net : NetPlace)
@@ -40,4 +41,8 @@ pub fn turning_law()
         → HasEachOnce rows actors passed → (k : ℕ) (d : Disk)
         → slice_get actors k ≡ Some (Kinds.DiskDevice d)
         → DiskInTurn d.start.value d.device passed }
+    ensures beside { (scene : Scene) (ends : Role → ℕ → End) (rows : List QueueRow)
+        (actors : List Actor) (passed : Passed) → IsWiredIn scene rows (map part_of actors)
+        → AreAtWork ends rows actors passed → HasEachOnce rows actors passed
+        → (wild : Wild) → AreInTurn wild actors passed }
 {}
