@@ -52,13 +52,7 @@ pub fn scribble(producer: &mut Producer, ring: &Ring, count: u32)
 /// Puts so many bytes as `send` does, with a store before each look, and gives up after so many
 /// looks: how many were put. Every other round of stores has the number of what was sent in the
 /// indices, and so does the last one.
-pub fn send_wildly(
-    producer: &mut Producer,
-    ring: &Ring,
-    count: u32,
-    looks: u32,
-    pauses: u32,
-) -> u32
+pub fn send_wildly(producer: &mut Producer, ring: &Ring, count: u32, looks: u32, pauses: u32) -> u32
     requires own { producer.old.ring ≡ ring.now.id }
     requires wild { ring.now.wild ≡ true }
     requires calm { is_busy_or_off producer.old.knows.waiter ≡ true }
