@@ -20,9 +20,9 @@ use wire_core::{Op, QueueId, Side, WildWires, Wires};
 
 /// The ends of one actor over shared rings. The ends of the queue at a place, where they are its
 /// own, stand at that place, as the ring does. The ten calls are those of the ends, so each takes
-/// constant time and no memory, and waits for nobody; so is the store of a word of a wild ring, by
-/// whichever end is there. Each entry is put at a time after all that
-/// passed at these ends before, so what was done on all rings stands in one order.
+/// constant time and no memory, and waits for nobody; so does the store of a word of a wild ring,
+/// by whichever end is there. Each entry is put at a time after all that passed at these ends
+/// before, so what was done on all rings stands in one order.
 #[derive(Drop)]
 pub struct Seats<'a> {
     rings: &'a [Ring],
