@@ -1,4 +1,4 @@
-use Rattle.wired_law.proofs.Turning.{beside, sender_free, sender_returns, disk_in}
+use Rattle.wired_law.proofs.TurningLemmas.{beside, sender_free, sender_returns, disk_in}
 use Rattle.wired_law.proofs.turning.turning_law.Goals as goal
 
 pub returns-clause-sends : goal.returns-clause-sends
