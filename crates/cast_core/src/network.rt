@@ -164,12 +164,7 @@ fn receiver(
 }
 
 // The sending virtualiser.
-fn sender(
-    alloc: Global,
-    plan: &Plan,
-    pools: &[PoolRow],
-    clients: u16,
-) -> Result<NetVirtTx, Memory>
+fn sender(alloc: Global, plan: &Plan, pools: &[PoolRow], clients: u16) -> Result<NetVirtTx, Memory>
     requires few { clients ≤ 8 }
     requires longest { frame_most plan.now < 2 ^ 16 }
     requires pools { HasPools pools.now clients }

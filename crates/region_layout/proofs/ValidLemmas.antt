@@ -228,7 +228,7 @@ net_client_buffers plan net c client valid is there =
     let bad : Net → NetClient → Type 0 = λ x y. IsBadBuffer x.max_frame y.rx_buffer_size ⊎ IsBadBuffer x.max_frame y.tx_buffer_size in
     let kept_here = kept plan 32 (At.NetClient c) valid (omega arith) (omega arith) (net_client_walked plan net c is (slice_get_within net.client c client there)) in
     let fine : bad net client → ⊥ = λ p. kept_here (here-some plan.net net (λ (x : Net). IsSomeAnd (slice_get x.client c) (bad x)) is
-        (here-some (slice_get net.client c) client (bad net) there p)) in
+    (here-some (slice_get net.client c) client (bad net) there p)) in
     (fine_buffer net.max_frame client.rx_buffer_size (λ b. fine (inl b)), fine_buffer net.max_frame client.tx_buffer_size (λ b. fine (inr b)))
 
 size_small : (n : ℕ) → IsBufferSize n → n < 2 ^ 32

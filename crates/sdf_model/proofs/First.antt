@@ -99,18 +99,18 @@ absent : (keys : List Row) (key : List ℕ) (t : Members) → is_known keys key 
 absent keys key no_members never none = refl
 absent keys key (member l d ms) never none = elim (cases_Bool (is_known keys l)) [
   | inl known ↦
-  let rest : has_unknown_key keys ms ≡ false = rw known at none in
-  elim (cases_ordering (slice_cmp nat_cmp key l)) [
-    | inl less ↦ rw less (absent keys key ms never rest)
-    | inr other ↦ elim other [
-      | inl tie ↦
-      let same : bytes_eq key l ≡ true = sym (is_eq-slice_cmp key l) ∙ ap is_eq tie in
-      let is : key ≡ l = (bytes_eq-Decides key l).0 same in
-      let no : true ≡ false = sym known ∙ ap (is_known keys) (sym is) ∙ never in
-      cc no
-      | inr greater ↦ rw greater (absent keys key ms never rest)
-    ]
-  ]
+      let rest : has_unknown_key keys ms ≡ false = rw known at none in
+      elim (cases_ordering (slice_cmp nat_cmp key l)) [
+        | inl less ↦ rw less (absent keys key ms never rest)
+        | inr other ↦ elim other [
+          | inl tie ↦
+              let same : bytes_eq key l ≡ true = sym (is_eq-slice_cmp key l) ∙ ap is_eq tie in
+              let is : key ≡ l = (bytes_eq-Decides key l).0 same in
+              let no : true ≡ false = sym known ∙ ap (is_known keys) (sym is) ∙ never in
+              cc no
+          | inr greater ↦ rw greater (absent keys key ms never rest)
+        ]
+      ]
   | inr unknown ↦ let no : true ≡ false = rw unknown at none in cc no
 ]
 
