@@ -89,10 +89,13 @@ pub record TakesFrames (plan : Plan) (row : PoolRow) : Type 0 where
   pub some : 1 ≤ row.size
   pub few : row.size ≤ 16384
 
-takes_frames : (plan : Plan) (net : Net) (row : PoolRow) → plan.net ≡ Some net → IsBufferSize row.size × (net.max_frame ≤ row.size) → TakesFrames plan row
+most_is : (plan : Plan) (net : Net) → plan.net ≡ Some net → frame_most plan ≡ net.max_frame
 unfolding frame_most
+most_is plan net is = ap (λ (o : Option Net). option_map_or (λ (x : Net). x.max_frame) o 0) is
+
+takes_frames : (plan : Plan) (net : Net) (row : PoolRow) → plan.net ≡ Some net → IsBufferSize row.size × (net.max_frame ≤ row.size) → TakesFrames plan row
 takes_frames plan net row is fine =
-    let most : option_map_or (λ (x : Net). x.max_frame) plan.net 0 ≡ net.max_frame = ap (λ (o : Option Net). option_map_or (λ (x : Net). x.max_frame) o 0) is in
+    let most = most_is plan net is in
     record { fits = omega (arith, most, fine.1); some = omega (arith, fine.0.1.0); few = omega (arith, fine.0.1.1) }
 
 net_sized : (plan : Plan) (net : Net) → Valid plan → plan.net ≡ Some net → All (TakesFrames plan) (net_pools plan net)

@@ -1,6 +1,7 @@
 -- A text that isn't of version 2 is read as it was before there was a second version.
 use Rattle.std.proofs.Common.{◌≡◌, ℕ, suc, ◌+◌, ◌≤◌, ℤ, pos, negsuc, inl, inr, Bool, true, false, cond, not, ◌||◌, eqb, Equal, is_eq, nat_cmp, List, [], ◌∷◌, ◌++◌, map, codes, Option, Some, None, option_map, option_and_then, unwrap_or, refl, sym, ap, ◌∙◌, arith}
-use Rattle.std.specs.List.{drop, list_any}
+use Rattle.std.specs.Prelude.{drop}
+use Rattle.std.specs.List.{list_any}
 use Rattle.std.specs.Cmp.Lexicographic.{slice_cmp}
 use Rattle.std.specs.Str.{bytes_eq}
 use Rattle.std.proofs.lemmas.Bool.{cases_Bool}

@@ -22,10 +22,10 @@ pub also-rows : (test : Row → Bool) (keys more : List Key)
 also-rows test [] more = any-rows test more
 also-rows test (key ∷ keys) more = or-assoc (test (row_of key)) _ _ ∙ ap (λ b. test (row_of key) || b) (also-rows test keys more)
 
--- no rows more
-pub no-more : (b : Bool) → cond b [] [] ≡ ([] : List Row)
-no-more true = refl
-no-more false = refl
+-- a choice between rows and the same rows
+pub no-more : (b : Bool) (rows : List Row) → cond b rows rows ≡ rows
+no-more true rows = refl
+no-more false rows = refl
 
 -- a name of a map that none of the keys has is a key of the table beside the rows
 pub unknown-rows : (keys more : List Key) (es : List (String Global × Value))

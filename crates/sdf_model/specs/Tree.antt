@@ -82,10 +82,13 @@ abbrev pub is_two : ℤ → Bool
 is_two (pos n) = n == 2
 is_two (negsuc n) = false
 
+-- the document says that its version is 2
+abbrev pub is_second : Members → Bool
+is_second root = holds is_two (option_and_then as_integer (get_member (codes "version") root))
+
 -- the version of a document: 2 where it says so, and else 1
 unfoldable pub version_of : Members → ℕ
-version_of root =
-    if holds is_two (option_and_then as_integer (get_member (codes "version") root)) then 2 else 1
+version_of root = if is_second root then 2 else 1
 
 -- the table of an element of a document of a version breaks the rule of this number
 abbrev pub breaks : ℕ → ℕ → Place → Members → Bool

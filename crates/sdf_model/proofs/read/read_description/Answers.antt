@@ -21,7 +21,7 @@ read_root-requires c = text-fits c.args.bytes.now _ (2 ^ 32) c.in-Ok.ensures.ok.
 
 pub returns-in-Ok-clause-accepted_first : goal.returns-in-Ok-clause-accepted_first
 returns-in-Ok-clause-accepted_first c = λ first.
-    let one = first c.in-Ok.table c.in-Ok.ensures.ok.1 in
+    let one = first _ c.in-Ok.ensures.ok.1 in
     ok-along _ _ (λ plan h. (_, c.in-Ok.ensures.ok, keeps-first c.args.bytes.now first (kept-text c.args.bytes.now _ c.in-Ok.ensures.ok h.0), h.1 ∙ plan-first _ one h.0)) c.read_root.result c.read_root.ensures.accepted
 
 pub returns-in-Ok-clause-refused_first : goal.returns-in-Ok-clause-refused_first
