@@ -29,16 +29,20 @@ or-false : (b : Bool) → (b || false) ≡ b
 or-false true = refl
 or-false false = refl
 
-number-kind : (n : ℕ) (b : Bool) → eqb n 2 ≡ b → cond b 2 1 ≡ 1 → not (eqb n 1 || eqb n 2) ≡ not (eqb n 1)
+-- the version that a test for 2 gives
+abbrev told : Bool → ℕ
+told b = cond b 2 1
+
+number-kind : (n : ℕ) (b : Bool) → eqb n 2 ≡ b → told b ≡ 1 → not (eqb n 1 || eqb n 2) ≡ not (eqb n 1)
 number-kind n true is one = absurd (omega (arith, one))
 number-kind n false is one = rw is (ap not (or-false (eqb n 1)))
 
-integer-kind : (z : Option ℤ) → cond (holds is_two z) 2 1 ≡ 1 → not (holds is_version z) ≡ not (holds is_one z)
+integer-kind : (z : Option ℤ) → told (holds is_two z) ≡ 1 → not (holds is_version z) ≡ not (holds is_one z)
 integer-kind None one = refl
 integer-kind (Some (pos n)) one = number-kind n (eqb n 2) refl one
 integer-kind (Some (negsuc n)) one = refl
 
-version-kind : (o : Option Data) → cond (holds is_two (option_and_then as_integer o)) 2 1 ≡ 1
+version-kind : (o : Option Data) → told (holds is_two (option_and_then as_integer o)) ≡ 1
     → holds (λ d. not (holds is_version (as_integer d))) o ≡ holds (λ d. not (holds is_one (as_integer d))) o
 version-kind None one = refl
 version-kind (Some d) one = integer-kind (as_integer d) one

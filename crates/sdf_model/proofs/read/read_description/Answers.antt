@@ -1,4 +1,4 @@
-use Rattle.std.proofs.Common.{◌^◌, arith}
+use Rattle.std.proofs.Common.{◌^◌, ◌∙◌, arith}
 use Rattle.sdf_model.proofs.TableCounts.{text-fits}
 use Rattle.sdf_model.proofs.Judging.{kept-text, judged-text, no-document, ok-along, refused-along}
 use Rattle.sdf_model.proofs.First.{keeps-first, refused-first, plan-first}
