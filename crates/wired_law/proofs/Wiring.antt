@@ -348,7 +348,7 @@ module _ (scene : Scene) (ends : Role → ℕ → End) (rows : List QueueRow) (a
     where
       by : HasNoNetwork cast ⊎ ((net : NetPlace) × HasWholeIn scene rows net cast) → (k : ℕ) (v : NetVirtTx) → slice_get actors k ≡ Some (Kinds.NetVirtTx v) → (row : TxRow v passed) → row.stray ≡ []
       by (inl empty) k v at row = absurd (empty.no_sender k (send_part v) (map_get part_of actors k (Kinds.NetVirtTx v) at))
-      by (inr net) = sends_in_turn net.0 net.1 (sends.frames net.0 net.1) none
+      by (inr net) k v at row = sends_in_turn net.0 net.1 (sends.frames net.0 net.1) none k v at row
 
 -- beside hostile clients
 pub turns_beside : (scene : Scene) (ends : Role → ℕ → End) (rows : List QueueRow) (actors : List Actor) (passed : Passed) (names : Names) → IsWiredIn scene rows (map part_of actors) → AreAtWork ends rows actors passed → ClientsSendIn scene rows (map part_of actors) passed → GrowsTo (names_at passed) names → AreInTurn (wild_in (hostiles (map part_of actors)) rows) actors passed → (k : ℕ) (x : Actor) → slice_get actors k ≡ Some x → ToldInTurn scene (wild_in (hostiles (map part_of actors)) rows) names x passed
