@@ -21,7 +21,7 @@ use Rattle.eth_driver.specs.declared.EthDriver.{EthDriver}
 use Rattle.device_model.specs.Ethernet.Devices.{DeviceStandsFor}
 use Rattle.device_model.specs.declared.ethernet.EthDevice.{EthDevice}
 use Rattle.device_model.specs.Disk.Disks.{DiskRow, DiskStandsFor, req}
-use Rattle.device_model.specs.Disk.Serving.{AreInTurn as AreDiskTurns, is_stray}
+use Rattle.device_model.specs.Disk.Serving.{is_stray}
 use Rattle.buffer_kit.specs.Conserving.{Count, counted, of_other_length, the_page, weighed}
 use Rattle.buffer_kit.proofs.Conserving.{counted-append, weighed-append}
 use Rattle.page_law.specs.Holders.{HasLength, HaveLength, queue_has, standing}
@@ -69,7 +69,7 @@ all_good s [] h = All-nil (λ (c : Cargo). is_good_of s c ≡ true)
 all_good s (x ∷ xs) h = All-cons (λ (c : Cargo). is_good_of s c ≡ true) x xs h.0 (all_good s xs h.1)
 
 -- where all are in turn none of them isn't
-all_in_turn : (image : List ℕ) (all requests stray : List Cargo) → all ≡ requests ++ stray → AreDiskTurns image all → All (λ (x : Cargo). is_stray image x ≡ true) stray → stray ≡ []
+all_in_turn : (image : List ℕ) (all requests stray : List Cargo) → all ≡ requests ++ stray → All (λ (x : Cargo). is_stray image x ≡ false) all → All (λ (x : Cargo). is_stray image x ≡ true) stray → stray ≡ []
 all_in_turn image all requests [] whole good out = refl
 all_in_turn image all requests (x ∷ xs) whole good out =
     let at : slice_get all (length requests) ≡ Some x = ap (λ l. slice_get l (length requests)) whole ∙ get_next requests x xs in
