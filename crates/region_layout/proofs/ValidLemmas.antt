@@ -208,8 +208,8 @@ net_frames plan net valid is =
 is_buffer_size : (n : ℕ) → ((IsBufferSize n → ⊥) → ⊥) → IsBufferSize n
 is_buffer_size n h = (
   is_capacity n (λ never. h (λ is. never is.0)),
-  not_above n 2048 (λ low. h (λ is. let no : ⊥ = omega (arith, is.1.0, low) in no)),
-  not_above 16384 n (λ high. h (λ is. let no : ⊥ = omega (arith, is.1.1, high) in no)),
+  not_above n 2048 (λ low. h (λ is. let no : ⊥ = omega (arith, is.1, low) in no)),
+  not_above 16384 n (λ high. h (λ is. let no : ⊥ = omega (arith, is.2, high) in no)),
 )
 
 -- a buffer of which it isn't said that it is bad
@@ -232,7 +232,7 @@ net_client_buffers plan net c client valid is there =
     (fine_buffer net.max_frame client.rx_buffer_size (λ b. fine (inl b)), fine_buffer net.max_frame client.tx_buffer_size (λ b. fine (inr b)))
 
 size_small : (n : ℕ) → IsBufferSize n → n < 2 ^ 32
-size_small n is = omega (arith, is.1.1)
+size_small n is = omega (arith, is.2)
 
 net_small : (plan : Plan) → Valid plan → (net : Net) → plan.net ≡ Some net → IsSmallNet net
 net_small plan valid net is =
