@@ -14,7 +14,7 @@ use Rattle.spsc_queue.specs.declared.view.Half.{Half}
 use Rattle.spsc_queue.specs.Known.Ends.{EndIs}
 use Rattle.spsc_queue.specs.Steps.{EndDid}
 use Rattle.seat_wires.specs.Places.Are.{SeatsAre}
-use Rattle.seat_wires.specs.Places.{ends_of, stands_at, SeatDid}
+use Rattle.seat_wires.specs.Places.{ends_of, stands_at, IsMaker, SeatDid}
 use Rattle.seat_wires.specs.Times.{times_at, AddsTime, TimesGo}
 use Rattle.seat_wires.specs.Went.{ring_known}
 use Rattle.seat_wires.proofs.Timing.{times_go}
@@ -85,6 +85,27 @@ moved_here d r = moved_is d r d.event.queue.0 ∙ ap (λ (b : Bool). if_there b 
 moved_none : (r : Role) (w : Word) (v : ℕ) (c : List Cargo) → moved r (Do.Store w v) c ≡ []
 moved_none Consumer w v c = refl
 moved_none Producer w v c = refl
+
+-- a call is at the end of its role, or it is a store
+is_made : (o : Op) (maker : Role) → IsMaker o maker → (maker ≡ role_of o) ⊎ ((r : Role) (c : List Cargo) → moved r o c ≡ [])
+is_made Do.See maker h = inl h
+is_made Do.Room maker h = inl h
+is_made Do.Take maker h = inl h
+is_made Do.Put maker h = inl h
+is_made (Do.Ask s) maker h = inl h
+is_made (Do.Waive s) maker h = inl h
+is_made (Do.Wake s) maker h = inl h
+is_made (Do.Wanted s) maker h = inl h
+is_made (Do.Settle s) maker h = inl h
+is_made (Do.Ring s) maker h = inl h
+is_made (Do.Store w v) maker h = inr (λ r c. moved_none r w v c)
+
+-- a call moves nothing at another end than its maker's
+pub moved_apart : (d : Deed) (maker : Role) → IsMaker d.event.op maker → (r : Role) (n : ℕ) → (r ≡ maker → n ≡ d.event.queue.0 → ⊥) → moved_by d r n ≡ []
+moved_apart d maker makes r n away = ⊎_elim
+    (λ is. moved_else d r n (λ same at. away (same ∙ sym is) at))
+    (λ none. moved_is d r n ∙ (ap (if_there (eqb d.event.queue.0 n)) (none r (cargo_of d)) ∙ if_nothing (eqb d.event.queue.0 n)))
+    (is_made d.event.op maker makes)
 
 -- a call adds to the list of its end as many entries as times
 one_each : (n : ℕ) (h : Half) (o : Op) (a : Answer) (c : List Cargo) (h' : Half) (s t : SeatsAre) (q : ℕ) → EndDid n h o a c h' → AddsTime o s q t
