@@ -1,4 +1,5 @@
 use Rattle.std.proofs.Common.{◌≡◌, ◌<◌, ◌≤◌, ◌^◌, ◌++◌, ℕ, true, false, Some, None, List, [], ◌∷◌, length, map, take, slice_get, refl, sym, ap, ◌∙◌, subst, arith, zero, suc}
+use Rattle.std.proofs.lemmas.List.Elements.{All-nil, All-cons}
 use Rattle.cargo_core.specs.Capacities.{IsCapacity}
 use Rattle.cargo_core.specs.declared.item.QueueKind.TheVariants as Kind
 use Rattle.wire_core.specs.declared.names.QueueId.{QueueId}
@@ -193,7 +194,7 @@ module _ (a b : QueueRow) (s t : Source) (j : Joiner) (one other : List ℕ) (ra
 
   pub pair_begins : Begins member_means rows actors
   pair_begins = record {
-    sized = record { few = omega arith; capacities = (two a ra.capacity, two b rb.capacity, tt) };
+    sized = record { few = omega arith; capacities = All-cons (λ (row : QueueRow). IsCapacity row.capacity) a (b ∷ []) (two a ra.capacity) (All-cons (λ (row : QueueRow). IsCapacity row.capacity) b [] (two b rb.capacity) (All-nil (λ (row : QueueRow). IsCapacity row.capacity))) };
     peopled = owners;
     few = omega arith;
     seated = record { given = given; all = all };

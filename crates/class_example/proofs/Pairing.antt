@@ -67,8 +67,8 @@ two_power n c = subst (λ i. 0 < i) (sym c.2) (pow_pos c.0)
 
 all_at : {T : Type 0} (P : T → Type 0) (xs : List T) → All P xs → (k : ℕ) (x : T) → slice_get xs k ≡ Some x → P x
 all_at P [] h k x at = cc
-all_at P (y ∷ xs) h zero x at = subst P (some_is at) h.0
-all_at P (y ∷ xs) h (suc k) x at = all_at P xs h.1 k x at
+all_at P (y ∷ xs) h zero x at = subst P (some_is at) (h 0 y (omega arith))
+all_at P (y ∷ xs) h (suc k) x at = all_at P xs (λ i d lt. h (suc i) d (omega (arith, lt))) k x at
 
 least : (m n : ℕ) → m ≤ n → min m n ≡ m
 least m n le = omega le

@@ -1,7 +1,7 @@
 -- The laws of these meanings: each actor looks at its own ends alone.
 use Rattle.std.proofs.Common.{◌≡◌, ◌==◌, if◌then◌else◌, ◌++◌, ℕ, false, List, [], ◌∷◌, refl, sym}
 use Rattle.std.proofs.Common.{ap, ◌∙◌, subst}
-use Rattle.std.specs.List.{All}
+use Rattle.std.specs.List.{AllByRecursion}
 use Rattle.std.proofs.lemmas.List.{append-nil}
 use Rattle.wire_core.specs.declared.names.Event.{Event}
 use Rattle.wire_core.specs.declared.names.Op.{Op}
@@ -152,7 +152,7 @@ stands_beside : (ends : Role → ℕ → End) (p : Passed) (d : Deed) (x : Membe
 stands_beside ends p d (Members.Source s) f off st = source_beside s p d off st
 stands_beside ends p d (Members.Joiner j) f off st = joiner_beside j p d off st
 
-waits : (x : Member) → All (λ (p : Post). p.drops ≡ false) (member_round x).posts
+waits : (x : Member) → AllByRecursion (λ (p : Post). p.drops ≡ false) (member_round x).posts
 waits (Members.Source s) = (refl, tt)
 waits (Members.Joiner j) = (refl, refl, tt)
 

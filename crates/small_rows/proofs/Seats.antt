@@ -1,6 +1,7 @@
 use Rattle.std.proofs.Common.{◌≡◌, ◌<◌, ◌≤◌, ℕ, zero, suc, Some, List, [], ◌∷◌, length, map, slice_get, refl, sym, ap, ◌∙◌, subst}
 use Rattle.std.specs.List.{All}
 use Rattle.std.proofs.lemmas.List.{length-map}
+use Rattle.std.proofs.lemmas.List.Elements.{All-nil, All-cons}
 use Rattle.cargo_core.specs.Capacities.{IsCapacity}
 use Rattle.wire_core.specs.declared.names.QueueRow.{QueueRow}
 use Rattle.wire_core.specs.Ends.{Role, waiting_role}
@@ -21,8 +22,8 @@ use Rattle.small_rows.specs.WrappingLaws.{own_end}
 -- Seated actors may begin in their wrappings.
 
 all_places : (P : QueueRow → Type 0) (rows : List QueueRow) → ((n : ℕ) (row : QueueRow) → slice_get rows n ≡ Some row → P row) → All P rows
-all_places P [] h = tt
-all_places P (r ∷ rs) h = (h zero r refl, all_places P rs (λ n row. h (suc n) row))
+all_places P [] h = All-nil P
+all_places P (r ∷ rs) h = All-cons P r rs (h zero r refl) (all_places P rs (λ n row. h (suc n) row))
 
 module _ (rows : List QueueRow) (actors : List Actor) (wrapped : List Wrapped) (s : Seated.AreSeated rows actors) (are : AreWrapped actors wrapped) where
   bare : (k : ℕ) (x : Wrapped) → slice_get wrapped k ≡ Some x → slice_get actors k ≡ Some x.actor

@@ -1,7 +1,7 @@
 -- The laws of these meanings.
 use Rattle.std.proofs.Common.{◌≡◌, ◌++◌, ℕ, zero, suc, false, Some, List, [], ◌∷◌, slice_get}
 use Rattle.std.proofs.Common.{refl, subst, sym, ap, ◌∙◌}
-use Rattle.std.specs.List.{All}
+use Rattle.std.specs.List.{AllByRecursion}
 use Rattle.std.proofs.lemmas.List.{append-nil}
 use Rattle.wire_core.specs.declared.names.Side.TheVariants.{Forward, Backward}
 use Rattle.wire_core.specs.Ends.{Role, Consumer, Producer, End, role_of, waiting_role}
@@ -52,7 +52,7 @@ beside ends p d x f off st =
 -- what holds of each holds of all
 all_from : (ps : List Post)
     → ((k : ℕ) (p : Post) → slice_get ps k ≡ Some p → p.drops ≡ false)
-    → All (λ (p : Post). p.drops ≡ false) ps
+    → AllByRecursion (λ (p : Post). p.drops ≡ false) ps
 all_from [] h = tt
 all_from (p ∷ ps) h = (h zero p refl, all_from ps (λ k q. h (suc k) q))
 

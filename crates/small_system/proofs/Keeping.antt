@@ -36,7 +36,7 @@ set_same [] k b h = refl
 set_same (x ∷ xs) zero b h = ap (λ y. y ∷ xs) (sym (some_is h))
 set_same (x ∷ xs) (suc k) b h = ap (λ ys. x ∷ ys) (set_same xs k b h)
 
-get_case : {X : Type 0} (xs : List X) (i : ℕ) → ((y : X) × (slice_get xs i ≡ Some y)) ⊎ (length xs ≤ i)
+pub get_case : {X : Type 0} (xs : List X) (i : ℕ) → ((y : X) × (slice_get xs i ≡ Some y)) ⊎ (length xs ≤ i)
 get_case [] i = inr (omega arith)
 get_case (x ∷ xs) zero = inl (x, refl)
 get_case (x ∷ xs) (suc i) = elim (get_case xs i) [ inl h ↦ inl h | inr h ↦ inr (omega arith) ]

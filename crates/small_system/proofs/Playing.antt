@@ -8,7 +8,7 @@ use Rattle.small_system.specs.Shows.{Shown, Played, StepsAt, IsQuiet, IsSpent}
 use Rattle.small_system.proofs.Telling.{after_join, tale_join, journal_join}
 
 -- the number drawn last
-pub drawn_by : {A : Type 0} → ℕ → List (Turn A) → ℕ
+abbrev pub drawn_by : {A : Type 0} → ℕ → List (Turn A) → ℕ
 drawn_by x [] = x
 drawn_by x (t ∷ ts) = drawn_by (next_seed x) ts
 

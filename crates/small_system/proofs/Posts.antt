@@ -1,5 +1,5 @@
 use Rattle.std.proofs.Common.{◌≡◌, ◌≢◌, ◌⊎◌, ℕ, zero, suc, Bool, true, false, Option, Some, None, List, [], ◌∷◌, slice_get, slice_set, refl, sym, ap, ◌∙◌, subst, inl, inr}
-use Rattle.std.specs.List.{All}
+use Rattle.std.specs.List.{AllByRecursion}
 use Rattle.std.proofs.Math.Dec.{eqb}
 use Rattle.std.proofs.lemmas.Bool.Decides.{eqb_tells}
 use Rattle.wire_core.specs.declared.names.Event.{Event}
@@ -57,7 +57,7 @@ waiting_of Backward Forward h = cc
 waiting_of Backward Backward h = refl
 
 -- what holds of all holds of each
-pub all_at : {T : Type 0} (P : T → Type 0) (xs : List T) → All P xs → (k : ℕ) (x : T) → slice_get xs k ≡ Some x → P x
+pub all_at : {T : Type 0} (P : T → Type 0) (xs : List T) → AllByRecursion P xs → (k : ℕ) (x : T) → slice_get xs k ≡ Some x → P x
 all_at P [] h k x at = cc
 all_at P (y ∷ xs) h zero x at = subst P (some_is at) h.0
 all_at P (y ∷ xs) h (suc k) x at = all_at P xs h.1 k x at

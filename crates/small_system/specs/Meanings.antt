@@ -1,6 +1,7 @@
 -- What an actor means to who plays it: its ends, what it stands for and how its ends stand, and
 -- what one step of it does.
-use Rattle.std.specs.Prelude.{◌≡◌, ℕ, false, Option, Some, List, All, slice_get}
+use Rattle.std.specs.Prelude.{◌≡◌, ℕ, false, Option, Some, List, slice_get}
+use Rattle.std.specs.List.{AllByRecursion}
 use Rattle.cargo_core.specs.declared.item.Body.{Body}
 use Rattle.wire_core.specs.declared.names.Event.{Event}
 use Rattle.wire_core.specs.Ends.{Role, End, role_of, waiting_role}
@@ -57,4 +58,4 @@ pub record Lawful {A : Type 0} (m : Means A) : Type 0 where
       → (Own m x (role_of d.event.op) d.event.queue.0 → ⊥) → m.StandsFor x p
       → m.StandsFor x (with_deed p d)
   -- at each of its ends it waits, and drops nothing
-  pub waits : (x : A) → All (λ (p : Post). p.drops ≡ false) (m.round x).posts
+  pub waits : (x : A) → AllByRecursion (λ (p : Post). p.drops ≡ false) (m.round x).posts

@@ -55,3 +55,10 @@ invariant_of-self-2 g c =
 pub returns-clause-ok : goal.returns-clause-ok
 returns-clause-ok g c =
     rw (c.push_reserved.ensures.items, c.in_ok-reserve.ensures.items) (subst (λ s. StepsAt g.A.SmallActor.means c.args.place s (shown c.self.inside.rows.items c.self.inside.start.value.items c.step.new.world (slice_set c.self.inside.actors.items c.at-number.result c.step.new.self) (c.self.inside.journal.items ++ record { actor = record { 0 = c.at-number.result }; event = c.in_ok-event.event } ∷ []))) c.self.view_is (steps_at g.A.SmallActor.means g.met.A.SmallActor.lawful c.self.inside.rows.items c.self.inside.start.value.items c.self.inside.world c.step.new.world c.self.inside.actors.items c.self.inside.journal.items c.at-number.result c.index_mut-actor.result.now c.step.new.self c.in_ok-event.event c.args.place c.self.inside.running c.self.invariant c.at-number.ensures c.index_mut-actor.ensures.value c.in_ok-event.ensures.acts c.step.ensures.fits))
+
+pub index-row-requires : goal.index-row-requires
+index-row-requires g c =
+    let holds = (stands_now g.A.SmallActor.means g.met.A.SmallActor.lawful (shown c.self.inside.rows.items c.self.inside.start.value.items c.self.inside.world c.self.inside.actors.items c.self.inside.journal.items) c.self.invariant.told).holds in
+    let lt : c.in_ok-event.event.queue.0 < length c.self.inside.rows.items = subst (λ n. c.in_ok-event.event.queue.0 < n) holds.size c.in_ok-event.ensures.acts.happened.there in
+    let v : vec_len c.self.inside.rows ≡ length c.self.inside.rows.items = c.self.inside.rows.ok.0 in
+    omega arith
