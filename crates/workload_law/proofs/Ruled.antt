@@ -38,7 +38,7 @@ use Rattle.sdf_check.specs.Names.{region_names, domain_names, region_named, doma
 use Rattle.sdf_check.specs.Rules.{TakesName, IsPastLastDomain, HasPriorityTooHigh, HasPeriodTooShort, IsPageSize, IsMultiple, HasBadSize, HasBadPageSize, HasBadPhysAddr, Range, Meets, MeetsEarlier, given_range, MeetsGivenRange, NamesNoRegion, the_region, HasBadVaddr, map_range, MeetsMap, count_of, ArePermissions, HasBadPerms, NamesNoDomain, HasIdTooHigh, InterruptHas, IsEarlierEnd, EarlierEndHas, TakesId, JoinsOneDomain}
 use Rattle.sdf_check.specs.ClassRules.{SomeOf, OfLink, RepeatsName, the_domain, class_domains, LacksRole, Joins, AreJoined, IsGranted, HasStranger, allowed, IsSmaller, HasBadMac, HasBadPartition, IsClientCount, IsBufferCount, IsPastLimit, HasBadMaxFrame, IsBufferSize, IsBadBuffer, HasBadBufferSize}
 use Rattle.sdf_check.specs.Valid.{BreaksPlanRule, BreaksClassRule, BreaksByRows, broken}
-use Rattle.workload_law.proofs.Refuting.{found, found_both, yes_either, Yes, No, never, no_sum, yes_sum, no_both, yes_both, no_not, no_match, yes_match, yes_true, no_and, yes_and, no_none, no_keyed, no_some, yes_some, no_before, no_less, yes_less, no_least, yes_least, no_equal, yes_equal, no_text, yes_text, yes_power, found_if}
+use Rattle.workload_law.proofs.Refuting.{found, found_both, yes_either, Yes, No, never, no_sum, yes_sum, no_both, yes_both, yes_three, no_not, no_match, yes_match, yes_true, no_and, yes_and, no_none, no_keyed, no_some, yes_some, no_before, no_less, yes_less, no_least, yes_least, no_equal, yes_equal, no_text, yes_text, yes_power, found_if}
 
 abbrev no_not_page : (size : ℕ) → No (¬ IsPageSize size)
 no_not_page size = no_not (yes_sum (yes_equal size 4096) (yes_equal size 2097152))
@@ -360,7 +360,7 @@ no_31 plan At.Net = no_and plan.net (λ net. no_sum (no_less net.max_frame 1514)
 no_31 plan _ = never
 
 abbrev yes_buffer : (size : ℕ) → Yes (IsBufferSize size)
-yes_buffer size = yes_both (yes_power size 15) (yes_both (yes_least 2048 size) (yes_least size 16384))
+yes_buffer size = yes_three (yes_power size 15) (yes_least 2048 size) (yes_least size 16384)
 
 abbrev no_bad_buffer : (longest size : ℕ) → No (IsBadBuffer longest size)
 no_bad_buffer longest size = no_sum (no_not (yes_buffer size)) (no_less size longest)
