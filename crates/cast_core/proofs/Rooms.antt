@@ -96,7 +96,7 @@ most_is plan net is = ap (λ (o : Option Net). option_map_or (λ (x : Net). x.ma
 takes_frames : (plan : Plan) (net : Net) (row : PoolRow) → plan.net ≡ Some net → IsBufferSize row.size × (net.max_frame ≤ row.size) → TakesFrames plan row
 takes_frames plan net row is fine =
     let most = most_is plan net is in
-    record { fits = omega (arith, most, fine.1); some = omega (arith, fine.0.1.0); few = omega (arith, fine.0.1.1) }
+    record { fits = omega (arith, most, fine.1); some = omega (arith, fine.0.1); few = omega (arith, fine.0.2) }
 
 net_sized : (plan : Plan) (net : Net) → Valid plan → plan.net ≡ Some net → All (TakesFrames plan) (net_pools plan net)
 unfolding net_pools net_client_pools pool_in
