@@ -205,4 +205,4 @@ module _ (a b : QueueRow) (s t : Source) (j : Joiner) (one other : List ℕ) (ra
 
   -- what they are made of
   pub pair_made : map made_of actors ≡ pair_of one other
-  pair_made = rw (at_zero, ns.script, at_one, nt.script, first_at, second_at) refl
+  pair_made = rw (at_zero, ns.script_is, at_one, nt.script_is, first_at, second_at) refl

@@ -154,7 +154,7 @@ stands_beside ends p d (Members.Joiner j) f off st = joiner_beside j p d off st
 
 waits : (x : Member) → AllByRecursion (λ (p : Post). p.drops ≡ false) (member_round x).posts
 waits (Members.Source s) = (refl, tt)
-waits (Members.Joiner j) = (refl, refl, tt)
+waits (Members.Joiner j) = (refl, (refl, tt))
 
 -- the laws of the meanings of both kinds
 pub member_lawful : Lawful member_means

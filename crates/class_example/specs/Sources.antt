@@ -38,5 +38,5 @@ pub record SameSource (old new : Source) : Type 0 where
 pub record IsNewSource (to : QueueId) (script : List ℕ) (s : Source) : Type 0 where
   pub output : s.output.queue ≡ to
   pub state : s.output.state ≡ start_state Backward
-  pub script : s.script ≡ script
+  pub script_is : s.script ≡ script
   pub next : s.next ≡ 0
