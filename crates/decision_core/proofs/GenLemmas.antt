@@ -5,7 +5,7 @@ use Rattle.sdf_plan.specs.declared.plan.Plan.{Plan}
 use Rattle.sdf_plan.specs.Elements.{outline_of}
 use Rattle.sdf_plan.specs.Places.{walk, IsRefusal}
 use Rattle.sdf_model.specs.Spelled.{plan_of}
-use Rattle.sdf_check.specs.Valid.{IsRefused, broken}
+use Rattle.sdf_check.specs.Valid.{IsRefused, broken, first_rule, last_rule}
 use Rattle.trace_text.specs.Traces.{trace_of}
 use Rattle.workload.specs.declared.description.TheConstants.{FULL_EXAMPLE}
 use Rattle.workload.specs.Generated.{generated_text}
@@ -28,7 +28,7 @@ one-plan plan s = s.plan_is ∙ ap plan_of (same_Some s.root root (sym s.documen
 not-refused : (refusal : Refusal) → IsRefusedText FULL_EXAMPLE.now refusal → ⊥
 not-refused refusal (inl r) = rules_kept refusal.rule r.from r.to r.broken_at.at refusal.place r.broken_at.there r.broken_at.here
 not-refused refusal (inr (plan, spelled, is)) =
-    let r : IsRefusal (broken (plan_of root)) (walk (outline_of (plan_of root))) 5 30 refusal = subst (λ p. IsRefused p refusal) (one-plan plan spelled) is in
+    let r : IsRefusal (broken (plan_of root)) (walk (outline_of (plan_of root))) first_rule last_rule refusal = subst (λ p. IsRefused p refusal) (one-plan plan spelled) is in
     full_valid refusal.rule r.from r.to r.broken_at.at refusal.place r.broken_at.there r.broken_at.here
 
 -- its generated trace is played

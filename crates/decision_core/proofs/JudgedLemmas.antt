@@ -8,7 +8,7 @@ use Rattle.sdf_plan.specs.Places.{walk, IsFirstBroken, KeepsRules, IsRefusal}
 use Rattle.sdf_model.specs.Spelled.{plan_of}
 use Rattle.sdf_model.specs.Tree.{places_of, BreaksText}
 use Rattle.sdf_plan.specs.Elements.{outline_of}
-use Rattle.sdf_check.specs.Valid.{IsRefused, broken}
+use Rattle.sdf_check.specs.Valid.{IsRefused, broken, first_rule, last_rule}
 use Rattle.decision_core.specs.Judged.{SpellsPlan, IsAccepted, IsRefusedText}
 
 module _ (broken : Place → Type 0) (elements : List Place) where
@@ -60,11 +60,11 @@ same-accepted text p q h i = same-plan text p q h.spelled i.spelled
 pub accepted-or-refused : (text : List ℕ) (p : Plan) (r : Refusal) → IsAccepted text p → IsRefusedText text r → ⊥
 accepted-or-refused text p r h (inl i) = kept-or-refused (BreaksText text) (places_of text) 1 4 r h.spelled.kept i
 accepted-or-refused text p r h (inr i) =
-    kept-or-refused (broken p) (walk (outline_of p)) 5 30 r h.valid (subst (λ q. IsRefused q r) (same-plan text i.0 p i.1 h.spelled) i.2)
+    kept-or-refused (broken p) (walk (outline_of p)) first_rule last_rule r h.valid (subst (λ q. IsRefused q r) (same-plan text i.0 p i.1 h.spelled) i.2)
 
 pub same-refused : (text : List ℕ) (r s : Refusal) → IsRefusedText text r → IsRefusedText text s → r ≡ s
 same-refused text r s (inl h) (inl i) = same-refusal (BreaksText text) (places_of text) 1 4 r s h i
 same-refused text r s (inl h) (inr i) = absurd (kept-or-refused (BreaksText text) (places_of text) 1 4 r i.1.kept h)
 same-refused text r s (inr h) (inl i) = absurd (kept-or-refused (BreaksText text) (places_of text) 1 4 s h.1.kept i)
 same-refused text r s (inr h) (inr i) =
-    same-refusal (broken i.0) (walk (outline_of i.0)) 5 30 r s (subst (λ q. IsRefused q r) (same-plan text h.0 i.0 h.1 i.1) h.2) i.2
+    same-refusal (broken i.0) (walk (outline_of i.0)) first_rule last_rule r s (subst (λ q. IsRefused q r) (same-plan text h.0 i.0 h.1 i.1) h.2) i.2
