@@ -1,4 +1,4 @@
-use Rattle.std.proofs.Common.{◌≡◌, ◌<◌, ◌≤◌, ◌^◌, ◌++◌, ℕ, true, false, Some, None, List, [], ◌∷◌, length, map, take, slice_get, refl, sym, ap, ◌∙◌, subst, arith, zero, suc}
+use Rattle.std.proofs.Common.{◌≡◌, ◌<◌, ℕ, true, Some, None, List, [], ◌∷◌, map, take, slice_get, refl, sym, ap, ◌∙◌, subst, arith, zero, suc}
 use Rattle.std.proofs.lemmas.List.Elements.{All-nil, All-cons}
 use Rattle.cargo_core.specs.Capacities.{IsCapacity}
 use Rattle.cargo_core.specs.declared.item.QueueKind.TheVariants as Kind
@@ -15,17 +15,15 @@ use Rattle.turn_kit.specs.Turns.{Post, IsRound}
 use Rattle.turn_kit.specs.Posts.{intake_post, outlet_post}
 use Rattle.play_core.specs.Sheets.{IsSeat}
 use Rattle.play_core.proofs.Lists.{some_is}
-use Rattle.serial_switch.specs.Carried.{byte_cargo, bytes_carried}
+use Rattle.serial_switch.specs.Carried.{byte_cargo}
 use Rattle.small_system.specs.Meanings.{Own}
-use Rattle.small_system.specs.Standing.{AreSeated, Begins}
+use Rattle.small_system.specs.Standing.{Begins}
 use Rattle.class_example.specs.declared.source.Source.{Source}
 use Rattle.class_example.specs.declared.joiner.Joiner.{Joiner}
-use Rattle.class_example.specs.declared.joiner.Claim.{Claim}
-use Rattle.class_example.specs.declared.joiner.Claim.TheVariants.{Open}
 use Rattle.class_example.specs.declared.member.Member.{Member}
 use Rattle.class_example.specs.declared.member.Member.TheVariants as Members
-use Rattle.class_example.specs.Sources.{FitsSource, SourceStandsFor, IsNewSource, source_round}
-use Rattle.class_example.specs.Joiners.{FitsJoiner, JoinerStandsFor, IsNewJoiner, joiner_round, wants_first, wants_second, claim_by}
+use Rattle.class_example.specs.Sources.{IsNewSource}
+use Rattle.class_example.specs.Joiners.{IsNewJoiner, joiner_round}
 use Rattle.class_example.specs.Members.{made_of, member_round, MemberStandsFor, FitsMember, member_means}
 use Rattle.class_example.specs.Pairs.{IsRow, pair_of}
 

@@ -1,4 +1,4 @@
-use Rattle.std.proofs.Common.{◌≡◌, ap, ◌∙◌, List, Result, Ok, Err, IfOk}
+use Rattle.std.proofs.Common.{ap, ◌∙◌, List, Result, Ok, Err, IfOk}
 use Rattle.cargo_core.specs.declared.memory.Memory.{Memory}
 use Rattle.wire_core.specs.declared.names.QueueId.{QueueId}
 use Rattle.wire_core.specs.declared.names.Event.{Event}

@@ -1,4 +1,4 @@
-use Rattle.std.proofs.Common.{◌≡◌, ◌⊎◌, ◌<◌, ◌≤◌, ◌+◌, ◌^◌, ◌++◌, append_assoc, ℕ, Bool, true, false, not, nat_lt, Some, None, List, [], ◌∷◌, length, length-append, length-take, map, take, drop, slice_get, refl, sym, ap, ◌∙◌, subst, arith, zero, suc, min, inl, inr}
+use Rattle.std.proofs.Common.{◌≡◌, ◌⊎◌, ◌<◌, ◌≤◌, ◌+◌, ◌++◌, append_assoc, ℕ, Bool, true, false, nat_lt, Some, List, [], ◌∷◌, length, length-append, length-take, map, take, drop, slice_get, refl, sym, ap, ◌∙◌, subst, arith, zero, suc, min, inl, inr}
 use Rattle.std.proofs.lemmas.List.{append-nil, length-map, take_all, take-append-drop}
 use Rattle.std.proofs.lemmas.Bool.{lt-ltb}
 use Rattle.std.proofs.lemmas.Nat.{pow_pos}
@@ -8,19 +8,18 @@ use Rattle.cargo_core.specs.Lists.{IsPrefix}
 use Rattle.cargo_core.specs.declared.item.Item.{Item}
 use Rattle.wire_core.specs.declared.names.QueueRow.{QueueRow}
 use Rattle.wire_core.specs.declared.names.Entry.{Entry}
-use Rattle.wire_core.specs.declared.names.Event.{Event}
 use Rattle.wire_core.specs.Deeds.{Cargo}
-use Rattle.wire_core.specs.Ends.{Role, Consumer, Producer}
+use Rattle.wire_core.specs.Ends.{Consumer, Producer}
 use Rattle.wire_core.specs.Lists.{Passed}
 use Rattle.wire_core.specs.Queues.{Queue, queue_at, end_at, items_of}
-use Rattle.wire_core.specs.Journal.{History, Hostiles, Track, track, start_history, is_calm, owner_of}
+use Rattle.wire_core.specs.Journal.{History, Hostiles, track, start_history, is_calm, owner_of}
 use Rattle.turn_kit.specs.Table.{Agrees}
 use Rattle.turn_kit.specs.Turns.{Post, is_at_rest, settled_all}
 use Rattle.turn_kit.specs.Posts.{intake_post, outlet_post}
 use Rattle.play_core.specs.Moved.{Moved, moved}
 use Rattle.play_core.specs.Wants.{Want, Needful, all_settled, intake_want, outlet_want}
 use Rattle.play_core.specs.Manners.{Manners, hostile_by}
-use Rattle.play_core.specs.Rests.Showing.{HaveItems, HaveBells}
+use Rattle.play_core.specs.Rests.Showing.{HaveBells}
 use Rattle.play_core.specs.Rests.Meeting.{Meet}
 use Rattle.play_core.specs.Resting.{QueueRests}
 use Rattle.play_core.specs.Still as Stillness
@@ -28,7 +27,7 @@ use Rattle.play_core.proofs.Lists.{some_is, map_from, there_is, there_below}
 use Rattle.serial_switch.specs.Carried.{byte_cargo, bytes_carried}
 use Rattle.small_system.specs.Tales.{Moment, Turn, start_of, IsTale, after_tale, journal_of, passed_by, running_in}
 use Rattle.small_system.specs.Standing.{Begins, Holds}
-use Rattle.small_system.specs.Shows.{Shown, IsTold, IsQuiet}
+use Rattle.small_system.specs.Shows.{Shown, IsTold}
 use Rattle.small_system.specs.Wants.{Wanting, calls_in, wanted_by, calm, RestsBy}
 use Rattle.class_example.specs.declared.source.Source.{Source}
 use Rattle.class_example.specs.declared.joiner.Joiner.{Joiner}
@@ -38,7 +37,7 @@ use Rattle.class_example.specs.declared.member.Member.{Member}
 use Rattle.class_example.specs.declared.member.Member.TheVariants as Members
 use Rattle.class_example.specs.Sources.{FitsSource, SourceStandsFor}
 use Rattle.class_example.specs.Joiners.{FitsJoiner, JoinerStandsFor, wants_first, wants_second, claim_by}
-use Rattle.class_example.specs.Members.{Made, Says, Joins, made_of, member_round, MemberStandsFor, FitsMember, member_means}
+use Rattle.class_example.specs.Members.{Made, Says, Joins, made_of, member_round, member_means}
 use Rattle.class_example.specs.Pairs.{pair_of, pair_wants, said_by, Keeps}
 use Rattle.class_example.proofs.Speech.{bytes_said, bytes_join}
 

@@ -22,8 +22,8 @@ use Rattle.class_example.specs.declared.joiner.Claim.{Claim}
 use Rattle.class_example.specs.declared.joiner.Claim.TheVariants.{Open, First, Second}
 use Rattle.class_example.specs.declared.member.Member.{Member}
 use Rattle.class_example.specs.declared.member.Member.TheVariants as Members
-use Rattle.class_example.specs.Sources.{FitsSource, SourceStandsFor}
-use Rattle.class_example.specs.Joiners.{claim_of, claim_with, claim_from, claim_by, FitsJoiner}
+use Rattle.class_example.specs.Sources.{SourceStandsFor}
+use Rattle.class_example.specs.Joiners.{claim_of, claim_with, claim_from, claim_by}
 use Rattle.class_example.specs.Joiners.{JoinerStandsFor}
 use Rattle.class_example.specs.Members.{FitsMember, MemberStandsFor, member_round, member_means}
 

@@ -3,9 +3,7 @@ use Rattle.std.specs.Prelude.{◌≡◌, ℕ, zero, suc, nat_lt, Some, List, [],
 use Rattle.cargo_core.specs.Lists.{IsPrefix}
 use Rattle.cargo_core.specs.declared.item.QueueKind.TheVariants as Kind
 use Rattle.wire_core.specs.declared.names.QueueRow.{QueueRow}
-use Rattle.wire_core.specs.declared.names.Event.{Event}
-use Rattle.play_core.specs.Moved.{Moved}
-use Rattle.play_core.specs.Wants.{Want, intake_want, outlet_want}
+use Rattle.play_core.specs.Wants.{intake_want, outlet_want}
 use Rattle.small_system.specs.Shows.{Shown, IsQuiet}
 use Rattle.small_system.specs.Wants.{Wanting, calls_in}
 use Rattle.class_example.specs.declared.joiner.Claim.{Claim}

@@ -1,4 +1,4 @@
-use Rattle.class_example.proofs.Pairing.{Laws, pair_keeps}
+use Rattle.class_example.proofs.Pairing.{pair_keeps}
 use Rattle.class_example.proofs.class.pair_law.Goals as goal
 
 pub returns : goal.returns

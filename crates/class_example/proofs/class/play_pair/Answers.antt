@@ -1,4 +1,4 @@
-use Rattle.std.proofs.Common.{◌≡◌, ◌∙◌, List, [], ◌∷◌, sym, subst}
+use Rattle.std.proofs.Common.{◌∙◌, List, [], ◌∷◌, sym, subst}
 use Rattle.wire_core.specs.declared.names.QueueRow.{QueueRow}
 use Rattle.small_system.specs.Standing.{Begins}
 use Rattle.class_example.specs.declared.member.Member.{Member}

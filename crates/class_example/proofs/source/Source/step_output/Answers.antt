@@ -1,6 +1,5 @@
 use Rattle.std.proofs.Common.{◌∙◌, sym, refl}
 use Rattle.std.specs.Option.{option_map, option_to_list}
-use Rattle.std.proofs.lemmas.List.{append-nil}
 use Rattle.wire_core.specs.Deeds.{put_of}
 use Rattle.wire_core.proofs.Places.{if_there_here}
 use Rattle.class_example.proofs.Speech.{spoken_put}
