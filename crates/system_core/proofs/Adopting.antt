@@ -30,7 +30,7 @@ use Rattle.actor_set.specs.Laws.Kinds.{sheet, scene_of, hostiles}
 use Rattle.actor_set.specs.Laws.Turning.{InTurn}
 use Rattle.actor_set.proofs.LawsLemmas.PartEnds.{to_part, end_seat}
 use Rattle.actor_set.proofs.LawsLemmas.Starts.{fits_whole}
-use Rattle.wired_law.specs.Wiring.{IsWired, AreAtWork, AreOfKind, ClientsSend}
+use Rattle.wired_law.specs.Wiring.{IsWired, IsWiredIn, AreAtWork, AreOfKind, ClientsSend}
 use Rattle.wired_law.proofs.Wiring.{in_turn}
 use Rattle.cast_law.specs.Pools.Places.{PoolPlace, IsPlaced, HasPools, cast_naming}
 use Rattle.cast_law.specs.Pools.Pooling.{AreAtPlay, HasOwners}
@@ -122,6 +122,16 @@ module _ (s : Setting) (rings : List RingIs) (parts : List Apart) (fitted : IsFi
   abbrev history : History
   history = history_left ended
 
+  -- in the scene that the parts give
+  wired : IsWired rows s.cast
+  wired = subst (λ z. IsWiredIn z rows s.cast) fitted.scene_is fitted.wired
+
+  seated : AreSeated (sheet (scene_of s.cast)) rows s.cast
+  seated = subst (λ z. AreSeated (sheet z) rows s.cast) fitted.scene_is fitted.seated
+
+  filled : AreFilled (sheet (scene_of s.cast)) rows s.cast
+  filled = subst (λ z. AreFilled (sheet z) rows s.cast) fitted.scene_is fitted.ends
+
   cast_now : map part_of nows ≡ s.cast
   cast_now = parts_same actors nows forgotten ∙ cast
 
@@ -171,7 +181,7 @@ module _ (s : Setting) (rings : List RingIs) (parts : List Apart) (fitted : IsFi
   own_of : (k : ℕ) (p : Part) → slice_get s.cast k ≡ Some p → (x : Actor) → part_of x ≡ p → IsWhole x → (r : Role) (n : ℕ) → ActorEnd x r n → (row : QueueRow) × (slice_get rows n ≡ Some row) × (owner_of row r ≡ k)
   own_of k p at x is whole r n own =
       let e = end_seat (scene_of s.cast) (part_of x) r n (to_part x r n whole own) in
-      fitted.seated k (part_of x) (at ∙ ap Some (sym is)) e.0 (record { queue = n; role = r }) e.1
+      seated k (part_of x) (at ∙ ap Some (sym is)) e.0 (record { queue = n; role = r }) e.1
 
   part_now : (k : ℕ) (x : Actor) → slice_get nows k ≡ Some x → slice_get s.cast k ≡ Some (part_of x)
   part_now k x at = ap (λ (c : List Part). slice_get c k) (sym cast_now) ∙ map_get part_of nows k x at
@@ -214,7 +224,7 @@ module _ (s : Setting) (rings : List RingIs) (parts : List Apart) (fitted : IsFi
   work = record { fits = fits_now; stands = stands_now; hands_over = λ n. ((queue_at world n).entries, sym (stands_there n)); kinds = kinds }
 
   turns_now : (k : ℕ) (x : Actor) → slice_get nows k ≡ Some x → InTurn (scene_of (map part_of nows)) x passed
-  turns_now = in_turn (end_at world) rows nows passed (subst (IsWired rows) (sym cast_now) fitted.wired) work sends_now
+  turns_now = in_turn (end_at world) rows nows passed (subst (IsWired rows) (sym cast_now) wired) work sends_now
 
   pub holds : Holds history rows world nows []
   holds = record {
@@ -248,8 +258,8 @@ module _ (s : Setting) (rings : List RingIs) (parts : List Apart) (fitted : IsFi
   pub at_play : AreAtPlay history rows nows [] passed world
   at_play = record {
     peopled = subst (λ (c : List Part). IsPeopled rows (length c)) (sym cast_now) fitted.peopled;
-    seated = subst (λ (c : List Part). AreSeated (sheet (scene_of c)) rows c) (sym cast_now) fitted.seated;
-    filled = subst (λ (c : List Part). AreFilled (sheet (scene_of c)) rows c) (sym cast_now) fitted.ends;
+    seated = subst (λ (c : List Part). AreSeated (sheet (scene_of c)) rows c) (sym cast_now) seated;
+    filled = subst (λ (c : List Part). AreFilled (sheet (scene_of c)) rows c) (sym cast_now) filled;
     legal = tt;
     flows = (before.flows, tt);
     rows_hold = (rows_at rows nows passed (moved history []) items turns_now stands_now, tt);
@@ -266,6 +276,7 @@ module _ (s : Setting) (rings : List RingIs) (parts : List Apart) (fitted : IsFi
   module _ (owners : (place : PoolPlace) → IsPlaced rows place (map part_of nows) → HasPools s.pools place → HasOwners history rows place (map part_of nows)) where
     refitted : IsFitted (record s { history = history })
     refitted = record {
+      scene_is = fitted.scene_is;
       peopled = fitted.peopled;
       seated = fitted.seated;
       ends = fitted.ends;
@@ -278,7 +289,7 @@ module _ (s : Setting) (rings : List RingIs) (parts : List Apart) (fitted : IsFi
     }
 
     setting_is : begun history rows s.pools nows s.net s.serial s.blk ≡ record s { history = history }
-    setting_is = ap (λ (c : List Part). record s { history = history; cast = c }) cast_now
+    setting_is = ap (λ (c : List Part). record s { history = history; cast = c; scene = scene_of c }) cast_now ∙ ap (λ (z : Scene). record s { history = history; scene = z }) (sym fitted.scene_is)
 
     pub goes_on : GoesOn (begun history rows s.pools nows s.net s.serial s.blk) world nows
     goes_on = record { fitted = subst IsFitted (sym setting_is) refitted; before = subst HoldsBefore (sym setting_is) before; holds = holds }
@@ -288,12 +299,12 @@ module _ (s : Setting) (rings : List RingIs) (parts : List Apart) (fitted : IsFi
     rests_as k p at =
         let here : slice_get actors k ≡ Some p.actor = ap (λ (l : List Actor). slice_get l k) done.actors_are ∙ map_get (λ (q : Apart). q.actor) parts k p at in
         let part : slice_get s.cast k ≡ Some (part_of p.actor) = ap (λ (c : List Part). slice_get c k) (sym cast) ∙ map_get part_of actors k p.actor here in
-        rests_left world history (length-map ended track_of ∙ (ended_many ∙ sym left.size)) bells (scene_of s.cast) p passed
+        rests_left world history (length-map ended track_of ∙ (ended_many ∙ sym left.size)) bells s.scene p passed
         (λ r n own. (
         let o = own_of k (part_of p.actor) part p.actor refl (fits_whole (apart_end p) p.actor (fits_apart k p at)) r n own in
         (let lt = there_below rows n o.0 o.1 in let long = left.size in omega (arith, lt, long), same_end rows rings parts actors ended apart peopled done k p at r n o.0 o.1 o.2)
         ))
-        (fits_apart k p at) (subst (λ (c : List Part). InTurn (scene_of c) p.actor passed) cast (held.in_turn k p.actor here)) (held.stands k p.actor here) items
+        (fits_apart k p at) (subst (λ z. InTurn z p.actor passed) (sym fitted.scene_is) (subst (λ (c : List Part). InTurn (scene_of c) p.actor passed) cast (held.in_turn k p.actor here))) (held.stands k p.actor here) items
       where
         bells : HaveBells world history []
         bells n lt = let row = there_is rows n (let long = left.size in omega (arith, lt, long)) in (left.each n row.0 row.1).shown.bells
@@ -319,8 +330,8 @@ module _ (s : Setting) (rings : List RingIs) (parts : List Apart) (come : HaveCo
 
   pub have_gone : HaveGone s.rows rings come.olds parts
   have_gone = record {
-    wired = subst (IsWired s.rows) (sym old_cast) come.fitted.wired;
-    seated = subst (λ (c : List Part). AreSeated (sheet (scene_of c)) s.rows c) (sym old_cast) come.fitted.seated;
+    wired = subst (IsWired s.rows) (sym old_cast) (subst (λ z. IsWiredIn z s.rows s.cast) come.fitted.scene_is come.fitted.wired);
+    seated = subst (λ (c : List Part). AreSeated (sheet (scene_of c)) s.rows c) (sym old_cast) (subst (λ z. AreSeated (sheet z) s.rows s.cast) come.fitted.scene_is come.fitted.seated);
     split = come.fitted.split;
     peopled = λ n row at r. subst (λ (m : ℕ). owner_of row r < m) (sym olds_many) (come.fitted.peopled n row at r);
     stood = come.before;

@@ -63,6 +63,7 @@ module _ (rows : List QueueRow) (actors : List Actor) (s : AreSeated rows actors
   module _ (history : History) (pools : List PoolRow) (net serial blk : Crew) (pooled : ArePooled rows pools (map part_of actors)) (owners : (place : PoolPlace) → IsPlaced rows place (map part_of actors) → HasPools pools place → HasOwners history rows place (map part_of actors)) where
     pub seated_fit : IsFitted (begun history rows pools actors net serial blk)
     seated_fit = record {
+      scene_is = refl;
       peopled = λ n row at r. subst (λ m. owner_of row r < m) (sym (length-map actors part_of)) (s.peers n row at r);
       seated = end_given;
       ends = seat_given;

@@ -182,7 +182,7 @@ called_so false b e g = cc
 -- an actor that is runnable at rest has an end where a notification is pending
 module _ (history : History) (rows : List QueueRow) (pools : List PoolRow) (net serial blk : Crew) (w : List Queue) (actors : List Actor) (journal : List Entry) (k : ℕ) (x : Actor) (place : ℕ) where
   abbrev now_set : Setting
-  now_set = record { history = history; rows = rows; pools = pools; cast = map part_of actors; net = net; serial = serial; blk = blk }
+  now_set = record { history = history; rows = rows; pools = pools; cast = map part_of actors; scene = scene_of (map part_of actors); net = net; serial = serial; blk = blk }
 
   runs_called : IsFitted now_set → Holds history rows w actors journal → slice_get actors k ≡ Some x → slice_get (runs now_set journal) place ≡ Some k → is_at_rest (actor_round x) ≡ true → IsCalled (pendings history journal) (actor_round x).posts
   runs_called fitted old here at rest =
@@ -221,7 +221,7 @@ pub record StepThen (setting : Setting) (v : List Queue) (actors : List Actor) (
 
 module _ (history : History) (rows : List QueueRow) (pools : List PoolRow) (net serial blk : Crew) (w v : List Queue) (actors : List Actor) (journal : List Entry) (k : ℕ) (x x' y : Actor) (e : Event) (row : QueueRow) (rung : Option ℕ) (woken idle : Bool) (place : ℕ) (list : List ℕ) (room : ℕ) where
   abbrev setting : Setting
-  setting = record { history = history; rows = rows; pools = pools; cast = map part_of actors; net = net; serial = serial; blk = blk }
+  setting = record { history = history; rows = rows; pools = pools; cast = map part_of actors; scene = scene_of (map part_of actors); net = net; serial = serial; blk = blk }
 
   pub system_then : IsFitted setting → Holds history rows w actors journal → EachMoment (RowsStand setting) journal → list ≡ runs setting journal → length actors ≤ room → Brisk (hostile_in setting) rows no_drops journal
       → slice_get list place ≡ Some k → x ≡ slice_index_or actors k x → ActorEnd x (role_of e.op) e.queue.0 → Stepped ActorStandsFor Happens w v x x' e → ActorTurned x e x' → FitsActor (end_at v) x' → part_of x' ≡ part_of x

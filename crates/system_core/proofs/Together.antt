@@ -18,7 +18,7 @@ use Rattle.serial_law.specs.Parts.{SerialPart}
 use Rattle.serial_law.specs.Table.{serial_sheet}
 use Rattle.serial_law.specs.Serial.{SerialClass, IsSerial, ArrivesInPart, ArrivesWhole}
 use Rattle.serial_law.proofs.Arrivals.{as_there, RowAt}
-use Rattle.actor_set.specs.Laws.Kinds.{serial_part, scene_of}
+use Rattle.actor_set.specs.Laws.Kinds.{serial_part}
 use Rattle.system_core.specs.Shows.{Setting, Shown, hostile_in, sheet_in, moved_in, runs, RowsStand}
 use Rattle.system_core.specs.Plays.{Played, IsSpent, runnable_now}
 use Rattle.system_core.specs.declared.system.Ending.{Ending}
@@ -40,7 +40,7 @@ use Rattle.system_core.proofs.PoolsLemmas.Showing.{tells_owners}
 use Rattle.system_core.proofs.Begun.{There, serial_there, shows_in_part, shows_whole}
 
 plays_as : (s : Setting) (hostile : Hostiles) (actors : Needful) (m : Moved) (p : SerialPart) → Plays hostile actors m (sheet_in s (serial_part p)) → Plays hostile actors m (serial_sheet p)
-plays_as s hostile actors m p = subst (Plays hostile actors m) (sheet_is (scene_of s.cast) p)
+plays_as s hostile actors m p = subst (Plays hostile actors m) (sheet_is s.scene p)
 
 -- the law of the serial class
 abbrev pub LawInPart : Type 0
