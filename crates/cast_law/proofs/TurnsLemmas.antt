@@ -1,0 +1,56 @@
+-- Nothing comes out of turn in a cast in place, whatever its hostile clients put.
+use Rattle.std.proofs.Common.{◌≡◌, ◌⊎◌, ℕ, Option, Some, None, List, [], map, slice_get, inl, inr}
+use Rattle.std.proofs.lemmas.List.{append-nil}
+use Rattle.wire_core.specs.declared.names.PoolRow.{PoolRow}
+use Rattle.wire_core.specs.declared.names.QueueRow.{QueueRow}
+use Rattle.wire_core.specs.Ends.{Role, End}
+use Rattle.wire_core.specs.Lists.{Passed}
+use Rattle.play_core.specs.Names.{GrowsTo, Names, Wild, names_at, wild_in}
+use Rattle.net_law.specs.TxParts.Numbers.{NetPlace}
+use Rattle.blk_law.specs.Sheets.Numbers.{BlkPlace}
+use Rattle.actor_set.specs.Parts.{Part}
+use Rattle.actor_set.specs.Actors.{part_of}
+use Rattle.actor_set.specs.declared.actor.Actor.{Actor}
+use Rattle.actor_set.specs.Laws.Kinds.{hostiles, scene_of}
+use Rattle.actor_set.specs.Laws.Scenes.{ToldInTurn}
+use Rattle.actor_set.specs.Laws.Turning.{InTurn}
+use Rattle.actor_set.proofs.LawsLemmas.Told.{none_wild}
+use Rattle.wired_law.specs.Buffers.{HasEachOnce}
+use Rattle.wired_law.specs.Wiring.{AreAtWork, AreInTurn, ClientsSend, HasBlk, HasNoBlock, HasNoNetwork, HasWhole, IsWired}
+use Rattle.wired_law.proofs.TurningLemmas.{beside}
+use Rattle.wired_law.proofs.Wiring.{turns_beside, turns_calm}
+use Rattle.cast_law.specs.Pools.Places.{HasBlkAt, HasNetAt, IsInPlace, IsPlaced, PoolPlace}
+use Rattle.cast_law.proofs.PagesLemmas.Once.{each_once}
+
+-- a cast whose classes stand at this place is wired
+pub wired_by : (rows : List QueueRow) (place : PoolPlace) (cast : List Part) → IsPlaced rows place cast → IsWired rows cast
+wired_by rows place cast placed = record { network = net place.net placed.net; block = blk place.blk placed.blk }
+  where
+    net : (o : Option NetPlace) → HasNetAt rows o cast → HasNoNetwork cast ⊎ ((n : NetPlace) × HasWhole rows n cast)
+    net None none = inl none
+    net (Some n) has = inr (n, has.0)
+
+    blk : (o : Option BlkPlace) → HasBlkAt rows o cast → HasNoBlock cast ⊎ ((b : BlkPlace) × HasBlk rows b cast)
+    blk None none = inl none
+    blk (Some b) has = inr (b, has.0)
+
+-- so is one in place
+pub wired_place : (rows : List QueueRow) (pools : List PoolRow) (cast : List Part) → IsInPlace rows pools cast → IsWired rows cast
+wired_place rows pools cast in_place = wired_by rows in_place.pooled.0 cast in_place.pooled.1
+
+module _ (ends : Role → ℕ → End) (rows : List QueueRow) (pools : List PoolRow) (actors : List Actor) (passed : Passed) (in_place : IsInPlace rows pools (map part_of actors)) (work : AreAtWork ends rows actors passed) where
+  abbrev cast : List Part
+  cast = map part_of actors
+
+  once : HasEachOnce rows actors passed
+  once = each_once ends rows actors passed in_place.peopled in_place.seated in_place.filled pools in_place.pooled.0 in_place.pooled.1 in_place.pooled.2 work
+
+  pub beside_turns : (wild : Wild) → AreInTurn wild actors passed
+  beside_turns wild = beside (scene_of cast) ends rows actors passed work (wired_place rows pools cast in_place) once wild
+
+  pub told_turns : ClientsSend rows cast passed → (names : Names) → GrowsTo (names_at passed) names → (k : ℕ) (x : Actor) → slice_get actors k ≡ Some x → ToldInTurn (scene_of cast) (wild_in (hostiles cast) rows) names x passed
+  told_turns sends names grown k x at = turns_beside (scene_of cast) ends rows actors passed names (wired_place rows pools cast in_place) work sends grown (beside_turns (wild_in (hostiles cast) rows)) k x at
+
+  -- nobody is hostile, so no name is asked
+  pub calm_turns : ClientsSend rows cast passed → (k : ℕ) (x : Actor) → slice_get actors k ≡ Some x → InTurn (scene_of cast) x passed
+  calm_turns sends k x at = turns_calm (scene_of cast) (wild_in (hostiles cast) rows) (names_at passed) x passed (none_wild cast rows) (told_turns sends (names_at passed) (λ n. ([], append-nil (names_at passed n))) k x at)
