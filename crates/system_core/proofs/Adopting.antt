@@ -30,9 +30,9 @@ use Rattle.actor_set.specs.Laws.Kinds.{sheet, scene_of, hostiles}
 use Rattle.actor_set.specs.Laws.Turning.{InTurn}
 use Rattle.actor_set.proofs.LawsLemmas.PartEnds.{to_part, end_seat}
 use Rattle.actor_set.proofs.LawsLemmas.Starts.{fits_whole}
-use Rattle.wired_law.specs.Wiring.{IsWired, IsWiredIn, AreAtWork, AreOfKind, ClientsSend}
-use Rattle.wired_law.proofs.Wiring.{in_turn}
-use Rattle.cast_law.specs.Pools.Places.{PoolPlace, IsPlaced, HasPools, cast_naming}
+use Rattle.wired_law.specs.Wiring.{AreAtWork, AreOfKind, ClientsSend}
+use Rattle.cast_law.specs.Pools.Places.{PoolPlace, IsInPlace, IsPlaced, HasPools, cast_naming}
+use Rattle.cast_law.proofs.TurnsLemmas.{calm_turns}
 use Rattle.cast_law.specs.Pools.Pooling.{AreAtPlay, HasOwners}
 use Rattle.cast_law.proofs.PoolsLemmas.Playing.{rows_at}
 use Rattle.plain_wires.specs.Adopted.{IsEndedOf, adopted, all_adopted}
@@ -56,7 +56,7 @@ use Rattle.region_layout.specs.Rows.{queues_of, pools_of}
 use Rattle.layout_laws.proofs.SeatsLemmas.Counts.{few_numbers}
 use Rattle.system_core.specs.Builds.{IsCastOf}
 use Rattle.system_core.specs.Crews.{net_crew, serial_crew, blk_crew}
-use Rattle.system_core.proofs.Fitting.{are_sized}
+use Rattle.system_core.proofs.Fitting.{are_sized, fitted_place}
 use Rattle.wire_core.specs.Sizes.{AreSized}
 use Rattle.system_core.specs.Shows.{Setting, Shown, Crew, hostile_in, sheet_in, moved_in}
 use Rattle.system_core.specs.States.{history_of, begun, started}
@@ -123,14 +123,8 @@ module _ (s : Setting) (rings : List RingIs) (parts : List Apart) (fitted : IsFi
   history = history_left ended
 
   -- in the scene that the parts give
-  wired : IsWired rows s.cast
-  wired = subst (λ z. IsWiredIn z rows s.cast) fitted.scene_is fitted.wired
-
-  seated : AreSeated (sheet (scene_of s.cast)) rows s.cast
-  seated = subst (λ z. AreSeated (sheet z) rows s.cast) fitted.scene_is fitted.seated
-
-  filled : AreFilled (sheet (scene_of s.cast)) rows s.cast
-  filled = subst (λ z. AreFilled (sheet z) rows s.cast) fitted.scene_is fitted.ends
+  in_place : IsInPlace rows s.pools s.cast
+  in_place = fitted_place s fitted
 
   cast_now : map part_of nows ≡ s.cast
   cast_now = parts_same actors nows forgotten ∙ cast
@@ -181,7 +175,7 @@ module _ (s : Setting) (rings : List RingIs) (parts : List Apart) (fitted : IsFi
   own_of : (k : ℕ) (p : Part) → slice_get s.cast k ≡ Some p → (x : Actor) → part_of x ≡ p → IsWhole x → (r : Role) (n : ℕ) → ActorEnd x r n → (row : QueueRow) × (slice_get rows n ≡ Some row) × (owner_of row r ≡ k)
   own_of k p at x is whole r n own =
       let e = end_seat (scene_of s.cast) (part_of x) r n (to_part x r n whole own) in
-      seated k (part_of x) (at ∙ ap Some (sym is)) e.0 (record { queue = n; role = r }) e.1
+      in_place.seated k (part_of x) (at ∙ ap Some (sym is)) e.0 (record { queue = n; role = r }) e.1
 
   part_now : (k : ℕ) (x : Actor) → slice_get nows k ≡ Some x → slice_get s.cast k ≡ Some (part_of x)
   part_now k x at = ap (λ (c : List Part). slice_get c k) (sym cast_now) ∙ map_get part_of nows k x at
@@ -224,7 +218,7 @@ module _ (s : Setting) (rings : List RingIs) (parts : List Apart) (fitted : IsFi
   work = record { fits = fits_now; stands = stands_now; hands_over = λ n. ((queue_at world n).entries, sym (stands_there n)); kinds = kinds }
 
   turns_now : (k : ℕ) (x : Actor) → slice_get nows k ≡ Some x → InTurn (scene_of (map part_of nows)) x passed
-  turns_now = in_turn (end_at world) rows nows passed (subst (IsWired rows) (sym cast_now) wired) work sends_now
+  turns_now = calm_turns (end_at world) rows s.pools nows passed (subst (IsInPlace rows s.pools) (sym cast_now) in_place) work sends_now
 
   pub holds : Holds history rows world nows []
   holds = record {
@@ -258,8 +252,8 @@ module _ (s : Setting) (rings : List RingIs) (parts : List Apart) (fitted : IsFi
   pub at_play : AreAtPlay history rows nows [] passed world
   at_play = record {
     peopled = subst (λ (c : List Part). IsPeopled rows (length c)) (sym cast_now) fitted.peopled;
-    seated = subst (λ (c : List Part). AreSeated (sheet (scene_of c)) rows c) (sym cast_now) seated;
-    filled = subst (λ (c : List Part). AreFilled (sheet (scene_of c)) rows c) (sym cast_now) filled;
+    seated = subst (λ (c : List Part). AreSeated (sheet (scene_of c)) rows c) (sym cast_now) in_place.seated;
+    filled = subst (λ (c : List Part). AreFilled (sheet (scene_of c)) rows c) (sym cast_now) in_place.filled;
     legal = tt;
     flows = (before.flows, tt);
     rows_hold = (rows_at rows nows passed (moved history []) items turns_now stands_now, tt);
@@ -330,8 +324,8 @@ module _ (s : Setting) (rings : List RingIs) (parts : List Apart) (come : HaveCo
 
   pub have_gone : HaveGone s.rows rings come.olds parts
   have_gone = record {
-    wired = subst (IsWired s.rows) (sym old_cast) (subst (λ z. IsWiredIn z s.rows s.cast) come.fitted.scene_is come.fitted.wired);
-    seated = subst (λ (c : List Part). AreSeated (sheet (scene_of c)) s.rows c) (sym old_cast) (subst (λ z. AreSeated (sheet z) s.rows s.cast) come.fitted.scene_is come.fitted.seated);
+    pools = s.pools;
+    in_place = subst (IsInPlace s.rows s.pools) (sym old_cast) (fitted_place s come.fitted);
     split = come.fitted.split;
     peopled = λ n row at r. subst (λ (m : ℕ). owner_of row r < m) (sym olds_many) (come.fitted.peopled n row at r);
     stood = come.before;

@@ -18,7 +18,7 @@ use Rattle.turn_kit.specs.Pace.{pendings, IsCalled}
 use Rattle.turn_kit.proofs.Playing.{pace_few}
 use Rattle.play_core.specs.Moved.{moved}
 use Rattle.play_core.specs.Wants.{Want, Needful, all_settled}
-use Rattle.play_core.specs.Sheets.{Scene, AreSeated, needful, RowsHold}
+use Rattle.play_core.specs.Sheets.{Scene, needful, RowsHold}
 use Rattle.play_core.specs.Runs.{called_from, is_runnable, flags_from, places_from, runnable, reach_of}
 use Rattle.play_core.proofs.Lists.{some_is, map_get, there_is}
 use Rattle.play_core.proofs.Flags.{differs_at, differs_twice, flag_at, flags_length, reach_owns}
@@ -40,7 +40,8 @@ use Rattle.system_core.proofs.RunsNow.{idle_here, not_not, rests_here}
 use Rattle.actor_set.proofs.LawsLemmas.PartEnds.{from_part, seat_end}
 use Rattle.actor_set.proofs.LawsLemmas.Paces.{called_end}
 use Rattle.actor_set.proofs.LawsLemmas.Rounds.{rests_is}
-use Rattle.wired_law.specs.Wiring.{IsWired}
+use Rattle.cast_law.specs.Pools.Places.{IsInPlace}
+use Rattle.system_core.proofs.Fitting.{fitted_place}
 use Rattle.wire_core.proofs.Sinces.{eqb_apart}
 use Rattle.system_core.proofs.Places.{places_kept, places_clear, places_so, places_below, places_few}
 
@@ -95,7 +96,7 @@ module _ (history : History) (rows : List QueueRow) (cast : List Part) where
   running_few room le j = let f : length (places_from 0 (flags j)) ≤ length (flags j) = places_few 0 (flags j) in let g : length (flags j) ≡ length cast = flags_count j in omega arith
 
 -- actor k, which is x, makes the call of event e on a queue of this row, and is then x'
-module _ (history : History) (rows : List QueueRow) (w v : List Queue) (actors : List Actor) (journal : List Entry) (k : ℕ) (x x' : Actor) (e : Event) (row : QueueRow) (here : slice_get actors k ≡ Some x) (old : Holds history rows w actors journal) (seated : AreSeated (sheet (scene_of (map part_of actors))) rows (map part_of actors)) (wired : IsWired rows (map part_of actors)) (split : (n : ℕ) (row_ : QueueRow) → slice_get rows n ≡ Some row_ → row_.producer.0 ≡ row_.consumer.0 → ⊥) (own : ActorEnd x (role_of e.op) e.queue.0) (st : Stepped ActorStandsFor Happens w v x x' e) (turned : ActorTurned x e x') (pressed : is_at_rest (actor_round x) ≡ true → IsCalled (pendings history journal) (actor_round x).posts) (fits : FitsActor (end_at v) x') (part : part_of x' ≡ part_of x) (there : slice_get rows e.queue.0 ≡ Some row) where
+module _ (history : History) (rows : List QueueRow) (w v : List Queue) (actors : List Actor) (journal : List Entry) (k : ℕ) (x x' : Actor) (e : Event) (row : QueueRow) (here : slice_get actors k ≡ Some x) (old : Holds history rows w actors journal) (pools : List PoolRow) (in_place : IsInPlace rows pools (map part_of actors)) (split : (n : ℕ) (row_ : QueueRow) → slice_get rows n ≡ Some row_ → row_.producer.0 ≡ row_.consumer.0 → ⊥) (own : ActorEnd x (role_of e.op) e.queue.0) (st : Stepped ActorStandsFor Happens w v x x' e) (turned : ActorTurned x e x') (pressed : is_at_rest (actor_round x) ≡ true → IsCalled (pendings history journal) (actor_round x).posts) (fits : FitsActor (end_at v) x') (part : part_of x' ≡ part_of x) (there : slice_get rows e.queue.0 ≡ Some row) where
   abbrev cast : List Part
   cast = map part_of actors
 
@@ -106,7 +107,7 @@ module _ (history : History) (rows : List QueueRow) (w v : List Queue) (actors :
   flag j = flags history rows cast j
 
   then_holds : Holds history rows v (slice_set actors k x') after_
-  then_holds = step_holds history rows w v actors journal k x x' e here old own st turned pressed seated split wired fits part
+  then_holds = step_holds history rows w v actors journal k x x' e here old own st turned pressed pools in_place split fits part
 
   owner : owner_of row (role_of e.op) ≡ k
   owner = old.owners k x here (role_of e.op) e.queue.0 own row there
@@ -123,7 +124,7 @@ module _ (history : History) (rows : List QueueRow) (w v : List Queue) (actors :
       others_case : ((p : Part) × (slice_get cast i ≡ Some p)) ⊎ (length cast ≤ i) → slice_get (flag after_) i ≡ slice_get (flag journal) i
       others_case (inl p) =
           flag_of history rows cast after_ i p.0 p.1
-          ∙ (ap Some (others_run (sheet (scene_of cast)) (sheet_own (scene_of cast)) (manners cast) history rows cast seated journal k e row there may i p.0 p.1 away quiet)
+          ∙ (ap Some (others_run (sheet (scene_of cast)) (sheet_own (scene_of cast)) (manners cast) history rows cast in_place.seated journal k e row there may i p.0 p.1 away quiet)
           ∙ sym (flag_of history rows cast journal i p.0 p.1))
       others_case (inr past) =
           slice_get_past (flag after_) i (let n = flags_count history rows cast after_ in omega arith)
@@ -235,10 +236,10 @@ module _ (history : History) (rows : List QueueRow) (pools : List PoolRow) (net 
       let here : slice_get actors k ≡ Some x = slice_get_read actors _ k x refl lt x_is in
       let there : slice_get rows e.queue.0 ≡ Some row = slice_get_read rows _ e.queue.0 row refl (subst (λ n. e.queue.0 < n) old.size st.happened.there) row_is in
       let pressed = runs_called history rows pools net serial blk w actors journal k x place fitted old here at' in
-      let new = step_holds history rows w v actors journal k x x' e here old own st turned pressed fitted.seated fitted.split fitted.wired fits part in
+      let new = step_holds history rows w v actors journal k x x' e here old own st turned pressed pools (fitted_place setting fitted) fitted.split fits part in
       let cast_is = map_same part_of actors k x x' here part in
       let y_same : y ≡ x' = some_is (sym (slice_get_read (slice_set actors k x') _ k y refl (subst (λ n. k < n) (sym (length-set actors k x')) lt) y_is) ∙ slice_get_written actors k x x' here) in
-      let then_is = running_then history rows w v actors journal k x x' e row here old fitted.seated fitted.wired fitted.split own st turned pressed fits part there rung woken idle place (sym rung_is) asked (idle_is ∙ ap (λ a. idles (manner_of (part_of a)) (actor_rests a) (is_pending k v)) y_same) at' in
+      let then_is = running_then history rows w v actors journal k x x' e row here old pools (fitted_place setting fitted) fitted.split own st turned pressed fits part there rung woken idle place (sym rung_is) asked (idle_is ∙ ap (λ a. idles (manner_of (part_of a)) (actor_rests a) (is_pending k v)) y_same) at' in
       let list_is : with_option rung woken (removed_if idle list place) ≡ runs setting (journal ++ entry_of k e ∷ []) = ap (λ l. with_option rung woken (removed_if idle l place)) running ∙ sym then_is in
       record {
         holds = new;
