@@ -1,22 +1,27 @@
 -- Nothing comes out of turn in a cast in place, whatever its hostile clients put.
-use Rattle.std.proofs.Common.{◌≡◌, ◌⊎◌, ℕ, Option, Some, None, List, [], map, slice_get, inl, inr}
+use Rattle.std.proofs.Common.{◌≡◌, ◌⊎◌, ℕ, Option, Some, None, List, [], map, slice_get, inl, inr, sym, ◌∙◌, subst}
 use Rattle.std.proofs.lemmas.List.{append-nil}
 use Rattle.wire_core.specs.declared.names.PoolRow.{PoolRow}
 use Rattle.wire_core.specs.declared.names.QueueRow.{QueueRow}
 use Rattle.wire_core.specs.Ends.{Role, End}
 use Rattle.wire_core.specs.Lists.{Passed}
-use Rattle.play_core.specs.Names.{GrowsTo, Names, Wild, names_at, wild_in}
+use Rattle.play_core.specs.Moved.{Moved}
+use Rattle.play_core.specs.Names.{AreNoted, Names, Noted, Wild, names_at, told_by, wild_in}
+use Rattle.play_core.specs.Rests.Showing.{HaveItems}
+use Rattle.play_core.specs.Sheets.{RowsHold}
+use Rattle.play_core.proofs.Lists.{map_from}
 use Rattle.net_law.specs.TxParts.Numbers.{NetPlace}
 use Rattle.blk_law.specs.Sheets.Numbers.{BlkPlace}
 use Rattle.actor_set.specs.Parts.{Part}
 use Rattle.actor_set.specs.Actors.{part_of}
 use Rattle.actor_set.specs.declared.actor.Actor.{Actor}
 use Rattle.actor_set.specs.Laws.Kinds.{hostiles, scene_of}
-use Rattle.actor_set.specs.Laws.Scenes.{ToldInTurn}
+use Rattle.actor_set.specs.Laws.Scenes.{ToldInTurn, told_sheet}
 use Rattle.actor_set.specs.Laws.Turning.{InTurn}
 use Rattle.actor_set.proofs.LawsLemmas.Told.{none_wild}
+use Rattle.actor_set.proofs.LawsLemmas.ToldRows.{told_row}
 use Rattle.wired_law.specs.Buffers.{HasEachOnce}
-use Rattle.wired_law.specs.Wiring.{AreAtWork, AreInTurn, ClientsSend, HasBlk, HasNoBlock, HasNoNetwork, HasWhole, IsWired}
+use Rattle.wired_law.specs.Wiring.{AreAtWork, AreInTurn, ClientsSend, HasBlk, HasNoBlock, HasNoNetwork, HasWhole, IsWired, TellsKept}
 use Rattle.wired_law.proofs.TurningLemmas.{beside}
 use Rattle.wired_law.proofs.Wiring.{turns_beside, turns_calm}
 use Rattle.cast_law.specs.Pools.Places.{HasBlkAt, HasNetAt, IsInPlace, IsPlaced, PoolPlace}
@@ -38,6 +43,10 @@ wired_by rows place cast placed = record { network = net place.net placed.net; b
 pub wired_place : (rows : List QueueRow) (pools : List PoolRow) (cast : List Part) → IsInPlace rows pools cast → IsWired rows cast
 wired_place rows pools cast in_place = wired_by rows in_place.pooled.0 cast in_place.pooled.1
 
+-- names that are kept in the order of the puts tell of all that was put
+pub noted_tell : (wild : Wild) (notes : List Noted) (passed : Passed) → AreNoted wild notes passed → TellsKept wild (told_by notes) passed
+noted_tell wild notes passed noted n is_wild = ([], append-nil (names_at passed n) ∙ sym (noted n is_wild))
+
 module _ (ends : Role → ℕ → End) (rows : List QueueRow) (pools : List PoolRow) (actors : List Actor) (passed : Passed) (in_place : IsInPlace rows pools (map part_of actors)) (work : AreAtWork ends rows actors passed) where
   abbrev cast : List Part
   cast = map part_of actors
@@ -48,9 +57,15 @@ module _ (ends : Role → ℕ → End) (rows : List QueueRow) (pools : List Pool
   pub beside_turns : (wild : Wild) → AreInTurn wild actors passed
   beside_turns wild = beside (scene_of cast) ends rows actors passed work (wired_place rows pools cast in_place) once wild
 
-  pub told_turns : ClientsSend rows cast passed → (names : Names) → GrowsTo (names_at passed) names → (k : ℕ) (x : Actor) → slice_get actors k ≡ Some x → ToldInTurn (scene_of cast) (wild_in (hostiles cast) rows) names x passed
-  told_turns sends names grown k x at = turns_beside (scene_of cast) ends rows actors passed names (wired_place rows pools cast in_place) work sends grown (beside_turns (wild_in (hostiles cast) rows)) k x at
+  pub told_turns : ClientsSend rows cast passed → (names : Names) → TellsKept (wild_in (hostiles cast) rows) names passed → (k : ℕ) (x : Actor) → slice_get actors k ≡ Some x → ToldInTurn (scene_of cast) (wild_in (hostiles cast) rows) names x passed
+  told_turns sends names kept k x at = turns_beside (scene_of cast) ends rows actors passed names (wired_place rows pools cast in_place) work sends kept (beside_turns (wild_in (hostiles cast) rows)) k x at
+
+  -- so the rows of all actors hold
+  pub told_rows : ClientsSend rows cast passed → (names : Names) → TellsKept (wild_in (hostiles cast) rows) names passed → (m : Moved) → HaveItems passed m → RowsHold (told_sheet (scene_of cast) (wild_in (hostiles cast) rows) names) (hostiles cast) cast m
+  told_rows sends names kept m items k p calm at =
+      let x = map_from part_of actors k p at in
+      subst (λ q. (told_sheet (scene_of cast) (wild_in (hostiles cast) rows) names q).row m) x.2 (told_row (scene_of cast) (wild_in (hostiles cast) rows) names passed m items x.0 (told_turns sends names kept k x.0 x.1) (work.stands k x.0 x.1))
 
   -- nobody is hostile, so no name is asked
   pub calm_turns : ClientsSend rows cast passed → (k : ℕ) (x : Actor) → slice_get actors k ≡ Some x → InTurn (scene_of cast) x passed
-  calm_turns sends k x at = turns_calm (scene_of cast) (wild_in (hostiles cast) rows) (names_at passed) x passed (none_wild cast rows) (told_turns sends (names_at passed) (λ n. ([], append-nil (names_at passed n))) k x at)
+  calm_turns sends k x at = turns_calm (scene_of cast) (wild_in (hostiles cast) rows) (names_at passed) x passed (none_wild cast rows) (told_turns sends (names_at passed) (λ n is_wild. ([], append-nil (names_at passed n))) k x at)
