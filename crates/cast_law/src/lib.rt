@@ -1,8 +1,8 @@
 //! The actors of a plan, made as the plan and a trace say. They stand where the layout seats them,
 //! so a system can start with them. What holds of them then: of the network and the block class
 //! where nobody is runnable, of their pools, of the lines that a report has of these and of each
-//! buffer of these, of what comes in turn, and of what they leave after they were at work over rings,
-//! each in a thread of its own.
+//! buffer of these, of what comes in turn, and of what they leave after they were at work over
+//! rings, each in a thread of its own.
 #![tactic(auto)]
 
 ghost use Rattle.std.specs.Prelude.{◌≡◌, ℕ, Some, None, List, map, slice_get};

@@ -20,8 +20,8 @@ ghost use Rattle.cast_law.specs.Pools.Places.{IsInPlace};
 /// Of one moment's lists alone: where actors in place are at work, each buffer is there once, so
 /// nothing comes out of turn, whichever clients may be hostile and whatever they put. By the names
 /// that are told nothing does at any actor, where clients that aren't hostile put good descriptors
-/// and requests alone; so the rows of all actors that aren't hostile hold by these names. Names that
-/// are kept in the order of the puts tell enough. Nobody is hostile yet, so no name is asked.
+/// and requests alone; so the rows of all actors that aren't hostile hold by these names. Names
+/// that are kept in the order of the puts tell enough. Nobody is hostile yet, so no name is asked.
 pub fn cast_turn_law()
     ensures beside { (ends : Role → ℕ → End) (rows : List QueueRow) (pools : List PoolRow)
         (actors : List Actor) (passed : Passed) → IsInPlace rows pools (map part_of actors)

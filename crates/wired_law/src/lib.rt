@@ -36,11 +36,11 @@ pub mod turning;
 /// Nothing comes out of turn at any actor of a cast that is wired in a scene, where those of its
 /// clients that aren't hostile put good descriptors and requests alone (nobody is hostile yet): so
 /// they did when nothing had passed yet, and whatever hostile ones put, after one more call they
-/// still have. Beside hostile clients nothing does by the names that are told, those of all that was
-/// put to the queues with a hostile end, where what those put isn't out of turn. A network client with buffers of its own recorded a beginning of the frames
-/// that are for its address; and the device a merge of beginnings of what the clients send, each by
-/// its program, a hostile one the frames of its good descriptors: which is what the items tell that
-/// it took.
+/// still have. Beside hostile clients nothing does by the names that are told, those of all that
+/// was put to the queues with a hostile end, where what those put isn't out of turn. A network
+/// client with buffers of its own recorded a beginning of the frames that are for its address; and
+/// the device a merge of beginnings of what the clients send, each by its program, a hostile one
+/// the frames of its good descriptors: which is what the items tell that it took.
 pub fn wired_law()
     ensures turns { (scene : Scene) (ends : Role → ℕ → End) (rows : List QueueRow)
         (actors : List Actor) (passed : Passed) → IsWiredIn scene rows (map part_of actors)

@@ -31,8 +31,8 @@ passed_of ended calls = record {
 abbrev pub actors_apart : List Apart → List Actor
 actors_apart parts = map (λ (p : Apart). p.actor) parts
 
--- the actors of a cast in place stood apart over rings, and nothing passed there; each is now what it
--- became by the calls that it made at its ends
+-- the actors of a cast in place stood apart over rings, and nothing passed there; each is now what
+-- it became by the calls that it made at its ends
 pub record HaveGone (rows : List QueueRow) (rings : List RingIs) (olds news : List Apart)
     : Type 0 where
   pub pools : List PoolRow

@@ -83,8 +83,8 @@ abbrev pub ArePooled : List QueueRow → List PoolRow → List Part → Type 0
 ArePooled rows pools cast =
     (place : PoolPlace) × IsPlaced rows place cast × HasPools pools place
 
--- a cast is in place: the owners of all queues are among its actors, each has just the ends that the
--- rows give it, and these are its pools
+-- a cast is in place: the owners of all queues are among its actors, each has just the ends that
+-- the rows give it, and these are its pools
 pub record IsInPlace (rows : List QueueRow) (pools : List PoolRow) (cast : List Part) :
     Type 0 where
   pub peopled : IsPeopled rows (length cast)
