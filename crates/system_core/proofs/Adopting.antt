@@ -18,8 +18,10 @@ use Rattle.spsc_queue.specs.Known.Ends.{EndIs, RingIs, EndedIs}
 use Rattle.turn_kit.specs.Pace.{pendings}
 use Rattle.turn_kit.proofs.Pacing.{paced_anew}
 use Rattle.play_core.specs.Moved.{Moved, moved}
+use Rattle.play_core.specs.Names.{Noted}
 use Rattle.play_core.specs.Sheets.{Scene, RowsHold, AreSeated, AreFilled}
 use Rattle.play_core.specs.Still.{IsPeopled}
+use Rattle.play_core.specs.Wants.{all_settled}
 use Rattle.play_core.proofs.Lists.{some_is, map_get, map_from, there_is, there_below}
 use Rattle.owner_law.specs.Pages.{CarryPages}
 use Rattle.play_core.specs.Rests.Showing.{HaveItems, HaveBells}
@@ -57,6 +59,7 @@ use Rattle.layout_laws.proofs.SeatsLemmas.Counts.{few_numbers}
 use Rattle.system_core.specs.Builds.{IsCastOf}
 use Rattle.system_core.specs.Crews.{net_crew, serial_crew, blk_crew}
 use Rattle.system_core.proofs.Fitting.{are_sized, fitted_place}
+use Rattle.system_core.proofs.Telling.{wants_plain}
 use Rattle.wire_core.specs.Sizes.{AreSized}
 use Rattle.system_core.specs.Shows.{Setting, Shown, Crew, hostile_in, sheet_in, moved_in}
 use Rattle.system_core.specs.States.{history_of, begun, started}
@@ -271,6 +274,7 @@ module _ (s : Setting) (rings : List RingIs) (parts : List Apart) (fitted : IsFi
     refitted : IsFitted (record s { history = history })
     refitted = record {
       scene_is = fitted.scene_is;
+      names_are = fitted.names_are;
       peopled = fitted.peopled;
       seated = fitted.seated;
       ends = fitted.ends;
@@ -283,7 +287,7 @@ module _ (s : Setting) (rings : List RingIs) (parts : List Apart) (fitted : IsFi
     }
 
     setting_is : begun history rows s.pools nows s.net s.serial s.blk ≡ record s { history = history }
-    setting_is = ap (λ (c : List Part). record s { history = history; cast = c; scene = scene_of c }) cast_now ∙ ap (λ (z : Scene). record s { history = history; scene = z }) (sym fitted.scene_is)
+    setting_is = ap (λ (c : List Part). record s { history = history; cast = c; scene = scene_of c; names = [] }) cast_now ∙ (ap (λ (z : Scene). record s { history = history; scene = z; names = [] }) (sym fitted.scene_is) ∙ ap (λ (ns : List Noted). record s { history = history; names = ns }) (sym fitted.names_are))
 
     pub goes_on : GoesOn (begun history rows s.pools nows s.net s.serial s.blk) world nows
     goes_on = record { fitted = subst IsFitted (sym setting_is) refitted; before = subst HoldsBefore (sym setting_is) before; holds = holds }
@@ -299,6 +303,7 @@ module _ (s : Setting) (rings : List RingIs) (parts : List Apart) (fitted : IsFi
         (let lt = there_below rows n o.0 o.1 in let long = left.size in omega (arith, lt, long), same_end rows rings parts actors ended apart peopled done k p at r n o.0 o.1 o.2)
         ))
         (fits_apart k p at) (subst (λ z. InTurn z p.actor passed) (sym fitted.scene_is) (subst (λ (c : List Part). InTurn (scene_of c) p.actor passed) cast (held.in_turn k p.actor here))) (held.stands k p.actor here) items
+        ∙ ap (all_settled history []) (sym (wants_plain (record s { history = history }) (part_of p.actor) (moved history [])))
       where
         bells : HaveBells world history []
         bells n lt = let row = there_is rows n (let long = left.size in omega (arith, lt, long)) in (left.each n row.0 row.1).shown.bells

@@ -18,7 +18,7 @@ use Rattle.play_core.proofs.Moments.{last_moment}
 use Rattle.serial_law.specs.Parts.{SerialPart}
 use Rattle.serial_law.specs.Serial.{SerialClass, IsSerial}
 use Rattle.serial_law.proofs.Arrivals.{as_there, RowAt}
-use Rattle.actor_set.specs.Laws.Kinds.{serial_part}
+use Rattle.actor_set.specs.Laws.Kinds.{serial_part, sheet}
 use Rattle.actor_set.proofs.LawsLemmas.Calm.{calm_actor, sheet_is}
 use Rattle.wired_law.specs.Wiring.{HasWholeIn, HasBlkIn}
 use Rattle.cast_core.specs.Sources.{first_serial}
@@ -28,13 +28,14 @@ use Rattle.cast_bound.specs.PlayBound.Standing.{StandsFrom, Carries, serial_firs
 use Rattle.cast_bound.proofs.Blocks.{blk_within}
 use Rattle.cast_bound.proofs.Networks.{net_within}
 use Rattle.cast_bound.proofs.Bounds.{serial_within, short}
-use Rattle.system_core.specs.Shows.{Setting, Shown, hostile_in, sheet_in, moved_in, RowsStand}
+use Rattle.system_core.specs.Shows.{Setting, Shown, hostile_in, moved_in, RowsStand}
+use Rattle.system_core.proofs.Telling.{PlainRows, rows_plain}
 use Rattle.system_core.specs.Lawful.{StandsLawful}
 use Rattle.system_core.specs.Builds.{IsCastOf, serial_class}
 use Rattle.system_core.proofs.Begun.{There}
 
 -- what is said of a part of the serial class, as one of all
-pub row_as : (s : Setting) (m : Moved) (p : SerialPart) → (sheet_in s (serial_part p)).row m → RowAt m p
+pub row_as : (s : Setting) (m : Moved) (p : SerialPart) → (sheet s.scene (serial_part p)).row m → RowAt m p
 row_as s m p = subst (λ (t : Sheet). t.row m) (sheet_is s.scene p)
 
 first_is : (o : Option Net) → option_map_or (λ (net : Net). 8 + 6 * length net.client) o 0 ≡ serial_first o
@@ -58,8 +59,8 @@ module _ (plan : Plan) (trace : Trace) (valid : Valid plan) (s : Shown) (cast : 
   abbrev went : Moved
   went = moved_in s.setting s.journal
 
-  rows_now : RowsStand s.setting s.journal
-  rows_now = last_moment (RowsStand s.setting) s.journal stands.lawful.rows_hold
+  rows_now : PlainRows s.setting s.journal
+  rows_now = rows_plain s.setting s.journal (last_moment (RowsStand s.setting) s.journal stands.lawful.rows_hold)
 
   flows_at : (j : List Entry) → QueuesFlow s.setting.history s.setting.rows j → QueuesFlow s.setting.history (queues_of plan) j
   flows_at j = subst (λ rs. QueuesFlow s.setting.history rs j) cast.rows

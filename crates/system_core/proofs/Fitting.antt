@@ -73,6 +73,7 @@ module _ (rows : List QueueRow) (actors : List Actor) (s : AreSeated rows actors
     pub seated_fit : IsFitted (begun history rows pools actors net serial blk)
     seated_fit = record {
       scene_is = refl;
+      names_are = refl;
       peopled = λ n row at r. subst (λ m. owner_of row r < m) (sym (length-map actors part_of)) (s.peers n row at r);
       seated = end_given;
       ends = seat_given;

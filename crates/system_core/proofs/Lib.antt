@@ -1,6 +1,7 @@
 -- The proofs on a system at play.
 pub mod Rising
 pub mod Places
+pub mod Telling
 pub mod SystemStep
 pub mod Playing
 pub mod RunsNow

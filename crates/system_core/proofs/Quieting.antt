@@ -1,5 +1,5 @@
 -- Where nobody is runnable, all frames of the network went through, and all replies of the block class.
-use Rattle.std.proofs.Common.{◌≡◌, Some, [], sym, subst, arith}
+use Rattle.std.proofs.Common.{◌≡◌, ◌∙◌, Some, [], sym, subst, arith}
 use Rattle.std.proofs.lemmas.List.{length-map}
 use Rattle.wire_core.specs.Journal.{BellsHold, QueuesFlow}
 use Rattle.sdf_plan.specs.declared.plan.Plan.{Plan}
@@ -24,7 +24,9 @@ use Rattle.wired_law.proofs.QuietLemmas.Answering.{block_there}
 use Rattle.cast_core.specs.Casts.{net_place, blk_place}
 use Rattle.cast_law.proofs.QuietLemmas.Rooms.{pools_are, rooms_are}
 use Rattle.cast_law.proofs.QuietLemmas.Blocks.{blk_pools_are, blk_rooms_are}
-use Rattle.system_core.specs.Shows.{Shown, manner_in, hostile_in, sheet_in, moved_in, RowsStand}
+use Rattle.system_core.specs.Shows.{Shown, manner_in, hostile_in, moved_in, RowsStand}
+use Rattle.system_core.proofs.Telling.{rows_plain, runs_plain}
+use Rattle.actor_set.specs.Laws.Kinds.{sheet}
 use Rattle.system_core.specs.Plays.{runnable_now}
 use Rattle.system_core.specs.Lawful.{StandsLawful}
 use Rattle.system_core.specs.Builds.{IsCastOf}
@@ -34,14 +36,14 @@ use Rattle.system_core.proofs.Replying.{shows_all_replies}
 
 module _ (s : Shown) (stands : StandsLawful s) (quiet : runnable_now s ≡ []) where
   abbrev actors : Needful
-  actors = needful (sheet_in s.setting) s.setting.cast (moved_in s.setting s.journal)
+  actors = needful (sheet s.setting.scene) s.setting.cast (moved_in s.setting s.journal)
 
   pub still_now : IsStill (hostile_in s.setting) s.setting.history s.setting.rows actors s.journal
   still_now = quiet_still (manner_in s.setting) s.setting.history s.setting.rows actors s.journal (record {
     bells_hold = last_moment (BellsHold (hostile_in s.setting) s.setting.history s.setting.rows) s.journal stands.lawful.bells_hold;
     flows = last_moment (QueuesFlow s.setting.history s.setting.rows) s.journal stands.lawful.flows;
-    peopled = λ n row at r. let lt = stands.fitted.peopled n row at r in let size = length-map s.setting.cast (λ p. (sheet_in s.setting p).wants (moved_in s.setting s.journal)) in omega (arith, lt, size);
-    quiet = quiet;
+    peopled = λ n row at r. let lt = stands.fitted.peopled n row at r in let size = length-map s.setting.cast (λ p. (sheet s.setting.scene p).wants (moved_in s.setting s.journal)) in omega (arith, lt, size);
+    quiet = sym (runs_plain s.setting s.journal) ∙ quiet;
   })
 
   -- the network of a plan
@@ -56,7 +58,7 @@ module _ (s : Shown) (stands : StandsLawful s) (quiet : runnable_now s ≡ []) w
     rooms = subst (λ rows. HasRooms (hostile_in s.setting) rows place) (sym cast.rows) (rooms_are plan trace net has valid s.setting.cast (subst (λ rows. HasWhole rows place s.setting.cast) cast.rows (subst (λ z. HasWholeIn z s.setting.rows place s.setting.cast) stands.fitted.scene_is whole)))
 
     network : IsNetwork (hostile_in s.setting) s.setting.scene s.setting.rows actors place (moved_in s.setting s.journal)
-    network = network_there s.setting.rows s.setting.cast (moved_in s.setting s.journal) place whole (pools_are plan trace net has valid) rooms (last_moment (RowsStand s.setting) s.journal stands.lawful.rows_hold)
+    network = network_there s.setting.rows s.setting.cast (moved_in s.setting s.journal) place whole (pools_are plan trace net has valid) rooms (rows_plain s.setting s.journal (last_moment (RowsStand s.setting) s.journal stands.lawful.rows_hold))
 
     pub shows_whole_net : ShowsAllFrames place trace.frames s.state
     shows_whole_net =
@@ -76,7 +78,7 @@ module _ (s : Shown) (stands : StandsLawful s) (quiet : runnable_now s ≡ []) w
     blk_rooms = subst (λ rows. HasBlkRooms (hostile_in s.setting) rows disk_place) (sym cast.rows) (blk_rooms_are plan trace valid blk has s.setting.cast)
 
     block : IsBlock (hostile_in s.setting) s.setting.scene s.setting.rows actors disk_place (moved_in s.setting s.journal)
-    block = block_there s.setting.rows s.setting.cast (moved_in s.setting s.journal) disk_place blk_whole (blk_pools_are plan trace valid blk has) blk_rooms (last_moment (RowsStand s.setting) s.journal stands.lawful.rows_hold)
+    block = block_there s.setting.rows s.setting.cast (moved_in s.setting s.journal) disk_place blk_whole (blk_pools_are plan trace valid blk has) blk_rooms (rows_plain s.setting s.journal (last_moment (RowsStand s.setting) s.journal stands.lawful.rows_hold))
 
     answers : AnswersAll s.setting.scene disk_place (moved_in s.setting s.journal)
     answers = answers_all (hostile_in s.setting) s.setting.history s.setting.rows actors s.journal s.setting.scene disk_place still_now block

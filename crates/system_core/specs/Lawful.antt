@@ -28,26 +28,28 @@ use Rattle.owner_law.specs.Owners.{Table, replay}
 use Rattle.owner_law.specs.Keeping.{start_table}
 use Rattle.cast_law.specs.PoolLines.PoolLines.{table_lines}
 use Rattle.actor_set.specs.Parts.{Part, NetworkPart, BlockPart}
-use Rattle.actor_set.specs.Laws.Kinds.{scene_of}
+use Rattle.actor_set.specs.Laws.Kinds.{scene_of, sheet}
 use Rattle.actor_set.specs.Laws.Records.{record_by}
 use Rattle.wired_law.specs.Wiring.{HasWholeIn, HasNoNetwork, HasBlkIn, HasNoBlock, IsWiredIn}
 use Rattle.cast_law.specs.Pages.Paging.{part_pools, pools_weigh}
 use Rattle.cast_law.specs.Pools.Places.{PoolPlace, IsPlaced, HasPools, ArePooled, cast_naming}
 use Rattle.cast_law.specs.Pools.Places.{place_sizes}
 use Rattle.cast_law.specs.Pools.Pooling.{keepers_at, BeginsWith, HasOwners, AreKindly}
-use Rattle.system_core.specs.Shows.{Setting, Shown, hostile_in, sheet_in, moved_in, RowsStand}
+use Rattle.system_core.specs.Shows.{Setting, Shown, hostile_in, moved_in, RowsStand}
 
 -- the rows and the actors fit one another
 pub record IsFitted (s : Setting) : Type 0 where
   -- the scene is what these actors' parts give
   pub scene_is : s.scene ≡ scene_of s.cast
+  -- no names are kept yet, as nobody is hostile
+  pub names_are : s.names ≡ []
   -- each queue's owners are among the actors
   pub peopled : IsPeopled s.rows (length s.cast)
   -- each end of an actor is one that the rows give it
-  pub seated : AreSeated (sheet_in s) s.rows s.cast
+  pub seated : AreSeated (sheet s.scene) s.rows s.cast
   -- and each that they give it is one of its ends
   pub ends : (k : ℕ) (p : Part) → slice_get s.cast k ≡ Some p → (x : Seat) → IsSeat s.rows k x
-      → (i : ℕ) × (slice_get (sheet_in s p).ends i ≡ Some x)
+      → (i : ℕ) × (slice_get (sheet s.scene p).ends i ≡ Some x)
   -- no actor has both ends of a queue
   pub split : (n : ℕ) (row : QueueRow) → slice_get s.rows n ≡ Some row
       → row.producer.0 ≡ row.consumer.0 → ⊥
@@ -117,8 +119,8 @@ TellsReplies s blk = (c k j : ℕ) (asks : List Ask) (pool : PoolAt) (entry : �
     → length got ≡ length ((moved_in s.setting s.journal).taken (blk.first + 5 + 2 * j)))
 
 -- what stands in queues, in hands and is lent are the buffers of the cast's pools, one by one:
--- whatever is counted of them by pool, number and length, it is what all buffers of the pools weigh,
--- each with its pool's length
+-- whatever is counted of them by pool, number and length, it is what all buffers of the pools
+-- weigh, each with its pool's length
 pub record TellsBuffers (place : PoolPlace) (s : Shown) : Type 0 where
   pub all : (f : Count) → counted f s.state.bodies ≡ pools_weigh f s.setting.cast
   -- so each buffer of each pool is there once

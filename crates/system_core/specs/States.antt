@@ -62,8 +62,8 @@ abbrev pub history_of : List QueueRow → List EndedIs → History
 history_of rows [] = start_history rows
 history_of rows (ring ∷ rings) = map track_of (ring ∷ rings)
 
--- these queues, pools and actors, in the scene of these, with what the queues had before the
--- journal begins
+-- these queues, pools and actors, in the scene of these and with no names kept, with what the
+-- queues had before the journal begins
 abbrev pub begun : History → List QueueRow → List PoolRow → List Actor → (net serial blk : Crew)
     → Setting
 begun history rows pools actors net serial blk = record {
@@ -72,6 +72,7 @@ begun history rows pools actors net serial blk = record {
   pools = pools;
   cast = map part_of actors;
   scene = scene_of (map part_of actors);
+  names = [];
   net = net;
   serial = serial;
   blk = blk;

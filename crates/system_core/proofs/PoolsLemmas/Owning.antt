@@ -29,6 +29,7 @@ use Rattle.cast_core.specs.Casts.{client_pools, net_place}
 use Rattle.cast_core.specs.Sources.{pool_at, first_blk_pool}
 use Rattle.cast_core.proofs.Listing.{value_is}
 use Rattle.cast_core.proofs.Rooms.{pools_apart, has_pools}
+use Rattle.system_core.proofs.Telling.{each_plain}
 use Rattle.system_core.specs.Shows.{Shown}
 use Rattle.system_core.specs.Lawful.{StandsLawful}
 use Rattle.system_core.specs.Builds.{IsCastOf}
@@ -172,7 +173,7 @@ module _ (plan : Plan) (trace : Trace) (s : Shown) (valid : Valid plan) (cast_is
   filled = subst (λ z. AreFilled (sheet z) rows cast) scene_is stands.fitted.ends
 
   rows_hold : EachMoment (λ j. RowsHold (sheet scene) hostile cast (moved s.setting.history j)) s.journal
-  rows_hold = subst (λ z. EachMoment (λ j. RowsHold (sheet z) hostile cast (moved s.setting.history j)) s.journal) scene_is stands.lawful.rows_hold
+  rows_hold = subst (λ z. EachMoment (λ j. RowsHold (sheet z) hostile cast (moved s.setting.history j)) s.journal) scene_is (each_plain s.setting s.journal stands.lawful.rows_hold)
 
   -- each part is that of a job
   ends_apart : (k : ℕ) (p : Part) → slice_get cast k ≡ Some p → AreApart (sheet scene p).ends
