@@ -380,7 +380,7 @@ pub turns_beside : (scene : Scene) (ends : Role → ℕ → End) (rows : List Qu
 turns_beside scene ends rows actors passed names wired work sends kept turn = turns_by scene ends rows actors passed work wired.network wired.block sends names kept turn
 
 -- where nobody is hostile no name is asked
-turns_calm : (scene : Scene) (wild : Wild) (names : Names) (x : Actor) (passed : Passed) → ((n : ℕ) → wild n ≡ false) → ToldInTurn scene wild names x passed → InTurn scene x passed
+pub turns_calm : (scene : Scene) (wild : Wild) (names : Names) (x : Actor) (passed : Passed) → ((n : ℕ) → wild n ≡ false) → ToldInTurn scene wild names x passed → InTurn scene x passed
 turns_calm scene wild names (Kinds.UartDevice x) passed none is = is
 turns_calm scene wild names (Kinds.UartDriver x) passed none is = is
 turns_calm scene wild names (Kinds.SerialVirtRx x) passed none is = is
